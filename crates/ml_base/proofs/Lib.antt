@@ -1,0 +1,7 @@
+pub mod SplitLemmas
+pub mod NumberLaws
+pub mod NameMaps
+pub mod Decimals
+pub mod Addresses
+pub mod Netstrings
+mod Rows

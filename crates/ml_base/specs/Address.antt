@@ -1,0 +1,72 @@
+-- Addresses: a local part, `@` and a host.
+use Rattle.std.specs.Prelude.{◌≡◌, ◌<◌, ◌+◌, ◌++◌, take, drop, is_ok, ℕ, Bool, not, ◌&&◌, ◌||◌, ◌==◌, nat_lt, nat_le, [], ◌∷◌, length, Option, Some, None, Result, Ok, Err, if◌then◌else◌}
+use Rattle.std.specs.List.{list_all}
+use Rattle.std.specs.Char.{is_ascii_alphabetic, is_ascii_digit}
+use Rattle.ml_base.specs.Bytes.{Text, lower, is_empty, split_last}
+use Rattle.ml_base.specs.declared.address.AddressFault.{AddressFault}
+use Rattle.ml_base.specs.declared.address.AddressFault.TheVariants.{TooLong, NoAt, EmptyPart, BadByte}
+use Rattle.ml_base.specs.declared.address.AddressError.{AddressError}
+use Rattle.ml_base.specs.declared.address.AddressError.TheVariants as errors
+
+-- the key of an address: two addresses are one subscriber exactly where their keys are equal
+abbrev pub key : Text → Text
+key address = lower address
+
+-- 33 to 126, without `@`
+abbrev pub is_local_byte : ℕ → Bool
+is_local_byte b = nat_le 33 b && nat_le b 126 && not (b == 64)
+
+-- a letter, a digit, `-`, `_` or `.`
+abbrev pub is_host_byte : ℕ → Bool
+is_host_byte b = is_ascii_alphabetic b || is_ascii_digit b || b == 45 || b == 95 || b == 46
+
+abbrev pub check_bytes : Text → Text → Result (Unit {0}) AddressFault
+check_bytes local host = if list_all is_local_byte local && list_all is_host_byte host then Ok tt else Err BadByte
+
+abbrev pub check_parts : Option (Text × Text) → Result (Unit {0}) AddressFault
+check_parts None = Err NoAt
+check_parts (Some parts) = if is_empty parts.0 || is_empty parts.1 then Err EmptyPart else check_bytes parts.0 parts.1
+
+-- whether a text, split at its last `@`, is an address, and else the first of the four faults that it has
+abbrev pub address_check : Text → Result (Unit {0}) AddressFault
+address_check text = if nat_lt 400 (length text) then Err TooLong else check_parts (split_last 64 text)
+
+-- the part before the last `@`
+abbrev pub before_at : Option (Text × Text) → Text
+before_at None = []
+before_at (Some parts) = parts.0
+
+-- the part behind the last `@`
+abbrev pub behind_at : Option (Text × Text) → Text
+behind_at None = []
+behind_at (Some parts) = parts.1
+
+abbrev pub local_of : Text → Text
+local_of address = before_at (split_last 64 address)
+
+abbrev pub host_of : Text → Text
+host_of address = behind_at (split_last 64 address)
+
+-- the spelling that is kept: the host in lower case
+abbrev pub as_address : Text → Text
+as_address text = local_of text ++ 64 ∷ lower (host_of text)
+
+-- the address that a text spells, as it is kept
+abbrev pub address_of : Text → Option Text
+address_of text = if is_ok (address_check text) then Some (as_address text) else None
+
+-- an address, spelled as it is kept
+pub record IsAddress (address : Text) : Type 0 where
+  pub checks : address_check address ≡ Ok tt
+  pub kept : as_address address ≡ address
+
+-- the error tells the text's fault, where it isn't want of memory
+abbrev pub IsFaultOf : AddressError → Text → Type 0
+IsFaultOf (errors.Fault fault) text = address_check text ≡ Err fault
+IsFaultOf errors.Memory text = Unit {0}
+
+-- an address, with the place of its last `@`
+pub record IsAddressAt (address : Text) (at : ℕ) : Type 0 where
+  pub is : IsAddress address
+  pub within : at < length address
+  pub parts : split_last 64 address ≡ Some (take at address, drop (at + 1) address)

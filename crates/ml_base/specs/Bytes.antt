@@ -1,0 +1,29 @@
+-- Byte strings.
+use Rattle.std.specs.Prelude.{ℕ, Bool, true, false, ◌==◌, List, [], ◌∷◌, Option, Some, None}
+use Rattle.std.specs.Str.{str_to_ascii_lowercase}
+
+abbrev pub Text : Type 0
+Text = List ℕ
+
+-- the bytes with ASCII's capital letters in lower case
+abbrev pub lower : Text → Text
+lower text = str_to_ascii_lowercase text
+
+abbrev pub is_empty : {X : Type 0} → List X → Bool
+is_empty [] = true
+is_empty (x ∷ xs) = false
+
+-- what splits the bytes behind the first splits them all; where nothing does, the first may
+abbrev pub onto_split : ℕ → Bool → Text → Option (Text × Text) → Option (Text × Text)
+onto_split x is rest (Some parts) = Some (x ∷ parts.0, parts.1)
+onto_split x true rest None = Some ([], rest)
+onto_split x false rest None = None
+
+-- the parts before and behind the last place of a byte, or None where it isn't there
+abbrev pub split_last : ℕ → Text → Option (Text × Text)
+split_last byte [] = None
+split_last byte (x ∷ xs) = onto_split x (x == byte) xs (split_last byte xs)
+
+-- the zero byte, which separates the records of some files
+abbrev pub is_nul : ℕ → Bool
+is_nul b = b == 0

@@ -1,0 +1,5 @@
+pub mod Bytes
+pub mod Numbers
+pub mod Netstrings
+pub mod Address
+pub mod Name

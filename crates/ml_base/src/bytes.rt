@@ -1,0 +1,147 @@
+// Lists that contracts see as such. Each keeps the allocator that it was made with.
+ghost use Rattle.std.specs.Prelude.{◌≡◌, ◌==◌, ◌^◌, ◌<◌, ℕ, List, [], ◌∷◌, ◌++◌, length, take, IfOk, OnOk, OnErr};
+
+use std::alloc::{AllocError, Global};
+use std::marker::Model;
+
+/// A byte string.
+#[derive(Clone, Drop)]
+pub struct Bytes {
+    items: Vec<u8>,
+}
+
+impl Model for Bytes {
+    ghost Value = { List ℕ };
+
+    ghost view = { λ b. b.items.items };
+}
+
+impl Bytes {
+    /// No bytes. It takes no memory.
+    pub fn new(alloc: Global) -> Self
+        ensures { result ≡ [] }
+    {
+        Bytes {
+            items: Vec::new(alloc),
+        }
+    }
+
+    /// The bytes of a vector. It takes no memory.
+    pub fn from_vec(items: Vec<u8>) -> Self
+        ensures { result ≡ items.items }
+    {
+        Bytes { items }
+    }
+
+    /// The vector of these bytes. It takes no memory.
+    pub fn into_vec(self) -> Vec<u8>
+        ensures { result.items ≡ self }
+    {
+        self.items
+    }
+
+    /// A copy of these bytes.
+    pub fn from_slice(alloc: Global, bytes: &[u8]) -> Result<Self, AllocError>
+        ensures { IfOk result (λ b. b ≡ bytes.now) }
+    {
+        Ok(Bytes {
+            items: Vec::from_slice(alloc, bytes)?,
+        })
+    }
+
+    pub fn as_slice(&self) -> &[u8]
+        ensures { result.now ≡ self.now }
+    {
+        self.items.as_slice()
+    }
+
+    pub fn len(&self) -> usize
+        ensures count { result ≡ length self.now }
+        ensures fits { length self.now < 2 ^ 64 }
+    {
+        self.items.len()
+    }
+
+    pub fn is_empty(&self) -> bool
+        ensures { result ≡ (length self.now == 0) }
+    {
+        self.items.is_empty()
+    }
+
+    /// Keeps the first `size` bytes.
+    pub fn truncate(&mut self, size: usize)
+        ensures { self.new ≡ take size self.old }
+    {
+        self.items.truncate(size);
+    }
+
+    /// Adds a byte at the end. An error changes nothing.
+    pub fn push(&mut self, byte: u8) -> Result<(), AllocError>
+        ensures ok { OnOk result (self.new ≡ self.old ++ byte ∷ []) }
+        ensures err { OnErr result (self.new ≡ self.old) }
+    {
+        self.items.push(byte)?;
+        Ok(())
+    }
+
+    /// Adds a piece at the end. An error changes nothing.
+    pub fn extend(&mut self, piece: &[u8]) -> Result<(), AllocError>
+        ensures ok { OnOk result (self.new ≡ self.old ++ piece.now) }
+        ensures err { OnErr result (self.new ≡ self.old) }
+    {
+        self.items.extend_from_slice(piece)?;
+        Ok(())
+    }
+}
+
+/// A list of numbers.
+#[derive(Drop)]
+pub struct Numbers {
+    items: Vec<u64>,
+}
+
+impl Model for Numbers {
+    ghost Value = { List ℕ };
+
+    ghost view = { λ b. b.items.items };
+}
+
+impl Numbers {
+    /// No numbers. It takes no memory.
+    pub fn new(alloc: Global) -> Self
+        ensures { result ≡ [] }
+    {
+        Numbers {
+            items: Vec::new(alloc),
+        }
+    }
+
+    /// The numbers of a vector. It takes no memory.
+    pub fn from_vec(items: Vec<u64>) -> Self
+        ensures { result ≡ items.items }
+    {
+        Numbers { items }
+    }
+
+    /// The vector of these numbers. It takes no memory.
+    pub fn into_vec(self) -> Vec<u64>
+        ensures { result.items ≡ self }
+    {
+        self.items
+    }
+
+    /// Adds a number at the end. An error changes nothing.
+    pub fn push(&mut self, number: u64) -> Result<(), AllocError>
+        ensures ok { OnOk result (self.new ≡ self.old ++ number ∷ []) }
+        ensures err { OnErr result (self.new ≡ self.old) }
+    {
+        self.items.push(number)?;
+        Ok(())
+    }
+
+    pub fn as_slice(&self) -> &[u64]
+        ensures { result.now ≡ self.now }
+    {
+        self.items.as_slice()
+    }
+}
