@@ -4,4 +4,5 @@ pub mod NameMaps
 pub mod Decimals
 pub mod Addresses
 pub mod Netstrings
+pub mod PathLengths
 mod Rows

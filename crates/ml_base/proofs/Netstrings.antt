@@ -14,7 +14,8 @@ and_left : (a b : Bool) → (a && b) ≡ true → a ≡ true
 and_left true b e = refl
 and_left false b e = e
 
-no_colon : (limit count n b : ℕ) → is_next_digit limit count n b ≡ true → eqb b 58 ≡ false
+-- a digit is no colon
+pub no_colon : (limit count n b : ℕ) → is_next_digit limit count n b ≡ true → eqb b 58 ≡ false
 no_colon limit count n b is = go (eqb b 58) refl
   where
     go : (t : Bool) → eqb b 58 ≡ t → eqb b 58 ≡ false
@@ -94,7 +95,8 @@ contents n x rest e =
     let long : ltb (length (x ++ 44 ∷ rest)) n ≡ false = le-ltb _ _ (omega (arith, length-append x (44 ∷ rest))) in
     rw (long, take_at x (44 ∷ rest) n (sym e), drop_at x (44 ∷ rest) n (sym e)) refl
 
-regroup : (d x rest : Text) → ((d ++ (58 ∷ x)) ++ (44 ∷ [])) ++ rest ≡ d ++ (58 ∷ (x ++ (44 ∷ rest)))
+-- a netstring's parts, each before all that follows it
+pub regroup : (d x rest : Text) → ((d ++ (58 ∷ x)) ++ (44 ∷ [])) ++ rest ≡ d ++ (58 ∷ (x ++ (44 ∷ rest)))
 regroup d x rest = append_assoc (d ++ (58 ∷ x)) (44 ∷ []) rest ∙ append_assoc d (58 ∷ x) (44 ∷ rest)
 
 pub netstring_written : (x rest : Text) → length x < 10 ^ 18 → netstring_at (ns x ++ rest) ≡ Some (x, rest)

@@ -5,10 +5,19 @@ ghost use Rattle.ml_base.specs.Name.{is_in_table, path_of, folder_of, leaf_of, s
 use crate::names::is_bucket_kind;
 use crate::{Name, put_number, put_piece};
 
-/// Writes the path of a file below the list's folder to the front of `out`, and answers its length. It takes no memory.
+/// Writes the path of a file below the list's folder to the front of `out`, and answers its length: at most 38 bytes.
+/// It takes no memory.
 pub fn path(name: Name, out: &mut [u8; 48]) -> usize
     requires { IsTrue (is_in_table name) }
-    ensures fits { result ≤ 48 }
+    ensures fits { result ≤ 38 }
+    ensures text { take result out.new ≡ path_of name }
+{
+    put_path(name, out)
+}
+
+fn put_path(name: Name, out: &mut [u8; 48]) -> usize
+    requires { IsTrue (is_in_table name) }
+    ensures place { result ≤ 48 }
     ensures text { take result out.new ≡ path_of name }
 {
     let front = put_piece(out, 0, folder(name.kind));
