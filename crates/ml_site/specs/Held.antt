@@ -1,0 +1,42 @@
+-- What a site in memory shows.
+use Rattle.std.specs.Prelude.{ℕ, List, length}
+use Rattle.std.specs.Vec.{vec_capacity}
+use Rattle.ml_site.specs.declared.mem.MemSite.{MemSite}
+use Rattle.ml_site.specs.Disk.{Disk}
+use Rattle.ml_site.specs.Memory.{after, at_rest, contents}
+
+-- the disk after the calls of the record
+abbrev pub mem_disk : MemSite → Disk
+mem_disk s = after (at_rest (contents s.start_log s.start_files)) s.calls.items
+
+-- what was put out
+abbrev pub mem_output : MemSite → List ℕ
+mem_output s = s.output
+
+-- how many calls the record has
+abbrev pub mem_calls : MemSite → ℕ
+mem_calls s = length s.calls.items
+
+-- for how many calls the record has room
+abbrev pub call_room : MemSite → ℕ
+call_room s = vec_capacity s.calls
+
+-- for how many bytes the output has room
+abbrev pub output_room : MemSite → ℕ
+output_room s = s.output_room
+
+-- how often a call on the disk has failed
+abbrev pub disk_faults : MemSite → ℕ
+disk_faults s = s.disk_faults
+
+-- how often the output has failed
+abbrev pub output_faults : MemSite → ℕ
+output_faults s = s.output_faults
+
+-- the calls, counted from 1, that are to fail
+abbrev pub site_failing : MemSite → List ℕ
+site_failing s = s.plan.failing
+
+-- how many calls were made
+abbrev pub site_made : MemSite → ℕ
+site_made s = s.plan.made

@@ -1,0 +1,11 @@
+pub mod Disk
+pub mod Causes
+pub mod Plan
+pub mod Failing
+pub mod Source
+pub mod Images
+pub mod Memory
+pub mod Replay
+pub mod Streams
+pub mod Held
+pub mod Kept

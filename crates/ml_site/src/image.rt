@@ -1,0 +1,69 @@
+// What a disk holds.
+ghost use Rattle.std.specs.Prelude.{◌≡◌, ◌≤◌, ◌+◌, ◌++◌, length, take, drop, if◌then◌else◌, IfOk, Some, None};
+ghost use Rattle.ml_base.specs.declared.names.Name.{Name as TheName};
+ghost use Rattle.ml_site.specs.Disk.{file_in};
+ghost use Rattle.ml_site.specs.Memory.{lookup};
+
+use ml_base::{Bytes, Name};
+use std::alloc::{AllocError, Global};
+use std::collections::BTreeMap;
+
+/// What a disk holds: the bytes of its log, and the bytes of each file under its name.
+/// A log that is absent is an empty log.
+#[derive(Drop)]
+pub struct Image {
+    /// The bytes of the log.
+    pub log: Bytes,
+    /// The bytes of the files that are there.
+    pub files: BTreeMap<Name, Bytes>,
+}
+
+/// A copy of all files.
+pub fn all_copied(files: &BTreeMap<Name, Bytes>) -> Result<BTreeMap<Name, Bytes>, AllocError>
+    ensures { IfOk result (λ copy. (name : TheName) → lookup copy name ≡ lookup files.now name) }
+{
+    Ok(files.clone()?)
+}
+
+/// A copy of a file, or None where it isn't there.
+pub fn copied(
+    alloc: Global,
+    files: &BTreeMap<Name, Bytes>,
+    name: Name,
+) -> Result<Option<Bytes>, AllocError>
+    ensures { IfOk result (λ o. o ≡ lookup files.now name) }
+{
+    match files.get(&name) {
+        Some(bytes) => Ok(Some(Bytes::from_slice(alloc, bytes.as_slice())?)),
+        None => Ok(None),
+    }
+}
+
+/// Sets a file and answers true, or leaves all as it is for want of memory.
+pub fn set(files: &mut BTreeMap<Name, Bytes>, name: Name, bytes: Bytes) -> bool
+    ensures { (other : TheName) → lookup files.new other
+        ≡ (if result then file_in (lookup files.old) name (Some bytes) other else lookup files.old other) }
+{
+    files.insert(name, bytes).is_ok()
+}
+
+/// Removes a file, if it is there.
+pub fn unset(files: &mut BTreeMap<Name, Bytes>, name: Name)
+    ensures { (other : TheName) → lookup files.new other ≡ file_in (lookup files.old) name None other }
+{
+    let _was = files.remove(&name);
+}
+
+/// A log with these bytes at a place.
+pub fn spliced(alloc: Global, log: &[u8], at: usize, bytes: &[u8]) -> Result<Bytes, AllocError>
+    requires { at ≤ length log.now }
+    ensures { IfOk result (λ longer.
+        longer ≡ take at log.now ++ bytes.now ++ drop (at + length bytes.now) log.now) }
+{
+    let mut next = Bytes::from_slice(alloc, &log[..at])?;
+    next.extend(bytes)?;
+    if bytes.len() < log.len() - at {
+        next.extend(&log[at + bytes.len()..])?;
+    }
+    Ok(next)
+}

@@ -1,0 +1,20 @@
+//! A site: a disk with a log and files, and an output. Beside it a source of bytes and a clock.
+#![tactic(auto)]
+
+mod call;
+mod image;
+mod mem;
+mod plan;
+mod site;
+mod source;
+mod streams;
+#[cfg(test)]
+mod tests;
+mod unfailing;
+
+pub use image::Image;
+pub use mem::MemSite;
+pub use site::{Failed, Site, SiteError};
+pub use source::{Clock, Source};
+pub use streams::{MemClock, MemSource};
+pub use unfailing::Unfailing;

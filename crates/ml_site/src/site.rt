@@ -1,0 +1,221 @@
+// A disk and an output, as the program sees them.
+ghost use Rattle.std.specs.Prelude.{◌≡◌, ◌≤◌, ◌+◌, ◌++◌, ℕ, Bool, List, Option, Some, None, IsTrue, length, take, IfOk, OnOk, OnErr, IsErrOf};
+ghost use Rattle.ml_base.specs.Name.{is_file};
+ghost use Rattle.ml_base.specs.declared.names.Name.{Name};
+ghost use Rattle.ml_site.specs.declared.site.SiteError.TheVariants.{Memory, Failed as FailedCall};
+ghost use Rattle.ml_site.specs.Disk.{Contents, Part, Disk, Range, Cut, File, MayLeave, IsImage, Changes, Pends, Now, Giving, Elapses, Rose, IsAtRest, log_with, log_cut, file_with};
+
+use ml_base::{Bytes, Name};
+use std::alloc::{AllocError, AllocFailed, Global};
+use thiserror::Error;
+
+/// Why a call on the disk that takes memory gave no answer.
+#[derive(Clone, Copy, Debug, PartialEq, Eq, Error)]
+pub enum SiteError {
+    /// The disk failed. Its count of faults rose in this call.
+    #[error("the disk failed")]
+    Failed,
+    /// There was no memory for the call.
+    #[error("out of memory")]
+    Memory,
+}
+
+/// A call failed. A count of faults rose in this call.
+#[derive(Clone, Copy, Debug, PartialEq, Eq, Error)]
+#[error("the call failed")]
+pub struct Failed;
+
+impl From<AllocError> for SiteError {
+    ghost from_gives = { λ _ e. e ≡ Memory };
+
+    fn from(_: AllocError) -> Self {
+        SiteError::Memory
+    }
+}
+
+impl<T: Drop> From<AllocFailed<T>> for SiteError {
+    ghost from_gives = { λ _ e. e ≡ Memory };
+
+    fn from(_: AllocFailed<T>) -> Self {
+        SiteError::Memory
+    }
+}
+
+/// A disk with a log and files, and an output.
+///
+/// A type tells what reads give, or it doesn't, and then it tells nothing; the rest it tells as a whole or not at all.
+/// What isn't told is not owed. The counts of faults are told by every type, and they never fall.
+/// `Failed` comes only where the count of the disk rose in that call, or of the output for `give`.
+pub trait Site {
+    /// Whether it tells what reads give.
+    ghost tells_reads: { Bool };
+
+    /// Whether it tells its images, output, moments and numbers too.
+    ghost tells_all: { Bool };
+
+    /// What reads give, what is settled and what is pending.
+    ghost disk: { Self → Disk };
+
+    /// The output so far.
+    ghost output: { Self → List ℕ };
+
+    /// The time, as a number that doesn't fall.
+    ghost moment: { Self → ℕ };
+
+    /// What a crash at some moment from that time on may have left, with the output so far.
+    ghost left_since: { Self → ℕ → Contents → List ℕ → Type 0 };
+
+    /// How often it was synced.
+    ghost syncs: { Self → ℕ };
+
+    /// How many bytes were handed to the log.
+    ghost log_bytes: { Self → ℕ };
+
+    /// How often a call on the disk has failed, as far as that can be counted in 64 bits.
+    ghost disk_faults: { Self → ℕ };
+
+    /// How often the output has failed, as far as that can be counted in 64 bits.
+    ghost output_faults: { Self → ℕ };
+
+    /// The bytes of the log. A log that is absent is empty.
+    fn read_log(&mut self, alloc: Global) -> Result<Bytes, SiteError>
+        ensures bytes { IsTrue tells_reads → IfOk result (λ v. v ≡ (disk self.old).reads.log) }
+        ensures reads { IsTrue tells_reads → (disk self.new).reads ≡ (disk self.old).reads }
+        ensures disk { IsTrue tells_all → disk self.new ≡ disk self.old }
+        ensures output { IsTrue tells_all → output self.new ≡ output self.old }
+        ensures time { IsTrue tells_all → Elapses (moment self.old) (moment self.new)
+            (left_since self.old) (left_since self.new) (Now (disk self.new) (output self.new)) }
+        ensures syncs { IsTrue tells_all → syncs self.new ≡ syncs self.old }
+        ensures log_bytes { IsTrue tells_all → log_bytes self.new ≡ log_bytes self.old }
+        ensures faults { disk_faults self.old ≤ disk_faults self.new }
+        ensures cause { IsErrOf result FailedCall → Rose (disk_faults self.old) (disk_faults self.new) }
+        ensures others { output_faults self.new ≡ output_faults self.old };
+
+    /// Writes bytes to the log from the byte `at` on, which is at or before its end as it reads.
+    /// They are pending then, also where the call failed, and what reads give differs there at most.
+    fn write_log(&mut self, alloc: Global, at: u64, bytes: &[u8]) -> Result<(), SiteError>
+        requires { IsTrue tells_reads → at ≤ length (disk self.old).reads.log }
+        ensures reads { IsTrue tells_reads → Changes result (Range at (length bytes.now))
+            (log_with (disk self.old).reads at bytes.now) (disk self.old).reads (disk self.new).reads }
+        ensures pends { IsTrue tells_all → Pends result (Range at (length bytes.now)) (disk self.old) (disk self.new) }
+        ensures output { IsTrue tells_all → output self.new ≡ output self.old }
+        ensures time { IsTrue tells_all → Elapses (moment self.old) (moment self.new)
+            (left_since self.old) (left_since self.new) (Now (disk self.new) (output self.new)) }
+        ensures syncs { IsTrue tells_all → syncs self.new ≡ syncs self.old }
+        ensures log_bytes { IsTrue tells_all → OnOk result (log_bytes self.new ≡ log_bytes self.old + length bytes.now) }
+        ensures log_bytes_stay { IsTrue tells_all → log_bytes self.old ≤ log_bytes self.new }
+        ensures faults { disk_faults self.old ≤ disk_faults self.new }
+        ensures cause { IsErrOf result FailedCall → Rose (disk_faults self.old) (disk_faults self.new) }
+        ensures others { output_faults self.new ≡ output_faults self.old };
+
+    /// Cuts the log to its first `len` bytes, at most as many as it has as it reads.
+    /// What stood behind them is pending then, also where the call failed.
+    fn cut_log(&mut self, len: u64) -> Result<(), Failed>
+        requires { IsTrue tells_reads → len ≤ length (disk self.old).reads.log }
+        ensures reads { IsTrue tells_reads → Changes result (Cut len)
+            (log_cut (disk self.old).reads len) (disk self.old).reads (disk self.new).reads }
+        ensures pends { IsTrue tells_all → Pends result (Cut len) (disk self.old) (disk self.new) }
+        ensures output { IsTrue tells_all → output self.new ≡ output self.old }
+        ensures time { IsTrue tells_all → Elapses (moment self.old) (moment self.new)
+            (left_since self.old) (left_since self.new) (Now (disk self.new) (output self.new)) }
+        ensures syncs { IsTrue tells_all → syncs self.new ≡ syncs self.old }
+        ensures log_bytes { IsTrue tells_all → log_bytes self.new ≡ log_bytes self.old }
+        ensures faults { disk_faults self.old ≤ disk_faults self.new }
+        ensures cause { OnErr result (Rose (disk_faults self.old) (disk_faults self.new)) }
+        ensures others { output_faults self.new ≡ output_faults self.old };
+
+    /// The bytes of a file other than the log, or None where it is absent.
+    fn read_file(&mut self, alloc: Global, name: Name) -> Result<Option<Bytes>, SiteError>
+        requires { IsTrue (is_file name) }
+        ensures bytes { IsTrue tells_reads → IfOk result (λ o. o ≡ (disk self.old).reads.files name) }
+        ensures reads { IsTrue tells_reads → (disk self.new).reads ≡ (disk self.old).reads }
+        ensures disk { IsTrue tells_all → disk self.new ≡ disk self.old }
+        ensures output { IsTrue tells_all → output self.new ≡ output self.old }
+        ensures time { IsTrue tells_all → Elapses (moment self.old) (moment self.new)
+            (left_since self.old) (left_since self.new) (Now (disk self.new) (output self.new)) }
+        ensures syncs { IsTrue tells_all → syncs self.new ≡ syncs self.old }
+        ensures log_bytes { IsTrue tells_all → log_bytes self.new ≡ log_bytes self.old }
+        ensures faults { disk_faults self.old ≤ disk_faults self.new }
+        ensures cause { IsErrOf result FailedCall → Rose (disk_faults self.old) (disk_faults self.new) }
+        ensures others { output_faults self.new ≡ output_faults self.old };
+
+    /// Gives a file other than the log these bytes, in place of any that it had.
+    /// The file is pending then, also where the call failed, and what reads give differs there at most.
+    fn write_file(&mut self, alloc: Global, name: Name, bytes: &[u8]) -> Result<(), SiteError>
+        requires { IsTrue (is_file name) }
+        ensures reads { IsTrue tells_reads → Changes result (File name)
+            (file_with (disk self.old).reads name (Some bytes.now)) (disk self.old).reads (disk self.new).reads }
+        ensures pends { IsTrue tells_all → Pends result (File name) (disk self.old) (disk self.new) }
+        ensures output { IsTrue tells_all → output self.new ≡ output self.old }
+        ensures time { IsTrue tells_all → Elapses (moment self.old) (moment self.new)
+            (left_since self.old) (left_since self.new) (Now (disk self.new) (output self.new)) }
+        ensures syncs { IsTrue tells_all → syncs self.new ≡ syncs self.old }
+        ensures log_bytes { IsTrue tells_all → log_bytes self.new ≡ log_bytes self.old }
+        ensures faults { disk_faults self.old ≤ disk_faults self.new }
+        ensures cause { IsErrOf result FailedCall → Rose (disk_faults self.old) (disk_faults self.new) }
+        ensures others { output_faults self.new ≡ output_faults self.old };
+
+    /// Removes a file other than the log, if it is there.
+    /// The file is pending then, also where the call failed, and what reads give differs there at most.
+    fn remove_file(&mut self, alloc: Global, name: Name) -> Result<(), SiteError>
+        requires { IsTrue (is_file name) }
+        ensures reads { IsTrue tells_reads → Changes result (File name)
+            (file_with (disk self.old).reads name None) (disk self.old).reads (disk self.new).reads }
+        ensures pends { IsTrue tells_all → Pends result (File name) (disk self.old) (disk self.new) }
+        ensures output { IsTrue tells_all → output self.new ≡ output self.old }
+        ensures time { IsTrue tells_all → Elapses (moment self.old) (moment self.new)
+            (left_since self.old) (left_since self.new) (Now (disk self.new) (output self.new)) }
+        ensures syncs { IsTrue tells_all → syncs self.new ≡ syncs self.old }
+        ensures log_bytes { IsTrue tells_all → log_bytes self.new ≡ log_bytes self.old }
+        ensures faults { disk_faults self.old ≤ disk_faults self.new }
+        ensures cause { IsErrOf result FailedCall → Rose (disk_faults self.old) (disk_faults self.new) }
+        ensures others { output_faults self.new ≡ output_faults self.old };
+
+    /// Settles all that is pending: after Ok a crash leaves exactly what reads give. An error settles nothing.
+    /// It takes no memory.
+    fn sync(&mut self) -> Result<(), Failed>
+        ensures reads { IsTrue tells_reads → (disk self.new).reads ≡ (disk self.old).reads }
+        ensures ok { IsTrue tells_all → OnOk result (IsAtRest (disk self.new)) }
+        ensures err { IsTrue tells_all → OnErr result (disk self.new ≡ disk self.old) }
+        ensures crash { IsTrue tells_all → (left : Contents)
+            → IsImage (disk self.new) left → IsImage (disk self.old) left }
+        ensures output { IsTrue tells_all → output self.new ≡ output self.old }
+        ensures time { IsTrue tells_all → Elapses (moment self.old) (moment self.new)
+            (left_since self.old) (left_since self.new) (Now (disk self.new) (output self.new)) }
+        ensures syncs { IsTrue tells_all → syncs self.new ≤ syncs self.old + 1 }
+        ensures syncs_stay { IsTrue tells_all → syncs self.old ≤ syncs self.new }
+        ensures log_bytes { IsTrue tells_all → log_bytes self.new ≡ log_bytes self.old }
+        ensures faults { disk_faults self.old ≤ disk_faults self.new }
+        ensures cause { OnErr result (Rose (disk_faults self.old) (disk_faults self.new)) }
+        ensures others { output_faults self.new ≡ output_faults self.old };
+
+    /// Puts bytes out behind those that were put out before. An error has put out some first part of them.
+    /// It takes no memory.
+    fn give(&mut self, bytes: &[u8]) -> Result<(), Failed>
+        ensures reads { IsTrue tells_reads → (disk self.new).reads ≡ (disk self.old).reads }
+        ensures disk { IsTrue tells_all → disk self.new ≡ disk self.old }
+        ensures ok { IsTrue tells_all → OnOk result (output self.new ≡ output self.old ++ bytes.now) }
+        ensures err { IsTrue tells_all
+            → OnErr result ((n : ℕ) × (output self.new ≡ output self.old ++ take n bytes.now)) }
+        ensures time { IsTrue tells_all → Elapses (moment self.old) (moment self.new)
+            (left_since self.old) (left_since self.new) (Giving (disk self.old) (output self.old) bytes.now) }
+        ensures syncs { IsTrue tells_all → syncs self.new ≡ syncs self.old }
+        ensures log_bytes { IsTrue tells_all → log_bytes self.new ≡ log_bytes self.old }
+        ensures faults { output_faults self.old ≤ output_faults self.new }
+        ensures cause { OnErr result (Rose (output_faults self.old) (output_faults self.new)) }
+        ensures others { disk_faults self.new ≡ disk_faults self.old };
+
+    /// What is told besides what reads give.
+    ghost all_has_reads: { IsTrue tells_all → IsTrue tells_reads };
+
+    /// A disk as it reads is one of its images.
+    ghost reads_as_image: { (site : Self) → IsTrue tells_all → IsImage (disk site) (disk site).reads };
+
+    /// With the output so far it is a moment now.
+    ghost is_a_moment: { (site : Self) (t : ℕ) → IsTrue tells_all → t ≤ moment site
+        → left_since site t (disk site).reads (output site) };
+
+    /// Since this moment there is no other.
+    ghost only_now: { (site : Self) (left : Contents) (out : List ℕ) → IsTrue tells_all
+        → left_since site (moment site) left out → Now (disk site) (output site) left out };
+}

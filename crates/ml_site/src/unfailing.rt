@@ -1,0 +1,101 @@
+// A disk in memory that never fails and keeps no record.
+ghost use Rattle.std.specs.Prelude.{◌≡◌, true, false, [], ⊤};
+ghost use Rattle.ml_site.specs.Memory.{contents, at_rest};
+ghost use Rattle.ml_site.specs.Disk.{untold};
+
+use crate::image::{copied, set, spliced, unset};
+use crate::{Failed, Image, Site, SiteError};
+use ml_base::{Bytes, Name};
+use std::alloc::Global;
+use std::collections::BTreeMap;
+
+/// A site in memory whose calls never fail, though they may want memory. It tells what reads give and nothing else.
+/// It keeps no record of its calls, and drops what is put out.
+#[derive(Drop)]
+pub struct Unfailing {
+    log: Bytes,
+    files: BTreeMap<Name, Bytes>,
+}
+
+impl Unfailing {
+    ghost use Rattle.ml_site.specs.Kept.{unfailing_disk};
+
+    /// A site over an image. It takes no memory.
+    pub fn new(image: Image) -> Unfailing
+        ensures { unfailing_disk result ≡ at_rest (contents image.log image.files) }
+    {
+        Unfailing {
+            log: image.log,
+            files: image.files,
+        }
+    }
+}
+
+impl Site for Unfailing {
+    ghost tells_reads = { true };
+
+    ghost tells_all = { false };
+
+    ghost disk = { λ s. at_rest (contents s.log s.files) };
+
+    ghost output = { λ _. [] };
+
+    ghost moment = { λ _. 0 };
+
+    ghost left_since = { λ _ _ _ _. ⊤ };
+
+    ghost syncs = { λ _. 0 };
+
+    ghost log_bytes = { λ _. 0 };
+
+    ghost disk_faults = { λ _. 0 };
+
+    ghost output_faults = { λ _. 0 };
+
+    fn read_log(&mut self, alloc: Global) -> Result<Bytes, SiteError> {
+        Ok(Bytes::from_slice(alloc, self.log.as_slice())?)
+    }
+
+    fn write_log(&mut self, alloc: Global, at: u64, bytes: &[u8]) -> Result<(), SiteError> {
+        self.log = spliced(alloc, self.log.as_slice(), at as usize, bytes)?;
+        Ok(())
+    }
+
+    fn cut_log(&mut self, len: u64) -> Result<(), Failed> {
+        self.log.truncate(len as usize);
+        Ok(())
+    }
+
+    fn read_file(&mut self, alloc: Global, name: Name) -> Result<Option<Bytes>, SiteError> {
+        Ok(copied(alloc, &self.files, name)?)
+    }
+
+    fn write_file(&mut self, alloc: Global, name: Name, bytes: &[u8]) -> Result<(), SiteError> {
+        let copy = Bytes::from_slice(alloc, bytes)?;
+        if !set(&mut self.files, name, copy) {
+            return Err(SiteError::Memory);
+        }
+        Ok(())
+    }
+
+    fn remove_file(&mut self, _alloc: Global, name: Name) -> Result<(), SiteError> {
+        unset(&mut self.files, name);
+        Ok(())
+    }
+
+    fn sync(&mut self) -> Result<(), Failed> {
+        Ok(())
+    }
+
+    fn give(&mut self, _bytes: &[u8]) -> Result<(), Failed> {
+        Ok(())
+    }
+
+    ghost all_has_reads = { λ t. untold t };
+
+    ghost reads_as_image = { λ s t. untold t };
+
+    ghost is_a_moment = { λ s t told le. untold told };
+
+    ghost only_now = { λ s c o told left. untold told };
+}
