@@ -1,0 +1,143 @@
+//! The list as a plain value: what an item does to it, and what the item is answered.
+#![tactic(auto)]
+
+mod codes;
+mod laws;
+
+pub use codes::{has_number, status, word};
+pub use laws::law_members;
+use ml_base::{Address, Set};
+
+/// One thing that is asked of a list.
+#[derive(Drop)]
+pub struct Item {
+    /// The item's number, which its answer repeats.
+    pub number: u64,
+    /// When it is asked, in seconds since 1970.
+    pub moment: u64,
+    pub act: Act,
+}
+
+/// What is asked.
+#[derive(Drop)]
+pub enum Act {
+    /// To add an address to a set.
+    Add { set: Set, who: Address },
+}
+
+/// What an item is answered: a code, and a number where the code has one (`has_number`), else 0.
+#[derive(Clone, Copy, Debug, PartialEq, Eq)]
+pub struct Reply {
+    pub code: u8,
+    pub number: u64,
+}
+
+impl Reply {
+    /// A post was taken; its number follows.
+    pub const POSTED: u8 = 1;
+
+    /// A post waits for the moderators; its ticket follows.
+    pub const HELD: u8 = 2;
+
+    /// The hour's work was done; the count of the queue entries that it made follows.
+    pub const TIMED: u8 = 3;
+
+    /// The address was added.
+    pub const SUBSCRIBED: u8 = 4;
+
+    /// The address was in the set before.
+    pub const ALREADY: u8 = 5;
+
+    /// The address was removed.
+    pub const UNSUBSCRIBED: u8 = 6;
+
+    /// The address wasn't in the set.
+    pub const ABSENT: u8 = 7;
+
+    /// A request for confirmation was sent.
+    pub const ASKED: u8 = 8;
+
+    /// A part of the archive was sent.
+    pub const ARCHIVE: u8 = 9;
+
+    /// The help text was sent.
+    pub const HELP: u8 = 10;
+
+    /// The message was sent to the owner.
+    pub const OWNER: u8 = 11;
+
+    /// The members of a set were sent.
+    pub const MEMBERS: u8 = 12;
+
+    /// A bounce was noted.
+    pub const BOUNCE: u8 = 13;
+
+    /// Nothing was done.
+    pub const IGNORED: u8 = 14;
+
+    /// A message was taken and let go.
+    pub const DROPPED: u8 = 15;
+
+    /// A held post was rejected.
+    pub const REJECTED: u8 = 16;
+
+    /// The held post isn't there.
+    pub const GONE: u8 = 17;
+
+    /// A queue entry was removed.
+    pub const DEQUEUED: u8 = 18;
+
+    /// The queue entry isn't there.
+    pub const NOENTRY: u8 = 19;
+
+    /// The set has as many addresses as it may.
+    pub const FULL: u8 = 20;
+
+    /// The message is longer than the list allows.
+    pub const TOOBIG: u8 = 21;
+
+    /// The message has no sender.
+    pub const NOSENDER: u8 = 22;
+
+    /// The message came from this list before.
+    pub const LOOPED: u8 = 23;
+
+    /// The sender may not post.
+    pub const DENIED: u8 = 24;
+
+    /// The message has no subject.
+    pub const NOSUBJECT: u8 = 25;
+
+    /// The post looks like a command.
+    pub const COMMAND: u8 = 26;
+
+    /// The message doesn't name the list as a recipient.
+    pub const NOTADDRESSED: u8 = 27;
+
+    /// The request is for subscribers alone.
+    pub const USERSONLY: u8 = 28;
+
+    /// The recipient isn't an address of this list.
+    pub const NOTOURS: u8 = 29;
+
+    /// The cookie isn't right, or too old.
+    pub const BADCOOKIE: u8 = 30;
+
+    /// The list doesn't allow the request.
+    pub const PRIVATE: u8 = 31;
+
+    /// The key was changed.
+    pub const REKEYED: u8 = 32;
+
+    /// The key was changed too short a time ago.
+    pub const TOOSOON: u8 = 33;
+
+    /// The floor was raised; it follows.
+    pub const FLOORED: u8 = 34;
+
+    /// The item's number is below the floor.
+    pub const STALE: u8 = 35;
+
+    /// The floor can't be set so.
+    pub const BADFLOOR: u8 = 36;
+}
