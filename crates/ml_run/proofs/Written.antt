@@ -1,0 +1,9 @@
+-- How long the pieces of a line are.
+use Rattle.std.proofs.Common.{◌≡◌, ℕ, ◌+◌, ◌≤◌, ◌++◌, length, take, ap, arith, length-append}
+use Rattle.std.proofs.lemmas.List.{length-take-le}
+use Rattle.ml_base.specs.Bytes.{Text}
+
+-- the place behind a piece is as far on as the piece is long
+pub place_behind : (k at : ℕ) (new old piece : Text) → k ≤ length new → at ≤ length old → take k new ≡ take at old ++ piece → k ≡ at + length piece
+place_behind k at new old piece fits room e =
+    omega (arith, ap length e, length-take-le k new fits, length-append (take at old) piece, length-take-le at old room)

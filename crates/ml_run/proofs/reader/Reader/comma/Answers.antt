@@ -1,0 +1,26 @@
+use Rattle.std.proofs.Common.{◌∙◌, ap, sym, Ok}
+use Rattle.ml_run.specs.Stream.{comma_at}
+use Rattle.ml_run.proofs.Bytewise.{first_is, end_is, one_further}
+use Rattle.ml_run.proofs.Elements.{comma_some, comma_bad}
+use Rattle.ml_run.proofs.reader.Reader.comma.Goals as goal
+
+pub returns-then-b-eq44-clause-read : goal.returns-then-b-eq44-clause-read
+returns-then-b-eq44-clause-read g c bs s =
+    let t = c.in_ok-b.ensures.read bs s in (
+      t.rest,
+      ap (comma_at c.args.start c.args.self.now.place) (first_is bs t.rest c.in_ok-b.field-0 c.in-Some.b t.is_all c.in-Some.is)
+          ∙ comma_some c.args.start c.args.self.now.place c.in-Some.b t.rest c.if-b-eq44.true
+          ∙ ap (λ p. Ok (record { value = tt; place = p; rest = t.rest })) (sym (one_further c.args.self.now.place c.byte.new.self.place c.in_ok-b.field-0 c.in-Some.b t.place_is c.in-Some.is)),
+      t.stands,
+    )
+
+pub returns-else-b-eq44-clause-read : goal.returns-else-b-eq44-clause-read
+returns-else-b-eq44-clause-read g c bs s =
+    let t = c.in_ok-b.ensures.read bs s in
+    ap (comma_at c.args.start c.args.self.now.place) (first_is bs t.rest c.in_ok-b.field-0 c.in-Some.b t.is_all c.in-Some.is)
+    ∙ comma_bad c.args.start c.args.self.now.place c.in-Some.b t.rest c.if-b-eq44.false
+
+pub returns-in_default-clause-read : goal.returns-in_default-clause-read
+returns-in_default-clause-read g c bs s =
+    let t = c.in_ok-b.ensures.read bs s in
+    ap (comma_at c.args.start c.args.self.now.place) (end_is bs t.rest c.in_ok-b.field-0 t.is_all c.in_default.is t.end)

@@ -1,0 +1,10 @@
+pub mod Stream
+pub mod Reading
+pub mod Items
+pub mod SetFile
+pub mod Stops
+pub mod Answers
+pub mod Lines
+pub mod Writing
+pub mod Serving
+pub mod Running
