@@ -1,0 +1,58 @@
+//! ezmlm: a mailing list manager.
+#![tactic(auto)]
+
+mod commands;
+mod real;
+#[cfg(test)]
+mod tests;
+
+use crate::commands::ezmlm_main;
+use crate::real::{RealClock, RealSite, StdSource};
+use ml_run::{Why, stop_line};
+use ml_site::Site;
+use std::env;
+use std::io::{self, ErrorKind};
+use std::process::ExitCode;
+
+/// The first word names the list's folder, and the others say what to do.
+fn main(rt: HostRuntime) -> ExitCode {
+    match words(&rt) {
+        Ok(words) => run_words(&rt, &words),
+        Err(error) if error.kind() == ErrorKind::OutOfMemory => stop_for_memory(&rt),
+        // A word that isn't UTF-8 is a word of no command.
+        Err(_) => run_words(&rt, &[]),
+    }
+}
+
+// The words behind the program's name.
+fn words(rt: &HostRuntime) -> io::Result<Vec<String>> {
+    let mut words = Vec::new(rt.alloc());
+    for word in env::args(rt)?.skip(1) {
+        words.push(word)?;
+    }
+    Ok(words)
+}
+
+// Does what the words behind the folder's say. Without a folder there are no words, and no call on the disk is made.
+fn run_words(rt: &HostRuntime, words: &[String]) -> ExitCode {
+    let mut source = StdSource::new(rt);
+    let mut clock = RealClock::new(rt);
+    let (dir, rest) = match words {
+        [dir, rest @ ..] => (dir.as_str(), rest),
+        [] => ("", words),
+    };
+    let site = RealSite::new(rt, dir);
+    let (status, _) = ezmlm_main(rt.alloc(), rest, &mut source, site, &mut clock);
+    ExitCode::from(status)
+}
+
+// Tells that memory was wanting before anything was done.
+fn stop_for_memory(rt: &HostRuntime) -> ExitCode {
+    let mut site = RealSite::new(rt, "");
+    let mut line = [0u8; 64];
+    let len = stop_line(None, 71, Why::Memory, &mut line);
+    match site.give(&line[..len]) {
+        Ok(()) => ExitCode::from(71),
+        Err(_) => ExitCode::from(73),
+    }
+}

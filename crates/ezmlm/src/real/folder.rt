@@ -1,0 +1,232 @@
+// The folder of a list: its log and its files.
+use super::changes::Changes;
+use super::descriptors::{open_to_read, open_to_write};
+use super::places::{Paths, path_text};
+use ml_base::{Bytes, Name};
+use std::alloc::Global;
+use std::fs::File;
+use std::io::{ErrorKind, Read, Write};
+use std::os::unix::fs::FileExt;
+use std::{fs, io, str};
+
+/// The folder of a list, which is made and locked at its first use. It counts no faults.
+#[derive(Drop)]
+pub(super) struct Folder<'a> {
+    rt: &'a HostRuntime,
+    dir: &'a str,
+    paths: Paths<'a>,
+    // The lock ends when this file is closed.
+    lock: Option<File>,
+    // The log, from its first change on.
+    log: Option<File>,
+    changes: Changes,
+}
+
+impl<'a> Folder<'a> {
+    /// Does nothing yet, and takes no memory.
+    pub fn new(rt: &'a HostRuntime, dir: &'a str) -> Self {
+        Folder {
+            rt,
+            dir,
+            paths: Paths::new(rt.alloc(), dir),
+            lock: None,
+            log: None,
+            changes: Changes::new(rt.alloc()),
+        }
+    }
+
+    // Makes the folder and takes its lock, where that isn't done. After an error the next call tries again.
+    fn ready(&mut self) -> io::Result<()> {
+        if self.lock.is_some() {
+            return Ok(());
+        }
+        if self.dir.is_empty() {
+            return Err(ErrorKind::NotFound.into());
+        }
+        self.paths.take_room()?;
+        self.changes.note_list()?;
+        make_list(self.rt, self.dir)?;
+        let lock = open_to_write(self.rt, self.paths.below(b"lock")?)?;
+        lock.try_lock()?;
+        self.lock = Some(lock);
+        Ok(())
+    }
+
+    /// The bytes of the log. A log that isn't there is empty.
+    pub fn read_log(&mut self, alloc: Global) -> io::Result<Bytes> {
+        self.ready()?;
+        let file = match open_to_read(self.rt, self.paths.below(b"log")?) {
+            Ok(file) => file,
+            Err(error) if error.kind() == ErrorKind::NotFound => return Ok(Bytes::new(alloc)),
+            Err(error) => return Err(error),
+        };
+        read_all(alloc, file)
+    }
+
+    /// Writes a piece into the log from this byte on.
+    pub fn write_log(&mut self, at: u64, bytes: &[u8]) -> io::Result<()> {
+        self.log()?.write_all_at(bytes, at)
+    }
+
+    /// Cuts the log to this many bytes.
+    pub fn cut_log(&mut self, len: u64) -> io::Result<()> {
+        self.log()?.set_len(len)
+    }
+
+    // The log, to change it. It is made where it is missing.
+    fn log(&mut self) -> io::Result<&File> {
+        self.ready()?;
+        self.changes.note_log();
+        if self.log.is_none() {
+            self.changes.note_list()?;
+            self.log = Some(open_to_write(self.rt, self.paths.below(b"log")?)?);
+        }
+        match &self.log {
+            Some(file) => Ok(file),
+            None => Err(ErrorKind::NotFound.into()),
+        }
+    }
+
+    /// The bytes of a file, or None where it isn't there.
+    pub fn read(&mut self, alloc: Global, name: Name) -> io::Result<Option<Bytes>> {
+        self.ready()?;
+        match open_to_read(self.rt, self.paths.file(name)?) {
+            Ok(file) => Ok(Some(read_all(alloc, file)?)),
+            Err(error) if error.kind() == ErrorKind::NotFound => Ok(None),
+            Err(error) => Err(error),
+        }
+    }
+
+    /// Gives a file these bytes. What is to be synced is noted first, so that want of memory writes nothing.
+    pub fn write(&mut self, name: Name, bytes: &[u8]) -> io::Result<()> {
+        self.ready()?;
+        self.changes.note_folders(name)?;
+        let is_new = self.changes.note_file(name)?;
+        let file = match self.open_file(name) {
+            Ok(file) => file,
+            Err(error) => {
+                if is_new {
+                    self.changes.forget_file(name);
+                }
+                return Err(error);
+            }
+        };
+        file.write_all_at(bytes, 0)?;
+        file.set_len(bytes.len() as u64)
+    }
+
+    // Opens a file to write it, and makes it and the folders on the way to it where they are missing.
+    fn open_file(&mut self, name: Name) -> io::Result<File> {
+        match open_to_write(self.rt, self.paths.file(name)?) {
+            Err(error) if error.kind() == ErrorKind::NotFound => {
+                self.make_folders(name)?;
+                open_to_write(self.rt, self.paths.file(name)?)
+            }
+            answer => answer,
+        }
+    }
+
+    fn make_folders(&mut self, name: Name) -> io::Result<()> {
+        let mut room = [0u8; 48];
+        let rest = path_text(name, &mut room)?;
+        for (at, byte) in rest.iter().enumerate() {
+            if *byte == b'/' {
+                make_folder(self.rt, self.paths.below(&rest[..at])?)?;
+            }
+        }
+        Ok(())
+    }
+
+    /// Removes a file. It is no error where none is there.
+    pub fn remove(&mut self, name: Name) -> io::Result<()> {
+        self.ready()?;
+        self.changes.note_folders(name)?;
+        remove_file(self.rt, self.paths.file(name)?)?;
+        self.changes.forget_file(name);
+        Ok(())
+    }
+
+    /// Brings what has changed since the last good sync to the disk. It takes memory at the first use alone.
+    pub fn sync(&mut self) -> io::Result<()> {
+        self.ready()?;
+        self.changes
+            .sync(self.rt, &mut self.paths, self.log.as_ref())
+    }
+
+    /// Writes bytes to standard output. No byte is kept back.
+    pub fn give(&self, bytes: &[u8]) -> io::Result<()> {
+        let mut output = self.rt.stdout();
+        let mut rest = bytes;
+        for _ in 0..u64::MAX {
+            if rest.is_empty() {
+                return output.flush();
+            }
+            match output.write(rest) {
+                Ok(0) => return Err(ErrorKind::WriteZero.into()),
+                Ok(count) => rest = &rest[count..],
+                Err(error) if error.kind() == ErrorKind::Interrupted => {}
+                Err(error) => return Err(error),
+            }
+        }
+        Err(ErrorKind::Interrupted.into())
+    }
+}
+
+fn read_all(alloc: Global, mut file: File) -> io::Result<Bytes> {
+    let mut bytes = Vec::new(alloc);
+    file.read_to_end(&mut bytes)?;
+    Ok(Bytes::from_vec(bytes))
+}
+
+// Makes the list's folder, and those above it, where they are missing. The list's own entry is for the first sync.
+fn make_list(rt: &HostRuntime, dir: &str) -> io::Result<()> {
+    match make_folder(rt, dir) {
+        Err(error) if error.kind() == ErrorKind::NotFound => {
+            make_above(rt, dir.as_bytes())?;
+            make_folder(rt, dir)
+        }
+        answer => answer,
+    }
+}
+
+// Makes the folders above the list's own, from the top. Each entry reaches the disk before the next folder is made: else a
+// crash could leave a list to which no path leads. A run that is killed here leaves the list's own folder unmade, so the
+// next one comes here again.
+fn make_above(rt: &HostRuntime, dir: &[u8]) -> io::Result<()> {
+    for (at, byte) in dir.iter().enumerate() {
+        if *byte != b'/' || at == 0 {
+            continue;
+        }
+        let Ok(above) = str::from_utf8(&dir[..at]) else {
+            return Err(ErrorKind::InvalidFilename.into());
+        };
+        make_folder(rt, above)?;
+        let parent = format!(in rt.alloc(); "{above}/..")?;
+        open_to_read(rt, parent.as_str())?.sync_all()?;
+    }
+    Ok(())
+}
+
+// Makes a folder, where it isn't there.
+fn make_folder(rt: &HostRuntime, path: &str) -> io::Result<()> {
+    for _ in 0..u64::MAX {
+        match fs::create_dir(rt, path) {
+            Err(error) if error.kind() == ErrorKind::Interrupted => {}
+            Err(error) if error.kind() == ErrorKind::AlreadyExists => return Ok(()),
+            answer => return answer,
+        }
+    }
+    Err(ErrorKind::Interrupted.into())
+}
+
+// Removes a file, where it is there.
+fn remove_file(rt: &HostRuntime, path: &str) -> io::Result<()> {
+    for _ in 0..u64::MAX {
+        match fs::remove_file(rt, path) {
+            Err(error) if error.kind() == ErrorKind::Interrupted => {}
+            Err(error) if error.kind() == ErrorKind::NotFound => return Ok(()),
+            answer => return answer,
+        }
+    }
+    Err(ErrorKind::Interrupted.into())
+}
