@@ -1,6 +1,6 @@
 -- The parts of an address, and the spelling that is kept.
-use Rattle.std.proofs.Common.{◌≡◌, ℕ, suc, ◌+◌, Bool, true, false, ◌==◌, ◌&&◌, ◌||◌, nat_lt, Some, None, Ok, Err, Option, Result, is_ok, [], ◌∷◌, ◌++◌, length, take, drop, refl, ap, ap₂, sym, ◌∙◌, subst, cond, arith, append_assoc, length-append}
-use Rattle.std.proofs.lemmas.Bool.{eqb-true}
+use Rattle.std.proofs.Common.{◌≡◌, ℕ, suc, ◌+◌, ◌≤◌, Bool, true, false, ◌==◌, ◌&&◌, ◌||◌, nat_lt, Some, None, Ok, Err, Option, Result, is_ok, [], ◌∷◌, ◌++◌, length, take, drop, refl, ap, ap₂, sym, ◌∙◌, subst, cond, arith, append_assoc, length-append}
+use Rattle.std.proofs.lemmas.Bool.{eqb-true, ltb-false}
 use Rattle.std.proofs.lemmas.Bool.Decides.{nat_tests}
 use Rattle.std.proofs.lemmas.List.{length-map, map-append, append_cancel_left, take_at, drop_at}
 use Rattle.std.specs.List.{list_all, list_any}
@@ -9,6 +9,7 @@ use Rattle.ml_base.specs.Bytes.{Text, lower, is_empty, split_last, onto_split, i
 use Rattle.ml_base.specs.declared.address.AddressFault.{AddressFault}
 use Rattle.ml_base.specs.declared.address.AddressFault.TheVariants.{TooLong, NoAt, EmptyPart, BadByte}
 use Rattle.ml_base.specs.Address.{is_local_byte, is_host_byte, address_check, address_of, as_address, local_of, host_of, before_at, behind_at, IsAddress, IsAddressAt, key}
+use Rattle.ml_base.proofs.Bools.{both, neither}
 
 -- lower case keeps each byte that a host has
 lower_host : (b : ℕ) → is_host_byte b ≡ true → is_host_byte (to_ascii_lowercase b) ≡ true
@@ -20,14 +21,6 @@ lower_twice b = grind (arith, nat_tests)
 lower_again : (bs : Text) → lower (lower bs) ≡ lower bs
 lower_again [] = refl
 lower_again (b ∷ bs) = ap₂ (λ c cs. c ∷ cs) (lower_twice b) (lower_again bs)
-
-both : (a b : Bool) → (a && b) ≡ true → (a ≡ true) × (b ≡ true)
-both true b e = (refl, e)
-both false b e = cc
-
-neither : (a b : Bool) → (a || b) ≡ false → (a ≡ false) × (b ≡ false)
-neither true b e = cc
-neither false b e = (refl, e)
 
 -- and each that a local part has
 lower_local : (b : ℕ) → is_local_byte b ≡ true → is_local_byte (to_ascii_lowercase b) ≡ true
@@ -249,3 +242,7 @@ address_clean address a =
     let p = parts_of address a.checks in
     let whole = joined address p.0 p.1 (p.2).cut in
     ap (list_any is_nul) whole ∙ none_append p.0 (64 ∷ p.1) (none_of is_local_byte local_byte p.0 (p.2).locals) (none_of is_host_byte host_byte p.1 (p.2).hosts)
+
+-- an address has 400 bytes at most
+pub address_short : (address : Text) → IsAddress address → length address ≤ 400
+address_short address a = let p = parts_of address a.checks in ltb-false 400 (length address) (p.2).short

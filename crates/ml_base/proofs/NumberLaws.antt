@@ -15,6 +15,10 @@ value n (b ∷ bs) = value (10 * n + (b - 48)) bs
 own : IsNumeralModel (λ ds. all_ascii_digits ds ≡ true) (value 0)
 own = numerals_by_fold _ (search rules) value (search rules)
 
+-- a number is written in digits
+pub all_digits : (n : ℕ) → n < 2 ^ 64 → all_ascii_digits (decimal n) ≡ true
+all_digits n small = own.from (decimal n) ((decimal_is_IsNumeral n small).0).1
+
 record Spelled (limit count n : ℕ) (bytes : List ℕ) (m : ℕ) : Type 0 where
   digits : all_ascii_digits bytes ≡ true
   value_is : value n bytes ≡ m

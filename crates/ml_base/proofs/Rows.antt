@@ -1,10 +1,19 @@
 -- Worked examples.
-use Rattle.std.proofs.Common.{◌≡◌, true, false, [], ◌∷◌, ◌++◌, Some, None, Ok, Err, refl, codes, replicate}
+use Rattle.std.proofs.Common.{◌≡◌, ℕ, ◌-◌, ◌%◌, ◌^◌, true, false, List, [], ◌∷◌, ◌++◌, Some, None, Ok, Err, refl, codes, replicate, lit≤}
+use Rattle.std.specs.Ordering.{nat_cmp}
 use Rattle.std.specs.Fmt.{digits}
 use Rattle.ml_base.specs.Address.{address_check, address_of, local_of, host_of, key}
 use Rattle.ml_base.specs.Numbers.{number_of, number_within}
 use Rattle.ml_base.specs.Netstrings.{netstring_at, ns}
 use Rattle.ml_base.specs.Name.{set_word, set_of, set_kind, path_of, is_in_table, is_file}
+use Rattle.ml_base.specs.Bytes.{split_last}
+use Rattle.ml_base.specs.Dir.{Dir, with_file, with_puts, touches, are_files, newest_put}
+use Rattle.ml_base.specs.Faults.{Rose}
+use Rattle.ml_base.specs.Own.{is_own}
+use Rattle.ml_base.specs.Sorted.{byte_cmp, entry_of, is_sorted, with_entry, without_key}
+use Rattle.ml_base.specs.Splits.{split_first, lines, nul_row, ns_row}
+use Rattle.ml_base.specs.declared.names.Name.{Name}
+use Rattle.ml_base.specs.declared.puts.Put.{Put}
 use Rattle.ml_base.specs.declared.names.Set.TheVariants as sets
 use Rattle.ml_base.specs.declared.address.AddressFault.TheVariants.{TooLong, NoAt, EmptyPart, BadByte}
 
@@ -217,3 +226,139 @@ capitals = refl
 
 kinds : set_kind sets.List ∷ set_kind sets.Digest ∷ set_kind sets.Allow ∷ set_kind sets.Deny ∷ set_kind sets.Moderators ∷ [] ≡ 3 ∷ 4 ∷ 5 ∷ 6 ∷ 7 ∷ []
 kinds = refl
+
+-- directories
+
+abbrev key_file : Name
+key_file = record { kind = 2; at = 0 }
+
+abbrev bucket_file : Name
+bucket_file = record { kind = 3; at = 29 }
+
+abbrev num_file : Name
+num_file = record { kind = 11; at = 0 }
+
+-- a directory with a key and a count
+abbrev start : Dir
+start = with_file (with_file (λ name. None) key_file (Some (codes "key"))) num_file (Some (codes "0"))
+
+-- a bucket is written twice, and the key is removed
+abbrev puts : List Put
+puts = record { name = bucket_file; bytes = Some (codes "old") } ∷ record { name = key_file; bytes = None } ∷ record { name = bucket_file; bytes = Some (codes "new") } ∷ []
+
+later_put_wins : with_puts start puts bucket_file ≡ Some (codes "new")
+later_put_wins = refl
+
+removed : with_puts start puts key_file ≡ None
+removed = refl
+
+not_touched : with_puts start puts num_file ≡ Some (codes "0")
+not_touched = refl
+
+other_place : with_puts start puts (record { kind = 3; at = 30 }) ≡ None
+other_place = refl
+
+touched : touches puts bucket_file ≡ true
+touched = refl
+
+untouched : touches puts num_file ≡ false
+untouched = refl
+
+all_files : are_files puts ≡ true
+all_files = refl
+
+no_log : are_files (record { name = record { kind = 0; at = 0 }; bytes = None } ∷ []) ≡ false
+no_log = refl
+
+newest : newest_put puts bucket_file ≡ Some (record { name = bucket_file; bytes = Some (codes "new") })
+newest = refl
+
+-- lists in the order of their keys, here of numbers by their last digit and of texts in lower case
+
+abbrev last_digit : ℕ → ℕ
+last_digit n = n % 10
+
+in_its_place : with_entry nat_cmp last_digit 42 (31 ∷ 54 ∷ []) ≡ 31 ∷ 42 ∷ 54 ∷ []
+in_its_place = refl
+
+in_place_of_its_key : with_entry nat_cmp last_digit 44 (31 ∷ 54 ∷ []) ≡ 31 ∷ 44 ∷ []
+in_place_of_its_key = refl
+
+at_the_end : with_entry byte_cmp key (codes "C@x") (codes "A@x" ∷ codes "b@x" ∷ []) ≡ codes "A@x" ∷ codes "b@x" ∷ codes "C@x" ∷ []
+at_the_end = refl
+
+taken_out : without_key byte_cmp key (codes "a@x") (codes "A@x" ∷ codes "b@x" ∷ []) ≡ codes "b@x" ∷ []
+taken_out = refl
+
+found : entry_of byte_cmp key (codes "a@x") (codes "A@x" ∷ codes "b@x" ∷ []) ≡ Some (codes "A@x")
+found = refl
+
+not_found : entry_of byte_cmp key (codes "c@x") (codes "A@x" ∷ codes "b@x" ∷ []) ≡ None
+not_found = refl
+
+sorted : is_sorted byte_cmp key (codes "A@x" ∷ codes "b@x" ∷ []) ≡ true
+sorted = refl
+
+key_twice : is_sorted byte_cmp key (codes "A@x" ∷ codes "a@x" ∷ []) ≡ false
+key_twice = refl
+
+falling : is_sorted nat_cmp last_digit (31 ∷ 54 ∷ 42 ∷ []) ≡ false
+falling = refl
+
+-- splits
+
+at_first : split_first 46 (codes "a.b.c") ≡ Some (codes "a", codes "b.c")
+at_first = refl
+
+not_there : split_first 46 (codes "abc") ≡ None
+not_there = refl
+
+at_last : split_last 46 (codes "a.b.c") ≡ Some (codes "a.b", codes "c")
+at_last = refl
+
+three_lines : lines (97 ∷ 10 ∷ 10 ∷ 98 ∷ []) ≡ (97 ∷ 10 ∷ []) ∷ (10 ∷ []) ∷ (98 ∷ []) ∷ []
+three_lines = refl
+
+no_lines : lines [] ≡ []
+no_lines = refl
+
+records : nul_row (codes "ab" ∷ codes "c" ∷ []) ≡ 97 ∷ 98 ∷ 0 ∷ 99 ∷ 0 ∷ []
+records = refl
+
+netstrings : ns_row (codes "ab" ∷ [] ∷ []) ≡ codes "2:ab,0:,"
+unfolding digits
+netstrings = refl
+
+-- the list's own addresses
+
+post_address : is_own (codes "List") (codes "ex.Org") (codes "lIST@EX.org") ≡ true
+post_address = refl
+
+request_address : is_own (codes "list") (codes "ex.org") (codes "list-subscribe@ex.org") ≡ true
+request_address = refl
+
+empty_rest : is_own (codes "list") (codes "ex.org") (codes "list-@ex.org") ≡ true
+empty_rest = refl
+
+last_sign : is_own (codes "list") (codes "ex.org") (codes "list-a@b@ex.org") ≡ true
+last_sign = refl
+
+longer_local : is_own (codes "list") (codes "ex.org") (codes "lists@ex.org") ≡ false
+longer_local = refl
+
+shorter_local : is_own (codes "list") (codes "ex.org") (codes "lis@ex.org") ≡ false
+shorter_local = refl
+
+other_host : is_own (codes "list") (codes "ex.org") (codes "list@ex.com") ≡ false
+other_host = refl
+
+no_host_at_all : is_own (codes "list") (codes "ex.org") (codes "list") ≡ false
+no_host_at_all = refl
+
+-- counts of faults
+
+counted : Rose 3 4
+counted = lit≤ tt
+
+as_many_as_can_be_counted : Rose (2 ^ 64 - 1) (2 ^ 64 - 1)
+as_many_as_can_be_counted = lit≤ tt

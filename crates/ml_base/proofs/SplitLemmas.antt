@@ -1,5 +1,5 @@
 -- The parts round the last place of a byte.
-use Rattle.std.proofs.Common.{◌≡◌, ℕ, zero, suc, ◌+◌, ◌-◌, ◌<◌, Bool, true, false, List, [], ◌∷◌, length, take, drop, get_or, Some, None, refl, sym, arith, eqb, add-one, length-drop}
+use Rattle.std.proofs.Common.{◌≡◌, ℕ, zero, suc, ◌+◌, ◌-◌, ◌<◌, true, false, List, [], ◌∷◌, length, take, drop, get_or, Some, None, refl, sym, arith, eqb, add-one, length-drop}
 use Rattle.std.proofs.Math.Seq.{take-length}
 use Rattle.ml_base.specs.Bytes.{split_last}
 
@@ -13,11 +13,7 @@ split_some c [] k less is h = absurd (omega arith)
 split_some c (x ∷ xs) zero less is h = rw (is, split_none c xs (λ k less. h (suc k) (omega arith) (omega arith)))
 split_some c (x ∷ xs) (suc k) less is h = rw (split_some c xs k (omega arith) is (λ j above below. h (suc j) (omega arith) (omega arith)))
 
-pub not_true : (b : Bool) → (b ≡ true → ⊥) → b ≡ false
-not_true true h = absurd (h refl)
-not_true false h = refl
-
-rest : (k : ℕ) (t : List ℕ) → take (length t - (k + 1)) (drop (k + 1) t) ≡ drop (suc k) t
+pub rest : (k : ℕ) (t : List ℕ) → take (length t - (k + 1)) (drop (k + 1) t) ≡ drop (suc k) t
 rest k t = rw add-one (rw (← length-drop (suc k) t) (take-length (drop (suc k) t)))
 
 -- the same as the code cuts it

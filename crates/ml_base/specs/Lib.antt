@@ -3,3 +3,12 @@ pub mod Numbers
 pub mod Netstrings
 pub mod Address
 pub mod Name
+pub mod Dir
+pub mod Faults
+pub mod Layers
+pub mod FilesInMemory
+pub mod KeptMaps
+pub mod PartErrors
+pub mod Sorted
+pub mod Splits
+pub mod Own

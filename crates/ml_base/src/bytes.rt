@@ -1,4 +1,4 @@
-// Lists that contracts see as such. Each keeps the allocator that it was made with.
+// Byte strings, which contracts see as lists. They keep the allocator that they were made with.
 ghost use Rattle.std.specs.Prelude.{◌≡◌, ◌==◌, ◌^◌, ◌<◌, ℕ, List, [], ◌∷◌, ◌++◌, length, take, IfOk, OnOk, OnErr};
 
 use std::alloc::{AllocError, Global};
@@ -91,57 +91,5 @@ impl Bytes {
     {
         self.items.extend_from_slice(piece)?;
         Ok(())
-    }
-}
-
-/// A list of numbers.
-#[derive(Drop)]
-pub struct Numbers {
-    items: Vec<u64>,
-}
-
-impl Model for Numbers {
-    ghost Value = { List ℕ };
-
-    ghost view = { λ b. b.items.items };
-}
-
-impl Numbers {
-    /// No numbers. It takes no memory.
-    pub fn new(alloc: Global) -> Self
-        ensures { result ≡ [] }
-    {
-        Numbers {
-            items: Vec::new(alloc),
-        }
-    }
-
-    /// The numbers of a vector. It takes no memory.
-    pub fn from_vec(items: Vec<u64>) -> Self
-        ensures { result ≡ items.items }
-    {
-        Numbers { items }
-    }
-
-    /// The vector of these numbers. It takes no memory.
-    pub fn into_vec(self) -> Vec<u64>
-        ensures { result.items ≡ self }
-    {
-        self.items
-    }
-
-    /// Adds a number at the end. An error changes nothing.
-    pub fn push(&mut self, number: u64) -> Result<(), AllocError>
-        ensures ok { OnOk result (self.new ≡ self.old ++ number ∷ []) }
-        ensures err { OnErr result (self.new ≡ self.old) }
-    {
-        self.items.push(number)?;
-        Ok(())
-    }
-
-    pub fn as_slice(&self) -> &[u64]
-        ensures { result.now ≡ self.now }
-    {
-        self.items.as_slice()
     }
 }

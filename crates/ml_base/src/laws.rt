@@ -1,8 +1,15 @@
 // What holds of the words of this crate, whatever text they are read from.
-ghost use Rattle.std.specs.Prelude.{◌≡◌, false, ◌≤◌, ◌<◌, ◌^◌, ◌++◌, ◌∷◌, ℕ, Some, length};
-ghost use Rattle.std.specs.List.{list_any};
+ghost use Rattle.std.specs.Prelude.{◌≡◌, true, false, ◌≤◌, ◌<◌, ◌+◌, ◌^◌, List, [], ◌++◌, ◌∷◌, ℕ, Bool, IsTrue, Some, None, is_some, length, if◌then◌else◌};
+ghost use Rattle.std.specs.List.{concat, list_any, AllByRecursion};
 ghost use Rattle.std.specs.Fmt.{decimal};
-ghost use Rattle.ml_base.specs.Bytes.{Text, lower, is_nul};
+ghost use Rattle.std.specs.Ordering.{nat_cmp, eq_by_cmp};
+ghost use Rattle.ml_base.specs.declared.names.Name.{Name};
+ghost use Rattle.ml_base.specs.declared.puts.Put.{Put};
+ghost use Rattle.ml_base.specs.Dir.{Dir, same_name, with_puts, touches, touches_only};
+ghost use Rattle.ml_base.specs.Splits.{has_byte, split_first, lines, nul_row, ns_row, HaveNoNul, AreShort};
+ghost use Rattle.ml_base.specs.Sorted.{byte_cmp, entry_of, is_sorted, with_entry, without_key};
+ghost use Rattle.ml_base.specs.Bytes.{Text, lower, is_nul, split_last};
+ghost use Rattle.ml_base.specs.Name.{is_in_table, path_of};
 ghost use Rattle.ml_base.specs.Numbers.{number_within};
 ghost use Rattle.ml_base.specs.Netstrings.{netstring_at, ns};
 ghost use Rattle.ml_base.specs.Address.{address_of, local_of, host_of, key, IsAddress};
@@ -20,11 +27,85 @@ pub fn law_netstrings()
 {}
 
 /// What is read of a text is an address as it is kept, an address is read as itself and is its parts round the `@`,
-/// its key is an address, and no address has a NUL.
+/// its key is an address, no address has a NUL, and none has more than 400 bytes.
 pub fn law_addresses()
     ensures read { (text address : Text) → address_of text ≡ Some address → IsAddress address }
     ensures kept { (address : Text) → IsAddress address → address_of address ≡ Some address }
     ensures parts { (address : Text) → IsAddress address → (address ≡ local_of address ++ 64 ∷ host_of address) × (lower (host_of address) ≡ host_of address) }
     ensures keys { (address : Text) → IsAddress address → IsAddress (key address) }
     ensures no_nul { (address : Text) → IsAddress address → list_any is_nul address ≡ false }
+    ensures short { (address : Text) → IsAddress address → length address ≤ 400 }
+{}
+
+/// Laying one row of puts and then another is laying them joined; the last put of a file decides; and a row leaves each
+/// file that it doesn't touch.
+pub fn law_puts()
+    ensures joined { (dir : Dir) (first second : List Put) → with_puts dir (first ++ second) ≡ with_puts (with_puts dir first) second }
+    ensures last { (dir : Dir) (puts : List Put) (put : Put) (name : Name) → with_puts dir (puts ++ put ∷ []) name ≡ (if same_name name put.name then put.bytes else with_puts dir puts name) }
+    ensures untouched { (dir : Dir) (puts : List Put) (name : Name) → touches puts name ≡ false → with_puts dir puts name ≡ dir name }
+    ensures others { (test : Name → Bool) (dir : Dir) (puts : List Put) (name : Name) → touches_only test puts ≡ true → test name ≡ false → with_puts dir puts name ≡ dir name }
+{}
+
+/// A list in the order of keys that are bytes: what is found in it with an entry and without a key, that it stays in
+/// order, how long it is, and that lists in order in which the same is found are one.
+pub fn law_sorted_by_text<E>()
+    ensures found_with { (key : E → Text) (k : Text) (e : E) (es : List E) →
+        entry_of byte_cmp key k (with_entry byte_cmp key e es) ≡ (if eq_by_cmp byte_cmp k (key e) then Some e else entry_of byte_cmp key k es) }
+    ensures found_without { (key : E → Text) (k removed : Text) (es : List E) →
+        entry_of byte_cmp key k (without_key byte_cmp key removed es) ≡ (if eq_by_cmp byte_cmp k removed then None else entry_of byte_cmp key k es) }
+    ensures sorted_with { (key : E → Text) (e : E) (es : List E) → IsTrue (is_sorted byte_cmp key es) → IsTrue (is_sorted byte_cmp key (with_entry byte_cmp key e es)) }
+    ensures sorted_without { (key : E → Text) (removed : Text) (es : List E) → IsTrue (is_sorted byte_cmp key es) → IsTrue (is_sorted byte_cmp key (without_key byte_cmp key removed es)) }
+    ensures length_with { (key : E → Text) (e : E) (es : List E) → IsTrue (is_sorted byte_cmp key es) →
+        length (with_entry byte_cmp key e es) ≡ (if is_some (entry_of byte_cmp key (key e) es) then length es else length es + 1) }
+    ensures length_without { (key : E → Text) (removed : Text) (es : List E) → IsTrue (is_sorted byte_cmp key es) →
+        (if is_some (entry_of byte_cmp key removed es) then 1 else 0) + length (without_key byte_cmp key removed es) ≡ length es }
+    ensures one { (key : E → Text) (es fs : List E) → IsTrue (is_sorted byte_cmp key es) → IsTrue (is_sorted byte_cmp key fs) →
+        ((k : Text) → entry_of byte_cmp key k es ≡ entry_of byte_cmp key k fs) → es ≡ fs }
+{}
+
+/// The same of a list in the order of keys that are numbers.
+pub fn law_sorted_by_number<E>()
+    ensures found_with { (key : E → ℕ) (k : ℕ) (e : E) (es : List E) →
+        entry_of nat_cmp key k (with_entry nat_cmp key e es) ≡ (if eq_by_cmp nat_cmp k (key e) then Some e else entry_of nat_cmp key k es) }
+    ensures found_without { (key : E → ℕ) (k removed : ℕ) (es : List E) →
+        entry_of nat_cmp key k (without_key nat_cmp key removed es) ≡ (if eq_by_cmp nat_cmp k removed then None else entry_of nat_cmp key k es) }
+    ensures sorted_with { (key : E → ℕ) (e : E) (es : List E) → IsTrue (is_sorted nat_cmp key es) → IsTrue (is_sorted nat_cmp key (with_entry nat_cmp key e es)) }
+    ensures sorted_without { (key : E → ℕ) (removed : ℕ) (es : List E) → IsTrue (is_sorted nat_cmp key es) → IsTrue (is_sorted nat_cmp key (without_key nat_cmp key removed es)) }
+    ensures length_with { (key : E → ℕ) (e : E) (es : List E) → IsTrue (is_sorted nat_cmp key es) →
+        length (with_entry nat_cmp key e es) ≡ (if is_some (entry_of nat_cmp key (key e) es) then length es else length es + 1) }
+    ensures length_without { (key : E → ℕ) (removed : ℕ) (es : List E) → IsTrue (is_sorted nat_cmp key es) →
+        (if is_some (entry_of nat_cmp key removed es) then 1 else 0) + length (without_key nat_cmp key removed es) ≡ length es }
+    ensures one { (key : E → ℕ) (es fs : List E) → IsTrue (is_sorted nat_cmp key es) → IsTrue (is_sorted nat_cmp key fs) →
+        ((k : ℕ) → entry_of nat_cmp key k es ≡ entry_of nat_cmp key k fs) → es ≡ fs }
+{}
+
+/// What is split at a byte is its parts with the byte between them, of which the first, or the last, hasn't it; what is
+/// put together so is split there; and a text without the byte isn't split.
+pub fn law_splits()
+    ensures first_read { (byte : ℕ) (text before behind : Text) → split_first byte text ≡ Some (before, behind) → (text ≡ before ++ byte ∷ behind) × (has_byte byte before ≡ false) }
+    ensures first_written { (byte : ℕ) (before behind : Text) → has_byte byte before ≡ false → split_first byte (before ++ byte ∷ behind) ≡ Some (before, behind) }
+    ensures first_absent { (byte : ℕ) (text : Text) → has_byte byte text ≡ false → split_first byte text ≡ None }
+    ensures last_read { (byte : ℕ) (text before behind : Text) → split_last byte text ≡ Some (before, behind) → (text ≡ before ++ byte ∷ behind) × (has_byte byte behind ≡ false) }
+    ensures last_written { (byte : ℕ) (before behind : Text) → has_byte byte behind ≡ false → split_last byte (before ++ byte ∷ behind) ≡ Some (before, behind) }
+    ensures last_absent { (byte : ℕ) (text : Text) → has_byte byte text ≡ false → split_last byte text ≡ None }
+{}
+
+/// The lines of a text make it; each ends behind its first LF, and the last where the text ends.
+pub fn law_lines()
+    ensures joined { (text : Text) → concat (lines text) ≡ text }
+    ensures ended { (line rest : Text) → has_byte 10 line ≡ false → lines (line ++ 10 ∷ rest) ≡ (line ++ 10 ∷ []) ∷ lines rest }
+    ensures last { (line : Text) → has_byte 10 line ≡ false → 0 < length line → lines line ≡ line ∷ [] }
+{}
+
+/// A text is one row of records at most, each with a NUL behind it, and one row of netstrings. Addresses make either.
+pub fn law_rows()
+    ensures nul { (xs ys : List Text) → HaveNoNul xs → HaveNoNul ys → nul_row xs ≡ nul_row ys → xs ≡ ys }
+    ensures netstrings { (xs ys : List Text) → AreShort xs → AreShort ys → ns_row xs ≡ ns_row ys → xs ≡ ys }
+    ensures no_nul { (addresses : List Text) → AllByRecursion IsAddress addresses → HaveNoNul addresses }
+    ensures short { (addresses : List Text) → AllByRecursion IsAddress addresses → AreShort addresses }
+{}
+
+/// No two names of the table have one path.
+pub fn law_paths()
+    ensures { (a b : Name) → IsTrue (is_in_table a) → IsTrue (is_in_table b) → path_of a ≡ path_of b → a ≡ b }
 {}

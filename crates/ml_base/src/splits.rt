@@ -1,9 +1,22 @@
 // Where a text is split.
-ghost use Rattle.std.specs.Prelude.{◌≡◌, ◌+◌, ◌<◌, length, take, drop, IfSome};
+ghost use Rattle.std.specs.Prelude.{◌≡◌, ◌≤◌, ◌+◌, ◌<◌, [], ◌∷◌, length, take, drop, IfSome, MatchOption};
 ghost use Rattle.std.specs.Option.{option_map};
 ghost use Rattle.ml_base.specs.Bytes as bytes;
+ghost use Rattle.ml_base.specs.Splits.{lines};
+ghost use Rattle.ml_base.specs.Splits as splits;
 
-use memchr::memrchr;
+use memchr::{memchr, memrchr};
+
+/// The parts before and behind the first place of a byte, or None where it isn't there.
+pub fn split_first(byte: u8, text: &[u8]) -> Option<(&[u8], &[u8])>
+    ensures value { option_map (λ p. (p.0.now, p.1.now)) result ≡ splits.split_first byte text.now }
+    ensures lengths { IfSome result (λ p. length p.0.now + length p.1.now + 1 ≡ length text.now) }
+{
+    match memchr(byte, text) {
+        None => None,
+        Some(at) => Some((&text[..at], &text[at + 1..])),
+    }
+}
 
 /// The parts before and behind the last place of a byte, or None where it isn't there.
 pub fn split_last(byte: u8, text: &[u8]) -> Option<(&[u8], &[u8])>
@@ -13,5 +26,29 @@ pub fn split_last(byte: u8, text: &[u8]) -> Option<(&[u8], &[u8])>
     match memrchr(byte, text) {
         None => None,
         Some(at) => Some((&text[..at], &text[at + 1..])),
+    }
+}
+
+/// The first line of a text, with its LF where it has one, and what is behind it; or None of an empty text.
+pub fn split_line(text: &[u8]) -> Option<(&[u8], &[u8])>
+    ensures value { MatchOption result (text.now ≡ []) (λ p. lines text.now ≡ p.0.now ∷ lines p.1.now) }
+    ensures lengths { IfSome result (λ p. (0 < length p.0.now) × (length p.0.now + length p.1.now ≡ length text.now)) }
+{
+    if text.is_empty() {
+        return None;
+    }
+    Some(text.split_at(line_len(text)))
+}
+
+// The length of the first line, its LF included.
+fn line_len(text: &[u8]) -> usize
+    requires { 0 < length text.now }
+    ensures some { 0 < result }
+    ensures within { result ≤ length text.now }
+    ensures line { lines text.now ≡ take result text.now ∷ lines (drop result text.now) }
+{
+    match memchr(b'\n', text) {
+        None => text.len(),
+        Some(at) => at + 1,
     }
 }

@@ -1,4 +1,4 @@
-use Rattle.ml_base.proofs.Addresses.{address_read, address_kept, address_parts, address_key, address_clean}
+use Rattle.ml_base.proofs.Addresses.{address_read, address_kept, address_parts, address_key, address_clean, address_short}
 use Rattle.ml_base.proofs.laws.law_addresses.Goals as goal
 
 pub returns-clause-read : goal.returns-clause-read
@@ -15,3 +15,6 @@ returns-clause-keys c = address_key
 
 pub returns-clause-no_nul : goal.returns-clause-no_nul
 returns-clause-no_nul c = address_clean
+
+pub returns-clause-short : goal.returns-clause-short
+returns-clause-short c = address_short

@@ -1,5 +1,6 @@
 use Rattle.std.proofs.Common.{sym, arith}
-use Rattle.ml_base.proofs.SplitLemmas.{split_none, split_here, not_true}
+use Rattle.ml_base.proofs.Bools.{not_true}
+use Rattle.ml_base.proofs.SplitLemmas.{split_none, split_here}
 use Rattle.ml_base.proofs.splits.split_last.Goals as goal
 
 pub returns-in-None-clause-value : goal.returns-in-None-clause-value

@@ -1,0 +1,35 @@
+-- Files in memory.
+use Rattle.std.specs.Prelude.{◌≡◌, ◌≤◌, ℕ, List}
+use Rattle.std.specs.BTreeMap.{BTreeMap, get}
+use Rattle.ml_base.specs.Bytes.{Text}
+use Rattle.ml_base.specs.Name.{name_cmp}
+use Rattle.ml_base.specs.Dir.{Dir}
+use Rattle.ml_base.specs.declared.maps.MapFiles.{MapFiles}
+use Rattle.ml_base.specs.declared.names.Name.{Name}
+
+-- the directory of a map
+abbrev pub dir_of : BTreeMap Name Text → Dir
+dir_of files name = get name_cmp files name
+
+-- the directory that the files show
+abbrev pub map_dir : MapFiles → Dir
+map_dir files = dir_of files.files
+
+-- how often a call has failed
+abbrev pub map_faults : MapFiles → ℕ
+map_faults files = files.faults
+
+-- the calls, counted from 1, that are to fail
+abbrev pub map_failing : MapFiles → List ℕ
+map_failing files = files.plan.failing
+
+-- how many calls were made
+abbrev pub map_made : MapFiles → ℕ
+map_made files = files.plan.made
+
+-- the map and the calls that are to fail are the same, and neither calls nor faults have become fewer
+pub record IsMapKept (old new : MapFiles) : Type 0 where
+  pub dir : map_dir new ≡ map_dir old
+  pub failing : map_failing new ≡ map_failing old
+  pub made : map_made old ≤ map_made new
+  pub faults : map_faults old ≤ map_faults new

@@ -1,0 +1,68 @@
+// Files that are read.
+ghost use Rattle.std.specs.Prelude.{◌≡◌, ◌≤◌, ℕ, Bool, IsTrue, IfOk, IsErrOf};
+ghost use Rattle.ml_base.specs.Dir.{Dir};
+ghost use Rattle.ml_base.specs.Faults.{Rose};
+ghost use Rattle.ml_base.specs.Name.{is_file};
+ghost use Rattle.ml_base.specs.declared.files.FilesError.TheVariants.{Fault, Memory};
+
+use crate::{Bytes, Name};
+use std::alloc::{AllocError, Global};
+use thiserror::Error;
+
+/// Why a file was not read.
+#[derive(Clone, Copy, Debug, PartialEq, Eq, Error)]
+pub enum FilesError {
+    /// The disk failed. The count of faults rose in this call.
+    #[error("the disk failed")]
+    Fault,
+    /// There was no memory for the call.
+    #[error("out of memory")]
+    Memory,
+}
+
+impl From<AllocError> for FilesError {
+    ghost from_gives = { λ _ e. e ≡ Memory };
+
+    fn from(_: AllocError) -> Self {
+        FilesError::Memory
+    }
+}
+
+/// The files of a list, as they are read: a map from names to bytes.
+///
+/// A type tells its map, or it doesn't, and then it owes nothing of it. The count of faults is told by every type.
+/// Reading changes nothing but that count: a later value is kept from an earlier one.
+pub trait Files {
+    /// Whether it tells its map.
+    ghost tells: { Bool };
+
+    /// The bytes of each file.
+    ghost map: { Self → Dir };
+
+    /// How often a read has failed, as far as that can be counted in 64 bits.
+    ghost faults: { Self → ℕ };
+
+    /// The second value is the first, read from at most.
+    ghost kept: { Self → Self → Type 0 };
+
+    /// The bytes of a file, or None where it is absent. The name is one of the table other than the log's.
+    /// `Fault` comes only where the count of faults rose in this call.
+    fn get(&mut self, alloc: Global, name: Name) -> Result<Option<Bytes>, FilesError>
+        requires { IsTrue (is_file name) }
+        ensures value { IsTrue tells → IfOk result (λ found. found ≡ map self.old name) }
+        ensures kept { kept self.old self.new }
+        ensures later { faults self.old ≤ faults self.new }
+        ensures cause { IsErrOf result Fault → Rose (faults self.old) (faults self.new) };
+
+    /// A value is kept from itself.
+    ghost kept_self: { (files : Self) → kept files files };
+
+    /// What is kept from a kept value is kept.
+    ghost kept_then: { (first second third : Self) → kept first second → kept second third → kept first third };
+
+    /// A kept value has the same map.
+    ghost kept_map: { (old new : Self) → IsTrue tells → kept old new → map new ≡ map old };
+
+    /// The count of a kept value hasn't fallen.
+    ghost kept_faults: { (old new : Self) → kept old new → faults old ≤ faults new };
+}
