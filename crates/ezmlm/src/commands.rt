@@ -1,7 +1,7 @@
 // The program, over any source, site and clock.
 ghost use Rattle.std.specs.Prelude.{◌≡◌, ◌⊎◌, false, ℕ, List, IsTrue};
 ghost use Rattle.ml_base.specs.Bytes.{Text};
-ghost use Rattle.ml_site.specs.Disk.{Rose};
+ghost use Rattle.ml_base.specs.Faults.{Rose};
 ghost use Rattle.ml_plain.specs.declared.Item.{Item as TheItem};
 ghost use Rattle.ml_plain.specs.Plain.{Plain};
 ghost use Rattle.ml_run.specs.Stream.{StreamEnd};

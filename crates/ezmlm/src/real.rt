@@ -1,7 +1,8 @@
 //! The real disk, output, source and clock. They tell nothing of what they hold, so that what is proved of them is
 //! that each fault is counted. That each call does what it says is for the reader of these files.
 ghost use Rattle.std.specs.Prelude.{◌≡◌, ◌≤◌, [], false};
-ghost use Rattle.ml_site.specs.Disk.{nothing, untold, Rose};
+ghost use Rattle.ml_site.specs.Disk.{nothing, untold};
+ghost use Rattle.ml_base.specs.Faults.{Rose};
 ghost use Rattle.ml_site.specs.declared.site.SiteError.TheVariants.{Failed as FailedCall};
 
 mod changes;

@@ -7,7 +7,8 @@ use Rattle.ml_base.specs.declared.names.Set.{Set}
 use Rattle.ml_base.specs.declared.names.Set.TheVariants as sets
 use Rattle.ml_base.specs.declared.names.Name.{Name}
 use Rattle.ml_base.specs.Name.{set_kind}
-use Rattle.ml_site.specs.Disk.{Contents, MayLeave, File, same_name, file_in}
+use Rattle.ml_site.specs.Disk.{Contents, MayLeave, File}
+use Rattle.ml_base.specs.Dir.{same_name, with_file}
 use Rattle.ml_plain.specs.declared.Act.{Act}
 use Rattle.ml_plain.specs.Plain.{Plain, Sets, put, has, is_full, added, add_reply, already, full, subscribed, with_address}
 use Rattle.ml_run.specs.SetFile.{Files, file_of, IsSet, IsFile, IsState, IsStateBut, IsDamaged}
@@ -44,9 +45,9 @@ with_set p set ms = record { sets = put p.sets set ms }
 pub state_same : (files : Files) (p : Plain) (set : Set) (ms : List Text) → IsState files p → ms ≡ p.sets set → IsState files (with_set p set ms)
 state_same files p set ms st e s = put_set p.sets set s ms files (λ ne. st s) (subst (λ l. IsSet (files (file_of set)) l) (sym e) (st set))
 
-pub state_written : (files : Files) (p : Plain) (set : Set) (bytes : Text) (ms : List Text) → IsState files p → IsFile bytes ms → IsState (file_in files (file_of set) (Some bytes)) (with_set p set ms)
+pub state_written : (files : Files) (p : Plain) (set : Set) (bytes : Text) (ms : List Text) → IsState files p → IsFile bytes ms → IsState (with_file files (file_of set) (Some bytes)) (with_set p set ms)
 state_written files p set bytes ms st f s =
-    put_set p.sets set s ms (file_in files (file_of set) (Some bytes))
+    put_set p.sets set s ms (with_file files (file_of set) (Some bytes))
     (λ ne. subst (λ o. IsSet o (p.sets s)) (sym (ap (λ t. if t then Some bytes else files (file_of s)) (name_test s set ∙ ne_eqb (set_kind s) (set_kind set) ne))) (st s))
     (subst (λ o. IsSet o ms) (sym (ap (λ t. if t then Some bytes else files (file_of set)) (name_test set set ∙ eq-eqb (set_kind set) (set_kind set) refl))) f)
 

@@ -3,7 +3,7 @@ ghost use Rattle.std.specs.Prelude.{◌≡◌, ◌≤◌, ◌++◌, ℕ, IsTrue,
 ghost use Rattle.ml_base.specs.Bytes.{Text};
 ghost use Rattle.ml_base.specs.Name.{is_in_table};
 ghost use Rattle.ml_base.specs.declared.names.Name.{Name as TheName};
-ghost use Rattle.ml_site.specs.Disk.{Rose};
+ghost use Rattle.ml_base.specs.Faults.{Rose};
 ghost use Rattle.ml_plain.specs.Plain.{Plain};
 ghost use Rattle.ml_plain.specs.declared.Act.TheVariants.{Add};
 ghost use Rattle.ml_plain.specs.Replies.{is_code, is_status};

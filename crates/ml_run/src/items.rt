@@ -1,7 +1,6 @@
 // Items, one at a time.
 ghost use Rattle.std.specs.Prelude.{◌≡◌, ◌↔◌, ◌<◌, ◌≤◌, ◌^◌, ℕ, List, Option, Some, None, Ok, true, not, IsTrue, IsSome, IfOk, OnOk, IfErr, IsErrOf, length};
-ghost use Rattle.ml_site.specs.Causes.{HasCause};
-ghost use Rattle.ml_site.specs.Disk.{Rose};
+ghost use Rattle.ml_base.specs.Faults.{Rose, HasCause};
 ghost use Rattle.ml_base.specs.Bytes.{Text, is_empty};
 ghost use Rattle.ml_run.specs.Stream.{item_at};
 ghost use Rattle.ml_run.specs.Items.{HasLeft, NextRead, place_of, ahead_of, error_of};

@@ -1,7 +1,6 @@
 // The elements of a stream, read from a source of bytes.
 ghost use Rattle.std.specs.Prelude.{◌≡◌, ◌<◌, ◌≤◌, ◌++◌, ◌^◌, [], ℕ, List, Some, None, IfOk, OnOk, IsErrOf, MatchBool, length};
-ghost use Rattle.ml_site.specs.Causes.{HasCause};
-ghost use Rattle.ml_site.specs.Disk.{Rose};
+ghost use Rattle.ml_base.specs.Faults.{Rose, HasCause};
 ghost use Rattle.ml_base.specs.Bytes.{Text};
 ghost use Rattle.ml_base.specs.Name.{set_of};
 ghost use Rattle.ml_base.specs.Address.{address_of};

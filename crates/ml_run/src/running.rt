@@ -2,7 +2,7 @@
 ghost use Rattle.std.specs.Prelude.{◌≡◌, ◌≤◌, ◌++◌, ℕ, List, IsTrue, IfSome, Some};
 ghost use Rattle.ml_base.specs.Bytes.{Text};
 ghost use Rattle.ml_base.specs.declared.names.Name.{Name as TheName};
-ghost use Rattle.ml_site.specs.Disk.{Rose};
+ghost use Rattle.ml_base.specs.Faults.{Rose};
 ghost use Rattle.ml_plain.specs.declared.Item.{Item as TheItem};
 ghost use Rattle.ml_plain.specs.Plain.{Plain};
 ghost use Rattle.ml_run.specs.Lines.{stop_text, HasPath};

@@ -1,6 +1,7 @@
 -- What a disk holds, and what a crash may leave of it.
 use Rattle.std.specs.Prelude.{◌≡◌, ◌≢◌, ◌⊎◌, ◌<◌, ◌≤◌, ℕ, ◌+◌, ◌-◌, ◌^◌, min, max, Bool, false, IsTrue, ◌==◌, ◌&&◌, if◌then◌else◌, List, [], ◌∷◌, ◌++◌, length, take, drop, get_or, Option, None, Result, OnOk, OnErr}
 use Rattle.ml_base.specs.declared.names.Name.{Name}
+use Rattle.ml_base.specs.Dir.{with_file}
 
 -- a log and files, as they are read or as a crash leaves them
 pub record Contents : Type 0 where
@@ -66,17 +67,9 @@ log_with old at bytes = record { log = take at old.log ++ bytes ++ drop (at + le
 abbrev pub log_cut : Contents → ℕ → Contents
 log_cut old size = record { log = take size old.log; files = old.files }
 
--- whether two names are one
-abbrev pub same_name : Name → Name → Bool
-same_name a b = (a.kind == b.kind) && (a.at == b.at)
-
--- the files as a function, with one set or removed
-abbrev pub file_in : (Name → Option (List ℕ)) → Name → Option (List ℕ) → Name → Option (List ℕ)
-file_in files name bytes other = if same_name other name then bytes else files other
-
 -- what is held, with one file set or removed
 abbrev pub file_with : Contents → Name → Option (List ℕ) → Contents
-file_with old name bytes = record { log = old.log; files = file_in old.files name bytes }
+file_with old name bytes = record { log = old.log; files = with_file old.files name bytes }
 
 -- a call that changes a part: all of it at success, and at an error nothing outside it
 pub record Changes {E : Type 0} (result : Result (Unit {0}) E) (part : Part) (done old new : Contents) : Type 0 where
@@ -106,10 +99,6 @@ Giving disk output piece left out = IsImage disk left × ((n : ℕ) × (out ≡ 
 pub record Elapses (before now : ℕ) (past since : ℕ → Contents → List ℕ → Type 0) (P : Contents → List ℕ → Type 0) : Type 0 where
   pub later : before ≤ now
   pub nothing_else : (t : ℕ) (left : Contents) (out : List ℕ) → t ≤ before → since t left out → past t left out ⊎ P left out
-
--- one fault more at least, or as many as can be counted
-abbrev pub Rose : ℕ → ℕ → Type 0
-Rose before now = min (before + 1) (2 ^ 64 - 1) ≤ now
 
 -- an empty disk, for a site that tells nothing
 abbrev pub nothing : Disk

@@ -1,13 +1,25 @@
 -- What a site in memory shows.
-use Rattle.std.specs.Prelude.{ℕ, List, length}
+use Rattle.std.specs.Prelude.{ℕ, List, length, take}
 use Rattle.std.specs.Vec.{vec_capacity}
 use Rattle.ml_site.specs.declared.mem.MemSite.{MemSite}
-use Rattle.ml_site.specs.Disk.{Disk}
-use Rattle.ml_site.specs.Memory.{after, at_rest, contents}
+use Rattle.ml_site.specs.Disk.{Contents, Disk}
+use Rattle.ml_site.specs.Memory.{after, at_rest, contents, given, Left}
 
 -- the disk after the calls of the record
 abbrev pub mem_disk : MemSite → Disk
 mem_disk s = after (at_rest (contents s.start_log s.start_files)) s.calls.items
+
+-- the disk after so many calls, or after all where there are fewer
+abbrev pub mem_disk_at : MemSite → ℕ → Disk
+mem_disk_at s moment = after (at_rest (contents s.start_log s.start_files)) (take moment s.calls.items)
+
+-- what a crash at some moment from that time on may have left, with the output so far
+abbrev pub mem_left_since : MemSite → ℕ → Contents → List ℕ → Type 0
+mem_left_since s = Left (at_rest (contents s.start_log s.start_files)) s.calls.items s.output
+
+-- what so many calls put out
+abbrev pub mem_output_at : MemSite → ℕ → List ℕ
+mem_output_at s moment = take (given (take moment s.calls.items)) s.output
 
 -- what was put out
 abbrev pub mem_output : MemSite → List ℕ
@@ -36,6 +48,10 @@ output_faults s = s.output_faults
 -- the calls, counted from 1, that are to fail
 abbrev pub site_failing : MemSite → List ℕ
 site_failing s = s.plan.failing
+
+-- the number of the last call that may succeed
+abbrev pub site_last : MemSite → ℕ
+site_last s = s.last_call
 
 -- how many calls were made
 abbrev pub site_made : MemSite → ℕ

@@ -1,6 +1,4 @@
 pub mod Disk
-pub mod Causes
-pub mod Plan
 pub mod Failing
 pub mod Source
 pub mod Images
@@ -9,3 +7,5 @@ pub mod Replay
 pub mod Streams
 pub mod Held
 pub mod Kept
+pub mod Moments
+pub mod Filled

@@ -1,5 +1,5 @@
 -- What a disk in memory holds after its calls.
-use Rattle.std.specs.Prelude.{◌≡◌, ◌≤◌, ℕ, ◌+◌, nat_le, if◌then◌else◌, List, [], ◌∷◌, length, take, Option, Some, None}
+use Rattle.std.specs.Prelude.{◌≡◌, ◌≤◌, ℕ, ◌+◌, nat_le, Bool, true, false, if◌then◌else◌, List, [], ◌∷◌, length, take, Option, Some, None}
 use Rattle.std.specs.BTreeMap.{BTreeMap, get}
 use Rattle.ml_base.specs.declared.names.Name.{Name}
 use Rattle.ml_site.specs.declared.call.Call.{Call}
@@ -36,6 +36,11 @@ step disk (FailedFile name) = pends disk (File name) disk.reads
 step disk Sync = at_rest disk.reads
 step disk FailedSync = disk
 step disk (Give n) = disk
+
+-- a call is a sync that succeeded
+abbrev pub settles : Call → Bool
+settles Sync = true
+settles _ = false
 
 -- a disk after these calls, the first of them first
 abbrev pub after : Disk → List Call → Disk

@@ -1,7 +1,7 @@
 // What a disk holds.
 ghost use Rattle.std.specs.Prelude.{◌≡◌, ◌≤◌, ◌+◌, ◌++◌, length, take, drop, if◌then◌else◌, IfOk, Some, None};
 ghost use Rattle.ml_base.specs.declared.names.Name.{Name as TheName};
-ghost use Rattle.ml_site.specs.Disk.{file_in};
+ghost use Rattle.ml_base.specs.Dir.{with_file};
 ghost use Rattle.ml_site.specs.Memory.{lookup};
 
 use ml_base::{Bytes, Name};
@@ -42,14 +42,14 @@ pub fn copied(
 /// Sets a file and answers true, or leaves all as it is for want of memory.
 pub fn set(files: &mut BTreeMap<Name, Bytes>, name: Name, bytes: Bytes) -> bool
     ensures { (other : TheName) → lookup files.new other
-        ≡ (if result then file_in (lookup files.old) name (Some bytes) other else lookup files.old other) }
+        ≡ (if result then with_file (lookup files.old) name (Some bytes) other else lookup files.old other) }
 {
     files.insert(name, bytes).is_ok()
 }
 
 /// Removes a file, if it is there.
 pub fn unset(files: &mut BTreeMap<Name, Bytes>, name: Name)
-    ensures { (other : TheName) → lookup files.new other ≡ file_in (lookup files.old) name None other }
+    ensures { (other : TheName) → lookup files.new other ≡ with_file (lookup files.old) name None other }
 {
     let _was = files.remove(&name);
 }

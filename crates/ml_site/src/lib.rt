@@ -2,9 +2,10 @@
 #![tactic(auto)]
 
 mod call;
+mod fill;
 mod image;
 mod mem;
-mod plan;
+mod replay;
 mod site;
 mod source;
 mod streams;
@@ -12,6 +13,7 @@ mod streams;
 mod tests;
 mod unfailing;
 
+pub use fill::Fill;
 pub use image::Image;
 pub use mem::MemSite;
 pub use site::{Failed, Site, SiteError};

@@ -1,18 +1,20 @@
 // A disk and an output in memory, with a record of its calls.
-ghost use Rattle.std.specs.Prelude.{◌≡◌, ℕ, ◌≤◌, ◌+◌, true, length, [], ◌∷◌, ◌++◌, if◌then◌else◌, ◌==◌, IfOk, OnOk, OnErr, Some, None, vec_len};
+ghost use Rattle.std.specs.Prelude.{◌≡◌, ℕ, ◌≤◌, ◌+◌, ◌-◌, ◌^◌, min, true, length, [], ◌∷◌, ◌++◌, if◌then◌else◌, ◌==◌, IfOk, OnOk, OnErr, Some, None, vec_len};
 ghost use Rattle.std.specs.Vec.{vec_capacity};
 ghost use Rattle.ml_base.specs.declared.names.Name.{Name as TheName};
 ghost use Rattle.ml_site.specs.declared.call.Call.TheVariants.{WriteFile, RemoveFile, Give};
-ghost use Rattle.ml_site.specs.Disk.{file_in};
+ghost use Rattle.ml_base.specs.Dir.{with_file};
+ghost use Rattle.ml_site.specs.Disk.{IsImage};
+ghost use Rattle.ml_site.specs.Filled.{filled};
 ghost use Rattle.ml_site.specs.Memory.{contents, lookup, at_rest, after, given, Left, total, size_synced, size_logged};
 ghost use Rattle.ml_site.specs.Failing.{FailsAsPlanned};
 ghost use Rattle.ml_site.specs.Replay.{after-is_image, left_now, left_only};
 
 use crate::call::Call;
+use crate::fill::image_left;
 use crate::image::{all_copied, copied, set, spliced, unset};
-use crate::plan::FaultPlan;
-use crate::{Failed, Image, Site, SiteError};
-use ml_base::{Bytes, Name, Numbers};
+use crate::{Failed, Fill, Image, Site, SiteError};
+use ml_base::{Bytes, FaultPlan, Name, Numbers};
 use std::alloc::{AllocError, Global};
 use std::collections::BTreeMap;
 
@@ -32,6 +34,8 @@ pub struct MemSite {
     output: Bytes,
     output_room: usize,
     plan: FaultPlan,
+    // The number of the last call that may succeed.
+    last_call: u64,
     disk_faults: u64,
     output_faults: u64,
     ghost log_is: { log ≡ (after (at_rest (contents start_log start_files)) calls.items).reads.log },
@@ -41,8 +45,8 @@ pub struct MemSite {
 }
 
 impl MemSite {
-    ghost use Rattle.ml_site.specs.Held.{mem_disk, mem_output, mem_calls, call_room, output_room};
-    ghost use Rattle.ml_site.specs.Held.{disk_faults, output_faults, site_failing, site_made};
+    ghost use Rattle.ml_site.specs.Held.{mem_disk, mem_disk_at, mem_output, mem_output_at, mem_left_since, mem_calls, call_room, output_room};
+    ghost use Rattle.ml_site.specs.Held.{disk_faults, output_faults, site_failing, site_last, site_made};
 
     /// A site over an image, with room for `calls` calls and `output` bytes of output, which are reserved at once.
     /// No call is to fail, and nothing is pending.
@@ -60,6 +64,7 @@ impl MemSite {
         ensures call_room { IfOk result (λ site. call_room site ≡ calls) }
         ensures output_room { IfOk result (λ site. output_room site ≡ output) }
         ensures failing { IfOk result (λ site. site_failing site ≡ []) }
+        ensures last { IfOk result (λ site. site_last site ≡ 2 ^ 64 - 1) }
         ensures made { IfOk result (λ site. site_made site ≡ 0) }
     {
         let log = Bytes::from_slice(alloc, image.log.as_slice())?;
@@ -73,6 +78,7 @@ impl MemSite {
             output: with_room(alloc, output)?,
             output_room: output,
             plan: FaultPlan::new(Numbers::new(alloc)),
+            last_call: u64::MAX,
             disk_faults: 0,
             output_faults: 0,
         })
@@ -83,6 +89,7 @@ impl MemSite {
     pub fn fail(&mut self, alloc: Global, calls: &[u64]) -> Result<(), AllocError>
         ensures ok { OnOk result (site_failing self.new ≡ calls.now) }
         ensures err { OnErr result (site_failing self.new ≡ site_failing self.old) }
+        ensures last { site_last self.new ≡ site_last self.old }
         ensures made { site_made self.new ≡ site_made self.old }
         ensures disk { mem_disk self.new ≡ mem_disk self.old }
         ensures output { mem_output self.new ≡ mem_output self.old }
@@ -94,6 +101,41 @@ impl MemSite {
     {
         self.plan.failing = Numbers::from_vec(Vec::from_slice(alloc, calls)?);
         Ok(())
+    }
+
+    /// Makes every call after the `k`-th fail, counted since the site was made, beside those that are named.
+    pub fn stop_after(&mut self, k: u64)
+        ensures last { site_last self.new ≡ k }
+        ensures failing { site_failing self.new ≡ site_failing self.old }
+        ensures made { site_made self.new ≡ site_made self.old }
+        ensures disk { mem_disk self.new ≡ mem_disk self.old }
+        ensures output { mem_output self.new ≡ mem_output self.old }
+        ensures calls { mem_calls self.new ≡ mem_calls self.old }
+        ensures call_room { call_room self.new ≡ call_room self.old }
+        ensures output_room { output_room self.new ≡ output_room self.old }
+        ensures disk_faults { disk_faults self.new ≡ disk_faults self.old }
+        ensures output_faults { output_faults self.new ≡ output_faults self.old }
+    {
+        self.last_call = k;
+    }
+
+    /// One image that a crash after the first `moment` calls may leave, or after all where there are fewer:
+    /// what no sync has settled is old, new or one byte, as `fill` says.
+    pub fn crash(&self, alloc: Global, moment: u64, fill: Fill) -> Result<Image, AllocError>
+        ensures image { IfOk result (λ image. IsImage (mem_disk_at self.now moment) (contents image.log image.files)) }
+        ensures bytes { IfOk result (λ image. contents image.log image.files ≡ filled fill (mem_disk_at self.now moment)) }
+        ensures moment { IfOk result (λ image. (t : ℕ) → t ≤ min moment (mem_calls self.now)
+            → mem_left_since self.now t (contents image.log image.files) (mem_output_at self.now moment)) }
+    {
+        let made = self.calls.len().min(moment as usize);
+        let calls = &self.calls.as_slice()[..made];
+        image_left(
+            alloc,
+            self.start_log.as_slice(),
+            &self.start_files,
+            calls,
+            fill,
+        )
     }
 
     /// Lends what was put out.
@@ -111,11 +153,12 @@ fn with_room(alloc: Global, size: usize) -> Result<Bytes, AllocError>
     Ok(Bytes::from_vec(Vec::with_capacity(alloc, size)?))
 }
 
-/// Counts a call, and answers whether it fails: its number is named, or the record has no room for it.
-fn fails(plan: &mut FaultPlan, calls: &Vec<Call>) -> bool
-    ensures { FailsAsPlanned plan.old plan.new (vec_len calls.now == vec_capacity calls.now) result }
+/// Counts a call, and answers whether it fails: its number is named or above the last one's, or the record has no
+/// room for it.
+fn fails(plan: &mut FaultPlan, last: u64, calls: &Vec<Call>) -> bool
+    ensures { FailsAsPlanned plan.old plan.new last (vec_len calls.now == vec_capacity calls.now) result }
 {
-    plan.fails() || calls.len() == calls.capacity()
+    plan.fails() || last < plan.made || calls.len() == calls.capacity()
 }
 
 /// Adds a call to the record, if there is room for it. It takes no memory.
@@ -140,7 +183,7 @@ fn put(
     ensures calls { calls.new.items
         ≡ (if result then calls.old.items ++ WriteFile name piece ∷ [] else calls.old.items) }
     ensures files { (other : TheName) → lookup files.new other
-        ≡ (if result then file_in (lookup files.old) name (Some copy) other else lookup files.old other) }
+        ≡ (if result then with_file (lookup files.old) name (Some copy) other else lookup files.old other) }
 {
     let used = calls.len();
     if !join(calls, Call::WriteFile(name, piece)) {
@@ -158,7 +201,7 @@ fn take_out(files: &mut BTreeMap<Name, Bytes>, calls: &mut Vec<Call>, name: Name
     ensures calls { calls.new.items
         ≡ (if result then calls.old.items ++ RemoveFile name ∷ [] else calls.old.items) }
     ensures files { (other : TheName) → lookup files.new other
-        ≡ (if result then file_in (lookup files.old) name None other else lookup files.old other) }
+        ≡ (if result then with_file (lookup files.old) name None other else lookup files.old other) }
 {
     if !join(calls, Call::RemoveFile(name)) {
         return false;
@@ -207,7 +250,7 @@ impl Site for MemSite {
     ghost output_faults = { λ s. s.output_faults };
 
     fn read_log(&mut self, alloc: Global) -> Result<Bytes, SiteError> {
-        let fails = fails(&mut self.plan, &self.calls);
+        let fails = fails(&mut self.plan, self.last_call, &self.calls);
         let joined = join(&mut self.calls, Call::Read);
         if fails || !joined {
             self.disk_faults = self.disk_faults.saturating_add(1);
@@ -217,7 +260,7 @@ impl Site for MemSite {
     }
 
     fn write_log(&mut self, alloc: Global, at: u64, bytes: &[u8]) -> Result<(), SiteError> {
-        if fails(&mut self.plan, &self.calls) {
+        if fails(&mut self.plan, self.last_call, &self.calls) {
             self.disk_faults = self.disk_faults.saturating_add(1);
             let _joined = join(&mut self.calls, Call::FailedLog(at, bytes.len() as u64));
             return Err(SiteError::Failed);
@@ -232,7 +275,7 @@ impl Site for MemSite {
     }
 
     fn cut_log(&mut self, len: u64) -> Result<(), Failed> {
-        if fails(&mut self.plan, &self.calls) {
+        if fails(&mut self.plan, self.last_call, &self.calls) {
             self.disk_faults = self.disk_faults.saturating_add(1);
             let _joined = join(&mut self.calls, Call::FailedCut(len));
             return Err(Failed);
@@ -246,7 +289,7 @@ impl Site for MemSite {
     }
 
     fn read_file(&mut self, alloc: Global, name: Name) -> Result<Option<Bytes>, SiteError> {
-        let fails = fails(&mut self.plan, &self.calls);
+        let fails = fails(&mut self.plan, self.last_call, &self.calls);
         let joined = join(&mut self.calls, Call::Read);
         if fails || !joined {
             self.disk_faults = self.disk_faults.saturating_add(1);
@@ -256,7 +299,7 @@ impl Site for MemSite {
     }
 
     fn write_file(&mut self, alloc: Global, name: Name, bytes: &[u8]) -> Result<(), SiteError> {
-        if fails(&mut self.plan, &self.calls) {
+        if fails(&mut self.plan, self.last_call, &self.calls) {
             self.disk_faults = self.disk_faults.saturating_add(1);
             let _joined = join(&mut self.calls, Call::FailedFile(name));
             return Err(SiteError::Failed);
@@ -270,7 +313,7 @@ impl Site for MemSite {
     }
 
     fn remove_file(&mut self, _alloc: Global, name: Name) -> Result<(), SiteError> {
-        if fails(&mut self.plan, &self.calls) {
+        if fails(&mut self.plan, self.last_call, &self.calls) {
             self.disk_faults = self.disk_faults.saturating_add(1);
             let _joined = join(&mut self.calls, Call::FailedFile(name));
             return Err(SiteError::Failed);
@@ -282,7 +325,7 @@ impl Site for MemSite {
     }
 
     fn sync(&mut self) -> Result<(), Failed> {
-        if fails(&mut self.plan, &self.calls) {
+        if fails(&mut self.plan, self.last_call, &self.calls) {
             self.disk_faults = self.disk_faults.saturating_add(1);
             let _joined = join(&mut self.calls, Call::FailedSync);
             return Err(Failed);
@@ -296,7 +339,7 @@ impl Site for MemSite {
 
     fn give(&mut self, bytes: &[u8]) -> Result<(), Failed> {
         let room = self.output_room.saturating_sub(self.output.len());
-        if fails(&mut self.plan, &self.calls) || room < bytes.len() {
+        if fails(&mut self.plan, self.last_call, &self.calls) || room < bytes.len() {
             self.output_faults = self.output_faults.saturating_add(1);
             let _joined = join(&mut self.calls, Call::Give(0));
             return Err(Failed);

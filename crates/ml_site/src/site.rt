@@ -3,7 +3,8 @@ ghost use Rattle.std.specs.Prelude.{◌≡◌, ◌≤◌, ◌+◌, ◌++◌, ℕ
 ghost use Rattle.ml_base.specs.Name.{is_file};
 ghost use Rattle.ml_base.specs.declared.names.Name.{Name};
 ghost use Rattle.ml_site.specs.declared.site.SiteError.TheVariants.{Memory, Failed as FailedCall};
-ghost use Rattle.ml_site.specs.Disk.{Contents, Part, Disk, Range, Cut, File, MayLeave, IsImage, Changes, Pends, Now, Giving, Elapses, Rose, IsAtRest, log_with, log_cut, file_with};
+ghost use Rattle.ml_site.specs.Disk.{Contents, Part, Disk, Range, Cut, File, MayLeave, IsImage, Changes, Pends, Now, Giving, Elapses, IsAtRest, log_with, log_cut, file_with};
+ghost use Rattle.ml_base.specs.Faults.{Rose};
 
 use ml_base::{Bytes, Name};
 use std::alloc::{AllocError, AllocFailed, Global};
@@ -183,6 +184,7 @@ pub trait Site {
         ensures time { IsTrue tells_all → Elapses (moment self.old) (moment self.new)
             (left_since self.old) (left_since self.new) (Now (disk self.new) (output self.new)) }
         ensures syncs { IsTrue tells_all → syncs self.new ≤ syncs self.old + 1 }
+        ensures syncs_ok { IsTrue tells_all → OnOk result (syncs self.new ≡ syncs self.old + 1) }
         ensures syncs_stay { IsTrue tells_all → syncs self.old ≤ syncs self.new }
         ensures log_bytes { IsTrue tells_all → log_bytes self.new ≡ log_bytes self.old }
         ensures faults { disk_faults self.old ≤ disk_faults self.new }

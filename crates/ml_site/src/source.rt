@@ -1,6 +1,6 @@
 // Where bytes come from, and the time.
 ghost use Rattle.std.specs.Prelude.{◌≡◌, ◌<◌, ◌≤◌, ◌^◌, List, ℕ, Option, Some, None, IfOk, IfSome, OnErr, length};
-ghost use Rattle.ml_site.specs.Causes.{HasCause};
+ghost use Rattle.ml_base.specs.Faults.{HasCause};
 ghost use Rattle.ml_site.specs.Source.{Takes};
 
 use crate::Failed;

@@ -1,12 +1,10 @@
 // A source and a clock in memory, whose calls fail where they are told to.
 ghost use Rattle.std.specs.Prelude.{◌≡◌, ◌<◌, ◌≤◌, ◌^◌, ◌↔◌, length, drop, Some, IfOk, IsErr, OnErr, Contains};
-ghost use Rattle.ml_site.specs.Causes.{HasCause};
-ghost use Rattle.ml_site.specs.Plan.{next_call};
+ghost use Rattle.ml_base.specs.Faults.{HasCause, next_call};
 ghost use Rattle.ml_site.specs.Source.{Takes, left-room};
 
-use crate::plan::FaultPlan;
 use crate::{Clock, Failed, Source};
-use ml_base::{Bytes, Numbers};
+use ml_base::{Bytes, FaultPlan, Numbers};
 
 /// A source of bytes in memory. Each read gives as many of them as fit.
 #[derive(Drop)]

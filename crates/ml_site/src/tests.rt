@@ -3,7 +3,7 @@ ghost use Rattle.std.specs.Prelude.{IsTrue};
 ghost use Rattle.ml_base.specs.Name.{is_file};
 
 use crate::{
-    Clock, Failed, Image, MemClock, MemSite, MemSource, Site, SiteError, Source, Unfailing,
+    Clock, Failed, Fill, Image, MemClock, MemSite, MemSource, Site, SiteError, Source, Unfailing,
 };
 use ml_base::{Bytes, Name, Numbers};
 use std::alloc::{AllocError, Global};
@@ -129,6 +129,152 @@ fn a_failed_give_puts_nothing_out(rt: HostRuntime) -> Result<(), Fail> {
     assert_eq!(rt; site.sync(), Ok(()));
     assert_eq!(rt; site.give(b""), Err(Failed), "there is room for five calls");
     assert_eq!(rt; site.output(), b"abcd".as_slice());
+    Ok(())
+}
+
+#[test]
+fn no_call_succeeds_after_the_last_one(rt: HostRuntime) -> Result<(), Fail> {
+    let alloc = rt.alloc();
+    let mut site = MemSite::new(alloc, image(alloc)?, 12, 4)?;
+    site.stop_after(3);
+    assert_eq!(rt; site.give(b"ab"), Ok(()));
+    assert_eq!(rt; site.sync(), Ok(()));
+    assert_eq!(rt; site.sync(), Ok(()));
+    assert_eq!(rt; site.sync(), Err(Failed));
+    assert_eq!(rt; site.give(b"cd"), Err(Failed));
+    site.stop_after(6);
+    assert_eq!(rt; site.give(b"cd"), Ok(()));
+    assert_eq!(rt; site.sync(), Err(Failed));
+    assert_eq!(rt; site.output(), b"abcd".as_slice());
+    Ok(())
+}
+
+// Writes to the log where it has so many bytes, or else at its end.
+fn write_at<S: Site>(alloc: Global, site: &mut S, at: u64, bytes: &[u8]) -> Result<(), SiteError> {
+    let size = site.read_log(alloc)?.len() as u64;
+    site.write_log(alloc, size.min(at), bytes)
+}
+
+// Cuts the log to so many bytes, if it has more.
+fn cut_to<S: Site>(alloc: Global, site: &mut S, size: u64) -> Result<(), SiteError> {
+    let len = site.read_log(alloc)?.len() as u64;
+    match site.cut_log(len.min(size)) {
+        Ok(()) => Ok(()),
+        Err(Failed) => Err(SiteError::Failed),
+    }
+}
+
+// Seventeen calls, of which the sync that is the sixth, the give and the last write are refused.
+fn script<S: Site>(rt: &impl Abort, alloc: Global, site: &mut S) -> Result<(), Fail> {
+    write_at(alloc, site, 2, b"XY")?;
+    write_at(alloc, site, 5, b"123")?;
+    site.write_file(alloc, LIST, b"one")?;
+    assert_eq!(rt; site.sync(), Err(Failed));
+    site.remove_file(alloc, LIST)?;
+    site.write_file(alloc, LIST, b"three")?;
+    site.sync()?;
+    cut_to(alloc, site, 3)?;
+    write_at(alloc, site, 3, b"45")?;
+    site.remove_file(alloc, KEY)?;
+    assert_eq!(rt; site.give(b"out"), Err(Failed));
+    assert_eq!(rt; write_at(alloc, site, 1, b"zz"), Err(SiteError::Failed));
+    Ok(())
+}
+
+// The log, the key and the list, each but the last with a bar behind it, and `-` for a file that is absent.
+fn shown(alloc: Global, image: &Image) -> Result<Bytes, AllocError> {
+    let mut text = Bytes::from_slice(alloc, image.log.as_slice())?;
+    for name in [KEY, LIST] {
+        text.push(b'|')?;
+        match image.files.get(&name) {
+            Some(bytes) => text.extend(bytes.as_slice())?,
+            None => text.push(b'-')?,
+        }
+    }
+    Ok(text)
+}
+
+#[test]
+fn a_crash_leaves_old_new_or_torn_bytes(rt: HostRuntime) -> Result<(), Fail> {
+    let alloc = rt.alloc();
+    let mut start = image(alloc)?;
+    start.log = Bytes::from_slice(alloc, b"abcdef")?;
+    let mut site = MemSite::new(alloc, start, 17, 0)?;
+    site.fail(alloc, &[6, 17])?;
+    script(&rt, alloc, &mut site)?;
+    // From a first moment to a last one: what is left with the old bytes, the new ones, and `!` everywhere.
+    let rows: [(u64, u64, [&[u8]; 3]); 11] = [
+        (0, 1, [b"abcdef|key|-", b"abcdef|key|-", b"abcdef|key|-"]),
+        (2, 3, [b"abcdef|key|-", b"abXYef|key|-", b"ab!!ef|key|-"]),
+        (
+            4,
+            4,
+            [b"abcdef|key|-", b"abXYe123|key|-", b"ab!!e!!!|key|-"],
+        ),
+        (
+            5,
+            6,
+            [b"abcdef|key|-", b"abXYe123|key|one", b"ab!!e!!!|key|!!!"],
+        ),
+        (
+            7,
+            7,
+            [b"abcdef|key|-", b"abXYe123|key|-", b"ab!!e!!!|key|-"],
+        ),
+        (
+            8,
+            8,
+            [
+                b"abcdef|key|-",
+                b"abXYe123|key|three",
+                b"ab!!e!!!|key|!!!!!",
+            ],
+        ),
+        (
+            9,
+            10,
+            [
+                b"abXYe123|key|three",
+                b"abXYe123|key|three",
+                b"abXYe123|key|three",
+            ],
+        ),
+        (
+            11,
+            12,
+            [b"abXYe123|key|three", b"abX|key|three", b"abX|key|three"],
+        ),
+        (
+            13,
+            13,
+            [
+                b"abXYe123|key|three",
+                b"abX45|key|three",
+                b"abX!!|key|three",
+            ],
+        ),
+        (
+            14,
+            16,
+            [b"abXYe123|key|three", b"abX45|-|three", b"abX!!|-|three"],
+        ),
+        (
+            17,
+            18,
+            [b"abXYe123|key|three", b"abX45|-|three", b"a!!!!|-|three"],
+        ),
+    ];
+    for (first, last, texts) in rows {
+        for moment in first..last + 1 {
+            for (fill, text) in [Fill::Old, Fill::New, Fill::Byte(b'!')]
+                .into_iter()
+                .zip(texts)
+            {
+                let image = site.crash(alloc, moment, fill)?;
+                assert_eq!(rt; shown(alloc, &image)?.as_slice(), text, "{fill:?} {moment}");
+            }
+        }
+    }
     Ok(())
 }
 

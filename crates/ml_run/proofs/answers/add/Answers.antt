@@ -1,7 +1,8 @@
 use Rattle.std.proofs.Common.{◌∙◌, sym, ap, subst, Some}
 use Rattle.std.proofs.lemmas.Result.{err_from_is_err_and}
 use Rattle.ml_run.proofs.States.{with_set, set_read, state_same, state_written, reply_already, reply_full, reply_subscribed, site_err, others_written}
-use Rattle.ml_site.specs.Disk.{Contents, file_in}
+use Rattle.ml_site.specs.Disk.{Contents}
+use Rattle.ml_base.specs.Dir.{with_file}
 use Rattle.ml_plain.specs.declared.Act.TheVariants.{Add}
 use Rattle.ml_plain.specs.Plain.{added, with_address}
 use Rattle.ml_run.specs.SetFile.{IsPlan, IsFile, IsState, IsStateBut}
@@ -64,5 +65,5 @@ returns-clause-state g c told p st =
     let files = (g.S.Site.disk c.read_file.new.self).reads.files in
     let file = subst (λ b. IsFile b (with_address c.args.who.now (p.sets c.args.set))) (sym c.as_slice.ensures) plan.2 in
     let file2 = subst (λ m. IsFile c.as_slice.result.now m) (sym reply.1) file in
-    let after = subst (λ q. IsState (file_in files q (Some c.as_slice.result.now)) (with_set p c.args.set (added (p.sets c.args.set) c.args.who.now))) (sym name) (state_written files p c.args.set c.as_slice.result.now (added (p.sets c.args.set) c.args.who.now) now file2) in
+    let after = subst (λ q. IsState (with_file files q (Some c.as_slice.result.now)) (with_set p c.args.set (added (p.sets c.args.set) c.args.who.now))) (sym name) (state_written files p c.args.set c.as_slice.result.now (added (p.sets c.args.set) c.args.who.now) now file2) in
     (sym reply.0, subst (λ (r : Contents). IsState r.files (with_set p c.args.set (added (p.sets c.args.set) c.args.who.now))) (sym done) after)

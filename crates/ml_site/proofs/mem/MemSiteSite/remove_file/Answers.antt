@@ -1,7 +1,8 @@
 use Rattle.ml_site.proofs.Joined.{log_kept, file_kept, given_kept, time_quiet}
 use Rattle.std.proofs.Common.{cond, [], ◌∷◌, None, ap, subst, sym, ◌∙◌, refl}
 use Rattle.ml_site.specs.declared.call.Call.TheVariants.{RemoveFile, FailedFile}
-use Rattle.ml_site.specs.Disk.{Disk, File, MayLeave, file_with, same_name}
+use Rattle.ml_site.specs.Disk.{Disk, File, MayLeave, file_with}
+use Rattle.ml_base.specs.Dir.{same_name}
 use Rattle.ml_site.specs.Images.{set_file}
 use Rattle.ml_site.specs.Memory.{contents, at_rest, after}
 use Rattle.ml_site.proofs.Joined.{given_same, stepped, pends_err, pends_ok, stands, cond_same}

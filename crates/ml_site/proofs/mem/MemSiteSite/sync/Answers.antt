@@ -43,6 +43,9 @@ returns-clause-crash c =
 pub returns-clause-syncs : goal.returns-clause-syncs
 returns-clause-syncs c = λ told. omega (arith, total_more size_synced c.args.self.now.calls.items c.join.new.calls.items Sync c.if-not-join.ensures)
 
+pub returns-clause-syncs_ok : goal.returns-clause-syncs_ok
+returns-clause-syncs_ok c = λ told. omega (arith, total_more size_synced c.args.self.now.calls.items c.join.new.calls.items Sync c.if-not-join.ensures)
+
 pub returns-clause-syncs_stay : goal.returns-clause-syncs_stay
 returns-clause-syncs_stay c = λ told. omega (arith, total_more size_synced c.args.self.now.calls.items c.join.new.calls.items Sync c.if-not-join.ensures)
 

@@ -1,6 +1,7 @@
 use Rattle.std.proofs.Common.{◌≡◌, ℕ, cond, List, [], ◌∷◌, Some, ap, subst, sym, ◌∙◌, refl, rules}
 use Rattle.ml_site.specs.declared.call.Call.TheVariants.{WriteFile, FailedFile}
-use Rattle.ml_site.specs.Disk.{Disk, File, MayLeave, file_with, same_name}
+use Rattle.ml_site.specs.Disk.{Disk, File, MayLeave, file_with}
+use Rattle.ml_base.specs.Dir.{same_name}
 use Rattle.ml_site.specs.Images.{set_file}
 use Rattle.ml_site.specs.Memory.{contents, at_rest, after}
 use Rattle.ml_site.proofs.Pushed.{elapses_quiet}

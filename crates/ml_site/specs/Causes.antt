@@ -1,8 +1,0 @@
--- When a fault may be answered.
-use Rattle.std.specs.Prelude.{ℕ, ◌≤◌, Result, OnErr}
-use Rattle.ml_site.specs.Disk.{Rose}
-
--- the count hasn't fallen, and an error comes only where it rose
-pub record HasCause {T E : Type 0} (before now : ℕ) (result : Result T E) : Type 0 where
-  pub later : before ≤ now
-  pub failed : OnErr result (Rose before now)
