@@ -90,6 +90,13 @@ module _ {S : Type 0} (moment : S → ℕ) (left_since : S → ℕ → Contents 
       let now = only_now site left out l in
       here left (rest_contents (disk site) left rest now.0) out now.1)
 
+  -- a call that leaves a disk at rest as it is
+  pub after_read : (old new : S) (P : Contents → List ℕ → Type 0) → IsAtRest (disk old) → disk new ≡ disk old → output new ≡ output old
+      → Elapses (moment old) (moment new) (left_since old) (left_since new) (Now (disk new) (output new))
+      → ((left : Contents) → left ≡ (disk old).reads → (out : List ℕ) → out ≡ output old → P left out) → LeavesOnly moment left_since old new P
+  after_read old new P rest same put time here = goes_on moment left_since old old new P (Now (disk new) (output new)) (at_start old P rest here) time
+      (λ left out now. here left (rest_contents (disk old) left rest (subst (λ (d : Disk). IsImage d left) same now.0)) out (now.1 ∙ put))
+
   -- a sync of a disk on which something may be pending
   pub after_sync : (old new : S) → ((left : Contents) → IsImage (disk new) left → IsImage (disk old) left) → output new ≡ output old
       → Elapses (moment old) (moment new) (left_since old) (left_since new) (Now (disk new) (output new)) → LeavesOnly moment left_since old new (Now (disk old) (output old))
