@@ -1,0 +1,5 @@
+mod Records
+mod Logs
+mod Spelled
+mod Tables
+mod ReadSoFar

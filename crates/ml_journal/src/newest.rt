@@ -1,0 +1,61 @@
+// The newest put of each file that a log names.
+ghost use Rattle.std.specs.Prelude.{◌≡◌, IsSome, IsTrue, OnOk, OnErr, option_map};
+ghost use Rattle.std.specs.Option.{option_copied};
+ghost use Rattle.ml_base.specs.Dir.{Dir, with_file};
+ghost use Rattle.ml_base.specs.Name.{is_file};
+ghost use Rattle.ml_base.specs.declared.names.Name.{Name as TheName};
+ghost use Rattle.ml_journal.specs.Newest.{newest_of, with_newest, Sets};
+
+use ml_base::{Bytes, Name};
+use std::alloc::{AllocError, Global};
+use std::collections::BTreeMap;
+
+/// The newest put of each file that a log names: the bytes that it gives the file, or None where it removes it.
+#[derive(Drop)]
+pub struct Newest {
+    puts: BTreeMap<Name, Option<Bytes>>,
+    ghost files: { (name : TheName) → IsSome (newest_of puts name) → IsTrue (is_file name) },
+}
+
+impl Newest {
+    /// No puts. It takes no memory.
+    pub fn new(alloc: Global) -> Newest
+        ensures { (dir : Dir) → with_newest result.puts dir ≡ dir }
+    {
+        Newest {
+            puts: BTreeMap::new(alloc),
+        }
+    }
+
+    /// Puts bytes into a file from now on, or removes it. The name is one of the table other than the log's.
+    /// An error changes nothing.
+    #[tactic(auto, using(crate::proofs::Tables::still_files, crate::proofs::Tables::laid_set, crate::proofs::Tables::laid_unset))]
+    pub fn set(&mut self, name: Name, bytes: Option<Bytes>) -> Result<(), AllocError>
+        requires { IsTrue (is_file name) }
+        ensures ok { OnOk result ((dir : Dir) → with_newest self.new.puts dir ≡ with_file (with_newest self.old.puts dir) name bytes) }
+        ensures err { OnErr result ((dir : Dir) → with_newest self.new.puts dir ≡ with_newest self.old.puts dir) }
+    {
+        if set_put(&mut self.puts, name, bytes) {
+            Ok(())
+        } else {
+            Err(AllocError)
+        }
+    }
+
+    /// The bytes that the newest put gives a file, of which None is a removal; or None where no put is of it.
+    pub fn get(&self, name: Name) -> Option<Option<&Bytes>>
+        ensures { option_map (λ bytes. option_copied bytes) result ≡ newest_of self.now.puts name }
+    {
+        match self.puts.get(&name) {
+            Some(bytes) => Some(bytes.as_ref()),
+            None => None,
+        }
+    }
+}
+
+// Sets the newest put of a file and answers true, or leaves all as it is for want of memory.
+fn set_put(puts: &mut BTreeMap<Name, Option<Bytes>>, name: Name, bytes: Option<Bytes>) -> bool
+    ensures { Sets result puts.old puts.new name bytes }
+{
+    puts.insert(name, bytes).is_ok()
+}
