@@ -3,3 +3,9 @@ mod Logs
 mod Spelled
 mod Tables
 mod ReadSoFar
+mod Crash
+mod Closing
+mod Laid
+mod Fields
+mod Sizes
+mod Shut

@@ -4,3 +4,8 @@ pub mod Newest
 pub mod Found
 pub mod Rows
 pub mod Table
+pub mod Laying
+pub mod Moments
+pub mod Errors
+pub mod Stores
+pub mod Kept

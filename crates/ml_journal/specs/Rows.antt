@@ -1,10 +1,13 @@
 -- A log as the journal keeps it: open records, and a closed gate behind them.
-use Rattle.std.specs.Prelude.{◌≡◌, ◌<◌, List, ◌++◌, length, Some}
+use Rattle.std.specs.Prelude.{◌≡◌, ◌≢◌, ◌⊎◌, ◌<◌, ◌≤◌, ℕ, List, [], ◌∷◌, ◌++◌, length, Option, Some}
 use Rattle.ml_base.specs.Bytes.{Text}
-use Rattle.ml_base.specs.Dir.{Dir}
+use Rattle.std.specs.BTreeMap.{BTreeMap}
+use Rattle.ml_base.specs.Dir.{Dir, with_puts}
+use Rattle.ml_base.specs.declared.names.Name.{Name}
 use Rattle.ml_base.specs.declared.puts.Put.{Put}
 use Rattle.ml_journal.specs.Records.{record_at}
 use Rattle.ml_journal.specs.Log.{log_puts, laid_over}
+use Rattle.ml_journal.specs.Newest.{with_newest}
 
 -- open records that make this change of a directory, whatever stands behind them
 abbrev pub IsRow : Text → (Dir → Dir) → Type 0
@@ -13,3 +16,37 @@ IsRow front change = (rest : Text) (files : Dir) → 0 < length rest → laid_ov
 -- a record that is read as these puts whatever stands behind it
 abbrev pub IsRecord : Text → List Put → Type 0
 IsRecord text puts = (rest : Text) → record_at (text ++ rest) ≡ Some (puts, rest)
+
+-- open records that make this change up to this place, and a closed gate behind them
+pub record Rests (log : Text) (end : ℕ) (change : Dir → Dir) : Type 0 where
+  pub row : Text
+  pub split : log ≡ row ++ 0 ∷ []
+  pub size : length row ≡ end
+  pub is_row : IsRow row change
+  pub first : (row ≡ []) ⊎ ((behind : Text) × (row ≡ 1 ∷ behind))
+
+-- the same with a whole record behind the closed gate
+pub record Staged (log : Text) (end : ℕ) (body : Text) (change : Dir → Dir) : Type 0 where
+  pub row : Text
+  pub split : log ≡ row ++ 0 ∷ (body ++ 0 ∷ [])
+  pub size : length row ≡ end
+  pub is_row : IsRow row change
+  pub first : (row ≡ []) ⊎ ((behind : Text) × (row ≡ 1 ∷ behind))
+
+-- a log whose counting records make this change, and whose first gate is open or last
+pub record Lays (log : Text) (change : Dir → Dir) : Type 0 where
+  pub counts : (files : Dir) → laid_over files (log_puts log) ≡ Some (change files)
+  pub gate : ℕ
+  pub behind : Text
+  pub split : log ≡ gate ∷ behind
+  pub is_open : (behind ≡ []) ⊎ (gate ≡ 1)
+
+-- the first gate is closed, or last, or there is none
+abbrev pub IsShut : Text → Type 0
+IsShut log = (length log ≤ 1) ⊎ ((gate : ℕ) × (behind : Text) × (log ≡ gate ∷ behind) × (gate ≢ 1))
+
+-- records at rest, and the table of their newest puts with those of a txn set in turn
+pub record Grows (log : Text) (end : ℕ) (puts : BTreeMap Name (Option Text)) (txn : List Put) : Type 0 where
+  pub change : Dir → Dir
+  pub rests : Rests log end change
+  pub grown : (dir : Dir) → with_newest puts dir ≡ with_puts (change dir) txn

@@ -13,7 +13,7 @@ use std::collections::BTreeMap;
 /// The newest put of each file that a log names: the bytes that it gives the file, or None where it removes it.
 #[derive(Drop)]
 pub struct Newest {
-    puts: BTreeMap<Name, Option<Bytes>>,
+    pub(crate) puts: BTreeMap<Name, Option<Bytes>>,
     ghost files: { (name : TheName) → IsSome (newest_of puts name) → IsTrue (is_file name) },
 }
 

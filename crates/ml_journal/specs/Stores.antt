@@ -1,0 +1,21 @@
+-- What a store shows.
+use Rattle.std.specs.Prelude.{ℕ, ◌+◌, List, [], ◌∷◌, length, Option, Some, None}
+use Rattle.ml_base.specs.Dir.{Dir}
+use Rattle.ml_base.specs.declared.puts.Put.{Put}
+use Rattle.ml_site.specs.declared.site.Site.{Ghosts}
+use Rattle.ml_journal.specs.Records.{spelled_record}
+use Rattle.ml_journal.specs.declared.store.Store.{Store}
+
+-- the site that a store owns
+abbrev pub site_of : {S : Type 0} {told : Ghosts S} → Store S told → S
+site_of store = store.site
+
+-- the files of a directory; without one there are none
+abbrev pub the_dir : Option Dir → Dir
+the_dir (Some dir) = dir
+the_dir None = λ name. None
+
+-- how long a commit of a txn would leave a log of this length, if the files were not laid down; an empty txn leaves it as it is
+abbrev pub grown : ℕ → List Put → ℕ
+grown size [] = size
+grown size (put ∷ puts) = size + length (spelled_record (put ∷ puts)) + 1
