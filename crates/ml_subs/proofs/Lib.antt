@@ -1,0 +1,10 @@
+pub mod Orders
+pub mod Kept
+pub mod Spelled
+pub mod Placed
+pub mod Rewritten
+pub mod Together
+pub mod Standing
+pub mod Answering
+pub mod Gathering
+mod Rows

@@ -1,0 +1,368 @@
+-- What the files of a set stand for.
+use Rattle.std.proofs.Common.{◌≡◌, ◌≢◌, ℕ, zero, suc, ◌+◌, ◌<◌, ◌≤◌, Bool, true, false, not, cond, ◌==◌, ◌&&◌, ◌||◌, List, [], ◌∷◌, ◌++◌, length, get_or, Option, Some, None, is_some, refl, sym, ap, ◌∙◌, subst, arith, inl, inr}
+use Rattle.std.proofs.lemmas.Bool.{and_parts, and_from, or_parts, or_left, or_from, eqb-true, eqb-false, eq-eqb, ne_eqb}
+use Rattle.std.specs.Ordering.{eq_by_cmp}
+use Rattle.std.specs.List.{list_all, AllByRecursion}
+use Rattle.ml_base.specs.Bytes.{Text}
+use Rattle.ml_base.specs.Address.{key, IsAddress}
+use Rattle.ml_base.specs.Dir.{Dir, with_puts, same_name, touches_only}
+use Rattle.ml_base.specs.Name.{set_kind, set_number}
+use Rattle.ml_base.specs.Sorted.{byte_cmp}
+use Rattle.ml_base.specs.declared.names.Name.{Name}
+use Rattle.ml_base.specs.declared.names.Set.{Set}
+use Rattle.ml_base.specs.declared.names.Set.TheVariants as sets
+use Rattle.ml_base.specs.declared.puts.Put.{Put}
+use Rattle.ml_base.proofs.Laid.{left_alone}
+use Rattle.ml_base.proofs.SortedLaws.{same_bytes, bytes_total, found_with, found_without, sorted_with, sorted_without, length_with, length_left, same_lists, each_with, each_without, found_is}
+use Rattle.ml_subs.specs.declared.member_list.Member.{Member}
+use Rattle.ml_subs.specs.declared.records.Layout.{Layout}
+use Rattle.ml_subs.specs.declared.records.Layout.TheVariants.{Undated, Dated}
+use Rattle.ml_subs.specs.Members.{member_key, member_of, has_key, with_member, without_member, IsOrdered, IsMoment}
+use Rattle.ml_subs.specs.Buckets.{bucket_of, bucket_file, bucket_text, layout_line, records, IsBucket, IsBucketFile, IsMember}
+use Rattle.ml_subs.specs.Subscribers.{AreBuckets, AreJoined, AreSubscribers, Breaks, bucket_name, count_name, count_text, is_of_set, is_touched}
+use Rattle.ml_subs.specs.Answers.{changes}
+use Rattle.ml_subs.specs.Reading.{AreRead, IsFront, is_below, counted}
+use Rattle.ml_subs.proofs.Orders.{not_below}
+use Rattle.ml_subs.proofs.Spelled.{read_first, read_behind, read_empty, record_parts}
+use Rattle.ml_subs.proofs.Placed.{layout_only}
+use Rattle.ml_subs.proofs.Together.{differ, own_tie, merged, merged_ordered, found_merged, length_merged}
+
+-- bytes are read as one list of members
+read_one : (layout : Layout) (n : ℕ) (floor text : Text) (ms ns : List Member) → AreRead layout n floor text ms → AreRead layout n floor text ns → ms ≡ ns
+read_one layout n floor text [] ns is other = sym (read_empty layout n floor text ns (ap length is.spelled) other)
+read_one layout n floor text (m ∷ ms) ns is other =
+    let first = read_first layout n floor text m ms is in
+    let rest = read_behind layout n floor text m (records layout ms) ns first.begins other in
+    ap (λ l. m ∷ l) (read_one layout n m.who (records layout ms) ms rest.0 first.more rest.2) ∙ sym rest.1
+
+-- a bucket's own layout
+own_front : (n : ℕ) (text : Text) (ms : List Member) (is : IsBucket n text ms) → IsFront text is.layout (records is.layout ms)
+own_front n text [] is = absurd (let some = is.some in omega arith)
+own_front n text (m ∷ ms) is = go is.layout is.spelled
+  where
+    go : (l : Layout) → text ≡ bucket_text l (m ∷ ms) → IsFront text l (records l (m ∷ ms))
+    go Dated e = e
+    go Undated e = (sym e, λ rest f. let bad : 84 ∷ _ ≡ layout_line Dated ++ rest = sym (record_parts Undated m (records Undated ms)) ∙ sym e ∙ f in let first = ap (λ t. get_or t 0 0) bad in omega (arith, first))
+
+pub bucket_one : (n : ℕ) (file : Option Text) (ms others : List Member) → IsBucketFile n file ms → IsBucketFile n file others → ms ≡ others
+bucket_one n None ms others is other = is ∙ sym other
+bucket_one n (Some text) ms others is other =
+    let front = own_front n text ms is in
+    read_one is.layout n [] (records is.layout ms) ms others (layout_only text is.layout (records is.layout ms) front n ms is) (layout_only text is.layout (records is.layout ms) front n others other)
+
+pub bucket_ordered : (n : ℕ) (file : Option Text) (ms : List Member) → IsBucketFile n file ms → IsOrdered ms
+bucket_ordered n None ms is = subst IsOrdered (sym is) refl
+bucket_ordered n (Some text) ms is = is.ordered
+
+-- each member of a bucket can stand in layout 2
+dated : (layout : Layout) (n : ℕ) (ms : List Member) → AllByRecursion (IsMember layout n) ms → AllByRecursion (IsMember Dated n) ms
+dated layout n [] all = tt
+dated layout n (m ∷ ms) all = (one layout all.0, dated layout n ms all.1)
+  where
+    one : (layout : Layout) → IsMember layout n m → IsMember Dated n m
+    one Dated is = is
+    one Undated is = let since : m.since ≡ 0 = is.since in record { address = is.address; since = omega (arith, since); hashed = is.hashed }
+
+pub bucket_each : (n : ℕ) (file : Option Text) (ms : List Member) → IsBucketFile n file ms → AllByRecursion (IsMember Dated n) ms
+bucket_each n None ms is = subst (AllByRecursion (IsMember Dated n)) (sym is) tt
+bucket_each n (Some text) ms is = dated is.layout n ms is.each
+
+pub bucket_hashed : (n : ℕ) (file : Option Text) (ms : List Member) → IsBucketFile n file ms → AllByRecursion (λ m. bucket_of (member_key m) ≡ n) ms
+bucket_hashed n file ms is = go ms (bucket_each n file ms is)
+  where
+    go : (ms : List Member) → AllByRecursion (IsMember Dated n) ms → AllByRecursion (λ m. bucket_of (member_key m) ≡ n) ms
+    go [] all = tt
+    go (m ∷ ms) all = let first : IsMember Dated n m = all.0 in (first.hashed, go ms all.1)
+
+-- the file that a change leaves is the bucket's
+pub bucket_made : (n : ℕ) (ms : List Member) → IsOrdered ms → AllByRecursion (IsMember Dated n) ms → IsBucketFile n (bucket_file ms) ms
+bucket_made n [] ordered all = refl
+bucket_made n (m ∷ ms) ordered all = record { some = omega arith; ordered = ordered; layout = Dated; each = all; spelled = refl }
+
+pub below_53 : (k : Text) → bucket_of k < 53
+below_53 k = omega arith
+
+pub joined_one : (dir : Dir) (set : Set) (ms others : List Member) → AreJoined dir set ms → AreJoined dir set others → ms ≡ others
+joined_one dir set ms others is other =
+    same_lists byte_cmp member_key same_bytes bytes_total ms others is.ordered other.ordered
+    (λ k. is.joined k ∙ ap (member_of k) (bucket_one (bucket_of k) (dir (bucket_name set (bucket_of k))) (is.buckets (bucket_of k)) (other.buckets (bucket_of k)) (is.files (bucket_of k) (below_53 k)) (other.files (bucket_of k) (below_53 k)))
+    ∙ sym (other.joined k))
+
+pub subscribers_one : (dir : Dir) (set : Set) (ms others : List Member) → AreSubscribers dir set ms → AreSubscribers dir set others → ms ≡ others
+subscribers_one dir set ms others is other = joined_one dir set ms others is.members other.members
+
+-- what a set has under a key is what its bucket has
+pub found_in_bucket : (dir : Dir) (set : Set) (ms bucket : List Member) (k : Text) → AreJoined dir set ms → IsBucketFile (bucket_of k) (dir (bucket_name set (bucket_of k))) bucket → member_of k ms ≡ member_of k bucket
+found_in_bucket dir set ms bucket k is file =
+    is.joined k ∙ ap (member_of k) (bucket_one (bucket_of k) (dir (bucket_name set (bucket_of k))) (is.buckets (bucket_of k)) bucket (is.files (bucket_of k) (below_53 k)) file)
+
+-- names
+
+kind_apart : (set : Set) → (set_kind set == 8) ≡ false
+kind_apart sets.List = refl
+kind_apart sets.Digest = refl
+kind_apart sets.Allow = refl
+kind_apart sets.Deny = refl
+kind_apart sets.Moderators = refl
+
+bucket_own : (set : Set) (n : ℕ) → is_of_set set (bucket_name set n) ≡ true
+bucket_own set n = or_left _ _ (eq-eqb (set_kind set) (set_kind set) refl)
+
+name_itself : (name : Name) → same_name name name ≡ true
+name_itself name = and_from _ _ (eq-eqb name.kind name.kind refl) (eq-eqb name.at name.at refl)
+
+count_own : (set : Set) → is_of_set set (count_name set) ≡ true
+count_own set = ap (λ b. (8 == set_kind set) || b) (name_itself (count_name set)) ∙ or_true (8 == set_kind set)
+  where
+    or_true : (b : Bool) → (b || true) ≡ true
+    or_true true = refl
+    or_true false = refl
+
+-- the relation depends on the set's own files
+pub own_files : (dir other : Dir) (set : Set) (ms : List Member) → ((name : Name) → is_of_set set name ≡ true → other name ≡ dir name) → AreSubscribers dir set ms → AreSubscribers other set ms
+own_files dir other set ms same is = record {
+  members = record {
+    ordered = is.members.ordered;
+    buckets = is.members.buckets;
+    files = λ n less. subst (λ (f : Option Text). IsBucketFile n f (is.members.buckets n)) (sym (same (bucket_name set n) (bucket_own set n))) (is.members.files n less);
+    joined = is.members.joined;
+  };
+  few = is.few;
+  counted = same (count_name set) (count_own set) ∙ is.counted;
+}
+
+pub broken : (dir : Dir) (set : Set) (name : Name) (ms : List Member) → Breaks dir set name → AreSubscribers dir set ms → ⊥
+broken dir set name ms (inl b) is = b.3 (is.members.buckets b.0) (is.members.files b.0 b.1)
+broken dir set name ms (inr b) is = b.2 ms is
+
+pub nobody_there : (dir : Dir) (set : Set) → ((n : ℕ) → n < 53 → dir (bucket_name set n) ≡ None) → dir (count_name set) ≡ Some (count_text 0) → AreSubscribers dir set []
+nobody_there dir set none zero_there = record {
+  members = record {
+    ordered = refl;
+    buckets = λ n. [];
+    files = λ n less. subst (λ (f : Option Text). IsBucketFile n f []) (sym (none n less)) refl;
+    joined = λ k. refl;
+  };
+  few = omega arith;
+  counted = zero_there;
+}
+
+-- what holds of each who is found holds of each
+each_found : (P : Member → Type 0) (ms : List Member) → IsOrdered ms → ((k : Text) (m : Member) → member_of k ms ≡ Some m → P m) → AllByRecursion P ms
+each_found P [] is found = tt
+each_found P (m ∷ ms) is found = (
+  found (member_key m) m (ap (λ t. cond t (Some m) (member_of (member_key m) ms)) (own_tie (member_key m))),
+  each_found P ms parts.1 (λ k x e. found k x (ap (λ t. cond t (Some m) (member_of k ms)) (apart k x e) ∙ e)),
+)
+  where
+    parts : (list_all (λ f. is_below m.who f.who) ms ≡ true) × IsOrdered ms
+    parts = and_parts (list_all (λ f. is_below m.who f.who) ms) _ is
+
+    all_below : (l : List Member) → list_all (λ f. is_below m.who f.who) l ≡ true → AllByRecursion (λ f. is_below m.who f.who ≡ true) l
+    all_below [] e = tt
+    all_below (x ∷ xs) e = let both = and_parts (is_below m.who x.who) (list_all (λ f. is_below m.who f.who) xs) e in (both.0, all_below xs both.1)
+
+    apart : (k : Text) (x : Member) → member_of k ms ≡ Some x → eq_by_cmp byte_cmp k (member_key m) ≡ false
+    apart k x e = differ k (member_key m) (λ same. absurd (clash k x e same))
+      where
+        clash : (k : Text) (x : Member) → member_of k ms ≡ Some x → k ≡ member_key m → ⊥
+        clash k x e same =
+            let there = found_is byte_cmp member_key (λ f. is_below m.who f.who ≡ true) k x ms (all_below ms parts.0) e in
+            let tie : key m.who ≡ member_key x = sym same ∙ same_bytes k (member_key x) there.1 in
+            let not : is_below m.who x.who ≡ false = not_below m.who x.who tie in
+            let bad : true ≡ false = sym there.0 ∙ not in
+            cc
+
+pub subscribers_each : (dir : Dir) (set : Set) (ms : List Member) → AreSubscribers dir set ms → AllByRecursion (λ m. IsAddress m.who × IsMoment m.since) ms
+subscribers_each dir set ms is = each_found (λ m. IsAddress m.who × IsMoment m.since) ms is.members.ordered
+    (λ k m e.
+    let bucket = is.members.buckets (bucket_of k) in
+    let file = is.members.files (bucket_of k) (below_53 k) in
+    let there = found_is byte_cmp member_key (IsMember Dated (bucket_of k)) k m bucket (bucket_each (bucket_of k) (dir (bucket_name set (bucket_of k))) bucket file) (sym (is.members.joined k) ∙ e) in
+    (there.0.address, there.0.since))
+
+-- a bucket and a count that are written anew
+module _ (dir : Dir) (set : Set) (ms : List Member) (is : AreSubscribers dir set ms) (b : ℕ) (bytes : Option Text) (bucket whole : List Member) (count : ℕ) where
+  abbrev after : Dir
+  after = with_puts dir (changes set b bytes count)
+
+  file_at : (n : ℕ) → after (bucket_name set n) ≡ cond (n == b) bytes (dir (bucket_name set n))
+  file_at n = rw (kind_apart set, eq-eqb (set_kind set) (set_kind set) refl) refl
+
+  count_at : after (count_name set) ≡ Some (count_text count)
+  count_at = rw (eq-eqb (set_number set) (set_number set) refl) refl
+
+  abbrev changed : ℕ → List Member
+  changed n = cond (n == b) bucket (is.members.buckets n)
+
+  files_after : IsBucketFile b bytes bucket → AreBuckets after set changed
+  files_after made n less = subst (λ (f : Option Text). IsBucketFile n f (changed n)) (sym (file_at n)) (go (n == b) refl)
+    where
+      go : (t : Bool) → (n == b) ≡ t → IsBucketFile n (cond (n == b) bytes (dir (bucket_name set n))) (cond (n == b) bucket (is.members.buckets n))
+      go true e = subst (λ t. IsBucketFile n (cond t bytes (dir (bucket_name set n))) (cond t bucket (is.members.buckets n))) (sym e) (subst (λ (m : ℕ). IsBucketFile m bytes bucket) (sym (eqb-true n b e)) made)
+      go false e = subst (λ t. IsBucketFile n (cond t bytes (dir (bucket_name set n))) (cond t bucket (is.members.buckets n))) (sym e) (is.members.files n less)
+
+  pub written_anew : IsBucketFile b bytes bucket → IsOrdered whole → ((q : Text) → bucket_of q ≡ b → member_of q whole ≡ member_of q bucket)
+      → ((q : Text) → (bucket_of q ≡ b → ⊥) → member_of q whole ≡ member_of q ms) → count ≡ length whole → count ≤ 100_000 → AreSubscribers after set whole
+  written_anew made ordered here elsewhere size few = record {
+    members = record {
+      ordered = ordered;
+      buckets = changed;
+      files = files_after made;
+      joined = λ q. go q (bucket_of q == b) refl;
+    };
+    few = omega (arith, size, few);
+    counted = count_at ∙ ap (λ n. Some (count_text n)) size;
+  }
+    where
+      go : (q : Text) (t : Bool) → (bucket_of q == b) ≡ t → member_of q whole ≡ member_of q (cond (bucket_of q == b) bucket (is.members.buckets (bucket_of q)))
+      go q true e = here q (eqb-true (bucket_of q) b e) ∙ sym (ap (λ t. member_of q (cond t bucket (is.members.buckets (bucket_of q)))) e)
+      go q false e = elsewhere q (eqb-false (bucket_of q) b e) ∙ is.members.joined q ∙ sym (ap (λ t. member_of q (cond t bucket (is.members.buckets (bucket_of q)))) e)
+
+-- the bucket of a member with him
+pub bucket_with : (m : Member) (file : Option Text) (bucket : List Member) → IsAddress m.who → IsMoment m.since → IsBucketFile (bucket_of (member_key m)) file bucket
+    → IsBucketFile (bucket_of (member_key m)) (bucket_file (with_member m bucket)) (with_member m bucket)
+bucket_with m file bucket address moment is =
+    let n = bucket_of (member_key m) in
+    bucket_made n (with_member m bucket) (sorted_with byte_cmp member_key same_bytes bytes_total m bucket (bucket_ordered n file bucket is))
+    (each_with byte_cmp member_key (IsMember Dated n) m bucket (record { address = address; since = moment; hashed = refl }) (bucket_each n file bucket is))
+
+-- the bucket of a key without it
+pub bucket_without : (n : ℕ) (k : Text) (file : Option Text) (bucket : List Member) → IsBucketFile n file bucket → IsBucketFile n (bucket_file (without_member k bucket)) (without_member k bucket)
+bucket_without n k file bucket is =
+    bucket_made n (without_member k bucket) (sorted_without byte_cmp member_key same_bytes bytes_total k bucket (bucket_ordered n file bucket is))
+    (each_without byte_cmp member_key (IsMember Dated n) k bucket (bucket_each n file bucket is))
+
+none_of : (o : Option Member) → is_some o ≡ false → o ≡ None
+none_of None e = refl
+none_of (Some m) e = cc
+
+pub added : (dir : Dir) (set : Set) (ms bucket : List Member) (m : Member) → AreSubscribers dir set ms → IsAddress m.who → IsMoment m.since → has_key (member_key m) ms ≡ false → length ms < 100_000
+    → IsBucketFile (bucket_of (member_key m)) (dir (bucket_name set (bucket_of (member_key m)))) bucket
+    → AreSubscribers (with_puts dir (changes set (bucket_of (member_key m)) (bucket_file (with_member m bucket)) (length ms + 1))) set (with_member m ms)
+added dir set ms bucket m is address moment absent room file =
+    let k = member_key m in
+    let size : length (with_member m ms) ≡ length ms + 1 =
+    length_with byte_cmp member_key same_bytes bytes_total m ms is.members.ordered ∙ ap (λ t. cond t (length ms) (length ms + 1)) absent in
+    written_anew dir set ms is (bucket_of k) (bucket_file (with_member m bucket)) (with_member m bucket) (with_member m ms) (length ms + 1)
+    (bucket_with m (dir (bucket_name set (bucket_of k))) bucket address moment file)
+    (sorted_with byte_cmp member_key same_bytes bytes_total m ms is.members.ordered)
+    (λ q e. found_with byte_cmp member_key same_bytes bytes_total q m ms
+    ∙ ap (λ o. cond (eq_by_cmp byte_cmp q k) (Some m) o)
+    (found_in_bucket dir set ms bucket q is.members (subst (λ (n : ℕ). IsBucketFile n (dir (bucket_name set n)) bucket) (sym e) file))
+    ∙ sym (found_with byte_cmp member_key same_bytes bytes_total q m bucket))
+    (λ q apart. found_with byte_cmp member_key same_bytes bytes_total q m ms ∙ ap (λ t. cond t (Some m) (member_of q ms)) (differ q k (λ e. apart (ap bucket_of e))))
+    (sym size) (omega (arith, room))
+
+abbrev ones : Bool → ℕ
+ones t = cond t 1 0
+
+pub removed : (dir : Dir) (set : Set) (ms bucket : List Member) (k : Text) (n : ℕ) → AreSubscribers dir set ms → has_key k ms ≡ true → length ms ≡ n + 1
+    → IsBucketFile (bucket_of k) (dir (bucket_name set (bucket_of k))) bucket
+    → AreSubscribers (with_puts dir (changes set (bucket_of k) (bucket_file (without_member k bucket)) n)) set (without_member k ms)
+removed dir set ms bucket k n is there one file =
+    let parts : cond (is_some (member_of k ms)) 1 0 + length (without_member k ms) ≡ length ms = length_left byte_cmp member_key same_bytes bytes_total k ms is.members.ordered in
+    let first : ◌≡◌ {A = ℕ} (cond (is_some (member_of k ms)) 1 0) 1 = ap (λ (t : Bool). ones t) there in
+    let few = is.few in
+    written_anew dir set ms is (bucket_of k) (bucket_file (without_member k bucket)) (without_member k bucket) (without_member k ms) n
+    (bucket_without (bucket_of k) k (dir (bucket_name set (bucket_of k))) bucket file)
+    (sorted_without byte_cmp member_key same_bytes bytes_total k ms is.members.ordered)
+    (λ q e. found_without byte_cmp member_key same_bytes bytes_total q k ms
+    ∙ ap (λ o. cond (eq_by_cmp byte_cmp q k) None o)
+    (found_in_bucket dir set ms bucket q is.members (subst (λ (n : ℕ). IsBucketFile n (dir (bucket_name set n)) bucket) (sym e) file))
+    ∙ sym (found_without byte_cmp member_key same_bytes bytes_total q k bucket))
+    (λ q apart. found_without byte_cmp member_key same_bytes bytes_total q k ms ∙ ap (λ t. cond t None (member_of q ms)) (differ q k (λ e. apart (ap bucket_of e))))
+    (omega (arith, parts, first, one)) (omega (arith, few, one))
+
+-- the set of a number
+abbrev set_at : ℕ → Set
+set_at zero = sets.List
+set_at (suc zero) = sets.Digest
+set_at (suc (suc zero)) = sets.Allow
+set_at (suc (suc (suc zero))) = sets.Deny
+set_at (suc (suc (suc (suc n)))) = sets.Moderators
+
+own_number : (set : Set) → set_at (set_number set) ≡ set
+own_number sets.List = refl
+own_number sets.Digest = refl
+own_number sets.Allow = refl
+own_number sets.Deny = refl
+own_number sets.Moderators = refl
+
+numbers_apart : (set other : Set) → other ≢ set → set_number other ≡ set_number set → ⊥
+numbers_apart set other apart e = apart (sym (own_number other) ∙ ap set_at e ∙ own_number set)
+
+few_sets : (set : Set) → set_number set < 5
+few_sets sets.List = omega arith
+few_sets sets.Digest = omega arith
+few_sets sets.Allow = omega arith
+few_sets sets.Deny = omega arith
+few_sets sets.Moderators = omega arith
+
+and_false : (a b : Bool) → a ≡ false → (a && b) ≡ false
+and_false a b e = ap (λ t. t && b) e
+
+false_and : (a b : Bool) → b ≡ false → (a && b) ≡ false
+false_and true b e = e
+false_and false b e = refl
+
+-- a file of another set is not touched
+other_files : (set other : Set) (k : Text) (name : Name) → other ≢ set → is_of_set other name ≡ true → is_touched set k name ≡ false
+other_files set other k name apart own = go (name.kind == set_kind other) refl
+  where
+    numbers : set_number other ≡ set_number set → ⊥
+    numbers = numbers_apart set other apart
+
+    one : set_number set < 5
+    one = few_sets set
+
+    two : set_number other < 5
+    two = few_sets other
+
+    go : (t : Bool) → (name.kind == set_kind other) ≡ t → is_touched set k name ≡ false
+    go true e =
+        let kind = eqb-true name.kind (set_kind other) e in
+        or_from _ _ (and_false _ _ (ne_eqb name.kind (set_kind set) (λ f. numbers (omega (arith, f, kind))))) (and_false _ _ (ne_eqb name.kind 8 (λ f. omega (arith, f, kind, two))))
+    go false e =
+        let count : same_name name (count_name other) ≡ true = sym (ap (λ t. t || same_name name (count_name other)) e) ∙ own in
+        let parts = and_parts (name.kind == 8) (name.at == set_number other) count in
+        let kind = eqb-true name.kind 8 parts.0 in
+        let at = eqb-true name.at (set_number other) parts.1 in
+        or_from _ _ (and_false _ _ (ne_eqb name.kind (set_kind set) (λ f. omega (arith, f, kind, one)))) (false_and (name.kind == 8) _ (ne_eqb name.at (set_number set) (λ f. numbers (omega (arith, f, at)))))
+
+-- a file that is touched is the set's
+touched_own : (set : Set) (k : Text) (name : Name) → is_of_set set name ≡ false → is_touched set k name ≡ false
+touched_own set k name not = let parts = or_parts (name.kind == set_kind set) (same_name name (count_name set)) not in or_from _ _ (and_false _ _ parts.0) parts.1
+
+pub kept_elsewhere : (dir : Dir) (set : Set) (k : Text) (puts : List Put) (name : Name) → touches_only (is_touched set k) puts ≡ true → is_of_set set name ≡ false → with_puts dir puts name ≡ dir name
+kept_elsewhere dir set k puts name only not = left_alone (is_touched set k) dir puts name only (touched_own set k name not)
+
+pub others_kept : (dir : Dir) (set other : Set) (k : Text) (puts : List Put) (ms : List Member) → other ≢ set → touches_only (is_touched set k) puts ≡ true → AreSubscribers dir other ms → AreSubscribers (with_puts dir puts) other ms
+others_kept dir set other k puts ms apart only is = own_files dir (with_puts dir puts) other ms (λ name own. left_alone (is_touched set k) dir puts name only (other_files set other k name apart own)) is
+
+-- buckets that are in their grammar, with their count, stand for members
+pub made_of : (dir : Dir) (set : Set) (buckets : ℕ → List Member) (n : ℕ) → AreBuckets dir set buckets → dir (count_name set) ≡ Some (count_text n) → n ≡ counted buckets 53 → n ≤ 100_000 → (ms : List Member) × AreSubscribers dir set ms
+made_of dir set buckets n files there size few =
+    let hashed = λ (i : ℕ) (less : i < 53). bucket_hashed i (dir (bucket_name set i)) (buckets i) (files i less) in
+    let ordered = λ (i : ℕ) (less : i < 53). bucket_ordered i (dir (bucket_name set i)) (buckets i) (files i less) in
+    let long = length_merged buckets 53 hashed ordered in (
+      merged buckets 53,
+      record {
+        members = record {
+          ordered = merged_ordered buckets 53;
+          buckets = buckets;
+          files = files;
+          joined = λ k. found_merged buckets 53 hashed k (below_53 k);
+        };
+        few = omega (arith, long, size, few);
+        counted = there ∙ ap (λ m. Some (count_text m)) (size ∙ sym long);
+      },
+    )
+
+-- and have as many members as any list for which they stand
+pub counted_one : (dir : Dir) (set : Set) (buckets : ℕ → List Member) (ms : List Member) → AreBuckets dir set buckets → AreSubscribers dir set ms → length ms ≡ counted buckets 53
+counted_one dir set buckets ms files is =
+    let hashed = λ (i : ℕ) (less : i < 53). bucket_hashed i (dir (bucket_name set i)) (buckets i) (files i less) in
+    let ordered = λ (i : ℕ) (less : i < 53). bucket_ordered i (dir (bucket_name set i)) (buckets i) (files i less) in
+    let joined : AreJoined dir set (merged buckets 53) = record { ordered = merged_ordered buckets 53; buckets = buckets; files = files; joined = λ k. found_merged buckets 53 hashed k (below_53 k) } in
+    ap length (joined_one dir set ms (merged buckets 53) is.members joined) ∙ length_merged buckets 53 hashed ordered

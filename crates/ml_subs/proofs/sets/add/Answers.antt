@@ -1,0 +1,69 @@
+use Rattle.std.proofs.Common.{◌∙◌, ◌+◌, ap, ap₂, sym, arith, Some, Option}
+use Rattle.ml_base.specs.Bytes.{Text}
+use Rattle.ml_base.specs.Address.{key}
+use Rattle.ml_base.specs.Dir.{Dir}
+use Rattle.ml_subs.specs.declared.changing.AddAnswer.TheVariants.{Added}
+use Rattle.ml_subs.specs.Buckets.{bucket_file}
+use Rattle.ml_subs.specs.Subscribers.{count_name, count_text}
+use Rattle.ml_subs.specs.Answers.{changes}
+use Rattle.ml_subs.specs.Reading.{joined, member_by}
+use Rattle.ml_subs.proofs.Answering.{sides_has, sides_with, file_with, bucket_there, addition, has_of_set, count_of_set}
+use Rattle.ml_subs.proofs.sets.add.Goals as goal
+
+pub returns-then-place-clause-read : goal.returns-then-place-clause-read
+returns-then-place-clause-read g c told =
+    let place = c.in-Some.ensures.some in (
+      joined place.0,
+      bucket_there (g.F.Files.map c.args.files.now) c.args.set (key c.args.a.now) c.bucket-n.result c.bucket_name-name.result c.in_ok-file.file (joined place.0) c.bucket-n.ensures.value c.bucket_name-name.ensures (c.in_ok-file.ensures.value told) place.1,
+      sides_has place.0 ∙ c.if-place.true,
+    )
+
+pub returns-then-place-clause-value : goal.returns-then-place-clause-value
+returns-then-place-clause-value g c told ms is =
+    let read = returns-then-place-clause-read g c told in
+    has_of_set (g.F.Files.map c.args.files.now) c.args.set ms read.0 (key c.args.a.now) is read.1 ∙ read.2
+
+pub returns-then-count-eq-MAX_MEMBERS-clause-read : goal.returns-then-count-eq-MAX_MEMBERS-clause-read
+returns-then-count-eq-MAX_MEMBERS-clause-read g c told =
+    let place = c.in-Some.ensures.some in
+    let count = c.in_ok-count.ensures.value told in
+    let same = g.met.F.Files.kept_map c.args.files.now c.get.new.self told c.get.ensures.kept in (
+      joined place.0,
+      bucket_there (g.F.Files.map c.args.files.now) c.args.set (key c.args.a.now) c.bucket-n.result c.bucket_name-name.result c.in_ok-file.file (joined place.0) c.bucket-n.ensures.value c.bucket_name-name.ensures (c.in_ok-file.ensures.value told) place.1,
+      (
+        sides_has place.0 ∙ c.if-place.false,
+        sym (ap (λ (dir : Dir). dir (count_name c.args.set)) same) ∙ count.2 ∙ ap (λ n. Some (count_text n)) c.if-count-eq-MAX_MEMBERS.true,
+      ),
+    )
+
+pub returns-then-count-eq-MAX_MEMBERS-clause-value : goal.returns-then-count-eq-MAX_MEMBERS-clause-value
+returns-then-count-eq-MAX_MEMBERS-clause-value g c told ms is =
+    let read = returns-then-count-eq-MAX_MEMBERS-clause-read g c told in (
+      has_of_set (g.F.Files.map c.args.files.now) c.args.set ms read.0 (key c.args.a.now) is read.1 ∙ (read.2).0,
+      count_of_set (g.F.Files.map c.args.files.now) c.args.set ms 100_000 is (omega arith) (read.2).1,
+    )
+
+pub returns-clause-read : goal.returns-clause-read
+returns-clause-read g c told =
+    let place = c.in-Some.ensures.some in
+    let count = c.in_ok-count.ensures.value told in
+    let same = g.met.F.Files.kept_map c.args.files.now c.get.new.self told c.get.ensures.kept in
+    let m = member_by c.args.a.now c.args.now in
+    let text = ap Some (c.in_ok-text.ensures.text (place.0).below (place.0).above (place.0).around) ∙ sym (file_with (place.0).below (place.0).above m) ∙ sym (ap bucket_file (sides_with m place.0 c.if-place.false)) in (
+      joined place.0,
+      bucket_there (g.F.Files.map c.args.files.now) c.args.set (key c.args.a.now) c.bucket-n.result c.bucket_name-name.result c.in_ok-file.file (joined place.0) c.bucket-n.ensures.value c.bucket_name-name.ensures (c.in_ok-file.ensures.value told) place.1,
+      (
+        sides_has place.0 ∙ c.if-place.false,
+        (
+          c.in_ok-count.count,
+          omega (arith, count.1, c.if-count-eq-MAX_MEMBERS.false),
+          sym (ap (λ (dir : Dir). dir (count_name c.args.set)) same) ∙ count.2,
+          c.in_ok-changes.ensures ∙ ap₂ (λ n (bytes : Option Text). changes c.args.set n bytes (c.in_ok-count.count + 1)) c.bucket-n.ensures.value text,
+        ),
+      ),
+    )
+
+pub returns-clause-value : goal.returns-clause-value
+returns-clause-value g c told ms is =
+    let read = returns-clause-read g c told in
+    addition (g.F.Files.map c.args.files.now) c.args.set (member_by c.args.a.now c.args.now) (Added _) read.0 ms c.in_ok-text.ensures.address c.requires read.1 read.2 is

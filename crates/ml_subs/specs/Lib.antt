@@ -1,0 +1,5 @@
+pub mod Members
+pub mod Buckets
+pub mod Subscribers
+pub mod Answers
+pub mod Reading

@@ -1,0 +1,34 @@
+-- Members of a set, in the order of their keys.
+use Rattle.std.specs.Prelude.{◌≡◌, ◌<◌, ℕ, true, Bool, List, Option, is_some}
+use Rattle.ml_base.specs.Bytes.{Text}
+use Rattle.ml_base.specs.Address.{key}
+use Rattle.ml_base.specs.Sorted.{byte_cmp, entry_of, is_sorted, with_entry, without_key}
+use Rattle.ml_subs.specs.declared.member_list.Member.{Member}
+
+-- the key of a member: that of his address
+abbrev pub member_key : Member → Text
+member_key m = key m.who
+
+-- a list of members in ascending order of key, without a key twice
+abbrev pub IsOrdered : List Member → Type 0
+IsOrdered ms = is_sorted byte_cmp member_key ms ≡ true
+
+-- the member of a key, as he is spelled in the list, or None where there is none
+abbrev pub member_of : Text → List Member → Option Member
+member_of k ms = entry_of byte_cmp member_key k ms
+
+-- whether a list has a member of this key
+abbrev pub has_key : Text → List Member → Bool
+has_key k ms = is_some (member_of k ms)
+
+-- the list with one more member in his place
+abbrev pub with_member : Member → List Member → List Member
+with_member m ms = with_entry byte_cmp member_key m ms
+
+-- the list without the member of this key
+abbrev pub without_member : Text → List Member → List Member
+without_member k ms = without_key byte_cmp member_key k ms
+
+-- seconds since 1970, before the year 10000
+abbrev pub IsMoment : ℕ → Type 0
+IsMoment n = n < 253_402_300_800

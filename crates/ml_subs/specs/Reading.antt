@@ -1,0 +1,117 @@
+-- Bytes that are read as members, from a place on.
+use Rattle.std.specs.Prelude.{◌≡◌, ◌≢◌, ◌≤◌, ◌+◌, ℕ, zero, suc, Bool, true, false, ◌&&◌, List, [], ◌∷◌, ◌++◌, length, take, drop, Option, is_some, IfSome}
+use Rattle.std.specs.Option.{option_to_list}
+use Rattle.std.specs.List.{AllByRecursion, list_all}
+use Rattle.std.specs.Ordering.{is_lt}
+use Rattle.ml_base.specs.Bytes.{Text}
+use Rattle.ml_base.specs.Address.{key, IsAddress}
+use Rattle.ml_base.specs.Sorted.{byte_cmp}
+use Rattle.ml_subs.specs.declared.member_list.Member.{Member}
+use Rattle.ml_subs.specs.declared.records.Layout.{Layout}
+use Rattle.ml_subs.specs.declared.records.Layout.TheVariants.{Undated, Dated}
+use Rattle.ml_subs.specs.declared.records.Record.{Record}
+use Rattle.ml_subs.specs.Buckets.{IsMember, IsTold, IsBucket, layout_line, record_text, records}
+
+-- the member of a record
+abbrev pub told : Record → Member
+told r = record { who = r.who.now; since = r.since }
+
+-- a key below another
+abbrev pub is_below : Text → Text → Bool
+is_below a b = is_lt (byte_cmp (key a) (key b))
+
+-- members whose keys rise, the first of them above an address's
+abbrev pub rises : Text → List Member → Bool
+rises floor [] = true
+rises floor (m ∷ ms) = is_below floor m.who && rises m.who ms
+
+-- bytes that spell members of a bucket, whose keys rise above an address's
+pub record AreRead (layout : Layout) (n : ℕ) (floor : Text) (text : Text) (ms : List Member) : Type 0 where
+  pub each : AllByRecursion (IsMember layout n) ms
+  pub rising : rises floor ms ≡ true
+  pub spelled : text ≡ records layout ms
+
+-- the member of a text and a moment
+abbrev pub member_by : Text → ℕ → Member
+member_by who since = record { who = who; since = since }
+
+-- a record that a layout can spell, whatever bucket its member belongs to
+pub record IsRecord (layout : Layout) (m : Member) : Type 0 where
+  pub address : IsAddress m.who
+  pub since : IsTold layout m.since
+
+-- bytes that begin with a member's record
+pub record BeginsWith (layout : Layout) (text : Text) (m : Member) (more : Text) : Type 0 where
+  pub is : IsRecord layout m
+  pub spelled : text ≡ record_text layout m ++ more
+
+-- members that were read from the front of bytes, and the bytes that are left: whoever is read from those stands behind
+-- them, and nobody else does. `last` is the address of the last of them, or the one above which they rise
+pub record Leads (layout : Layout) (n : ℕ) (floor : Text) (text : Text) (done : List Member) (last : Text) (left : Text) : Type 0 where
+  pub front : text ≡ records layout done ++ left
+  pub each : AllByRecursion (IsMember layout n) done
+  pub whole : (ms : List Member) → AreRead layout n last left ms → AreRead layout n floor text (done ++ ms)
+  pub only : (all : List Member) → AreRead layout n floor text all → (ms : List Member) × (all ≡ done ++ ms) × AreRead layout n last left ms
+
+-- how many bytes the members take at the front of a bucket's records whose keys are below an address's
+pub record AreSkipped (layout : Layout) (n : ℕ) (who : Text) (text : Text) (size : ℕ) : Type 0 where
+  pub within : size ≤ length text
+  pub below : List Member
+  pub last : Text
+  pub leads : Leads layout n [] text below last (drop size text)
+  pub front : take size text ≡ records layout below
+  pub lower : list_all (λ m. is_below m.who who) below ≡ true
+  pub under : is_below last who ≡ true
+  pub stops : (m : Member) (ms : List Member) → AreRead layout n last (drop size text) (m ∷ ms) → is_below m.who who ≡ false
+
+-- the layout of a text, and what stands behind its line
+abbrev pub IsFront : Text → Layout → Text → Type 0
+IsFront text Dated body = text ≡ layout_line Dated ++ body
+IsFront text Undated body = (body ≡ text) × ((rest : Text) → text ≢ layout_line Dated ++ rest)
+
+-- the layout of a bucket's text, and its records, of which there is one at least
+pub record IsLayoutOf (text : Text) (layout : Layout) (body : Text) : Type 0 where
+  pub only : (n : ℕ) (ms : List Member) → IsBucket n text ms → AreRead layout n [] body ms
+  pub makes : (n : ℕ) (ms : List Member) → AreRead layout n [] body ms → IsBucket n text ms
+
+-- whether bytes begin with a member of an address's key, and what is behind him, or all of them
+abbrev pub IsSameKey : Layout → ℕ → Text → Text → Bool → Text → Type 0
+IsSameKey layout n who text true more = (m : Member) × BeginsWith layout text m more × IsMember layout n m × (key m.who ≡ key who)
+IsSameKey layout n who text false more = (more ≡ text) × ((m : Member) (ms : List Member) → AreRead layout n [] text (m ∷ ms) → key m.who ≢ key who)
+
+-- members whose records are these bytes, before and behind a place
+pub record AreAround (layout : Layout) (before behind : Text) (below above : List Member) : Type 0 where
+  pub front : before ≡ records layout below
+  pub back : behind ≡ records layout above
+  pub each_below : AllByRecursion (IsRecord layout) below
+  pub each_above : AllByRecursion (IsRecord layout) above
+
+-- the members on both sides of a key's place, and the one of the key, where there is one
+pub record Sides (layout : Layout) (who before : Text) (found : Bool) (behind : Text) : Type 0 where
+  pub below : List Member
+  pub here : Option Member
+  pub above : List Member
+  pub lower : list_all (λ m. is_below m.who who) below ≡ true
+  pub higher : list_all (λ m. is_below who m.who) above ≡ true
+  pub is : IfSome here (λ m. key m.who ≡ key who)
+  pub told : found ≡ is_some here
+  pub around : AreAround layout before behind below above
+
+-- all of them
+abbrev pub joined : {layout : Layout} {who before : Text} {found : Bool} {behind : Text} → Sides layout who before found behind → List Member
+joined s = s.below ++ (option_to_list s.here ++ s.above)
+
+-- the members of the first buckets, one bucket behind the other
+abbrev pub gathered : (ℕ → List Member) → ℕ → List Member
+gathered buckets zero = []
+gathered buckets (suc n) = gathered buckets n ++ buckets n
+
+-- how many the members of the first buckets are
+abbrev pub counted : (ℕ → List Member) → ℕ → ℕ
+counted buckets zero = 0
+counted buckets (suc n) = counted buckets n + length (buckets n)
+
+-- where members were read, they stand behind those that were there before, and else there are none such
+abbrev pub AreAdded : List Member → List Member → Bool → (List Member → Type 0) → Type 0
+AreAdded before behind true P = (ms : List Member) × P ms × (behind ≡ before ++ ms)
+AreAdded before behind false P = (ms : List Member) → ¬ P ms

@@ -1,0 +1,66 @@
+-- A set of subscribers, spread over 53 files and a count.
+use Rattle.std.specs.Prelude.{◌≡◌, ◌≢◌, ◌<◌, ◌≤◌, ℕ, Bool, ◌||◌, ◌==◌, List, [], ◌∷◌, ◌++◌, length, Some, ◌⊎◌}
+use Rattle.std.specs.Fmt.{decimal}
+use Rattle.ml_base.specs.Bytes.{Text}
+use Rattle.ml_base.specs.Dir.{Dir, same_name}
+use Rattle.ml_base.specs.Name.{set_kind, set_number}
+use Rattle.ml_base.specs.declared.names.Name.{Name}
+use Rattle.ml_base.specs.declared.names.Set.{Set}
+use Rattle.ml_subs.specs.declared.member_list.Member.{Member}
+use Rattle.ml_subs.specs.Members.{member_of, IsOrdered}
+use Rattle.ml_subs.specs.Buckets.{bucket_of, IsBucketFile}
+
+-- the name of one bucket's file
+abbrev pub bucket_name : Set → ℕ → Name
+bucket_name set n = record { kind = set_kind set; at = n }
+
+-- the name of the file with a set's count
+abbrev pub count_name : Set → Name
+count_name set = record { kind = 8; at = set_number set }
+
+-- a count in decimal, and LF
+abbrev pub count_text : ℕ → Text
+count_text n = decimal n ++ 10 ∷ []
+
+-- each of a set's 53 files has the members of its bucket
+abbrev pub AreBuckets : Dir → Set → (ℕ → List Member) → Type 0
+AreBuckets dir set buckets = (n : ℕ) → n < 53 → IsBucketFile n (dir (bucket_name set n)) (buckets n)
+
+-- the buckets of a set have these members together: under each key what the key's bucket has
+pub record AreJoined (dir : Dir) (set : Set) (ms : List Member) : Type 0 where
+  pub ordered : IsOrdered ms
+  pub buckets : ℕ → List Member
+  pub files : AreBuckets dir set buckets
+  pub joined : (k : Text) → member_of k ms ≡ member_of k (buckets (bucket_of k))
+
+-- the files of a set stand for these members: the buckets have them, and the count is how many they are, 100,000 at most
+pub record AreSubscribers (dir : Dir) (set : Set) (ms : List Member) : Type 0 where
+  pub members : AreJoined dir set ms
+  pub few : length ms ≤ 100_000
+  pub counted : dir (count_name set) ≡ Some (count_text (length ms))
+
+-- a bucket's file that spells no members
+abbrev pub IsNoBucket : Dir → Set → ℕ → Type 0
+IsNoBucket dir set n = (ms : List Member) → ¬ IsBucketFile n (dir (bucket_name set n)) ms
+
+-- a count's file that spells no number from a least one to 100,000
+abbrev pub IsNoCount : Dir → Set → ℕ → Type 0
+IsNoCount dir set least = (n : ℕ) → least ≤ n → n ≤ 100_000 → dir (count_name set) ≢ Some (count_text n)
+
+-- a file outside its grammar: the bucket with a number, or the count, where it spells no number from a least one on
+abbrev pub IsUnread : Dir → Set → ℕ → ℕ → Name → Type 0
+IsUnread dir set n least name = ((name ≡ bucket_name set n) × IsNoBucket dir set n) ⊎ ((name ≡ count_name set) × IsNoCount dir set least)
+
+-- a file of a set that no list of members can have: a bucket outside its grammar, or a count that isn't that of the buckets
+abbrev pub Breaks : Dir → Set → Name → Type 0
+Breaks dir set name =
+    ((n : ℕ) × (n < 53) × (name ≡ bucket_name set n) × IsNoBucket dir set n)
+    ⊎ ((name ≡ count_name set) × ((buckets : ℕ → List Member) × AreBuckets dir set buckets) × ((ms : List Member) → ¬ AreSubscribers dir set ms))
+
+-- whether a file is the bucket of a key, or the count, of a set
+abbrev pub is_touched : Set → Text → Name → Bool
+is_touched set k name = same_name name (bucket_name set (bucket_of k)) || same_name name (count_name set)
+
+-- whether a file is one of a set's
+abbrev pub is_of_set : Set → Name → Bool
+is_of_set set name = name.kind == set_kind set || same_name name (count_name set)

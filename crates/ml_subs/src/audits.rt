@@ -1,0 +1,101 @@
+// Whether each set stands for a list of members.
+ghost use Rattle.std.specs.Prelude.{◌≡◌, ◌<◌, ◌≤◌, true, List, ℕ, Option, Some, None, IsTrue, IfOk, IfErr, IfSome, IfNone, OnOk, IsErrOf, length, min, ◌^◌, ◌-◌};
+ghost use Rattle.ml_base.specs.Faults.{Rose};
+ghost use Rattle.ml_base.specs.declared.names.Set.{Set};
+ghost use Rattle.ml_base.specs.declared.part.PartError.TheVariants.{Fault};
+ghost use Rattle.ml_subs.specs.declared.member_list.Member.{Member};
+ghost use Rattle.ml_subs.specs.Buckets.{IsBucketFile};
+ghost use Rattle.ml_subs.specs.Subscribers.{AreSubscribers, AreBuckets, IsNoBucket, Breaks, is_of_set};
+ghost use Rattle.ml_subs.specs.Subscribers as spec;
+ghost use Rattle.ml_subs.specs.Answers.{OnDamaged};
+ghost use Rattle.ml_subs.specs.Reading.{counted};
+
+use crate::counts::count_of;
+use crate::names::{bucket_name, count_name};
+use crate::places::split_layout;
+use crate::records::count_members;
+use ml_base::{Bytes, Files, PartError, Set};
+use std::alloc::Global;
+
+// How many members a bucket's file has, or None where it is outside its grammar.
+fn count_bucket(n: u8, file: &Option<Bytes>) -> Option<usize>
+    ensures some { IfSome result (λ count. (ms : List Member) × IsBucketFile n file.now ms × (count ≡ length ms)) }
+    ensures none { IfNone result ((ms : List Member) → ¬ IsBucketFile n file.now ms) }
+{
+    match file {
+        None => Some(0),
+        Some(text) => {
+            let (layout, body) = split_layout(text.as_slice())?;
+            count_members(layout, n, b"", body)
+        }
+    }
+}
+
+// How many members one bucket of a set has.
+fn audit_bucket<F: Files>(alloc: Global, files: &mut F, set: Set, n: u8) -> Result<u64, PartError>
+    requires { n < 53 }
+    ensures value { IsTrue F.tells → IfOk result (λ count. (ms : List Member) × IsBucketFile n (F.map files.old (spec.bucket_name set n)) ms × (count ≡ length ms)) }
+    ensures named { IfErr result (λ e. OnDamaged e (λ name. name ≡ spec.bucket_name set n)) }
+    ensures damaged { IsTrue F.tells → IfErr result (λ e. OnDamaged e (λ _. IsNoBucket (F.map files.old) set n)) }
+    ensures kept { F.kept files.old files.new }
+    ensures later { F.faults files.old ≤ F.faults files.new }
+    ensures cause { IsErrOf result Fault → Rose (F.faults files.old) (F.faults files.new) }
+{
+    let name = bucket_name(set, n);
+    let file = files.get(alloc, name)?;
+    match count_bucket(n, &file) {
+        Some(count) => Ok(count as u64),
+        None => Err(PartError::Damaged(name)),
+    }
+}
+
+// How many members the buckets of a set have, as far as 64 bits count.
+fn audit_buckets<F: Files>(alloc: Global, files: &mut F, set: Set) -> Result<u64, PartError>
+    ensures value { IsTrue F.tells → IfOk result (λ count. (buckets : ℕ → List Member) × AreBuckets (F.map files.old) set buckets × (count ≡ min (counted buckets 53) (2 ^ 64 - 1))) }
+    ensures named { IfErr result (λ e. OnDamaged e (λ name. (n : ℕ) × (n < 53) × (name ≡ spec.bucket_name set n))) }
+    ensures damaged { IsTrue F.tells → IfErr result (λ e. OnDamaged e (λ name. (n : ℕ) × (n < 53) × (name ≡ spec.bucket_name set n) × IsNoBucket (F.map files.old) set n)) }
+    ensures kept { F.kept files.old files.new }
+    ensures later { F.faults files.old ≤ F.faults files.new }
+    ensures cause { IsErrOf result Fault → Rose (F.faults files.old) (F.faults files.new) }
+{
+    let mut count: u64 = 0;
+    for n in 0..53 {
+        count = count.saturating_add(audit_bucket(alloc, files, set, n)?);
+    }
+    Ok(count)
+}
+
+// Whether the files of one set stand for a list of members.
+fn audit_set<F: Files>(alloc: Global, files: &mut F, set: Set) -> Result<(), PartError>
+    ensures value { IsTrue F.tells → OnOk result ((ms : List Member) × AreSubscribers (F.map files.old) set ms) }
+    ensures named { IfErr result (λ e. OnDamaged e (λ name. is_of_set set name ≡ true)) }
+    ensures damaged { IsTrue F.tells → IfErr result (λ e. OnDamaged e (Breaks (F.map files.old) set)) }
+    ensures kept { F.kept files.old files.new }
+    ensures later { F.faults files.old ≤ F.faults files.new }
+    ensures cause { IsErrOf result Fault → Rose (F.faults files.old) (F.faults files.new) }
+{
+    let found = audit_buckets(alloc, files, set)?;
+    let count = count_of(alloc, files, set, 0)?;
+    if found == count {
+        Ok(())
+    } else {
+        Err(PartError::Damaged(count_name(set)))
+    }
+}
+
+/// Whether the files of each set stand for a list of members: each bucket is in its grammar, and the count is how many
+/// members the buckets have. It reads all files of the five sets, in their order, and names the first that breaks this.
+pub fn audit<F: Files>(alloc: Global, files: &mut F) -> Result<(), PartError>
+    ensures ok { IsTrue F.tells → OnOk result ((set : Set) → (ms : List Member) × AreSubscribers (F.map files.old) set ms) }
+    ensures named { IfErr result (λ e. OnDamaged e (λ name. (set : Set) × (is_of_set set name ≡ true))) }
+    ensures damaged { IsTrue F.tells → IfErr result (λ e. OnDamaged e (λ name. (set : Set) × Breaks (F.map files.old) set name)) }
+    ensures kept { F.kept files.old files.new }
+    ensures later { F.faults files.old ≤ F.faults files.new }
+    ensures cause { IsErrOf result Fault → Rose (F.faults files.old) (F.faults files.new) }
+{
+    audit_set(alloc, files, Set::List)?;
+    audit_set(alloc, files, Set::Digest)?;
+    audit_set(alloc, files, Set::Allow)?;
+    audit_set(alloc, files, Set::Deny)?;
+    audit_set(alloc, files, Set::Moderators)
+}

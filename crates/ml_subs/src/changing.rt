@@ -1,0 +1,42 @@
+// What adding and removing answers.
+ghost use Rattle.std.specs.Prelude.{◌≡◌, IfOk, Some};
+ghost use Rattle.std.specs.Option.{option_map};
+ghost use Rattle.ml_subs.specs.Answers as answers;
+
+use crate::counts::write_count;
+use crate::names::{bucket_name, count_name};
+use ml_base::{Bytes, Put, Set, Txn};
+use std::alloc::{AllocError, Global};
+
+/// What adding an address to a set answers.
+#[derive(Drop)]
+pub enum AddAnswer {
+    /// These puts add it.
+    Added(Txn),
+    /// The set has it, maybe in another spelling.
+    Already,
+    /// The set doesn't have it, and has 100,000 members.
+    Full,
+}
+
+// The puts that make a bucket's file and the count of its set these.
+pub(crate) fn changes(
+    alloc: Global,
+    set: Set,
+    n: u8,
+    bytes: Option<Bytes>,
+    count: u64,
+) -> Result<Txn, AllocError>
+    ensures { IfOk result (λ txn. txn ≡ answers.changes set n bytes count) }
+{
+    let mut txn = Txn::new(alloc);
+    txn.push(Put {
+        name: bucket_name(set, n),
+        bytes,
+    })?;
+    txn.push(Put {
+        name: count_name(set),
+        bytes: Some(write_count(alloc, count)?),
+    })?;
+    Ok(txn)
+}

@@ -1,0 +1,65 @@
+// The count of a set.
+ghost use Rattle.std.specs.Prelude.{◌≡◌, ◌≢◌, ◌≤◌, ℕ, Some, None, IsTrue, IfOk, IfErr, IfSome, IfNone, IsErrOf};
+ghost use Rattle.ml_base.specs.Faults.{Rose};
+ghost use Rattle.ml_base.specs.declared.names.Name.{Name};
+ghost use Rattle.ml_base.specs.declared.part.PartError.TheVariants.{Fault, Damaged};
+ghost use Rattle.ml_subs.specs.Subscribers.{count_text, IsNoCount};
+ghost use Rattle.ml_subs.specs.Subscribers as spec;
+ghost use Rattle.ml_subs.specs.Answers.{OnDamaged};
+
+use crate::names::count_name;
+use ml_base::{Bytes, Files, PartError, Set, number_within, write_number};
+use std::alloc::{AllocError, Global};
+
+pub(crate) const MAX_MEMBERS: u64 = 100_000;
+
+// The number that a count's file spells, or None where it spells none up to 100,000.
+pub(crate) fn read_count(file: &Option<Bytes>) -> Option<u64>
+    ensures some { IfSome result (λ n. (n ≤ 100_000) × (file.now ≡ Some (count_text n))) }
+    ensures none { IfNone result ((n : ℕ) → n ≤ 100_000 → file.now ≢ Some (count_text n)) }
+{
+    let Some(text) = file else {
+        return None;
+    };
+    let Some(digits) = text.as_slice().strip_suffix(b"\n") else {
+        return None;
+    };
+    number_within(MAX_MEMBERS, digits)
+}
+
+// The text of a count.
+pub(crate) fn write_count(alloc: Global, n: u64) -> Result<Bytes, AllocError>
+    ensures { IfOk result (λ bytes. bytes ≡ count_text n) }
+{
+    let mut digits = [0u8; 20];
+    let len = write_number(n, &mut digits);
+    let mut out = Bytes::from_slice(alloc, &digits[..len])?;
+    out.push(b'\n')?;
+    Ok(out)
+}
+
+// The count of a set, which is at least `least`.
+pub(crate) fn count_of<F: Files>(
+    alloc: Global,
+    files: &mut F,
+    set: Set,
+    least: u64,
+) -> Result<u64, PartError>
+    ensures value { IsTrue F.tells → IfOk result (λ n. (least ≤ n) × (n ≤ 100_000) × (F.map files.old (spec.count_name set) ≡ Some (count_text n))) }
+    ensures few { IfOk result (λ n. (least ≤ n) × (n ≤ 100_000)) }
+    ensures named { IfErr result (λ e. OnDamaged e (λ name. name ≡ spec.count_name set)) }
+    ensures damaged { IsTrue F.tells → IfErr result (λ e. OnDamaged e (λ name. IsNoCount (F.map files.old) set least)) }
+    ensures kept { F.kept files.old files.new }
+    ensures later { F.faults files.old ≤ F.faults files.new }
+    ensures cause { IsErrOf result Fault → Rose (F.faults files.old) (F.faults files.new) }
+{
+    let name = count_name(set);
+    let file = files.get(alloc, name)?;
+    let Some(count) = read_count(&file) else {
+        return Err(PartError::Damaged(name));
+    };
+    if count < least {
+        return Err(PartError::Damaged(name));
+    }
+    Ok(count)
+}

@@ -1,0 +1,26 @@
+//! Sets of subscribers, each spread over 53 files by a hash of the address, and kept as a list in order of key.
+#![tactic(auto)]
+
+mod audits;
+mod changing;
+mod counts;
+mod hashing;
+mod laws;
+mod lists;
+mod member_list;
+mod names;
+mod order;
+mod places;
+mod records;
+mod rewriting;
+mod sets;
+#[cfg(test)]
+mod tests;
+
+pub use audits::audit;
+pub use changing::AddAnswer;
+pub use hashing::bucket;
+pub use laws::{law_changes, law_sets};
+pub use lists::{all, members};
+pub use member_list::{Member, MemberList};
+pub use sets::{add, member, remove};

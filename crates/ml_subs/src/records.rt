@@ -1,0 +1,125 @@
+// The records of a bucket's text.
+ghost use Rattle.std.specs.Prelude.{◌≡◌, ◌≢◌, ◌<◌, ◌≤◌, ◌↔◌, true, ◌++◌, ◌∷◌, List, ℕ, IsTrue, IfSome, IfNone, length};
+ghost use Rattle.std.specs.List.{list_any};
+ghost use Rattle.std.specs.Char.{is_ascii_uppercase};
+ghost use Rattle.ml_base.specs.Bytes.{Text};
+ghost use Rattle.ml_base.specs.Address.{IsAddress};
+ghost use Rattle.ml_subs.specs.declared.member_list.Member.{Member};
+ghost use Rattle.ml_subs.specs.Buckets.{IsMember, IsTold, moment_text};
+ghost use Rattle.ml_subs.specs.Reading as reading;
+ghost use Rattle.ml_subs.specs.Reading.{AreRead, BeginsWith, told};
+
+use crate::hashing::bucket_of_bytes;
+use crate::order::is_below;
+use ml_base::{Address, number_within, split_first, split_last};
+
+const LAST_MOMENT: u64 = 253_402_300_799;
+
+// How a bucket's records are spelled: layout 1 has addresses alone, and layout 2 their moments too.
+#[derive(Clone, Copy)]
+pub(crate) enum Layout {
+    Undated,
+    Dated,
+}
+
+// A record of a bucket's text.
+#[derive(Clone, Copy)]
+pub(crate) struct Record<'a> {
+    pub who: &'a [u8],
+    pub since: u64,
+}
+
+// Whether a text has a capital letter.
+fn has_capital(text: &[u8]) -> bool
+    ensures { result ≡ list_any is_ascii_uppercase text.now }
+{
+    text.iter().any(|byte| byte.is_ascii_uppercase())
+}
+
+// Whether a text is an address, spelled as it is kept: with its host in lower case.
+fn is_kept(text: &[u8]) -> bool
+    ensures { IsTrue result ↔ IsAddress text.now }
+{
+    if Address::check(text).is_err() {
+        return false;
+    }
+    match split_last(b'@', text) {
+        None => false,
+        Some((_, host)) => !has_capital(host),
+    }
+}
+
+// The moment that bytes begin with in a layout, and what is behind it.
+fn next_moment(layout: Layout, text: &[u8]) -> Option<(u64, &[u8])>
+    ensures some { IfSome result (λ r. IsTold layout r.0 × (text.now ≡ moment_text layout r.0 ++ r.1.now)) }
+    ensures none { IfNone result ((since : ℕ) (more : Text) → IsTold layout since → text.now ≢ moment_text layout since ++ more) }
+{
+    match layout {
+        Layout::Undated => Some((0, text)),
+        Layout::Dated => {
+            let (digits, more) = split_first(0, text)?;
+            Some((number_within(LAST_MOMENT, digits)?, more))
+        }
+    }
+}
+
+// The record that bytes begin with, and what is behind it, or None where none does.
+pub(crate) fn next_record(layout: Layout, text: &[u8]) -> Option<(Record<'_>, &[u8])>
+    ensures some { IfSome result (λ r. BeginsWith layout text.now (told r.0) r.1.now) }
+    ensures none { IfNone result ((m : Member) (more : Text) → ¬ BeginsWith layout text.now m more) }
+{
+    let [first, rest @ ..] = text else {
+        return None;
+    };
+    if *first != b'T' {
+        return None;
+    }
+    let (who, rest) = split_first(0, rest)?;
+    if !is_kept(who) {
+        return None;
+    }
+    let (since, more) = next_moment(layout, rest)?;
+    Some((Record { who, since }, more))
+}
+
+// The record that bytes begin with, and what is behind it, or None where none does whose address belongs to the bucket
+// and has a key above that of `floor`.
+pub(crate) fn next_member<'a>(
+    layout: Layout,
+    n: u8,
+    floor: &[u8],
+    text: &'a [u8],
+) -> Option<(Record<'a>, &'a [u8])>
+    ensures some { IfSome result (λ r. BeginsWith layout text.now (told r.0) r.1.now × IsMember layout n (told r.0) × (reading.is_below floor.now (told r.0).who ≡ true)) }
+    ensures none { IfNone result ((m : Member) (ms : List Member) → ¬ AreRead layout n floor.now text.now (m ∷ ms)) }
+    ensures shorter { IfSome result (λ r. length r.1.now < length text.now) }
+{
+    let (record, more) = next_record(layout, text)?;
+    if !is_below(floor, record.who) {
+        return None;
+    }
+    if bucket_of_bytes(record.who) != n {
+        return None;
+    }
+    Some((record, more))
+}
+
+// How many members bytes spell, all of the bucket, with keys that rise above that of `floor`; or None where they spell
+// none such.
+pub(crate) fn count_members(layout: Layout, n: u8, floor: &[u8], text: &[u8]) -> Option<usize>
+    ensures some { IfSome result (λ count. (ms : List Member) × AreRead layout n floor.now text.now ms × (count ≡ length ms)) }
+    ensures none { IfNone result ((ms : List Member) → ¬ AreRead layout n floor.now text.now ms) }
+{
+    let mut count = 0;
+    let mut last = floor;
+    let mut rest = text;
+    while !rest.is_empty() {
+        let Some((record, more)) = next_member(layout, n, last, rest) else {
+            return None;
+        };
+        count += 1;
+        last = record.who;
+        rest = more;
+    }
+    Some(count)
+}
