@@ -1,0 +1,40 @@
+-- How the file of the configuration is read.
+use Rattle.std.specs.Prelude.{◌==◌, length, take, drop, if◌then◌else◌, codes, Option, Some, None}
+use Rattle.std.specs.Str.{bytes_eq}
+use Rattle.std.specs.Option.{option_and_then}
+use Rattle.ml_base.specs.Bytes.{Text}
+use Rattle.ml_base.specs.Splits.{split_first}
+use Rattle.ml_config.specs.ConfigFile.{Values}
+use Rattle.ml_config.specs.declared.reading.Lines.{Lines}
+
+-- the second step, where the first gave a value
+infixl 10 ◌>>=◌
+abbrev pub ◌>>=◌ : {A B : Type 0} → Option A → (A → Option B) → Option B
+o >>= f = option_and_then f o
+
+-- what a text has behind a name that it begins with
+abbrev pub behind : Text → Text → Option Text
+behind name text = if bytes_eq (take (length name) text) name then Some (drop (length name) text) else None
+
+-- the value of the line that a text begins with, where the line has this name, and the text behind its LF
+unfoldable pub value_at : Text → Text → Option (Text × Text)
+value_at name text = option_and_then (split_first 10) (behind name text)
+
+-- the six values, where no text is left behind them
+abbrev pub with_end : Values → Text → Option Values
+with_end v rest = if length rest == 0 then Some v else None
+
+-- the values of six lines
+unfoldable pub lines_of : Text → Option Values
+lines_of text = do
+  flags ← value_at (codes "flags ") text
+  local ← value_at (codes "local ") flags.1
+  host ← value_at (codes "host ") local.1
+  owner ← value_at (codes "owner ") host.1
+  prefix ← value_at (codes "prefix ") owner.1
+  max ← value_at (codes "max ") prefix.1
+  with_end (record { flags = flags.0; local = local.0; host = host.0; owner = owner.0; prefix = prefix.0; max = max.0 }) max.1
+
+-- the texts of lines
+abbrev pub texts_of : Lines → Values
+texts_of v = record { flags = v.flags.now; local = v.local.now; host = v.host.now; owner = v.owner.now; prefix = v.prefix.now; max = v.max.now }

@@ -1,0 +1,42 @@
+// The configuration is read from the list's files.
+ghost use Rattle.std.specs.Prelude.{◌≡◌, ◌≤◌, IsTrue, IfOk, IfErr, IsErrOf, Some, Option};
+ghost use Rattle.ml_base.specs.Faults.{Rose};
+ghost use Rattle.ml_base.specs.declared.names.Name.{Name};
+ghost use Rattle.ml_base.specs.declared.part.PartError.TheVariants.{Fault, Damaged};
+ghost use Rattle.ml_config.specs.ConfigFile.{IsConfigFile, IsDamagedConfig, IsLoaded, config_name};
+ghost use Rattle.ml_config.specs.declared.configuration.Config.{Config};
+
+use crate::{Config, read_config};
+use ml_base::{Bytes, Files, Name, PartError};
+use std::alloc::Global;
+
+const CONFIG: Name = Name { kind: 1, at: 0 };
+
+/// The configuration that the list's files hold, or None exactly where its file is absent. `Damaged` names that file and
+/// comes only where it is there and holds no configuration. `Fault` comes only where a read failed.
+pub fn load<F: Files>(alloc: Global, files: &mut F) -> Result<Option<Config>, PartError>
+    ensures read { IsTrue F.tells → (c : Config) → IsConfigFile (F.map files.old config_name) c → IfOk result (λ found. found ≡ Some c) }
+    ensures value { IsTrue F.tells → IfOk result (IsLoaded (F.map files.old config_name)) }
+    ensures damaged { IfErr result (λ e. (name : Name) → e ≡ Damaged name → (name ≡ config_name) × (IsTrue F.tells → IsDamagedConfig (F.map files.old config_name))) }
+    ensures kept { F.kept files.old files.new }
+    ensures cause { IsErrOf result Fault → Rose (F.faults files.old) (F.faults files.new) }
+{
+    let file = files.get(alloc, CONFIG)?;
+    loaded(alloc, file)
+}
+
+// The configuration of its file, or None where the file is absent.
+fn loaded(alloc: Global, file: Option<Bytes>) -> Result<Option<Config>, PartError>
+    ensures read { (c : Config) → IsConfigFile file c → IfOk result (λ found. found ≡ Some c) }
+    ensures value { IfOk result (IsLoaded file) }
+    ensures damaged { IfErr result (λ e. (name : Name) → e ≡ Damaged name → (name ≡ config_name) × IsDamagedConfig file) }
+    ensures no_fault { ¬ IsErrOf result Fault }
+{
+    let Some(bytes) = file else {
+        return Ok(None);
+    };
+    match read_config(alloc, bytes.as_slice())? {
+        Some(config) => Ok(Some(config)),
+        None => Err(PartError::Damaged(CONFIG)),
+    }
+}
