@@ -5,6 +5,7 @@ use Rattle.ml_site.specs.Disk.{Contents, Disk, Now}
 use Rattle.ml_site.specs.Moments.{LeavesOnly}
 use Rattle.ml_site.proofs.Steps.{at_start, joins}
 use Rattle.ml_journal.specs.declared.store.Store.{Store}
+use Rattle.ml_journal.specs.Stores.{site_of}
 
 -- what was read, and what was put out
 abbrev pub IsStill : {S : Type 0} → Ghosts S → S → Contents → List ℕ → Type 0
@@ -12,14 +13,14 @@ IsStill told site left out = (left ≡ (told.disk site).reads) × (out ≡ told.
 
 -- What reads give, the images, the output, the syncs and the log bytes are the same, and no fault was forgotten. Every moment since then has what was read and put out before.
 pub record IsKept {S : Type 0} {told : Ghosts S} (old new : Store S told) : Type 0 where
-  pub reads : IsTrue told.tells_reads → (told.disk new.site).reads ≡ (told.disk old.site).reads
-  pub disk_is : IsTrue told.tells_all → told.disk new.site ≡ told.disk old.site
-  pub output_is : IsTrue told.tells_all → told.output new.site ≡ told.output old.site
-  pub moments : IsTrue told.tells_all → LeavesOnly told.moment told.left_since old.site new.site (IsStill told old.site)
-  pub syncs_are : IsTrue told.tells_all → told.syncs new.site ≡ told.syncs old.site
-  pub log_bytes_are : IsTrue told.tells_all → told.log_bytes new.site ≡ told.log_bytes old.site
-  pub disk_faults_are : told.disk_faults old.site ≤ told.disk_faults new.site
-  pub output_faults_are : told.output_faults old.site ≤ told.output_faults new.site
+  pub reads : IsTrue told.tells_reads → (told.disk (site_of new)).reads ≡ (told.disk (site_of old)).reads
+  pub disk_is : IsTrue told.tells_all → told.disk (site_of new) ≡ told.disk (site_of old)
+  pub output_is : IsTrue told.tells_all → told.output (site_of new) ≡ told.output (site_of old)
+  pub moments : IsTrue told.tells_all → LeavesOnly told.moment told.left_since (site_of old) (site_of new) (IsStill told (site_of old))
+  pub syncs_are : IsTrue told.tells_all → told.syncs (site_of new) ≡ told.syncs (site_of old)
+  pub log_bytes_are : IsTrue told.tells_all → told.log_bytes (site_of new) ≡ told.log_bytes (site_of old)
+  pub disk_faults_are : told.disk_faults (site_of old) ≤ told.disk_faults (site_of new)
+  pub output_faults_are : told.output_faults (site_of old) ≤ told.output_faults (site_of new)
 
 -- since this moment there is no other
 abbrev pub OnlyNow : {S : Type 0} → Ghosts S → Type 0
