@@ -40,7 +40,6 @@ fn newest_of(alloc: Global, found: &[FoundPut<'_>]) -> Result<Newest, AllocError
 }
 
 // Adds a put that is older than those that the table has.
-#[tactic(auto, using(crate::proofs::Tables::older_hidden, crate::proofs::Tables::older_added))]
 fn add_older(alloc: Global, newest: &mut Newest, put: FoundPut<'_>) -> Result<(), AllocError>
     requires { IsTrue (is_file put.name) }
     ensures { OnOk result ((files : Dir) → newest_over newest.new files ≡ newest_over newest.old (with_put files (put_of put.entry))) }

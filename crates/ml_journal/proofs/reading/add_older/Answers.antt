@@ -1,8 +1,13 @@
-use Rattle.std.proofs.Common.{rules, ◌≡◌, None}
+use Rattle.std.proofs.Common.{rules, ◌≡◌, None, IsSome}
 use Rattle.ml_journal.specs.Found.{put_of}
 use Rattle.ml_journal.specs.Newest.{newest_of}
-use Rattle.ml_journal.proofs.Tables.{older_set}
+use Rattle.ml_journal.proofs.Tables.{older_hidden, older_set}
 use Rattle.ml_journal.proofs.reading.add_older.Goals as goal
+
+pub returns-then-is_some : goal.returns-then-is_some
+returns-then-is_some c =
+    let some : IsSome (newest_of c.args.newest.now.puts c.args.put.name) = search rules in
+    older_hidden c.args.newest.now.puts (put_of c.args.put) some
 
 pub returns : goal.returns
 returns c =
