@@ -1,4 +1,7 @@
 // Whole runs of the program over memory.
+ghost use Rattle.std.specs.Prelude.{IsTrue};
+ghost use Rattle.ml_base.specs.Name.{is_file};
+
 mod faults;
 mod grammar;
 mod runs;
@@ -6,9 +9,10 @@ mod sets;
 
 use crate::commands::ezmlm_main;
 use ml_base::{Bytes, Name, Numbers};
-use ml_site::{Image, MemClock, MemSite, MemSource};
+use ml_site::{Image, MemClock, MemSite, MemSource, Site};
 use std::alloc::Global;
 use std::collections::BTreeMap;
+use std::process::Abort;
 use std::test::Fail;
 
 // The elements of these begin at 0, 1, 5, 19 and 26, and each of them has 32 bytes.
@@ -75,4 +79,29 @@ fn command(
 // Runs the program on a stream, and answers the status and the site.
 fn spool(alloc: Global, pieces: &[&[u8]], site: MemSite) -> Result<(u8, MemSite), Fail> {
     command(alloc, &["spool"], &mut source(alloc, pieces, &[])?, site)
+}
+
+// Runs the program on a stream over a site without files, whose named calls fail, and compares status and output.
+fn ends(
+    rt: &impl Abort,
+    alloc: Global,
+    pieces: &[&[u8]],
+    fail: &[u64],
+    status: u8,
+    output: &[u8],
+) -> Result<(), Fail> {
+    let (found, site) = spool(alloc, pieces, empty(alloc, fail)?)?;
+    assert_eq!(rt; found, status, "at {pieces:?}, calls {fail:?}");
+    assert_eq!(rt; site.output(), output, "at {pieces:?}, calls {fail:?}");
+    Ok(())
+}
+
+// The bytes of a file that is there.
+fn file(alloc: Global, site: &mut MemSite, name: Name) -> Result<Bytes, Fail>
+    requires { IsTrue (is_file name) }
+{
+    match site.read_file(alloc, name)? {
+        Some(bytes) => Ok(bytes),
+        None => Err(Fail::new("a file is absent")),
+    }
 }

@@ -51,6 +51,40 @@ fn remove(site: &mut RealSite<'_>, alloc: Global, name: Name) -> Result<(), Site
     }
 }
 
+fn is_absent(site: &mut RealSite<'_>, alloc: Global, name: Name) -> Result<bool, SiteError> {
+    Ok(read(site, alloc, name)?.is_none())
+}
+
+fn is_kept(site: &mut RealSite<'_>, alloc: Global, name: Name) -> Result<bool, SiteError> {
+    match read(site, alloc, name)? {
+        Some(bytes) => Ok(bytes.as_slice() == b"kept".as_slice()),
+        None => Ok(false),
+    }
+}
+
+// Writes a file that is absent, a longer text first.
+fn write_twice(site: &mut RealSite<'_>, alloc: Global, name: Name) -> Result<(), Fail> {
+    if !is_absent(site, alloc, name)? {
+        return Err(Fail::new("a file is there before it was written"));
+    }
+    write(site, alloc, name, b"longer at first")?;
+    write(site, alloc, name, b"kept")?;
+    Ok(())
+}
+
+// Removes a file that was kept, and once more.
+fn remove_twice(site: &mut RealSite<'_>, alloc: Global, name: Name) -> Result<(), Fail> {
+    if !is_kept(site, alloc, name)? {
+        return Err(Fail::new("a file was not kept"));
+    }
+    remove(site, alloc, name)?;
+    remove(site, alloc, name)?;
+    if !is_absent(site, alloc, name)? {
+        return Err(Fail::new("a file is there behind its removal"));
+    }
+    Ok(())
+}
+
 #[test]
 fn files_are_found_by_the_next_run(rt: HostRuntime) -> Result<(), Fail> {
     let (dir, alloc) = ("real_files/list", rt.alloc());
@@ -64,13 +98,7 @@ fn files_are_found_by_the_next_run(rt: HostRuntime) -> Result<(), Fail> {
     ];
     let mut site = RealSite::new(&rt, dir);
     for (name, _) in names {
-        assert_eq!(rt;
-            read(&mut site, alloc, name)?.is_none(),
-            true,
-            "before {name:?}"
-        );
-        write(&mut site, alloc, name, b"longer at first")?;
-        write(&mut site, alloc, name, b"kept")?;
+        write_twice(&mut site, alloc, name)?;
     }
     site.sync()?;
     drop(site);
@@ -81,17 +109,7 @@ fn files_are_found_by_the_next_run(rt: HostRuntime) -> Result<(), Fail> {
             b"kept".as_slice(),
             "at {path}"
         );
-        let Some(found) = read(&mut site, alloc, name)? else {
-            return Err(Fail::new("a file is gone"));
-        };
-        assert_eq!(rt; found.as_slice(), b"kept".as_slice(), "of {name:?}");
-        remove(&mut site, alloc, name)?;
-        remove(&mut site, alloc, name)?;
-        assert_eq!(rt;
-            read(&mut site, alloc, name)?.is_none(),
-            true,
-            "behind {name:?}"
-        );
+        remove_twice(&mut site, alloc, name)?;
     }
     remove(&mut site, alloc, name(13, 1))?;
     site.sync()?;

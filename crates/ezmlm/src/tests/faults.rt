@@ -1,6 +1,8 @@
 // Reads, writes, syncs and puts that fail.
-use super::{A_B, C_D, command, empty, source, spool};
+use super::{A_B, C_D, command, empty, ends, source};
 use ml_run::{Ending, run};
+use std::alloc::Global;
+use std::process::Abort;
 use std::test::Fail;
 
 #[test]
@@ -24,9 +26,7 @@ fn a_failing_disk_or_output_ends_the_run(rt: HostRuntime) -> Result<(), Fail> {
         (&[6, 7], 73, b"7 0 subscribed\n"),
     ];
     for (fail, status, output) in table {
-        let (found, site) = spool(alloc, &[A_B, C_D], empty(alloc, fail)?)?;
-        assert_eq!(rt; found, status, "calls {fail:?}");
-        assert_eq!(rt; site.output(), output, "calls {fail:?}");
+        ends(&rt, alloc, &[A_B, C_D], fail, status, output)?;
     }
     Ok(())
 }
@@ -46,14 +46,32 @@ fn a_failing_input_ends_the_run(rt: HostRuntime) -> Result<(), Fail> {
         (&[38], 0, b"7 0 subscribed\n8 0 subscribed\n"),
     ];
     for (fail, status, output) in table {
-        let input = &mut source(alloc, &[A_B, C_D], fail)?;
-        let (found, site) = command(alloc, &["spool"], input, empty(alloc, &[])?)?;
-        assert_eq!(rt; found, status, "reads {fail:?}");
-        assert_eq!(rt; site.output(), output, "reads {fail:?}");
+        reads_end(&rt, alloc, &[A_B, C_D], fail, status, output)?;
     }
-    // The read that asks for more than the limit.
-    let input = &mut source(alloc, &[A_B, C_D], &[19])?;
-    let (ending, site) = run(alloc, 1, input, empty(alloc, &[])?);
+    Ok(())
+}
+
+// Runs the program on a stream whose named reads fail, over a site without files, and compares status and output.
+fn reads_end(
+    rt: &impl Abort,
+    alloc: Global,
+    pieces: &[&[u8]],
+    fail: &[u64],
+    status: u8,
+    output: &[u8],
+) -> Result<(), Fail> {
+    let mut input = source(alloc, pieces, fail)?;
+    let (found, site) = command(alloc, &["spool"], &mut input, empty(alloc, &[])?)?;
+    assert_eq!(rt; found, status, "reads {fail:?}");
+    assert_eq!(rt; site.output(), output, "reads {fail:?}");
+    Ok(())
+}
+
+#[test]
+fn the_read_behind_the_limit_fails(rt: HostRuntime) -> Result<(), Fail> {
+    let alloc = rt.alloc();
+    let mut input = source(alloc, &[A_B, C_D], &[19])?;
+    let (ending, site) = run(alloc, 1, &mut input, empty(alloc, &[])?);
     let expected = Ending {
         status: 74,
         answered: 1,

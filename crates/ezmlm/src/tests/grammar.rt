@@ -1,7 +1,7 @@
 // Where a stream is bad or cut short, and what it takes at its limits.
-use super::{A_B, A_B_AGAIN, SUBSCRIBERS, empty, spool};
+use super::{A_B, A_B_AGAIN, SUBSCRIBERS, empty, ends, file, spool};
 use ml_base::Bytes;
-use ml_site::Site;
+use std::alloc::Global;
 use std::test::Fail;
 
 // The first bytes of the elements of two items, and of what would follow them.
@@ -18,6 +18,21 @@ fn short_element(cut: usize) -> usize {
     place
 }
 
+// What the program puts out where the stream of the two items ends at this byte.
+fn cut_output(alloc: Global, cut: usize) -> Result<String, Fail> {
+    let answers = if cut < 32 {
+        ""
+    } else if cut < 64 {
+        "7 0 subscribed\n"
+    } else {
+        "7 0 subscribed\n8 0 already\n"
+    };
+    if cut % 32 == 0 {
+        return Ok(String::from_str(alloc, answers)?);
+    }
+    Ok(format!(in alloc; "{answers}- 65 short {}\n", short_element(cut))?)
+}
+
 #[test]
 fn a_stream_that_is_cut_ends_in_a_short_element(rt: HostRuntime) -> Result<(), Fail> {
     let alloc = rt.alloc();
@@ -26,23 +41,9 @@ fn a_stream_that_is_cut_ends_in_a_short_element(rt: HostRuntime) -> Result<(), F
     assert_eq!(rt; whole.len(), 64);
     for cut in 0..=whole.len() {
         let stream = &whole.as_slice()[..cut];
-        let (status, site) = spool(alloc, &[stream], empty(alloc, &[])?)?;
-        let answers = if cut < 32 {
-            ""
-        } else if cut < 64 {
-            "7 0 subscribed\n"
-        } else {
-            "7 0 subscribed\n8 0 already\n"
-        };
-        let (expected, stop) = if cut == 0 || cut == 32 || cut == 64 {
-            (0, String::new(alloc))
-        } else {
-            let stop = format!(in alloc; "- 65 short {}\n", short_element(cut))?;
-            (65, stop)
-        };
-        let output = format!(in alloc; "{answers}{stop}")?;
-        assert_eq!(rt; status, expected, "cut at {cut}");
-        assert_eq!(rt; site.output(), output.as_bytes(), "cut at {cut}");
+        let output = cut_output(alloc, cut)?;
+        let status = if cut % 32 == 0 { 0 } else { 65 };
+        ends(&rt, alloc, &[stream], &[], status, output.as_bytes())?;
     }
     Ok(())
 }
@@ -76,9 +77,7 @@ fn numbers_and_moments_keep_their_limits(rt: HostRuntime) -> Result<(), Fail> {
         (b"a1:7,10:1000000000,4:list,3:a@b,", 65, b"- 65 bad 0\n"),
     ];
     for (stream, status, output) in table {
-        let (found, site) = spool(alloc, &[stream], empty(alloc, &[])?)?;
-        assert_eq!(rt; found, status, "at {stream:?}");
-        assert_eq!(rt; site.output(), output, "at {stream:?}");
+        ends(&rt, alloc, &[stream], &[], status, output)?;
     }
     Ok(())
 }
@@ -110,38 +109,39 @@ fn words_and_addresses_keep_their_limits(rt: HostRuntime) -> Result<(), Fail> {
         (b"4:list,3:a@b;", 65, b"- 65 bad 26\n"),
     ];
     for (rest, status, output) in table {
-        let (found, site) = spool(alloc, &[b"A1:7,10:1000000000,", rest], empty(alloc, &[])?)?;
-        assert_eq!(rt; found, status, "at {rest:?}");
-        assert_eq!(rt; site.output(), output, "at {rest:?}");
+        let pieces: [&[u8]; 2] = [b"A1:7,10:1000000000,", rest];
+        ends(&rt, alloc, &pieces, &[], status, output)?;
     }
     Ok(())
+}
+
+// 398 letters with some bytes before and behind them.
+fn around_398(alloc: Global, before: &[u8], behind: &[u8]) -> Result<Bytes, Fail> {
+    let mut text = Bytes::from_slice(alloc, before)?;
+    for _ in 0..398 {
+        text.push(b'x')?;
+    }
+    text.extend(behind)?;
+    Ok(text)
 }
 
 #[test]
 fn an_address_has_at_most_400_bytes(rt: HostRuntime) -> Result<(), Fail> {
     let alloc = rt.alloc();
-    let mut local = Bytes::new(alloc);
-    for _ in 0..398 {
-        local.push(b'x')?;
-    }
-    let mut longest = Bytes::from_slice(alloc, b"A1:7,10:1000000000,4:list,400:")?;
-    longest.extend(local.as_slice())?;
-    longest.extend(b"@B,")?;
+    let longest = around_398(alloc, b"A1:7,10:1000000000,4:list,400:", b"@B,")?;
     let (status, mut site) = spool(alloc, &[longest.as_slice()], empty(alloc, &[])?)?;
     assert_eq!(rt; status, 0);
-    assert_eq!(rt; site.output(), b"7 0 subscribed\n".as_slice());
-    let Some(file) = site.read_file(alloc, SUBSCRIBERS)? else {
-        return Err(Fail::new("the set's file is absent"));
-    };
-    let mut record = Bytes::from_slice(alloc, b"T")?;
-    record.extend(local.as_slice())?;
-    record.extend(b"@b\0")?;
-    assert_eq!(rt; file.as_slice(), record.as_slice());
-    let mut longer = Bytes::from_slice(alloc, b"A1:7,10:1000000000,4:list,401:")?;
-    longer.extend(local.as_slice())?;
-    longer.extend(b"@bc,")?;
-    let (status, site) = spool(alloc, &[longer.as_slice()], empty(alloc, &[])?)?;
-    assert_eq!(rt; status, 65);
-    assert_eq!(rt; site.output(), b"- 65 bad 26\n".as_slice());
+    let stored = file(alloc, &mut site, SUBSCRIBERS)?;
+    assert_eq!(rt;
+        stored.as_slice(),
+        around_398(alloc, b"T", b"@b\0")?.as_slice()
+    );
     Ok(())
+}
+
+#[test]
+fn an_address_of_401_bytes_is_bad(rt: HostRuntime) -> Result<(), Fail> {
+    let alloc = rt.alloc();
+    let longer = around_398(alloc, b"A1:7,10:1000000000,4:list,401:", b"@bc,")?;
+    ends(&rt, alloc, &[longer.as_slice()], &[], 65, b"- 65 bad 26\n")
 }

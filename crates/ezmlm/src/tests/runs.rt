@@ -1,7 +1,8 @@
 // What the program answers, and how its runs end.
-use super::{A_B, A_B_AGAIN, C_D, SUBSCRIBERS, command, empty, source, spool};
+use super::{A_B, A_B_AGAIN, C_D, SUBSCRIBERS, command, empty, ends, file, source, spool};
 use ml_run::{Ending, run};
-use ml_site::Site;
+use std::alloc::Global;
+use std::process::Abort;
 use std::test::Fail;
 
 #[test]
@@ -24,15 +25,11 @@ fn a_stream_is_answered_and_stored(rt: HostRuntime) -> Result<(), Fail> {
         ),
     ];
     for (pieces, status, output) in table {
-        let (found, site) = spool(alloc, pieces, empty(alloc, &[])?)?;
-        assert_eq!(rt; found, status, "at {pieces:?}");
-        assert_eq!(rt; site.output(), output, "at {pieces:?}");
+        ends(&rt, alloc, pieces, &[], status, output)?;
     }
     let (_, mut site) = spool(alloc, &[A_B, A_B_AGAIN], empty(alloc, &[])?)?;
-    let Some(file) = site.read_file(alloc, SUBSCRIBERS)? else {
-        return Err(Fail::new("the set's file is absent"));
-    };
-    assert_eq!(rt; file.as_slice(), b"Ta@b\0".as_slice());
+    let stored = file(alloc, &mut site, SUBSCRIBERS)?;
+    assert_eq!(rt; stored.as_slice(), b"Ta@b\0".as_slice());
     Ok(())
 }
 
@@ -51,58 +48,65 @@ fn words_that_are_no_command_are_told_so(rt: HostRuntime) -> Result<(), Fail> {
         (&["spol"], &[1], 73, b""),
     ];
     for (words, fail, status, output) in table {
-        let input = &mut source(alloc, &[A_B], &[])?;
-        let (found, site) = command(alloc, words, input, empty(alloc, fail)?)?;
-        assert_eq!(rt; found, status, "at {words:?}");
-        assert_eq!(rt; site.output(), output, "at {words:?}");
+        words_end(&rt, alloc, words, fail, status, output)?;
     }
+    Ok(())
+}
+
+// Runs the program with these words over a site without files, whose named calls fail, and compares status and output.
+fn words_end(
+    rt: &impl Abort,
+    alloc: Global,
+    words: &[&str],
+    fail: &[u64],
+    status: u8,
+    output: &[u8],
+) -> Result<(), Fail> {
+    let mut input = source(alloc, &[A_B], &[])?;
+    let (found, site) = command(alloc, words, &mut input, empty(alloc, fail)?)?;
+    assert_eq!(rt; found, status, "at {words:?}");
+    assert_eq!(rt; site.output(), output, "at {words:?}");
     Ok(())
 }
 
 #[test]
 fn a_run_ends_at_its_limit(rt: HostRuntime) -> Result<(), Fail> {
     let alloc = rt.alloc();
+    let one: &[u8] = b"7 0 subscribed\n";
+    let two: &[u8] = b"7 0 subscribed\n8 0 already\n";
+    let two_and_more: &[u8] = b"7 0 subscribed\n8 0 already\n- 72 more\n";
+    let other: &[u8] = b"7 0 subscribed\n8 0 subscribed\n";
     let table: [(u64, &[&[u8]], &[u64], u8, u64, &[u8]); 8] = [
         (0, &[], &[], 0, 0, b""),
         (0, &[A_B], &[], 72, 0, b"- 72 more\n"),
         (0, &[A_B], &[1], 73, 0, b""),
-        (1, &[A_B], &[], 0, 1, b"7 0 subscribed\n"),
-        (
-            2,
-            &[A_B, A_B_AGAIN],
-            &[],
-            0,
-            2,
-            b"7 0 subscribed\n8 0 already\n",
-        ),
-        (
-            2,
-            &[A_B, A_B_AGAIN, C_D],
-            &[],
-            72,
-            2,
-            b"7 0 subscribed\n8 0 already\n- 72 more\n",
-        ),
+        (1, &[A_B], &[], 0, 1, one),
+        (2, &[A_B, A_B_AGAIN], &[], 0, 2, two),
+        (2, &[A_B, A_B_AGAIN, C_D], &[], 72, 2, two_and_more),
         // Any further byte is more, also one with which no item begins.
         (1, &[A_B, b"Q"], &[], 72, 1, b"7 0 subscribed\n- 72 more\n"),
-        (
-            3,
-            &[A_B, C_D],
-            &[],
-            0,
-            2,
-            b"7 0 subscribed\n8 0 subscribed\n",
-        ),
+        (3, &[A_B, C_D], &[], 0, 2, other),
     ];
     for (limit, pieces, fail, status, answered, output) in table {
-        let input = &mut source(alloc, pieces, &[])?;
-        let (ending, site) = run(alloc, limit, input, empty(alloc, fail)?);
-        assert_eq!(rt;
-            ending,
-            Ending { status, answered },
-            "limit {limit} at {pieces:?}"
-        );
-        assert_eq!(rt; site.output(), output, "limit {limit} at {pieces:?}");
+        let expected = Ending { status, answered };
+        run_ends(&rt, alloc, limit, pieces, fail, expected, output)?;
     }
+    Ok(())
+}
+
+// Runs a stream up to a limit over a site without files, whose named calls fail, and compares its end and output.
+fn run_ends(
+    rt: &impl Abort,
+    alloc: Global,
+    limit: u64,
+    pieces: &[&[u8]],
+    fail: &[u64],
+    expected: Ending,
+    output: &[u8],
+) -> Result<(), Fail> {
+    let mut input = source(alloc, pieces, &[])?;
+    let (ending, site) = run(alloc, limit, &mut input, empty(alloc, fail)?);
+    assert_eq!(rt; ending, expected, "limit {limit} at {pieces:?}");
+    assert_eq!(rt; site.output(), output, "limit {limit} at {pieces:?}");
     Ok(())
 }

@@ -1,9 +1,10 @@
 // The files of the sets.
-use super::{A_B, SUBSCRIBERS, empty, source, spool, with_file};
+use super::{A_B, SUBSCRIBERS, empty, file, source, spool, with_file};
 use ml_base::{Bytes, Name};
 use ml_run::{Ending, run};
-use ml_site::Site;
+use ml_site::{MemSite, Site};
 use std::alloc::Global;
+use std::process::Abort;
 use std::test::Fail;
 
 #[test]
@@ -26,10 +27,10 @@ fn each_set_has_a_file_of_its_own(rt: HostRuntime) -> Result<(), Fail> {
         (7, b"Ta@m\0"),
     ];
     for (kind, expected) in table {
-        let Some(file) = site.read_file(alloc, Name { kind, at: 0 })? else {
+        let Some(found) = site.read_file(alloc, Name { kind, at: 0 })? else {
             return Err(Fail::new("a set's file is absent"));
         };
-        assert_eq!(rt; file.as_slice(), expected, "of kind {kind}");
+        assert_eq!(rt; found.as_slice(), expected, "of kind {kind}");
     }
     Ok(())
 }
@@ -37,53 +38,50 @@ fn each_set_has_a_file_of_its_own(rt: HostRuntime) -> Result<(), Fail> {
 #[test]
 fn a_damaged_file_is_named(rt: HostRuntime) -> Result<(), Fail> {
     let alloc = rt.alloc();
-    let list: &[u8] = b"4:list,3:a@b,";
     let told: &[u8] = b"7 75 subscribers/@\n";
-    let table: [(u8, &[u8], &[u8], &[u64], u8, &[u8]); 8] = [
-        (3, b"Ta@b", list, &[], 75, told),
-        (3, b"Ta@b\0T", list, &[], 75, told),
-        (3, b"a@b\0", list, &[], 75, told),
-        // The read is the first call, and the stop line the second.
-        (3, b"Ta@b", list, &[2], 73, b""),
-        (
-            4,
-            b"T",
-            b"6:digest,3:a@b,",
-            &[],
-            75,
-            b"7 75 digest/subscribers/@\n",
-        ),
-        (
-            5,
-            b"T",
-            b"5:allow,3:a@b,",
-            &[],
-            75,
-            b"7 75 allow/subscribers/@\n",
-        ),
-        (
-            6,
-            b"T",
-            b"4:deny,3:a@b,",
-            &[],
-            75,
-            b"7 75 deny/subscribers/@\n",
-        ),
-        (
-            7,
-            b"T",
-            b"3:mod,3:a@b,",
-            &[],
-            75,
-            b"7 75 mod/subscribers/@\n",
-        ),
+    // The read is the first call, and the stop line the second.
+    let table: [(&[u8], &[u64], u8, &[u8]); 4] = [
+        (b"Ta@b", &[], 75, told),
+        (b"Ta@b\0T", &[], 75, told),
+        (b"a@b\0", &[], 75, told),
+        (b"Ta@b", &[2], 73, b""),
     ];
-    for (kind, bytes, rest, fail, status, output) in table {
-        let site = with_file(alloc, Name { kind, at: 0 }, bytes, fail)?;
-        let (found, site) = spool(alloc, &[b"A1:7,10:1000000000,", rest], site)?;
-        assert_eq!(rt; found, status, "at {bytes:?} of kind {kind}");
-        assert_eq!(rt; site.output(), output, "at {bytes:?} of kind {kind}");
+    for (bytes, fail, status, output) in table {
+        let site = with_file(alloc, SUBSCRIBERS, bytes, fail)?;
+        ends_over(&rt, alloc, site, b"4:list,3:a@b,", status, output)?;
     }
+    Ok(())
+}
+
+#[test]
+fn the_damaged_file_of_each_set_is_named(rt: HostRuntime) -> Result<(), Fail> {
+    let alloc = rt.alloc();
+    let table: [(u8, &[u8], &[u8]); 4] = [
+        (4, b"6:digest,3:a@b,", b"7 75 digest/subscribers/@\n"),
+        (5, b"5:allow,3:a@b,", b"7 75 allow/subscribers/@\n"),
+        (6, b"4:deny,3:a@b,", b"7 75 deny/subscribers/@\n"),
+        (7, b"3:mod,3:a@b,", b"7 75 mod/subscribers/@\n"),
+    ];
+    for (kind, rest, output) in table {
+        let site = with_file(alloc, Name { kind, at: 0 }, b"T", &[])?;
+        ends_over(&rt, alloc, site, rest, 75, output)?;
+    }
+    Ok(())
+}
+
+// Runs an item, of which this is the end, over a site, and compares status and output.
+fn ends_over(
+    rt: &impl Abort,
+    alloc: Global,
+    site: MemSite,
+    rest: &[u8],
+    status: u8,
+    output: &[u8],
+) -> Result<(), Fail> {
+    let pieces: [&[u8]; 2] = [b"A1:7,10:1000000000,", rest];
+    let (found, site) = spool(alloc, &pieces, site)?;
+    assert_eq!(rt; found, status, "at {rest:?}");
+    assert_eq!(rt; site.output(), output, "at {rest:?}");
     Ok(())
 }
 
@@ -114,10 +112,8 @@ fn a_set_takes_100_000_members(rt: HostRuntime) -> Result<(), Fail> {
         site.output(),
         b"6 0 subscribed\n7 0 already\n8 0 already\n9 100 full\n".as_slice()
     );
-    let Some(file) = site.read_file(alloc, SUBSCRIBERS)? else {
-        return Err(Fail::new("the set's file is absent"));
-    };
-    assert!(rt; file.as_slice() == members(alloc, 100_000)?.as_slice());
+    let stored = file(alloc, &mut site, SUBSCRIBERS)?;
+    assert!(rt; stored.as_slice() == members(alloc, 100_000)?.as_slice());
     // The status of a run is that of its last item.
     let (ending, _) = run(alloc, 1, &mut source(alloc, &[A_B], &[])?, site);
     let expected = Ending {
