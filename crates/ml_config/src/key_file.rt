@@ -16,16 +16,16 @@ const KEY: Name = Name { kind: 2, at: 0 };
 // The first second of the year 10000, counted from 1970.
 const END_OF_MOMENTS: u64 = 253_402_300_800;
 
-/// A key that another has replaced.
-#[derive(Clone, Copy, Debug, PartialEq, Eq)]
+/// A key that another has replaced. A key is a secret, so it has no `Debug`.
+#[derive(Clone, Copy, PartialEq, Eq)]
 pub struct Former {
     pub key: [u8; 32],
     /// When it was replaced, in seconds since 1970 and before the year 10000.
     pub changed: u64,
 }
 
-/// The key of a list, and the one before it where the key was changed.
-#[derive(Clone, Copy, Debug, PartialEq, Eq)]
+/// The key of a list, and the one before it where the key was changed. Keys are secrets, so they have no `Debug`.
+#[derive(Clone, Copy, PartialEq, Eq)]
 pub struct Keys {
     pub key: [u8; 32],
     pub former: Option<Former>,

@@ -6,11 +6,11 @@ ghost use Rattle.ml_base.specs.Name.{is_file};
 ghost use Rattle.ml_base.specs.declared.files.FilesError.TheVariants.{Fault as FileFault};
 ghost use Rattle.std.proofs.Common.{ap};
 ghost use Rattle.ml_site.specs.Disk.{IsAtRest, Elapses, Now};
-ghost use Rattle.ml_site.specs.Moments.{LeavesOnly, Opened, OpensTo};
+ghost use Rattle.ml_site.specs.Moments.{LeavesOnly};
 ghost use Rattle.ml_journal.specs.declared.errors.CommitError.TheVariants.{Fault as CommitFault};
 ghost use Rattle.ml_journal.specs.declared.errors.OpenError.TheVariants.{Fault as OpenFault, Damaged as OpenDamaged};
 ghost use Rattle.ml_journal.specs.Log.{directory};
-ghost use Rattle.ml_journal.specs.Moments.{with_txn, IsOld, IsOldOrNew, IsGiving};
+ghost use Rattle.ml_journal.specs.Moments.{with_txn, FromFirstSync, IsOld, IsOldOrNew, IsGiving};
 ghost use Rattle.ml_journal.specs.Newest.{with_newest};
 ghost use Rattle.ml_journal.specs.Records.{content_size};
 ghost use Rattle.ml_journal.specs.Rows.{IsRow};
@@ -59,9 +59,11 @@ impl<S: Site> Store<S> {
         ensures rest { IsTrue S.tells_all → IfOk result (λ store. IsAtRest (S.disk (site_of store))) }
 
         // At each moment, and where something is pending at the start from the first good sync.
-        ensures moments { IsTrue S.tells_all → IfOk result (λ store. Opened S.moment S.left_since site (site_of store)
+        ensures moments { IsTrue S.tells_all → IfOk result (λ store. FromFirstSync S.moment S.left_since S.syncs site (site_of store)
             (Now (S.disk site) (S.output site)) (IsOld (directory (S.disk site).reads) (S.output site))) }
-        ensures moments_err { IsTrue S.tells_all → IfErr result (λ e. OpensTo S.moment S.left_since site e.1
+        ensures moments_err { IsTrue S.tells_all → IfErr result (λ e.
+            ((e.0 ≡ OpenFault) × LeavesOnly S.moment S.left_since site e.1 (Now (S.disk site) (S.output site)))
+            ⊎ FromFirstSync S.moment S.left_since S.syncs site e.1
             (Now (S.disk site) (S.output site)) (IsOld (directory (S.disk site).reads) (S.output site))) }
         ensures at_rest { IsTrue S.tells_all → IsAtRest (S.disk site) → IfOk result (λ store. LeavesOnly S.moment S.left_since site (site_of store)
             (IsOld (directory (S.disk site).reads) (S.output site))) }

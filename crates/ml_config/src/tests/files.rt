@@ -126,9 +126,9 @@ fn tells_absent_files_and_failing_reads(rt: HostRuntime) -> Result<(), Fail> {
     fail.push(4)?;
     let mut files = MapFiles::new(BTreeMap::new(alloc), fail);
     assert!(rt; load(alloc, &mut files)?.is_none());
-    assert_eq!(rt; key(alloc, &mut files), Err(PartError::Damaged(KEY)));
+    assert!(rt; key(alloc, &mut files) == Err(PartError::Damaged(KEY)));
     assert!(rt; matches!(load(alloc, &mut files), Err(PartError::Fault)));
-    assert_eq!(rt; key(alloc, &mut files), Err(PartError::Fault));
+    assert!(rt; key(alloc, &mut files) == Err(PartError::Fault));
     Ok(())
 }
 
@@ -148,19 +148,15 @@ fn reads_keys(rt: HostRuntime) -> Result<(), Fail> {
         (73, false),
     ] {
         let mut files = with_file(alloc, KEY, &bytes[..len])?;
-        let answer = key(alloc, &mut files);
-        if is_taken {
-            assert_eq!(rt;
-                answer,
-                Ok(Keys {
-                    key: [7; 32],
-                    former: None
-                }),
-                "{len} bytes"
-            );
+        let expected = if is_taken {
+            Ok(Keys {
+                key: [7; 32],
+                former: None,
+            })
         } else {
-            assert_eq!(rt; answer, Err(PartError::Damaged(KEY)), "{len} bytes");
-        }
+            Err(PartError::Damaged(KEY))
+        };
+        assert!(rt; key(alloc, &mut files) == expected, "{len} bytes");
     }
     bytes[64..72].copy_from_slice(&[0, 0, 0, 58, 255, 244, 65, 127]);
     let former = Former {
@@ -168,13 +164,11 @@ fn reads_keys(rt: HostRuntime) -> Result<(), Fail> {
         changed: 253_402_300_799,
     };
     let mut files = with_file(alloc, KEY, &bytes[..72])?;
-    assert_eq!(rt;
-        key(alloc, &mut files)?,
-        Keys {
-            key: [7; 32],
-            former: Some(former)
-        }
-    );
+    let keys = Keys {
+        key: [7; 32],
+        former: Some(former),
+    };
+    assert!(rt; key(alloc, &mut files)? == keys);
     Ok(())
 }
 
@@ -191,6 +185,6 @@ fn reads_the_keys_that_were_set(rt: HostRuntime) -> Result<(), Fail> {
     };
     let files = MapFiles::new(BTreeMap::new(alloc), Numbers::new(alloc));
     let mut layer = Layer::new(files, set_keys(alloc, &keys)?);
-    assert_eq!(rt; key(alloc, &mut layer)?, keys);
+    assert!(rt; key(alloc, &mut layer)? == keys);
     Ok(())
 }

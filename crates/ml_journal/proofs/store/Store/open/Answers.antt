@@ -1,4 +1,4 @@
-use Rattle.std.proofs.Common.{◌∙◌, inl, inr, ap, arith}
+use Rattle.std.proofs.Common.{rules, ◌≡◌, ◌+◌, OnOk, ◌∙◌, refl, inl, inr, ap, arith}
 use Rattle.ml_site.specs.Disk.{Now}
 use Rattle.ml_site.proofs.Steps.{after_sync, weaker, whole_of, rest_contents}
 use Rattle.ml_journal.specs.Log.{directory}
@@ -20,8 +20,11 @@ invariant_of-result g c = record {
 pub returns-then-is_err-clause-moments_err : goal.returns-then-is_err-clause-moments_err
 returns-then-is_err-clause-moments_err g c = λ told.
     let site = c.args.site in
-    inl (after_sync g.S.Site.moment g.S.Site.left_since g.S.Site.disk g.S.Site.output (λ s left out l. g.met.S.Site.only_now s left out told l)
-    site c.sync.new.self (c.sync.ensures.crash told) (c.sync.ensures.output told) (c.sync.ensures.time told))
+    inl (
+      refl,
+      after_sync g.S.Site.moment g.S.Site.left_since g.S.Site.disk g.S.Site.output (λ s left out l. g.met.S.Site.only_now s left out told l)
+          site c.sync.new.self (c.sync.ensures.crash told) (c.sync.ensures.output told) (c.sync.ensures.time told),
+    )
 
 pub returns-then-is_err-clause-at_rest_err : goal.returns-then-is_err-clause-at_rest_err
 returns-then-is_err-clause-at_rest_err g c = λ told rest.
@@ -33,8 +36,11 @@ returns-then-is_err-clause-at_rest_err g c = λ told rest.
 
 pub returns-in-Ok-clause-moments : goal.returns-in-Ok-clause-moments
 returns-in-Ok-clause-moments g c = λ told.
-    let site = c.args.site in (
+    let site = c.args.site in
+    let counted : OnOk c.sync.result (g.S.Site.syncs c.sync.new.self ≡ g.S.Site.syncs site + 1) = c.sync.ensures.syncs_ok told in
+    let one_more : g.S.Site.syncs c.sync.new.self ≡ g.S.Site.syncs site + 1 = search rules in (
       c.sync.new.self,
+      one_more,
       after_sync g.S.Site.moment g.S.Site.left_since g.S.Site.disk g.S.Site.output (λ s left out l. g.met.S.Site.only_now s left out told l)
           site c.sync.new.self (c.sync.ensures.crash told) (c.sync.ensures.output told) (c.sync.ensures.time told),
       weaker g.S.Site.moment g.S.Site.left_since c.sync.new.self c.open_at_rest.new.site (IsOld (directory (g.S.Site.disk c.sync.new.self).reads) (g.S.Site.output c.sync.new.self)) (IsOld (directory (g.S.Site.disk site).reads) (g.S.Site.output site))
@@ -57,8 +63,11 @@ returns-in-Ok-clause-at_rest g c = λ told rest.
 pub returns-in-Err-clause-moments_err : goal.returns-in-Err-clause-moments_err
 returns-in-Err-clause-moments_err g c = λ told.
     let site = c.args.site in
+    let counted : OnOk c.sync.result (g.S.Site.syncs c.sync.new.self ≡ g.S.Site.syncs site + 1) = c.sync.ensures.syncs_ok told in
+    let one_more : g.S.Site.syncs c.sync.new.self ≡ g.S.Site.syncs site + 1 = search rules in
     inr (
       c.sync.new.self,
+      one_more,
       after_sync g.S.Site.moment g.S.Site.left_since g.S.Site.disk g.S.Site.output (λ s left out l. g.met.S.Site.only_now s left out told l)
           site c.sync.new.self (c.sync.ensures.crash told) (c.sync.ensures.output told) (c.sync.ensures.time told),
       weaker g.S.Site.moment g.S.Site.left_since c.sync.new.self c.open_at_rest.new.site (IsOld (directory (g.S.Site.disk c.sync.new.self).reads) (g.S.Site.output c.sync.new.self)) (IsOld (directory (g.S.Site.disk site).reads) (g.S.Site.output site))
