@@ -5,6 +5,7 @@ use Rattle.std.specs.declared.cmp.Ordering.{Ordering}
 use Rattle.std.specs.declared.cmp.Ordering.TheVariants.{Less, Equal, Greater}
 use Rattle.std.specs.Ordering.{is_lt, is_eq, eq_by_cmp, ordering_reverse}
 use Rattle.std.specs.Cmp.{tied_itself}
+use Rattle.std.specs.Prelude.{◌↔◌}
 use Rattle.std.specs.List.{list_all}
 use Rattle.ml_base.specs.Bytes.{Text}
 use Rattle.ml_base.specs.Address.{key}
@@ -63,3 +64,7 @@ ordered_rising floor (m ∷ ms) e f =
     let parts = and_parts (is_below floor m.who) (list_all (λ m. is_below floor m.who) ms) e in
     let own = and_parts (list_all (λ f. is_below m.who f.who) ms) _ f in
     and_from _ _ parts.0 (ordered_rising m.who ms own.0 own.1)
+
+-- neither of two addresses comes first exactly where their keys are equal
+pub keys_agree : (a b : Text) → (byte_cmp (key a) (key b) ≡ Equal) ↔ (key a ≡ key b)
+keys_agree a b = (same_bytes (key a) (key b), λ same. ap (byte_cmp (key a)) (sym same) ∙ tied_itself bytes_total (key a))

@@ -1,8 +1,10 @@
 // What holds of the files of a set, apart from the code.
-ghost use Rattle.std.specs.Prelude.{◌≡◌, ◌≢◌, ◌<◌, ◌≤◌, ◌+◌, true, false, [], List, ℕ, Option, Some, None, length};
+ghost use Rattle.std.specs.Prelude.{◌≡◌, ◌≢◌, ◌↔◌, ◌<◌, ◌≤◌, ◌+◌, true, false, [], List, ℕ, Option, Some, None, length};
 ghost use Rattle.std.specs.List.{AllByRecursion};
 ghost use Rattle.ml_base.specs.Bytes.{Text};
-ghost use Rattle.ml_base.specs.Address.{IsAddress};
+ghost use Rattle.std.specs.declared.cmp.Ordering.TheVariants.{Equal};
+ghost use Rattle.ml_base.specs.Address.{IsAddress, key};
+ghost use Rattle.ml_base.specs.Sorted.{byte_cmp};
 ghost use Rattle.ml_base.specs.Dir.{Dir, with_puts, touches_only};
 ghost use Rattle.ml_base.specs.declared.names.Name.{Name};
 ghost use Rattle.ml_base.specs.declared.names.Set.{Set};
@@ -12,6 +14,12 @@ ghost use Rattle.ml_subs.specs.Members.{member_key, has_key, with_member, withou
 ghost use Rattle.ml_subs.specs.Buckets.{bucket_of, bucket_file, IsBucketFile};
 ghost use Rattle.ml_subs.specs.Subscribers.{AreJoined, AreSubscribers, Breaks, bucket_name, count_name, count_text, is_of_set, is_touched};
 ghost use Rattle.ml_subs.specs.Answers.{changes};
+
+/// Neither of two addresses comes before the other exactly where their keys are equal, and so where `Address::same` holds
+/// of them: the order in which members stand tells addresses apart as the list does.
+pub fn law_order()
+    ensures { (a b : Text) → (byte_cmp (key a) (key b) ≡ Equal) ↔ (key a ≡ key b) }
+{}
 
 /// A bucket's file has one list of members at most, and so have the files of a set. Which it is depends on the set's own
 /// files alone. Where one of them breaks it, there is none. Files that are absent, with a count of 0, have nobody. Each

@@ -20,7 +20,7 @@ mod tests;
 pub use audits::audit;
 pub use changing::AddAnswer;
 pub use hashing::bucket;
-pub use laws::{law_changes, law_sets};
+pub use laws::{law_changes, law_order, law_sets};
 pub use lists::{all, members};
 pub use member_list::{Member, MemberList};
 pub use sets::{add, member, remove};
