@@ -9,8 +9,6 @@ mod key_file;
 mod laws;
 mod loading;
 mod reading;
-#[cfg(test)]
-mod tests;
 mod words;
 mod writing;
 

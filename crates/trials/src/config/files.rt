@@ -1,5 +1,5 @@
 // The files of the configuration and of the keys.
-use crate::{Config, Former, Keys, key, load, read_config, set_keys, write_config};
+use ml_config::{Config, Former, Keys, key, load, read_config, set_keys, write_config};
 use ml_base::{Bytes, Layer, MapFiles, Name, Numbers, PartError};
 use std::alloc::Global;
 use std::collections::BTreeMap;

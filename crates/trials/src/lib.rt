@@ -1,0 +1,5 @@
+//! Tests of the parts' public calls.
+#![tactic(auto)]
+
+#[cfg(test)]
+mod config;
