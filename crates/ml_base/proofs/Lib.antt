@@ -12,4 +12,8 @@ pub mod SplitLaws
 pub mod PathLaws
 pub mod Laid
 pub mod SortedLaws
+pub mod BelowLemmas
+pub mod AddressParts
+pub mod KeptAddresses
+pub mod DamagedNames
 mod Rows

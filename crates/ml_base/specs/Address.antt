@@ -27,9 +27,17 @@ abbrev pub check_parts : Option (Text × Text) → Result (Unit {0}) AddressFaul
 check_parts None = Err NoAt
 check_parts (Some parts) = if is_empty parts.0 || is_empty parts.1 then Err EmptyPart else check_bytes parts.0 parts.1
 
+-- whether two parts make an address with an `@` between them, tested of the parts alone
+abbrev pub are_parts : Text → Text → Bool
+are_parts local host = nat_lt (length local + length host) 400 && not (is_empty local || is_empty host) && list_all is_local_byte local && list_all is_host_byte host
+
 -- whether a text, split at its last `@`, is an address, and else the first of the four faults that it has
 abbrev pub address_check : Text → Result (Unit {0}) AddressFault
 address_check text = if nat_lt 400 (length text) then Err TooLong else check_parts (split_last 64 text)
+
+-- whether two parts make an address with an `@` between them
+abbrev pub make_address : Text → Text → Bool
+make_address local host = is_ok (address_check (local ++ 64 ∷ host))
 
 -- the part before the last `@`
 abbrev pub before_at : Option (Text × Text) → Text

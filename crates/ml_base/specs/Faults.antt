@@ -10,6 +10,10 @@ pub record HasCause {T E : Type 0} (before now : ℕ) (result : Result T E) : Ty
   pub later : before ≤ now
   pub failed : OnErr result (Rose before now)
 
+-- one more, as far as can be counted
+abbrev pub one_more : ℕ → ℕ
+one_more count = min (count + 1) (2 ^ 64 - 1)
+
 -- the number of the next call, as far as calls can be counted
 abbrev pub next_call : ℕ → ℕ
-next_call made = min (made + 1) (2 ^ 64 - 1)
+next_call made = one_more made

@@ -1,7 +1,8 @@
 // Addresses: a local part, `@` and a host, in the profile of RFC 822's addr-spec that has no quoted parts,
 // comments, routes or literals.
-ghost use Rattle.std.specs.Prelude.{◌≡◌, ◌≤◌, ◌+◌, ◌++◌, Ok, Err, Some, None, IfOk, IfErr, IsTrue, OnOk, MatchResult, ◌↔◌, take, drop, length};
-ghost use Rattle.std.specs.List.{list_all};
+ghost use Rattle.std.specs.Prelude.{◌≡◌, ◌≤◌, ◌+◌, ◌++◌, Ok, Err, Some, None, IfOk, IfErr, IsTrue, OnOk, MatchResult, ◌↔◌, take, drop, length, nat_lt};
+ghost use Rattle.std.specs.List.{list_all, list_any};
+ghost use Rattle.std.specs.Char.{is_ascii_uppercase};
 ghost use Rattle.ml_base.specs.Bytes.{lower};
 ghost use Rattle.ml_base.specs.Address.{address_check, address_of, local_of, host_of, IsAddress, IsFaultOf, key};
 ghost use Rattle.ml_base.specs.Address as spec;
@@ -85,6 +86,50 @@ fn check_parts(local: &[u8], host: &[u8]) -> Result<(), AddressFault>
     } else {
         Err(AddressFault::BadByte)
     }
+}
+
+/// Whether two parts make an address with an `@` between them. It takes no memory.
+#[tactic(auto, using(crate::proofs::AddressParts::who_parts))]
+pub fn make_address(local: &[u8], host: &[u8]) -> bool
+    ensures { result ≡ spec.make_address local.now host.now }
+{
+    are_parts(local, host)
+}
+
+fn are_parts(local: &[u8], host: &[u8]) -> bool
+    ensures { result ≡ spec.are_parts local.now host.now }
+{
+    are_short(local, host)
+        && !(local.is_empty() || host.is_empty())
+        && all_local(local)
+        && all_host(host)
+}
+
+// Whether two parts and an `@` are short enough for an address.
+fn are_short(local: &[u8], host: &[u8]) -> bool
+    ensures { result ≡ nat_lt (length local.now + length host.now) 400 }
+{
+    local.len() < MAX_LEN && host.len() < MAX_LEN - local.len()
+}
+
+/// Whether a text is an address, spelled as it is kept: with its host in lower case. It takes no memory.
+pub fn is_kept(text: &[u8]) -> bool
+    ensures { IsTrue result ↔ IsAddress text.now }
+{
+    if Address::check(text).is_err() {
+        return false;
+    }
+    match split_last(b'@', text) {
+        None => false,
+        Some((_, host)) => !has_capital(host),
+    }
+}
+
+// Whether a text has a capital letter.
+fn has_capital(text: &[u8]) -> bool
+    ensures { result ≡ list_any is_ascii_uppercase text.now }
+{
+    text.iter().any(|byte| byte.is_ascii_uppercase())
 }
 
 /// A checked address, spelled as it is kept: with its host in lower case.

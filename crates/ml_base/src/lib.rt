@@ -4,6 +4,8 @@
 mod address;
 mod bytes;
 mod files;
+mod hashing;
+mod key_order;
 mod laws;
 mod layer;
 mod maps;
@@ -16,14 +18,17 @@ mod paths;
 mod pieces;
 mod plan;
 mod puts;
+mod ranges;
 mod row;
 mod splits;
 #[cfg(test)]
 mod tests;
 
-pub use address::{Address, AddressError, AddressFault};
+pub use address::{Address, AddressError, AddressFault, is_kept, make_address};
 pub use bytes::Bytes;
 pub use files::{Files, FilesError};
+pub use hashing::{hash, hash_lower};
+pub use key_order::{compare_keys, is_below};
 pub use laws::{
     law_addresses, law_lines, law_netstrings, law_numbers, law_paths, law_puts, law_rows,
     law_sorted_by_number, law_sorted_by_text, law_splits,
@@ -31,7 +36,7 @@ pub use laws::{
 pub use layer::Layer;
 pub use maps::MapFiles;
 pub use names::{Name, Set};
-pub use netstring::{Span, push_netstring, read_netstring};
+pub use netstring::{Span, push_netstring, read_netstring, split_netstring};
 pub use number::{age, is_next_digit, number_within, read_number, write_number};
 pub use own::is_own;
 pub use part::PartError;
@@ -39,5 +44,6 @@ pub use paths::path;
 pub use pieces::{put_number, put_piece};
 pub use plan::FaultPlan;
 pub use puts::{AddressList, Put, Txn};
+pub use ranges::{LAST_DRAWN, LAST_MOMENT, LAST_POST_NUMBER, is_drawn, is_moment, is_post_number};
 pub use row::{Numbers, Row};
 pub use splits::{split_first, split_last, split_line};

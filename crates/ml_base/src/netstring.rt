@@ -40,6 +40,16 @@ pub fn read_netstring(bytes: &[u8], at: usize) -> Option<Span>
     })
 }
 
+/// The content of the netstring that a text begins with, and the bytes behind it, or None where it begins with none.
+/// It takes no memory.
+pub fn split_netstring(text: &[u8]) -> Option<(&[u8], &[u8])>
+    ensures value { option_map (λ p. (p.0.now, p.1.now)) result ≡ netstring_at text.now }
+    ensures shorter { IfSome result (λ p. length p.1.now < length text.now) }
+{
+    let span = read_netstring(text, 0)?;
+    Some((&text[span.from..span.to], &text[span.next..]))
+}
+
 // The length that bytes begin with, and the place behind its colon.
 fn read_length(bytes: &[u8]) -> Option<(u64, usize)>
     ensures value { option_map (λ r. (r.0, drop r.1 bytes.now)) result ≡ length_from 999_999_999_999_999_999 0 0 bytes.now }
