@@ -1,0 +1,24 @@
+// What holds of the files of a ledger, apart from the code.
+ghost use Rattle.std.specs.Prelude.{◌≡◌, ◌↔◌, ◌<◌, ℕ, true, [], Option, Some, None, unwrap_or};
+ghost use Rattle.ml_base.specs.Bytes.{Text};
+ghost use Rattle.ml_base.specs.Dir.{Dir};
+ghost use Rattle.ml_base.specs.declared.names.Name.{Name};
+ghost use Rattle.ml_bounce.specs.Files.{IsLedger, IsLedgerFile, ledger_name, is_of_ledger};
+ghost use Rattle.ml_bounce.specs.Ledger.{Ledger};
+ghost use Rattle.ml_bounce.specs.Reading.{ledger_of};
+
+/// A ledger's file is read as exactly the entries that it spells, and an absent one as an empty one. So a file spells one row
+/// of entries at most.
+pub fn law_ledger_files()
+    ensures read { (n : ℕ) (file : Option Text) (entries : Ledger) → (ledger_of n (unwrap_or file []) ≡ Some entries) ↔ IsLedgerFile n file entries }
+    ensures one { (n : ℕ) (file : Option Text) (entries others : Ledger) → IsLedgerFile n file entries → IsLedgerFile n file others → entries ≡ others }
+{}
+
+/// The files of a kind stand for one ledger at most. Which it is depends on the files of that kind alone. Where one of them is
+/// outside its grammar, they stand for none. Files that are absent stand for the empty ledger.
+pub fn law_ledger()
+    ensures one { (dir : Dir) (kind : ℕ) (ledger other : Ledger) → IsLedger dir kind ledger → IsLedger dir kind other → ledger ≡ other }
+    ensures own { (dir other : Dir) (kind : ℕ) (ledger : Ledger) → ((name : Name) → is_of_ledger kind name ≡ true → other name ≡ dir name) → IsLedger dir kind ledger → IsLedger other kind ledger }
+    ensures broken { (dir : Dir) (kind n : ℕ) (ledger : Ledger) → n < 53 → ledger_of n (unwrap_or (dir (ledger_name kind n)) []) ≡ None → ¬ IsLedger dir kind ledger }
+    ensures nothing { (dir : Dir) (kind : ℕ) → ((n : ℕ) → n < 53 → dir (ledger_name kind n) ≡ None) → IsLedger dir kind [] }
+{}
