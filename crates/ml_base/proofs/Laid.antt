@@ -1,5 +1,5 @@
 -- What a row of puts leaves in each file.
-use Rattle.std.proofs.Common.{◌≡◌, Bool, true, false, cond, List, [], ◌∷◌, ◌++◌, Option, Some, None, find, reverse, refl, sym, ap, ◌∙◌}
+use Rattle.std.proofs.Common.{◌≡◌, Bool, true, false, cond, List, [], ◌∷◌, ◌++◌, Option, Some, None, find, reverse, refl, sym, ap, ap₂, ◌∙◌, ◌||◌}
 use Rattle.std.proofs.lemmas.List.{reverse-append}
 use Rattle.std.proofs.lemmas.List.Folds.{find-append}
 use Rattle.std.specs.Option.{option_or}
@@ -49,3 +49,15 @@ newest_decides [] name dir = refl
 newest_decides (put ∷ puts) name dir =
     newest_decides puts name (with_put dir put) ∙ of_two (newest_put puts name) (same_name name put.name) put (dir name)
     ∙ ap (λ (p : Option Put). laid_by p (dir name)) (sym (newest_of_more put puts name))
+
+none_newest : (newer : Option Put) (b : Bool) (put : Put) → option_or newer (cond b (Some put) None) ≡ None → (newer ≡ None) × (b ≡ false)
+none_newest (Some p) b put e = cc
+none_newest None true put e = cc
+none_newest None false put e = (refl, refl)
+
+-- a file that a row touches has a newest put there
+pub newest_touches : (puts : List Put) (name : Name) → newest_put puts name ≡ None → touches puts name ≡ false
+newest_touches [] name e = refl
+newest_touches (put ∷ puts) name e =
+    let parts = none_newest (newest_put puts name) (same_name name put.name) put (sym (newest_of_more put puts name) ∙ e) in
+    ap₂ (λ a b. a || b) parts.1 (newest_touches puts name parts.0)

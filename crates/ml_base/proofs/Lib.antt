@@ -6,6 +6,8 @@ pub mod Decimals
 pub mod Addresses
 pub mod Netstrings
 pub mod PathLengths
+pub mod Rests
+pub mod LayLemmas
 pub mod Bools
 pub mod OwnLemmas
 pub mod SplitLaws
@@ -16,4 +18,5 @@ pub mod BelowLemmas
 pub mod AddressParts
 pub mod KeptAddresses
 pub mod DamagedNames
+pub mod ReadingLemmas
 mod Rows

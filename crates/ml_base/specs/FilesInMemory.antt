@@ -1,9 +1,12 @@
 -- Files in memory.
-use Rattle.std.specs.Prelude.{◌≡◌, ◌≤◌, ℕ, List}
+use Rattle.std.specs.Prelude.{◌≡◌, ◌≤◌, ℕ, List, Result, Ok, Err}
 use Rattle.std.specs.BTreeMap.{BTreeMap, get}
 use Rattle.ml_base.specs.Bytes.{Text}
 use Rattle.ml_base.specs.Name.{name_cmp}
 use Rattle.ml_base.specs.Dir.{Dir}
+use Rattle.ml_base.specs.Faults.{one_more}
+use Rattle.ml_base.specs.declared.files.FilesError.{FilesError}
+use Rattle.ml_base.specs.declared.files.FilesError.TheVariants.{Fault, Memory}
 use Rattle.ml_base.specs.declared.maps.MapFiles.{MapFiles}
 use Rattle.ml_base.specs.declared.names.Name.{Name}
 
@@ -26,6 +29,12 @@ map_failing files = files.plan.failing
 -- how many calls were made
 abbrev pub map_made : MapFiles → ℕ
 map_made files = files.plan.made
+
+-- how often a call has failed behind one that answered this: once more at a fault, as far as can be counted
+abbrev pub faults_after : {T : Type 0} → ℕ → Result T FilesError → ℕ
+faults_after count (Ok found) = count
+faults_after count (Err Memory) = count
+faults_after count (Err Fault) = one_more count
 
 -- the map and the calls that are to fail are the same, and neither calls nor faults have become fewer
 pub record IsMapKept (old new : MapFiles) : Type 0 where

@@ -1,5 +1,6 @@
 // Byte strings, which contracts see as lists. They keep the allocator that they were made with.
 ghost use Rattle.std.specs.Prelude.{◌≡◌, ◌==◌, ◌^◌, ◌<◌, ℕ, List, [], ◌∷◌, ◌++◌, length, take, IfOk, OnOk, OnErr};
+ghost use Rattle.std.specs.Option.{option_copied};
 
 use std::alloc::{AllocError, Global};
 use std::marker::Model;
@@ -24,6 +25,22 @@ impl Bytes {
         Bytes {
             items: Vec::new(alloc),
         }
+    }
+
+    /// No bytes, and room for `size` of them.
+    pub fn with_capacity(alloc: Global, size: usize) -> Result<Self, AllocError>
+        ensures { IfOk result (λ b. b ≡ []) }
+    {
+        Ok(Bytes {
+            items: Vec::with_capacity(alloc, size)?,
+        })
+    }
+
+    /// Makes room for `more` bytes behind those that are there. The bytes stay the same, also where it fails.
+    pub fn reserve(&mut self, more: usize) -> Result<(), AllocError>
+        ensures { self.new ≡ self.old }
+    {
+        self.items.reserve(more)
     }
 
     /// The bytes of a vector. It takes no memory.
@@ -91,5 +108,15 @@ impl Bytes {
     {
         self.items.extend_from_slice(piece)?;
         Ok(())
+    }
+}
+
+/// A copy of a file's bytes, or None where it is absent.
+pub fn copied(alloc: Global, bytes: Option<&Bytes>) -> Result<Option<Bytes>, AllocError>
+    ensures { IfOk result (λ copy. copy ≡ option_copied bytes.entry) }
+{
+    match bytes {
+        Some(bytes) => Ok(Some(Bytes::from_slice(alloc, bytes.as_slice())?)),
+        None => Ok(None),
     }
 }

@@ -1,11 +1,15 @@
 // Puts laid over files.
-ghost use Rattle.std.specs.Prelude.{◌≡◌, IfOk};
+ghost use Rattle.std.specs.Prelude.{◌≡◌, ◌≤◌, true, IsTrue, IfOk, IsErrOf};
 ghost use Rattle.std.specs.Option.{option_copied};
-ghost use Rattle.ml_base.specs.Dir.{with_puts, newest_put};
+ghost use Rattle.ml_base.specs.Dir.{with_puts, newest_put, touches};
+ghost use Rattle.ml_base.specs.Faults.{Rose};
+ghost use Rattle.ml_base.specs.Layers.{files_below, puts_over};
+ghost use Rattle.ml_base.specs.Name.{is_file};
+ghost use Rattle.ml_base.specs.declared.files.FilesError.TheVariants.{Fault};
 ghost use Rattle.std.proofs.Common.{refl, ap, ◌∙◌};
 
-use crate::{Bytes, Files, FilesError, Name, Put, Txn};
-use std::alloc::{AllocError, Global};
+use crate::{Bytes, Files, FilesError, Name, Put, Txn, copied};
+use std::alloc::Global;
 
 /// Files with the puts of a Txn laid over them, which shows what the Txn makes of them before it is committed.
 #[derive(Drop)]
@@ -15,8 +19,6 @@ pub struct Layer<F: Files> {
 }
 
 impl<F: Files> Layer<F> {
-    ghost use Rattle.ml_base.specs.Layers.{files_below, puts_over};
-
     /// Lays a Txn over files. It takes no memory.
     pub fn new(files: F, txn: Txn) -> Layer<F>
         ensures files { files_below result ≡ files }
@@ -34,7 +36,7 @@ impl<F: Files> Layer<F> {
     }
 }
 
-#[tactic(auto, using(crate::proofs::Laid::newest_decides))]
+#[tactic(auto, using(crate::proofs::Laid::newest_decides, crate::proofs::Laid::newest_touches))]
 impl<F: Files> Files for Layer<F> {
     ghost tells = { F.tells };
 
@@ -44,7 +46,15 @@ impl<F: Files> Files for Layer<F> {
 
     ghost kept = { λ a b. F.kept a.files b.files × (b.txn ≡ a.txn) };
 
-    fn get(&mut self, alloc: Global, name: Name) -> Result<Option<Bytes>, FilesError> {
+    /// The bytes of a file, or None where it is absent. Where a put names the file, the files below are not read.
+    fn get(&mut self, alloc: Global, name: Name) -> Result<Option<Bytes>, FilesError>
+        requires { IsTrue (is_file name) }
+        ensures value { IsTrue F.tells → IfOk result (λ found. found ≡ with_puts (F.map (files_below self.old)) (puts_over self.old) name) }
+        ensures kept { F.kept (files_below self.old) (files_below self.new) × (puts_over self.new ≡ puts_over self.old) }
+        ensures later { F.faults (files_below self.old) ≤ F.faults (files_below self.new) }
+        ensures cause { IsErrOf result Fault → Rose (F.faults (files_below self.old)) (F.faults (files_below self.new)) }
+        ensures above { touches (puts_over self.old) name ≡ true → files_below self.new ≡ files_below self.old }
+    {
         match newest(self.txn.as_slice(), name) {
             Some(put) => Ok(copied(alloc, put.bytes.as_ref())?),
             None => self.files.get(alloc, name),
@@ -65,14 +75,4 @@ fn newest(puts: &[Put], name: Name) -> Option<&Put>
     ensures { option_copied result ≡ newest_put puts.now name }
 {
     puts.iter().rev().find(|put| put.name == name)
-}
-
-/// A copy of a file's bytes, or None where it is absent.
-pub fn copied(alloc: Global, bytes: Option<&Bytes>) -> Result<Option<Bytes>, AllocError>
-    ensures { IfOk result (λ copy. copy ≡ option_copied bytes.entry) }
-{
-    match bytes {
-        Some(bytes) => Ok(Some(Bytes::from_slice(alloc, bytes.as_slice())?)),
-        None => Ok(None),
-    }
 }

@@ -25,7 +25,7 @@ mod splits;
 mod tests;
 
 pub use address::{Address, AddressError, AddressFault, is_kept, make_address};
-pub use bytes::Bytes;
+pub use bytes::{Bytes, copied};
 pub use files::{Files, FilesError};
 pub use hashing::{hash, hash_lower};
 pub use key_order::{compare_keys, is_below};

@@ -1,13 +1,12 @@
 // Files in memory, whose calls fail where they are told to.
 ghost use Rattle.std.specs.Prelude.{◌≡◌, ◌≤◌, ◌↔◌, true, IsTrue, IfOk, IsErrOf, Contains};
 ghost use Rattle.ml_base.specs.Faults.{Rose, next_call};
-ghost use Rattle.ml_base.specs.FilesInMemory.{dir_of, map_dir, map_faults, map_failing, map_made, IsMapKept};
+ghost use Rattle.ml_base.specs.FilesInMemory.{dir_of, map_dir, map_faults, map_failing, map_made, faults_after, IsMapKept};
 ghost use Rattle.ml_base.specs.Name.{is_file};
 ghost use Rattle.ml_base.specs.declared.files.FilesError.TheVariants.{Fault};
 ghost use Rattle.ml_base.specs.KeptMaps.{map_kept_self, map_kept_then};
 
-use crate::layer::copied;
-use crate::{Bytes, FaultPlan, Files, FilesError, Name, Numbers};
+use crate::{Bytes, FaultPlan, Files, FilesError, Name, Numbers, copied};
 use std::alloc::Global;
 use std::collections::BTreeMap;
 
@@ -53,6 +52,7 @@ impl Files for MapFiles {
         ensures cause { IsErrOf result Fault → Rose (map_faults self.old) (map_faults self.new) }
         ensures named { IsErrOf result Fault ↔ Contains (map_failing self.old) (map_made self.new) }
         ensures made { map_made self.new ≡ next_call (map_made self.old) }
+        ensures counted { map_faults self.new ≡ faults_after (map_faults self.old) result }
     {
         if self.plan.fails() {
             self.faults = self.faults.saturating_add(1);

@@ -1,5 +1,5 @@
 // Numbers in decimal digits.
-ghost use Rattle.std.specs.Prelude.{◌≡◌, ◌-◌, ◌^◌, ◌≤◌, ◌<◌, take};
+ghost use Rattle.std.specs.Prelude.{◌≡◌, ◌-◌, ◌^◌, ◌≤◌, ◌<◌, take, drop};
 ghost use Rattle.std.specs.Fmt.{decimal};
 ghost use Rattle.ml_base.specs.Numbers.{number_of};
 ghost use Rattle.ml_base.specs.Numbers as numbers;
@@ -49,6 +49,7 @@ pub fn read_number(text: &[u8]) -> Option<u64>
 pub fn write_number(n: u64, out: &mut [u8; 20]) -> usize
     ensures fits { result ≤ 20 }
     ensures text { take result out.new ≡ decimal n }
+    ensures rest { drop result out.new ≡ drop result out.old }
 {
     let mut rest = n;
     let mut at: usize = 20;

@@ -1,5 +1,5 @@
 // Paths of files below the list's folder.
-ghost use Rattle.std.specs.Prelude.{◌≡◌, ◌≤◌, ◌<◌, ◌+◌, ◌++◌, IsTrue, take, length};
+ghost use Rattle.std.specs.Prelude.{◌≡◌, ◌≤◌, ◌<◌, ◌+◌, ◌++◌, IsTrue, take, drop, length};
 ghost use Rattle.ml_base.specs.Name.{is_in_table, path_of, folder_of, leaf_of, single_path, count_word, two_digits, three_digits};
 
 use crate::names::is_bucket_kind;
@@ -11,6 +11,7 @@ pub fn path(name: Name, out: &mut [u8; 48]) -> usize
     requires { IsTrue (is_in_table name) }
     ensures fits { result ≤ 38 }
     ensures text { take result out.new ≡ path_of name }
+    ensures rest { drop result out.new ≡ drop result out.old }
 {
     put_path(name, out)
 }
@@ -19,6 +20,7 @@ fn put_path(name: Name, out: &mut [u8; 48]) -> usize
     requires { IsTrue (is_in_table name) }
     ensures place { result ≤ 48 }
     ensures text { take result out.new ≡ path_of name }
+    ensures rest { drop result out.new ≡ drop result out.old }
 {
     let front = put_piece(out, 0, folder(name.kind));
     if is_bucket_kind(name.kind) {
@@ -43,7 +45,9 @@ fn put_path(name: Name, out: &mut [u8; 48]) -> usize
 fn put_post(out: &mut [u8; 48], at: usize, post: u64) -> usize
     requires { at ≤ 20 }
     ensures place { result ≤ at + 23 }
+    ensures behind { at ≤ result }
     ensures text { take result out.new ≡ take at out.old ++ leaf_of 9 post }
+    ensures rest { drop result out.new ≡ drop result out.old }
 {
     let group = put_number(out, at, post / 100);
     let slash = put_piece(out, group, b"/");
@@ -55,6 +59,7 @@ fn put_thread(out: &mut [u8; 48], at: usize, place: u64) -> usize
     requires place { place < 1000 }
     ensures place { result ≡ at + 3 }
     ensures text { take result out.new ≡ take at out.old ++ three_digits place }
+    ensures rest { drop result out.new ≡ drop result out.old }
 {
     let first = put_piece(out, at, &[b'0' + (place / 100) as u8]);
     put_two(out, first, (place % 100) as u8)
@@ -65,6 +70,7 @@ fn put_two(out: &mut [u8; 48], at: usize, n: u8) -> usize
     requires n { n < 100 }
     ensures place { result ≡ at + 2 }
     ensures text { take result out.new ≡ take at out.old ++ two_digits n }
+    ensures rest { drop result out.new ≡ drop result out.old }
 {
     put_piece(out, at, &[b'0' + n / 10, b'0' + n % 10])
 }

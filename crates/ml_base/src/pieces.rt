@@ -19,6 +19,7 @@ pub fn put_piece(out: &mut [u8], at: usize, piece: &[u8]) -> usize
 pub fn put_number(out: &mut [u8], at: usize, number: u64) -> usize
     requires { at + 20 ≤ length out.old }
     ensures place { result ≤ at + 20 }
+    ensures size { result ≡ at + length (decimal number) }
     ensures text { take result out.new ≡ take at out.old ++ decimal number }
     ensures rest { drop result out.new ≡ drop result out.old }
 {

@@ -1,5 +1,5 @@
 // Lists that contracts see as such.
-ghost use Rattle.std.specs.Prelude.{◌≡◌, [], ◌∷◌, ◌++◌, OnOk, OnErr};
+ghost use Rattle.std.specs.Prelude.{◌≡◌, [], ◌∷◌, ◌++◌, OnOk, OnErr, ◌<◌, length, slice_set};
 
 use std::alloc::{AllocError, Global};
 use std::marker::Model;
@@ -59,6 +59,14 @@ impl<T: Drop> Row<T> {
         let mut more = other.items;
         self.items.append(&mut more)?;
         Ok(())
+    }
+
+    /// Puts an item in the place of another, which is dropped.
+    pub fn replace(&mut self, at: usize, item: T)
+        requires { at < length self.old }
+        ensures { self.new ≡ slice_set self.old at item }
+    {
+        self.items[at] = item;
     }
 
     pub fn as_slice(&self) -> &[T]

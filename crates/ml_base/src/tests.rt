@@ -2,6 +2,7 @@
 ghost use Rattle.std.specs.Prelude.{◌≡◌, ◌≤◌, ◌&&◌, IsTrue, IfOk, IsErrOf, is_some};
 ghost use Rattle.ml_base.specs.Name.{is_file};
 ghost use Rattle.ml_base.specs.Dir.{with_puts};
+ghost use Rattle.ml_base.specs.ReadFiles.{IsReading};
 ghost use Rattle.ml_base.specs.Faults.{Rose};
 ghost use Rattle.ml_base.specs.declared.part.PartError.TheVariants.{Fault};
 
@@ -197,9 +198,7 @@ fn both_there<F: Files>(alloc: Global, files: &mut F, a: Name, b: Name) -> Resul
     requires a { IsTrue (is_file a) }
     requires b { IsTrue (is_file b) }
     ensures value { IsTrue F.tells → IfOk result (λ both. both ≡ (is_some (F.map files.old a) && is_some (F.map files.old b))) }
-    ensures kept { F.kept files.old files.new }
-    ensures later { F.faults files.old ≤ F.faults files.new }
-    ensures cause { IsErrOf result Fault → Rose (F.faults files.old) (F.faults files.new) }
+    ensures reads { IsReading ⟦<F as Files>⟧ files.old files.new result }
 {
     let first = files.get(alloc, a)?;
     let second = files.get(alloc, b)?;
