@@ -1,5 +1,5 @@
 -- The file of the keys: the key, and where it was changed once the former key and the moment of the change.
-use Rattle.std.specs.Prelude.{◌≡◌, ◌<◌, [], ◌++◌, length, Option, Some, None, IfSome}
+use Rattle.std.specs.Prelude.{◌≡◌, [], ◌++◌, length, Option, Some, None, IfSome}
 use Rattle.std.specs.Int.{to_be_bytes, w64}
 use Rattle.ml_base.specs.Bytes.{Text}
 use Rattle.ml_base.specs.Ranges.{IsMoment}

@@ -1,10 +1,10 @@
 // The keys of a list.
 ghost use Rattle.std.specs.Prelude.{◌≡◌, ◌≤◌, ◌<◌, IsTrue, IfOk, IfErr, IfSome, IsErrOf, Some, None, Option, [], ◌∷◌};
 ghost use Rattle.std.specs.Option.{option_copied};
-ghost use Rattle.ml_base.specs.Faults.{Rose};
 ghost use Rattle.ml_base.specs.Dir.{Dir, are_files, with_puts};
 ghost use Rattle.ml_base.specs.Ranges.{IsMoment};
 ghost use Rattle.ml_base.specs.PartErrors.{OnDamaged};
+ghost use Rattle.ml_base.specs.ReadFiles.{IsReading, NamesDamaged};
 ghost use Rattle.ml_base.specs.declared.part.PartError.TheVariants.{Fault};
 ghost use Rattle.ml_config.specs.KeyFile.{AreKeys, IsFormer, IsKeyFile, former_text, key_name, keys_put, keys_text};
 ghost use Rattle.ml_config.specs.declared.key_file.Former.{Former};
@@ -35,12 +35,9 @@ pub struct Keys {
 pub fn key<F: Files>(alloc: Global, files: &mut F) -> Result<Keys, PartError>
     ensures read { IsTrue F.tells → (keys : Keys) → IsKeyFile (F.map files.old key_name) keys → IfOk result (λ found. found ≡ keys) }
     ensures value { IsTrue F.tells → IfOk result (IsKeyFile (F.map files.old key_name)) }
-    ensures named { IfErr result (λ e. OnDamaged e (λ name. name ≡ key_name)) }
-    ensures damaged { IsTrue F.tells → IfErr result (λ e. OnDamaged e (λ _. (keys : Keys) → ¬ IsKeyFile (F.map files.old key_name) keys)) }
+    ensures names { NamesDamaged ⟦<F as Files>⟧ (λ name. name ≡ key_name) (λ _. (keys : Keys) → ¬ IsKeyFile (F.map files.old key_name) keys) result }
     ensures sound { IsTrue F.tells → (keys : Keys) → IsKeyFile (F.map files.old key_name) keys → IfErr result (λ e. OnDamaged e (λ _. ⊥)) }
-    ensures kept { F.kept files.old files.new }
-    ensures later { F.faults files.old ≤ F.faults files.new }
-    ensures cause { IsErrOf result Fault → Rose (F.faults files.old) (F.faults files.new) }
+    ensures reads { IsReading ⟦<F as Files>⟧ files.old files.new result }
 {
     let file = files.get(alloc, KEY)?;
     match keys_of(file.as_ref()) {
