@@ -6,7 +6,8 @@ use Rattle.ml_site.proofs.Steps.{after_read}
 use Rattle.ml_journal.specs.Newest.{newest_of, left_by, with_newest}
 use Rattle.ml_journal.specs.Rows.{IsRow}
 use Rattle.ml_journal.specs.Kept.{IsStill, kept_itself}
-use Rattle.ml_journal.proofs.Fields.{rests_of, shown}
+use Rattle.ml_journal.proofs.Fields.{shown}
+use Rattle.ml_journal.proofs.Held.{held_rests}
 use Rattle.ml_journal.proofs.store.StoreFiles.get.Goals as goal
 
 pub returns-in_err-copied-in-Some-clause-kept : goal.returns-in_err-copied-in-Some-clause-kept
@@ -31,7 +32,7 @@ returns-in-None-clause-value g c = λ told.
     let self = c.args.self.now in
     let held = (g.S.Site.disk self.site).reads in
     let none : newest_of self.newest.puts c.args.name ≡ None = sym c.in-None.ensures in
-    let same = shown held self.end self.newest.puts c.args.name (rests_of held.log self.end (with_newest self.newest.puts) (self.split told) (self.begins told) (self.row told))
+    let same = shown held self.end self.newest.puts c.args.name (held_rests self told)
     ∙ ap (λ (found : Option (Option Text)). left_by found (held.files c.args.name)) none in
     IfOk-weaker c.read_one.result _ _ (λ found is. is ∙ sym same) (c.read_one.ensures.bytes told)
 

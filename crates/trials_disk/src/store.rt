@@ -1,10 +1,10 @@
-// Stores over disks in memory: what a crash leaves of commits, calls that fail, and logs that are found.
+// Stores over disks in memory: what a crash leaves of commits, and calls that fail.
 ghost use Rattle.std.specs.Prelude.{◌≤◌, IsTrue, IfOk};
 ghost use Rattle.ml_base.specs.Dir.{are_files};
 ghost use Rattle.ml_base.specs.Name.{is_file};
 
-use crate::{CommitError, OpenError, Store};
 use ml_base::{Bytes, Files, FilesError, Name, Put, Txn};
+use ml_journal::{CommitError, OpenError, Store};
 use ml_site::{Failed, Fill, Image, MemSite, Site, SiteError, Unfailing};
 use std::alloc::{AllocError, Global};
 use std::collections::BTreeMap;
@@ -17,12 +17,8 @@ const SECOND: Name = Name { kind: 9, at: 2 };
 
 const THIRD: Name = Name { kind: 9, at: 3 };
 
-const BUCKET: Name = Name { kind: 3, at: 29 };
-
-const FLOOR: Name = Name { kind: 21, at: 0 };
-
 // A log and no files.
-fn image(alloc: Global, log: &[u8]) -> Result<Image, AllocError> {
+pub(crate) fn image(alloc: Global, log: &[u8]) -> Result<Image, AllocError> {
     Ok(Image {
         log: Bytes::from_slice(alloc, log)?,
         files: BTreeMap::new(alloc),
@@ -90,7 +86,7 @@ fn run<S: Site>(alloc: Global, site: S) -> (u64, bool, S) {
     }
 }
 
-fn opened<S: Site + Drop>(alloc: Global, site: S) -> Result<Store<S>, OpenError> {
+pub(crate) fn opened<S: Site + Drop>(alloc: Global, site: S) -> Result<Store<S>, OpenError> {
     match Store::open(alloc, site) {
         Ok(store) => Ok(store),
         Err((error, _)) => Err(error),
@@ -98,7 +94,7 @@ fn opened<S: Site + Drop>(alloc: Global, site: S) -> Result<Store<S>, OpenError>
 }
 
 // Adds the bytes of a file and a bar, with `-` for a file that is absent.
-fn add_file<F: Files>(
+pub(crate) fn add_file<F: Files>(
     alloc: Global,
     files: &mut F,
     text: &mut Bytes,
@@ -119,13 +115,6 @@ fn posts<F: Files>(alloc: Global, files: &mut F) -> Result<Bytes, FilesError> {
     add_file(alloc, files, &mut text, FIRST)?;
     add_file(alloc, files, &mut text, SECOND)?;
     add_file(alloc, files, &mut text, THIRD)?;
-    Ok(text)
-}
-
-fn settings<F: Files>(alloc: Global, files: &mut F) -> Result<Bytes, FilesError> {
-    let mut text = Bytes::new(alloc);
-    add_file(alloc, files, &mut text, BUCKET)?;
-    add_file(alloc, files, &mut text, FLOOR)?;
     Ok(text)
 }
 
@@ -259,89 +248,6 @@ fn a_long_record_is_laid_down_at_once(rt: HostRuntime) -> Result<(), Fail> {
         return Err(Failed.into());
     };
     assert!(rt; found.as_slice() == long.as_slice());
-    Ok(())
-}
-
-// A log, with a bucket that holds `b` and a floor that holds `f`.
-fn old_settings(alloc: Global, log: &[u8]) -> Result<Image, AllocError> {
-    let mut held = image(alloc, log)?;
-    held.files.insert(BUCKET, Bytes::from_slice(alloc, b"b")?)?;
-    held.files.insert(FLOOR, Bytes::from_slice(alloc, b"f")?)?;
-    Ok(held)
-}
-
-// What a store shows, and its log.
-fn text_of<S: Site>(alloc: Global, store: Store<S>) -> (Result<Bytes, FilesError>, S) {
-    let mut store = store;
-    let text = settings(alloc, &mut store);
-    (text, store.leave())
-}
-
-// A text with the log of a site behind it.
-fn with_log<S: Site + Drop>(alloc: Global, text: &[u8], site: S) -> Result<Bytes, SiteError> {
-    let mut site = site;
-    let log = site.read_log(alloc)?;
-    let mut whole = Bytes::from_slice(alloc, text)?;
-    whole.extend(log.as_slice())?;
-    Ok(whole)
-}
-
-// What a store shows that is opened over a log and the old settings, with its log, or `damaged` and the log.
-fn found_over(alloc: Global, log: &[u8]) -> Result<Bytes, Fail> {
-    match Store::open(alloc, Unfailing::new(old_settings(alloc, log)?)) {
-        Ok(store) => {
-            let (text, site) = text_of(alloc, store);
-            Ok(with_log(alloc, text?.as_slice(), site)?)
-        }
-        Err((OpenError::Damaged, site)) => Ok(with_log(alloc, b"damaged", site)?),
-        Err((error, _)) => Err(error.into()),
-    }
-}
-
-#[test]
-fn a_store_is_opened_over_each_log(rt: HostRuntime) -> Result<(), Fail> {
-    let alloc = rt.alloc();
-    let rows: [(&[u8], &[u8]); 24] = [
-        // Nothing, a last gate of any kind, and what stands behind a closed gate.
-        (b"", b"b|f|\0"),
-        (b"\x01", b"b|f|\0"),
-        (b"\x00ab", b"b|f|\0"),
-        (b"\x0718:W1:3,2:29,5:Ta@b\0,,\0", b"b|f|\0"),
-        // A record behind a gate that is open, closed, or torn.
-        (b"\x0118:W1:3,2:29,5:Ta@b\0,,\0", b"Ta@b\0|f|\0"),
-        (b"\x0018:W1:3,2:29,5:Ta@b\0,,\0", b"b|f|\0"),
-        // The log ends behind its record.
-        (b"\x0118:W1:3,2:29,5:Ta@b\0,,", b"Ta@b\0|f|\0"),
-        (b"\x0118:W1:3,2:29,5:Ta@b\0,,\x01", b"Ta@b\0|f|\0"),
-        // Two records, the later put of a file wins; a removal is one too.
-        (b"\x0113:W1:3,2:29,0:,,\x0110:X1:3,2:29,,\0", b"-|f|\0"),
-        (b"\x0110:X1:3,2:29,,\x0113:W1:3,2:29,0:,,\0", b"|f|\0"),
-        (b"\x0110:X1:3,2:29,,\x0014:W2:21,1:0,1:9,,\0", b"-|f|\0"),
-        (b"\x0127:X1:3,2:29,W2:21,1:0,4:500\n,,\0", b"-|500\n|\0"),
-        // A record of no puts.
-        (b"\x010:,\0", b"b|f|\0"),
-        (b"\x010:,\x0110:X1:3,2:29,,\0", b"-|f|\0"),
-        // An open gate without a record behind it.
-        (b"\x01a", b"damaged\x01a"),
-        (b"\x01\x01", b"damaged\x01\x01"),
-        (
-            b"\x0110:X1:3,2:29,,\x0110:X1:3,2:2",
-            b"damaged\x0110:X1:3,2:29,,\x0110:X1:3,2:2",
-        ),
-        (b"\x01010:X1:3,2:29,,\0", b"damaged\x01010:X1:3,2:29,,\0"),
-        (b"\x0110:Y1:3,2:29,,\0", b"damaged\x0110:Y1:3,2:29,,\0"),
-        (b"\x0111:X1:3,2:29,a,\0", b"damaged\x0111:X1:3,2:29,a,\0"),
-        (b"\x0111:X1:3,3:029,,\0", b"damaged\x0111:X1:3,3:029,,\0"),
-        (b"\x0110:W1:3,2:29,,\0", b"damaged\x0110:W1:3,2:29,,\0"),
-        (
-            b"\x0118:W1:3,2:29,6:Ta@b\0,,\0",
-            b"damaged\x0118:W1:3,2:29,6:Ta@b\0,,\0",
-        ),
-        (b"\x0110:X1:3,2:29;,\0", b"damaged\x0110:X1:3,2:29;,\0"),
-    ];
-    for (log, text) in rows {
-        assert_eq!(rt; found_over(alloc, log)?.as_slice(), text, "{log:?}");
-    }
     Ok(())
 }
 
