@@ -70,10 +70,7 @@ fn a_store_is_opened_over_each_log(rt: HostRuntime) -> Result<(), Fail> {
         (b"\x0118:W1:3,2:29,5:Ta@b\0,,\0", b"Ta@b\0|f|\0"),
         (b"\x0018:W1:3,2:29,5:Ta@b\0,,\0", b"b|f|\0"),
         // A closed record with an open one behind it.
-        (
-            b"\x0010:X1:3,2:29,,\x0110:X1:3,2:29,,\0",
-            b"b|f|\0",
-        ),
+        (b"\x0010:X1:3,2:29,,\x0110:X1:3,2:29,,\0", b"b|f|\0"),
         // The log ends behind its record.
         (b"\x0118:W1:3,2:29,5:Ta@b\0,,", b"Ta@b\0|f|\0"),
         (b"\x0118:W1:3,2:29,5:Ta@b\0,,\x01", b"Ta@b\0|f|\0"),
