@@ -8,7 +8,7 @@ returns-in_err-write_log-clause-settles g c = record {
   reads = search rules;
   rest = search rules;
   moments = λ told. after_one g.S.Site.moment g.S.Site.left_since g.S.Site.disk g.S.Site.output (λ site left out l. g.met.S.Site.only_now site left out told l) c.write_log.result (Range c.args.at (length c.args.bytes.now))
-      c.args.site.now c.write_log.new.self (c.requires.rest told) (c.write_log.ensures.pends told) (c.write_log.ensures.output told) (c.write_log.ensures.time told);
+      c.args.site.now c.write_log.new.self (c.requires.rest told) (c.write_log.ensures.change.pends told) (c.write_log.ensures.keeps.output told) (c.write_log.ensures.keeps.time told);
 }
 
 pub returns-in-Ok-clause-settles : goal.returns-in-Ok-clause-settles
@@ -16,8 +16,8 @@ returns-in-Ok-clause-settles g c = record {
   reads = search rules;
   rest = search rules;
   moments = λ told. after_both g.S.Site.moment g.S.Site.left_since g.S.Site.disk g.S.Site.output (λ site left out l. g.met.S.Site.only_now site left out told l) c.write_log.result (Range c.args.at (length c.args.bytes.now))
-      c.args.site.now c.write_log.new.self c.sync.new.self (c.requires.rest told) (c.write_log.ensures.pends told) (c.write_log.ensures.output told) (c.write_log.ensures.time told)
-      (c.sync.ensures.crash told) (c.sync.ensures.output told) (c.sync.ensures.time told);
+      c.args.site.now c.write_log.new.self c.sync.new.self (c.requires.rest told) (c.write_log.ensures.change.pends told) (c.write_log.ensures.keeps.output told) (c.write_log.ensures.keeps.time told)
+      (c.sync.ensures.crash told) (c.sync.ensures.keeps.output told) (c.sync.ensures.keeps.time told);
 }
 
 pub returns-in-Err-clause-settles : goal.returns-in-Err-clause-settles
@@ -25,6 +25,6 @@ returns-in-Err-clause-settles g c = record {
   reads = search rules;
   rest = search rules;
   moments = λ told. after_both g.S.Site.moment g.S.Site.left_since g.S.Site.disk g.S.Site.output (λ site left out l. g.met.S.Site.only_now site left out told l) c.write_log.result (Range c.args.at (length c.args.bytes.now))
-      c.args.site.now c.write_log.new.self c.sync.new.self (c.requires.rest told) (c.write_log.ensures.pends told) (c.write_log.ensures.output told) (c.write_log.ensures.time told)
-      (c.sync.ensures.crash told) (c.sync.ensures.output told) (c.sync.ensures.time told);
+      c.args.site.now c.write_log.new.self c.sync.new.self (c.requires.rest told) (c.write_log.ensures.change.pends told) (c.write_log.ensures.keeps.output told) (c.write_log.ensures.keeps.time told)
+      (c.sync.ensures.crash told) (c.sync.ensures.keeps.output told) (c.sync.ensures.keeps.time told);
 }
