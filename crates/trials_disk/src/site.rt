@@ -2,10 +2,10 @@
 ghost use Rattle.std.specs.Prelude.{IsTrue};
 ghost use Rattle.ml_base.specs.Name.{is_file};
 
-use crate::{
+use ml_base::{Bytes, Name, Numbers};
+use ml_site::{
     Clock, Failed, Fill, Image, MemClock, MemSite, MemSource, Site, SiteError, Source, Unfailing,
 };
-use ml_base::{Bytes, Name, Numbers};
 use std::alloc::{AllocError, Global};
 use std::collections::BTreeMap;
 use std::process::Abort;
@@ -192,6 +192,95 @@ fn shown(alloc: Global, image: &Image) -> Result<Bytes, AllocError> {
         }
     }
     Ok(text)
+}
+
+// The eight calls of a site.
+#[derive(Clone, Copy, Debug)]
+enum Call {
+    ReadLog,
+    WriteLog,
+    CutLog,
+    ReadFile,
+    WriteFile,
+    RemoveFile,
+    Sync,
+    Give,
+}
+
+// Each call, and what a crash leaves where it failed as the second of two, with `!` wherever it left something pending.
+const CALLS: [(Call, &[u8]); 8] = [
+    (Call::ReadLog, b"log|key|-"),
+    (Call::WriteLog, b"!!!|key|-"),
+    (Call::CutLog, b"!!!|key|-"),
+    (Call::ReadFile, b"log|key|-"),
+    (Call::WriteFile, b"log|!!!|-"),
+    (Call::RemoveFile, b"log|!!!|-"),
+    (Call::Sync, b"log|key|-"),
+    (Call::Give, b"log|key|-"),
+];
+
+// Whether a call of this kind was done or failed.
+fn call_once<S: Site>(alloc: Global, site: &mut S, call: Call) -> Result<bool, AllocError> {
+    let done = match call {
+        Call::ReadLog => site.read_log(alloc).map(|_| ()),
+        Call::WriteLog => site.write_log(alloc, 0, b"new"),
+        Call::CutLog => site.cut_log(0).map_err(|_| SiteError::Failed),
+        Call::ReadFile => site.read_file(alloc, KEY).map(|_| ()),
+        Call::WriteFile => site.write_file(alloc, KEY, b"new"),
+        Call::RemoveFile => site.remove_file(alloc, KEY),
+        Call::Sync => site.sync().map_err(|_| SiteError::Failed),
+        Call::Give => site.give(b"out").map_err(|_| SiteError::Failed),
+    };
+    match done {
+        Ok(()) => Ok(true),
+        Err(SiteError::Failed) => Ok(false),
+        Err(SiteError::Memory) => Err(AllocError),
+    }
+}
+
+#[test]
+fn each_call_fails_where_its_number_is_named(rt: HostRuntime) -> Result<(), Fail> {
+    let alloc = rt.alloc();
+    for (call, left) in CALLS {
+        let mut site = MemSite::new(alloc, image(alloc)?, 3, 3)?;
+        site.fail(alloc, &[2])?;
+        assert!(rt; call_once(alloc, &mut site, Call::Sync)?, "{call:?}");
+        assert!(rt; !call_once(alloc, &mut site, call)?, "{call:?}");
+        let image = site.crash(alloc, 2, Fill::Byte(b'!'))?;
+        assert_eq!(rt; shown(alloc, &image)?.as_slice(), left, "{call:?}");
+        assert!(rt; call_once(alloc, &mut site, call)?, "{call:?}");
+    }
+    Ok(())
+}
+
+#[test]
+fn each_call_fails_behind_the_last_one(rt: HostRuntime) -> Result<(), Fail> {
+    let alloc = rt.alloc();
+    for (call, left) in CALLS {
+        let mut site = MemSite::new(alloc, image(alloc)?, 3, 3)?;
+        site.stop_after(1);
+        assert!(rt; call_once(alloc, &mut site, Call::Sync)?, "{call:?}");
+        assert!(rt; !call_once(alloc, &mut site, call)?, "{call:?}");
+        let image = site.crash(alloc, 2, Fill::Byte(b'!'))?;
+        assert_eq!(rt; shown(alloc, &image)?.as_slice(), left, "{call:?}");
+        site.stop_after(3);
+        assert!(rt; call_once(alloc, &mut site, call)?, "{call:?}");
+    }
+    Ok(())
+}
+
+#[test]
+fn each_call_fails_without_room_and_leaves_nothing_pending(rt: HostRuntime) -> Result<(), Fail> {
+    let alloc = rt.alloc();
+    for (call, _) in CALLS {
+        let mut site = MemSite::new(alloc, image(alloc)?, 1, 3)?;
+        assert!(rt; call_once(alloc, &mut site, Call::Sync)?, "{call:?}");
+        assert!(rt; !call_once(alloc, &mut site, call)?, "{call:?}");
+        let image = site.crash(alloc, 2, Fill::Byte(b'!'))?;
+        assert_eq!(rt; shown(alloc, &image)?.as_slice(), b"log|key|-".as_slice());
+        assert!(rt; site.output().is_empty());
+    }
+    Ok(())
 }
 
 #[test]
