@@ -2,14 +2,18 @@
 use Rattle.std.proofs.Common.{◌≡◌, ℕ, ◌-◌, ◌%◌, ◌^◌, true, false, List, [], ◌∷◌, ◌++◌, Some, None, Ok, Err, refl, codes, replicate, lit≤}
 use Rattle.std.specs.Ordering.{nat_cmp}
 use Rattle.std.specs.Fmt.{digits}
-use Rattle.ml_base.specs.Address.{address_check, address_of, local_of, host_of, key}
+use Rattle.ml_base.specs.Address.{address_check, address_of, local_of, host_of, key, make_address}
 use Rattle.ml_base.specs.Numbers.{number_of, number_within}
 use Rattle.ml_base.specs.Netstrings.{netstring_at, ns}
 use Rattle.ml_base.specs.Name.{set_word, set_of, set_kind, path_of, is_in_table, is_file}
 use Rattle.ml_base.specs.Bytes.{split_last}
 use Rattle.ml_base.specs.Dir.{Dir, with_file, with_puts, touches, are_files, newest_put}
 use Rattle.ml_base.specs.Faults.{Rose}
+use Rattle.ml_base.specs.Hash.{hash_of}
+use Rattle.ml_base.specs.Keys.{is_below}
+use Rattle.ml_base.specs.Laying.{laid_in, are_distinct}
 use Rattle.ml_base.specs.Own.{is_own}
+use Rattle.ml_base.specs.Ranges.{is_moment}
 use Rattle.ml_base.specs.Sorted.{byte_cmp, entry_of, is_sorted, with_entry, without_key}
 use Rattle.ml_base.specs.Splits.{split_first, lines, nul_row, ns_row}
 use Rattle.ml_base.specs.declared.names.Name.{Name}
@@ -362,3 +366,48 @@ counted = lit≤ tt
 
 as_many_as_can_be_counted : Rose (2 ^ 64 - 1) (2 ^ 64 - 1)
 as_many_as_can_be_counted = lit≤ tt
+
+-- puts in place
+
+laid_in_place : laid_in (record { name = bucket_file; bytes = Some (codes "two") }) (record { name = bucket_file; bytes = Some (codes "one") } ∷ record { name = key_file; bytes = None } ∷ [])
+    ≡ record { name = bucket_file; bytes = Some (codes "two") } ∷ record { name = key_file; bytes = None } ∷ []
+laid_in_place = refl
+
+laid_last : laid_in (record { name = num_file; bytes = None }) (record { name = key_file; bytes = None } ∷ []) ≡ record { name = key_file; bytes = None } ∷ record { name = num_file; bytes = None } ∷ []
+laid_last = refl
+
+one_twice : are_distinct (record { name = key_file; bytes = None } ∷ record { name = key_file; bytes = None } ∷ []) ≡ false
+one_twice = refl
+
+-- hashes
+
+hash_of_none : hash_of [] ≡ 5381
+hash_of_none = refl
+
+-- 5381 * 33 is 0x2B5A5, and with 0x61 for `a` 0x2B5C4
+hash_of_one : hash_of (codes "a") ≡ 0x2B5C4
+hash_of_one = refl
+
+-- 0x2B5C4 * 33 is 0x596E44, and with 0x62 for `b` 0x596E26
+hash_of_two : hash_of (codes "ab") ≡ 0x596E26
+hash_of_two = refl
+
+-- parts of addresses, keys and ranges
+
+make_one : make_address (codes "a") (codes "X.org") ≡ true
+make_one = refl
+
+make_none : make_address (codes "a@b") (codes "x") ≡ false
+make_none = refl
+
+below : is_below (codes "a@x") (codes "B@x") ≡ true
+below = refl
+
+not_below_itself : is_below (codes "A@x") (codes "a@x") ≡ false
+not_below_itself = refl
+
+last_moment : is_moment 253_402_300_799 ≡ true
+last_moment = refl
+
+no_moment : is_moment 253_402_300_800 ≡ false
+no_moment = refl

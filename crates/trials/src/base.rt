@@ -6,12 +6,14 @@ ghost use Rattle.ml_base.specs.ReadFiles.{IsReading};
 ghost use Rattle.ml_base.specs.Faults.{Rose};
 ghost use Rattle.ml_base.specs.declared.part.PartError.TheVariants.{Fault};
 
-use crate::{
+use ml_base::{
     Address, AddressError, AddressFault, AddressList, Bytes, Files, FilesError, Layer, MapFiles,
-    Name, Numbers, PartError, Put, Span, Txn, is_own, path, push_netstring, read_netstring,
-    split_first, split_last, split_line, write_number,
+    Name, Numbers, PartError, Put, Span, Txn, compare_keys, copied, hash, hash_lower, is_below,
+    is_drawn, is_kept, is_moment, is_own, is_post_number, make_address, path, push_netstring,
+    read_netstring, split_first, split_last, split_line, split_netstring, write_number,
 };
 use std::alloc::{AllocError, Global};
+use std::cmp::Ordering;
 use std::collections::BTreeMap;
 use std::process::Abort;
 use std::test::Fail;
@@ -118,8 +120,17 @@ fn grows_lists(rt: HostRuntime) -> Result<(), Fail> {
     let alloc = rt.alloc();
     let mut bytes = Bytes::from_slice(alloc, b"ab")?;
     bytes.push(b'c')?;
+    bytes.reserve(2)?;
     bytes.extend(b"de")?;
     assert_eq!(rt; bytes.as_slice(), b"abcde".as_slice());
+    let mut room = Bytes::with_capacity(alloc, 3)?;
+    room.extend(b"fg")?;
+    let copy = copied(alloc, Some(&room))?;
+    assert_eq!(rt;
+        copy.is_some_and(|copy| copy.as_slice() == b"fg".as_slice()),
+        true
+    );
+    assert!(rt; copied(alloc, None)?.is_none());
     let mut numbers = Numbers::new(alloc);
     numbers.push(7)?;
     numbers.push(u64::MAX)?;
@@ -342,4 +353,75 @@ fn knows_its_own_addresses(rt: HostRuntime) {
     for (recipient, own) in rows {
         assert_eq!(rt; is_own(b"List", b"ex.Org", recipient), own, "{recipient:?}");
     }
+}
+
+#[test]
+fn lays_puts_in_place(rt: HostRuntime) -> Result<(), Fail> {
+    let alloc = rt.alloc();
+    let mut txn = Txn::new(alloc);
+    txn.lay(write(alloc, LIST, b"one")?)?;
+    txn.lay(write(alloc, KEY, b"new")?)?;
+    txn.lay(write(alloc, LIST, b"two")?)?;
+    assert_eq!(rt; txn.as_slice().len(), 2);
+    let mut layer = Layer::new(files(alloc, &[])?, txn);
+    show(&rt, alloc, &mut layer, [b"two", b"new", b"7"])?;
+    Ok(())
+}
+
+#[test]
+fn hashes_texts(rt: HostRuntime) {
+    let rows: [(&[u8], u32, u32); 4] = [
+        (b"", 5381, 5381),
+        (b"a", 177_604, 177_604),
+        (b"ab", 5_860_902, 5_860_902),
+        (b"A", 177_636, 177_604),
+    ];
+    for (text, plain, lower) in rows {
+        assert_eq!(rt; hash(text), plain, "{text:?}");
+        assert_eq!(rt; hash_lower(text), lower, "{text:?}");
+    }
+}
+
+#[test]
+fn compares_keys(rt: HostRuntime) {
+    let rows: [(&[u8], &[u8], Ordering); 5] = [
+        (b"a@x", b"B@x", Ordering::Less),
+        (b"A@x", b"a@x", Ordering::Equal),
+        (b"b@x", b"A@x", Ordering::Greater),
+        (b"a@x", b"a@x.org", Ordering::Less),
+        (b"a", b"", Ordering::Greater),
+    ];
+    for (a, b, order) in rows {
+        assert_eq!(rt; compare_keys(a, b), order, "{a:?} {b:?}");
+        assert_eq!(rt; is_below(a, b), order == Ordering::Less, "{a:?} {b:?}");
+    }
+}
+
+#[test]
+fn tells_kept_addresses(rt: HostRuntime) {
+    assert!(rt; is_kept(b"A@x.org"));
+    assert!(rt; !is_kept(b"a@X.org"));
+    assert!(rt; !is_kept(b"a"));
+    assert!(rt; make_address(b"a", b"X.org"));
+    assert!(rt; !make_address(b"a@b", b"x"));
+    assert!(rt; !make_address(b"a", b""));
+    assert!(rt; !make_address(&[b'a'; 399], b"x"));
+}
+
+#[test]
+fn takes_netstrings_from_the_front(rt: HostRuntime) {
+    assert_eq!(rt;
+        split_netstring(b"4:list,3:"),
+        Some((b"list".as_slice(), b"3:".as_slice()))
+    );
+    assert_eq!(rt; split_netstring(b"4:list"), None);
+}
+
+#[test]
+fn knows_ranges(rt: HostRuntime) {
+    assert!(rt; is_moment(253_402_300_799) && !is_moment(253_402_300_800));
+    assert!(rt; is_post_number(1) && is_post_number(99_999_999));
+    assert!(rt; !is_post_number(0) && !is_post_number(100_000_000));
+    assert!(rt; is_drawn(1) && is_drawn(1_000_000_000_000_000));
+    assert!(rt; !is_drawn(0) && !is_drawn(1_000_000_000_000_001));
 }
