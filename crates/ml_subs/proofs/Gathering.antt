@@ -17,7 +17,7 @@ use Rattle.ml_subs.specs.Buckets.{IsBucketFile}
 use Rattle.ml_subs.specs.Subscribers.{AreBuckets, AreJoined, AreSubscribers, Breaks, IsNoBucket, IsNoCount, bucket_name, count_name, count_text}
 use Rattle.ml_subs.specs.Reading.{gathered, counted}
 use Rattle.ml_subs.proofs.Rewritten.{count_one, some_one}
-use Rattle.ml_subs.proofs.Standing.{bucket_hashed, bucket_ordered, below_53, made_of, counted_one}
+use Rattle.ml_subs.proofs.Standing.{bucket_hashed, bucket_ordered, below_53, broken, made_of, counted_one}
 use Rattle.ml_subs.proofs.Together.{sorted_joined}
 
 -- the first buckets of a set
@@ -129,6 +129,10 @@ pub on_damaged_from : (e : PartError) (P Q : Name → Type 0) → OnDamaged e P 
 on_damaged_from Fault P Q p h = tt
 on_damaged_from Memory P Q p h = tt
 on_damaged_from (Damaged name) P Q p h = h name p
+
+-- where the files of each set stand for a list, none breaks its set
+pub sound_sets : (dir : Dir) → ((set : Set) → (ms : List Member) × AreSubscribers dir set ms) → (e : PartError) → OnDamaged e (λ name. (set : Set) × Breaks dir set name) → OnDamaged e (λ _. ⊥)
+sound_sets dir all e bad = on_damaged_from e (λ name. (set : Set) × Breaks dir set name) (λ _. ⊥) bad (λ name b. broken dir b.0 name (all b.0).0 b.1 (all b.0).1)
 
 -- what holds of each of the five sets
 pub each_set : (P : Set → Type 0) → P sets.List → P sets.Digest → P sets.Allow → P sets.Deny → P sets.Moderators → (set : Set) → P set

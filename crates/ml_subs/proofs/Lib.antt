@@ -7,4 +7,4 @@ pub mod Together
 pub mod Standing
 pub mod Answering
 pub mod Gathering
-mod Rows
+mod Examples

@@ -89,6 +89,7 @@ pub fn audit<F: Files>(alloc: Global, files: &mut F) -> Result<(), PartError>
     ensures ok { IsTrue F.tells → OnOk result ((set : Set) → (ms : List Member) × AreSubscribers (F.map files.old) set ms) }
     ensures named { IfErr result (λ e. OnDamaged e (λ name. (set : Set) × (is_of_set set name ≡ true))) }
     ensures damaged { IsTrue F.tells → IfErr result (λ e. OnDamaged e (λ name. (set : Set) × Breaks (F.map files.old) set name)) }
+    ensures sound { IsTrue F.tells → ((set : Set) → (ms : List Member) × AreSubscribers (F.map files.old) set ms) → IfErr result (λ e. OnDamaged e (λ _. ⊥)) }
     ensures kept { F.kept files.old files.new }
     ensures later { F.faults files.old ≤ F.faults files.new }
     ensures cause { IsErrOf result Fault → Rose (F.faults files.old) (F.faults files.new) }

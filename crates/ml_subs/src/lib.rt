@@ -23,4 +23,4 @@ pub use hashing::bucket;
 pub use laws::{law_changes, law_order, law_sets};
 pub use lists::{all, members};
 pub use member_list::{Member, MemberList};
-pub use sets::{add, member, remove};
+pub use sets::{add, find, member, remove, size};

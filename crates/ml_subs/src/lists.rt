@@ -2,7 +2,6 @@
 ghost use Rattle.std.specs.Prelude.{◌≡◌, ◌<◌, ◌≤◌, ◌++◌, [], map, true, false, List, ℕ, Bool, Option, Some, None, IsTrue, IfOk, IfErr, OnOk, IsErrOf};
 ghost use Rattle.std.specs.List.Sorted.{IsPermutation, IsSortedByKey};
 ghost use Rattle.ml_base.specs.Faults.{Rose};
-ghost use Rattle.ml_base.specs.Address.{IsAddress};
 ghost use Rattle.ml_base.specs.Sorted.{byte_cmp};
 ghost use Rattle.ml_base.specs.declared.part.PartError.TheVariants.{Fault};
 ghost use Rattle.ml_subs.specs.declared.member_list.Member.{Member};
@@ -11,29 +10,15 @@ ghost use Rattle.ml_subs.specs.Buckets.{IsBucketFile};
 ghost use Rattle.ml_subs.specs.Subscribers.{AreSubscribers, AreJoined, AreBuckets, IsNoBucket};
 ghost use Rattle.ml_subs.specs.Subscribers as spec;
 ghost use Rattle.ml_subs.specs.Answers.{OnDamaged};
-ghost use Rattle.ml_subs.specs.Reading.{told, AreRead, IsRecord, gathered, AreAdded};
+ghost use Rattle.ml_subs.specs.Reading.{AreRead, gathered, AreAdded};
 
 use crate::names::bucket_name;
 use crate::order::compare;
 use crate::places::split_layout;
-use crate::records::{Layout, Record, next_member};
+use crate::records::{Layout, member_from, next_member};
 use crate::{Member, MemberList};
-use ml_base::{Address, AddressList, Bytes, Files, PartError, Row, Set};
+use ml_base::{AddressList, Bytes, Files, PartError, Row, Set};
 use std::alloc::{AllocError, Global};
-
-// The member of a record. Its text is an address, so nothing but memory can be wanting.
-fn member_from(alloc: Global, found: Record<'_>) -> Result<Member, AllocError>
-    requires { IsAddress found.who.now }
-    ensures { IfOk result (λ m. m ≡ told found.entry) }
-{
-    match Address::parse(alloc, found.who) {
-        Ok(who) => Ok(Member {
-            who,
-            since: found.since,
-        }),
-        Err(_) => Err(AllocError),
-    }
-}
 
 // Adds the members that bytes spell. False where they spell none of the bucket in order.
 fn add_members(
@@ -133,6 +118,7 @@ pub fn members<F: Files>(alloc: Global, files: &mut F, set: Set) -> Result<Membe
     ensures joined { IsTrue F.tells → IfOk result (AreJoined (F.map files.old) set) }
     ensures named { IfErr result (λ e. OnDamaged e (λ name. (n : ℕ) × (n < 53) × (name ≡ spec.bucket_name set n))) }
     ensures damaged { IsTrue F.tells → IfErr result (λ e. OnDamaged e (λ name. (n : ℕ) × (n < 53) × (name ≡ spec.bucket_name set n) × IsNoBucket (F.map files.old) set n)) }
+    ensures sound { IsTrue F.tells → (ms : List Member) → AreSubscribers (F.map files.old) set ms → IfErr result (λ e. OnDamaged e (λ _. ⊥)) }
     ensures kept { F.kept files.old files.new }
     ensures later { F.faults files.old ≤ F.faults files.new }
     ensures cause { IsErrOf result Fault → Rose (F.faults files.old) (F.faults files.new) }
@@ -157,6 +143,7 @@ pub fn all<F: Files>(alloc: Global, files: &mut F, set: Set) -> Result<AddressLi
     ensures joined { IsTrue F.tells → IfOk result (λ addresses. (ms : List Member) × AreJoined (F.map files.old) set ms × (addresses ≡ map (λ m. m.who) ms)) }
     ensures named { IfErr result (λ e. OnDamaged e (λ name. (n : ℕ) × (n < 53) × (name ≡ spec.bucket_name set n))) }
     ensures damaged { IsTrue F.tells → IfErr result (λ e. OnDamaged e (λ name. (n : ℕ) × (n < 53) × (name ≡ spec.bucket_name set n) × IsNoBucket (F.map files.old) set n)) }
+    ensures sound { IsTrue F.tells → (ms : List Member) → AreSubscribers (F.map files.old) set ms → IfErr result (λ e. OnDamaged e (λ _. ⊥)) }
     ensures kept { F.kept files.old files.new }
     ensures later { F.faults files.old ≤ F.faults files.new }
     ensures cause { IsErrOf result Fault → Rose (F.faults files.old) (F.faults files.new) }

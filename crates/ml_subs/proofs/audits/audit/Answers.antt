@@ -6,7 +6,8 @@ use Rattle.ml_base.specs.declared.names.Set.TheVariants as sets
 use Rattle.ml_subs.specs.declared.member_list.Member.{Member}
 use Rattle.ml_subs.specs.Subscribers.{AreSubscribers, Breaks}
 use Rattle.ml_subs.specs.Answers.{OnDamaged}
-use Rattle.ml_subs.proofs.Gathering.{on_damaged_from, each_set}
+use Rattle.ml_subs.proofs.Standing.{broken}
+use Rattle.ml_subs.proofs.Gathering.{on_damaged_from, each_set, sound_sets}
 use Rattle.ml_subs.proofs.audits.audit.Goals as goal
 
 pub returns-in_err-audit_set-2-clause-damaged : goal.returns-in_err-audit_set-2-clause-damaged
@@ -66,3 +67,22 @@ returns-clause-damaged g c told =
     (λ e broken. on_damaged_from e (Breaks (g.F.Files.map c.audit_set-4.new.files) sets.Moderators) (λ name. (set : Set) × Breaks (g.F.Files.map c.args.files.now) set name) broken
     (λ name b. (sets.Moderators, subst (λ (dir : Dir). Breaks dir sets.Moderators name) same_4 b)))
     (c.audit_set-5.ensures.damaged told)
+
+pub returns-in_err-audit_set-clause-sound : goal.returns-in_err-audit_set-clause-sound
+returns-in_err-audit_set-clause-sound g c told all =
+    let dir = g.F.Files.map c.args.files.now in
+    let none : OnDamaged c.in_err-audit_set.field-0.0 (λ _. ⊥) = on_damaged_from c.in_err-audit_set.field-0.0 (Breaks dir sets.List) (λ _. ⊥) (c.in_err-audit_set.ensures.damaged told)
+        (λ name b. broken dir sets.List name (all sets.List).0 b (all sets.List).1) in
+    search rules
+
+pub returns-in_err-audit_set-2-clause-sound : goal.returns-in_err-audit_set-2-clause-sound
+returns-in_err-audit_set-2-clause-sound g c told all = IfErr-weaker _ _ _ (sound_sets (g.F.Files.map c.args.files.now) all) (returns-in_err-audit_set-2-clause-damaged g c told)
+
+pub returns-in_err-audit_set-3-clause-sound : goal.returns-in_err-audit_set-3-clause-sound
+returns-in_err-audit_set-3-clause-sound g c told all = IfErr-weaker _ _ _ (sound_sets (g.F.Files.map c.args.files.now) all) (returns-in_err-audit_set-3-clause-damaged g c told)
+
+pub returns-in_err-audit_set-4-clause-sound : goal.returns-in_err-audit_set-4-clause-sound
+returns-in_err-audit_set-4-clause-sound g c told all = IfErr-weaker _ _ _ (sound_sets (g.F.Files.map c.args.files.now) all) (returns-in_err-audit_set-4-clause-damaged g c told)
+
+pub returns-clause-sound : goal.returns-clause-sound
+returns-clause-sound g c told all = IfErr-weaker _ _ _ (sound_sets (g.F.Files.map c.args.files.now) all) (returns-clause-damaged g c told)

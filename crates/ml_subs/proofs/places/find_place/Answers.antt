@@ -10,12 +10,11 @@ returns-in-None-clause-some c =
     let there : IsBucketFile c.args.n c.args.file.now [] = subst (λ (f : Option Text). IsBucketFile c.args.n f []) (sym c.in-None.is) refl in (
       record {
         below = [];
-        here = None;
         above = [];
         lower = refl;
         higher = refl;
         is = tt;
-        told = refl;
+        record_here = tt;
         around = record { front = refl; back = refl; each_below = tt; each_above = tt };
       },
       there,
