@@ -7,7 +7,8 @@ use Rattle.ml_base.specs.declared.names.Set.TheVariants as sets
 use Rattle.ml_subs.specs.declared.member_list.Member.{Member}
 use Rattle.ml_subs.specs.declared.records.Layout.TheVariants.{Undated}
 use Rattle.ml_subs.specs.Members.{member_of, has_key, with_member, without_member}
-use Rattle.ml_subs.specs.Buckets.{hash_after, bucket_of, bucket_file, bucket_text}
+use Rattle.ml_base.specs.Hash.{hash_after}
+use Rattle.ml_subs.specs.Buckets.{bucket_of, bucket_file, bucket_text}
 use Rattle.ml_subs.specs.Subscribers.{count_name, count_text, is_touched, is_of_set}
 use Rattle.ml_subs.specs.Reading.{member_by}
 

@@ -1,5 +1,5 @@
 pub mod Orders
-pub mod Kept
+pub mod Options
 pub mod Spelled
 pub mod Placed
 pub mod Rewritten

@@ -12,7 +12,8 @@ use Rattle.ml_subs.specs.declared.member_list.Member.{Member}
 use Rattle.ml_subs.specs.declared.records.Layout.{Layout}
 use Rattle.ml_subs.specs.declared.records.Layout.TheVariants.{Undated, Dated}
 use Rattle.ml_subs.specs.Buckets.{IsBucket, IsMember, bucket_text, layout_line, records}
-use Rattle.ml_subs.specs.Reading.{IsRecord, BeginsWith, AreRead, Leads, AreSkipped, IsSameKey, Sides, joined, IsFront, rises, is_below}
+use Rattle.ml_base.specs.Keys.{is_below}
+use Rattle.ml_subs.specs.Reading.{IsRecord, BeginsWith, AreRead, Leads, AreSkipped, IsSameKey, Sides, joined, IsFront, rises}
 use Rattle.ml_subs.proofs.Orders.{rising_ordered, ordered_rising, below_then, above_else}
 use Rattle.ml_subs.proofs.Spelled.{read_first, read_more, read_behind, record_one, record_parts}
 

@@ -17,7 +17,8 @@ use Rattle.ml_subs.specs.declared.member_list.Member.{Member}
 use Rattle.ml_subs.specs.declared.records.Layout.{Layout}
 use Rattle.ml_subs.specs.declared.records.Layout.TheVariants.{Undated, Dated}
 use Rattle.ml_subs.specs.Buckets.{bucket_of, IsMomentIn, IsMember, moment_text, record_text, records}
-use Rattle.ml_subs.specs.Reading.{BeginsWith, AreRead, Leads, rises, is_below, member_by}
+use Rattle.ml_base.specs.Keys.{is_below}
+use Rattle.ml_subs.specs.Reading.{BeginsWith, AreRead, Leads, rises, member_by}
 
 abbrev two : Text → Text → Option (Text × Text)
 two a b = Some (a, b)

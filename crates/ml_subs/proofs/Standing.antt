@@ -18,11 +18,13 @@ use Rattle.ml_base.proofs.SortedLaws.{same_bytes, bytes_total, found_with, found
 use Rattle.ml_subs.specs.declared.member_list.Member.{Member}
 use Rattle.ml_subs.specs.declared.records.Layout.{Layout}
 use Rattle.ml_subs.specs.declared.records.Layout.TheVariants.{Undated, Dated}
-use Rattle.ml_subs.specs.Members.{member_key, member_of, has_key, with_member, without_member, IsOrdered, IsMoment}
+use Rattle.ml_base.specs.Ranges.{IsMoment}
+use Rattle.ml_subs.specs.Members.{member_key, member_of, has_key, with_member, without_member, IsOrdered}
 use Rattle.ml_subs.specs.Buckets.{bucket_of, bucket_file, bucket_text, layout_line, records, IsBucket, IsBucketFile, IsMember}
-use Rattle.ml_subs.specs.Subscribers.{AreBuckets, AreJoined, AreSubscribers, Breaks, bucket_name, count_name, count_text, is_of_set, is_touched}
+use Rattle.ml_subs.specs.Subscribers.{AreBuckets, AreJoined, AreSubscribers, IsBucketOf, Breaks, bucket_name, count_name, count_text, is_of_set, is_touched}
 use Rattle.ml_subs.specs.Answers.{changes}
-use Rattle.ml_subs.specs.Reading.{AreRead, IsFront, is_below, counted}
+use Rattle.ml_base.specs.Keys.{is_below}
+use Rattle.ml_subs.specs.Reading.{AreRead, IsFront, counted}
 use Rattle.ml_subs.proofs.Orders.{not_below}
 use Rattle.ml_subs.proofs.Spelled.{read_first, read_behind, read_empty, record_parts}
 use Rattle.ml_subs.proofs.Placed.{layout_only}
@@ -93,7 +95,7 @@ pub subscribers_one : (dir : Dir) (set : Set) (ms others : List Member) → AreS
 subscribers_one dir set ms others is other = joined_one dir set ms others is.members other.members
 
 -- what a set has under a key is what its bucket has
-pub found_in_bucket : (dir : Dir) (set : Set) (ms bucket : List Member) (k : Text) → AreJoined dir set ms → IsBucketFile (bucket_of k) (dir (bucket_name set (bucket_of k))) bucket → member_of k ms ≡ member_of k bucket
+pub found_in_bucket : (dir : Dir) (set : Set) (ms bucket : List Member) (k : Text) → AreJoined dir set ms → IsBucketOf dir set k bucket → member_of k ms ≡ member_of k bucket
 found_in_bucket dir set ms bucket k is file =
     is.joined k ∙ ap (member_of k) (bucket_one (bucket_of k) (dir (bucket_name set (bucket_of k))) (is.buckets (bucket_of k)) bucket (is.files (bucket_of k) (below_53 k)) file)
 
@@ -109,13 +111,13 @@ kind_apart sets.Allow = refl
 kind_apart sets.Deny = refl
 kind_apart sets.Moderators = refl
 
-bucket_own : (set : Set) (n : ℕ) → n < 53 → is_of_set set (bucket_name set n) ≡ true
+pub bucket_own : (set : Set) (n : ℕ) → n < 53 → is_of_set set (bucket_name set n) ≡ true
 bucket_own set n less = or_left _ _ (and_from _ _ (eq-eqb (set_kind set) (set_kind set) refl) (lt-ltb n 53 less))
 
-name_itself : (name : Name) → same_name name name ≡ true
+pub name_itself : (name : Name) → same_name name name ≡ true
 name_itself name = and_from _ _ (eq-eqb name.kind name.kind refl) (eq-eqb name.at name.at refl)
 
-count_own : (set : Set) → is_of_set set (count_name set) ≡ true
+pub count_own : (set : Set) → is_of_set set (count_name set) ≡ true
 count_own set = ap (λ b. ((8 == set_kind set) && nat_lt (set_number set) 53) || b) (name_itself (count_name set)) ∙ or_true _
   where
     or_true : (b : Bool) → (b || true) ≡ true
@@ -272,7 +274,7 @@ none_of None e = refl
 none_of (Some m) e = cc
 
 pub added : (dir : Dir) (set : Set) (ms bucket : List Member) (m : Member) → AreSubscribers dir set ms → IsAddress m.who → IsMoment m.since → has_key (member_key m) ms ≡ false → length ms < 100_000
-    → IsBucketFile (bucket_of (member_key m)) (dir (bucket_name set (bucket_of (member_key m)))) bucket
+    → IsBucketOf dir set (member_key m) bucket
     → AreSubscribers (with_puts dir (changes set (bucket_of (member_key m)) (bucket_file (with_member m bucket)) (length ms + 1))) set (with_member m ms)
 added dir set ms bucket m is address moment absent room file =
     let k = member_key m in
@@ -292,7 +294,7 @@ abbrev ones : Bool → ℕ
 ones t = cond t 1 0
 
 pub removed : (dir : Dir) (set : Set) (ms bucket : List Member) (k : Text) (n : ℕ) → AreSubscribers dir set ms → has_key k ms ≡ true → length ms ≡ n + 1
-    → IsBucketFile (bucket_of k) (dir (bucket_name set (bucket_of k))) bucket
+    → IsBucketOf dir set k bucket
     → AreSubscribers (with_puts dir (changes set (bucket_of k) (bucket_file (without_member k bucket)) n)) set (without_member k ms)
 removed dir set ms bucket k n is there one file =
     let parts : cond (is_some (member_of k ms)) 1 0 + length (without_member k ms) ≡ length ms = length_left byte_cmp member_key same_bytes bytes_total k ms is.members.ordered in

@@ -2,10 +2,9 @@
 use Rattle.std.specs.Prelude.{◌≡◌, ◌≢◌, ◌≤◌, ◌+◌, ℕ, zero, suc, Bool, true, false, ◌&&◌, List, [], ◌∷◌, ◌++◌, length, take, drop, Option, Some, None, IfSome}
 use Rattle.std.specs.Option.{option_to_list}
 use Rattle.std.specs.List.{AllByRecursion, list_all}
-use Rattle.std.specs.Ordering.{is_lt}
 use Rattle.ml_base.specs.Bytes.{Text}
 use Rattle.ml_base.specs.Address.{key, IsAddress}
-use Rattle.ml_base.specs.Sorted.{byte_cmp}
+use Rattle.ml_base.specs.Keys.{is_below}
 use Rattle.ml_subs.specs.declared.member_list.Member.{Member}
 use Rattle.ml_subs.specs.declared.records.Layout.{Layout}
 use Rattle.ml_subs.specs.declared.records.Layout.TheVariants.{Undated, Dated}
@@ -15,10 +14,6 @@ use Rattle.ml_subs.specs.Buckets.{IsMember, IsMomentIn, IsBucket, layout_line, r
 -- the member of a record
 abbrev pub as_member : Record → Member
 as_member r = record { who = r.who.now; since = r.since }
-
--- a key below another
-abbrev pub is_below : Text → Text → Bool
-is_below a b = is_lt (byte_cmp (key a) (key b))
 
 -- members whose keys rise, the first of them above an address's
 abbrev pub rises : Text → List Member → Bool

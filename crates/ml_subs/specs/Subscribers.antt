@@ -33,6 +33,10 @@ pub record AreJoined (dir : Dir) (set : Set) (ms : List Member) : Type 0 where
   pub files : AreBuckets dir set buckets
   pub joined : (k : Text) → member_of k ms ≡ member_of k (buckets (bucket_of k))
 
+-- the members that the bucket of a key has
+abbrev pub IsBucketOf : Dir → Set → Text → List Member → Type 0
+IsBucketOf dir set k ms = IsBucketFile (bucket_of k) (dir (bucket_name set (bucket_of k))) ms
+
 -- the files of a set stand for these members: the buckets have them, and the count is how many they are, 100,000 at most
 pub record AreSubscribers (dir : Dir) (set : Set) (ms : List Member) : Type 0 where
   pub members : AreJoined dir set ms
@@ -42,6 +46,14 @@ pub record AreSubscribers (dir : Dir) (set : Set) (ms : List Member) : Type 0 wh
 -- a bucket's file that spells no members
 abbrev pub IsNoBucket : Dir → Set → ℕ → Type 0
 IsNoBucket dir set n = (ms : List Member) → ¬ IsBucketFile n (dir (bucket_name set n)) ms
+
+-- the name of one of a set's 53 buckets
+abbrev pub IsBucketName : Set → Name → Type 0
+IsBucketName set name = (n : ℕ) × (n < 53) × (name ≡ bucket_name set n)
+
+-- one of a set's 53 buckets, outside its grammar
+abbrev pub IsBadBucket : Dir → Set → Name → Type 0
+IsBadBucket dir set name = (n : ℕ) × (n < 53) × (name ≡ bucket_name set n) × IsNoBucket dir set n
 
 -- a count's file that spells no number from a least one to 100,000
 abbrev pub IsNoCount : Dir → Set → ℕ → Type 0
@@ -57,12 +69,12 @@ least_count false = 0
 abbrev pub IsUnread : Dir → Set → Text → Bool → Name → Type 0
 IsUnread dir set k has name =
     ((name ≡ bucket_name set (bucket_of k)) × IsNoBucket dir set (bucket_of k))
-    ⊎ ((name ≡ count_name set) × ((ms : List Member) × IsBucketFile (bucket_of k) (dir (bucket_name set (bucket_of k))) ms × (has_key k ms ≡ has)) × IsNoCount dir set (least_count has))
+    ⊎ ((name ≡ count_name set) × ((ms : List Member) × IsBucketOf dir set k ms × (has_key k ms ≡ has)) × IsNoCount dir set (least_count has))
 
 -- a file of a set that no list of members can have: a bucket outside its grammar, or a count that isn't that of the buckets
 abbrev pub Breaks : Dir → Set → Name → Type 0
 Breaks dir set name =
-    ((n : ℕ) × (n < 53) × (name ≡ bucket_name set n) × IsNoBucket dir set n)
+    IsBadBucket dir set name
     ⊎ ((name ≡ count_name set) × ((buckets : ℕ → List Member) × AreBuckets dir set buckets) × ((ms : List Member) → ¬ AreSubscribers dir set ms))
 
 -- whether a file is the bucket of a key, or the count, of a set

@@ -4,6 +4,7 @@ ghost use Rattle.std.specs.List.{AllByRecursion};
 ghost use Rattle.ml_base.specs.Bytes.{Text};
 ghost use Rattle.std.specs.declared.cmp.Ordering.TheVariants.{Equal};
 ghost use Rattle.ml_base.specs.Address.{IsAddress, key};
+ghost use Rattle.ml_base.specs.Ranges.{IsMoment};
 ghost use Rattle.ml_base.specs.Sorted.{byte_cmp};
 ghost use Rattle.ml_base.specs.Dir.{Dir, with_puts, touches_only};
 ghost use Rattle.ml_base.specs.Name.{is_file};
@@ -11,9 +12,9 @@ ghost use Rattle.ml_base.specs.declared.names.Name.{Name};
 ghost use Rattle.ml_base.specs.declared.names.Set.{Set};
 ghost use Rattle.ml_base.specs.declared.puts.Put.{Put};
 ghost use Rattle.ml_subs.specs.declared.member_list.Member.{Member};
-ghost use Rattle.ml_subs.specs.Members.{member_key, has_key, with_member, without_member, IsMoment};
+ghost use Rattle.ml_subs.specs.Members.{member_key, has_key, with_member, without_member};
 ghost use Rattle.ml_subs.specs.Buckets.{bucket_of, bucket_file, IsBucketFile};
-ghost use Rattle.ml_subs.specs.Subscribers.{AreJoined, AreSubscribers, Breaks, IsUnread, bucket_name, count_name, count_text, is_of_set, is_touched};
+ghost use Rattle.ml_subs.specs.Subscribers.{AreJoined, AreSubscribers, IsBucketOf, Breaks, IsUnread, bucket_name, count_name, count_text, is_of_set, is_touched};
 ghost use Rattle.ml_subs.specs.Answers.{changes};
 
 /// Neither of two addresses comes before the other exactly where their keys are equal, and so where `Address::same` holds
@@ -41,10 +42,10 @@ pub fn law_sets()
 /// without it and one less. Either leaves every file that isn't the set's as it is, and so the other sets.
 pub fn law_changes()
     ensures added { (dir : Dir) (set : Set) (ms bucket : List Member) (m : Member) → AreSubscribers dir set ms → IsAddress m.who → IsMoment m.since → has_key (member_key m) ms ≡ false → length ms < 100_000 →
-        IsBucketFile (bucket_of (member_key m)) (dir (bucket_name set (bucket_of (member_key m)))) bucket →
+        IsBucketOf dir set (member_key m) bucket →
         AreSubscribers (with_puts dir (changes set (bucket_of (member_key m)) (bucket_file (with_member m bucket)) (length ms + 1))) set (with_member m ms) }
     ensures removed { (dir : Dir) (set : Set) (ms bucket : List Member) (k : Text) (n : ℕ) → AreSubscribers dir set ms → has_key k ms ≡ true → length ms ≡ n + 1 →
-        IsBucketFile (bucket_of k) (dir (bucket_name set (bucket_of k))) bucket →
+        IsBucketOf dir set k bucket →
         AreSubscribers (with_puts dir (changes set (bucket_of k) (bucket_file (without_member k bucket)) n)) set (without_member k ms) }
     ensures elsewhere { (dir : Dir) (set : Set) (k : Text) (puts : List Put) (name : Name) → touches_only (is_touched set k) puts ≡ true → is_of_set set name ≡ false → with_puts dir puts name ≡ dir name }
     ensures others { (dir : Dir) (set other : Set) (k : Text) (puts : List Put) (ms : List Member) → other ≢ set → touches_only (is_touched set k) puts ≡ true → AreSubscribers dir other ms → AreSubscribers (with_puts dir puts) other ms }

@@ -9,13 +9,10 @@ mod laws;
 mod lists;
 mod member_list;
 mod names;
-mod order;
 mod places;
 mod records;
 mod rewriting;
 mod sets;
-#[cfg(test)]
-mod tests;
 
 pub use audits::audit;
 pub use changing::AddAnswer;

@@ -5,9 +5,8 @@ ghost use Rattle.ml_subs.specs.Buckets.{IsBucketFile, IsBucket};
 ghost use Rattle.std.specs.Option.{option_map};
 ghost use Rattle.ml_subs.specs.Reading.{as_member, Sides, joined, IsSameKey, AreSkipped, AreRead, IsFront, IsLayoutOf};
 
-use crate::order::is_below;
 use crate::records::{Layout, Record, count_members, next_member};
-use ml_base::{Address, Bytes};
+use ml_base::{Address, Bytes, is_below};
 
 // The line that a bucket of layout 2 begins with.
 pub(crate) const DATED_LINE: &[u8] = b"layout 2\n";

@@ -7,3 +7,5 @@ mod base;
 mod config;
 #[cfg(test)]
 mod header;
+#[cfg(test)]
+mod subs;

@@ -2,7 +2,7 @@ use Rattle.std.proofs.Common.{[], None, Some, Option, refl, sym, ap, ◌∙◌, 
 use Rattle.ml_base.specs.Bytes.{Text}
 use Rattle.ml_subs.specs.Buckets.{IsBucketFile}
 use Rattle.ml_subs.specs.Reading.{joined}
-use Rattle.ml_subs.proofs.Kept.{if_some_from}
+use Rattle.ml_subs.proofs.Options.{if_some_from}
 use Rattle.ml_subs.proofs.places.find_place.Goals as goal
 
 pub returns-in-None-clause-some : goal.returns-in-None-clause-some

@@ -1,13 +1,16 @@
-use Rattle.std.proofs.Common.{◌∙◌, ◌+◌, ap, ap₂, sym, subst, rules, arith, false, Some, Option}
+use Rattle.std.proofs.Common.{◌≡◌, ◌∙◌, ◌+◌, ap, ap₂, sym, subst, rules, arith, true, false, Some, Option}
+use Rattle.std.proofs.lemmas.Result.{IfErr-weaker}
 use Rattle.ml_base.specs.Bytes.{Text}
 use Rattle.ml_base.specs.Address.{key}
 use Rattle.ml_base.specs.Dir.{Dir}
 use Rattle.ml_subs.specs.declared.changing.AddAnswer.TheVariants.{Added}
 use Rattle.ml_subs.specs.Buckets.{bucket_file}
-use Rattle.ml_subs.specs.Subscribers.{IsNoCount, IsUnread, count_name, count_text}
-use Rattle.ml_subs.specs.Answers.{OnDamaged, changes}
+use Rattle.ml_subs.specs.Subscribers.{IsNoCount, IsUnread, count_name, count_text, is_touched}
+use Rattle.ml_base.specs.PartErrors.{OnDamaged}
+use Rattle.ml_subs.specs.Answers.{changes}
 use Rattle.ml_subs.specs.Reading.{joined, member_by}
-use Rattle.ml_subs.proofs.Answering.{sides_has, sides_with, file_with, bucket_there, addition, has_of_set, count_of_set, unread_count, sound_count}
+use Rattle.ml_base.proofs.DamagedNames.{on_damaged, on_both}
+use Rattle.ml_subs.proofs.Answering.{sides_has, sides_with, file_with, bucket_there, addition, has_of_set, count_of_set, count_touched, unread_count, unread}
 use Rattle.ml_subs.proofs.sets.add.Goals as goal
 
 pub returns-then-is_some-clause-read : goal.returns-then-is_some-clause-read
@@ -68,28 +71,23 @@ returns-clause-value g c told ms is =
     let read = returns-clause-read g c told in
     addition (g.F.Files.map c.args.files.now) c.args.set (member_by c.args.a.now c.args.now) (Added _) read.0 ms c.in_ok-text.ensures.address c.requires read.1 read.2 is
 
-pub returns-in_err-count-clause-damaged : goal.returns-in_err-count-clause-damaged
-returns-in_err-count-clause-damaged g c told =
-    let dir = g.F.Files.map c.args.files.now in
-    let place = c.in-Some.ensures.some in
-    let same = g.met.F.Files.kept_map c.args.files.now c.get.new.self told c.get.ensures.kept in
-    let there = bucket_there (g.F.Files.map c.args.files.now) c.args.set (key c.args.a.now) c.bucket-n.result c.bucket_name-name.result c.in_ok-file.file (joined place.0) c.bucket-n.ensures.value c.bucket_name-name.ensures (c.in_ok-file.ensures.value told) place.1 in
-    let none = subst (λ (d : Dir). OnDamaged c.in_err-count.field-0.0 (λ _. IsNoCount d c.args.set 0)) same (c.in_err-count.ensures.damaged told) in
-    let unread : OnDamaged c.in_err-count.field-0.0 (IsUnread dir c.args.set (key c.args.a.now) false) =
-    unread_count c.in_err-count.field-0.0 dir c.args.set (key c.args.a.now) false (joined place.0) there (sides_has c.in-Some.place.here place.0 ∙ sym c.is_some.ensures ∙ c.if-is_some.false) c.in_err-count.ensures.named none in
-    search rules
+pub returns-in_err-count-clause-names : goal.returns-in_err-count-clause-names
+returns-in_err-count-clause-names g c =
+    let e = c.in_err-count.field-0.0 in
+    let failed = c.in_err-count.ensures.names in
+    record {
+      named = let own : OnDamaged e (λ name. is_touched c.args.set (key c.args.a.now) name ≡ true) = on_damaged e (λ name. name ≡ count_name c.args.set) (λ name. is_touched c.args.set (key c.args.a.now) name ≡ true) (count_touched c.args.set (key c.args.a.now)) failed.named in search rules;
+      damaged = λ told.
+          let dir = g.F.Files.map c.args.files.now in
+          let place = c.in-Some.ensures.some in
+          let same = g.met.F.Files.kept_map c.args.files.now c.get.new.self told c.get.ensures.kept in
+          let there = bucket_there dir c.args.set (key c.args.a.now) c.bucket-n.result c.bucket_name-name.result c.in_ok-file.file (joined place.0) c.bucket-n.ensures.value c.bucket_name-name.ensures (c.in_ok-file.ensures.value told) place.1 in
+          let none = subst (λ (d : Dir). OnDamaged e (λ _. IsNoCount d c.args.set 0)) same (failed.damaged told) in
+          let unread : OnDamaged e (IsUnread dir c.args.set (key c.args.a.now) false) =
+          on_both e (λ name. name ≡ count_name c.args.set) (λ _. IsNoCount dir c.args.set 0) (IsUnread dir c.args.set (key c.args.a.now) false) (unread_count dir c.args.set (key c.args.a.now) false (joined place.0) there (sides_has c.in-Some.place.here place.0 ∙ sym c.is_some.ensures ∙ c.if-is_some.false)) failed.named none in
+          search rules;
+    }
 
 pub returns-in_err-count-clause-sound : goal.returns-in_err-count-clause-sound
 returns-in_err-count-clause-sound g c told ms is =
-    let dir = g.F.Files.map c.args.files.now in
-    let place = c.in-Some.ensures.some in
-    let same = g.met.F.Files.kept_map c.args.files.now c.get.new.self told c.get.ensures.kept in
-    let there = bucket_there (g.F.Files.map c.args.files.now) c.args.set (key c.args.a.now) c.bucket-n.result c.bucket_name-name.result c.in_ok-file.file (joined place.0) c.bucket-n.ensures.value c.bucket_name-name.ensures (c.in_ok-file.ensures.value told) place.1 in
-    let none = subst (λ (d : Dir). OnDamaged c.in_err-count.field-0.0 (λ _. IsNoCount d c.args.set 0)) same (c.in_err-count.ensures.damaged told) in
-    let unread : OnDamaged c.in_err-count.field-0.0 (IsUnread dir c.args.set (key c.args.a.now) false) =
-    unread_count c.in_err-count.field-0.0 dir c.args.set (key c.args.a.now) false (joined place.0) there (sides_has c.in-Some.place.here place.0 ∙ sym c.is_some.ensures ∙ c.if-is_some.false) c.in_err-count.ensures.named none in
-    let sound = sound_count c.in_err-count.field-0.0 dir c.args.set (key c.args.a.now) false ms is unread in
-    search rules
-
-pub returns-clause-kept : goal.returns-clause-kept
-returns-clause-kept g c = g.met.F.Files.kept_then c.args.files.now c.get.new.self c.count_of.new.files c.get.ensures.kept c.count_of.ensures.kept
+    IfErr-weaker _ _ _ (λ e. on_damaged e (IsUnread (g.F.Files.map c.args.files.now) c.args.set (key c.args.a.now) false) (λ _. ⊥) (λ name bad. unread (g.F.Files.map c.args.files.now) c.args.set (key c.args.a.now) false name ms bad is)) ((returns-in_err-count-clause-names g c).damaged told)

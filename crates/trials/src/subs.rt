@@ -1,11 +1,12 @@
-// What no clause says: texts written by hand, each call that takes memory once, and a failing read handed on.
+// The sets of a list: texts written by hand, each call that takes memory once, and a failing read handed on.
 ghost use Rattle.std.specs.Prelude.{IsTrue};
 ghost use Rattle.ml_base.specs.Name.{is_file};
 
-use crate::{AddAnswer, add, all, audit, bucket, member, members, remove};
 use ml_base::{
-    Address, Bytes, Files, Layer, MapFiles, Name, Numbers, PartError, Set, Txn, write_number,
+    Address, Bytes, Files, Layer, MapFiles, Name, Numbers, PartError, Set, Txn, is_below,
+    write_number,
 };
+use ml_subs::{AddAnswer, Member, add, all, audit, bucket, find, member, members, remove, size};
 use std::alloc::{AllocError, Global};
 use std::collections::BTreeMap;
 use std::process::Abort;
@@ -139,18 +140,73 @@ fn changes_sets(rt: HostRuntime) -> Result<(), Fail> {
     Ok(())
 }
 
+// Adds a line of a member's moment and address.
+fn add_line(out: &mut Bytes, found: &Member) -> Result<(), AllocError> {
+    let mut digits = [0; 20];
+    let len = write_number(found.since, &mut digits);
+    out.extend(&digits[..len])?;
+    out.push(b' ')?;
+    out.extend(found.who.bytes())?;
+    out.push(b'\n')
+}
+
 // The set list as lines of moment and address.
 fn listed(alloc: Global, files: &mut MapFiles) -> Result<Bytes, Fail> {
     let mut out = Bytes::new(alloc);
     for found in members(alloc, files, Set::List)?.as_slice() {
-        let mut digits = [0; 20];
-        let len = write_number(found.since, &mut digits);
-        out.extend(&digits[..len])?;
-        out.push(b' ')?;
-        out.extend(found.who.bytes())?;
-        out.push(b'\n')?;
+        add_line(&mut out, found)?;
     }
     Ok(out)
+}
+
+// The line of the set list's member with an address, or nothing where there is none.
+fn found(alloc: Global, files: &mut MapFiles, text: &[u8]) -> Result<Bytes, Fail> {
+    let who = Address::parse(alloc, text)?;
+    let mut out = Bytes::new(alloc);
+    if let Some(found) = find(alloc, files, Set::List, &who)? {
+        add_line(&mut out, &found)?;
+    }
+    Ok(out)
+}
+
+#[test]
+fn finds_members_as_they_came(rt: HostRuntime) -> Result<(), Fail> {
+    let alloc = rt.alloc();
+    let texts: [&[u8]; 3] = [b"Ta@5\x00TA@b\x00", b"layout 2\nTC@d\x007\x00", b"3\n"];
+    let mut files = files(alloc, texts, &[])?;
+    let rows: [(&[u8], &[u8]); 6] = [
+        (b"a@B", b"0 A@b\n"),
+        (b"A@b", b"0 A@b\n"),
+        (b"A@5", b"0 a@5\n"),
+        (b"c@D", b"7 C@d\n"),
+        (b"e@f", b""),
+        (b"a@c", b""),
+    ];
+    for (asked, line) in rows {
+        assert_eq!(rt;
+            found(alloc, &mut files, asked)?.as_slice(),
+            line,
+            "{asked:?}"
+        );
+    }
+    Ok(())
+}
+
+#[test]
+fn tells_how_many_members_there_are(rt: HostRuntime) -> Result<(), Fail> {
+    let alloc = rt.alloc();
+    let rows: [(&[u8], Result<u64, PartError>); 5] = [
+        (b"0\n", Ok(0)),
+        (b"100000\n", Ok(100_000)),
+        (b"100001\n", Err(PartError::Damaged(COUNT))),
+        (b"07\n", Err(PartError::Damaged(COUNT))),
+        (b"-", Err(PartError::Damaged(COUNT))),
+    ];
+    for (count, answer) in rows {
+        let mut files = files(alloc, [b"-", b"-", count], &[])?;
+        assert_eq!(rt; size(alloc, &mut files, Set::List), answer, "{count:?}");
+    }
+    Ok(())
 }
 
 #[test]
@@ -231,23 +287,58 @@ fn many(alloc: Global) -> Result<BTreeMap<String, u64>, Fail> {
     Ok(names)
 }
 
+// Adds the record of an address to its bucket of the set list, behind those that are there.
+fn put_record(alloc: Global, files: &mut BTreeMap<Name, Bytes>, text: &[u8]) -> Result<(), Fail> {
+    let who = Address::parse(alloc, text)?;
+    let name = Name {
+        kind: 3,
+        at: bucket(&who) as u64,
+    };
+    let mut bytes = files.remove(&name).unwrap_or(Bytes::new(alloc));
+    bytes.push(b'T')?;
+    bytes.extend(who.bytes())?;
+    bytes.push(0)?;
+    files.insert(name, bytes)?;
+    Ok(())
+}
+
+// Six addresses in the order of their keys, which isn't that of their buckets.
+#[test]
+fn lists_many_buckets_in_order(rt: HostRuntime) -> Result<(), Fail> {
+    let alloc = rt.alloc();
+    let rows: [&[u8]; 6] = [b"a@5", b"a@a", b"a@b", b"b@b", b"c@d", b"E@f"];
+    let mut buckets = BTreeMap::new(alloc);
+    for text in rows {
+        put_record(alloc, &mut buckets, text)?;
+    }
+    let mut files = MapFiles::new(buckets, Numbers::new(alloc));
+    assert_eq!(rt;
+        listed(alloc, &mut files)?.as_slice(),
+        b"0 a@5\n0 a@a\n0 a@b\n0 b@b\n0 c@d\n0 E@f\n".as_slice()
+    );
+    Ok(())
+}
+
 // The set list of these addresses.
 fn full(alloc: Global) -> Result<MapFiles, Fail> {
     let mut files: BTreeMap<Name, Bytes> = BTreeMap::new(alloc);
     for (text, _) in &many(alloc)? {
-        let who = Address::parse(alloc, text.as_bytes())?;
-        let name = Name {
-            kind: 3,
-            at: bucket(&who) as u64,
-        };
-        let mut bytes = files.remove(&name).unwrap_or(Bytes::new(alloc));
-        bytes.push(b'T')?;
-        bytes.extend(who.bytes())?;
-        bytes.push(0)?;
-        files.insert(name, bytes)?;
+        put_record(alloc, &mut files, text.as_bytes())?;
     }
     files.insert(COUNT, Bytes::from_slice(alloc, b"100000\n")?)?;
     Ok(MapFiles::new(files, Numbers::new(alloc)))
+}
+
+// Whether the keys of members rise.
+fn rise(all: &[Member]) -> bool {
+    let mut last: &[u8] = b"";
+    for found in all {
+        if !is_below(last, found.who.bytes()) {
+            return false;
+        }
+        last = found.who.bytes();
+    }
+    true
 }
 
 #[test]
@@ -256,9 +347,8 @@ fn takes_100_000_and_no_more(rt: HostRuntime) -> Result<(), Fail> {
     let mut full = full(alloc)?;
     assert!(rt; matches!(change(alloc, &mut full, true, b"a@b")?, Err(b"full")));
     assert!(rt; matches!(change(alloc, &mut full, true, b"7@B")?, Err(b"already")));
-    assert_eq!(rt;
-        members(alloc, &mut full, Set::List)?.as_slice().len(),
-        100_000
-    );
+    let all = members(alloc, &mut full, Set::List)?;
+    assert_eq!(rt; all.as_slice().len(), 100_000);
+    assert!(rt; rise(all.as_slice()));
     Ok(())
 }
