@@ -6,10 +6,10 @@ ghost use Rattle.ml_base.specs.Dir.{Dir, with_puts};
 ghost use Rattle.ml_base.specs.Name.{is_in_table};
 ghost use Rattle.ml_base.specs.declared.names.Name.{Name};
 ghost use Rattle.ml_archive.specs.Appending.{append, next_number, next_post, CanAppend, append_puts};
-ghost use Rattle.ml_archive.specs.Posts.{post_at, in_range, group, of_key, key_of};
+ghost use Rattle.ml_archive.specs.Posts.{post_at, in_range, in_thread, cut, numbers, group, of_key, key_of};
 ghost use Rattle.ml_archive.specs.Archive.{ArePosts, IsIndexFile, IsNumberFile, index_name, number_name, number_text, is_of_posts};
 ghost use Rattle.ml_archive.specs.Reading.{count_in, index_in, threads_in};
-ghost use Rattle.ml_archive.specs.Threads.{IsArchive, IsThreadFile, thread_name, thread_place, is_of_archive};
+ghost use Rattle.ml_archive.specs.Threads.{IsArchive, IsThreadByFiles, IsThreadFile, thread_name, thread_place, is_of_archive};
 ghost use Rattle.ml_archive.specs.declared.posts.Entry.{Entry};
 ghost use Rattle.ml_archive.specs.declared.posts.Post.{Post};
 ghost use Rattle.ml_archive.specs.declared.posts.Thread.{Thread};
@@ -50,4 +50,11 @@ pub fn law_append()
     ensures files { (dir : Dir) (prefix : Text) (posts : List Post) (post : Post) (threads : List Thread) → IsArchive dir prefix posts → CanAppend posts post →
         IsThreadFile (thread_place (key_of prefix post)) (dir (thread_name (thread_place (key_of prefix post)))) threads →
         IsArchive (with_puts dir (append_puts prefix (next_number posts) post (unwrap_or (dir (index_name (next_number posts / 100))) []) threads)) prefix (append post posts) }
+{}
+
+/// Where the files stand for a list of posts, the thread of one of them by the files is the filter over all posts, cut as an
+/// answer is, and there is one. So whoever reads a thread file and a few indexes answers as if he had read all posts.
+pub fn law_threads()
+    ensures same { (dir : Dir) (prefix : Text) (posts : List Post) (n : ℕ) (answer : List ℕ) → IsArchive dir prefix posts → 1 ≤ n → n ≤ length posts → IsThreadByFiles dir prefix n answer → answer ≡ numbers (cut (in_thread prefix n posts)) }
+    ensures there { (dir : Dir) (prefix : Text) (posts : List Post) (n : ℕ) → IsArchive dir prefix posts → 1 ≤ n → n ≤ length posts → IsThreadByFiles dir prefix n (numbers (cut (in_thread prefix n posts))) }
 {}
