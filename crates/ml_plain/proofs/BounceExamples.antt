@@ -1,26 +1,23 @@
 -- Worked examples: the course of bounces.
-use Rattle.std.proofs.Common.{◌≡◌, ℕ, true, List, [], ◌∷◌, ◌++◌, Option, Some, refl, codes, length}
+use Rattle.std.proofs.Common.{◌≡◌, ℕ, true, List, [], ◌∷◌, ◌++◌, Some, refl, codes}
 use Rattle.std.specs.Fmt.{digits}
 use Rattle.std.specs.Option.{option_map}
 use Rattle.sha2.specs.Sha256.{sha256, hash_after, digest_bytes, compress, rounds, schedule, first_words}
-use Rattle.ml_base.specs.Bytes.{Text}
 use Rattle.ml_base.specs.declared.names.Set.TheVariants as sets
 use Rattle.ml_address.specs.Cookies.{cookie}
 use Rattle.ml_address.specs.Reading.{request_of}
 use Rattle.ml_address.specs.Writing.{request_text}
-use Rattle.ml_archive.specs.Subjects.{stripped}
-use Rattle.ml_digest.specs.Digest.{digest_text}
 use Rattle.ml_reply.specs.Dates.{date_text, civil_of}
 use Rattle.ml_reply.specs.Mails.{mail_text}
 use Rattle.ml_queue.specs.Queue.{entry}
 use Rattle.ml_plain.specs.declared.Item.{Item}
-use Rattle.ml_plain.specs.declared.Act.TheVariants.{Floor, Remove, Add}
+use Rattle.ml_plain.specs.declared.Act.TheVariants.{Remove}
 use Rattle.ml_plain.specs.Plain.{addresses}
 use Rattle.ml_plain.specs.Posting.{sent_text}
 use Rattle.ml_plain.specs.Steps.{step0}
 use Rattle.ml_plain.specs.Histories.{State, step, fold, text}
 use Rattle.ml_plain.specs.Verdicts.{verdict}
-use Rattle.ml_plain.proofs.ExampleItems.{usual, config, a_list, about, m, to_list, item, add, add_to, deliver, ask, bounce, timed}
+use Rattle.ml_plain.proofs.ExampleItems.{usual, a_list, m, to_list, item, add, deliver, bounce, timed}
 
 -- a member, and a post to him
 abbrev member : State

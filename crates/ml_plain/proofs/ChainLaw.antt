@@ -1,5 +1,5 @@
 -- A probe drops an address only at the end of its course.
-use Rattle.std.proofs.Common.{◌≡◌, ℕ, zero, suc, ◌-◌, ◌<◌, ◌≤◌, inl, inr, Bool, true, false, not, List, [], ◌∷◌, ◌++◌, Option, Some, None, refl, sym, ap, subst, ◌∙◌, codes, arith, take, length, slice_get, option_map, unwrap_or, nat_le, length-append, if◌then◌else◌}
+use Rattle.std.proofs.Common.{◌≡◌, ℕ, ◌-◌, ◌<◌, ◌≤◌, inl, inr, Bool, true, false, not, List, [], ◌∷◌, ◌++◌, Option, Some, None, refl, sym, ap, subst, ◌∙◌, codes, arith, take, length, unwrap_or, nat_le, length-append, if◌then◌else◌}
 use Rattle.std.proofs.lemmas.Bool.{and_parts, not-true, true≢false}
 use Rattle.std.proofs.lemmas.Bool.Decides.{nat_tests}
 use Rattle.std.proofs.lemmas.List.{append-nil, append_assoc, take-append-le, take_at, take_all}
@@ -16,7 +16,6 @@ use Rattle.ml_subs.specs.Members.{has_key}
 use Rattle.ml_plain.specs.declared.Item.{Item}
 use Rattle.ml_plain.specs.declared.Act.{Act}
 use Rattle.ml_plain.specs.declared.Act.TheVariants.{Deliver, Timed, Add, Remove, Sent, Rekey, Floor}
-use Rattle.ml_plain.specs.Histories.{fold_plain}
 use Rattle.ml_plain.specs.Laws.{after, made, bounce_entry, warning_to, probe_to, LawChain, IsBounce, IsWarningBounce, IsTimedMail, IsWarning, IsProbe, IsDrop, Happened, Course, IsDroppedByCourse}
 use Rattle.ml_plain.specs.Plain.{Plain, new_list, ledger_of}
 use Rattle.ml_plain.specs.Steps as steps

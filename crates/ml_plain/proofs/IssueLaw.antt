@@ -1,16 +1,15 @@
 -- Every history has its issues of the digest, 1, 2, 3 and so on, and no post is in two of them.
-use Rattle.std.proofs.Common.{◌≡◌, ◌≢◌, ℕ, zero, suc, ◌+◌, ◌<◌, ◌≤◌, ◌⊎◌, inl, inr, Bool, true, false, List, [], ◌∷◌, ◌++◌, Some, None, refl, sym, ap, ap₂, subst, ◌∙◌, arith, take, length, slice_get, length-append}
+use Rattle.std.proofs.Common.{◌≡◌, ℕ, zero, suc, ◌+◌, ◌<◌, ◌≤◌, ◌⊎◌, inl, inr, Bool, true, false, List, [], ◌∷◌, ◌++◌, Some, None, refl, sym, ap, ap₂, subst, ◌∙◌, arith, take, length, slice_get, length-append}
 use Rattle.std.proofs.lemmas.Bool.{false≢true}
 use Rattle.std.proofs.lemmas.List.{append-nil, append_assoc, take-append-le, take_at}
 use Rattle.std.proofs.lemmas.Slice.Eq.{bytes_eq-Decides}
 use Rattle.std.specs.Str.{bytes_eq}
 use Rattle.ml_base.specs.Bytes.{Text}
 use Rattle.ml_config.specs.declared.configuration.Config.{Config}
-use Rattle.ml_digest.specs.declared.posts.Mark.{Mark}
 use Rattle.ml_plain.specs.declared.Item.{Item}
 use Rattle.ml_plain.specs.Laws.{after, Happened, made_for, MakesDigest, MakesNoDigest, Issue, HasPost, MakesIssue, IsOneOf, AreIssues, HasIssues}
 use Rattle.ml_plain.specs.Mailing.{digest_path}
-use Rattle.ml_plain.specs.Plain.{Plain, new_list}
+use Rattle.ml_plain.specs.Plain.{new_list}
 use Rattle.ml_plain.specs.Steps.{step0}
 use Rattle.ml_plain.proofs.DigestLaw.{makes_digests, fold_config}
 use Rattle.ml_plain.proofs.Places.{fold_snoc, get_front, get_within, get_last, get_either, grown, happened}

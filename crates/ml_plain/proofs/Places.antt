@@ -1,5 +1,5 @@
 -- Histories that grow by an item, and what stands at their places.
-use Rattle.std.proofs.Common.{◌≡◌, ℕ, zero, suc, ◌<◌, ◌⊎◌, inl, inr, List, [], ◌∷◌, ◌++◌, Option, Some, None, refl, sym, subst, take, length, slice_get, arith}
+use Rattle.std.proofs.Common.{◌≡◌, ℕ, zero, suc, ◌<◌, ◌⊎◌, inl, inr, List, [], ◌∷◌, ◌++◌, Some, None, refl, sym, subst, length, slice_get, arith}
 use Rattle.std.proofs.lemmas.List.{take-append-le, take_at}
 use Rattle.ml_base.specs.Bytes.{Text}
 use Rattle.ml_config.specs.declared.configuration.Config.{Config}
