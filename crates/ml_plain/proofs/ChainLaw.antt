@@ -1,8 +1,9 @@
 -- A probe drops an address only at the end of its course.
-use Rattle.std.proofs.Common.{◌≡◌, ℕ, ◌-◌, ◌<◌, ◌≤◌, inl, inr, Bool, true, false, not, List, [], ◌∷◌, ◌++◌, Option, Some, None, refl, sym, ap, subst, ◌∙◌, codes, arith, take, length, unwrap_or, nat_le, length-append, if◌then◌else◌}
-use Rattle.std.proofs.lemmas.Bool.{and_parts, not-true, true≢false}
+use Rattle.std.proofs.Common.{◌≡◌, ℕ, ◌-◌, ◌<◌, ◌≤◌, inl, inr, Bool, true, false, not, ◌==◌, ◌||◌, List, [], ◌∷◌, ◌++◌, Option, Some, None, refl, sym, ap, subst, ◌∙◌, codes, arith, take, length, unwrap_or, nat_le, length-append, if◌then◌else◌}
+use Rattle.std.proofs.lemmas.Bool.{and_parts, not-true, true≢false, eq-eqb}
 use Rattle.std.proofs.lemmas.Bool.Decides.{nat_tests}
 use Rattle.std.proofs.lemmas.List.{append-nil, append_assoc, take-append-le, take_at, take_all}
+use Rattle.std.specs.List.{list_any}
 use Rattle.ml_base.specs.Bytes.{Text, is_empty}
 use Rattle.ml_base.specs.declared.names.Set.{Set}
 use Rattle.ml_base.specs.declared.names.Set.TheVariants as sets
@@ -80,18 +81,19 @@ module _ (c : Config) (ck : Text) (set : Set) (k : Text) where
       go false t = subst Member (sym (take_all i (h ++ x ∷ []) (grind (arith, nat_tests, t, length-append h (x ∷ []))))) behind
 
   -- its mail bounced at this moment, and it was a member ever since
-  record Bounced (h : List Item) (moment : ℕ) : Type 0 where
+  record Bounced (h : List Item) (moment number : ℕ) : Type 0 where
     first : ℕ
-    at : Happened c ck h first moment (λ p item. IsBounce p item set k)
+    at : Happened c ck h first moment (λ p item. IsBounce p item set k number)
     since : Since h first
 
   -- it was warned at this moment, long after that
   record WarnedAt (h : List Item) (moment : ℕ) : Type 0 where
     bounced : ℕ
-    bounce : Bounced h bounced
+    number : ℕ
+    bounce : Bounced h bounced number
     second : ℕ
     later : bounce.first < second
-    at : Happened c ck h second moment (IsWarning set k)
+    at : Happened c ck h second moment (IsWarning set k number)
     long : 1_000_000 ≤ moment - bounced
 
   -- that warning bounced at this moment
@@ -118,11 +120,11 @@ module _ (c : Config) (ck : Text) (set : Set) (k : Text) where
   StageOf h (WarnFailed t) = FailedAt h t
   StageOf h (Probed t) = ProbedAt h t
 
-  abbrev bounced_grows : (h : List Item) (x : Item) (m : ℕ) → Member (h ++ x ∷ []) → Bounced h m → Bounced (h ++ x ∷ []) m
-  bounced_grows h x m member b = record { first = b.first; at = grown c ck h x b.first m _ b.at; since = since_grows h x b.first b.since member }
+  abbrev bounced_grows : (h : List Item) (x : Item) (m n : ℕ) → Member (h ++ x ∷ []) → Bounced h m n → Bounced (h ++ x ∷ []) m n
+  bounced_grows h x m n member b = record { first = b.first; at = grown c ck h x b.first m _ b.at; since = since_grows h x b.first b.since member }
 
   abbrev warned_grows : (h : List Item) (x : Item) (m : ℕ) → Member (h ++ x ∷ []) → WarnedAt h m → WarnedAt (h ++ x ∷ []) m
-  warned_grows h x m member w = record { bounced = w.bounced; bounce = bounced_grows h x w.bounced member w.bounce; second = w.second; later = w.later; at = grown c ck h x w.second m _ w.at; long = w.long }
+  warned_grows h x m member w = record { bounced = w.bounced; number = w.number; bounce = bounced_grows h x w.bounced w.number member w.bounce; second = w.second; later = w.later; at = grown c ck h x w.second m _ w.at; long = w.long }
 
   abbrev failed_grows : (h : List Item) (x : Item) (m : ℕ) → Member (h ++ x ∷ []) → FailedAt h m → FailedAt (h ++ x ∷ []) m
   failed_grows h x m member f = record { warned = f.warned; warning = warned_grows h x f.warned member f.warning; third = f.third; later = f.later; at = grown c ck h x f.third m _ f.at }
@@ -137,17 +139,21 @@ module _ (c : Config) (ck : Text) (set : Set) (k : Text) where
   stage_grows h x (WarnFailed t) member i = failed_grows h x t member i
   stage_grows h x (Probed t) member i = probed_grows h x t member i
 
+  -- the first of the missed numbers bounced at the entry's first moment
+  abbrev Missed : List Item → LedgerEntry → Type 0
+  Missed h e = (n : ℕ) (more : List ℕ) → e.missed ≡ n ∷ more → Bounced h e.first n
+
   -- what an entry tells of a history
   record Told (h : List Item) (e : LedgerEntry) : Type 0 where
-    missed : is_empty e.missed ≡ false → Bounced h e.first
+    missed : Missed h e
     stage : StageOf h e.stage
 
   told_grows : (h : List Item) (x : Item) (e : LedgerEntry) → Member (h ++ x ∷ []) → Told h e → Told (h ++ x ∷ []) e
-  told_grows h x e member i = record { missed = λ some. bounced_grows h x e.first member (i.missed some); stage = stage_grows h x e.stage member i.stage }
+  told_grows h x e member i = record { missed = λ n more is. bounced_grows h x e.first n member (i.missed n more is); stage = stage_grows h x e.stage member i.stage }
 
   nothing_told : (h : List Item) → Told h (no_entry k)
   unfolding StageOf
-  nothing_told h = record { missed = λ some. absurd (true≢false some); stage = tt }
+  nothing_told h = record { missed = λ n more is. absurd (let bad : [] ≡ n ∷ more = is in cc); stage = tt }
 
   -- each entry of the key tells what happened, and the key is a member
   abbrev Entry : List Item → Type 0
@@ -161,16 +167,21 @@ module _ (c : Config) (ck : Text) (set : Set) (k : Text) where
       go (Some f) e = (i f e).1
 
   -- another number was noted
-  noted_told : (h : List Item) (x : Item) (number : ℕ) (old : LedgerEntry) → Member h → Member (h ++ x ∷ []) → IsBounce (after c ck h) x set k → Told h old
+  noted_told : (h : List Item) (x : Item) (number : ℕ) (old : LedgerEntry) → Member h → Member (h ++ x ∷ []) → IsBounce (after c ck h) x set k number → Told h old
       → Told (h ++ x ∷ []) (noted number x.moment old)
   noted_told h x number old now member bounce i = record {
-    missed = λ some. go (is_empty old.missed) refl;
+    missed = λ n more is. go old.missed refl n more is;
     stage = stage_grows h x old.stage member i.stage;
   }
     where
-      go : (t : Bool) → is_empty old.missed ≡ t → Bounced (h ++ x ∷ []) (if t then x.moment else old.first)
-      go true t = record { first = length h; at = happened c ck h x (λ p item. IsBounce p item set k) bounce; since = since_now h x now member }
-      go false t = bounced_grows h x old.first member (i.missed t)
+      go : (ms : List ℕ) → old.missed ≡ ms → (n : ℕ) (more : List ℕ) → ms ++ number ∷ [] ≡ n ∷ more → Bounced (h ++ x ∷ []) (if is_empty ms then x.moment else old.first) n
+      go [] e n more is =
+          let same : number ≡ n = cc in
+          subst (Bounced (h ++ x ∷ []) x.moment) same
+          (record { first = length h; at = happened c ck h x (λ p item. IsBounce p item set k number) bounce; since = since_now h x now member })
+      go (m ∷ ms) e n more is =
+          let same : m ≡ n = cc in
+          subst (Bounced (h ++ x ∷ []) old.first) same (bounced_grows h x old.first m member (i.missed m ms e))
 
   -- the warning bounced
   failed_told : (h : List Item) (x : Item) (t : ℕ) (old : LedgerEntry) → Member (h ++ x ∷ []) → IsWarningBounce (after c ck h) x set k t → old.stage ≡ Warned t → Told h old
@@ -179,7 +190,7 @@ module _ (c : Config) (ck : Text) (set : Set) (k : Text) where
   failed_told h x t old member bounce is i =
       let w : WarnedAt h t = subst (StageOf h) is i.stage in
       record {
-        missed = λ some. bounced_grows h x old.first member (i.missed some);
+        missed = λ n more is. bounced_grows h x old.first n member (i.missed n more is);
         stage = record {
           warned = t;
           warning = warned_grows h x t member w;
@@ -189,28 +200,49 @@ module _ (c : Config) (ck : Text) (set : Set) (k : Text) where
         };
       }
 
+  -- the missed numbers are those that the ledger has under the key
+  ledger_missed : (h : List Item) (old : LedgerEntry) (n : ℕ) (more : List ℕ) → find_entry k (ledger_of (after c ck h) set) ≡ Some old → old.missed ≡ n ∷ more
+      → list_any (λ m. m == n) (entry_under k (ledger_of (after c ck h) set)).missed ≡ true
+  ledger_missed h old n more found is =
+      ap (λ o. list_any (λ m. m == n) (unwrap_or o (no_entry k)).missed) found ∙ ap (list_any (λ m. m == n)) is ∙ ap (λ b. b || list_any (λ m. m == n) more) (eq-eqb n n refl)
+
+  -- it was due, and is warned
+  warned_now : (h : List Item) (x : Item) (old : LedgerEntry) → Member (h ++ x ∷ []) → find_entry k (ledger_of (after c ck h) set) ≡ Some old → x.act ≡ Timed
+      → is_old x.moment old.first ≡ true → Mails (after c ck h) (steps.step0 (after c ck h) x).0 set k x.moment Unwarned → Missed h old
+      → (ms : List ℕ) → old.missed ≡ ms → is_empty ms ≡ false → WarnedAt (h ++ x ∷ []) x.moment
+  warned_now h x old member found timed is_long mail missed [] is some = absurd (true≢false some)
+  warned_now h x old member found timed is_long mail missed (n ∷ more) is some =
+      let b = missed n more is in
+      record {
+        bounced = old.first;
+        number = n;
+        bounce = bounced_grows h x old.first n member b;
+        second = length h;
+        later = before c ck h b.first old.first _ b.at;
+        at = happened c ck h x (IsWarning set k n) (record {
+          mail = mail_told (after c ck h) x (codes "warn") (warning_to (after c ck h) set k) set k timed mail;
+          named = ledger_missed h old n more found is;
+        });
+        long = grind (arith, nat_tests, is_long);
+      }
+
+  missed_grows : (h : List Item) (x : Item) (old : LedgerEntry) → Member (h ++ x ∷ []) → Missed h old → Missed (h ++ x ∷ []) old
+  missed_grows h x old member missed n more is = bounced_grows h x old.first n member (missed n more is)
+
   -- it was due
-  due_told : (h : List Item) (x : Item) (s : Stage) (old : LedgerEntry) → Member (h ++ x ∷ []) → x.act ≡ Timed → is_due_at x.moment s old ≡ true
-      → Mails (after c ck h) (steps.step0 (after c ck h) x).0 set k x.moment s → (is_empty old.missed ≡ false → Bounced h old.first) → StageOf h s
+  due_told : (h : List Item) (x : Item) (s : Stage) (old : LedgerEntry) → Member (h ++ x ∷ []) → find_entry k (ledger_of (after c ck h) set) ≡ Some old → x.act ≡ Timed
+      → is_due_at x.moment s old ≡ true → Mails (after c ck h) (steps.step0 (after c ck h) x).0 set k x.moment s → Missed h old → StageOf h s
       → Told (h ++ x ∷ []) (after_at x.moment s old)
   unfolding StageOf
-  due_told h x Unwarned old member timed due mail missed stage =
+  due_told h x Unwarned old member found timed due mail missed stage =
       let parts = and_parts (not (is_empty old.missed)) (is_old x.moment old.first) due in
-      let b = missed (not-true (is_empty old.missed) parts.0) in
       record {
-        missed = λ some. absurd (true≢false some);
-        stage = record {
-          bounced = old.first;
-          bounce = bounced_grows h x old.first member b;
-          second = length h;
-          later = before c ck h b.first old.first _ b.at;
-          at = happened c ck h x (IsWarning set k) (mail_told (after c ck h) x (codes "warn") (warning_to (after c ck h) set k) set k timed mail);
-          long = grind (arith, nat_tests, parts.1);
-        };
+        missed = λ n more is. absurd (let bad : [] ≡ n ∷ more = is in cc);
+        stage = warned_now h x old member found timed parts.1 mail missed old.missed refl (not-true (is_empty old.missed) parts.0);
       }
-  due_told h x (Warned t) old member timed due mail missed stage = record { missed = λ some. bounced_grows h x old.first member (missed some); stage = tt }
-  due_told h x (WarnFailed t) old member timed due mail missed stage = record {
-    missed = λ some. bounced_grows h x old.first member (missed some);
+  due_told h x (Warned t) old member found timed due mail missed stage = record { missed = missed_grows h x old member missed; stage = tt }
+  due_told h x (WarnFailed t) old member found timed due mail missed stage = record {
+    missed = missed_grows h x old member missed;
     stage = record {
       failed = t;
       failure = failed_grows h x t member stage;
@@ -220,7 +252,7 @@ module _ (c : Config) (ck : Text) (set : Set) (k : Text) where
       long = grind (arith, nat_tests, due);
     };
   }
-  due_told h x (Probed t) old member timed due mail missed stage = record { missed = λ some. bounced_grows h x old.first member (missed some); stage = tt }
+  due_told h x (Probed t) old member found timed due mail missed stage = record { missed = missed_grows h x old member missed; stage = tt }
 
   -- behind one more item
   entry_told : (h : List Item) (x : Item) (e : LedgerEntry) → Entry h → (Member h → Member (h ++ x ∷ []))
@@ -238,7 +270,7 @@ module _ (c : Config) (ck : Text) (set : Set) (k : Text) where
       (member, subst (Told (h ++ x ∷ [])) (sym is) (failed_told h x t old member bounced warned told))
   entry_told h x e i stays (Due timed old found due is mails) =
       let told = i old found in
-      (stays told.0, subst (Told (h ++ x ∷ [])) (sym is) (due_told h x old.stage old (stays told.0) timed due mails told.1.missed told.1.stage))
+      (stays told.0, subst (Told (h ++ x ∷ [])) (sym is) (due_told h x old.stage old (stays told.0) found timed due mails told.1.missed told.1.stage))
 
   -- the course that a probe ends
   course_of : (h : List Item) (t : ℕ) → ProbedAt h t → Course c ck h set k t
@@ -247,6 +279,7 @@ module _ (c : Config) (ck : Text) (set : Set) (k : Text) where
       let w = f.warning in
       let b = w.bounce in
       record {
+        number = w.number;
         bounced = w.bounced;
         warned = f.warned;
         failed = p.failed;

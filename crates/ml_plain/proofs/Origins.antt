@@ -40,7 +40,7 @@ Mails p q set k now (Probed t) = Unit {0}
 -- or it was due, and its stage changed
 pub data Origin (p q : Plain) (item : Item) (set : Set) (k : Text) (e : LedgerEntry) : Type 0 where
   Same : (found : find_entry k (ledger_of p set) ≡ Some e) → Origin p q item set k e
-  Noted : (number : ℕ) (bounced : IsBounce p item set k) (is : e ≡ noted number item.moment (entry_under k (ledger_of p set))) (member : has_key k (p.sets set) ≡ true) → Origin p q item set k e
+  Noted : (number : ℕ) (bounced : IsBounce p item set k number) (is : e ≡ noted number item.moment (entry_under k (ledger_of p set))) (member : has_key k (p.sets set) ≡ true) → Origin p q item set k e
   Failed : (t : ℕ) (bounced : IsWarningBounce p item set k t) (warned : (entry_under k (ledger_of p set)).stage ≡ Warned t)
       (is : e ≡ record (entry_under k (ledger_of p set)) { stage = WarnFailed item.moment }) → Origin p q item set k e
   Due : (timed : item.act ≡ Timed) (old : LedgerEntry) (found : find_entry k (ledger_of p set) ≡ Some old) (due : is_due item.moment old ≡ true)

@@ -103,7 +103,7 @@ sender_traced now m p item r (Some s) = looped_traced now s p item r _
 -- bounces
 
 bounce_traced : (p : Plain) (item : Item) (set : Set) (number : ℕ) (x : Text) (test can : Bool)
-    → (test ≡ true → can ≡ true → IsBounce p item set (key x) × (is_in p set x ≡ true))
+    → (test ≡ true → can ≡ true → IsBounce p item set (key x) number × (is_in p set x ≡ true))
     → Traced p (bouncing.if_changed p set (if test then (if can then Some (with_ledger (noted number item.moment (entry_under (key x) (ledger_of p set))) (ledger_of p set)) else None) else None)).0 item
 bounce_traced p item set number x false can h = calm_same p _ item refl refl refl
 bounce_traced p item set number x true false h = calm_same p _ item refl refl refl
@@ -152,7 +152,6 @@ module _ (p : Plain) (item : Item) (sender recipient m : Text) (act : item.act �
       let parts = and_parts (is_in p set x) (bouncing.is_used p set number) t in (
         record {
           sender = sender;
-          number = number;
           who = who;
           asks = record { recipient = recipient; message = m; act = act; request_is = is };
           is = refl;

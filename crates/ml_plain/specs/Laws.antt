@@ -1,7 +1,7 @@
 -- What the list owes to people: laws of every history from a new list.
-use Rattle.std.specs.Prelude.{◌≡◌, ◌≢◌, ◌<◌, ◌≤◌, ◌+◌, ◌-◌, ◌⊎◌, ℕ, true, false, nat_le, List, [], ◌∷◌, ◌++◌, length, map, take, filter, slice_get, Option, Some, codes, option_map}
+use Rattle.std.specs.Prelude.{◌≡◌, ◌≢◌, ◌<◌, ◌≤◌, ◌+◌, ◌-◌, ◌⊎◌, ◌==◌, ℕ, true, false, nat_le, List, [], ◌∷◌, ◌++◌, length, map, take, filter, slice_get, Option, Some, codes, option_map}
 use Rattle.std.specs.Option.{option_map_or}
-use Rattle.std.specs.List.{AllByRecursion}
+use Rattle.std.specs.List.{AllByRecursion, list_any}
 use Rattle.std.specs.Str.{bytes_eq}
 use Rattle.ml_base.specs.Bytes.{Text}
 use Rattle.ml_base.specs.Address.{key}
@@ -216,10 +216,9 @@ pub record IsWarningBounce (p : Plain) (item : Item) (set : Set) (k : Text) (tim
   pub good : is_good p (codes "warn") set time k signed.cookie item.moment ≡ true
   pub told : (step0 p item).1 ≡ bounce
 
--- mail to it bounces, of a post or of an issue that there was, and that is noted
-pub record IsBounce (p : Plain) (item : Item) (set : Set) (k : Text) : Type 0 where
+-- mail of this number to it bounces, of a post or of an issue that there was, and that is noted
+pub record IsBounce (p : Plain) (item : Item) (set : Set) (k : Text) (number : ℕ) : Type 0 where
   pub sender : Text
-  pub number : ℕ
   pub who : PlainWho
   pub asks : Asks p item sender (Bounce set number who)
   pub is : key (address_named who) ≡ k
@@ -248,18 +247,20 @@ warning_to p set k who = mails.Warn who set who (entry_under k (ledger_of p set)
 abbrev pub probe_to : Set → Text → Mail
 probe_to set who = mails.Probe who set who
 
--- a timed run warns the member of a key
-abbrev pub IsWarning : Set → Text → Plain → Item → Type 0
-IsWarning set k p item = IsTimedMail p item (codes "warn") (warning_to p set k) set k
+-- a timed run warns the member of a key, and this number is among those that the warning names
+pub record IsWarning (set : Set) (k : Text) (number : ℕ) (p : Plain) (item : Item) : Type 0 where
+  pub mail : IsTimedMail p item (codes "warn") (warning_to p set k) set k
+  pub named : list_any (λ n. n == number) (entry_under k (ledger_of p set)).missed ≡ true
 
 -- a timed run probes the member of a key
 abbrev pub IsProbe : Set → Text → Plain → Item → Type 0
 IsProbe set k p item = IsTimedMail p item (codes "probe") (probe_to set) set k
 
 -- The course before the bounce of a probe of this moment drops a key: its mail bounced, which was noted; 1,000,000 seconds later at
--- least the member was warned; that warning bounced; 1,000,000 seconds later at least the member was probed; and the key was a
--- member's all the while.
+-- least the member was warned, also of that bounce; the warning bounced, which was noted; 1,000,000 seconds later at least the member
+-- was probed; and the key was a member's all the while.
 pub record Course (c : Config) (key : Text) (h : List Item) (set : Set) (k : Text) (probed : ℕ) : Type 0 where
+  pub number : ℕ
   pub bounced : ℕ
   pub warned : ℕ
   pub failed : ℕ
@@ -270,8 +271,8 @@ pub record Course (c : Config) (key : Text) (h : List Item) (set : Set) (k : Tex
   pub second_later : first < second
   pub third_later : second < third
   pub fourth_later : third < fourth
-  pub bounce_at : Happened c key h first bounced (λ p item. IsBounce p item set k)
-  pub warning_at : Happened c key h second warned (IsWarning set k)
+  pub bounce_at : Happened c key h first bounced (λ p item. IsBounce p item set k number)
+  pub warning_at : Happened c key h second warned (IsWarning set k number)
   pub bounced_long_ago : 1_000_000 ≤ warned - bounced
   pub warning_bounce_at : Happened c key h third failed (λ p item. IsWarningBounce p item set k warned)
   pub probe_at : Happened c key h fourth probed (IsProbe set k)

@@ -42,7 +42,7 @@ pub fn law_leaving()
 
 /// An address leaves a set in one of the four ways of `law_leaving`. Where a probe drops it, which only happens in list or digest, its
 /// history has the whole course: a bounce of a post or of an issue that there was, which was answered `bounce`; 1,000,000 seconds later
-/// at least a warning, to that member alone, which names the numbers that he missed; the bounce of that warning, with a good cookie;
+/// at least a warning, to that member alone, which names the number of that bounce; the bounce of that warning, with a good cookie;
 /// 1,000,000 seconds later at least a probe, to that member alone; and then the bounce of that probe, with a good cookie. The address was
 /// a member all the while.
 pub fn law_chain()
