@@ -7,7 +7,10 @@ use Rattle.std.specs.List.{list_any}
 use Rattle.ml_base.specs.Bytes.{Text, is_empty}
 use Rattle.ml_base.specs.declared.names.Set.{Set}
 use Rattle.ml_base.specs.declared.names.Set.TheVariants as sets
-use Rattle.ml_bounce.specs.Ledger.{Stage, Unwarned, Warned, WarnFailed, Probed, LedgerEntry, find_entry, entry_under, no_entry}
+use Rattle.ml_bounce.specs.Ledger.{find_entry, entry_under, no_entry}
+use Rattle.ml_bounce.specs.declared.entries.Stage.{Stage}
+use Rattle.ml_bounce.specs.declared.entries.Stage.TheVariants.{Unwarned, Warned, WarnFailed, Probed}
+use Rattle.ml_bounce.specs.declared.entries.LedgerEntry.{LedgerEntry}
 use Rattle.ml_bounce.specs.Changes.{is_due_at, is_old, after_at, noted}
 use Rattle.ml_base.specs.Drawn.{Drawn}
 use Rattle.ml_config.specs.declared.configuration.Config.{Config}

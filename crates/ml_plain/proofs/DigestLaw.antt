@@ -16,7 +16,10 @@ use Rattle.ml_address.specs.Requests.{PlainRequest, Post, Owner, Subscribe, Unsu
 use Rattle.ml_address.specs.Reading.{request_of}
 use Rattle.ml_archive.specs.Subjects.{subject}
 use Rattle.ml_archive.specs.declared.posts.Post.{Post as Archived}
-use Rattle.ml_bounce.specs.Ledger.{Ledger, LedgerEntry, Stage, Unwarned, Warned, WarnFailed, Probed}
+use Rattle.ml_bounce.specs.Ledger.{Ledger}
+use Rattle.ml_bounce.specs.declared.entries.Stage.{Stage}
+use Rattle.ml_bounce.specs.declared.entries.Stage.TheVariants.{Unwarned, Warned, WarnFailed, Probed}
+use Rattle.ml_bounce.specs.declared.entries.LedgerEntry.{LedgerEntry}
 use Rattle.ml_config.specs.declared.configuration.Config.{Config}
 use Rattle.ml_digest.specs.Due.{due, is_due}
 use Rattle.ml_digest.specs.Digest.{digest_text}

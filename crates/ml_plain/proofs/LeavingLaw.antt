@@ -12,7 +12,10 @@ use Rattle.ml_address.specs.declared.Word.{Word}
 use Rattle.ml_address.specs.declared.Word.TheVariants as words
 use Rattle.ml_address.specs.Requests.{PlainWho, Signed, PlainRequest, Post, Owner, Subscribe, Unsubscribe, Members, Confirm, Get, Index, Thread, Accept, Reject, Bounce, WarnBounce, ProbeBounce, ReplyBounce, word_text}
 use Rattle.ml_address.specs.Reading.{request_of}
-use Rattle.ml_bounce.specs.Ledger.{Ledger, LedgerEntry, Stage, Unwarned, Warned, WarnFailed, Probed, entry_under}
+use Rattle.ml_bounce.specs.Ledger.{Ledger, entry_under}
+use Rattle.ml_bounce.specs.declared.entries.Stage.{Stage}
+use Rattle.ml_bounce.specs.declared.entries.Stage.TheVariants.{Unwarned, Warned, WarnFailed, Probed}
+use Rattle.ml_bounce.specs.declared.entries.LedgerEntry.{LedgerEntry}
 use Rattle.ml_bounce.specs.Changes.{is_probed}
 use Rattle.ml_digest.specs.declared.posts.Range.{Range}
 use Rattle.ml_hold.specs.declared.posts.Held.{Held}

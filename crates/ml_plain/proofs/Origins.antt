@@ -8,7 +8,10 @@ use Rattle.ml_base.specs.Address.{key}
 use Rattle.ml_base.specs.Name.{set_number}
 use Rattle.ml_base.specs.declared.names.Set.{Set}
 use Rattle.ml_base.specs.declared.names.Set.TheVariants as sets
-use Rattle.ml_bounce.specs.Ledger.{Stage, Unwarned, Warned, WarnFailed, Probed, LedgerEntry, Ledger, find_entry, entry_under, no_entry, with_ledger, forget}
+use Rattle.ml_bounce.specs.Ledger.{Ledger, find_entry, entry_under, no_entry, with_ledger, forget}
+use Rattle.ml_bounce.specs.declared.entries.Stage.{Stage}
+use Rattle.ml_bounce.specs.declared.entries.Stage.TheVariants.{Unwarned, Warned, WarnFailed, Probed}
+use Rattle.ml_bounce.specs.declared.entries.LedgerEntry.{LedgerEntry}
 use Rattle.ml_bounce.specs.Changes.{noted, is_due, after_at}
 use Rattle.ml_reply.specs.declared.mails.Mail.{Mail}
 use Rattle.ml_subs.specs.Members.{has_key, member_of, without_member}

@@ -10,7 +10,10 @@ use Rattle.ml_base.specs.declared.names.Set.TheVariants as sets
 use Rattle.ml_address.specs.Requests.{set_front}
 use Rattle.ml_address.specs.Writing.{ticket_text}
 use Rattle.ml_address.specs.Cookies.{cookie}
-use Rattle.ml_bounce.specs.Ledger.{Stage, Unwarned, Warned, WarnFailed, Probed, LedgerEntry, Ledger, find_entry, entry_under, no_entry, forget, settle}
+use Rattle.ml_bounce.specs.Ledger.{Ledger, find_entry, entry_under, no_entry, forget, settle}
+use Rattle.ml_bounce.specs.declared.entries.Stage.{Stage}
+use Rattle.ml_bounce.specs.declared.entries.Stage.TheVariants.{Unwarned, Warned, WarnFailed, Probed}
+use Rattle.ml_bounce.specs.declared.entries.LedgerEntry.{LedgerEntry}
 use Rattle.ml_bounce.specs.Changes.{is_due, due_entries, after_at}
 use Rattle.ml_config.specs.declared.configuration.Config.{Config}
 use Rattle.ml_config.specs.declared.key_file.Keys.{Keys}

@@ -7,7 +7,10 @@ use Rattle.ml_base.specs.Drawn.{thing_of}
 use Rattle.ml_base.specs.declared.names.Set.{Set}
 use Rattle.ml_address.specs.Requests.{PlainRequest, Post, Owner, Subscribe, Unsubscribe, Members, Confirm, Get, Index, Thread, Accept, Reject, Bounce, WarnBounce, ProbeBounce, ReplyBounce}
 use Rattle.ml_address.specs.Reading.{request_of}
-use Rattle.ml_bounce.specs.Ledger.{Stage, Unwarned, Warned, WarnFailed, Probed, LedgerEntry, Ledger, entry_under, with_ledger}
+use Rattle.ml_bounce.specs.Ledger.{Ledger, entry_under, with_ledger}
+use Rattle.ml_bounce.specs.declared.entries.Stage.{Stage}
+use Rattle.ml_bounce.specs.declared.entries.Stage.TheVariants.{Unwarned, Warned, WarnFailed, Probed}
+use Rattle.ml_bounce.specs.declared.entries.LedgerEntry.{LedgerEntry}
 use Rattle.ml_bounce.specs.Changes.{can_note, noted, is_warned}
 use Rattle.ml_hold.specs.declared.posts.Held.{Held}
 use Rattle.ml_reply.specs.declared.mails.Mail.TheVariants as mails

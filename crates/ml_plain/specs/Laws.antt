@@ -12,7 +12,8 @@ use Rattle.ml_address.specs.Requests.{PlainWho, Signed, PlainRequest, Unsubscrib
 use Rattle.ml_address.specs.Reading.{request_of}
 use Rattle.ml_address.specs.declared.Word.TheVariants as words
 use Rattle.ml_archive.specs.declared.posts.Post.{Post}
-use Rattle.ml_bounce.specs.Ledger.{Probed, entry_under}
+use Rattle.ml_bounce.specs.Ledger.{entry_under}
+use Rattle.ml_bounce.specs.declared.entries.Stage.TheVariants.{Probed}
 use Rattle.ml_config.specs.declared.configuration.Config.{Config}
 use Rattle.ml_digest.specs.Digest.{digest_text}
 use Rattle.ml_digest.specs.declared.posts.Range.{Range}

@@ -11,7 +11,10 @@ use Rattle.ml_digest.specs.Due.{due}
 use Rattle.ml_digest.specs.Digest.{digest_text}
 use Rattle.ml_digest.specs.declared.posts.Range.{Range}
 use Rattle.ml_digest.specs.declared.posts.DigestPost.{DigestPost}
-use Rattle.ml_bounce.specs.Ledger.{Stage, Unwarned, Warned, WarnFailed, Probed, LedgerEntry, forget}
+use Rattle.ml_bounce.specs.Ledger.{forget}
+use Rattle.ml_bounce.specs.declared.entries.Stage.{Stage}
+use Rattle.ml_bounce.specs.declared.entries.Stage.TheVariants.{Unwarned, Warned, WarnFailed, Probed}
+use Rattle.ml_bounce.specs.declared.entries.LedgerEntry.{LedgerEntry}
 use Rattle.ml_bounce.specs.Changes.{due_entries, act}
 use Rattle.ml_reply.specs.Dates.{date_text}
 use Rattle.ml_reply.specs.declared.mails.Mail.TheVariants as mails
