@@ -11,4 +11,4 @@ pub mod OneSpelling
 pub mod KeyLemmas
 pub mod ReadLemmas
 pub mod FirstFileLemmas
-mod Rows
+mod Examples

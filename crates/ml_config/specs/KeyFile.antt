@@ -1,7 +1,8 @@
 -- The file of the keys: the key, and where it was changed once the former key and the moment of the change.
-use Rattle.std.specs.Prelude.{◌≡◌, ◌<◌, [], ◌++◌, length, Option, Some, None, IfSome}
+use Rattle.std.specs.Prelude.{◌≡◌, [], ◌++◌, length, Option, Some, None, IfSome}
 use Rattle.std.specs.Int.{to_be_bytes, w64}
 use Rattle.ml_base.specs.Bytes.{Text}
+use Rattle.ml_base.specs.Ranges.{IsMoment}
 use Rattle.ml_base.specs.declared.names.Name.{Name}
 use Rattle.ml_base.specs.declared.puts.Put.{Put}
 use Rattle.ml_config.specs.declared.key_file.Former.{Former}
@@ -10,7 +11,7 @@ use Rattle.ml_config.specs.declared.key_file.Keys.{Keys}
 -- a former key of 32 bytes that was changed at a moment, in seconds since 1970 and before the year 10000
 pub record IsFormer (f : Former) : Type 0 where
   pub key : length f.key ≡ 32
-  pub changed : f.changed < 253_402_300_800
+  pub changed : IsMoment f.changed
 
 -- a key of 32 bytes, and a former one where there is one
 pub record AreKeys (keys : Keys) : Type 0 where

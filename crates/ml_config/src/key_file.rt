@@ -1,20 +1,19 @@
 // The keys of a list.
 ghost use Rattle.std.specs.Prelude.{◌≡◌, ◌≤◌, ◌<◌, IsTrue, IfOk, IfErr, IfSome, IsErrOf, Some, None, Option, [], ◌∷◌};
 ghost use Rattle.std.specs.Option.{option_copied};
-ghost use Rattle.ml_base.specs.Faults.{Rose};
-ghost use Rattle.ml_base.specs.Dir.{Dir, with_puts};
-ghost use Rattle.ml_base.specs.declared.names.Name.{Name};
-ghost use Rattle.ml_base.specs.declared.part.PartError.TheVariants.{Fault, Damaged};
+ghost use Rattle.ml_base.specs.Dir.{Dir, are_files, with_puts};
+ghost use Rattle.ml_base.specs.Ranges.{IsMoment};
+ghost use Rattle.ml_base.specs.PartErrors.{OnDamaged};
+ghost use Rattle.ml_base.specs.ReadFiles.{IsReading, NamesDamaged};
+ghost use Rattle.ml_base.specs.declared.part.PartError.TheVariants.{Fault};
 ghost use Rattle.ml_config.specs.KeyFile.{AreKeys, IsFormer, IsKeyFile, former_text, key_name, keys_put, keys_text};
 ghost use Rattle.ml_config.specs.declared.key_file.Former.{Former};
 ghost use Rattle.ml_config.specs.declared.key_file.Keys.{Keys};
 
-use ml_base::{Bytes, Files, Name, PartError, Put, Txn};
+use ml_base::{Bytes, Files, Name, PartError, Put, Txn, is_moment};
 use std::alloc::{AllocError, Global};
 
 const KEY: Name = Name { kind: 2, at: 0 };
-// The first second of the year 10000, counted from 1970.
-const END_OF_MOMENTS: u64 = 253_402_300_800;
 
 /// A key that another has replaced. A key is a secret, so it has no `Debug`.
 #[derive(Clone, Copy, PartialEq, Eq)]
@@ -36,9 +35,9 @@ pub struct Keys {
 pub fn key<F: Files>(alloc: Global, files: &mut F) -> Result<Keys, PartError>
     ensures read { IsTrue F.tells → (keys : Keys) → IsKeyFile (F.map files.old key_name) keys → IfOk result (λ found. found ≡ keys) }
     ensures value { IsTrue F.tells → IfOk result (IsKeyFile (F.map files.old key_name)) }
-    ensures damaged { IfErr result (λ e. (name : Name) → e ≡ Damaged name → (name ≡ key_name) × (IsTrue F.tells → (keys : Keys) → ¬ IsKeyFile (F.map files.old key_name) keys)) }
-    ensures kept { F.kept files.old files.new }
-    ensures cause { IsErrOf result Fault → Rose (F.faults files.old) (F.faults files.new) }
+    ensures names { NamesDamaged ⟦<F as Files>⟧ (λ name. name ≡ key_name) (λ _. (keys : Keys) → ¬ IsKeyFile (F.map files.old key_name) keys) result }
+    ensures sound { IsTrue F.tells → (keys : Keys) → IsKeyFile (F.map files.old key_name) keys → IfErr result (λ e. OnDamaged e (λ _. ⊥)) }
+    ensures reads { IsReading ⟦<F as Files>⟧ files.old files.new result }
 {
     let file = files.get(alloc, KEY)?;
     match keys_of(file.as_ref()) {
@@ -85,16 +84,17 @@ fn read_former(bytes: &[u8]) -> Option<Former>
     if !end.is_empty() {
         return None;
     }
-    if changed >= END_OF_MOMENTS {
+    if !is_moment(changed) {
         return None;
     }
     Some(Former { key: *key, changed })
 }
 
-/// What is to be done so that the list's files hold these keys.
+/// What is to be done so that the list's files hold these keys, whose former key was changed before the year 10000.
 pub fn set_keys(alloc: Global, keys: &Keys) -> Result<Txn, AllocError>
-    requires { IfSome keys.now.former (λ former. former.changed < 253_402_300_800) }
+    requires { IfSome keys.now.former (λ former. IsMoment former.changed) }
     ensures puts { IfOk result (λ txn. txn ≡ keys_put keys.now ∷ []) }
+    ensures files { IfOk result (λ txn. IsTrue (are_files txn)) }
     ensures file { IfOk result (λ txn. (dir : Dir) → IsKeyFile (with_puts dir txn key_name) keys.now) }
 {
     let keys = *keys;
@@ -108,7 +108,7 @@ pub fn set_keys(alloc: Global, keys: &Keys) -> Result<Txn, AllocError>
 
 // The bytes of the keys' file.
 fn write_keys(alloc: Global, keys: Keys) -> Result<Bytes, AllocError>
-    requires { IfSome keys.former (λ former. former.changed < 253_402_300_800) }
+    requires { IfSome keys.former (λ former. IsMoment former.changed) }
     ensures bytes { IfOk result (λ bytes. bytes ≡ keys_text keys) }
     ensures are { AreKeys keys }
 {

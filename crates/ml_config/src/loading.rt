@@ -1,8 +1,8 @@
 // The configuration is read from the list's files.
 ghost use Rattle.std.specs.Prelude.{◌≡◌, ◌≤◌, IsTrue, IfOk, IfErr, IsErrOf, Some, Option};
-ghost use Rattle.ml_base.specs.Faults.{Rose};
-ghost use Rattle.ml_base.specs.declared.names.Name.{Name};
-ghost use Rattle.ml_base.specs.declared.part.PartError.TheVariants.{Fault, Damaged};
+ghost use Rattle.ml_base.specs.declared.part.PartError.TheVariants.{Fault};
+ghost use Rattle.ml_base.specs.PartErrors.{OnDamaged};
+ghost use Rattle.ml_base.specs.ReadFiles.{IsReading, NamesDamaged};
 ghost use Rattle.ml_config.specs.ConfigFile.{IsConfigFile, IsDamagedConfig, IsLoaded, config_name};
 ghost use Rattle.ml_config.specs.declared.configuration.Config.{Config};
 
@@ -17,9 +17,9 @@ const CONFIG: Name = Name { kind: 1, at: 0 };
 pub fn load<F: Files>(alloc: Global, files: &mut F) -> Result<Option<Config>, PartError>
     ensures read { IsTrue F.tells → (c : Config) → IsConfigFile (F.map files.old config_name) c → IfOk result (λ found. found ≡ Some c) }
     ensures value { IsTrue F.tells → IfOk result (IsLoaded (F.map files.old config_name)) }
-    ensures damaged { IfErr result (λ e. (name : Name) → e ≡ Damaged name → (name ≡ config_name) × (IsTrue F.tells → IsDamagedConfig (F.map files.old config_name))) }
-    ensures kept { F.kept files.old files.new }
-    ensures cause { IsErrOf result Fault → Rose (F.faults files.old) (F.faults files.new) }
+    ensures names { NamesDamaged ⟦<F as Files>⟧ (λ name. name ≡ config_name) (λ _. IsDamagedConfig (F.map files.old config_name)) result }
+    ensures sound { IsTrue F.tells → (c : Config) → IsConfigFile (F.map files.old config_name) c → IfErr result (λ e. OnDamaged e (λ _. ⊥)) }
+    ensures reads { IsReading ⟦<F as Files>⟧ files.old files.new result }
 {
     let file = files.get(alloc, CONFIG)?;
     loaded(alloc, file)
@@ -29,7 +29,9 @@ pub fn load<F: Files>(alloc: Global, files: &mut F) -> Result<Option<Config>, Pa
 fn loaded(alloc: Global, file: Option<Bytes>) -> Result<Option<Config>, PartError>
     ensures read { (c : Config) → IsConfigFile file c → IfOk result (λ found. found ≡ Some c) }
     ensures value { IfOk result (IsLoaded file) }
-    ensures damaged { IfErr result (λ e. (name : Name) → e ≡ Damaged name → (name ≡ config_name) × IsDamagedConfig file) }
+    ensures named { IfErr result (λ e. OnDamaged e (λ name. name ≡ config_name)) }
+    ensures damaged { IfErr result (λ e. OnDamaged e (λ _. IsDamagedConfig file)) }
+    ensures sound { (c : Config) → IsConfigFile file c → IfErr result (λ e. OnDamaged e (λ _. ⊥)) }
     ensures no_fault { ¬ IsErrOf result Fault }
 {
     let Some(bytes) = file else {
