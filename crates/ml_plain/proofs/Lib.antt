@@ -25,8 +25,6 @@ pub mod Frames
 pub mod StateFiles
 pub mod Pairs
 pub mod PartsOne
-pub mod LedgerOne
-pub mod ArchiveOne
 pub mod OneState
 pub mod PartChanges
 pub mod Changes
