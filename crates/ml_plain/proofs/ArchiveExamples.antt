@@ -1,5 +1,5 @@
 -- Worked examples: digests, and what is answered from the archive.
-use Rattle.std.proofs.Common.{◌≡◌, true, [], ◌∷◌, ◌++◌, Option, Some, refl, codes, length}
+use Rattle.std.proofs.Common.{◌≡◌, true, [], ◌∷◌, ◌++◌, Option, Some, refl, codes, length, replicate}
 use Rattle.std.specs.Fmt.{digits}
 use Rattle.std.specs.Option.{option_map}
 use Rattle.ml_base.specs.Bytes.{Text}
@@ -34,6 +34,27 @@ digest_path = refl
 mark_moved : (fold digested (timed 1000172801 ∷ [])).plain.mark ≡ record { last = 2; issue = 1 }
 unfolding digest_text step step0 request_of request_text verdict sent_text mail_text date_text civil_of digits
 mark_moved = refl
+
+-- 101 short posts: an issue has 100 of them, and the next one the last, once it is old enough
+abbrev many : State
+many = record (a_list (record usual { d = true })) {
+  plain = record ((a_list (record usual { d = true })).plain) {
+    posts = replicate 101 (record { sender = codes "g@h"; moment = 1000000101; subject = codes "x"; bytes = codes "Subject: x\n\n" });
+  };
+}
+
+two_issues : text many (timed 1000000200 ∷ timed 1000000200 ∷ timed 1000172900 ∷ timed 1000172901 ∷ timed 1000172901 ∷ [])
+    ≡ codes "0 0 timed 1\n0 0 timed 0\n0 0 timed 0\n0 0 timed 1\n0 0 timed 0\n"
+unfolding digest_text step step0 request_of request_text verdict sent_text mail_text date_text civil_of digits
+two_issues = refl
+
+first_mark : (fold many (timed 1000000200 ∷ [])).plain.mark ≡ record { last = 100; issue = 1 }
+unfolding digest_text step step0 request_of request_text verdict sent_text mail_text date_text civil_of digits
+first_mark = refl
+
+second_mark : (fold many (timed 1000000200 ∷ timed 1000172901 ∷ [])).plain.mark ≡ record { last = 101; issue = 2 }
+unfolding digest_text step step0 request_of request_text verdict sent_text mail_text date_text civil_of digits
+second_mark = refl
 
 -- the archive
 abbrev with_subjects : State
