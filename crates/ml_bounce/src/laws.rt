@@ -1,10 +1,12 @@
 // What holds of the files of a ledger, apart from the code.
-ghost use Rattle.std.specs.Prelude.{◌≡◌, ◌↔◌, ◌<◌, ℕ, true, [], Option, Some, None, unwrap_or};
+ghost use Rattle.std.specs.Prelude.{◌≡◌, ◌↔◌, ◌<◌, ℕ, true, List, [], Option, Some, None, unwrap_or};
 ghost use Rattle.ml_base.specs.Bytes.{Text};
 ghost use Rattle.ml_base.specs.Dir.{Dir};
 ghost use Rattle.ml_base.specs.declared.names.Name.{Name};
 ghost use Rattle.ml_bounce.specs.Files.{IsLedger, IsLedgerFile, ledger_name, is_of_ledger};
-ghost use Rattle.ml_bounce.specs.Ledger.{Ledger};
+ghost use Rattle.ml_bounce.specs.Changes.{probe_failed};
+ghost use Rattle.ml_bounce.specs.Course.{Change, after_all, IsCourse};
+ghost use Rattle.ml_bounce.specs.Ledger.{Ledger, find_entry};
 ghost use Rattle.ml_bounce.specs.Reading.{ledger_of};
 
 /// A ledger's file is read as exactly the entries that it spells, and an absent one as an empty one. So a file spells one row
@@ -21,4 +23,11 @@ pub fn law_ledger()
     ensures own { (dir other : Dir) (kind : ℕ) (ledger : Ledger) → ((name : Name) → is_of_ledger kind name ≡ true → other name ≡ dir name) → IsLedger dir kind ledger → IsLedger other kind ledger }
     ensures broken { (dir : Dir) (kind n : ℕ) (ledger : Ledger) → n < 53 → ledger_of n (unwrap_or (dir (ledger_name kind n)) []) ≡ None → ¬ IsLedger dir kind ledger }
     ensures nothing { (dir : Dir) (kind : ℕ) → ((n : ℕ) → n < 53 → dir (ledger_name kind n) ≡ None) → IsLedger dir kind [] }
+{}
+
+/// A probe's failure takes an entry out of a ledger only behind the whole course: from a ledger without the key, whatever
+/// happens, mail to it bounced, it was warned 1,000,000 seconds later at least, the warning of that very moment bounced, it
+/// was probed 1,000,000 seconds later at least, at the moment that the failure names, and it wasn't forgotten all the while.
+pub fn law_course()
+    ensures { (k : Text) (probed : ℕ) (changes : List Change) (ledger left : Ledger) → find_entry k ledger ≡ None → probe_failed k probed (after_all changes ledger) ≡ Some left → IsCourse k probed changes }
 {}

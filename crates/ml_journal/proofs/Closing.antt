@@ -1,5 +1,5 @@
 -- What a crash leaves while the files of a log are laid down.
-use Rattle.std.proofs.Common.{◌≡◌, inl, inr, ⊎_elim, ℕ, [], ◌∷◌, ◌++◌, length, take, drop, get_or, Option, Some, None, refl, sym, ◌∙◌, ap, arith}
+use Rattle.std.proofs.Common.{◌≡◌, inl, inr, ⊎_elim, ℕ, [], ◌∷◌, ◌++◌, length, take, drop, get_or, Option, Some, None, refl, sym, ◌∙◌, ap, subst, arith}
 use Rattle.std.specs.BTreeMap.{BTreeMap}
 use Rattle.std.proofs.lemmas.Bool.{cases_eq}
 use Rattle.ml_base.specs.Bytes.{Text}
@@ -69,6 +69,10 @@ pub record IsClosed (old : Contents) (puts : BTreeMap Name (Option Text)) (mid :
 
 pub is_closed : (old : Contents) (puts : BTreeMap Name (Option Text)) → Lays old.log (with_newest puts) → IsClosed old puts (log_with (laid_down puts old) 0 (0 ∷ []))
 is_closed old puts held = record { behind = held.behind; log = ap (λ (l : Text). take 0 l ++ 0 ∷ drop 1 l) held.split; files = refl }
+
+-- so it is where the first gate was written over what was laid down
+pub closed_then : (old : Contents) (puts : BTreeMap Name (Option Text)) (first second : Contents) → Lays old.log (with_newest puts) → first ≡ laid_down puts old → second ≡ log_with first 0 (0 ∷ []) → IsClosed old puts second
+closed_then old puts first second held laid is = subst (IsClosed old puts) (sym (is ∙ ap (λ (m : Contents). log_with m 0 (0 ∷ [])) laid)) (is_closed old puts held)
 
 closed_directory : (old : Contents) (puts : BTreeMap Name (Option Text)) (left : Contents) → Lays old.log (with_newest puts) → IsClosed old puts left → directory left ≡ directory old
 closed_directory old puts left held is =

@@ -79,6 +79,10 @@ staged old end body change rests =
       first = rests.first;
     }
 
+-- so it is where the record with its gate was written
+pub staged_then : (old mid : Contents) (end : ℕ) (body bytes : Text) (change : Dir → Dir) → Rests old.log end change → bytes ≡ body ++ 0 ∷ [] → mid ≡ log_with old (end + 1) bytes → Staged mid.log end body change
+staged_then old mid end body bytes change rests is done = subst (λ (m : Contents). Staged m.log end body change) (sym (done ∙ ap (log_with old (end + 1)) is)) (staged old end body change rests)
+
 staged_counts : (log : Text) (end : ℕ) (body : Text) (change : Dir → Dir) → Staged log end body change → Counts log change
 staged_counts log end body change at = counts_same _ log change at.split (closed_row at.row change 0 (body ++ 0 ∷ []) at.is_row (omega arith))
 

@@ -9,3 +9,9 @@ mod Laid
 mod Fields
 mod Sizes
 mod Shut
+pub mod Keeping
+mod Settled
+pub mod Held
+mod Spent
+mod Opened
+mod Examples

@@ -1,10 +1,12 @@
 -- Files that are laid down from the newest puts of a log.
-use Rattle.std.specs.Prelude.{◌≡◌, ◌≢◌, List, [], ◌∷◌, Option, None, IsSome}
+use Rattle.std.specs.Prelude.{◌≡◌, ◌≢◌, IsTrue, List, [], ◌∷◌, Option, None, IsSome, Result, OnOk}
 use Rattle.std.specs.BTreeMap.{BTreeMap}
 use Rattle.ml_base.specs.Bytes.{Text}
 use Rattle.ml_base.specs.declared.names.Name.{Name}
 use Rattle.ml_site.specs.Disk.{Contents, Disk}
 use Rattle.ml_site.proofs.FileParts.{AreOver}
+use Rattle.ml_site.specs.declared.site.Site.{Ghosts}
+use Rattle.ml_journal.specs.Calls.{Leaves}
 use Rattle.ml_journal.specs.Newest.{newest_of, with_newest}
 
 -- what is held, with the newest puts laid over the files
@@ -15,6 +17,12 @@ laid_down puts old = record { log = old.log; files = with_newest puts old.files 
 pub record Beside (puts : BTreeMap Name (Option Text)) (old new : Contents) : Type 0 where
   pub log : new.log ≡ old.log
   pub files : (name : Name) → newest_of puts name ≡ None → new.files name ≡ old.files name
+
+-- the files of these puts were laid down: at each moment, and after an error, nothing but files of them differs
+pub record LaysFiles {S E : Type 0} (told : Ghosts S) (result : Result (Unit {0}) E) (puts : BTreeMap Name (Option Text)) (old new : S) : Type 0 where
+  pub reads : IsTrue told.tells_reads → OnOk result ((told.disk new).reads ≡ laid_down puts (told.disk old).reads)
+  pub beside : IsTrue told.tells_reads → Beside puts (told.disk old).reads (told.disk new).reads
+  pub moments : Leaves told old new (λ left out. Beside puts (told.disk old).reads left × (out ≡ told.output old))
 
 -- only files of these puts are pending, over these contents
 abbrev pub IsOver : BTreeMap Name (Option Text) → Contents → Disk → Type 0

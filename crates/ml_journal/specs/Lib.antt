@@ -6,6 +6,8 @@ pub mod Rows
 pub mod Table
 pub mod Laying
 pub mod Moments
+pub mod Calls
+pub mod Spending
 pub mod Errors
 pub mod Stores
 pub mod Kept

@@ -1,5 +1,5 @@
 -- What a store shows.
-use Rattle.std.specs.Prelude.{ℕ, ◌+◌, List, [], ◌∷◌, length, Option, Some, None}
+use Rattle.std.specs.Prelude.{ℕ, ◌+◌, List, [], ◌∷◌, length, Option, Some, None, Result, Ok, Err}
 use Rattle.ml_base.specs.Dir.{Dir}
 use Rattle.ml_base.specs.declared.puts.Put.{Put}
 use Rattle.ml_site.specs.declared.site.Site.{Ghosts}
@@ -9,6 +9,11 @@ use Rattle.ml_journal.specs.declared.store.Store.{Store}
 -- the site that a store owns
 abbrev pub site_of : {S : Type 0} {told : Ghosts S} → Store S told → S
 site_of store = store.site
+
+-- the site that a store owns, or that is handed back with an error
+abbrev pub site_after : {S E : Type 0} {told : Ghosts S} → Result (Store S told) (E × S) → S
+site_after (Ok store) = store.site
+site_after (Err error) = error.1
 
 -- the files of a directory; without one there are none
 abbrev pub the_dir : Option Dir → Dir

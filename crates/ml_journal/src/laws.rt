@@ -1,11 +1,16 @@
 // What holds of each record and of each log.
-ghost use Rattle.std.specs.Prelude.{◌≡◌, ◌≢◌, ◌<◌, ◌^◌, ◌++◌, [], ◌∷◌, ℕ, List, IsTrue, Some, None, length};
+ghost use Rattle.std.specs.Prelude.{◌≡◌, ◌≢◌, ◌<◌, ◌≤◌, ◌^◌, ◌++◌, [], ◌∷◌, ℕ, List, IsTrue, IsSome, Some, None, length};
 ghost use Rattle.std.specs.List.{AllByRecursion};
 ghost use Rattle.ml_base.specs.Bytes.{Text};
 ghost use Rattle.ml_base.specs.Dir.{are_files};
 ghost use Rattle.ml_base.specs.declared.puts.Put.{Put};
 ghost use Rattle.ml_journal.specs.Records.{record_at, spelled_record};
-ghost use Rattle.ml_journal.specs.Log.{log_puts, record_and_more, all_puts, open_records, IsWritable, HoldsNone, IsBroken, IsSplit};
+ghost use Rattle.ml_site.specs.Disk.{IsAtRest};
+ghost use Rattle.ml_journal.specs.declared.store.Store.{Store};
+ghost use Rattle.ml_journal.specs.Stores.{site_of};
+ghost use Rattle.ml_journal.specs.Log.{directory, log_puts, record_and_more, all_puts, open_records, IsWritable, HoldsNone, IsBroken, IsSplit};
+
+use ml_site::Site;
 
 /// A record is read as it is written, whatever follows it, and what is read is written so. Its puts are of files of the
 /// table and together short enough for a netstring.
@@ -34,4 +39,12 @@ pub fn law_logs()
     ensures written { (rows : List (List Put)) (end : Text) → AllByRecursion IsWritable rows → HoldsNone end → log_puts (open_records rows ++ end) ≡ Some (all_puts rows) }
     ensures damaged { (rows : List (List Put)) (end : Text) → AllByRecursion IsWritable rows → IsBroken end → log_puts (open_records rows ++ end) ≡ None }
     ensures files { (log : Text) (puts : List Put) → log_puts log ≡ Some puts → IsTrue (are_files puts) }
+{}
+
+/// Of each store that is held: nothing is pending, its log has a directory, and the log is at most `LAY` bytes long.
+#[tactic(auto, using(crate::proofs::Held::held_rest, crate::proofs::Held::held_whole, crate::proofs::Held::held_short))]
+pub fn law_stores<S: Site>()
+    ensures rest { (store : Store S ⟦<S as Site>⟧) → IsTrue S.tells_all → IsAtRest (S.disk (site_of store)) }
+    ensures whole { (store : Store S ⟦<S as Site>⟧) → IsTrue S.tells_reads → IsSome (directory (S.disk (site_of store)).reads) }
+    ensures short { (store : Store S ⟦<S as Site>⟧) → IsTrue S.tells_reads → length (S.disk (site_of store)).reads.log ≤ 8_388_608 }
 {}

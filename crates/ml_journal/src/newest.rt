@@ -12,14 +12,14 @@ use std::collections::BTreeMap;
 
 /// The newest put of each file that a log names: the bytes that it gives the file, or None where it removes it.
 #[derive(Drop)]
-pub struct Newest {
-    pub(crate) puts: BTreeMap<Name, Option<Bytes>>,
+pub(crate) struct Newest {
+    pub puts: BTreeMap<Name, Option<Bytes>>,
     ghost files: { (name : TheName) → IsSome (newest_of puts name) → IsTrue (is_file name) },
 }
 
 impl Newest {
     /// No puts. It takes no memory.
-    pub fn new(alloc: Global) -> Newest
+    pub(crate) fn new(alloc: Global) -> Newest
         ensures { (dir : Dir) → with_newest result.puts dir ≡ dir }
     {
         Newest {
@@ -30,7 +30,7 @@ impl Newest {
     /// Puts bytes into a file from now on, or removes it. The name is one of the table other than the log's.
     /// An error changes nothing.
     #[tactic(auto, using(crate::proofs::Tables::still_files, crate::proofs::Tables::laid_set, crate::proofs::Tables::laid_unset))]
-    pub fn set(&mut self, name: Name, bytes: Option<Bytes>) -> Result<(), AllocError>
+    pub(crate) fn set(&mut self, name: Name, bytes: Option<Bytes>) -> Result<(), AllocError>
         requires { IsTrue (is_file name) }
         ensures ok { OnOk result ((dir : Dir) → with_newest self.new.puts dir ≡ with_file (with_newest self.old.puts dir) name bytes) }
         ensures err { OnErr result ((dir : Dir) → with_newest self.new.puts dir ≡ with_newest self.old.puts dir) }
@@ -43,7 +43,7 @@ impl Newest {
     }
 
     /// The bytes that the newest put gives a file, of which None is a removal; or None where no put is of it.
-    pub fn get(&self, name: Name) -> Option<Option<&Bytes>>
+    pub(crate) fn get(&self, name: Name) -> Option<Option<&Bytes>>
         ensures { option_map (λ bytes. option_copied bytes) result ≡ newest_of self.now.puts name }
     {
         match self.puts.get(&name) {

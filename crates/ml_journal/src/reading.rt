@@ -9,14 +9,14 @@ ghost use Rattle.ml_journal.specs.Table.{newest_over};
 ghost use Rattle.ml_journal.specs.Log.{log_puts, laid_over};
 ghost use Rattle.ml_journal.specs.Records.{number_at, file_named, name_at, write_at, removal_at, put_at, puts_of};
 
-use crate::Newest;
+use crate::newest::Newest;
 use ml_base::{Bytes, Name, read_netstring, read_number};
 use std::alloc::{AllocError, Global};
 
 /// The newest put of each file that the records of a log name, or None where an open gate that isn't the log's last byte
 /// has no record behind it. The log is gone through once, and of its bytes those of the newest puts alone are copied.
 #[tactic(auto, using(crate::proofs::Logs::log_files))]
-pub fn read_log(alloc: Global, log: &[u8]) -> Result<Option<Newest>, AllocError>
+pub(crate) fn read_log(alloc: Global, log: &[u8]) -> Result<Option<Newest>, AllocError>
     ensures { IfOk result (λ found. (files : Dir) → option_map (λ newest. newest_over newest files) found ≡ laid_over files (log_puts log.now)) }
 {
     match puts_in(alloc, log)? {

@@ -14,7 +14,7 @@ const LARGEST: usize = 999_999_999_999_999_999;
 
 /// The record of these puts, each of a file of the table, and a closed gate behind it.
 /// What it takes is reserved at once, and the bytes of each put are copied once.
-pub fn write_record(alloc: Global, puts: &[Put]) -> Result<Bytes, AllocError>
+pub(crate) fn write_record(alloc: Global, puts: &[Put]) -> Result<Bytes, AllocError>
     requires { IsTrue (are_files puts.now) }
     ensures bytes { IfOk result (λ bytes. bytes ≡ spelled_record puts.now ++ 0 ∷ []) }
     ensures reads { OnOk result (IsRecord (spelled_record puts.now) puts.now) }

@@ -6,7 +6,7 @@ use Rattle.ml_base.specs.declared.names.Name.{Name}
 use Rattle.ml_site.specs.declared.call.Call.{Call}
 use Rattle.ml_site.specs.declared.call.Call.TheVariants.{WriteLog}
 use Rattle.ml_site.specs.Disk.{Contents, Part, Disk, Range, Pends, IsImage, Now, Giving, Elapses, log_with}
-use Rattle.ml_site.specs.Memory.{step, after, given, size_given, pends, Left, total}
+use Rattle.ml_site.specs.Recorded.{step, after, given, size_given, pends, Left, total}
 use Rattle.ml_site.proofs.Pushed.{after-push, given-append, elapses_quiet, elapses_same}
 
 module _ (start : Disk) (calls : List Call) (call : Call) (longer : List Call) where

@@ -7,7 +7,7 @@ use Rattle.ml_site.specs.declared.call.Call.{Call}
 use Rattle.ml_site.specs.declared.fill.Fill.{Fill}
 use Rattle.ml_site.specs.declared.fill.Fill.TheVariants as fills
 use Rattle.ml_site.specs.Disk.{Contents, Disk, IsImage}
-use Rattle.ml_site.specs.Memory.{at_rest, after, given, Left}
+use Rattle.ml_site.specs.Recorded.{at_rest, after, given, Left}
 use Rattle.ml_site.specs.Filled.{filled}
 use Rattle.ml_site.specs.Replay.{after-is_image}
 use Rattle.ml_site.proofs.Filling.{image_filled}

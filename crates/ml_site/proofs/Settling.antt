@@ -5,7 +5,7 @@ use Rattle.ml_site.specs.declared.call.Call.{Call}
 use Rattle.ml_site.specs.declared.call.Call.TheVariants.{Read, WriteLog, FailedLog, CutLog, FailedCut, WriteFile, RemoveFile, FailedFile, Sync, FailedSync, Give}
 use Rattle.ml_site.specs.Disk.{Contents, Disk, Part, Range, Cut, File, MayLeave}
 use Rattle.ml_site.specs.Images.{unchanged, more_pending}
-use Rattle.ml_site.specs.Memory.{at_rest, step, after, settles}
+use Rattle.ml_site.specs.Recorded.{at_rest, step, after, settles}
 use Rattle.ml_site.specs.Filled.{parts_of, bytes_filled}
 use Rattle.ml_site.proofs.Pushed.{after-push}
 use Rattle.ml_site.proofs.Filling.{more_filled, none_filled}

@@ -1,11 +1,12 @@
 pub mod Disk
+pub mod Clauses
 pub mod Failing
 pub mod Source
 pub mod Images
-pub mod Memory
+pub mod Recorded
 pub mod Replay
 pub mod Streams
-pub mod Held
-pub mod Kept
+pub mod MemSites
+pub mod Unfailed
 pub mod Moments
 pub mod Filled

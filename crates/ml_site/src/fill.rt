@@ -3,7 +3,7 @@ ghost use Rattle.std.specs.Prelude.{◌≡◌, ◌≤◌, ◌-◌, ◌++◌, tak
 ghost use Rattle.ml_base.specs.declared.names.Name.{Name as TheName};
 ghost use Rattle.ml_site.specs.Disk.{Contents};
 ghost use Rattle.ml_base.specs.Dir.{same_name};
-ghost use Rattle.ml_site.specs.Memory.{contents, lookup, at_rest, after};
+ghost use Rattle.ml_site.specs.Recorded.{contents, lookup, at_rest, after};
 ghost use Rattle.ml_site.specs.Filled.{filled, bytes_filled, file_filled, parts_of};
 
 use crate::Image;

@@ -2,7 +2,7 @@
 ghost use Rattle.std.specs.Prelude.{◌≡◌, ◌≤◌, ◌+◌, ◌++◌, length, take, drop, if◌then◌else◌, IfOk, Some, None};
 ghost use Rattle.ml_base.specs.declared.names.Name.{Name as TheName};
 ghost use Rattle.ml_base.specs.Dir.{with_file};
-ghost use Rattle.ml_site.specs.Memory.{lookup};
+ghost use Rattle.ml_site.specs.Recorded.{lookup};
 
 use ml_base::{Bytes, Name};
 use std::alloc::{AllocError, Global};
@@ -40,7 +40,7 @@ pub fn copied(
 }
 
 /// Sets a file and answers true, or leaves all as it is for want of memory.
-pub fn set(files: &mut BTreeMap<Name, Bytes>, name: Name, bytes: Bytes) -> bool
+pub fn set_file(files: &mut BTreeMap<Name, Bytes>, name: Name, bytes: Bytes) -> bool
     ensures { (other : TheName) → lookup files.new other
         ≡ (if result then with_file (lookup files.old) name (Some bytes) other else lookup files.old other) }
 {
@@ -48,7 +48,7 @@ pub fn set(files: &mut BTreeMap<Name, Bytes>, name: Name, bytes: Bytes) -> bool
 }
 
 /// Removes a file, if it is there.
-pub fn unset(files: &mut BTreeMap<Name, Bytes>, name: Name)
+pub fn drop_file(files: &mut BTreeMap<Name, Bytes>, name: Name)
     ensures { (other : TheName) → lookup files.new other ≡ with_file (lookup files.old) name None other }
 {
     let _was = files.remove(&name);

@@ -1,18 +1,17 @@
 // A disk and an output in memory, with a record of its calls.
-ghost use Rattle.std.specs.Prelude.{◌≡◌, ℕ, ◌≤◌, ◌+◌, ◌-◌, ◌^◌, min, true, length, [], ◌∷◌, ◌++◌, if◌then◌else◌, ◌==◌, IfOk, OnOk, OnErr, Some, None, vec_len};
+ghost use Rattle.std.specs.Prelude.{◌≡◌, ℕ, ◌<◌, ◌≤◌, ◌+◌, ◌-◌, ◌^◌, nat_lt, nat_le, min, true, false, length, [], ◌∷◌, ◌++◌, if◌then◌else◌, IfOk, OnOk, OnErr, vec_len};
 ghost use Rattle.std.specs.Vec.{vec_capacity};
 ghost use Rattle.ml_base.specs.declared.names.Name.{Name as TheName};
-ghost use Rattle.ml_site.specs.declared.call.Call.TheVariants.{WriteFile, RemoveFile, Give};
-ghost use Rattle.ml_base.specs.Dir.{with_file};
+ghost use Rattle.ml_base.specs.Faults.{next_call};
 ghost use Rattle.ml_site.specs.Disk.{IsImage};
 ghost use Rattle.ml_site.specs.Filled.{filled};
-ghost use Rattle.ml_site.specs.Memory.{contents, lookup, at_rest, after, given, Left, total, size_synced, size_logged};
+ghost use Rattle.ml_site.specs.Recorded.{contents, lookup, at_rest, after, given, Left, total, size_synced, size_logged};
 ghost use Rattle.ml_site.specs.Failing.{FailsAsPlanned};
 ghost use Rattle.ml_site.specs.Replay.{after-is_image, left_now, left_only};
 
 use crate::call::Call;
 use crate::fill::image_left;
-use crate::image::{all_copied, copied, set, spliced, unset};
+use crate::image::{all_copied, copied, drop_file, set_file, spliced};
 use crate::{Failed, Fill, Image, Site, SiteError};
 use ml_base::{Bytes, FaultPlan, Name, Numbers};
 use std::alloc::{AllocError, Global};
@@ -31,22 +30,24 @@ pub struct MemSite {
     log: Bytes,
     files: BTreeMap<Name, Bytes>,
     // What was put out, and the room for it in bytes.
-    output: Bytes,
+    output: Vec<u8>,
     output_room: usize,
     plan: FaultPlan,
     // The number of the last call that may succeed.
     last_call: u64,
+    disk_calls: u64,
     disk_faults: u64,
     output_faults: u64,
     ghost log_is: { log ≡ (after (at_rest (contents start_log start_files)) calls.items).reads.log },
     ghost files_are: { (name : TheName) → lookup files name
         ≡ (after (at_rest (contents start_log start_files)) calls.items).reads.files name },
-    ghost output_is: { length output ≡ given calls.items },
+    ghost output_is: { length output.items ≡ given calls.items },
+    ghost room: { output_room ≤ vec_capacity output },
 }
 
 impl MemSite {
-    ghost use Rattle.ml_site.specs.Held.{mem_disk, mem_disk_at, mem_output, mem_output_at, mem_left_since, mem_calls, call_room, output_room};
-    ghost use Rattle.ml_site.specs.Held.{disk_faults, output_faults, site_failing, site_last, site_made};
+    ghost use Rattle.ml_site.specs.MemSites.{mem_disk, mem_disk_at, mem_output, mem_output_at, mem_left_since, mem_calls, call_room, output_room};
+    ghost use Rattle.ml_site.specs.MemSites.{disk_faults, output_faults, site_failing, site_last, site_made};
 
     /// A site over an image, with room for `calls` calls and `output` bytes of output, which are reserved at once.
     /// No call is to fail, and nothing is pending.
@@ -75,10 +76,11 @@ impl MemSite {
             calls: Vec::with_capacity(alloc, calls)?,
             log,
             files,
-            output: with_room(alloc, output)?,
+            output: Vec::with_capacity(alloc, output)?,
             output_room: output,
             plan: FaultPlan::new(Numbers::new(alloc)),
             last_call: u64::MAX,
+            disk_calls: 0,
             disk_faults: 0,
             output_faults: 0,
         })
@@ -146,88 +148,40 @@ impl MemSite {
     }
 }
 
-/// No bytes, with room for so many.
-fn with_room(alloc: Global, size: usize) -> Result<Bytes, AllocError>
-    ensures { IfOk result (λ bytes. bytes ≡ []) }
+/// Counts a call, and answers whether it fails: its number is named or above the last one's, the record has no room for
+/// it, or it finds no room elsewhere, as `short` says.
+fn fails(plan: &mut FaultPlan, last: u64, calls: &Vec<Call>, short: bool) -> bool
+    ensures planned { FailsAsPlanned plan.old plan.new last (nat_le (vec_capacity calls.now) (vec_len calls.now)) short result }
+    ensures room { result ≡ false → vec_len calls.now < vec_capacity calls.now }
+    ensures enough { result ≡ false → short ≡ false }
 {
-    Ok(Bytes::from_vec(Vec::with_capacity(alloc, size)?))
+    let full = calls.capacity() <= calls.len();
+    plan.fails() || last < plan.made || full || short
 }
 
-/// Counts a call, and answers whether it fails: its number is named or above the last one's, or the record has no
-/// room for it.
-fn fails(plan: &mut FaultPlan, last: u64, calls: &Vec<Call>) -> bool
-    ensures { FailsAsPlanned plan.old plan.new last (vec_len calls.now == vec_capacity calls.now) result }
-{
-    plan.fails() || last < plan.made || calls.len() == calls.capacity()
-}
-
-/// Adds a call to the record, if there is room for it. It takes no memory.
-fn join(calls: &mut Vec<Call>, call: Call) -> bool
-    ensures { calls.new.items
-        ≡ (if result then calls.old.items ++ call ∷ [] else calls.old.items) }
-{
-    if calls.len() == calls.capacity() {
-        return false;
-    }
-    calls.push(call).is_ok()
-}
-
-/// Sets a file and adds the call, or does neither.
-fn put(
-    files: &mut BTreeMap<Name, Bytes>,
-    calls: &mut Vec<Call>,
-    name: Name,
-    piece: Bytes,
-    copy: Bytes,
-) -> bool
+/// Counts a fault, and adds the call that failed to the record, if there is room for it. It takes no memory.
+fn note_failure(calls: &mut Vec<Call>, faults: &mut u64, call: Call)
     ensures calls { calls.new.items
-        ≡ (if result then calls.old.items ++ WriteFile name piece ∷ [] else calls.old.items) }
-    ensures files { (other : TheName) → lookup files.new other
-        ≡ (if result then with_file (lookup files.old) name (Some copy) other else lookup files.old other) }
+        ≡ (if nat_lt (vec_len calls.old) (vec_capacity calls.old) then calls.old.items ++ call ∷ [] else calls.old.items) }
+    ensures room { vec_capacity calls.new ≡ vec_capacity calls.old }
+    ensures faults { faults.new ≡ next_call faults.old }
+    ensures later { faults.old ≤ faults.new }
 {
-    let used = calls.len();
-    if !join(calls, Call::WriteFile(name, piece)) {
-        return false;
+    *faults = faults.saturating_add(1);
+    if calls.len() < calls.capacity() {
+        calls.push_reserved(call);
     }
-    if set(files, name, copy) {
-        return true;
-    }
-    calls.truncate(used);
-    false
 }
 
-/// Removes a file and adds the call, or does neither.
-fn take_out(files: &mut BTreeMap<Name, Bytes>, calls: &mut Vec<Call>, name: Name) -> bool
-    ensures calls { calls.new.items
-        ≡ (if result then calls.old.items ++ RemoveFile name ∷ [] else calls.old.items) }
-    ensures files { (other : TheName) → lookup files.new other
-        ≡ (if result then with_file (lookup files.old) name None other else lookup files.old other) }
+/// Puts bytes out, for which there is room. It takes no memory.
+fn put_out(output: &mut Vec<u8>, bytes: &[u8])
+    requires { vec_len output.old + length bytes.now ≤ vec_capacity output.old }
+    ensures items { output.new.items ≡ output.old.items ++ bytes.now }
+    ensures room { vec_capacity output.old ≤ vec_capacity output.new }
 {
-    if !join(calls, Call::RemoveFile(name)) {
-        return false;
-    }
-    unset(files, name);
-    true
+    let _put = output.extend_from_slice(bytes);
 }
 
-/// Puts a piece out and adds the call, or does neither.
-fn put_out(output: &mut Bytes, calls: &mut Vec<Call>, bytes: &[u8]) -> bool
-    ensures calls { calls.new.items
-        ≡ (if result then calls.old.items ++ Give (length bytes.now) ∷ [] else calls.old.items) }
-    ensures output { output.new ≡ (if result then output.old ++ bytes.now else output.old) }
-{
-    let used = output.len();
-    if output.extend(bytes).is_err() {
-        return false;
-    }
-    if join(calls, Call::Give(bytes.len() as u64)) {
-        return true;
-    }
-    output.truncate(used);
-    false
-}
-
-#[tactic(auto, using(crate::proofs::Joined::total_same, crate::proofs::Joined::disk_same, crate::proofs::Joined::log_kept, crate::proofs::Joined::file_kept, crate::proofs::Joined::given_kept, crate::proofs::Joined::time_quiet))]
 impl Site for MemSite {
     ghost tells_reads = { true };
 
@@ -235,11 +189,11 @@ impl Site for MemSite {
 
     ghost disk = { λ s. after (at_rest (contents s.start_log s.start_files)) s.calls.items };
 
-    ghost output = { λ s. s.output };
+    ghost output = { λ s. s.output.items };
 
     ghost moment = { λ s. length s.calls.items };
 
-    ghost left_since = { λ s. Left (at_rest (contents s.start_log s.start_files)) s.calls.items s.output };
+    ghost left_since = { λ s. Left (at_rest (contents s.start_log s.start_files)) s.calls.items s.output.items };
 
     ghost syncs = { λ s. total size_synced s.calls.items };
 
@@ -247,107 +201,109 @@ impl Site for MemSite {
 
     ghost disk_faults = { λ s. s.disk_faults };
 
+    ghost disk_calls = { λ s. s.disk_calls };
+
     ghost output_faults = { λ s. s.output_faults };
 
     fn read_log(&mut self, alloc: Global) -> Result<Bytes, SiteError> {
-        let fails = fails(&mut self.plan, self.last_call, &self.calls);
-        let joined = join(&mut self.calls, Call::Read);
-        if fails || !joined {
-            self.disk_faults = self.disk_faults.saturating_add(1);
+        self.disk_calls = self.disk_calls.saturating_add(1);
+        if fails(&mut self.plan, self.last_call, &self.calls, false) {
+            note_failure(&mut self.calls, &mut self.disk_faults, Call::Read);
             return Err(SiteError::Failed);
         }
-        Ok(Bytes::from_slice(alloc, self.log.as_slice())?)
+        let bytes = Bytes::from_slice(alloc, self.log.as_slice())?;
+        self.calls.push_reserved(Call::Read);
+        Ok(bytes)
     }
 
     fn write_log(&mut self, alloc: Global, at: u64, bytes: &[u8]) -> Result<(), SiteError> {
-        if fails(&mut self.plan, self.last_call, &self.calls) {
-            self.disk_faults = self.disk_faults.saturating_add(1);
-            let _joined = join(&mut self.calls, Call::FailedLog(at, bytes.len() as u64));
+        self.disk_calls = self.disk_calls.saturating_add(1);
+        if fails(&mut self.plan, self.last_call, &self.calls, false) {
+            let failed = Call::FailedLog(at, bytes.len() as u64);
+            note_failure(&mut self.calls, &mut self.disk_faults, failed);
             return Err(SiteError::Failed);
         }
         let piece = Bytes::from_slice(alloc, bytes)?;
         let next = spliced(alloc, self.log.as_slice(), at as usize, bytes)?;
-        if !join(&mut self.calls, Call::WriteLog(at, piece)) {
-            return Err(SiteError::Memory);
-        }
+        self.calls.push_reserved(Call::WriteLog(at, piece));
         self.log = next;
         Ok(())
     }
 
     fn cut_log(&mut self, len: u64) -> Result<(), Failed> {
-        if fails(&mut self.plan, self.last_call, &self.calls) {
-            self.disk_faults = self.disk_faults.saturating_add(1);
-            let _joined = join(&mut self.calls, Call::FailedCut(len));
+        self.disk_calls = self.disk_calls.saturating_add(1);
+        if fails(&mut self.plan, self.last_call, &self.calls, false) {
+            note_failure(&mut self.calls, &mut self.disk_faults, Call::FailedCut(len));
             return Err(Failed);
         }
-        if !join(&mut self.calls, Call::CutLog(len)) {
-            self.disk_faults = self.disk_faults.saturating_add(1);
-            return Err(Failed);
-        }
+        self.calls.push_reserved(Call::CutLog(len));
         self.log.truncate(len as usize);
         Ok(())
     }
 
     fn read_file(&mut self, alloc: Global, name: Name) -> Result<Option<Bytes>, SiteError> {
-        let fails = fails(&mut self.plan, self.last_call, &self.calls);
-        let joined = join(&mut self.calls, Call::Read);
-        if fails || !joined {
-            self.disk_faults = self.disk_faults.saturating_add(1);
+        self.disk_calls = self.disk_calls.saturating_add(1);
+        if fails(&mut self.plan, self.last_call, &self.calls, false) {
+            note_failure(&mut self.calls, &mut self.disk_faults, Call::Read);
             return Err(SiteError::Failed);
         }
-        Ok(copied(alloc, &self.files, name)?)
+        let bytes = copied(alloc, &self.files, name)?;
+        self.calls.push_reserved(Call::Read);
+        Ok(bytes)
     }
 
     fn write_file(&mut self, alloc: Global, name: Name, bytes: &[u8]) -> Result<(), SiteError> {
-        if fails(&mut self.plan, self.last_call, &self.calls) {
-            self.disk_faults = self.disk_faults.saturating_add(1);
-            let _joined = join(&mut self.calls, Call::FailedFile(name));
+        self.disk_calls = self.disk_calls.saturating_add(1);
+        if fails(&mut self.plan, self.last_call, &self.calls, false) {
+            note_failure(
+                &mut self.calls,
+                &mut self.disk_faults,
+                Call::FailedFile(name),
+            );
             return Err(SiteError::Failed);
         }
         let piece = Bytes::from_slice(alloc, bytes)?;
         let copy = Bytes::from_slice(alloc, bytes)?;
-        if !put(&mut self.files, &mut self.calls, name, piece, copy) {
+        if !set_file(&mut self.files, name, copy) {
             return Err(SiteError::Memory);
         }
+        self.calls.push_reserved(Call::WriteFile(name, piece));
         Ok(())
     }
 
     fn remove_file(&mut self, _alloc: Global, name: Name) -> Result<(), SiteError> {
-        if fails(&mut self.plan, self.last_call, &self.calls) {
-            self.disk_faults = self.disk_faults.saturating_add(1);
-            let _joined = join(&mut self.calls, Call::FailedFile(name));
+        self.disk_calls = self.disk_calls.saturating_add(1);
+        if fails(&mut self.plan, self.last_call, &self.calls, false) {
+            note_failure(
+                &mut self.calls,
+                &mut self.disk_faults,
+                Call::FailedFile(name),
+            );
             return Err(SiteError::Failed);
         }
-        if !take_out(&mut self.files, &mut self.calls, name) {
-            return Err(SiteError::Memory);
-        }
+        drop_file(&mut self.files, name);
+        self.calls.push_reserved(Call::RemoveFile(name));
         Ok(())
     }
 
     fn sync(&mut self) -> Result<(), Failed> {
-        if fails(&mut self.plan, self.last_call, &self.calls) {
-            self.disk_faults = self.disk_faults.saturating_add(1);
-            let _joined = join(&mut self.calls, Call::FailedSync);
+        self.disk_calls = self.disk_calls.saturating_add(1);
+        if fails(&mut self.plan, self.last_call, &self.calls, false) {
+            note_failure(&mut self.calls, &mut self.disk_faults, Call::FailedSync);
             return Err(Failed);
         }
-        if !join(&mut self.calls, Call::Sync) {
-            self.disk_faults = self.disk_faults.saturating_add(1);
-            return Err(Failed);
-        }
+        self.calls.push_reserved(Call::Sync);
         Ok(())
     }
 
     fn give(&mut self, bytes: &[u8]) -> Result<(), Failed> {
-        let room = self.output_room.saturating_sub(self.output.len());
-        if fails(&mut self.plan, self.last_call, &self.calls) || room < bytes.len() {
-            self.output_faults = self.output_faults.saturating_add(1);
-            let _joined = join(&mut self.calls, Call::Give(0));
+        let short = self.output_room - self.output.len().min(self.output_room) < bytes.len();
+        if fails(&mut self.plan, self.last_call, &self.calls, short) {
+            note_failure(&mut self.calls, &mut self.output_faults, Call::Give(0));
             return Err(Failed);
         }
-        if !put_out(&mut self.output, &mut self.calls, bytes) {
-            self.output_faults = self.output_faults.saturating_add(1);
-            return Err(Failed);
-        }
+        put_out(&mut self.output, bytes);
+        self.calls.push_reserved(Call::Give(bytes.len() as u64));
         Ok(())
     }
 
@@ -356,8 +312,8 @@ impl Site for MemSite {
     ghost reads_as_image = { λ s t. after-is_image (contents s.start_log s.start_files) s.calls.items };
 
     ghost is_a_moment = { λ s t told le.
-        left_now (contents s.start_log s.start_files) s.calls.items s.output t s.output_is le };
+        left_now (contents s.start_log s.start_files) s.calls.items s.output.items t s.output_is le };
 
     ghost only_now = { λ s c o told left.
-        left_only (at_rest (contents s.start_log s.start_files)) s.calls.items s.output s.output_is c o left };
+        left_only (at_rest (contents s.start_log s.start_files)) s.calls.items s.output.items s.output_is c o left };
 }

@@ -3,11 +3,11 @@ ghost use Rattle.std.specs.Prelude.{◌≡◌, ◌≤◌, ◌+◌, ◌++◌, len
 ghost use Rattle.ml_base.specs.declared.names.Name.{Name as TheName};
 ghost use Rattle.ml_site.specs.Disk.{Contents};
 ghost use Rattle.ml_base.specs.Dir.{with_file};
-ghost use Rattle.ml_site.specs.Memory.{contents, lookup, at_rest, step, after, settles};
+ghost use Rattle.ml_site.specs.Recorded.{contents, lookup, at_rest, step, after, settles};
 
 use crate::Image;
 use crate::call::Call;
-use crate::image::{all_copied, spliced, unset};
+use crate::image::{all_copied, drop_file, spliced};
 use ml_base::{Bytes, Name};
 use std::alloc::{AllocError, Global};
 use std::collections::BTreeMap;
@@ -47,7 +47,7 @@ fn redo(alloc: Global, image: &mut Image, call: &Call) -> Result<(), AllocError>
             put_in(&mut image.files, *name, copy)
         }
         Call::RemoveFile(name) => {
-            unset(&mut image.files, *name);
+            drop_file(&mut image.files, *name);
             Ok(())
         }
         _ => Ok(()),

@@ -3,7 +3,8 @@ ghost use Rattle.std.specs.Prelude.{◌≡◌, ◌≤◌, ◌+◌, ◌++◌, ℕ
 ghost use Rattle.ml_base.specs.Name.{is_file};
 ghost use Rattle.ml_base.specs.declared.names.Name.{Name};
 ghost use Rattle.ml_site.specs.declared.site.SiteError.TheVariants.{Memory, Failed as FailedCall};
-ghost use Rattle.ml_site.specs.Disk.{Contents, Part, Disk, Range, Cut, File, MayLeave, IsImage, Changes, Pends, Now, Giving, Elapses, IsAtRest, log_with, log_cut, file_with};
+ghost use Rattle.ml_site.specs.Clauses.{SameDisk, ChangesPart, OnDisk, SameNumbers};
+ghost use Rattle.ml_site.specs.Disk.{Contents, Disk, Range, Cut, File, IsImage, Now, Giving, Elapses, IsAtRest, log_with, log_cut, file_with};
 ghost use Rattle.ml_base.specs.Faults.{Rose};
 
 use ml_base::{Bytes, Name};
@@ -45,7 +46,7 @@ impl<T: Drop> From<AllocFailed<T>> for SiteError {
 /// A disk with a log and files, and an output.
 ///
 /// A type tells what reads give, or it doesn't, and then it tells nothing; the rest it tells as a whole or not at all.
-/// What isn't told is not owed. The counts of faults are told by every type, and they never fall.
+/// What isn't told is not owed. The counts of calls and of faults are told by every type, and they never fall.
 /// `Failed` comes only where the count of the disk rose in that call, or of the output for `give`.
 pub trait Site {
     /// Whether it tells what reads give.
@@ -66,7 +67,7 @@ pub trait Site {
     /// What a crash at some moment from that time on may have left, with the output so far.
     ghost left_since: { Self → ℕ → Contents → List ℕ → Type 0 };
 
-    /// How often it was synced.
+    /// How often it was synced. A sync that failed doesn't count.
     ghost syncs: { Self → ℕ };
 
     /// How many bytes were handed to the log.
@@ -75,102 +76,70 @@ pub trait Site {
     /// How often a call on the disk has failed, as far as that can be counted in 64 bits.
     ghost disk_faults: { Self → ℕ };
 
+    /// How many calls on the disk were made, `give` not among them, as far as that can be counted in 64 bits.
+    ghost disk_calls: { Self → ℕ };
+
     /// How often the output has failed, as far as that can be counted in 64 bits.
     ghost output_faults: { Self → ℕ };
 
     /// The bytes of the log. A log that is absent is empty.
     fn read_log(&mut self, alloc: Global) -> Result<Bytes, SiteError>
         ensures bytes { IsTrue tells_reads → IfOk result (λ v. v ≡ (disk self.old).reads.log) }
-        ensures reads { IsTrue tells_reads → (disk self.new).reads ≡ (disk self.old).reads }
-        ensures disk { IsTrue tells_all → disk self.new ≡ disk self.old }
-        ensures output { IsTrue tells_all → output self.new ≡ output self.old }
-        ensures time { IsTrue tells_all → Elapses (moment self.old) (moment self.new)
-            (left_since self.old) (left_since self.new) (Now (disk self.new) (output self.new)) }
-        ensures syncs { IsTrue tells_all → syncs self.new ≡ syncs self.old }
-        ensures log_bytes { IsTrue tells_all → log_bytes self.new ≡ log_bytes self.old }
-        ensures faults { disk_faults self.old ≤ disk_faults self.new }
-        ensures cause { IsErrOf result FailedCall → Rose (disk_faults self.old) (disk_faults self.new) }
-        ensures others { output_faults self.new ≡ output_faults self.old };
+        ensures same { SameDisk tells_reads tells_all disk self.old self.new }
+        ensures keeps { OnDisk tells_all disk output moment left_since disk_faults output_faults disk_calls self.old self.new }
+        ensures numbers { SameNumbers tells_all syncs log_bytes self.old self.new }
+        ensures cause { IsErrOf result FailedCall → Rose (disk_faults self.old) (disk_faults self.new) };
 
     /// Writes bytes to the log from the byte `at` on, which is at or before its end as it reads.
     /// They are pending then, also where the call failed, and what reads give differs there at most.
     fn write_log(&mut self, alloc: Global, at: u64, bytes: &[u8]) -> Result<(), SiteError>
         requires { IsTrue tells_reads → at ≤ length (disk self.old).reads.log }
-        ensures reads { IsTrue tells_reads → Changes result (Range at (length bytes.now))
-            (log_with (disk self.old).reads at bytes.now) (disk self.old).reads (disk self.new).reads }
-        ensures pends { IsTrue tells_all → Pends result (Range at (length bytes.now)) (disk self.old) (disk self.new) }
-        ensures output { IsTrue tells_all → output self.new ≡ output self.old }
-        ensures time { IsTrue tells_all → Elapses (moment self.old) (moment self.new)
-            (left_since self.old) (left_since self.new) (Now (disk self.new) (output self.new)) }
+        ensures change { ChangesPart tells_reads tells_all disk result (Range at (length bytes.now))
+            (log_with (disk self.old).reads at bytes.now) self.old self.new }
+        ensures keeps { OnDisk tells_all disk output moment left_since disk_faults output_faults disk_calls self.old self.new }
         ensures syncs { IsTrue tells_all → syncs self.new ≡ syncs self.old }
         ensures log_bytes { IsTrue tells_all → OnOk result (log_bytes self.new ≡ log_bytes self.old + length bytes.now) }
         ensures log_bytes_stay { IsTrue tells_all → log_bytes self.old ≤ log_bytes self.new }
-        ensures faults { disk_faults self.old ≤ disk_faults self.new }
-        ensures cause { IsErrOf result FailedCall → Rose (disk_faults self.old) (disk_faults self.new) }
-        ensures others { output_faults self.new ≡ output_faults self.old };
+        ensures cause { IsErrOf result FailedCall → Rose (disk_faults self.old) (disk_faults self.new) };
 
     /// Cuts the log to its first `len` bytes, at most as many as it has as it reads.
     /// What stood behind them is pending then, also where the call failed.
     fn cut_log(&mut self, len: u64) -> Result<(), Failed>
         requires { IsTrue tells_reads → len ≤ length (disk self.old).reads.log }
-        ensures reads { IsTrue tells_reads → Changes result (Cut len)
-            (log_cut (disk self.old).reads len) (disk self.old).reads (disk self.new).reads }
-        ensures pends { IsTrue tells_all → Pends result (Cut len) (disk self.old) (disk self.new) }
-        ensures output { IsTrue tells_all → output self.new ≡ output self.old }
-        ensures time { IsTrue tells_all → Elapses (moment self.old) (moment self.new)
-            (left_since self.old) (left_since self.new) (Now (disk self.new) (output self.new)) }
-        ensures syncs { IsTrue tells_all → syncs self.new ≡ syncs self.old }
-        ensures log_bytes { IsTrue tells_all → log_bytes self.new ≡ log_bytes self.old }
-        ensures faults { disk_faults self.old ≤ disk_faults self.new }
-        ensures cause { OnErr result (Rose (disk_faults self.old) (disk_faults self.new)) }
-        ensures others { output_faults self.new ≡ output_faults self.old };
+        ensures change { ChangesPart tells_reads tells_all disk result (Cut len)
+            (log_cut (disk self.old).reads len) self.old self.new }
+        ensures keeps { OnDisk tells_all disk output moment left_since disk_faults output_faults disk_calls self.old self.new }
+        ensures numbers { SameNumbers tells_all syncs log_bytes self.old self.new }
+        ensures cause { OnErr result (Rose (disk_faults self.old) (disk_faults self.new)) };
 
     /// The bytes of a file other than the log, or None where it is absent.
     fn read_file(&mut self, alloc: Global, name: Name) -> Result<Option<Bytes>, SiteError>
         requires { IsTrue (is_file name) }
         ensures bytes { IsTrue tells_reads → IfOk result (λ o. o ≡ (disk self.old).reads.files name) }
-        ensures reads { IsTrue tells_reads → (disk self.new).reads ≡ (disk self.old).reads }
-        ensures disk { IsTrue tells_all → disk self.new ≡ disk self.old }
-        ensures output { IsTrue tells_all → output self.new ≡ output self.old }
-        ensures time { IsTrue tells_all → Elapses (moment self.old) (moment self.new)
-            (left_since self.old) (left_since self.new) (Now (disk self.new) (output self.new)) }
-        ensures syncs { IsTrue tells_all → syncs self.new ≡ syncs self.old }
-        ensures log_bytes { IsTrue tells_all → log_bytes self.new ≡ log_bytes self.old }
-        ensures faults { disk_faults self.old ≤ disk_faults self.new }
-        ensures cause { IsErrOf result FailedCall → Rose (disk_faults self.old) (disk_faults self.new) }
-        ensures others { output_faults self.new ≡ output_faults self.old };
+        ensures same { SameDisk tells_reads tells_all disk self.old self.new }
+        ensures keeps { OnDisk tells_all disk output moment left_since disk_faults output_faults disk_calls self.old self.new }
+        ensures numbers { SameNumbers tells_all syncs log_bytes self.old self.new }
+        ensures cause { IsErrOf result FailedCall → Rose (disk_faults self.old) (disk_faults self.new) };
 
     /// Gives a file other than the log these bytes, in place of any that it had.
     /// The file is pending then, also where the call failed, and what reads give differs there at most.
     fn write_file(&mut self, alloc: Global, name: Name, bytes: &[u8]) -> Result<(), SiteError>
         requires { IsTrue (is_file name) }
-        ensures reads { IsTrue tells_reads → Changes result (File name)
-            (file_with (disk self.old).reads name (Some bytes.now)) (disk self.old).reads (disk self.new).reads }
-        ensures pends { IsTrue tells_all → Pends result (File name) (disk self.old) (disk self.new) }
-        ensures output { IsTrue tells_all → output self.new ≡ output self.old }
-        ensures time { IsTrue tells_all → Elapses (moment self.old) (moment self.new)
-            (left_since self.old) (left_since self.new) (Now (disk self.new) (output self.new)) }
-        ensures syncs { IsTrue tells_all → syncs self.new ≡ syncs self.old }
-        ensures log_bytes { IsTrue tells_all → log_bytes self.new ≡ log_bytes self.old }
-        ensures faults { disk_faults self.old ≤ disk_faults self.new }
-        ensures cause { IsErrOf result FailedCall → Rose (disk_faults self.old) (disk_faults self.new) }
-        ensures others { output_faults self.new ≡ output_faults self.old };
+        ensures change { ChangesPart tells_reads tells_all disk result (File name)
+            (file_with (disk self.old).reads name (Some bytes.now)) self.old self.new }
+        ensures keeps { OnDisk tells_all disk output moment left_since disk_faults output_faults disk_calls self.old self.new }
+        ensures numbers { SameNumbers tells_all syncs log_bytes self.old self.new }
+        ensures cause { IsErrOf result FailedCall → Rose (disk_faults self.old) (disk_faults self.new) };
 
     /// Removes a file other than the log, if it is there.
     /// The file is pending then, also where the call failed, and what reads give differs there at most.
     fn remove_file(&mut self, alloc: Global, name: Name) -> Result<(), SiteError>
         requires { IsTrue (is_file name) }
-        ensures reads { IsTrue tells_reads → Changes result (File name)
-            (file_with (disk self.old).reads name None) (disk self.old).reads (disk self.new).reads }
-        ensures pends { IsTrue tells_all → Pends result (File name) (disk self.old) (disk self.new) }
-        ensures output { IsTrue tells_all → output self.new ≡ output self.old }
-        ensures time { IsTrue tells_all → Elapses (moment self.old) (moment self.new)
-            (left_since self.old) (left_since self.new) (Now (disk self.new) (output self.new)) }
-        ensures syncs { IsTrue tells_all → syncs self.new ≡ syncs self.old }
-        ensures log_bytes { IsTrue tells_all → log_bytes self.new ≡ log_bytes self.old }
-        ensures faults { disk_faults self.old ≤ disk_faults self.new }
-        ensures cause { IsErrOf result FailedCall → Rose (disk_faults self.old) (disk_faults self.new) }
-        ensures others { output_faults self.new ≡ output_faults self.old };
+        ensures change { ChangesPart tells_reads tells_all disk result (File name)
+            (file_with (disk self.old).reads name None) self.old self.new }
+        ensures keeps { OnDisk tells_all disk output moment left_since disk_faults output_faults disk_calls self.old self.new }
+        ensures numbers { SameNumbers tells_all syncs log_bytes self.old self.new }
+        ensures cause { IsErrOf result FailedCall → Rose (disk_faults self.old) (disk_faults self.new) };
 
     /// Settles all that is pending: after Ok a crash leaves exactly what reads give. An error settles nothing.
     /// It takes no memory.
@@ -180,32 +149,28 @@ pub trait Site {
         ensures err { IsTrue tells_all → OnErr result (disk self.new ≡ disk self.old) }
         ensures crash { IsTrue tells_all → (left : Contents)
             → IsImage (disk self.new) left → IsImage (disk self.old) left }
-        ensures output { IsTrue tells_all → output self.new ≡ output self.old }
-        ensures time { IsTrue tells_all → Elapses (moment self.old) (moment self.new)
-            (left_since self.old) (left_since self.new) (Now (disk self.new) (output self.new)) }
+        ensures keeps { OnDisk tells_all disk output moment left_since disk_faults output_faults disk_calls self.old self.new }
         ensures syncs { IsTrue tells_all → syncs self.new ≤ syncs self.old + 1 }
         ensures syncs_ok { IsTrue tells_all → OnOk result (syncs self.new ≡ syncs self.old + 1) }
+        ensures syncs_err { IsTrue tells_all → OnErr result (syncs self.new ≡ syncs self.old) }
         ensures syncs_stay { IsTrue tells_all → syncs self.old ≤ syncs self.new }
         ensures log_bytes { IsTrue tells_all → log_bytes self.new ≡ log_bytes self.old }
-        ensures faults { disk_faults self.old ≤ disk_faults self.new }
-        ensures cause { OnErr result (Rose (disk_faults self.old) (disk_faults self.new)) }
-        ensures others { output_faults self.new ≡ output_faults self.old };
+        ensures cause { OnErr result (Rose (disk_faults self.old) (disk_faults self.new)) };
 
     /// Puts bytes out behind those that were put out before. An error has put out some first part of them.
     /// It takes no memory.
     fn give(&mut self, bytes: &[u8]) -> Result<(), Failed>
-        ensures reads { IsTrue tells_reads → (disk self.new).reads ≡ (disk self.old).reads }
-        ensures disk { IsTrue tells_all → disk self.new ≡ disk self.old }
+        ensures same { SameDisk tells_reads tells_all disk self.old self.new }
         ensures ok { IsTrue tells_all → OnOk result (output self.new ≡ output self.old ++ bytes.now) }
         ensures err { IsTrue tells_all
             → OnErr result ((n : ℕ) × (output self.new ≡ output self.old ++ take n bytes.now)) }
         ensures time { IsTrue tells_all → Elapses (moment self.old) (moment self.new)
             (left_since self.old) (left_since self.new) (Giving (disk self.old) (output self.old) bytes.now) }
-        ensures syncs { IsTrue tells_all → syncs self.new ≡ syncs self.old }
-        ensures log_bytes { IsTrue tells_all → log_bytes self.new ≡ log_bytes self.old }
+        ensures numbers { SameNumbers tells_all syncs log_bytes self.old self.new }
         ensures faults { output_faults self.old ≤ output_faults self.new }
         ensures cause { OnErr result (Rose (output_faults self.old) (output_faults self.new)) }
-        ensures others { disk_faults self.new ≡ disk_faults self.old };
+        ensures others { disk_faults self.new ≡ disk_faults self.old }
+        ensures calls { disk_calls self.new ≡ disk_calls self.old };
 
     /// What is told besides what reads give.
     ghost all_has_reads: { IsTrue tells_all → IsTrue tells_reads };

@@ -1,9 +1,9 @@
 // A disk in memory that never fails and keeps no record.
 ghost use Rattle.std.specs.Prelude.{◌≡◌, true, false, [], ⊤};
-ghost use Rattle.ml_site.specs.Memory.{contents, at_rest};
+ghost use Rattle.ml_site.specs.Recorded.{contents, at_rest};
 ghost use Rattle.ml_site.specs.Disk.{untold};
 
-use crate::image::{copied, set, spliced, unset};
+use crate::image::{copied, drop_file, set_file, spliced};
 use crate::{Failed, Image, Site, SiteError};
 use ml_base::{Bytes, Name};
 use std::alloc::Global;
@@ -15,10 +15,11 @@ use std::collections::BTreeMap;
 pub struct Unfailing {
     log: Bytes,
     files: BTreeMap<Name, Bytes>,
+    disk_calls: u64,
 }
 
 impl Unfailing {
-    ghost use Rattle.ml_site.specs.Kept.{unfailing_disk};
+    ghost use Rattle.ml_site.specs.Unfailed.{unfailing_disk};
 
     /// A site over an image. It takes no memory.
     pub fn new(image: Image) -> Unfailing
@@ -27,6 +28,7 @@ impl Unfailing {
         Unfailing {
             log: image.log,
             files: image.files,
+            disk_calls: 0,
         }
     }
 }
@@ -50,40 +52,49 @@ impl Site for Unfailing {
 
     ghost disk_faults = { λ _. 0 };
 
+    ghost disk_calls = { λ s. s.disk_calls };
+
     ghost output_faults = { λ _. 0 };
 
     fn read_log(&mut self, alloc: Global) -> Result<Bytes, SiteError> {
+        self.disk_calls = self.disk_calls.saturating_add(1);
         Ok(Bytes::from_slice(alloc, self.log.as_slice())?)
     }
 
     fn write_log(&mut self, alloc: Global, at: u64, bytes: &[u8]) -> Result<(), SiteError> {
+        self.disk_calls = self.disk_calls.saturating_add(1);
         self.log = spliced(alloc, self.log.as_slice(), at as usize, bytes)?;
         Ok(())
     }
 
     fn cut_log(&mut self, len: u64) -> Result<(), Failed> {
+        self.disk_calls = self.disk_calls.saturating_add(1);
         self.log.truncate(len as usize);
         Ok(())
     }
 
     fn read_file(&mut self, alloc: Global, name: Name) -> Result<Option<Bytes>, SiteError> {
+        self.disk_calls = self.disk_calls.saturating_add(1);
         Ok(copied(alloc, &self.files, name)?)
     }
 
     fn write_file(&mut self, alloc: Global, name: Name, bytes: &[u8]) -> Result<(), SiteError> {
+        self.disk_calls = self.disk_calls.saturating_add(1);
         let copy = Bytes::from_slice(alloc, bytes)?;
-        if !set(&mut self.files, name, copy) {
+        if !set_file(&mut self.files, name, copy) {
             return Err(SiteError::Memory);
         }
         Ok(())
     }
 
     fn remove_file(&mut self, _alloc: Global, name: Name) -> Result<(), SiteError> {
-        unset(&mut self.files, name);
+        self.disk_calls = self.disk_calls.saturating_add(1);
+        drop_file(&mut self.files, name);
         Ok(())
     }
 
     fn sync(&mut self) -> Result<(), Failed> {
+        self.disk_calls = self.disk_calls.saturating_add(1);
         Ok(())
     }
 

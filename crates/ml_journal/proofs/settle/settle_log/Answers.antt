@@ -1,18 +1,30 @@
-use Rattle.std.proofs.Common.{length}
+use Rattle.std.proofs.Common.{length, rules}
 use Rattle.ml_site.specs.Disk.{Range}
 use Rattle.ml_site.proofs.Steps.{after_one, after_both}
 use Rattle.ml_journal.proofs.settle.settle_log.Goals as goal
 
-pub returns-in_err-write_log-clause-moments : goal.returns-in_err-write_log-clause-moments
-returns-in_err-write_log-clause-moments g c = λ told. after_one g.S.Site.moment g.S.Site.left_since g.S.Site.disk g.S.Site.output (λ site left out l. g.met.S.Site.only_now site left out told l) c.write_log.result (Range c.args.at (length c.args.bytes.now))
-    c.args.site.now c.write_log.new.self (c.requires.rest told) (c.write_log.ensures.pends told) (c.write_log.ensures.output told) (c.write_log.ensures.time told)
+pub returns-in_err-write_log-clause-settles : goal.returns-in_err-write_log-clause-settles
+returns-in_err-write_log-clause-settles g c = record {
+  reads = search rules;
+  rest = search rules;
+  moments = λ told. after_one g.S.Site.moment g.S.Site.left_since g.S.Site.disk g.S.Site.output (λ site left out l. g.met.S.Site.only_now site left out told l) c.write_log.result (Range c.args.at (length c.args.bytes.now))
+      c.args.site.now c.write_log.new.self (c.requires.rest told) (c.write_log.ensures.change.pends told) (c.write_log.ensures.keeps.output told) (c.write_log.ensures.keeps.time told);
+}
 
-pub returns-in-Ok-clause-moments : goal.returns-in-Ok-clause-moments
-returns-in-Ok-clause-moments g c = λ told. after_both g.S.Site.moment g.S.Site.left_since g.S.Site.disk g.S.Site.output (λ site left out l. g.met.S.Site.only_now site left out told l) c.write_log.result (Range c.args.at (length c.args.bytes.now))
-    c.args.site.now c.write_log.new.self c.sync.new.self (c.requires.rest told) (c.write_log.ensures.pends told) (c.write_log.ensures.output told) (c.write_log.ensures.time told)
-    (c.sync.ensures.crash told) (c.sync.ensures.output told) (c.sync.ensures.time told)
+pub returns-in-Ok-clause-settles : goal.returns-in-Ok-clause-settles
+returns-in-Ok-clause-settles g c = record {
+  reads = search rules;
+  rest = search rules;
+  moments = λ told. after_both g.S.Site.moment g.S.Site.left_since g.S.Site.disk g.S.Site.output (λ site left out l. g.met.S.Site.only_now site left out told l) c.write_log.result (Range c.args.at (length c.args.bytes.now))
+      c.args.site.now c.write_log.new.self c.sync.new.self (c.requires.rest told) (c.write_log.ensures.change.pends told) (c.write_log.ensures.keeps.output told) (c.write_log.ensures.keeps.time told)
+      (c.sync.ensures.crash told) (c.sync.ensures.keeps.output told) (c.sync.ensures.keeps.time told);
+}
 
-pub returns-in-Err-clause-moments : goal.returns-in-Err-clause-moments
-returns-in-Err-clause-moments g c = λ told. after_both g.S.Site.moment g.S.Site.left_since g.S.Site.disk g.S.Site.output (λ site left out l. g.met.S.Site.only_now site left out told l) c.write_log.result (Range c.args.at (length c.args.bytes.now))
-    c.args.site.now c.write_log.new.self c.sync.new.self (c.requires.rest told) (c.write_log.ensures.pends told) (c.write_log.ensures.output told) (c.write_log.ensures.time told)
-    (c.sync.ensures.crash told) (c.sync.ensures.output told) (c.sync.ensures.time told)
+pub returns-in-Err-clause-settles : goal.returns-in-Err-clause-settles
+returns-in-Err-clause-settles g c = record {
+  reads = search rules;
+  rest = search rules;
+  moments = λ told. after_both g.S.Site.moment g.S.Site.left_since g.S.Site.disk g.S.Site.output (λ site left out l. g.met.S.Site.only_now site left out told l) c.write_log.result (Range c.args.at (length c.args.bytes.now))
+      c.args.site.now c.write_log.new.self c.sync.new.self (c.requires.rest told) (c.write_log.ensures.change.pends told) (c.write_log.ensures.keeps.output told) (c.write_log.ensures.keeps.time told)
+      (c.sync.ensures.crash told) (c.sync.ensures.keeps.output told) (c.sync.ensures.keeps.time told);
+}

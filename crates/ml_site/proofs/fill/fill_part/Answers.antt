@@ -1,6 +1,6 @@
 use Rattle.std.proofs.Common.{◌≡◌, ◌-◌, ℕ, List, [], ◌∷◌, length, min, refl, sym, ◌∙◌, ap, subst, rules, arith}
 use Rattle.ml_site.specs.Disk.{Part, Range, Cut, File}
-use Rattle.ml_site.specs.Memory.{contents, lookup}
+use Rattle.ml_site.specs.Recorded.{contents, lookup}
 use Rattle.ml_site.specs.Filled.{parts_of, bytes_filled}
 use Rattle.ml_site.proofs.Filling.{range_filled, cut_filled, file_log, other_filled, both_filled, none_filled}
 use Rattle.ml_site.proofs.fill.fill_part.Goals as goal

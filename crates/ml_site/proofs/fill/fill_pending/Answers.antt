@@ -1,6 +1,6 @@
 use Rattle.std.proofs.Common.{◌≡◌, ◌-◌, ℕ, List, [], take, sym, ◌∙◌, ap, arith}
 use Rattle.ml_site.specs.Disk.{Disk, Part}
-use Rattle.ml_site.specs.Memory.{contents, at_rest, after}
+use Rattle.ml_site.specs.Recorded.{contents, at_rest, after}
 use Rattle.ml_site.specs.Filled.{bytes_filled}
 use Rattle.ml_site.proofs.Settling.{last_of, step_settles, step_pends, filled_step, all_filled, none_pending}
 use Rattle.ml_site.proofs.fill.fill_pending.Goals as goal

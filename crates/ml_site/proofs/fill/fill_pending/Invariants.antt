@@ -1,6 +1,6 @@
 use Rattle.std.proofs.Common.{◌≡◌, ◌≤◌, length, take}
 use Rattle.ml_site.specs.Disk.{Contents}
-use Rattle.ml_site.specs.Memory.{contents, at_rest, after}
+use Rattle.ml_site.specs.Recorded.{contents, at_rest, after}
 use Rattle.ml_site.specs.Filled.{bytes_filled}
 use Rattle.ml_site.proofs.fill.fill_pending.Given as goal
 

@@ -1,6 +1,6 @@
 use Rattle.std.proofs.Common.{sym, ◌∙◌, ap, take}
 use Rattle.ml_site.specs.Disk.{Contents, Disk}
-use Rattle.ml_site.specs.Memory.{contents, at_rest, step, after}
+use Rattle.ml_site.specs.Recorded.{contents, at_rest, step, after}
 use Rattle.ml_site.proofs.Settling.{one_more, reads_step}
 use Rattle.ml_site.proofs.replay.replay.Goals as goal
 

@@ -1,5 +1,5 @@
 use Rattle.std.proofs.Common.{◌≡◌, take}
-use Rattle.ml_site.specs.Memory.{contents, at_rest, after}
+use Rattle.ml_site.specs.Recorded.{contents, at_rest, after}
 use Rattle.ml_site.proofs.replay.replay.Given as goal
 
 abbrev pub invariant-loop-call : goal.invariant-loop-call

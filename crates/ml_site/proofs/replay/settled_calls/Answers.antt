@@ -1,6 +1,6 @@
 use Rattle.std.proofs.Common.{◌-◌, take, sym, ◌∙◌, ap, arith}
 use Rattle.ml_site.specs.Disk.{Disk}
-use Rattle.ml_site.specs.Memory.{at_rest, after}
+use Rattle.ml_site.specs.Recorded.{at_rest, after}
 use Rattle.ml_site.proofs.Settling.{last_of, step_settles, step_keeps}
 use Rattle.ml_site.proofs.replay.settled_calls.Goals as goal
 

@@ -1,6 +1,6 @@
 use Rattle.std.proofs.Common.{◌≡◌, ◌≤◌, length, take}
 use Rattle.ml_site.specs.Disk.{Contents}
-use Rattle.ml_site.specs.Memory.{at_rest, after}
+use Rattle.ml_site.specs.Recorded.{at_rest, after}
 use Rattle.ml_site.proofs.replay.settled_calls.Given as goal
 
 abbrev pub invariant-loop-left : goal.invariant-loop-left

@@ -1,20 +1,19 @@
-use Rattle.std.proofs.Common.{List, length, inl, ap, arith}
-use Rattle.ml_base.specs.declared.puts.Put.{Put}
-use Rattle.ml_site.proofs.Steps.{at_start}
-use Rattle.ml_journal.specs.Log.{directory}
-use Rattle.ml_journal.specs.Moments.{IsOldOrNew}
-use Rattle.ml_journal.proofs.Fields.{rests_of, split_of, row_of_log, first_of_log}
-use Rattle.ml_journal.specs.Records.{spelled_record}
+use Rattle.std.proofs.Common.{length}
 use Rattle.ml_journal.specs.Newest.{with_newest}
-use Rattle.ml_journal.proofs.Sizes.{record_holds}
+use Rattle.ml_journal.proofs.Fields.{split_of, row_of_log, first_of_log}
+use Rattle.ml_journal.proofs.Held.{held_rests, held_rest, held_short}
+use Rattle.ml_journal.proofs.Keeping.{changes_none, directory_at_rest}
+use Rattle.ml_journal.proofs.Spent.{empty_txn, some_txn, spends_none, spends_grown, refused_grown}
 use Rattle.ml_journal.proofs.store.Store.commit.Goals as goal
 
-pub returns-then-is_empty-clause-moments : goal.returns-then-is_empty-clause-moments
-returns-then-is_empty-clause-moments g c = λ told. at_start g.S.Site.moment g.S.Site.left_since g.S.Site.disk g.S.Site.output (λ site left out l. g.met.S.Site.only_now site left out told l)
-    c.args.self.site (IsOldOrNew (directory (g.S.Site.disk c.args.self.site).reads) c.args.txn.now (g.S.Site.output c.args.self.site)) (record { settled = c.args.self.settled told; pending = c.args.self.rest told }) (λ left is out same. (inl (ap directory is), same))
+pub returns-then-is_empty-clause-directory : goal.returns-then-is_empty-clause-directory
+returns-then-is_empty-clause-directory g c = changes_none g.S.Site c.args.txn.now c.args.self.site c.args.self.site (directory_at_rest g.S.Site g.met.S.Site.only_now c.args.self.site (held_rest c.args.self))
+
+pub returns-then-is_empty-clause-spends : goal.returns-then-is_empty-clause-spends
+returns-then-is_empty-clause-spends g c = λ told. spends_none g.S.Site c.args.txn.now c.args.self.site (empty_txn c.as_slice.result.now c.args.txn.now c.as_slice.ensures c.if-is_empty.ensures) (held_short c.args.self (g.met.S.Site.all_has_reads told))
 
 pub add_and_shorten-requires-clause-held : goal.add_and_shorten-requires-clause-held
-add_and_shorten-requires-clause-held g c = λ told. rests_of (g.S.Site.disk c.args.self.site).reads.log c.args.self.end (with_newest c.args.self.newest.puts) (c.args.self.split told) (c.args.self.begins told) (c.args.self.row told)
+add_and_shorten-requires-clause-held g c = held_rests c.args.self
 
 pub invariant_of-result-in-Ok : goal.invariant_of-result-in-Ok
 invariant_of-result-in-Ok g c =
@@ -28,5 +27,10 @@ invariant_of-result-in-Ok g c =
       rest = λ told. (c.in-Ok.ensures.rest told).pending;
     }
 
-pub returns-in-Ok-clause-content : goal.returns-in-Ok-clause-content
-returns-in-Ok-clause-content g c = λ told. omega (arith, record_holds c.args.txn.now, ap (λ (l : List Put). length (spelled_record l)) c.as_slice-2.ensures, c.in-Ok.ensures.log_bytes told)
+pub returns-in-Ok-clause-spends : goal.returns-in-Ok-clause-spends
+returns-in-Ok-clause-spends g c = λ told. spends_grown g.S.Site (length (g.S.Site.disk c.args.self.site).reads.log) c.args.txn.now c.as_slice-2.result.now c.args.self.site c.add_and_shorten.new.site c.as_slice-2.ensures
+    (some_txn c.as_slice.result.now c.args.txn.now c.as_slice.ensures c.if-is_empty.ensures) (c.in-Ok.ensures.spends told)
+
+pub returns-in-Err-clause-spends_err : goal.returns-in-Err-clause-spends_err
+returns-in-Err-clause-spends_err g c = λ told. refused_grown g.S.Site (length (g.S.Site.disk c.args.self.site).reads.log) c.args.txn.now c.as_slice-2.result.now c.args.self.site c.add_and_shorten.new.site c.as_slice-2.ensures
+    (some_txn c.as_slice.result.now c.args.txn.now c.as_slice.ensures c.if-is_empty.ensures) (c.in-Err.ensures.spends_err told)

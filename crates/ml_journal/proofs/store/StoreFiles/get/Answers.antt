@@ -6,7 +6,8 @@ use Rattle.ml_site.proofs.Steps.{after_read}
 use Rattle.ml_journal.specs.Newest.{newest_of, left_by, with_newest}
 use Rattle.ml_journal.specs.Rows.{IsRow}
 use Rattle.ml_journal.specs.Kept.{IsStill, kept_itself}
-use Rattle.ml_journal.proofs.Fields.{rests_of, shown}
+use Rattle.ml_journal.proofs.Fields.{shown}
+use Rattle.ml_journal.proofs.Held.{held_rests}
 use Rattle.ml_journal.proofs.store.StoreFiles.get.Goals as goal
 
 pub returns-in_err-copied-in-Some-clause-kept : goal.returns-in_err-copied-in-Some-clause-kept
@@ -19,11 +20,11 @@ pub invariant_of-self : goal.invariant_of-self
 invariant_of-self g c =
     let self = c.args.self.now in record {
       small = self.small;
-      split = λ told. subst (λ (m : Contents). m.log ≡ take self.end m.log ++ 0 ∷ []) (sym (c.read_one.ensures.reads told)) (self.split told);
-      begins = λ told. subst (λ (m : Contents). 0 < self.end → get_or m.log 0 0 ≡ 1) (sym (c.read_one.ensures.reads told)) (self.begins told);
-      row = λ told. subst (λ (m : Contents). IsRow (take self.end m.log) (with_newest self.newest.puts)) (sym (c.read_one.ensures.reads told)) (self.row told);
-      settled = λ told. subst (λ (d : Disk). d.settled ≡ d.reads) (sym (c.read_one.ensures.disk told)) (self.settled told);
-      rest = λ told. subst (λ (d : Disk). d.pending ≡ []) (sym (c.read_one.ensures.disk told)) (self.rest told);
+      split = λ told. subst (λ (m : Contents). m.log ≡ take self.end m.log ++ 0 ∷ []) (sym (c.read_one.ensures.same.reads told)) (self.split told);
+      begins = λ told. subst (λ (m : Contents). 0 < self.end → get_or m.log 0 0 ≡ 1) (sym (c.read_one.ensures.same.reads told)) (self.begins told);
+      row = λ told. subst (λ (m : Contents). IsRow (take self.end m.log) (with_newest self.newest.puts)) (sym (c.read_one.ensures.same.reads told)) (self.row told);
+      settled = λ told. subst (λ (d : Disk). d.settled ≡ d.reads) (sym (c.read_one.ensures.same.disk told)) (self.settled told);
+      rest = λ told. subst (λ (d : Disk). d.pending ≡ []) (sym (c.read_one.ensures.same.disk told)) (self.rest told);
     }
 
 pub returns-in-None-clause-value : goal.returns-in-None-clause-value
@@ -31,21 +32,21 @@ returns-in-None-clause-value g c = λ told.
     let self = c.args.self.now in
     let held = (g.S.Site.disk self.site).reads in
     let none : newest_of self.newest.puts c.args.name ≡ None = sym c.in-None.ensures in
-    let same = shown held self.end self.newest.puts c.args.name (rests_of held.log self.end (with_newest self.newest.puts) (self.split told) (self.begins told) (self.row told))
+    let same = shown held self.end self.newest.puts c.args.name (held_rests self told)
     ∙ ap (λ (found : Option (Option Text)). left_by found (held.files c.args.name)) none in
     IfOk-weaker c.read_one.result _ _ (λ found is. is ∙ sym same) (c.read_one.ensures.bytes told)
 
 pub returns-in-None-clause-kept : goal.returns-in-None-clause-kept
 returns-in-None-clause-kept g c =
     let self = c.args.self.now in record {
-      reads = λ told. c.read_one.ensures.reads told;
-      disk_is = λ told. c.read_one.ensures.disk told;
-      output_is = λ told. c.read_one.ensures.output told;
+      reads = λ told. c.read_one.ensures.same.reads told;
+      disk_is = λ told. c.read_one.ensures.same.disk told;
+      output_is = λ told. c.read_one.ensures.keeps.output told;
       moments = λ told. after_read g.S.Site.moment g.S.Site.left_since g.S.Site.disk g.S.Site.output (λ s left out l. g.met.S.Site.only_now s left out told l)
-          self.site c.read_one.new.site (IsStill g.S.Site self.site) (record { settled = self.settled told; pending = self.rest told }) (c.read_one.ensures.disk told) (c.read_one.ensures.output told) (c.read_one.ensures.time told)
+          self.site c.read_one.new.site (IsStill g.S.Site self.site) (record { settled = self.settled told; pending = self.rest told }) (c.read_one.ensures.same.disk told) (c.read_one.ensures.keeps.output told) (c.read_one.ensures.keeps.time told)
           (λ left is out same. (is, same));
-      syncs_are = λ told. c.read_one.ensures.syncs told;
-      log_bytes_are = λ told. c.read_one.ensures.log_bytes told;
-      disk_faults_are = c.read_one.ensures.faults;
-      output_faults_are = omega (arith, c.read_one.ensures.others);
+      syncs_are = λ told. c.read_one.ensures.numbers.syncs told;
+      log_bytes_are = λ told. c.read_one.ensures.numbers.log_bytes told;
+      disk_faults_are = c.read_one.ensures.keeps.faults;
+      output_faults_are = omega (arith, c.read_one.ensures.keeps.others);
     }

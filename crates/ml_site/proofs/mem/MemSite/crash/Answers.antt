@@ -4,8 +4,8 @@ use Rattle.std.specs.Prelude.{IfOk}
 use Rattle.ml_site.specs.declared.image.Image.{Image}
 use Rattle.ml_site.specs.Disk.{IsImage}
 use Rattle.ml_site.specs.Filled.{filled}
-use Rattle.ml_site.specs.Memory.{contents, at_rest}
-use Rattle.ml_site.specs.Held.{mem_disk_at}
+use Rattle.ml_site.specs.Recorded.{contents, at_rest}
+use Rattle.ml_site.specs.MemSites.{mem_disk_at}
 use Rattle.ml_site.proofs.Leaving.{filled-is_image, if_ok, left_then}
 use Rattle.ml_site.proofs.mem.MemSite.crash.Goals as goal
 
@@ -23,5 +23,5 @@ returns-clause-moment c =
     let calls = c.args.self.now.calls.items in
     let disk = mem_disk_at c.args.self.now c.args.moment in
     let bytes : IfOk c.image_left.result (λ (image : Image). contents image.log image.files ≡ filled c.args.fill disk) = grind (arith, common_steps) in
-    if_ok c.image_left.result _ _ bytes (λ image is t le. left_then (at_rest start) calls c.args.self.now.output c.args.moment t (contents image.log image.files) le
+    if_ok c.image_left.result _ _ bytes (λ image is t le. left_then (at_rest start) calls c.args.self.now.output.items c.args.moment t (contents image.log image.files) le
     (subst (IsImage disk) (sym is) (filled-is_image start (take c.args.moment calls) c.args.fill)))

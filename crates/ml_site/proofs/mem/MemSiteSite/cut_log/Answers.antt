@@ -1,50 +1,53 @@
-use Rattle.ml_site.proofs.Joined.{time_quiet}
-use Rattle.std.proofs.Common.{take, [], ◌∷◌, ap, subst, sym, ◌∙◌, refl, arith}
+use Rattle.std.proofs.Common.{true, take, ap, sym, ◌∙◌, refl}
 use Rattle.ml_site.specs.declared.call.Call.TheVariants.{CutLog, FailedCut}
-use Rattle.ml_site.specs.Disk.{Disk, Cut, MayLeave, log_cut}
+use Rattle.ml_site.specs.Disk.{Disk, Cut, log_cut}
 use Rattle.ml_site.specs.Images.{cut_image}
-use Rattle.ml_site.specs.Memory.{contents, at_rest, after}
-use Rattle.ml_site.proofs.Joined.{given_more, stepped, pends_err, pends_ok}
+use Rattle.ml_site.specs.Recorded.{contents, lookup, at_rest, after}
+use Rattle.ml_site.proofs.Joined.{stepped, log_kept, file_kept, given_kept}
+use Rattle.ml_site.proofs.MemCalls.{keeps, numbers, failed_change, done_change, le_self}
 use Rattle.ml_site.proofs.mem.MemSiteSite.cut_log.Goals as goal
 
-pub returns-then-fails-clause-pends : goal.returns-then-fails-clause-pends
-returns-then-fails-clause-pends c =
+pub invariant_of-self : goal.invariant_of-self
+invariant_of-self c =
     let start = at_rest (contents c.args.self.now.start_log c.args.self.now.start_files) in
     let calls = c.args.self.now.calls.items in
-    let disk = after start calls in
-    λ told. pends_err start calls (FailedCut c.args.len) c.join-joined.new.calls.items c.join-joined.result c.join-joined.ensures _ (Cut c.args.len) refl
+    let longer = c.note_failure.new.calls.items in record {
+      log_is = log_kept start calls (FailedCut c.args.len) longer _ c.note_failure.ensures.calls c.args.self.now.log c.args.self.now.log_is refl;
+      files_are = λ name. file_kept start calls (FailedCut c.args.len) longer _ c.note_failure.ensures.calls name (lookup c.args.self.now.files name) (c.args.self.now.files_are name) refl;
+      output_is = given_kept start calls (FailedCut c.args.len) longer _ c.note_failure.ensures.calls c.args.self.now.output.items c.args.self.now.output_is refl;
+      room = c.args.self.now.room;
+    }
+
+pub returns-then-fails-clause-keeps : goal.returns-then-fails-clause-keeps
+returns-then-fails-clause-keeps c = keeps c.args.self.now _ (record { log = refl; files = refl }) (FailedCut c.args.len) _ c.note_failure.ensures.calls refl refl c.note_failure.ensures.later refl c.saturating_add-self.ensures
+
+pub returns-then-fails-clause-numbers : goal.returns-then-fails-clause-numbers
+returns-then-fails-clause-numbers c = numbers c.args.self.now _ (record { log = refl; files = refl }) (FailedCut c.args.len) _ c.note_failure.ensures.calls refl refl
+
+pub returns-then-fails-clause-change : goal.returns-then-fails-clause-change
+returns-then-fails-clause-change c = failed_change c.args.self.now _ (record { log = refl; files = refl }) (FailedCut c.args.len) _ c.note_failure.ensures.calls _ (Cut c.args.len) _ refl
 
 pub invariant_of-self-2 : goal.invariant_of-self-2
 invariant_of-self-2 c =
     let start = at_rest (contents c.args.self.now.start_log c.args.self.now.start_files) in
     let calls = c.args.self.now.calls.items in
-    let call = CutLog c.args.len in
-    let is = stepped start calls call c.join.new.calls.items c.if-not-join.ensures in record {
+    let disk = after start calls in
+    let is = stepped start calls (CutLog c.args.len) c.push_reserved.new.self.items c.push_reserved.ensures.items in record {
       log_is = c.truncate.ensures ∙ ap (take c.args.len) c.args.self.now.log_is ∙ sym (ap (λ (d : Disk). d.reads.log) is);
       files_are = λ name. c.args.self.now.files_are name ∙ sym (ap (λ (d : Disk). d.reads.files name) is);
-      output_is = omega (arith, c.args.self.now.output_is, given_more start calls call c.join.new.calls.items c.if-not-join.ensures);
+      output_is = given_kept start calls (CutLog c.args.len) c.push_reserved.new.self.items true c.push_reserved.ensures.items c.args.self.now.output.items c.args.self.now.output_is refl;
+      room = c.args.self.now.room;
     }
 
-pub returns-clause-reads : goal.returns-clause-reads
-returns-clause-reads c =
+pub returns-clause-keeps : goal.returns-clause-keeps
+returns-clause-keeps c = keeps c.args.self.now _ (record { log = refl; files = refl }) (CutLog c.args.len) true c.push_reserved.ensures.items refl refl (le_self _) refl c.saturating_add-self.ensures
+
+pub returns-clause-numbers : goal.returns-clause-numbers
+returns-clause-numbers c = numbers c.args.self.now _ (record { log = refl; files = refl }) (CutLog c.args.len) true c.push_reserved.ensures.items refl refl
+
+pub returns-clause-change : goal.returns-clause-change
+returns-clause-change c =
     let start = at_rest (contents c.args.self.now.start_log c.args.self.now.start_files) in
     let calls = c.args.self.now.calls.items in
     let disk = after start calls in
-    let is = stepped start calls (CutLog c.args.len) c.join.new.calls.items c.if-not-join.ensures in λ told. record {
-      ok = ap (λ (d : Disk). d.reads) is;
-      part_only = subst (λ (d : Disk). MayLeave disk.reads (Cut c.args.len ∷ []) d.reads) (sym is) (cut_image disk.reads c.args.len);
-    }
-
-pub returns-clause-pends : goal.returns-clause-pends
-returns-clause-pends c =
-    let start = at_rest (contents c.args.self.now.start_log c.args.self.now.start_files) in
-    let calls = c.args.self.now.calls.items in
-    let disk = after start calls in
-    let is = stepped start calls (CutLog c.args.len) c.join.new.calls.items c.if-not-join.ensures in
-    λ told. pends_ok (Cut c.args.len) (log_cut disk.reads c.args.len) disk (after start c.join.new.calls.items) is
-
-pub returns-then-fails-clause-time : goal.returns-then-fails-clause-time
-returns-then-fails-clause-time c = λ told. time_quiet _ _ (FailedCut c.args.len) _ c.join-joined.result c.join-joined.ensures _ c.args.self.now.output_is refl
-
-pub returns-clause-time : goal.returns-clause-time
-returns-clause-time c = λ told. time_quiet _ _ (CutLog c.args.len) _ c.join.result c.join.ensures _ c.args.self.now.output_is refl
+    done_change c.args.self.now _ (record { log = refl; files = refl }) (CutLog c.args.len) (Cut c.args.len) (log_cut disk.reads c.args.len) c.push_reserved.ensures.items refl (cut_image disk.reads c.args.len)

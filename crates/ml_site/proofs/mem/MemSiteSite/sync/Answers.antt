@@ -1,33 +1,65 @@
-use Rattle.ml_site.proofs.Joined.{time_quiet}
-use Rattle.ml_site.specs.declared.call.Call.TheVariants.{FailedSync}
-use Rattle.std.proofs.Common.{refl}
-use Rattle.std.proofs.Common.{ap, subst, sym, ◌∙◌, arith}
-use Rattle.ml_site.specs.declared.call.Call.TheVariants.{Sync}
+use Rattle.std.proofs.Common.{true, ap, subst, sym, ◌∙◌, refl, arith}
+use Rattle.ml_site.specs.declared.call.Call.TheVariants.{Sync, FailedSync}
 use Rattle.ml_site.specs.Disk.{Disk, IsImage}
 use Rattle.ml_site.specs.Images.{after_rest}
-use Rattle.ml_site.specs.Memory.{contents, at_rest}
+use Rattle.ml_site.specs.Recorded.{contents, lookup, at_rest, after, size_synced, size_logged}
 use Rattle.ml_site.specs.Replay.{after-is_image}
-use Rattle.ml_site.specs.Memory.{size_synced}
-use Rattle.ml_site.proofs.Joined.{total_more, given_more, stepped}
+use Rattle.ml_site.proofs.Joined.{total_more, total_same, disk_same, stepped, log_kept, file_kept, given_kept}
+use Rattle.ml_site.proofs.MemCalls.{keeps, le_self}
 use Rattle.ml_site.proofs.mem.MemSiteSite.sync.Goals as goal
 
-pub invariant_of-self-else-not-join : goal.invariant_of-self-else-not-join
-invariant_of-self-else-not-join c =
+pub invariant_of-self : goal.invariant_of-self
+invariant_of-self c =
     let start = at_rest (contents c.args.self.now.start_log c.args.self.now.start_files) in
     let calls = c.args.self.now.calls.items in
-    let longer = c.join.new.calls.items in
-    let is = stepped start calls Sync longer c.if-not-join.ensures in record {
-      log_is = c.args.self.now.log_is ∙ sym (ap (λ (d : Disk). d.reads.log) is);
-      files_are = λ name. c.args.self.now.files_are name ∙ sym (ap (λ (d : Disk). d.reads.files name) is);
-      output_is = omega (arith, c.args.self.now.output_is, given_more start calls Sync longer c.if-not-join.ensures);
+    let longer = c.note_failure.new.calls.items in record {
+      log_is = log_kept start calls FailedSync longer _ c.note_failure.ensures.calls c.args.self.now.log c.args.self.now.log_is refl;
+      files_are = λ name. file_kept start calls FailedSync longer _ c.note_failure.ensures.calls name (lookup c.args.self.now.files name) (c.args.self.now.files_are name) refl;
+      output_is = given_kept start calls FailedSync longer _ c.note_failure.ensures.calls c.args.self.now.output.items c.args.self.now.output_is refl;
+      room = c.args.self.now.room;
     }
+
+pub returns-then-fails-clause-keeps : goal.returns-then-fails-clause-keeps
+returns-then-fails-clause-keeps c = keeps c.args.self.now _ (record { log = refl; files = refl }) FailedSync _ c.note_failure.ensures.calls refl refl c.note_failure.ensures.later refl c.saturating_add-self.ensures
+
+pub returns-then-fails-clause-err : goal.returns-then-fails-clause-err
+returns-then-fails-clause-err c = λ told. disk_same (at_rest (contents c.args.self.now.start_log c.args.self.now.start_files)) c.args.self.now.calls.items FailedSync _ _ c.note_failure.ensures.calls refl
+
+pub returns-then-fails-clause-crash : goal.returns-then-fails-clause-crash
+returns-then-fails-clause-crash c = λ told left image. subst (λ (d : Disk). IsImage d left) (disk_same (at_rest (contents c.args.self.now.start_log c.args.self.now.start_files)) c.args.self.now.calls.items FailedSync _ _ c.note_failure.ensures.calls refl) image
+
+pub returns-then-fails-clause-syncs : goal.returns-then-fails-clause-syncs
+returns-then-fails-clause-syncs c = λ told. omega (arith, total_same size_synced c.args.self.now.calls.items c.note_failure.new.calls.items _ FailedSync c.note_failure.ensures.calls refl)
+
+pub returns-then-fails-clause-syncs_err : goal.returns-then-fails-clause-syncs_err
+returns-then-fails-clause-syncs_err c = λ told. total_same size_synced c.args.self.now.calls.items c.note_failure.new.calls.items _ FailedSync c.note_failure.ensures.calls refl
+
+pub returns-then-fails-clause-syncs_stay : goal.returns-then-fails-clause-syncs_stay
+returns-then-fails-clause-syncs_stay c = λ told. omega (arith, total_same size_synced c.args.self.now.calls.items c.note_failure.new.calls.items _ FailedSync c.note_failure.ensures.calls refl)
+
+pub returns-then-fails-clause-log_bytes : goal.returns-then-fails-clause-log_bytes
+returns-then-fails-clause-log_bytes c = λ told. total_same size_logged c.args.self.now.calls.items c.note_failure.new.calls.items _ FailedSync c.note_failure.ensures.calls refl
+
+pub invariant_of-self-2 : goal.invariant_of-self-2
+invariant_of-self-2 c =
+    let start = at_rest (contents c.args.self.now.start_log c.args.self.now.start_files) in
+    let calls = c.args.self.now.calls.items in
+    let longer = c.push_reserved.new.self.items in record {
+      log_is = log_kept start calls Sync longer true c.push_reserved.ensures.items c.args.self.now.log c.args.self.now.log_is refl;
+      files_are = λ name. file_kept start calls Sync longer true c.push_reserved.ensures.items name (lookup c.args.self.now.files name) (c.args.self.now.files_are name) refl;
+      output_is = given_kept start calls Sync longer true c.push_reserved.ensures.items c.args.self.now.output.items c.args.self.now.output_is refl;
+      room = c.args.self.now.room;
+    }
+
+pub returns-clause-keeps : goal.returns-clause-keeps
+returns-clause-keeps c = keeps c.args.self.now _ (record { log = refl; files = refl }) Sync true c.push_reserved.ensures.items refl refl (le_self _) refl c.saturating_add-self.ensures
 
 pub returns-clause-ok : goal.returns-clause-ok
 returns-clause-ok c =
     let start = at_rest (contents c.args.self.now.start_log c.args.self.now.start_files) in
     let calls = c.args.self.now.calls.items in
-    let longer = c.join.new.calls.items in
-    let is = stepped start calls Sync longer c.if-not-join.ensures in λ told. record {
+    let disk = after start calls in
+    let is = stepped start calls Sync c.push_reserved.new.self.items c.push_reserved.ensures.items in λ told. record {
       settled = ap (λ (d : Disk). d.settled) is ∙ sym (ap (λ (d : Disk). d.reads) is);
       pending = ap (λ (d : Disk). d.pending) is;
     }
@@ -36,21 +68,18 @@ pub returns-clause-crash : goal.returns-clause-crash
 returns-clause-crash c =
     let start = at_rest (contents c.args.self.now.start_log c.args.self.now.start_files) in
     let calls = c.args.self.now.calls.items in
-    let longer = c.join.new.calls.items in
-    let is = stepped start calls Sync longer c.if-not-join.ensures in
+    let disk = after start calls in
+    let is = stepped start calls Sync c.push_reserved.new.self.items c.push_reserved.ensures.items in
     λ told left image. after_rest _ _ _ _ (after-is_image (contents c.args.self.now.start_log c.args.self.now.start_files) calls) (subst (λ (d : Disk). IsImage d left) is image)
 
 pub returns-clause-syncs : goal.returns-clause-syncs
-returns-clause-syncs c = λ told. omega (arith, total_more size_synced c.args.self.now.calls.items c.join.new.calls.items Sync c.if-not-join.ensures)
+returns-clause-syncs c = λ told. omega (arith, total_more size_synced c.args.self.now.calls.items c.push_reserved.new.self.items Sync c.push_reserved.ensures.items)
 
 pub returns-clause-syncs_ok : goal.returns-clause-syncs_ok
-returns-clause-syncs_ok c = λ told. omega (arith, total_more size_synced c.args.self.now.calls.items c.join.new.calls.items Sync c.if-not-join.ensures)
+returns-clause-syncs_ok c = λ told. omega (arith, total_more size_synced c.args.self.now.calls.items c.push_reserved.new.self.items Sync c.push_reserved.ensures.items)
 
 pub returns-clause-syncs_stay : goal.returns-clause-syncs_stay
-returns-clause-syncs_stay c = λ told. omega (arith, total_more size_synced c.args.self.now.calls.items c.join.new.calls.items Sync c.if-not-join.ensures)
+returns-clause-syncs_stay c = λ told. omega (arith, total_more size_synced c.args.self.now.calls.items c.push_reserved.new.self.items Sync c.push_reserved.ensures.items)
 
-pub returns-then-fails-clause-time : goal.returns-then-fails-clause-time
-returns-then-fails-clause-time c = λ told. time_quiet _ _ (FailedSync) _ c.join-joined.result c.join-joined.ensures _ c.args.self.now.output_is refl
-
-pub returns-clause-time : goal.returns-clause-time
-returns-clause-time c = λ told. time_quiet _ _ (Sync) _ c.join.result c.join.ensures _ c.args.self.now.output_is refl
+pub returns-clause-log_bytes : goal.returns-clause-log_bytes
+returns-clause-log_bytes c = λ told. total_same size_logged c.args.self.now.calls.items c.push_reserved.new.self.items true Sync c.push_reserved.ensures.items refl

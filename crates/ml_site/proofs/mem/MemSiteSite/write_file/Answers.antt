@@ -1,84 +1,81 @@
-use Rattle.std.proofs.Common.{◌≡◌, ℕ, cond, List, [], ◌∷◌, Some, ap, subst, sym, ◌∙◌, refl, rules}
-use Rattle.ml_site.specs.declared.call.Call.TheVariants.{WriteFile, FailedFile}
-use Rattle.ml_site.specs.Disk.{Disk, File, MayLeave, file_with}
+use Rattle.std.proofs.Common.{◌≡◌, ℕ, true, false, cond, List, Some, ap, sym, ◌∙◌, refl, rules}
 use Rattle.ml_base.specs.Dir.{same_name}
+use Rattle.ml_site.specs.declared.call.Call.TheVariants.{WriteFile, FailedFile}
+use Rattle.ml_site.specs.Disk.{Disk, File, file_with}
 use Rattle.ml_site.specs.Images.{set_file}
-use Rattle.ml_site.specs.Memory.{contents, at_rest, after}
-use Rattle.ml_site.proofs.Pushed.{elapses_quiet}
-use Rattle.ml_site.proofs.Joined.{log_kept, file_kept, given_kept, time_quiet, given_same, stepped, pends_err, pends_ok, stands, cond_same}
+use Rattle.ml_site.specs.Recorded.{contents, lookup, at_rest, after, step}
+use Rattle.ml_site.proofs.Joined.{stepped, log_kept, file_kept, given_kept}
+use Rattle.ml_site.proofs.MemCalls.{keeps, numbers, failed_change, done_change, le_self}
 use Rattle.ml_site.proofs.mem.MemSiteSite.write_file.Goals as goal
-
-pub returns-then-fails-clause-pends : goal.returns-then-fails-clause-pends
-returns-then-fails-clause-pends c =
-    let start = at_rest (contents c.args.self.now.start_log c.args.self.now.start_files) in
-    let calls = c.args.self.now.calls.items in
-    λ told. pends_err start calls (FailedFile c.args.name) c.join-joined.new.calls.items c.join-joined.result c.join-joined.ensures _ (File c.args.name) refl
-
-pub invariant_of-self-2 : goal.invariant_of-self-2
-invariant_of-self-2 c =
-    let start = at_rest (contents c.args.self.now.start_log c.args.self.now.start_files) in
-    let calls = c.args.self.now.calls.items in
-    let longer = c.put.new.calls.items in
-    let disk = after start calls in
-    let bytes = c.in_ok-piece.piece in
-    let same : bytes ≡ c.args.bytes.now = search rules in
-    let copied : c.in_ok-copy.copy ≡ c.args.bytes.now = search rules in
-    let call = WriteFile c.args.name bytes in record {
-      log_is = c.args.self.now.log_is ∙ sym (stands start calls call longer c.put.result c.put.ensures.calls (λ d. d.reads.log) ∙ cond_same c.put.result disk.reads.log);
-      files_are = λ name. c.put.ensures.files name
-          ∙ (λ i. cond c.put.result (cond (same_name name c.args.name) (Some ((copied ∙ sym same) i)) (c.args.self.now.files_are name i)) (c.args.self.now.files_are name i))
-          ∙ sym (stands start calls call longer c.put.result c.put.ensures.calls (λ d. d.reads.files name));
-      output_is = c.args.self.now.output_is ∙ sym (given_same start calls call longer c.put.result c.put.ensures.calls refl);
-    }
-
-pub returns-clause-reads : goal.returns-clause-reads
-returns-clause-reads c =
-    let start = at_rest (contents c.args.self.now.start_log c.args.self.now.start_files) in
-    let calls = c.args.self.now.calls.items in
-    let longer = c.put.new.calls.items in
-    let disk = after start calls in
-    let bytes = c.in_ok-piece.piece in
-    let part = File c.args.name in
-    let done = file_with disk.reads c.args.name (Some bytes) in
-    let same : bytes ≡ c.args.bytes.now = search rules in
-    let copied : c.in_ok-copy.copy ≡ c.args.bytes.now = search rules in
-    let same_copy : c.in_ok-copy.copy ≡ bytes = copied ∙ sym same in
-    let is = stepped start calls (WriteFile c.args.name bytes) longer c.if-not-put.ensures.calls in λ told. record {
-      ok = ap (λ (d : Disk). d.reads) is ∙ ap (λ (b : List ℕ). file_with disk.reads c.args.name (Some b)) same;
-      part_only = subst (λ (d : Disk). MayLeave disk.reads (part ∷ []) d.reads) (sym is) (set_file disk.reads c.args.name (Some bytes));
-    }
-
-pub returns-clause-pends : goal.returns-clause-pends
-returns-clause-pends c =
-    let start = at_rest (contents c.args.self.now.start_log c.args.self.now.start_files) in
-    let calls = c.args.self.now.calls.items in
-    let longer = c.put.new.calls.items in
-    let disk = after start calls in
-    let bytes = c.in_ok-piece.piece in
-    let part = File c.args.name in
-    let done = file_with disk.reads c.args.name (Some bytes) in
-    let same : bytes ≡ c.args.bytes.now = search rules in
-    let copied : c.in_ok-copy.copy ≡ c.args.bytes.now = search rules in
-    let same_copy : c.in_ok-copy.copy ≡ bytes = copied ∙ sym same in
-    let is = stepped start calls (WriteFile c.args.name bytes) longer c.if-not-put.ensures.calls in λ told. pends_ok part done disk (after start longer) is
-
-pub returns-clause-time : goal.returns-clause-time
-returns-clause-time c =
-    let start = at_rest (contents c.args.self.now.start_log c.args.self.now.start_files) in
-    let calls = c.args.self.now.calls.items in
-    λ told. elapses_quiet start calls (WriteFile c.args.name c.in_ok-piece.piece) c.args.self.now.output c.args.self.now.output_is refl c.put.new.calls.items c.if-not-put.ensures.calls
-
-pub returns-then-fails-clause-time : goal.returns-then-fails-clause-time
-returns-then-fails-clause-time c = λ told. time_quiet _ _ (FailedFile c.args.name) _ c.join-joined.result c.join-joined.ensures _ c.args.self.now.output_is refl
 
 pub invariant_of-self : goal.invariant_of-self
 invariant_of-self c =
     let start = at_rest (contents c.args.self.now.start_log c.args.self.now.start_files) in
     let calls = c.args.self.now.calls.items in
-    let longer = c.join-joined.new.calls.items in
-    let call = FailedFile c.args.name in
-    let joined = c.join-joined.result in record {
-      log_is = log_kept start calls call longer joined c.join-joined.ensures c.args.self.now.log c.args.self.now.log_is refl;
-      files_are = λ name. file_kept start calls call longer joined c.join-joined.ensures name _ (c.args.self.now.files_are name) refl;
-      output_is = given_kept start calls call longer joined c.join-joined.ensures c.args.self.now.output c.args.self.now.output_is refl;
+    let longer = c.note_failure.new.calls.items in record {
+      log_is = log_kept start calls (FailedFile c.args.name) longer _ c.note_failure.ensures.calls c.args.self.now.log c.args.self.now.log_is refl;
+      files_are = λ name. file_kept start calls (FailedFile c.args.name) longer _ c.note_failure.ensures.calls name (lookup c.args.self.now.files name) (c.args.self.now.files_are name) refl;
+      output_is = given_kept start calls (FailedFile c.args.name) longer _ c.note_failure.ensures.calls c.args.self.now.output.items c.args.self.now.output_is refl;
+      room = c.args.self.now.room;
     }
+
+pub returns-then-fails-clause-keeps : goal.returns-then-fails-clause-keeps
+returns-then-fails-clause-keeps c = keeps c.args.self.now _ (record { log = refl; files = refl }) (FailedFile c.args.name) _ c.note_failure.ensures.calls refl refl c.note_failure.ensures.later refl c.saturating_add-self.ensures
+
+pub returns-then-fails-clause-numbers : goal.returns-then-fails-clause-numbers
+returns-then-fails-clause-numbers c = numbers c.args.self.now _ (record { log = refl; files = refl }) (FailedFile c.args.name) _ c.note_failure.ensures.calls refl refl
+
+pub returns-then-fails-clause-change : goal.returns-then-fails-clause-change
+returns-then-fails-clause-change c = failed_change c.args.self.now _ (record { log = refl; files = refl }) (FailedFile c.args.name) _ c.note_failure.ensures.calls _ (File c.args.name) _ refl
+
+pub returns-in_err-piece-clause-keeps : goal.returns-in_err-piece-clause-keeps
+returns-in_err-piece-clause-keeps c = keeps c.args.self.now _ (record { log = refl; files = refl }) (FailedFile c.args.name) false refl refl refl (le_self _) refl c.saturating_add-self.ensures
+
+pub returns-in_err-piece-clause-numbers : goal.returns-in_err-piece-clause-numbers
+returns-in_err-piece-clause-numbers c = numbers c.args.self.now _ (record { log = refl; files = refl }) (FailedFile c.args.name) false refl refl refl
+
+pub returns-in_err-copy-clause-keeps : goal.returns-in_err-copy-clause-keeps
+returns-in_err-copy-clause-keeps c = keeps c.args.self.now _ (record { log = refl; files = refl }) (FailedFile c.args.name) false refl refl refl (le_self _) refl c.saturating_add-self.ensures
+
+pub returns-in_err-copy-clause-numbers : goal.returns-in_err-copy-clause-numbers
+returns-in_err-copy-clause-numbers c = numbers c.args.self.now _ (record { log = refl; files = refl }) (FailedFile c.args.name) false refl refl refl
+
+pub returns-then-not-set_file-clause-keeps : goal.returns-then-not-set_file-clause-keeps
+returns-then-not-set_file-clause-keeps c = keeps c.args.self.now _ (record { log = refl; files = refl }) (FailedFile c.args.name) false refl refl refl (le_self _) refl c.saturating_add-self.ensures
+
+pub returns-then-not-set_file-clause-numbers : goal.returns-then-not-set_file-clause-numbers
+returns-then-not-set_file-clause-numbers c = numbers c.args.self.now _ (record { log = refl; files = refl }) (FailedFile c.args.name) false refl refl refl
+
+pub returns-then-not-set_file-clause-change : goal.returns-then-not-set_file-clause-change
+returns-then-not-set_file-clause-change c = failed_change c.args.self.now _ (record { log = refl; files = refl }) (FailedFile c.args.name) false refl _ (File c.args.name) _ refl
+
+pub invariant_of-self-2 : goal.invariant_of-self-2
+invariant_of-self-2 c =
+    let start = at_rest (contents c.args.self.now.start_log c.args.self.now.start_files) in
+    let calls = c.args.self.now.calls.items in
+    let disk = after start calls in
+    let bytes = c.in_ok-piece.piece in
+    let same : bytes ≡ c.args.bytes.now = search rules in
+    let copied : c.in_ok-copy.copy ≡ c.args.bytes.now = search rules in
+    let is = stepped start calls (WriteFile c.args.name bytes) c.push_reserved.new.self.items c.push_reserved.ensures.items in record {
+      log_is = c.args.self.now.log_is ∙ sym (ap (λ (d : Disk). d.reads.log) is);
+      files_are = λ name. c.if-not-set_file.ensures name ∙ (λ i. cond (same_name name c.args.name) (Some ((copied ∙ sym same) i)) (c.args.self.now.files_are name i)) ∙ sym (ap (λ (d : Disk). d.reads.files name) is);
+      output_is = given_kept start calls (WriteFile c.args.name bytes) c.push_reserved.new.self.items true c.push_reserved.ensures.items c.args.self.now.output.items c.args.self.now.output_is refl;
+      room = c.args.self.now.room;
+    }
+
+pub returns-clause-keeps : goal.returns-clause-keeps
+returns-clause-keeps c = keeps c.args.self.now _ (record { log = refl; files = refl }) (WriteFile c.args.name c.in_ok-piece.piece) true c.push_reserved.ensures.items refl refl (le_self _) refl c.saturating_add-self.ensures
+
+pub returns-clause-numbers : goal.returns-clause-numbers
+returns-clause-numbers c = numbers c.args.self.now _ (record { log = refl; files = refl }) (WriteFile c.args.name c.in_ok-piece.piece) true c.push_reserved.ensures.items refl refl
+
+pub returns-clause-change : goal.returns-clause-change
+returns-clause-change c =
+    let start = at_rest (contents c.args.self.now.start_log c.args.self.now.start_files) in
+    let calls = c.args.self.now.calls.items in
+    let disk = after start calls in
+    let bytes = c.in_ok-piece.piece in
+    let same : bytes ≡ c.args.bytes.now = search rules in
+    let stepping = ap (λ (b : List ℕ). step disk (WriteFile c.args.name b)) same in
+    done_change c.args.self.now _ (record { log = refl; files = refl }) (WriteFile c.args.name bytes) (File c.args.name) (file_with disk.reads c.args.name (Some c.args.bytes.now)) c.push_reserved.ensures.items stepping (set_file disk.reads c.args.name (Some c.args.bytes.now))

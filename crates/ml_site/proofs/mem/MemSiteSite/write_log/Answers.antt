@@ -1,87 +1,88 @@
-use Rattle.ml_site.proofs.Joined.{time_quiet}
-use Rattle.std.proofs.Common.{◌≡◌, ◌+◌, ◌≤◌, ℕ, length, take, drop, List, [], ◌∷◌, ◌++◌, Ok, ap, subst, sym, ◌∙◌, refl, arith, rules}
+use Rattle.std.proofs.Common.{◌≡◌, ◌+◌, ◌≤◌, ℕ, true, false, length, take, drop, List, ◌++◌, ap, sym, ◌∙◌, refl, arith, rules}
 use Rattle.ml_site.specs.declared.call.Call.TheVariants.{WriteLog, FailedLog}
-use Rattle.ml_site.specs.Disk.{Disk, Range, MayLeave, Pends, log_with}
+use Rattle.ml_site.specs.Disk.{Disk, Range, log_with}
 use Rattle.ml_site.specs.Images.{wrote}
-use Rattle.ml_site.specs.Memory.{contents, at_rest, after}
-use Rattle.ml_site.proofs.Pushed.{elapses_quiet}
-use Rattle.ml_site.specs.Memory.{size_logged}
-use Rattle.ml_site.proofs.Joined.{total_more, given_more, stepped, pends_err, pends_ok, step_write}
+use Rattle.ml_site.specs.Recorded.{contents, lookup, at_rest, after, total, size_synced, size_logged, step}
+use Rattle.ml_site.proofs.Joined.{total_more, total_same, stepped, step_write, log_kept, file_kept, given_kept}
+use Rattle.ml_site.proofs.MemCalls.{keeps, failed_change, done_change, le_self}
 use Rattle.ml_site.proofs.mem.MemSiteSite.write_log.Goals as goal
 
-pub returns-then-fails-clause-pends : goal.returns-then-fails-clause-pends
-returns-then-fails-clause-pends c =
+pub invariant_of-self : goal.invariant_of-self
+invariant_of-self c =
     let start = at_rest (contents c.args.self.now.start_log c.args.self.now.start_files) in
     let calls = c.args.self.now.calls.items in
-    λ told. pends_err start calls (FailedLog c.args.at (length c.args.bytes.now)) c.join-joined.new.calls.items c.join-joined.result c.join-joined.ensures _ (Range c.args.at (length c.args.bytes.now)) refl
+    let longer = c.note_failure.new.calls.items in record {
+      log_is = log_kept start calls (FailedLog c.args.at (length c.args.bytes.now)) longer _ c.note_failure.ensures.calls c.args.self.now.log c.args.self.now.log_is refl;
+      files_are = λ name. file_kept start calls (FailedLog c.args.at (length c.args.bytes.now)) longer _ c.note_failure.ensures.calls name (lookup c.args.self.now.files name) (c.args.self.now.files_are name) refl;
+      output_is = given_kept start calls (FailedLog c.args.at (length c.args.bytes.now)) longer _ c.note_failure.ensures.calls c.args.self.now.output.items c.args.self.now.output_is refl;
+      room = c.args.self.now.room;
+    }
+
+pub returns-then-fails-clause-keeps : goal.returns-then-fails-clause-keeps
+returns-then-fails-clause-keeps c = keeps c.args.self.now _ (record { log = refl; files = refl }) (FailedLog c.args.at (length c.args.bytes.now)) _ c.note_failure.ensures.calls refl refl c.note_failure.ensures.later refl c.saturating_add-self.ensures
+
+pub returns-then-fails-clause-change : goal.returns-then-fails-clause-change
+returns-then-fails-clause-change c = failed_change c.args.self.now _ (record { log = refl; files = refl }) (FailedLog c.args.at (length c.args.bytes.now)) _ c.note_failure.ensures.calls _ (Range c.args.at (length c.args.bytes.now)) _ refl
+
+pub returns-then-fails-clause-syncs : goal.returns-then-fails-clause-syncs
+returns-then-fails-clause-syncs c = λ told. total_same size_synced c.args.self.now.calls.items c.note_failure.new.calls.items _ (FailedLog c.args.at (length c.args.bytes.now)) c.note_failure.ensures.calls refl
+
+pub returns-then-fails-clause-log_bytes_stay : goal.returns-then-fails-clause-log_bytes_stay
+returns-then-fails-clause-log_bytes_stay c = λ told. omega (arith, total_same size_logged c.args.self.now.calls.items c.note_failure.new.calls.items _ (FailedLog c.args.at (length c.args.bytes.now)) c.note_failure.ensures.calls refl)
+
+pub returns-in_err-piece-clause-keeps : goal.returns-in_err-piece-clause-keeps
+returns-in_err-piece-clause-keeps c = keeps c.args.self.now _ (record { log = refl; files = refl }) (FailedLog c.args.at (length c.args.bytes.now)) false refl refl refl (le_self _) refl c.saturating_add-self.ensures
+
+pub returns-in_err-piece-clause-syncs : goal.returns-in_err-piece-clause-syncs
+returns-in_err-piece-clause-syncs c = λ told. total_same size_synced c.args.self.now.calls.items c.args.self.now.calls.items false (FailedLog c.args.at (length c.args.bytes.now)) refl refl
+
+pub returns-in_err-piece-clause-log_bytes_stay : goal.returns-in_err-piece-clause-log_bytes_stay
+returns-in_err-piece-clause-log_bytes_stay c = λ told. omega (arith, total_same size_logged c.args.self.now.calls.items c.args.self.now.calls.items false (FailedLog c.args.at (length c.args.bytes.now)) refl refl)
+
+pub returns-in_err-next-clause-keeps : goal.returns-in_err-next-clause-keeps
+returns-in_err-next-clause-keeps c = keeps c.args.self.now _ (record { log = refl; files = refl }) (FailedLog c.args.at (length c.args.bytes.now)) false refl refl refl (le_self _) refl c.saturating_add-self.ensures
+
+pub returns-in_err-next-clause-syncs : goal.returns-in_err-next-clause-syncs
+returns-in_err-next-clause-syncs c = λ told. total_same size_synced c.args.self.now.calls.items c.args.self.now.calls.items false (FailedLog c.args.at (length c.args.bytes.now)) refl refl
+
+pub returns-in_err-next-clause-log_bytes_stay : goal.returns-in_err-next-clause-log_bytes_stay
+returns-in_err-next-clause-log_bytes_stay c = λ told. omega (arith, total_same size_logged c.args.self.now.calls.items c.args.self.now.calls.items false (FailedLog c.args.at (length c.args.bytes.now)) refl refl)
 
 pub invariant_of-self-2 : goal.invariant_of-self-2
 invariant_of-self-2 c =
     let start = at_rest (contents c.args.self.now.start_log c.args.self.now.start_files) in
     let calls = c.args.self.now.calls.items in
-    let longer = c.join.new.calls.items in
     let disk = after start calls in
+    let same : c.in_ok-piece.piece ≡ c.args.bytes.now = search rules in
     let bytes = c.in_ok-piece.piece in
-    let same : bytes ≡ c.args.bytes.now = search rules in
-    let le : c.args.at ≤ length disk.reads.log = c.requires refl in
-    let part = Range c.args.at (length bytes) in
-    let done = log_with disk.reads c.args.at bytes in
-    let is = stepped start calls (WriteLog c.args.at bytes) longer c.if-not-join.ensures ∙ step_write disk c.args.at bytes le in record {
+    let is = stepped start calls (WriteLog c.args.at c.in_ok-piece.piece) c.push_reserved.new.self.items c.push_reserved.ensures.items ∙ step_write disk c.args.at bytes (c.requires refl) in record {
       log_is = c.in_ok-next.ensures ∙ ap (λ (l : List ℕ). take c.args.at l ++ c.args.bytes.now ++ drop (c.args.at + length c.args.bytes.now) l) (c.as_slice.ensures ∙ c.args.self.now.log_is)
           ∙ ap (λ (b : List ℕ). (log_with disk.reads c.args.at b).log) (sym same) ∙ sym (ap (λ (d : Disk). d.reads.log) is);
       files_are = λ name. c.args.self.now.files_are name ∙ sym (ap (λ (d : Disk). d.reads.files name) is);
-      output_is = omega (arith, c.args.self.now.output_is, given_more start calls (WriteLog c.args.at bytes) longer c.if-not-join.ensures);
+      output_is = given_kept start calls (WriteLog c.args.at c.in_ok-piece.piece) c.push_reserved.new.self.items true c.push_reserved.ensures.items c.args.self.now.output.items c.args.self.now.output_is refl;
+      room = c.args.self.now.room;
     }
 
-pub returns-clause-reads : goal.returns-clause-reads
-returns-clause-reads c =
-    let start = at_rest (contents c.args.self.now.start_log c.args.self.now.start_files) in
-    let calls = c.args.self.now.calls.items in
-    let longer = c.join.new.calls.items in
-    let disk = after start calls in
-    let bytes = c.in_ok-piece.piece in
-    let same : bytes ≡ c.args.bytes.now = search rules in
-    let le : c.args.at ≤ length disk.reads.log = c.requires refl in
-    let part = Range c.args.at (length bytes) in
-    let done = log_with disk.reads c.args.at bytes in
-    let is = stepped start calls (WriteLog c.args.at bytes) longer c.if-not-join.ensures ∙ step_write disk c.args.at bytes le in
-    λ told. record {
-      ok = ap (λ (d : Disk). d.reads) is ∙ ap (λ (b : List ℕ). log_with disk.reads c.args.at b) same;
-      part_only = subst (λ (l : List ℕ). MayLeave disk.reads (Range c.args.at (length l) ∷ []) (after start longer).reads) same
-          (subst (λ (d : Disk). MayLeave disk.reads (part ∷ []) d.reads) (sym is) (wrote disk.reads c.args.at bytes le));
-    }
+pub returns-clause-keeps : goal.returns-clause-keeps
+returns-clause-keeps c = keeps c.args.self.now _ (record { log = refl; files = refl }) (WriteLog c.args.at c.in_ok-piece.piece) true c.push_reserved.ensures.items refl refl (le_self _) refl c.saturating_add-self.ensures
 
-pub returns-clause-pends : goal.returns-clause-pends
-returns-clause-pends c =
+pub returns-clause-change : goal.returns-clause-change
+returns-clause-change c =
     let start = at_rest (contents c.args.self.now.start_log c.args.self.now.start_files) in
     let calls = c.args.self.now.calls.items in
-    let longer = c.join.new.calls.items in
     let disk = after start calls in
-    let bytes = c.in_ok-piece.piece in
-    let same : bytes ≡ c.args.bytes.now = search rules in
+    let same : c.in_ok-piece.piece ≡ c.args.bytes.now = search rules in
     let le : c.args.at ≤ length disk.reads.log = c.requires refl in
-    let part = Range c.args.at (length bytes) in
-    let done = log_with disk.reads c.args.at bytes in
-    let is = stepped start calls (WriteLog c.args.at bytes) longer c.if-not-join.ensures ∙ step_write disk c.args.at bytes le in
-    λ told. subst (λ (l : List ℕ). Pends (Ok tt) (Range c.args.at (length l)) disk (after start longer)) same (pends_ok part done disk (after start longer) is)
+    let stepping = ap (λ (b : List ℕ). step disk (WriteLog c.args.at b)) same ∙ step_write disk c.args.at c.args.bytes.now le in
+    done_change c.args.self.now _ (record { log = refl; files = refl }) (WriteLog c.args.at c.in_ok-piece.piece) (Range c.args.at (length c.args.bytes.now)) (log_with disk.reads c.args.at c.args.bytes.now) c.push_reserved.ensures.items stepping (wrote disk.reads c.args.at c.args.bytes.now le)
 
-pub returns-clause-time : goal.returns-clause-time
-returns-clause-time c =
-    let start = at_rest (contents c.args.self.now.start_log c.args.self.now.start_files) in
-    let calls = c.args.self.now.calls.items in
-    λ told. elapses_quiet start calls (WriteLog c.args.at c.in_ok-piece.piece) c.args.self.now.output c.args.self.now.output_is refl c.join.new.calls.items c.if-not-join.ensures
+pub returns-clause-syncs : goal.returns-clause-syncs
+returns-clause-syncs c = λ told. total_same size_synced c.args.self.now.calls.items c.push_reserved.new.self.items true (WriteLog c.args.at c.in_ok-piece.piece) c.push_reserved.ensures.items refl
 
 pub returns-clause-log_bytes : goal.returns-clause-log_bytes
 returns-clause-log_bytes c = λ told.
-    let bytes = c.in_ok-piece.piece in
-    let same : bytes ≡ c.args.bytes.now = search rules in
-    omega (arith, ap length same, total_more size_logged c.args.self.now.calls.items c.join.new.calls.items (WriteLog c.args.at bytes) c.if-not-join.ensures)
+    let same : c.in_ok-piece.piece ≡ c.args.bytes.now = search rules in
+    total_more size_logged c.args.self.now.calls.items c.push_reserved.new.self.items (WriteLog c.args.at c.in_ok-piece.piece) c.push_reserved.ensures.items ∙ ap (λ (b : List ℕ). total size_logged c.args.self.now.calls.items + length b) same
 
 pub returns-clause-log_bytes_stay : goal.returns-clause-log_bytes_stay
-returns-clause-log_bytes_stay c = λ told.
-    let bytes = c.in_ok-piece.piece in
-    let same : bytes ≡ c.args.bytes.now = search rules in
-    omega (arith, ap length same, total_more size_logged c.args.self.now.calls.items c.join.new.calls.items (WriteLog c.args.at bytes) c.if-not-join.ensures)
-
-pub returns-then-fails-clause-time : goal.returns-then-fails-clause-time
-returns-then-fails-clause-time c = λ told. time_quiet _ _ (FailedLog c.args.at (length c.args.bytes.now)) _ c.join-joined.result c.join-joined.ensures _ c.args.self.now.output_is refl
+returns-clause-log_bytes_stay c = λ told. omega (arith, total_more size_logged c.args.self.now.calls.items c.push_reserved.new.self.items (WriteLog c.args.at c.in_ok-piece.piece) c.push_reserved.ensures.items)

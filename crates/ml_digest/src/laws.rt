@@ -1,0 +1,27 @@
+// What holds of the mark's file and of the text of digests, apart from the code.
+ghost use Rattle.std.specs.Prelude.{◌≡◌, ◌↔◌, ◌≤◌, false, ℕ, List, Some, map};
+ghost use Rattle.ml_base.specs.Bytes.{Text};
+ghost use Rattle.ml_base.specs.Dir.{Dir};
+ghost use Rattle.ml_base.specs.Splits.{has_byte};
+ghost use Rattle.ml_config.specs.Configuration.{IsConfig};
+ghost use Rattle.ml_config.specs.declared.configuration.Config.{Config};
+ghost use Rattle.ml_digest.specs.Burst.{IsDigest};
+ghost use Rattle.ml_digest.specs.Digest.{digest_text, message_text, AreDigested};
+ghost use Rattle.ml_digest.specs.Due.{IsMark, mark_name, mark_in};
+ghost use Rattle.ml_digest.specs.declared.posts.DigestPost.{DigestPost};
+ghost use Rattle.ml_digest.specs.declared.posts.Mark.{Mark};
+
+/// The mark's file is read as exactly the mark that it spells. So it holds one mark at most, and which it is depends on that
+/// file alone.
+pub fn law_mark()
+    ensures read { (dir : Dir) (mark : Mark) (text : Text) → dir mark_name ≡ Some text → (mark_in text ≡ Some mark) ↔ IsMark dir mark }
+    ensures one { (dir : Dir) (mark other : Mark) → IsMark dir mark → IsMark dir other → mark ≡ other }
+    ensures own { (dir other : Dir) (mark : Mark) → other mark_name ≡ dir mark_name → IsMark dir mark → IsMark other mark }
+{}
+
+/// A digest is taken apart into its number and the messages that were put into it, in order, whatever these are. The
+/// configuration is one that a list is made with, and neither the date nor a subject has an LF.
+pub fn law_digest_text()
+    ensures { (c : Config) (issue first : ℕ) (posts : List DigestPost) (date : Text) → IsConfig c → AreDigested issue first posts → has_byte 10 date ≡ false →
+        IsDigest (digest_text c issue first posts date) issue (map (λ p. message_text p.bytes) posts) }
+{}

@@ -1,0 +1,4 @@
+pub mod Reading
+pub mod Drawings
+pub mod Stood
+pub mod Cutting

@@ -1,0 +1,12 @@
+//! Files under numbers that are drawn in order, with a counter of the next number: the form of held posts and of the queue.
+#![tactic(auto)]
+
+mod changing;
+mod counter;
+mod search;
+mod series;
+
+pub use changing::{draw, take_out};
+pub use counter::{Counter, counter_of};
+pub use search::{Found, file_of, next_there};
+pub use series::Series;

@@ -1,0 +1,63 @@
+// Which numbers of a series have a file.
+ghost use Rattle.std.specs.Prelude.{◌≡◌, ◌≤◌, ◌<◌, ℕ, Some, None, IsTrue, IfOk, IfSome, IsErrOf, if◌then◌else◌};
+ghost use Rattle.ml_base.specs.Faults.{Rose};
+ghost use Rattle.ml_base.specs.ReadFiles.{AreKept};
+ghost use Rattle.ml_base.specs.Ranges as ranges;
+ghost use Rattle.ml_base.specs.declared.files.FilesError.TheVariants.{Fault};
+ghost use Rattle.ml_drawn.specs.Names.{thing_name};
+ghost use Rattle.ml_drawn.specs.Answers.{IsNextThere};
+
+use crate::Series;
+use ml_base::{Bytes, Files, FilesError, LAST_DRAWN, is_drawn};
+use std::alloc::Global;
+
+/// A file of a series.
+#[derive(Drop)]
+pub struct Found {
+    pub number: u64,
+    pub bytes: Bytes,
+}
+
+/// The bytes under a number, or None where nothing is there. Nothing is under a number that is never drawn.
+pub fn file_of<F: Files>(
+    alloc: Global,
+    files: &mut F,
+    series: Series,
+    n: u64,
+) -> Result<Option<Bytes>, FilesError>
+    ensures value { IsTrue F.tells → IfOk result (λ found. found ≡ (if ranges.is_drawn n then F.map files.old (thing_name series n) else None)) }
+    ensures drawn { IfOk result (λ found. IfSome found (λ _. IsTrue (ranges.is_drawn n))) }
+    ensures are_kept { AreKept ⟦<F as Files>⟧ files.old files.new }
+    ensures cause { IsErrOf result Fault → Rose (F.faults files.old) (F.faults files.new) }
+{
+    if !is_drawn(n) {
+        return Ok(None);
+    }
+    files.get(alloc, series.name(n))
+}
+
+/// The first number from `from` on, below `next`, under which a file is there, with its bytes; or None where none is.
+/// It looks at one number after the other, and stops at the first file.
+pub fn next_there<F: Files>(
+    alloc: Global,
+    files: &mut F,
+    series: Series,
+    from: u64,
+    next: u64,
+) -> Result<Option<Found>, FilesError>
+    requires { 1 ≤ from }
+    ensures value { IsTrue F.tells → IfOk result (IsNextThere (F.map files.old) series from next) }
+    ensures ranges { IfOk result (λ found. IfSome found (λ f. (from ≤ f.number) × (f.number < next) × IsTrue (ranges.is_drawn f.number))) }
+    ensures are_kept { AreKept ⟦<F as Files>⟧ files.old files.new }
+    ensures cause { IsErrOf result Fault → Rose (F.faults files.old) (F.faults files.new) }
+{
+    let end = next.min(LAST_DRAWN + 1);
+    let mut number = from;
+    while number < end {
+        if let Some(bytes) = file_of(alloc, files, series, number)? {
+            return Ok(Some(Found { number, bytes }));
+        }
+        number += 1;
+    }
+    Ok(None)
+}

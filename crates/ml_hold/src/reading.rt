@@ -1,0 +1,75 @@
+// The text of a held post.
+ghost use Rattle.std.specs.Prelude.{◌≡◌, ◌≤◌, ◌<◌, IfOk, IfSome, IfNone};
+ghost use Rattle.ml_base.specs.Address.{IsAddress};
+ghost use Rattle.ml_hold.specs.declared.posts.Held.{Held};
+ghost use Rattle.ml_hold.specs.Held.{held_text, IsHeld};
+ghost use Rattle.ml_hold.specs.Answers.{IsSpelled};
+ghost use Rattle.ml_hold.specs.Reading.{told};
+
+use crate::Held;
+use ml_base::{Address, Bytes, LAST_MOMENT, is_kept, number_within, push_netstring, split_netstring, write_number};
+use std::alloc::{AllocError, Global};
+
+const MAX_MESSAGE: usize = 33_554_432;
+
+// The parts of a held post's text.
+#[derive(Clone, Copy)]
+pub(crate) struct Parts<'a> {
+    pub moment: u64,
+    pub sender: &'a [u8],
+    pub message: &'a [u8],
+}
+
+// The parts of a held post's text, or None of a text that spells none. It takes no memory.
+pub(crate) fn parts_of(text: &[u8]) -> Option<Parts<'_>>
+    ensures some { IfSome result (λ p. IsSpelled text.now (told p)) }
+    ensures none { IfNone result ((held : Held) → ¬ IsSpelled text.now held) }
+{
+    let (digits, behind) = split_netstring(text)?;
+    let moment = number_within(LAST_MOMENT, digits)?;
+    let (sender, last) = split_netstring(behind)?;
+    if !is_kept(sender) {
+        return None;
+    }
+    let (message, end) = split_netstring(last)?;
+    if !end.is_empty() {
+        return None;
+    }
+    if message.len() > MAX_MESSAGE {
+        return None;
+    }
+    Some(Parts {
+        moment,
+        sender,
+        message,
+    })
+}
+
+// The held post of these parts. Their sender is an address, so nothing but memory can be wanting.
+pub(crate) fn held_of(alloc: Global, parts: Parts<'_>) -> Result<Held, AllocError>
+    requires { IsHeld (told parts) }
+    ensures { IfOk result (λ held. held ≡ told parts.entry) }
+{
+    match Address::parse(alloc, parts.sender) {
+        Ok(sender) => Ok(Held {
+            moment: parts.moment,
+            sender,
+            message: Bytes::from_slice(alloc, parts.message)?,
+        }),
+        Err(_) => Err(AllocError),
+    }
+}
+
+// The text of a held post.
+pub(crate) fn text_of(alloc: Global, held: &Held) -> Result<Bytes, AllocError>
+    ensures address { IfOk result (λ _. IsAddress held.now.sender) }
+    ensures text { IfOk result (λ bytes. bytes ≡ held_text held.now) }
+{
+    let mut digits = [0u8; 20];
+    let len = write_number(held.moment, &mut digits);
+    let mut out = Bytes::new(alloc);
+    push_netstring(&mut out, &digits[..len])?;
+    push_netstring(&mut out, held.sender.bytes())?;
+    push_netstring(&mut out, held.message.as_slice())?;
+    Ok(out)
+}

@@ -1,0 +1,29 @@
+-- What is known of a store that is held.
+use Rattle.std.proofs.Common.{◌≤◌, IsTrue, length, arith}
+use Rattle.std.specs.Prelude.{IsSome}
+use Rattle.ml_site.specs.Disk.{IsAtRest}
+use Rattle.ml_site.specs.declared.site.Site.{Ghosts}
+use Rattle.ml_journal.specs.Log.{directory}
+use Rattle.ml_journal.specs.Newest.{with_newest}
+use Rattle.ml_journal.specs.Rows.{Rests}
+use Rattle.ml_journal.specs.Stores.{site_of}
+use Rattle.ml_journal.specs.declared.store.Store.{Store}
+use Rattle.ml_journal.proofs.Crash.{rests_size}
+use Rattle.ml_journal.proofs.Fields.{rests_of, whole}
+
+module _ {S : Type 0} {told : Ghosts S} (store : Store S told) where
+  -- its log is open records up to its end, and a closed gate
+  pub held_rests : IsTrue told.tells_reads → Rests (told.disk (site_of store)).reads.log store.end (with_newest store.newest.puts)
+  held_rests r = rests_of (told.disk store.site).reads.log store.end (with_newest store.newest.puts) (store.split r) (store.begins r) (store.row r)
+
+  -- nothing is pending
+  pub held_rest : IsTrue told.tells_all → IsAtRest (told.disk (site_of store))
+  held_rest t = record { settled = store.settled t; pending = store.rest t }
+
+  -- it has a directory
+  pub held_whole : IsTrue told.tells_reads → IsSome (directory (told.disk (site_of store)).reads)
+  held_whole r = whole (told.disk store.site).reads store.end (with_newest store.newest.puts) (held_rests r)
+
+  -- its log is at most LAY bytes long
+  pub held_short : IsTrue told.tells_reads → length (told.disk (site_of store)).reads.log ≤ 8_388_608
+  held_short r = omega (arith, store.small, rests_size (told.disk store.site).reads.log store.end (with_newest store.newest.puts) (held_rests r))

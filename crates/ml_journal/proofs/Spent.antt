@@ -1,0 +1,66 @@
+-- What a commit spends.
+use Rattle.std.proofs.Common.{◌≡◌, ◌≢◌, inl, inr, ⊎_elim, ◌≤◌, ◌<◌, ◌+◌, ℕ, true, false, List, [], ◌∷◌, length, Result, Ok, Err, refl, ◌∙◌, subst, sym, arith}
+use Rattle.std.specs.Prelude.{IfOk, IfErr, ◌==◌}
+use Rattle.std.proofs.lemmas.Bool.{cases_lt}
+use Rattle.std.proofs.lemmas.Bool.Decides.{nat_tests}
+use Rattle.ml_base.specs.declared.puts.Put.{Put}
+use Rattle.ml_site.specs.declared.site.Site.{Ghosts}
+use Rattle.ml_journal.specs.Records.{content_size, spelled_record}
+use Rattle.ml_journal.specs.Spending.{Spends, SpendsAtMost}
+use Rattle.ml_journal.specs.Stores.{grown}
+
+-- what holds in any case holds at an error
+pub err_always : {A E P : Type 0} (result : Result A E) → P → IfErr result (λ e. P)
+err_always (Ok a) p = tt
+err_always (Err e) p = p
+
+-- a txn of no puts, and another
+pub empty_txn : (puts txn : List Put) → puts ≡ txn → true ≡ (length puts == 0) → txn ≡ []
+empty_txn [] txn same is = sym same
+empty_txn (put ∷ puts) txn same is = grind (arith, nat_tests)
+
+pub some_txn : (puts txn : List Put) → puts ≡ txn → false ≡ (length puts == 0) → txn ≢ []
+some_txn [] txn same is none = cc
+some_txn (put ∷ puts) txn same is none = let bad : put ∷ puts ≡ [] = same ∙ none in cc
+
+-- how long the log is with a record more
+pub grown_some : (size : ℕ) (txn : List Put) → txn ≢ [] → grown size txn ≡ size + length (spelled_record txn) + 1
+grown_some size [] some = absurd (some refl)
+grown_some size (put ∷ puts) some = refl
+
+module _ {S : Type 0} (told : Ghosts S) where
+  -- no call
+  pub spends_none : (txn : List Put) (site : S) → txn ≡ [] → length (told.disk site).reads.log ≤ 8_388_608 → Spends told (grown (length (told.disk site).reads.log) txn) (content_size txn) site site
+  spends_none [] site none short = record { handed = omega arith; cost = inl (short, record { syncs = omega arith; grows = omega arith }) }
+  spends_none (put ∷ puts) site none short = cc
+
+  -- a record is added, and files are laid down where the log is long then
+  pub spends_done : {E : Type 0} (result : Result ℕ E) (end size at contents : ℕ) (old mid new : S) → length (told.disk old).reads.log ≡ end + 1 → at ≡ end + size + 1 → contents ≤ size
+      → told.syncs mid ≤ told.syncs old + 2 → told.log_bytes mid ≡ told.log_bytes old + size + 2 → told.syncs new ≤ told.syncs mid + 3 → told.log_bytes mid ≤ told.log_bytes new
+      → (at < 8_388_608 → told.syncs new ≡ told.syncs mid) → (at < 8_388_608 → IfOk result (λ last. last ≡ at)) → (8_388_608 ≤ at → IfOk result (λ last. last ≡ 0)) → IfOk result (λ last. length (told.disk new).reads.log ≡ last + 1)
+      → IfOk result (λ last. Spends told (length (told.disk old).reads.log + size + 1) contents old new)
+  spends_done (Ok last) end size at contents old mid new start is holds s1 b1 s2 b2 few stays short log = record {
+    handed = omega arith;
+    cost = ⊎_elim
+        (λ lt. inl (omega (arith, lt), record { syncs = omega (arith, few lt); grows = omega (arith, stays lt) }))
+        (λ le. inr (omega (arith, le), record { syncs = omega arith; paid = omega (arith, le); short = omega (arith, short le) }))
+        (cases_lt at 8_388_608);
+  }
+  spends_done (Err e) end size at contents old mid new start is holds s1 b1 s2 b2 few stays short log = tt
+
+  -- so does one that is refused behind the record
+  pub spends_refused : (end size at : ℕ) (old mid new : S) → length (told.disk old).reads.log ≡ end + 1 → at ≡ end + size + 1
+      → told.syncs mid ≤ told.syncs old + 2 → told.log_bytes mid ≡ told.log_bytes old + size + 2 → told.syncs new ≤ told.syncs mid + 3 → told.log_bytes mid ≤ told.log_bytes new
+      → (at < 8_388_608 → told.syncs new ≡ told.syncs mid) → SpendsAtMost told (length (told.disk old).reads.log + size + 1) old new
+  spends_refused end size at old mid new start is s1 b1 s2 b2 few = record {
+    cost = ⊎_elim (λ lt. inl (omega (arith, few lt))) (λ le. inr (omega (arith, le), omega (arith, le), omega arith)) (cases_lt at 8_388_608);
+  }
+
+  -- what a commit spends, told by the log that it leaves
+  pub spends_grown : (size : ℕ) (txn puts : List Put) (old new : S) → puts ≡ txn → txn ≢ [] → Spends told (size + length (spelled_record puts) + 1) (content_size puts) old new → Spends told (grown size txn) (content_size txn) old new
+  spends_grown size txn puts old new same some spends = subst (λ (n : ℕ). Spends told n (content_size txn) old new) (sym (grown_some size txn some))
+      (subst (λ (l : List Put). Spends told (size + length (spelled_record l) + 1) (content_size l) old new) same spends)
+
+  pub refused_grown : (size : ℕ) (txn puts : List Put) (old new : S) → puts ≡ txn → txn ≢ [] → SpendsAtMost told (size + length (spelled_record puts) + 1) old new → SpendsAtMost told (grown size txn) old new
+  refused_grown size txn puts old new same some spends = subst (λ (n : ℕ). SpendsAtMost told n old new) (sym (grown_some size txn some))
+      (subst (λ (l : List Put). SpendsAtMost told (size + length (spelled_record l) + 1) old new) same spends)

@@ -1,0 +1,46 @@
+use Rattle.std.proofs.Common.{arith, sym, ap, ◌∙◌, ◌+◌, ◌≤◌, ◌<◌, ◌++◌, ◌∷◌, [], List, ℕ, append-nil, IsTrue}
+use Rattle.ml_base.specs.Ranges.{is_drawn}
+use Rattle.ml_drawn.proofs.Drawings.{from_on}
+use Rattle.ml_queue.proofs.Walked.{numbers, first_at, none_at, some_is, ids_begin, ids_more, ids_end}
+use Rattle.ml_queue.proofs.listing.ids.Goals as goal
+
+pub loop-ids-init : goal.loop-ids-init
+loop-ids-init g c = record {
+  are_kept = record { kept = c.counter_of.ensures.reads.kept; later = c.counter_of.ensures.reads.later };
+  up = omega arith;
+  within = c.in_ok-counter.ensures.ranges.1;
+  value = λ tells queue is.
+      ap (λ (t : List ℕ). t ++ numbers (from_on c.in_ok-counter.counter.low queue.all)) c.new-ids.ensures
+      ∙ ids_begin (g.F.Files.map c.args.files.now) c.in_ok-counter.counter.low c.in_ok-counter.counter.next queue (c.in_ok-counter.ensures.value tells) is;
+}
+
+pub loop-ids-preserved : goal.loop-ids-preserved
+loop-ids-preserved g c =
+    let before = c.loop-ids.invariant in
+    let up = before.up in
+    let later = before.are_kept.later in
+    let next = c.in_ok-found.ensures in
+    let more = next.are_kept.later in
+    let range = some_is c.in_ok-found.field-0 c.in-Some.found (λ f. (c.loop-ids.from ≤ f.number) × (f.number < c.in_ok-counter.counter.next) × IsTrue (is_drawn f.number)) c.in-Some.is next.ranges in
+    let onward = range.0 in
+    let below = range.1 in
+    record {
+      are_kept = record { kept = g.met.F.Files.kept_then c.args.files.now c.loop-ids.files c.next_there.new.files before.are_kept.kept next.are_kept.kept; later = omega (arith, later, more) };
+      up = omega (arith, up, onward);
+      within = omega (arith, below);
+      value = λ tells queue is.
+          let same = g.met.F.Files.kept_map c.args.files.now c.loop-ids.files tells before.are_kept.kept in
+          let first = first_at (g.F.Files.map c.args.files.now) (g.F.Files.map c.loop-ids.files) c.loop-ids.from c.in_ok-counter.counter.next c.in_ok-found.field-0 c.in-Some.found same (next.value tells) c.in-Some.is in
+          ap (λ (t : List ℕ). t ++ numbers (from_on (c.in-Some.found.number + 1) queue.all)) c.in_ok-push.ensures.ok
+          ∙ sym (ids_more (g.F.Files.map c.args.files.now) c.in_ok-counter.counter.low c.in_ok-counter.counter.next c.loop-ids.from c.in-Some.found c.loop-ids.ids queue (c.in_ok-counter.ensures.value tells) is up first)
+          ∙ before.value tells queue is;
+    }
+
+pub returns-clause-value : goal.returns-clause-value
+returns-clause-value g c tells queue is =
+    let before = c.loop-ids.invariant in
+    let same = g.met.F.Files.kept_map c.args.files.now c.loop-ids.files tells before.are_kept.kept in
+    let none = none_at (g.F.Files.map c.args.files.now) (g.F.Files.map c.loop-ids.files) c.loop-ids.from c.in_ok-counter.counter.next c.in_ok-found.field-0 same (c.in_ok-found.ensures.value tells) c.in_default.is in
+    sym (append-nil c.loop-ids.ids)
+    ∙ ap (λ (t : List ℕ). c.loop-ids.ids ++ t) (sym (ids_end (g.F.Files.map c.args.files.now) c.in_ok-counter.counter.low c.in_ok-counter.counter.next c.loop-ids.from queue (c.in_ok-counter.ensures.value tells) is none))
+    ∙ before.value tells queue is

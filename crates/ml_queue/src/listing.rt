@@ -1,0 +1,45 @@
+// Entries of the queue, one behind the other.
+ghost use Rattle.std.specs.Prelude.{◌≡◌, ◌≤◌, ◌⊎◌, ℕ, IsTrue, IfOk, IfErr, OnOk, IsErrOf};
+ghost use Rattle.ml_base.specs.ReadFiles.{IsReading, NamesDamaged};
+ghost use Rattle.ml_queue.specs.Queue.{Queue};
+ghost use Rattle.ml_queue.specs.Queue as spec;
+ghost use Rattle.ml_queue.specs.Answers.{BreaksCounted, IsCountedQueue, entry_name, ids_name};
+
+use crate::reading::read_out;
+use ml_base::{Files, Numbers, PartError};
+use ml_drawn::{Series, counter_of, next_there};
+use std::alloc::Global;
+
+/// All ids, in order. It looks at one id after the other from the lowest on, and reads no text.
+pub fn ids<F: Files>(alloc: Global, files: &mut F) -> Result<Numbers, PartError>
+    ensures value { IsTrue F.tells → IfOk result (λ ids. (queue : Queue) → IsCountedQueue (F.map files.old) queue → ids ≡ spec.ids queue) }
+    ensures names { NamesDamaged ⟦<F as Files>⟧ (λ name. name ≡ ids_name) (BreaksCounted (F.map files.old)) result }
+    ensures reads { IsReading ⟦<F as Files>⟧ files.old files.new result }
+{
+    let counter = counter_of(alloc, files, Series::Ids)?;
+    let mut ids = Numbers::new(alloc);
+    let mut from = counter.low;
+    while let Some(found) = next_there(alloc, files, Series::Ids, from, counter.next)? {
+        ids.push(found.number)?;
+        from = found.number + 1;
+    }
+    Ok(ids)
+}
+
+/// Whether the files from the lowest id on and below the next one stand for a queue. It reads all of them, and names the
+/// first that is outside its grammar.
+pub fn audit<F: Files>(alloc: Global, files: &mut F) -> Result<(), PartError>
+    ensures ok { IsTrue F.tells → OnOk result ((queue : Queue) × IsCountedQueue (F.map files.old) queue) }
+    ensures names { NamesDamaged ⟦<F as Files>⟧ (λ name. (name ≡ ids_name) ⊎ ((id : ℕ) × (name ≡ entry_name id))) (BreaksCounted (F.map files.old)) result }
+    ensures reads { IsReading ⟦<F as Files>⟧ files.old files.new result }
+{
+    let counter = counter_of(alloc, files, Series::Ids)?;
+    let mut from = counter.low;
+    while let Some(found) = next_there(alloc, files, Series::Ids, from, counter.next)? {
+        if read_out(alloc, found.bytes.as_slice())?.is_none() {
+            return Err(PartError::Damaged(Series::Ids.name(found.number)));
+        }
+        from = found.number + 1;
+    }
+    Ok(())
+}

@@ -1,0 +1,27 @@
+-- What the calls of a site have in common. The members of the trait are passed to each record.
+use Rattle.std.specs.Prelude.{◌≡◌, ◌≤◌, ℕ, Bool, IsTrue, List, Result}
+use Rattle.ml_base.specs.Faults.{next_call}
+use Rattle.ml_site.specs.Disk.{Contents, Part, Disk, Changes, Pends, Now, Elapses}
+
+-- the disk is as it was
+pub record SameDisk {S : Type 0} (reads_told told : Bool) (disk_of : S → Disk) (old new : S) : Type 0 where
+  pub reads : IsTrue reads_told → (disk_of new).reads ≡ (disk_of old).reads
+  pub disk : IsTrue told → disk_of new ≡ disk_of old
+
+-- one part of the disk was changed, or was to be
+pub record ChangesPart {S E : Type 0} (reads_told told : Bool) (disk_of : S → Disk) (result : Result (Unit {0}) E) (part : Part) (done : Contents) (old new : S) : Type 0 where
+  pub reads : IsTrue reads_told → Changes result part done (disk_of old).reads (disk_of new).reads
+  pub pends : IsTrue told → Pends result part (disk_of old) (disk_of new)
+
+-- what each call on the disk does beside: it is counted, puts nothing out, and a crash in its course leaves what one behind it may
+pub record OnDisk {S : Type 0} (told : Bool) (disk_of : S → Disk) (output_of : S → List ℕ) (moment_of : S → ℕ) (left_of : S → ℕ → Contents → List ℕ → Type 0) (faults_of others_of calls_of : S → ℕ) (old new : S) : Type 0 where
+  pub output : IsTrue told → output_of new ≡ output_of old
+  pub time : IsTrue told → Elapses (moment_of old) (moment_of new) (left_of old) (left_of new) (Now (disk_of new) (output_of new))
+  pub faults : faults_of old ≤ faults_of new
+  pub others : others_of new ≡ others_of old
+  pub calls : calls_of new ≡ next_call (calls_of old)
+
+-- neither a sync nor bytes for the log were counted
+pub record SameNumbers {S : Type 0} (told : Bool) (syncs_of log_bytes_of : S → ℕ) (old new : S) : Type 0 where
+  pub syncs : IsTrue told → syncs_of new ≡ syncs_of old
+  pub log_bytes : IsTrue told → log_bytes_of new ≡ log_bytes_of old

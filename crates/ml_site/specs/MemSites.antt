@@ -1,0 +1,70 @@
+-- What a site in memory shows.
+use Rattle.std.specs.Prelude.{ℕ, List, length, take}
+use Rattle.std.specs.Vec.{vec_capacity}
+use Rattle.ml_site.specs.declared.mem.MemSite.{MemSite}
+use Rattle.ml_site.specs.Disk.{Contents, Disk}
+use Rattle.ml_site.specs.Recorded.{after, at_rest, contents, given, Left, total, size_synced, size_logged}
+
+-- the disk after the calls of the record
+abbrev pub mem_disk : MemSite → Disk
+mem_disk s = after (at_rest (contents s.start_log s.start_files)) s.calls.items
+
+-- the disk after so many calls, or after all where there are fewer
+abbrev pub mem_disk_at : MemSite → ℕ → Disk
+mem_disk_at s moment = after (at_rest (contents s.start_log s.start_files)) (take moment s.calls.items)
+
+-- what a crash at some moment from that time on may have left, with the output so far
+abbrev pub mem_left_since : MemSite → ℕ → Contents → List ℕ → Type 0
+mem_left_since s = Left (at_rest (contents s.start_log s.start_files)) s.calls.items s.output.items
+
+-- what so many calls put out
+abbrev pub mem_output_at : MemSite → ℕ → List ℕ
+mem_output_at s moment = take (given (take moment s.calls.items)) s.output.items
+
+-- what was put out
+abbrev pub mem_output : MemSite → List ℕ
+mem_output s = s.output.items
+
+-- how many calls the record has
+abbrev pub mem_calls : MemSite → ℕ
+mem_calls s = length s.calls.items
+
+-- for how many calls the record has room
+abbrev pub call_room : MemSite → ℕ
+call_room s = vec_capacity s.calls
+
+-- for how many bytes the output has room
+abbrev pub output_room : MemSite → ℕ
+output_room s = s.output_room
+
+-- how often a call on the disk has failed
+abbrev pub disk_faults : MemSite → ℕ
+disk_faults s = s.disk_faults
+
+-- how often the output has failed
+abbrev pub output_faults : MemSite → ℕ
+output_faults s = s.output_faults
+
+-- the calls, counted from 1, that are to fail
+abbrev pub site_failing : MemSite → List ℕ
+site_failing s = s.plan.failing
+
+-- the number of the last call that may succeed
+abbrev pub site_last : MemSite → ℕ
+site_last s = s.last_call
+
+-- how many calls were made
+abbrev pub site_made : MemSite → ℕ
+site_made s = s.plan.made
+
+-- how many calls on the disk were made
+abbrev pub site_disk_calls : MemSite → ℕ
+site_disk_calls s = s.disk_calls
+
+-- how often it was synced
+abbrev pub mem_syncs : MemSite → ℕ
+mem_syncs s = total size_synced s.calls.items
+
+-- how many bytes were handed to the log
+abbrev pub mem_log_bytes : MemSite → ℕ
+mem_log_bytes s = total size_logged s.calls.items
