@@ -1,13 +1,14 @@
 -- Every history has its issues of the digest, 1, 2, 3 and so on, and no post is in two of them.
-use Rattle.std.proofs.Common.{◌≡◌, ℕ, zero, suc, ◌+◌, ◌<◌, ◌≤◌, ◌⊎◌, inl, inr, Bool, true, false, List, [], ◌∷◌, ◌++◌, Some, None, refl, sym, ap, ap₂, subst, ◌∙◌, arith, take, length, slice_get, length-append}
+use Rattle.std.proofs.Common.{◌≡◌, ℕ, zero, suc, ◌+◌, ◌<◌, ◌≤◌, ◌⊎◌, inl, inr, Bool, true, false, List, [], ◌∷◌, ◌++◌, Some, None, refl, sym, ap, ap₂, subst, ◌∙◌, arith, take, length, slice_get, length-append, nat_le}
 use Rattle.std.proofs.lemmas.Bool.{false≢true}
+use Rattle.std.proofs.lemmas.Bool.Decides.{nat_tests}
 use Rattle.std.proofs.lemmas.List.{append-nil, append_assoc, take-append-le, take_at}
 use Rattle.std.proofs.lemmas.Slice.Eq.{bytes_eq-Decides}
 use Rattle.std.specs.Str.{bytes_eq}
 use Rattle.ml_base.specs.Bytes.{Text}
 use Rattle.ml_config.specs.declared.configuration.Config.{Config}
 use Rattle.ml_plain.specs.declared.Item.{Item}
-use Rattle.ml_plain.specs.Laws.{after, Happened, made_for, MakesDigest, MakesNoDigest, Issue, HasPost, MakesIssue, IsOneOf, AreIssues, HasIssues}
+use Rattle.ml_plain.specs.Laws.{after, Happened, made_for, MakesDigest, MakesNoDigest, Issue, HasPost, MakesIssue, IsOneOf, IsIn, AreIssues, HasIssues}
 use Rattle.ml_plain.specs.Mailing.{digest_path}
 use Rattle.ml_plain.specs.Plain.{new_list}
 use Rattle.ml_plain.specs.Steps.{step0}
@@ -88,6 +89,17 @@ apart last place (x ∷ xs) (suc i) zero post one two h e f a b =
     let end : x.range.last ≡ two.range.last = ap (λ i. i.range.last) same in
     absurd (omega (arith, up, end, b.to, a.from))
 apart last place (x ∷ xs) (suc i) (suc j) post one two h e f a b = ap suc (apart x.range.last (x.at + 1) xs i j post one two h.3 e f a b)
+
+-- none is left out
+within : (last place : ℕ) (xs : List Issue) (post : ℕ) → Follow last place xs → last < post → post ≤ last_post last xs → IsIn xs post
+within last place [] post h low high = absurd (omega (arith, low, high))
+within last place (x ∷ xs) post h low high = go (nat_le post x.range.last) refl (λ later. within x.range.last (x.at + 1) xs post h.3 later high)
+  where
+    go : (t : Bool) → nat_le post x.range.last ≡ t → (x.range.last < post → IsIn xs post) → IsIn (x ∷ xs) post
+    go true t more = record { before = 0; issue = x; listed = refl; has = record { from = omega (arith, h.0, low); to = grind (arith, nat_tests, t) } }
+    go false t more =
+        let later = more (grind (arith, nat_tests, t)) in
+        record { before = suc later.before; issue = later.issue; listed = later.listed; has = later.has }
 
 module _ (c : Config) (key : Text) where
   -- the entries for an issue that the step at a place made
@@ -213,6 +225,7 @@ module _ (c : Config) (key : Text) where
     first = λ issue e. first_of_all 0 0 issues issue i.follow e;
     next = λ n one two e f. next_of 0 0 issues n one two i.follow e f;
     once = λ m n post one two e f a b. apart 0 0 issues m n post one two i.follow e f a b;
+    each = λ post some up. within 0 0 issues post i.follow (omega (arith, some)) (subst (λ n. post ≤ n) (ap (λ mark. mark.last) i.mark) up);
     others = i.others;
   }
 

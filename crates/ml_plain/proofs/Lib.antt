@@ -23,8 +23,6 @@ pub mod Joining
 pub mod Slots
 pub mod Frames
 pub mod StateFiles
-pub mod Pairs
-pub mod PartsOne
 pub mod OneState
 pub mod PartChanges
 pub mod Changes

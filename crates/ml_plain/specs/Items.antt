@@ -1,6 +1,7 @@
 -- The ranges of items.
-use Rattle.std.specs.Prelude.{◌<◌, ◌≤◌, ℕ, length}
+use Rattle.std.specs.Prelude.{◌≤◌, ℕ, length}
 use Rattle.ml_base.specs.Bytes.{Text}
+use Rattle.ml_base.specs.Ranges.{IsMoment}
 use Rattle.ml_plain.specs.declared.Item.{Item}
 use Rattle.ml_plain.specs.declared.Act.{Act}
 use Rattle.ml_plain.specs.declared.Act.TheVariants.{Deliver, Sent, Floor}
@@ -26,5 +27,5 @@ IsAct _ = Unit {0}
 -- an item in its ranges: a number of at most 12 digits, and a moment before the year 10000
 pub record IsItem (item : Item) : Type 0 where
   pub number : item.number ≤ 999_999_999_999
-  pub moment : item.moment < 253_402_300_800
+  pub moment : IsMoment item.moment
   pub act : IsAct item.act

@@ -134,15 +134,23 @@ pub record IsOneOf (c : Config) (issues : List Issue) (at number : ℕ) : Type 0
   pub at_is : issue.at ≡ at
   pub base_is : (digest_path c number).base ≡ (digest_path c (before + 1)).base
 
+-- a post is in one of these issues
+pub record IsIn (issues : List Issue) (post : ℕ) : Type 0 where
+  pub before : ℕ
+  pub issue : Issue
+  pub listed : slice_get issues before ≡ Some issue
+  pub has : HasPost issue post
+
 -- The issues that a history made, in the order of their numbers 1, 2, 3 and so on: the first begins with post 1, and each other one
--- with the post behind the last of the one before it, and is made behind it. So no post is in two issues. No step made an entry with
--- the base of an issue but these.
+-- with the post behind the last of the one before it, and is made behind it. So no post is in two issues, and none is left out up to
+-- the last that is in one. No step made an entry with the base of an issue but these.
 pub record AreIssues (c : Config) (key : Text) (h : List Item) (issues : List Issue) : Type 0 where
   pub made : (before : ℕ) (issue : Issue) → slice_get issues before ≡ Some issue → Happened c key h issue.at issue.moment (MakesIssue (before + 1) issue.range)
   pub first : (issue : Issue) → slice_get issues 0 ≡ Some issue → issue.range.first ≡ 1
   pub next : (before : ℕ) (one two : Issue) → slice_get issues before ≡ Some one → slice_get issues (before + 1) ≡ Some two
       → (two.range.first ≡ one.range.last + 1) × (one.at < two.at)
   pub once : (i j post : ℕ) (one two : Issue) → slice_get issues i ≡ Some one → slice_get issues j ≡ Some two → HasPost one post → HasPost two post → i ≡ j
+  pub each : (post : ℕ) → 1 ≤ post → post ≤ (after c key h).mark.last → IsIn issues post
   pub others : (at number : ℕ) (item : Item) → slice_get h at ≡ Some item
       → (made_for number (after c key (take at h)) (step0 (after c key (take at h)) item).0 ≡ []) ⊎ IsOneOf c issues at number
 

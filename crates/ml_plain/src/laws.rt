@@ -56,8 +56,8 @@ pub fn law_new_list()
 
 /// Each step makes the next digest or none: a digest begins with the post behind the last one of the digest before it, has at least one
 /// post, and goes to the digest set as it then stands. So the issues of a history are 1, 2, 3 and so on; the first begins with post 1,
-/// each other one with the post behind the last of the one before it; no post is in two of them; and no other entry has the path of an
-/// issue.
+/// each other one with the post behind the last of the one before it; no post is in two of them, none is left out up to the last that
+/// is in one, and no other entry has the path of an issue.
 pub fn law_digests()
     ensures steps { MakesDigests }
     ensures issues { HasIssues }

@@ -5,3 +5,5 @@
 mod config;
 #[cfg(test)]
 mod header;
+#[cfg(test)]
+mod plain;
