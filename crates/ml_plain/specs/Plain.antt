@@ -1,93 +1,110 @@
--- The list as a plain value, and what items do to it.
-use Rattle.std.specs.Prelude.{ℕ, Bool, ◌==◌, nat_le, if◌then◌else◌, List, [], ◌∷◌, ◌++◌, length}
-use Rattle.std.specs.List.{list_any}
-use Rattle.std.specs.Str.{bytes_eq}
-use Rattle.std.specs.Cmp.Lexicographic.{slice_cmp}
-use Rattle.std.specs.Ordering.{nat_cmp, is_eq, match_ordering}
-use Rattle.std.specs.declared.cmp.Ordering.{Ordering}
-use Rattle.ml_base.specs.declared.names.Set.{Set}
+-- The list as a plain value.
+use Rattle.std.specs.Prelude.{ℕ, Bool, ◌||◌, ◌==◌, nat_le, nat_lt, if◌then◌else◌, List, [], ◌∷◌, length, map, None}
+use Rattle.std.specs.Option.{option_map_or}
 use Rattle.ml_base.specs.Bytes.{Text}
-use Rattle.ml_base.specs.Name.{set_kind}
 use Rattle.ml_base.specs.Address.{key}
-use Rattle.ml_plain.specs.declared.Item.{Item}
-use Rattle.ml_plain.specs.declared.Act.{Act}
-use Rattle.ml_plain.specs.declared.Act.TheVariants.{Add}
-use Rattle.ml_plain.specs.declared.Reply.{Reply}
-use Rattle.ml_plain.specs.Replies.{line}
+use Rattle.ml_base.specs.Drawn.{nothing_drawn}
+use Rattle.ml_base.specs.Name.{set_number}
+use Rattle.ml_base.specs.declared.names.Set.{Set}
+use Rattle.ml_base.specs.declared.names.Set.TheVariants as sets
+use Rattle.ml_config.specs.declared.configuration.Config.{Config}
+use Rattle.ml_config.specs.declared.key_file.Keys.{Keys}
+use Rattle.ml_subs.specs.Members.{has_key, member_of, with_member, without_member}
+use Rattle.ml_subs.specs.declared.member_list.Member.{Member}
+use Rattle.ml_archive.specs.declared.posts.Post.{Post}
+use Rattle.ml_hold.specs.Held.{Pending}
+use Rattle.ml_bounce.specs.Ledger.{Ledger, forget}
+use Rattle.ml_digest.specs.declared.posts.Mark.{Mark}
+use Rattle.ml_queue.specs.Queue.{Queue}
 
--- the addresses of each set
+-- the members of each set, in ascending order of key
 abbrev pub Sets : Type 0
-Sets = Set → List Text
+Sets = Set → List Member
 
--- a list: the addresses of its five sets, each in ascending order of key
+-- a list: its configuration and keys, five sets, posts of which post n is the n-th, held posts with the next ticket, the ledgers
+-- of the sets list and digest, the queue with the next id, and how far the digests have come
 pub record Plain : Type 0 where
+  pub config : Config
+  pub keys : Keys
   pub sets : Sets
+  pub posts : List Post
+  pub held : Pending
+  pub list_ledger : Ledger
+  pub digest_ledger : Ledger
+  pub queue : Queue
+  pub mark : Mark
 
--- how the keys of two addresses stand
-abbrev pub address_cmp : Text → Text → Ordering
-address_cmp a b = slice_cmp nat_cmp (key a) (key b)
+-- the list that `make` leaves, with this configuration and key
+abbrev pub new_list : Config → Text → Plain
+new_list c key = record {
+  config = c;
+  keys = record { key = key; former = None };
+  sets = λ set. [];
+  posts = [];
+  held = nothing_drawn;
+  list_ledger = [];
+  digest_ledger = [];
+  queue = nothing_drawn;
+  mark = record { last = 0; issue = 0 };
+}
 
--- an address of this key is among them
-abbrev pub is_member : List Text → Text → Bool
-is_member members who = list_any (λ m. bytes_eq (key who) (key m)) members
+-- a member with the key of this address is in the set
+abbrev pub is_in : Plain → Set → Text → Bool
+is_in p set who = has_key (key who) (p.sets set)
 
--- an address whose key is neither below nor above this one's is among them
-abbrev pub has : List Text → Text → Bool
-has members who = list_any (λ m. is_eq (address_cmp who m)) members
+-- the sender is in the moderators' set
+abbrev pub is_moderator : Plain → Text → Bool
+is_moderator p sender = is_in p sets.Moderators sender
 
--- the addresses with this one put before the first that isn't below it
-abbrev pub with_address : Text → List Text → List Text
-with_address who [] = who ∷ []
-with_address who (m ∷ ms) = match_ordering (address_cmp who m) (who ∷ m ∷ ms) (who ∷ m ∷ ms) (m ∷ with_address who ms)
+-- an address as the set spells it, where a member has its key
+abbrev pub spelled_in : Plain → Set → Text → Text
+spelled_in p set who = option_map_or (λ m. m.who) (member_of (key who) (p.sets set)) who
 
--- the sets with these addresses in one of them
-abbrev pub put : Sets → Set → List Text → Sets
-put sets set members = λ s. if set_kind s == set_kind set then members else sets s
+-- the addresses of a set, in order
+abbrev pub addresses : Plain → Set → List Text
+addresses p set = map (λ m. m.who) (p.sets set)
 
--- a set has as many addresses as it may: 100,000
-abbrev pub is_full : List Text → Bool
-is_full members = nat_le 100000 (length members)
+-- the set has as many members as it may: 100,000
+abbrev pub is_full : Plain → Set → Bool
+is_full p set = nat_le 100_000 (length (p.sets set))
 
--- the reply of a code that has no number
-abbrev pub plain : ℕ → Reply
-plain code = record { code = code; number = 0 }
+-- the sets with these members in one of them
+abbrev pub with_members : Set → List Member → Sets → Sets
+with_members set ms all = λ s. if set_number s == set_number set then ms else all s
 
-abbrev pub subscribed : Reply
-subscribed = plain 4
+-- the ledger of a set, and no entries where it has none
+abbrev pub ledger_of : Plain → Set → Ledger
+ledger_of p sets.List = p.list_ledger
+ledger_of p sets.Digest = p.digest_ledger
+ledger_of p sets.Allow = []
+ledger_of p sets.Deny = []
+ledger_of p sets.Moderators = []
 
-abbrev pub already : Reply
-already = plain 5
+-- the list with another ledger of a set
+abbrev pub with_ledger_of : Set → Ledger → Plain → Plain
+with_ledger_of sets.List ledger p = record p { list_ledger = ledger }
+with_ledger_of sets.Digest ledger p = record p { digest_ledger = ledger }
+with_ledger_of sets.Allow ledger p = p
+with_ledger_of sets.Deny ledger p = p
+with_ledger_of sets.Moderators ledger p = p
 
-abbrev pub full : Reply
-full = plain 20
+-- the list with an address added to a set at this moment
+abbrev pub added : Set → Text → ℕ → Plain → Plain
+added set who now p = record p { sets = with_members set (with_member (record { who = who; since = now }) (p.sets set)) p.sets }
 
--- what adding an address to these is answered
-abbrev pub add_reply : List Text → Text → Reply
-add_reply members who = if has members who then already else if is_full members then full else subscribed
+-- the list without an address in a set, and without the key's entry in that set's ledger
+abbrev pub removed : Set → Text → Plain → Plain
+removed set who p = with_ledger_of set (forget (key who) (ledger_of p set)) (record p { sets = with_members set (without_member (key who) (p.sets set)) p.sets })
 
--- these after an address is added
-abbrev pub added : List Text → Text → List Text
-added members who = if has members who then members else if is_full members then members else with_address who members
+-- the archive has as many posts as it may: 99,999,999
+abbrev pub is_archive_full : Plain → Bool
+is_archive_full p = nat_le 99_999_999 (length p.posts)
 
--- the list after an act, and what the act is answered
-abbrev pub act_step : Plain → Act → Plain × Reply
-act_step p (Add set who) = (record { sets = put p.sets set (added (p.sets set) who) }, add_reply (p.sets set) who)
+-- ids or tickets are worn out: a delivery or a timed run could draw more than there are
+abbrev pub is_worn : Plain → Bool
+is_worn p = nat_lt 999_999_999_997_000 p.queue.next || nat_lt 1_000_000_000_000_000 p.held.next
 
--- the list after an item, and what the item is answered
-unfoldable pub step0 : Plain → Item → Plain × Reply
-step0 p item = act_step p item.act
-
--- the list after items
-abbrev pub fold : Plain → List Item → Plain
-fold p [] = p
-fold p (item ∷ items) = fold (step0 p item).0 items
-
--- what items are answered
-abbrev pub answers : Plain → List Item → List Reply
-answers p [] = []
-answers p (item ∷ items) = (step0 p item).1 ∷ answers (step0 p item).0 items
-
--- the lines that answer items
-abbrev pub text : Plain → List Item → Text
-text p [] = []
-text p (item ∷ items) = line item.number (step0 p item).1 ++ text (step0 p item).0 items
+-- the first row that holds
+abbrev pub first_row : {A : Type 0} → List (Bool × A) → A → A
+first_row [] otherwise = otherwise
+first_row (row ∷ rows) otherwise = if row.0 then row.1 else first_row rows otherwise

@@ -80,12 +80,15 @@ kind_at (kind ∷ rest) k = if k == 0 then kind else kind_at rest (k - 1)
 abbrev pub kind_of : ℕ → Kind
 kind_of code = kind_at kinds (code - 1)
 
+-- a code's word
 abbrev pub word_of : ℕ → Text
 word_of code = (kind_of code).word
 
+-- the exit status that a code stands for
 abbrev pub status_of : ℕ → ℕ
 status_of code = (kind_of code).status
 
+-- a code whose line has the reply's number
 abbrev pub is_numbered : ℕ → Bool
 is_numbered code = (kind_of code).numbered
 

@@ -1,14 +1,111 @@
-// What holds of the words of this crate.
-ghost use Rattle.std.specs.Prelude.{◌≡◌, ◌+◌, ◌||◌, List, length};
-ghost use Rattle.std.specs.Str.{bytes_eq};
+// What holds of every history of a list.
+ghost use Rattle.std.specs.Prelude.{◌≡◌, ◌≢◌, ◌<◌, ◌≤◌, ◌+◌, ◌*◌, ◌/◌, ◌%◌, max, true, ◌∷◌, [], ℕ, List, Option, Some, length};
 ghost use Rattle.ml_base.specs.Bytes.{Text};
-ghost use Rattle.ml_base.specs.Address.{key};
-ghost use Rattle.ml_plain.specs.Plain.{has, is_member, with_address};
+ghost use Rattle.ml_base.specs.Dir.{Dir, with_file, with_puts, touches_only};
+ghost use Rattle.ml_base.specs.declared.names.Name.{Name};
+ghost use Rattle.ml_base.specs.declared.names.Set.{Set};
+ghost use Rattle.ml_base.specs.declared.puts.Put.{Put};
+ghost use Rattle.ml_archive.specs.Threads.{IsArchive};
+ghost use Rattle.ml_archive.specs.declared.posts.Post.{Post};
+ghost use Rattle.ml_bounce.specs.Files.{IsLedger};
+ghost use Rattle.ml_bounce.specs.Ledger.{Ledger};
+ghost use Rattle.ml_config.specs.KeyFile.{IsKeyFile, key_name};
+ghost use Rattle.ml_config.specs.declared.key_file.Keys.{Keys};
+ghost use Rattle.ml_digest.specs.Due.{IsMark};
+ghost use Rattle.ml_digest.specs.declared.posts.Mark.{Mark};
+ghost use Rattle.ml_hold.specs.Held.{Pending, IsPending};
+ghost use Rattle.ml_queue.specs.Queue.{Queue, IsQueue};
+ghost use Rattle.ml_subs.specs.declared.member_list.Member.{Member};
+ghost use Rattle.ml_subs.specs.Subscribers.{AreSubscribers, is_touched};
+ghost use Rattle.ml_plain.specs.Directory.{LawNewList, IsList, IsState, is_of_list, is_of_state, archive_kinds, held_kinds, queue_kinds, list_ledger_kinds, digest_ledger_kinds, mark_kinds, keys_kinds};
+ghost use Rattle.ml_plain.specs.Histories.{State, Kept, keep, from_floor};
+ghost use Rattle.ml_plain.specs.KeptFiles.{AreReplies, IsRepliesFile, IsWritten, IsRisen, slots_of, is_kept, replies_name, is_of_replies};
+ghost use Rattle.ml_plain.specs.OnceLaws.{Once, Joined};
+ghost use Rattle.ml_plain.specs.Plain.{Plain, with_members};
+ghost use Rattle.ml_plain.specs.Runs.{Run};
+ghost use Rattle.ml_plain.specs.declared.Reply.{Reply};
+ghost use Rattle.ml_plain.specs.Laws.{HasIssues, LawChain, LawLeaving, LawPosts, MakesDigests};
 
-/// To look an address up by the order of keys is to look for its key.
-/// To put an address among members is to have its key there besides theirs, and one member more.
-pub fn law_members()
-    ensures found { (members : List Text) (who : Text) → has members who ≡ is_member members who }
-    ensures added { (members : List Text) (who other : Text) → is_member (with_address who members) other ≡ (bytes_eq (key other) (key who) || is_member members other) }
-    ensures count { (members : List Text) (who : Text) → length (with_address who members) ≡ length members + 1 }
+/// Each step of a list's history posts or doesn't. One that posts is answered `posted` and the number of the new post, which goes last
+/// into the archive, and puts one entry into the queue: the post, for the members as they then are. Any other leaves the posts as they
+/// are, is answered otherwise, and puts no entry with the path of a post into the queue.
+pub fn law_posts()
+    ensures { LawPosts }
+{}
+
+/// An address leaves a set in one of four ways: the operator removes it; it asks for that itself, where the list asks for no
+/// confirmation; it is confirmed with a good cookie; or the probe of its last stage bounces, with a good cookie, in list or digest. The
+/// moderators' set is left in the first way alone.
+pub fn law_leaving()
+    ensures { LawLeaving }
+{}
+
+/// An address leaves a set in one of the four ways of `law_leaving`. Where a probe drops it, which only happens in list or digest, its
+/// history has the whole course: a bounce of a post or of an issue that there was, which was answered `bounce`; 1,000,000 seconds later
+/// at least a warning, to that member alone, which names the number of that bounce; the bounce of that warning, with a good cookie;
+/// 1,000,000 seconds later at least a probe, to that member alone; and then the bounce of that probe, with a good cookie. The address was
+/// a member all the while.
+pub fn law_chain()
+    ensures { LawChain }
+{}
+
+/// The files of a new list stand for the list without members, posts and mail, and without any kept reply.
+pub fn law_new_list()
+    ensures { LawNewList }
+{}
+
+/// Each step makes the next digest or none: a digest begins with the post behind the last one of the digest before it, has at least one
+/// post, and goes to the digest set as it then stands. So the issues of a history are 1, 2, 3 and so on; the first begins with post 1,
+/// each other one with the post behind the last of the one before it; no post is in two of them, none is left out up to the last that
+/// is in one, and no other entry has the path of an issue.
+pub fn law_digests()
+    ensures steps { MakesDigests }
+    ensures issues { HasIssues }
+{}
+
+/// Each numbered item counts once, in the order of its first effect, or, first met below the floor, never.
+pub fn law_once()
+    ensures { Once }
+{}
+
+/// The same over any runs, each on the state that the one before it left, whatever items they share.
+pub fn law_joined()
+    ensures { (p : Plain) (runs : List Run) → Joined p runs }
+{}
+
+/// A directory stands for one state at most. Which it is depends on the files of its parts alone.
+pub fn law_states()
+    ensures one { (dir : Dir) (q r : State) → IsState dir q → IsState dir r → q ≡ r }
+    ensures own { (dir other : Dir) (q : State) → ((name : Name) → is_of_state name ≡ true → other name ≡ dir name) → IsState dir q → IsState other q }
+    ensures list { (dir other : Dir) (p : Plain) → ((name : Name) → is_of_list name ≡ true → other name ≡ dir name) → IsList dir p → IsList other p }
+    ensures replies { (dir other : Dir) (floor : ℕ) (kept : Kept) → ((name : Name) → is_of_replies name ≡ true → other name ≡ dir name) → AreReplies dir floor kept → AreReplies other floor kept }
+{}
+
+/// Puts that touch the files of one part alone, and make them stand for another value of it, leave the other parts.
+pub fn law_parts()
+    ensures members { (dir : Dir) (p : Plain) (set : Set) (k : Text) (puts : List Put) (ms : List Member) → IsList dir p → touches_only (is_touched set k) puts ≡ true →
+        AreSubscribers (with_puts dir puts) set ms → IsList (with_puts dir puts) (record p { sets = with_members set ms p.sets }) }
+    ensures keys { (dir : Dir) (p : Plain) (puts : List Put) (keys : Keys) → IsList dir p → touches_only (λ name. keys_kinds name.kind) puts ≡ true →
+        IsKeyFile (with_puts dir puts key_name) keys → IsList (with_puts dir puts) (record p { keys = keys }) }
+    ensures posts { (dir : Dir) (p : Plain) (puts : List Put) (posts : List Post) → IsList dir p → touches_only (λ name. archive_kinds name.kind) puts ≡ true →
+        IsArchive (with_puts dir puts) p.config.prefix posts → p.mark.last ≤ length posts → IsList (with_puts dir puts) (record p { posts = posts }) }
+    ensures held { (dir : Dir) (p : Plain) (puts : List Put) (held : Pending) → IsList dir p → touches_only (λ name. held_kinds name.kind) puts ≡ true →
+        IsPending (with_puts dir puts) held → IsList (with_puts dir puts) (record p { held = held }) }
+    ensures list_ledger { (dir : Dir) (p : Plain) (puts : List Put) (ledger : Ledger) → IsList dir p → touches_only (λ name. list_ledger_kinds name.kind) puts ≡ true →
+        IsLedger (with_puts dir puts) 15 ledger → IsList (with_puts dir puts) (record p { list_ledger = ledger }) }
+    ensures digest_ledger { (dir : Dir) (p : Plain) (puts : List Put) (ledger : Ledger) → IsList dir p → touches_only (λ name. digest_ledger_kinds name.kind) puts ≡ true →
+        IsLedger (with_puts dir puts) 16 ledger → IsList (with_puts dir puts) (record p { digest_ledger = ledger }) }
+    ensures queue { (dir : Dir) (p : Plain) (puts : List Put) (queue : Queue) → IsList dir p → touches_only (λ name. queue_kinds name.kind) puts ≡ true →
+        IsQueue (with_puts dir puts) queue → IsList (with_puts dir puts) (record p { queue = queue }) }
+    ensures mark { (dir : Dir) (p : Plain) (puts : List Put) (mark : Mark) → IsList dir p → touches_only (λ name. mark_kinds name.kind) puts ≡ true →
+        IsMark (with_puts dir puts) mark → mark.last ≤ length p.posts → mark.issue ≤ mark.last → IsList (with_puts dir puts) (record p { mark = mark }) }
+{}
+
+/// What a change of the files of kept replies makes of them: a reply more, a floor that stays, and one that rises.
+pub fn law_changes()
+    ensures reply { (dir : Dir) (floor : ℕ) (kept : Kept) (n : ℕ) (r : Reply) (new : Text) → AreReplies dir floor kept → n ≢ 0 → floor ≤ n → n ≤ 999_999_999_999 → is_kept r ≡ true →
+        IsWritten (slots_of (dir (replies_name (n / 512)))) (n % 512) (Some r) new → AreReplies (with_file dir (replies_name (n / 512)) (Some new)) floor (keep n r kept) }
+    ensures floor_kept { (dir : Dir) (f at : ℕ) (kept : Kept) → AreReplies dir f kept → at ≤ f → AreReplies dir (max f at) (from_floor (max f at) kept) }
+    ensures floor_risen { (dir other : Dir) (f at : ℕ) (kept : Kept) → AreReplies dir f kept → f < at → at ≤ 999_999_999_999 → IsRisen dir other f at →
+        IsRepliesFile (512 * (at / 512)) (other (replies_name (at / 512))) (from_floor at kept) → AreReplies other (max f at) (from_floor (max f at) kept) }
 {}

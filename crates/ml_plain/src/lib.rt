@@ -5,8 +5,11 @@ mod codes;
 mod laws;
 
 pub use codes::{has_number, status, word};
-pub use laws::law_members;
-use ml_base::{Address, Set};
+pub use laws::{
+    law_chain, law_changes, law_digests, law_joined, law_leaving, law_new_list, law_once,
+    law_parts, law_posts, law_states,
+};
+use ml_base::{Address, Bytes, Set};
 
 /// One thing that is asked of a list.
 #[derive(Drop)]
@@ -21,8 +24,36 @@ pub struct Item {
 /// What is asked.
 #[derive(Drop)]
 pub enum Act {
+    /// To take a message from its envelope sender to one of the list's own addresses.
+    Deliver {
+        sender: Bytes,
+        recipient: Bytes,
+        message: Bytes,
+    },
+    /// To do what is due at this time.
+    Timed,
     /// To add an address to a set.
-    Add { set: Set, who: Address },
+    Add {
+        set: Set,
+        who: Address,
+    },
+    /// To remove an address from a set.
+    Remove {
+        set: Set,
+        who: Address,
+    },
+    /// To take an entry that was sent out of the queue.
+    Sent {
+        id: u64,
+    },
+    /// To replace the key.
+    Rekey {
+        key: [u8; 32],
+    },
+    /// To give up what was answered to items of lower numbers, and to refuse such items from now on.
+    Floor {
+        at: u64,
+    },
 }
 
 /// What an item is answered: a code, and a number where the code has one (`has_number`), else 0.
@@ -39,7 +70,7 @@ impl Reply {
     /// A post waits for the moderators; its ticket follows.
     pub const HELD: u8 = 2;
 
-    /// The hour's work was done; the count of the queue entries that it made follows.
+    /// A timed run was made; the number of queue entries that it made follows.
     pub const TIMED: u8 = 3;
 
     /// The address was added.
@@ -66,22 +97,22 @@ impl Reply {
     /// The message was sent to the owner.
     pub const OWNER: u8 = 11;
 
-    /// The members of a set were sent.
+    /// The members of a set were sent to a moderator.
     pub const MEMBERS: u8 = 12;
 
     /// A bounce was noted.
     pub const BOUNCE: u8 = 13;
 
-    /// Nothing was done.
+    /// A bounce from which nothing follows was taken and let go.
     pub const IGNORED: u8 = 14;
 
-    /// A message was taken and let go.
+    /// A probe's bounce dropped the address: it left the set.
     pub const DROPPED: u8 = 15;
 
-    /// A held post was rejected.
+    /// A held post was rejected, and went back to its sender.
     pub const REJECTED: u8 = 16;
 
-    /// The held post isn't there.
+    /// No post is held under the ticket.
     pub const GONE: u8 = 17;
 
     /// A queue entry was removed.
@@ -90,31 +121,32 @@ impl Reply {
     /// The queue entry isn't there.
     pub const NOENTRY: u8 = 19;
 
-    /// The set has as many addresses as it may.
+    /// There is no room: the set has 100,000 addresses, the archive has 99,999,999 posts, or the ids of queue entries or the tickets of
+    /// held posts are worn out.
     pub const FULL: u8 = 20;
 
     /// The message is longer than the list allows.
     pub const TOOBIG: u8 = 21;
 
-    /// The message has no sender.
+    /// The message has no sender that is an address.
     pub const NOSENDER: u8 = 22;
 
     /// The message came from this list before.
     pub const LOOPED: u8 = 23;
 
-    /// The sender may not post.
+    /// The sender is in the set deny.
     pub const DENIED: u8 = 24;
 
     /// The message has no subject.
     pub const NOSUBJECT: u8 = 25;
 
-    /// The post looks like a command.
+    /// The subject looks like a command, as `subscribe` does.
     pub const COMMAND: u8 = 26;
 
     /// The message doesn't name the list as a recipient.
     pub const NOTADDRESSED: u8 = 27;
 
-    /// The request is for subscribers alone.
+    /// The post is by nobody of list, digest, allow and mod.
     pub const USERSONLY: u8 = 28;
 
     /// The recipient isn't an address of this list.
@@ -123,7 +155,7 @@ impl Reply {
     /// The cookie isn't right, or too old.
     pub const BADCOOKIE: u8 = 30;
 
-    /// The list doesn't allow the request.
+    /// The list doesn't grant the request to this sender.
     pub const PRIVATE: u8 = 31;
 
     /// The key was changed.
@@ -138,6 +170,6 @@ impl Reply {
     /// The item's number is below the floor.
     pub const STALE: u8 = 35;
 
-    /// The floor can't be set so.
+    /// The floor can't be raised so far.
     pub const BADFLOOR: u8 = 36;
 }

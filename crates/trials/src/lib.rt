@@ -1,4 +1,4 @@
-//! Tests of the parts' public calls.
+//! Tests of the public calls of the crates that hold words, sets, configuration and the plain list.
 #![tactic(auto)]
 
 #[cfg(test)]
@@ -6,6 +6,6 @@ mod base;
 #[cfg(test)]
 mod config;
 #[cfg(test)]
-mod header;
+mod plain;
 #[cfg(test)]
 mod subs;

@@ -1,0 +1,31 @@
+-- The ranges of items.
+use Rattle.std.specs.Prelude.{◌≤◌, ℕ, length}
+use Rattle.ml_base.specs.Bytes.{Text}
+use Rattle.ml_base.specs.Ranges.{IsMoment}
+use Rattle.ml_plain.specs.declared.Item.{Item}
+use Rattle.ml_plain.specs.declared.Act.{Act}
+use Rattle.ml_plain.specs.declared.Act.TheVariants.{Deliver, Sent, Floor}
+
+-- a delivery that isn't too long: 1,000 bytes of the sender and of the recipient, and 33,554,432 of the message
+pub record IsDelivery (sender recipient message : Text) : Type 0 where
+  pub from : length sender ≤ 1000
+  pub to : length recipient ≤ 1000
+  pub body : length message ≤ 33_554_432
+
+-- a number from 1 up to a largest one
+pub record IsUpTo (number most : ℕ) : Type 0 where
+  pub from : 1 ≤ number
+  pub to : number ≤ most
+
+-- the ranges of an act: an id is 1 to 10^15, and a floor 1 to 999,999,999,999; addresses and keys are in theirs by their types
+abbrev pub IsAct : Act → Type 0
+IsAct (Deliver sender recipient message) = IsDelivery sender recipient message
+IsAct (Sent id) = IsUpTo id 1_000_000_000_000_000
+IsAct (Floor at) = (1 ≤ at) × (at ≤ 999_999_999_999)
+IsAct _ = Unit {0}
+
+-- an item in its ranges: a number of at most 12 digits, and a moment before the year 10000
+pub record IsItem (item : Item) : Type 0 where
+  pub number : item.number ≤ 999_999_999_999
+  pub moment : IsMoment item.moment
+  pub act : IsAct item.act

@@ -1,0 +1,5 @@
+//! Tests of the public calls of the crates that hold messages, addresses of requests and mails.
+#![tactic(auto)]
+
+#[cfg(test)]
+mod header;
