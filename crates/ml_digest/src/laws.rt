@@ -8,9 +8,10 @@ ghost use Rattle.ml_config.specs.Configuration.{IsConfig};
 ghost use Rattle.ml_config.specs.declared.configuration.Config.{Config};
 ghost use Rattle.ml_digest.specs.Burst.{IsDigest};
 ghost use Rattle.ml_digest.specs.Digest.{digest_text, message_text, AreDigested};
-ghost use Rattle.ml_digest.specs.Due.{IsMark, mark_name, mark_in, mark_put};
+ghost use Rattle.ml_digest.specs.Due.{due, IsNextRange, IsMark, mark_name, mark_in, mark_put};
 ghost use Rattle.ml_digest.specs.declared.posts.DigestPost.{DigestPost};
 ghost use Rattle.ml_digest.specs.declared.posts.Mark.{Mark};
+ghost use Rattle.ml_digest.specs.declared.posts.Range.{Range};
 
 /// The mark's file is read as exactly the mark that it spells. So it holds one mark at most, and which it is depends on that
 /// file alone. Writing a mark makes it hold that mark, and leaves every other file as it is.
@@ -20,6 +21,11 @@ pub fn law_mark()
     ensures own { (dir other : Dir) (mark : Mark) → other mark_name ≡ dir mark_name → IsMark dir mark → IsMark other mark }
     ensures put { (dir : Dir) (mark : Mark) → mark.last ≤ 99_999_999 → mark.issue ≤ 99_999_999 → IsMark (with_put dir (mark_put mark)) mark }
     ensures elsewhere { (dir : Dir) (mark : Mark) (name : Name) → name ≢ mark_name → with_put dir (mark_put mark) name ≡ dir name }
+{}
+
+/// A digest that is due goes on behind the last one, and takes the longest row of posts that one digest may have.
+pub fn law_due()
+    ensures { (last oldest now : ℕ) (sizes : List ℕ) (range : Range) → due last sizes oldest now ≡ Some range → IsNextRange last sizes range }
 {}
 
 /// A text is a digest of one number and one row of messages at most.

@@ -2,4 +2,6 @@
 #![tactic(auto)]
 
 #[cfg(test)]
+mod address;
+#[cfg(test)]
 mod header;
