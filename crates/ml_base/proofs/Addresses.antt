@@ -164,6 +164,10 @@ parts_of text e = go (split_last 64 text) refl
         none true h = let bad : faulty TooLong ≡ sound = rw h at e in cc
         none false h = let bad : faulty NoAt ≡ sound = rw (h, f) at e in cc
 
+-- an address has an `@`
+pub address_splits : (text : Text) → IsAddress text → split_last 64 text ≡ None → ⊥
+address_splits text is none = let p = parts_of text is.checks in absurd (cc (p.2.cut, none))
+
 -- what is read is an address
 pub address_read : (text address : Text) → address_of text ≡ Some address → IsAddress address
 address_read text address e = go (address_check text) refl
@@ -198,6 +202,14 @@ none_of p h [] e = refl
 none_of p h (b ∷ bs) e =
     let parts = both (p b) (list_all p bs) e in
     ap (λ t. t || list_any is_nul bs) (h b parts.0) ∙ none_of p h bs parts.1
+
+-- an address that is kept has its `@` behind its local part
+pub kept_at : (text local host : Text) → IsAddress text → Some (local, host) ≡ split_last 64 text → IsAddressAt text (length local)
+kept_at text local host is cut =
+    let both = kept_text text local host (take (length local + 1) text) (take (length local + 1) text ++ lower host) is.checks cut refl refl in
+    let e : Some text ≡ Some (take (length local + 1) text ++ lower host) = sym (address_kept text is) ∙ both.1 in
+    let same : take (length local + 1) text ++ lower host ≡ text = cc in
+    subst (λ (t : Text). IsAddressAt t (length local)) same both.0
 
 -- an address is its parts round the `@`, and its host is in lower case
 pub address_parts : (address : Text) → IsAddress address → (address ≡ local_of address ++ 64 ∷ host_of address) × (lower (host_of address) ≡ host_of address)

@@ -183,6 +183,20 @@ impl Address {
         })
     }
 
+    /// The address that a text is, which is spelled as it is kept: what `is_kept` tells. It isn't checked again.
+    pub fn from_kept(alloc: Global, text: &[u8]) -> Result<Address, AllocError>
+        requires { IsAddress text.now }
+        ensures { IfOk result (λ address. address ≡ text.now) }
+    {
+        let Some((local, _)) = split_last(b'@', text) else {
+            unreachable!()
+        };
+        Ok(Address {
+            text: Bytes::from_slice(alloc, text)?,
+            at: local.len(),
+        })
+    }
+
     /// The whole address, as it is kept.
     pub fn bytes(&self) -> &[u8]
         ensures value { result.now ≡ self.now }
