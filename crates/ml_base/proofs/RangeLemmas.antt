@@ -1,5 +1,5 @@
 -- The tests of ranges and the facts that they decide.
-use Rattle.std.proofs.Common.{◌≡◌, ℕ, ◌≤◌, true}
+use Rattle.std.proofs.Common.{ℕ, ◌≤◌}
 use Rattle.std.proofs.lemmas.Bool.{ltb-true, lt-ltb, leb-true}
 use Rattle.std.specs.Prelude.{◌↔◌, IsTrue}
 use Rattle.ml_base.specs.Ranges.{IsMoment, is_moment, is_post_number, is_drawn}

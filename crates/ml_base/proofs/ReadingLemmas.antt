@@ -1,12 +1,9 @@
 -- What a call that reads files keeps, behind the calls before it.
-use Rattle.std.proofs.Common.{◌≡◌, ◌≤◌, Result, Ok, Err, arith}
-use Rattle.ml_base.specs.Faults.{Rose}
-use Rattle.ml_base.specs.PartErrors.{OnDamaged}
+use Rattle.std.proofs.Common.{◌≡◌, Result, Ok, Err, arith}
 use Rattle.ml_base.specs.ReadFiles.{AreKept, IsReading, NamesDamaged}
 use Rattle.ml_base.specs.declared.files.Files.{Ghosts}
 use Rattle.ml_base.specs.declared.names.Name.{Name}
 use Rattle.ml_base.specs.declared.part.PartError.{PartError}
-use Rattle.ml_base.specs.declared.part.PartError.TheVariants.{Fault}
 use Rattle.ml_base.proofs.DamagedNames.{err_damaged}
 
 -- the two laws of files that are used here: in a function they are `g.met.F.Files.kept_self` and `g.met.F.Files.kept_then`
