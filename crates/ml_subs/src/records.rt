@@ -40,18 +40,16 @@ fn next_moment(layout: Layout, text: &[u8]) -> Option<(u64, &[u8])>
     }
 }
 
-// The member of a record. Its text is an address, so nothing but memory can be wanting.
+// The member of a record, whose text is an address.
 pub(crate) fn member_from(alloc: Global, found: Record<'_>) -> Result<Member, AllocError>
     requires { IsAddress found.who.now }
     ensures { IfOk result (λ m. m ≡ as_member found.entry) }
 {
-    match Address::parse(alloc, found.who) {
-        Ok(who) => Ok(Member {
-            who,
-            since: found.since,
-        }),
-        Err(_) => Err(AllocError),
-    }
+    let who = Address::from_kept(alloc, found.who)?;
+    Ok(Member {
+        who,
+        since: found.since,
+    })
 }
 
 // The record that bytes begin with, and what is behind it, or None where none does.
