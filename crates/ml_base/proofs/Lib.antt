@@ -17,6 +17,7 @@ pub mod SortedLaws
 pub mod BelowLemmas
 pub mod AddressParts
 pub mod KeptAddresses
+pub mod RangeLemmas
 pub mod DamagedNames
 pub mod ReadingLemmas
-mod Rows
+mod Examples

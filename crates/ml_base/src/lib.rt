@@ -21,8 +21,6 @@ mod puts;
 mod ranges;
 mod row;
 mod splits;
-#[cfg(test)]
-mod tests;
 
 pub use address::{Address, AddressError, AddressFault, is_kept, make_address};
 pub use bytes::{Bytes, copied};

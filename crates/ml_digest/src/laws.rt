@@ -19,6 +19,11 @@ pub fn law_mark()
     ensures own { (dir other : Dir) (mark : Mark) → other mark_name ≡ dir mark_name → IsMark dir mark → IsMark other mark }
 {}
 
+/// A text is a digest of one number and one row of messages at most.
+pub fn law_burst()
+    ensures { (text : Text) (issue other : ℕ) (messages others : List Text) → IsDigest text issue messages → IsDigest text other others → (issue ≡ other) × (messages ≡ others) }
+{}
+
 /// A digest is taken apart into its number and the messages that were put into it, in order, whatever these are. The
 /// configuration is one that a list is made with, and neither the date nor a subject has an LF.
 pub fn law_digest_text()

@@ -276,7 +276,7 @@ pub(crate) fn rewritten(
     let prefix = due_prefix(alloc, message, prefix)?;
     let trailer = due_trailer(alloc, message, trailer)?;
     let room = room(message.bytes(), add, prefix, trailer);
-    let mut text = Bytes::from_vec(Vec::with_capacity(alloc, room)?);
+    let mut text = Bytes::with_capacity(alloc, room)?;
     text.extend(add)?;
     push_fields(&mut text, message.fields(), remove, prefix)?;
     text.push(b'\n')?;

@@ -10,3 +10,4 @@ pub mod MemSites
 pub mod Unfailed
 pub mod Moments
 pub mod Filled
+pub mod Planned

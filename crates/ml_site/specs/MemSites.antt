@@ -1,7 +1,8 @@
 -- What a site in memory shows.
-use Rattle.std.specs.Prelude.{ℕ, List, length, take}
+use Rattle.std.specs.Prelude.{ℕ, true, List, length, take}
 use Rattle.std.specs.Vec.{vec_capacity}
 use Rattle.ml_site.specs.declared.mem.MemSite.{MemSite}
+use Rattle.ml_site.specs.Clauses.{OnDisk, SameNumbers}
 use Rattle.ml_site.specs.Disk.{Contents, Disk}
 use Rattle.ml_site.specs.Recorded.{after, at_rest, contents, given, Left, total, size_synced, size_logged}
 
@@ -38,12 +39,12 @@ abbrev pub output_room : MemSite → ℕ
 output_room s = s.output_room
 
 -- how often a call on the disk has failed
-abbrev pub disk_faults : MemSite → ℕ
-disk_faults s = s.disk_faults
+abbrev pub site_disk_faults : MemSite → ℕ
+site_disk_faults s = s.disk_faults
 
 -- how often the output has failed
-abbrev pub output_faults : MemSite → ℕ
-output_faults s = s.output_faults
+abbrev pub site_output_faults : MemSite → ℕ
+site_output_faults s = s.output_faults
 
 -- the calls, counted from 1, that are to fail
 abbrev pub site_failing : MemSite → List ℕ
@@ -68,3 +69,11 @@ mem_syncs s = total size_synced s.calls.items
 -- how many bytes were handed to the log
 abbrev pub mem_log_bytes : MemSite → ℕ
 mem_log_bytes s = total size_logged s.calls.items
+
+-- what each call on the disk does beside
+abbrev pub MemOnDisk : MemSite → MemSite → Type 0
+MemOnDisk old new = OnDisk true mem_disk mem_output mem_calls mem_left_since site_disk_faults site_output_faults site_disk_calls old new
+
+-- neither a sync nor bytes for the log were counted
+abbrev pub MemSameNumbers : MemSite → MemSite → Type 0
+MemSameNumbers old new = SameNumbers true mem_syncs mem_log_bytes old new

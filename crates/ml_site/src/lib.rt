@@ -9,8 +9,6 @@ mod replay;
 mod site;
 mod source;
 mod streams;
-#[cfg(test)]
-mod tests;
 mod unfailing;
 
 pub use fill::Fill;

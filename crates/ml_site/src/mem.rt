@@ -1,9 +1,13 @@
 // A disk and an output in memory, with a record of its calls.
-ghost use Rattle.std.specs.Prelude.{◌≡◌, ℕ, ◌<◌, ◌≤◌, ◌+◌, ◌-◌, ◌^◌, nat_lt, nat_le, min, true, false, length, [], ◌∷◌, ◌++◌, if◌then◌else◌, IfOk, OnOk, OnErr, vec_len};
+ghost use Rattle.std.specs.Prelude.{◌≡◌, ℕ, ◌<◌, ◌≤◌, ◌+◌, ◌-◌, ◌^◌, nat_lt, nat_le, min, true, false, IsTrue, ◌↔◌, length, take, [], ◌∷◌, ◌++◌, if◌then◌else◌, IfOk, OnOk, OnErr, IsErrOf, Some, None, vec_len};
 ghost use Rattle.std.specs.Vec.{vec_capacity};
 ghost use Rattle.ml_base.specs.declared.names.Name.{Name as TheName};
 ghost use Rattle.ml_base.specs.Faults.{next_call};
-ghost use Rattle.ml_site.specs.Disk.{IsImage};
+ghost use Rattle.ml_base.specs.Faults.{Rose};
+ghost use Rattle.ml_base.specs.Name.{is_file};
+ghost use Rattle.ml_site.specs.Clauses.{SameDisk, ChangesPart};
+ghost use Rattle.ml_site.specs.declared.site.SiteError.TheVariants.{Failed as FailedCall};
+ghost use Rattle.ml_site.specs.Disk.{Contents, Range, Cut, File, IsImage, IsAtRest, Giving, Elapses, log_with, log_cut, file_with};
 ghost use Rattle.ml_site.specs.Filled.{filled};
 ghost use Rattle.ml_site.specs.Recorded.{contents, lookup, at_rest, after, given, Left, total, size_synced, size_logged};
 ghost use Rattle.ml_site.specs.Failing.{FailsAsPlanned};
@@ -42,12 +46,13 @@ pub struct MemSite {
     ghost files_are: { (name : TheName) → lookup files name
         ≡ (after (at_rest (contents start_log start_files)) calls.items).reads.files name },
     ghost output_is: { length output.items ≡ given calls.items },
+    ghost within: { length output.items ≤ output_room },
     ghost room: { output_room ≤ vec_capacity output },
 }
 
 impl MemSite {
     ghost use Rattle.ml_site.specs.MemSites.{mem_disk, mem_disk_at, mem_output, mem_output_at, mem_left_since, mem_calls, call_room, output_room};
-    ghost use Rattle.ml_site.specs.MemSites.{disk_faults, output_faults, site_failing, site_last, site_made};
+    ghost use Rattle.ml_site.specs.MemSites.{site_disk_faults, site_output_faults, site_failing, site_last, site_made};
 
     /// A site over an image, with room for `calls` calls and `output` bytes of output, which are reserved at once.
     /// No call is to fail, and nothing is pending.
@@ -60,8 +65,8 @@ impl MemSite {
         ensures disk { IfOk result (λ site. mem_disk site ≡ at_rest (contents image.log image.files)) }
         ensures output { IfOk result (λ site. mem_output site ≡ []) }
         ensures moment { IfOk result (λ site. mem_calls site ≡ 0) }
-        ensures disk_faults { IfOk result (λ site. disk_faults site ≡ 0) }
-        ensures output_faults { IfOk result (λ site. output_faults site ≡ 0) }
+        ensures disk_faults { IfOk result (λ site. site_disk_faults site ≡ 0) }
+        ensures output_faults { IfOk result (λ site. site_output_faults site ≡ 0) }
         ensures call_room { IfOk result (λ site. call_room site ≡ calls) }
         ensures output_room { IfOk result (λ site. output_room site ≡ output) }
         ensures failing { IfOk result (λ site. site_failing site ≡ []) }
@@ -98,8 +103,8 @@ impl MemSite {
         ensures calls { mem_calls self.new ≡ mem_calls self.old }
         ensures call_room { call_room self.new ≡ call_room self.old }
         ensures output_room { output_room self.new ≡ output_room self.old }
-        ensures disk_faults { disk_faults self.new ≡ disk_faults self.old }
-        ensures output_faults { output_faults self.new ≡ output_faults self.old }
+        ensures disk_faults { site_disk_faults self.new ≡ site_disk_faults self.old }
+        ensures output_faults { site_output_faults self.new ≡ site_output_faults self.old }
     {
         self.plan.failing = Numbers::from_vec(Vec::from_slice(alloc, calls)?);
         Ok(())
@@ -115,8 +120,8 @@ impl MemSite {
         ensures calls { mem_calls self.new ≡ mem_calls self.old }
         ensures call_room { call_room self.new ≡ call_room self.old }
         ensures output_room { output_room self.new ≡ output_room self.old }
-        ensures disk_faults { disk_faults self.new ≡ disk_faults self.old }
-        ensures output_faults { output_faults self.new ≡ output_faults self.old }
+        ensures disk_faults { site_disk_faults self.new ≡ site_disk_faults self.old }
+        ensures output_faults { site_output_faults self.new ≡ site_output_faults self.old }
     {
         self.last_call = k;
     }
@@ -151,26 +156,36 @@ impl MemSite {
 /// Counts a call, and answers whether it fails: its number is named or above the last one's, the record has no room for
 /// it, or it finds no room elsewhere, as `short` says.
 fn fails(plan: &mut FaultPlan, last: u64, calls: &Vec<Call>, short: bool) -> bool
-    ensures planned { FailsAsPlanned plan.old plan.new last (nat_le (vec_capacity calls.now) (vec_len calls.now)) short result }
+    ensures planned { FailsAsPlanned plan.old plan.new last (nat_le (vec_capacity calls.now) (length calls.now.items)) short result }
     ensures room { result ≡ false → vec_len calls.now < vec_capacity calls.now }
     ensures enough { result ≡ false → short ≡ false }
 {
-    let full = calls.capacity() <= calls.len();
+    let full = calls.capacity() <= calls.as_slice().len();
     plan.fails() || last < plan.made || full || short
 }
 
 /// Counts a fault, and adds the call that failed to the record, if there is room for it. It takes no memory.
 fn note_failure(calls: &mut Vec<Call>, faults: &mut u64, call: Call)
     ensures calls { calls.new.items
-        ≡ (if nat_lt (vec_len calls.old) (vec_capacity calls.old) then calls.old.items ++ call ∷ [] else calls.old.items) }
+        ≡ (if nat_lt (length calls.old.items) (vec_capacity calls.old) then calls.old.items ++ call ∷ [] else calls.old.items) }
     ensures room { vec_capacity calls.new ≡ vec_capacity calls.old }
     ensures faults { faults.new ≡ next_call faults.old }
     ensures later { faults.old ≤ faults.new }
 {
     *faults = faults.saturating_add(1);
-    if calls.len() < calls.capacity() {
+    if calls.as_slice().len() < calls.capacity() {
         calls.push_reserved(call);
     }
+}
+
+/// Whether an output that has this room, and no more than that in it, has none left for these bytes.
+fn is_short(output: &Vec<u8>, room: usize, bytes: &[u8]) -> bool
+    requires { length output.now.items ≤ room }
+    ensures short { IsTrue result ↔ room < length output.now.items + length bytes.now }
+    ensures enough { result ≡ false → vec_len output.now + length bytes.now ≤ room }
+    ensures fits { result ≡ false → length output.now.items + length bytes.now ≤ room }
+{
+    room - output.as_slice().len() < bytes.len()
 }
 
 /// Puts bytes out, for which there is room. It takes no memory.
@@ -183,6 +198,10 @@ fn put_out(output: &mut Vec<u8>, bytes: &[u8])
 }
 
 impl Site for MemSite {
+    ghost use Rattle.ml_site.specs.MemSites.{mem_disk, mem_output, mem_calls, mem_left_since, mem_syncs, mem_log_bytes, MemOnDisk, MemSameNumbers};
+    ghost use Rattle.ml_site.specs.MemSites.{site_disk_calls, site_disk_faults, site_output_faults};
+    ghost use Rattle.ml_site.specs.Planned.{DiskEnds, PlainEnds, GiveEnds};
+
     ghost tells_reads = { true };
 
     ghost tells_all = { true };
@@ -205,7 +224,14 @@ impl Site for MemSite {
 
     ghost output_faults = { λ s. s.output_faults };
 
-    fn read_log(&mut self, alloc: Global) -> Result<Bytes, SiteError> {
+    fn read_log(&mut self, alloc: Global) -> Result<Bytes, SiteError>
+        ensures bytes { IfOk result (λ v. v ≡ (mem_disk self.old).reads.log) }
+        ensures same { SameDisk true true mem_disk self.old self.new }
+        ensures keeps { MemOnDisk self.old self.new }
+        ensures numbers { MemSameNumbers self.old self.new }
+        ensures cause { IsErrOf result FailedCall → Rose (site_disk_faults self.old) (site_disk_faults self.new) }
+        ensures ends { DiskEnds result [] self.old self.new }
+    {
         self.disk_calls = self.disk_calls.saturating_add(1);
         if fails(&mut self.plan, self.last_call, &self.calls, false) {
             note_failure(&mut self.calls, &mut self.disk_faults, Call::Read);
@@ -216,7 +242,17 @@ impl Site for MemSite {
         Ok(bytes)
     }
 
-    fn write_log(&mut self, alloc: Global, at: u64, bytes: &[u8]) -> Result<(), SiteError> {
+    fn write_log(&mut self, alloc: Global, at: u64, bytes: &[u8]) -> Result<(), SiteError>
+        requires { at ≤ length (mem_disk self.old).reads.log }
+        ensures change { ChangesPart true true mem_disk result (Range at (length bytes.now))
+            (log_with (mem_disk self.old).reads at bytes.now) self.old self.new }
+        ensures keeps { MemOnDisk self.old self.new }
+        ensures syncs { mem_syncs self.new ≡ mem_syncs self.old }
+        ensures log_bytes { OnOk result (mem_log_bytes self.new ≡ mem_log_bytes self.old + length bytes.now) }
+        ensures log_bytes_stay { mem_log_bytes self.old ≤ mem_log_bytes self.new }
+        ensures cause { IsErrOf result FailedCall → Rose (site_disk_faults self.old) (site_disk_faults self.new) }
+        ensures ends { DiskEnds result (Range at (length bytes.now) ∷ []) self.old self.new }
+    {
         self.disk_calls = self.disk_calls.saturating_add(1);
         if fails(&mut self.plan, self.last_call, &self.calls, false) {
             let failed = Call::FailedLog(at, bytes.len() as u64);
@@ -230,7 +266,15 @@ impl Site for MemSite {
         Ok(())
     }
 
-    fn cut_log(&mut self, len: u64) -> Result<(), Failed> {
+    fn cut_log(&mut self, len: u64) -> Result<(), Failed>
+        requires { len ≤ length (mem_disk self.old).reads.log }
+        ensures change { ChangesPart true true mem_disk result (Cut len)
+            (log_cut (mem_disk self.old).reads len) self.old self.new }
+        ensures keeps { MemOnDisk self.old self.new }
+        ensures numbers { MemSameNumbers self.old self.new }
+        ensures cause { OnErr result (Rose (site_disk_faults self.old) (site_disk_faults self.new)) }
+        ensures ends { PlainEnds result (Cut len ∷ []) self.old self.new }
+    {
         self.disk_calls = self.disk_calls.saturating_add(1);
         if fails(&mut self.plan, self.last_call, &self.calls, false) {
             note_failure(&mut self.calls, &mut self.disk_faults, Call::FailedCut(len));
@@ -241,7 +285,15 @@ impl Site for MemSite {
         Ok(())
     }
 
-    fn read_file(&mut self, alloc: Global, name: Name) -> Result<Option<Bytes>, SiteError> {
+    fn read_file(&mut self, alloc: Global, name: Name) -> Result<Option<Bytes>, SiteError>
+        requires { IsTrue (is_file name) }
+        ensures bytes { IfOk result (λ o. o ≡ (mem_disk self.old).reads.files name) }
+        ensures same { SameDisk true true mem_disk self.old self.new }
+        ensures keeps { MemOnDisk self.old self.new }
+        ensures numbers { MemSameNumbers self.old self.new }
+        ensures cause { IsErrOf result FailedCall → Rose (site_disk_faults self.old) (site_disk_faults self.new) }
+        ensures ends { DiskEnds result [] self.old self.new }
+    {
         self.disk_calls = self.disk_calls.saturating_add(1);
         if fails(&mut self.plan, self.last_call, &self.calls, false) {
             note_failure(&mut self.calls, &mut self.disk_faults, Call::Read);
@@ -252,7 +304,15 @@ impl Site for MemSite {
         Ok(bytes)
     }
 
-    fn write_file(&mut self, alloc: Global, name: Name, bytes: &[u8]) -> Result<(), SiteError> {
+    fn write_file(&mut self, alloc: Global, name: Name, bytes: &[u8]) -> Result<(), SiteError>
+        requires { IsTrue (is_file name) }
+        ensures change { ChangesPart true true mem_disk result (File name)
+            (file_with (mem_disk self.old).reads name (Some bytes.now)) self.old self.new }
+        ensures keeps { MemOnDisk self.old self.new }
+        ensures numbers { MemSameNumbers self.old self.new }
+        ensures cause { IsErrOf result FailedCall → Rose (site_disk_faults self.old) (site_disk_faults self.new) }
+        ensures ends { DiskEnds result (File name ∷ []) self.old self.new }
+    {
         self.disk_calls = self.disk_calls.saturating_add(1);
         if fails(&mut self.plan, self.last_call, &self.calls, false) {
             note_failure(
@@ -271,7 +331,15 @@ impl Site for MemSite {
         Ok(())
     }
 
-    fn remove_file(&mut self, _alloc: Global, name: Name) -> Result<(), SiteError> {
+    fn remove_file(&mut self, _alloc: Global, name: Name) -> Result<(), SiteError>
+        requires { IsTrue (is_file name) }
+        ensures change { ChangesPart true true mem_disk result (File name)
+            (file_with (mem_disk self.old).reads name None) self.old self.new }
+        ensures keeps { MemOnDisk self.old self.new }
+        ensures numbers { MemSameNumbers self.old self.new }
+        ensures cause { IsErrOf result FailedCall → Rose (site_disk_faults self.old) (site_disk_faults self.new) }
+        ensures ends { DiskEnds result (File name ∷ []) self.old self.new }
+    {
         self.disk_calls = self.disk_calls.saturating_add(1);
         if fails(&mut self.plan, self.last_call, &self.calls, false) {
             note_failure(
@@ -286,7 +354,20 @@ impl Site for MemSite {
         Ok(())
     }
 
-    fn sync(&mut self) -> Result<(), Failed> {
+    fn sync(&mut self) -> Result<(), Failed>
+        ensures reads { (mem_disk self.new).reads ≡ (mem_disk self.old).reads }
+        ensures ok { OnOk result (IsAtRest (mem_disk self.new)) }
+        ensures err { OnErr result (mem_disk self.new ≡ mem_disk self.old) }
+        ensures crash { (left : Contents) → IsImage (mem_disk self.new) left → IsImage (mem_disk self.old) left }
+        ensures keeps { MemOnDisk self.old self.new }
+        ensures syncs { mem_syncs self.new ≤ mem_syncs self.old + 1 }
+        ensures syncs_ok { OnOk result (mem_syncs self.new ≡ mem_syncs self.old + 1) }
+        ensures syncs_err { OnErr result (mem_syncs self.new ≡ mem_syncs self.old) }
+        ensures syncs_stay { mem_syncs self.old ≤ mem_syncs self.new }
+        ensures log_bytes { mem_log_bytes self.new ≡ mem_log_bytes self.old }
+        ensures cause { OnErr result (Rose (site_disk_faults self.old) (site_disk_faults self.new)) }
+        ensures ends { PlainEnds result [] self.old self.new }
+    {
         self.disk_calls = self.disk_calls.saturating_add(1);
         if fails(&mut self.plan, self.last_call, &self.calls, false) {
             note_failure(&mut self.calls, &mut self.disk_faults, Call::FailedSync);
@@ -296,8 +377,20 @@ impl Site for MemSite {
         Ok(())
     }
 
-    fn give(&mut self, bytes: &[u8]) -> Result<(), Failed> {
-        let short = self.output_room - self.output.len().min(self.output_room) < bytes.len();
+    fn give(&mut self, bytes: &[u8]) -> Result<(), Failed>
+        ensures same { SameDisk true true mem_disk self.old self.new }
+        ensures ok { OnOk result (mem_output self.new ≡ mem_output self.old ++ bytes.now) }
+        ensures err { OnErr result ((n : ℕ) × (mem_output self.new ≡ mem_output self.old ++ take n bytes.now)) }
+        ensures time { Elapses (mem_calls self.old) (mem_calls self.new) (mem_left_since self.old) (mem_left_since self.new)
+            (Giving (mem_disk self.old) (mem_output self.old) bytes.now) }
+        ensures numbers { MemSameNumbers self.old self.new }
+        ensures faults { site_output_faults self.old ≤ site_output_faults self.new }
+        ensures cause { OnErr result (Rose (site_output_faults self.old) (site_output_faults self.new)) }
+        ensures others { site_disk_faults self.new ≡ site_disk_faults self.old }
+        ensures calls { site_disk_calls self.new ≡ site_disk_calls self.old }
+        ensures ends { GiveEnds result bytes.now self.old self.new }
+    {
+        let short = is_short(&self.output, self.output_room, bytes);
         if fails(&mut self.plan, self.last_call, &self.calls, short) {
             note_failure(&mut self.calls, &mut self.output_faults, Call::Give(0));
             return Err(Failed);

@@ -1,5 +1,5 @@
 // A source and a clock in memory, whose calls fail where they are told to.
-ghost use Rattle.std.specs.Prelude.{◌≡◌, ◌<◌, ◌≤◌, ◌^◌, ◌↔◌, length, drop, Some, IfOk, IsErr, OnErr, Contains};
+ghost use Rattle.std.specs.Prelude.{◌≡◌, ◌<◌, ◌≤◌, ◌^◌, ◌↔◌, min, length, drop, Some, IfOk, IsErr, OnErr, Contains};
 ghost use Rattle.ml_base.specs.Faults.{HasCause, next_call};
 ghost use Rattle.ml_site.specs.Source.{Takes, left-room};
 
@@ -50,6 +50,7 @@ impl Source for MemSource {
         ensures bound { IfOk result (λ count. count ≤ length buf.old) }
         ensures taken { IfOk result (λ count. Takes (mem_left self.old) (Some (mem_left self.new)) buf.new count) }
         ensures refused { OnErr result (mem_left self.new ≡ mem_left self.old) }
+        ensures count { IfOk result (λ count. count ≡ min (length (mem_left self.old)) (length buf.old)) }
         ensures cause { HasCause (source_faults self.old) (source_faults self.new) result }
         ensures named { IsErr result ↔ Contains (source_failing self.old) (source_made self.new) }
         ensures made { source_made self.new ≡ next_call (source_made self.old) }

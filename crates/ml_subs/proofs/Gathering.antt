@@ -1,23 +1,22 @@
 -- Buckets that are read one behind the other.
-use Rattle.std.proofs.Common.{◌≡◌, ℕ, zero, suc, ◌+◌, ◌-◌, ◌^◌, ◌<◌, ◌≤◌, Bool, true, false, cond, ◌==◌, List, [], ◌++◌, length, min, Some, refl, sym, ap, ap₂, ◌∙◌, subst, arith, add-one, inr}
+use Rattle.std.proofs.Common.{◌≡◌, ℕ, zero, suc, ◌+◌, ◌-◌, ◌^◌, ◌<◌, ◌≤◌, Bool, true, false, cond, ◌==◌, List, [], ◌++◌, length, min, Some, refl, sym, ap, ap₂, ◌∙◌, subst, arith, add-one, inl, inr}
 use Rattle.std.proofs.lemmas.Bool.{eqb-true, eqb-false, eq-eqb, ne_eqb}
 use Rattle.std.specs.List.Sorted.{IsPermutation, IsSortedByKey}
 use Rattle.ml_base.specs.Dir.{Dir}
-use Rattle.ml_base.specs.Faults.{Rose}
 use Rattle.ml_base.specs.Sorted.{byte_cmp}
 use Rattle.ml_base.specs.declared.names.Set.{Set}
 use Rattle.ml_base.specs.declared.names.Set.TheVariants as sets
 use Rattle.ml_base.specs.declared.names.Name.{Name}
 use Rattle.ml_base.specs.declared.part.PartError.{PartError}
-use Rattle.ml_base.specs.declared.part.PartError.TheVariants.{Fault, Memory, Damaged}
-use Rattle.ml_subs.specs.Answers.{OnDamaged}
+use Rattle.ml_base.specs.PartErrors.{OnDamaged}
 use Rattle.ml_subs.specs.declared.member_list.Member.{Member}
 use Rattle.ml_subs.specs.Members.{member_key}
 use Rattle.ml_subs.specs.Buckets.{IsBucketFile}
-use Rattle.ml_subs.specs.Subscribers.{AreBuckets, AreJoined, AreSubscribers, Breaks, IsNoBucket, IsNoCount, bucket_name, count_name, count_text}
+use Rattle.ml_subs.specs.Subscribers.{AreBuckets, AreJoined, AreSubscribers, Breaks, IsBadBucket, IsBucketName, IsNoCount, is_of_set, bucket_name, count_name, count_text}
 use Rattle.ml_subs.specs.Reading.{gathered, counted}
+use Rattle.ml_base.proofs.DamagedNames.{on_damaged}
 use Rattle.ml_subs.proofs.Rewritten.{count_one, some_one}
-use Rattle.ml_subs.proofs.Standing.{bucket_hashed, bucket_ordered, below_53, made_of, counted_one}
+use Rattle.ml_subs.proofs.Standing.{bucket_hashed, bucket_ordered, bucket_own, count_own, below_53, broken, made_of, counted_one}
 use Rattle.ml_subs.proofs.Together.{sorted_joined}
 
 -- the first buckets of a set
@@ -103,32 +102,28 @@ uncounted_set dir set found count all few there apart ms is =
     let same = count_one (length ms) count limit few (some_one _ _ (sym is.counted ∙ there)) in
     apart (omega (arith, all.2, size, same, limit))
 
--- a fault is one since an earlier count too
-pub rose_since : (first before now : ℕ) → first ≤ before → Rose before now → Rose first now
-rose_since first before now less rose = omega (arith, less, rose)
-
 -- nobody's count but that of the buckets
 pub no_count : (dir : Dir) (set : Set) (ms : List Member) → ((n : ℕ) → 0 ≤ n → n ≤ 100_000 → dir (count_name set) ≡ Some (count_text n) → ⊥) → AreSubscribers dir set ms → ⊥
 no_count dir set ms none is = none (length ms) (omega arith) is.few is.counted
 
--- a bucket that is named as damaged is outside its grammar
-pub damaged_at : (dir : Dir) (set : Set) (n : ℕ) (e : PartError) → n < 53 → OnDamaged e (λ name. name ≡ bucket_name set n) → OnDamaged e (λ name. IsNoBucket dir set n)
-    → OnDamaged e (λ name. (n : ℕ) × (n < 53) × (name ≡ bucket_name set n) × IsNoBucket dir set n)
-damaged_at dir set n Fault less named none = tt
-damaged_at dir set n Memory less named none = tt
-damaged_at dir set n (Damaged name) less named none = (n, less, named, none)
+-- a count outside its grammar breaks its set
+pub no_count_breaks : (dir : Dir) (set : Set) (buckets : ℕ → List Member) → AreBuckets dir set buckets → (name : Name) → name ≡ count_name set → IsNoCount dir set 0 → Breaks dir set name
+no_count_breaks dir set buckets files name named none = inr (named, (buckets, files), λ ms is. no_count dir set ms none is)
 
--- a count that is named as damaged breaks its set
-pub damaged_count : (dir : Dir) (set : Set) (e : PartError) → (buckets : ℕ → List Member) → AreBuckets dir set buckets → OnDamaged e (λ name. name ≡ count_name set) → OnDamaged e (λ name. IsNoCount dir set 0)
-    → OnDamaged e (Breaks dir set)
-damaged_count dir set Fault buckets files named none = tt
-damaged_count dir set Memory buckets files named none = tt
-damaged_count dir set (Damaged name) buckets files named none = inr (named, (buckets, files), λ ms is. no_count dir set ms none is)
+-- the buckets and the count of a set are its files
+pub bucket_of_set : (set : Set) (name : Name) → IsBucketName set name → is_of_set set name ≡ true
+bucket_of_set set name is = subst (λ (n : Name). is_of_set set n ≡ true) (sym is.2) (bucket_own set is.0 is.1)
 
-pub on_damaged_from : (e : PartError) (P Q : Name → Type 0) → OnDamaged e P → ((name : Name) → P name → Q name) → OnDamaged e Q
-on_damaged_from Fault P Q p h = tt
-on_damaged_from Memory P Q p h = tt
-on_damaged_from (Damaged name) P Q p h = h name p
+pub count_of_set : (set : Set) (name : Name) → name ≡ count_name set → is_of_set set name ≡ true
+count_of_set set name is = subst (λ (n : Name). is_of_set set n ≡ true) (sym is) (count_own set)
+
+-- where the files of a set stand for a list, none of its buckets is bad
+pub no_bad_buckets : (dir : Dir) (set : Set) (ms : List Member) → AreSubscribers dir set ms → (name : Name) → IsBadBucket dir set name → ⊥
+no_bad_buckets dir set ms is name bad = broken dir set name ms (inl bad) is
+
+-- where the files of each set stand for a list, none breaks its set
+pub sound_sets : (dir : Dir) → ((set : Set) → (ms : List Member) × AreSubscribers dir set ms) → (e : PartError) → OnDamaged e (λ name. (set : Set) × Breaks dir set name) → OnDamaged e (λ _. ⊥)
+sound_sets dir all e bad = on_damaged e (λ name. (set : Set) × Breaks dir set name) (λ _. ⊥) (λ name b. broken dir b.0 name (all b.0).0 b.1 (all b.0).1) bad
 
 -- what holds of each of the five sets
 pub each_set : (P : Set → Type 0) → P sets.List → P sets.Digest → P sets.Allow → P sets.Deny → P sets.Moderators → (set : Set) → P set

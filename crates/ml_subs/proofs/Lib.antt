@@ -1,5 +1,5 @@
 pub mod Orders
-pub mod Kept
+pub mod Options
 pub mod Spelled
 pub mod Placed
 pub mod Rewritten
@@ -7,4 +7,4 @@ pub mod Together
 pub mod Standing
 pub mod Answering
 pub mod Gathering
-mod Rows
+mod Examples

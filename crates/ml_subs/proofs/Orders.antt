@@ -13,7 +13,8 @@ use Rattle.ml_base.specs.Sorted.{byte_cmp}
 use Rattle.ml_base.proofs.SortedLaws.{bytes_total, same_bytes}
 use Rattle.ml_subs.specs.declared.member_list.Member.{Member}
 use Rattle.ml_subs.specs.Members.{IsOrdered}
-use Rattle.ml_subs.specs.Reading.{is_below, rises}
+use Rattle.ml_base.specs.Keys.{is_below}
+use Rattle.ml_subs.specs.Reading.{rises}
 
 pub less : (r : Ordering) → is_lt r ≡ true → r ≡ Less
 less Less e = refl

@@ -1,5 +1,5 @@
 -- Where a key stands among members that are read.
-use Rattle.std.proofs.Common.{◌≡◌, ℕ, ◌+◌, ◌<◌, Bool, true, false, List, [], ◌∷◌, ◌++◌, length, take, drop, get_or, Some, None, refl, sym, ap, ◌∙◌, subst, arith, length-append}
+use Rattle.std.proofs.Common.{◌≡◌, ℕ, ◌+◌, ◌<◌, Bool, true, false, List, [], ◌∷◌, ◌++◌, length, take, drop, get_or, Option, Some, None, refl, sym, ap, ◌∙◌, subst, arith, length-append}
 use Rattle.std.proofs.lemmas.Bool.{and_parts, and_from}
 use Rattle.std.proofs.lemmas.List.{take_at, drop_at}
 use Rattle.std.specs.List.{list_all, AllByRecursion}
@@ -12,7 +12,8 @@ use Rattle.ml_subs.specs.declared.member_list.Member.{Member}
 use Rattle.ml_subs.specs.declared.records.Layout.{Layout}
 use Rattle.ml_subs.specs.declared.records.Layout.TheVariants.{Undated, Dated}
 use Rattle.ml_subs.specs.Buckets.{IsBucket, IsMember, bucket_text, layout_line, records}
-use Rattle.ml_subs.specs.Reading.{IsRecord, BeginsWith, AreRead, Leads, AreSkipped, IsSameKey, Sides, joined, IsFront, rises, is_below}
+use Rattle.ml_base.specs.Keys.{is_below}
+use Rattle.ml_subs.specs.Reading.{IsRecord, BeginsWith, AreRead, Leads, AreSkipped, IsSameKey, Sides, joined, IsFront, rises}
 use Rattle.ml_subs.proofs.Orders.{rising_ordered, ordered_rising, below_then, above_else}
 use Rattle.ml_subs.proofs.Spelled.{read_first, read_more, read_behind, record_one, record_parts}
 
@@ -85,49 +86,46 @@ each_record layout n (m ∷ ms) all =
 
 module _ (layout : Layout) (n : ℕ) (who text : Text) (size : ℕ) (skip : AreSkipped layout n who text size) where
   -- the place of a key, once those behind it are read
-  pub place_found : (before behind : Text) (found : Bool) (above : List Member) → before ≡ take size text → IsSameKey layout n who (drop size text) found behind → AreRead layout n who behind above
-      → (s : Sides layout who before found behind) × AreRead layout n [] text (joined s)
-  place_found before behind true above front same read =
-      let m : Member = same.0 in
-      let rest : AreRead layout n m.who behind above = same_floor layout n who m.who behind above (sym same.3) read in
-      let low : is_below skip.last m.who ≡ true = ap (λ k. is_lt (byte_cmp (key skip.last) k)) same.3 ∙ skip.under in
-      let all = skip.leads.whole (m ∷ above) (read_more layout n skip.last (drop size text) m behind above same.1 same.2 low rest) in (
+  pub place_found : (before behind : Text) (here : Option Member) (above : List Member) → before ≡ take size text → IsSameKey layout n who (drop size text) here behind → AreRead layout n who behind above
+      → (s : Sides layout who before here behind) × AreRead layout n [] text (joined s)
+  place_found before behind (Some m) above front same read =
+      let own : IsMember layout n m = same.1 in
+      let rest : AreRead layout n m.who behind above = same_floor layout n who m.who behind above (sym same.2) read in
+      let low : is_below skip.last m.who ≡ true = ap (λ k. is_lt (byte_cmp (key skip.last) k)) same.2 ∙ skip.under in
+      let all = skip.leads.whole (m ∷ above) (read_more layout n skip.last (drop size text) m behind above same.0 own low rest) in (
         record {
           below = skip.below;
-          here = Some m;
           above = above;
           lower = skip.lower;
           higher = (rising_ordered who above read.rising).0;
-          is = same.3;
-          told = refl;
+          is = same.2;
+          record_here = record { address = own.address; since = own.since };
           around = record { front = front ∙ skip.front; back = read.spelled; each_below = each_record layout n skip.below skip.leads.each; each_above = each_record layout n above read.each };
         },
         all,
       )
-  place_found before behind false above front same read =
+  place_found before behind None above front same read =
       let there : AreRead layout n who (drop size text) above = subst (λ t. AreRead layout n who t above) same.0 read in
       let all = skip.leads.whole above (lower_floor layout n who skip.last (drop size text) above skip.under there) in (
         record {
           below = skip.below;
-          here = None;
           above = above;
           lower = skip.lower;
           higher = (rising_ordered who above read.rising).0;
           is = tt;
-          told = refl;
+          record_here = tt;
           around = record { front = front ∙ skip.front; back = read.spelled; each_below = each_record layout n skip.below skip.leads.each; each_above = each_record layout n above read.each };
         },
         all,
       )
 
   -- and where they aren't read, nor is the whole
-  pub place_nowhere : (behind : Text) (found : Bool) → IsSameKey layout n who (drop size text) found behind → ((ms : List Member) → AreRead layout n who behind ms → ⊥) → (all : List Member) → AreRead layout n [] text all → ⊥
-  place_nowhere behind true same none all is =
+  pub place_nowhere : (behind : Text) (here : Option Member) → IsSameKey layout n who (drop size text) here behind → ((ms : List Member) → AreRead layout n who behind ms → ⊥) → (all : List Member) → AreRead layout n [] text all → ⊥
+  place_nowhere behind (Some m) same none all is =
       let rest = skip.leads.only all is in
-      let m : Member = same.0 in
-      let others = read_behind layout n skip.last (drop size text) m behind rest.0 same.1 rest.2 in
-      none others.0 (same_floor layout n m.who who behind others.0 same.3 others.2)
-  place_nowhere behind false same none all is =
+      let others = read_behind layout n skip.last (drop size text) m behind rest.0 same.0 rest.2 in
+      none others.0 (same_floor layout n m.who who behind others.0 same.2 others.2)
+  place_nowhere behind None same none all is =
       let rest = skip.leads.only all is in
       none rest.0 (subst (λ t. AreRead layout n who t rest.0) (sym same.0) (go rest.0 rest.2))
     where

@@ -16,8 +16,9 @@ use Rattle.ml_base.proofs.SplitLaws.{first_written, first_read}
 use Rattle.ml_subs.specs.declared.member_list.Member.{Member}
 use Rattle.ml_subs.specs.declared.records.Layout.{Layout}
 use Rattle.ml_subs.specs.declared.records.Layout.TheVariants.{Undated, Dated}
-use Rattle.ml_subs.specs.Buckets.{bucket_of, IsTold, IsMember, moment_text, record_text, records}
-use Rattle.ml_subs.specs.Reading.{BeginsWith, AreRead, Leads, rises, is_below, member_by}
+use Rattle.ml_subs.specs.Buckets.{bucket_of, IsMomentIn, IsMember, moment_text, record_text, records}
+use Rattle.ml_base.specs.Keys.{is_below}
+use Rattle.ml_subs.specs.Reading.{BeginsWith, AreRead, Leads, rises, member_by}
 
 abbrev two : Text → Text → Option (Text × Text)
 two a b = Some (a, b)
@@ -40,7 +41,7 @@ decimal_one m n small fits e =
     cc
 
 -- a moment is read from the bytes that it begins
-pub moment_one : (layout : Layout) (s t : ℕ) (a b : Text) → IsTold layout s → IsTold layout t → moment_text layout s ++ a ≡ moment_text layout t ++ b → (s ≡ t) × (a ≡ b)
+pub moment_one : (layout : Layout) (s t : ℕ) (a b : Text) → IsMomentIn layout s → IsMomentIn layout t → moment_text layout s ++ a ≡ moment_text layout t ++ b → (s ≡ t) × (a ≡ b)
 moment_one Undated s t a b is other e = (is ∙ sym other, e)
 moment_one Dated s t a b is other e =
     let first = first_written 0 (decimal s) a (decimal_clean s (omega arith)) in
@@ -159,23 +160,23 @@ leads_nowhere layout n floor text done last left before some none all is = let r
     go (m ∷ ms) is = none m ms is
 
 -- bytes without a NUL begin with no moment of layout 2
-pub no_digits : (layout : Layout) (text : Text) → layout ≡ Dated → None ≡ split_first 0 text → (since : ℕ) (more : Text) → IsTold layout since → text ≡ moment_text layout since ++ more → ⊥
-no_digits Undated text is none since more told e = cc
-no_digits Dated text is none since more told e =
+pub no_digits : (layout : Layout) (text : Text) → layout ≡ Dated → None ≡ split_first 0 text → (since : ℕ) (more : Text) → IsMomentIn layout since → text ≡ moment_text layout since ++ more → ⊥
+no_digits Undated text is none since more moment e = cc
+no_digits Dated text is none since more moment e =
     let bad : None ≡ two (decimal since) more = none ∙ ap (split_first 0) (e ∙ append_assoc (decimal since) (0 ∷ []) more) ∙ first_written 0 (decimal since) more (decimal_clean since (omega arith)) in
     cc
 
 -- nor do those whose first text is no number up to the last moment
 pub no_number : (layout : Layout) (text digits rest : Text) → layout ≡ Dated → two digits rest ≡ split_first 0 text → number_within 253_402_300_799 digits ≡ None
-    → (since : ℕ) (more : Text) → IsTold layout since → text ≡ moment_text layout since ++ more → ⊥
-no_number Undated text digits rest is cut none since more told e = cc
-no_number Dated text digits rest is cut none since more told e =
+    → (since : ℕ) (more : Text) → IsMomentIn layout since → text ≡ moment_text layout since ++ more → ⊥
+no_number Undated text digits rest is cut none since more moment e = cc
+no_number Dated text digits rest is cut none since more moment e =
     let same : two digits rest ≡ two (decimal since) more = cut ∙ ap (split_first 0) (e ∙ append_assoc (decimal since) (0 ∷ []) more) ∙ first_written 0 (decimal since) more (decimal_clean since (omega arith)) in
     let bad : None ≡ Some since = sym none ∙ ap (number_within 253_402_300_799) (ap before_at same) ∙ number_read 253_402_300_799 since (omega arith) (omega arith) in
     cc
 
 pub moment_read : (layout : Layout) (text digits rest : Text) (n : ℕ) → layout ≡ Dated → two digits rest ≡ split_first 0 text → number_within 253_402_300_799 digits ≡ Some n
-    → IsTold layout n × (text ≡ moment_text layout n ++ rest)
+    → IsMomentIn layout n × (text ≡ moment_text layout n ++ rest)
 moment_read Undated text digits rest n is cut number = cc
 moment_read Dated text digits rest n is cut number =
     let spelled = number_spelled 253_402_300_799 digits n (omega arith) number in
@@ -210,7 +211,7 @@ no_address layout text who rest cut none m more is =
     none (subst IsAddress (sym (ap before_at same)) is.is.address)
 
 -- nor those with no moment behind the address
-pub no_moment : (layout : Layout) (text who rest : Text) → two who rest ≡ split_first 0 (body text) → ((since : ℕ) (more : Text) → IsTold layout since → rest ≡ moment_text layout since ++ more → ⊥)
+pub no_moment : (layout : Layout) (text who rest : Text) → two who rest ≡ split_first 0 (body text) → ((since : ℕ) (more : Text) → IsMomentIn layout since → rest ≡ moment_text layout since ++ more → ⊥)
     → (m : Member) (more : Text) → BeginsWith layout text m more → ⊥
 no_moment layout text who rest cut none m more is =
     let same : two who rest ≡ two m.who (moment_text layout m.since ++ more) = cut ∙ cut_is layout text m more is in
@@ -218,9 +219,9 @@ no_moment layout text who rest cut none m more is =
 
 -- what was read in turn is a record
 pub record_read : (layout : Layout) (text who rest : Text) (since : ℕ) (more : Text) → 1 ≤ length text → get_or text 0 0 ≡ 84 → two who rest ≡ split_first 0 (body text) → IsAddress who
-    → IsTold layout since → rest ≡ moment_text layout since ++ more → BeginsWith layout text (member_by who since) more
-record_read layout text who rest since more some first cut is told e = record {
-  is = record { address = is; since = told };
+    → IsMomentIn layout since → rest ≡ moment_text layout since ++ more → BeginsWith layout text (member_by who since) more
+record_read layout text who rest since more some first cut is moment e = record {
+  is = record { address = is; since = moment };
   spelled = front text some first ∙ ap (λ t. 84 ∷ t) (sym (behind_one text) ∙ (first_read 0 (body text) who rest (sym cut)).0 ∙ ap (λ t. who ++ 0 ∷ t) e) ∙ sym (record_parts layout (member_by who since) more);
 }
   where

@@ -1,12 +1,13 @@
 -- What the files of a set stand for.
-use Rattle.std.proofs.Common.{◌≡◌, ◌≢◌, ℕ, zero, suc, ◌+◌, ◌<◌, ◌≤◌, Bool, true, false, not, cond, ◌==◌, ◌&&◌, ◌||◌, List, [], ◌∷◌, ◌++◌, length, get_or, Option, Some, None, is_some, refl, sym, ap, ◌∙◌, subst, arith, inl, inr}
-use Rattle.std.proofs.lemmas.Bool.{and_parts, and_from, or_parts, or_left, or_from, eqb-true, eqb-false, eq-eqb, ne_eqb}
+use Rattle.std.proofs.Common.{◌≡◌, ◌≢◌, ℕ, zero, suc, ◌+◌, ◌<◌, ◌≤◌, Bool, true, false, not, cond, ◌==◌, ◌&&◌, ◌||◌, nat_lt, List, [], ◌∷◌, ◌++◌, length, get_or, Option, Some, None, is_some, refl, sym, ap, ap₂, ◌∙◌, subst, arith, inl, inr}
+use Rattle.std.proofs.lemmas.Bool.Decides.{nat_tests}
+use Rattle.std.proofs.lemmas.Bool.{and_parts, and_from, or_parts, or_left, or_from, eqb-true, eqb-false, eq-eqb, ne_eqb, lt-ltb}
 use Rattle.std.specs.Ordering.{eq_by_cmp}
 use Rattle.std.specs.List.{list_all, AllByRecursion}
 use Rattle.ml_base.specs.Bytes.{Text}
 use Rattle.ml_base.specs.Address.{key, IsAddress}
 use Rattle.ml_base.specs.Dir.{Dir, with_puts, same_name, touches_only}
-use Rattle.ml_base.specs.Name.{set_kind, set_number}
+use Rattle.ml_base.specs.Name.{set_kind, set_number, is_file}
 use Rattle.ml_base.specs.Sorted.{byte_cmp}
 use Rattle.ml_base.specs.declared.names.Name.{Name}
 use Rattle.ml_base.specs.declared.names.Set.{Set}
@@ -17,11 +18,13 @@ use Rattle.ml_base.proofs.SortedLaws.{same_bytes, bytes_total, found_with, found
 use Rattle.ml_subs.specs.declared.member_list.Member.{Member}
 use Rattle.ml_subs.specs.declared.records.Layout.{Layout}
 use Rattle.ml_subs.specs.declared.records.Layout.TheVariants.{Undated, Dated}
-use Rattle.ml_subs.specs.Members.{member_key, member_of, has_key, with_member, without_member, IsOrdered, IsMoment}
+use Rattle.ml_base.specs.Ranges.{IsMoment}
+use Rattle.ml_subs.specs.Members.{member_key, member_of, has_key, with_member, without_member, IsOrdered}
 use Rattle.ml_subs.specs.Buckets.{bucket_of, bucket_file, bucket_text, layout_line, records, IsBucket, IsBucketFile, IsMember}
-use Rattle.ml_subs.specs.Subscribers.{AreBuckets, AreJoined, AreSubscribers, Breaks, bucket_name, count_name, count_text, is_of_set, is_touched}
+use Rattle.ml_subs.specs.Subscribers.{AreBuckets, AreJoined, AreSubscribers, IsBucketOf, Breaks, bucket_name, count_name, count_text, is_of_set, is_touched}
 use Rattle.ml_subs.specs.Answers.{changes}
-use Rattle.ml_subs.specs.Reading.{AreRead, IsFront, is_below, counted}
+use Rattle.ml_base.specs.Keys.{is_below}
+use Rattle.ml_subs.specs.Reading.{AreRead, IsFront, counted}
 use Rattle.ml_subs.proofs.Orders.{not_below}
 use Rattle.ml_subs.proofs.Spelled.{read_first, read_behind, read_empty, record_parts}
 use Rattle.ml_subs.proofs.Placed.{layout_only}
@@ -92,11 +95,14 @@ pub subscribers_one : (dir : Dir) (set : Set) (ms others : List Member) → AreS
 subscribers_one dir set ms others is other = joined_one dir set ms others is.members other.members
 
 -- what a set has under a key is what its bucket has
-pub found_in_bucket : (dir : Dir) (set : Set) (ms bucket : List Member) (k : Text) → AreJoined dir set ms → IsBucketFile (bucket_of k) (dir (bucket_name set (bucket_of k))) bucket → member_of k ms ≡ member_of k bucket
+pub found_in_bucket : (dir : Dir) (set : Set) (ms bucket : List Member) (k : Text) → AreJoined dir set ms → IsBucketOf dir set k bucket → member_of k ms ≡ member_of k bucket
 found_in_bucket dir set ms bucket k is file =
     is.joined k ∙ ap (member_of k) (bucket_one (bucket_of k) (dir (bucket_name set (bucket_of k))) (is.buckets (bucket_of k)) bucket (is.files (bucket_of k) (below_53 k)) file)
 
 -- names
+
+abbrev name_of : ℕ → ℕ → Name
+name_of k a = record { kind = k; at = a }
 
 kind_apart : (set : Set) → (set_kind set == 8) ≡ false
 kind_apart sets.List = refl
@@ -105,18 +111,48 @@ kind_apart sets.Allow = refl
 kind_apart sets.Deny = refl
 kind_apart sets.Moderators = refl
 
-bucket_own : (set : Set) (n : ℕ) → is_of_set set (bucket_name set n) ≡ true
-bucket_own set n = or_left _ _ (eq-eqb (set_kind set) (set_kind set) refl)
+pub bucket_own : (set : Set) (n : ℕ) → n < 53 → is_of_set set (bucket_name set n) ≡ true
+bucket_own set n less = or_left _ _ (and_from _ _ (eq-eqb (set_kind set) (set_kind set) refl) (lt-ltb n 53 less))
 
-name_itself : (name : Name) → same_name name name ≡ true
+pub name_itself : (name : Name) → same_name name name ≡ true
 name_itself name = and_from _ _ (eq-eqb name.kind name.kind refl) (eq-eqb name.at name.at refl)
 
-count_own : (set : Set) → is_of_set set (count_name set) ≡ true
-count_own set = ap (λ b. (8 == set_kind set) || b) (name_itself (count_name set)) ∙ or_true (8 == set_kind set)
+pub count_own : (set : Set) → is_of_set set (count_name set) ≡ true
+count_own set = ap (λ b. ((8 == set_kind set) && nat_lt (set_number set) 53) || b) (name_itself (count_name set)) ∙ or_true _
   where
     or_true : (b : Bool) → (b || true) ≡ true
     or_true true = refl
     or_true false = refl
+
+bucket_file_name : (set : Set) (at : ℕ) → nat_lt at 53 ≡ true → is_file (bucket_name set at) ≡ true
+bucket_file_name sets.List at less = grind (arith, nat_tests)
+bucket_file_name sets.Digest at less = grind (arith, nat_tests)
+bucket_file_name sets.Allow at less = grind (arith, nat_tests)
+bucket_file_name sets.Deny at less = grind (arith, nat_tests)
+bucket_file_name sets.Moderators at less = grind (arith, nat_tests)
+
+count_file_name : (set : Set) → is_file (count_name set) ≡ true
+count_file_name sets.List = refl
+count_file_name sets.Digest = refl
+count_file_name sets.Allow = refl
+count_file_name sets.Deny = refl
+count_file_name sets.Moderators = refl
+
+same_names : (k a l b : ℕ) → k ≡ l → a ≡ b → name_of k a ≡ name_of l b
+same_names k a l b e f = ap₂ name_of e f
+
+-- the files of a set are files of the table
+pub own_table : (set : Set) (name : Name) → is_of_set set name ≡ true → is_file name ≡ true
+own_table set name own = go ((name.kind == set_kind set) && nat_lt name.at 53) refl
+  where
+    go : (t : Bool) → ((name.kind == set_kind set) && nat_lt name.at 53) ≡ t → is_file name ≡ true
+    go true e =
+        let parts = and_parts (name.kind == set_kind set) (nat_lt name.at 53) e in
+        subst (λ (k : ℕ). is_file (record { kind = k; at = name.at }) ≡ true) (sym (eqb-true name.kind (set_kind set) parts.0)) (bucket_file_name set name.at parts.1)
+    go false e =
+        let count : same_name name (count_name set) ≡ true = sym (ap (λ t. t || same_name name (count_name set)) e) ∙ own in
+        let parts = and_parts (name.kind == 8) (name.at == set_number set) count in
+        subst (λ (n : Name). is_file n ≡ true) (sym (same_names name.kind name.at 8 (set_number set) (eqb-true name.kind 8 parts.0) (eqb-true name.at (set_number set) parts.1))) (count_file_name set)
 
 -- the relation depends on the set's own files
 pub own_files : (dir other : Dir) (set : Set) (ms : List Member) → ((name : Name) → is_of_set set name ≡ true → other name ≡ dir name) → AreSubscribers dir set ms → AreSubscribers other set ms
@@ -124,7 +160,7 @@ own_files dir other set ms same is = record {
   members = record {
     ordered = is.members.ordered;
     buckets = is.members.buckets;
-    files = λ n less. subst (λ (f : Option Text). IsBucketFile n f (is.members.buckets n)) (sym (same (bucket_name set n) (bucket_own set n))) (is.members.files n less);
+    files = λ n less. subst (λ (f : Option Text). IsBucketFile n f (is.members.buckets n)) (sym (same (bucket_name set n) (bucket_own set n less))) (is.members.files n less);
     joined = is.members.joined;
   };
   few = is.few;
@@ -238,7 +274,7 @@ none_of None e = refl
 none_of (Some m) e = cc
 
 pub added : (dir : Dir) (set : Set) (ms bucket : List Member) (m : Member) → AreSubscribers dir set ms → IsAddress m.who → IsMoment m.since → has_key (member_key m) ms ≡ false → length ms < 100_000
-    → IsBucketFile (bucket_of (member_key m)) (dir (bucket_name set (bucket_of (member_key m)))) bucket
+    → IsBucketOf dir set (member_key m) bucket
     → AreSubscribers (with_puts dir (changes set (bucket_of (member_key m)) (bucket_file (with_member m bucket)) (length ms + 1))) set (with_member m ms)
 added dir set ms bucket m is address moment absent room file =
     let k = member_key m in
@@ -258,7 +294,7 @@ abbrev ones : Bool → ℕ
 ones t = cond t 1 0
 
 pub removed : (dir : Dir) (set : Set) (ms bucket : List Member) (k : Text) (n : ℕ) → AreSubscribers dir set ms → has_key k ms ≡ true → length ms ≡ n + 1
-    → IsBucketFile (bucket_of k) (dir (bucket_name set (bucket_of k))) bucket
+    → IsBucketOf dir set k bucket
     → AreSubscribers (with_puts dir (changes set (bucket_of k) (bucket_file (without_member k bucket)) n)) set (without_member k ms)
 removed dir set ms bucket k n is there one file =
     let parts : cond (is_some (member_of k ms)) 1 0 + length (without_member k ms) ≡ length ms = length_left byte_cmp member_key same_bytes bytes_total k ms is.members.ordered in
@@ -324,7 +360,7 @@ other_files set other k name apart own = go (name.kind == set_kind other) refl
         let kind = eqb-true name.kind (set_kind other) e in
         or_from _ _ (and_false _ _ (ne_eqb name.kind (set_kind set) (λ f. numbers (omega (arith, f, kind))))) (and_false _ _ (ne_eqb name.kind 8 (λ f. omega (arith, f, kind, two))))
     go false e =
-        let count : same_name name (count_name other) ≡ true = sym (ap (λ t. t || same_name name (count_name other)) e) ∙ own in
+        let count : same_name name (count_name other) ≡ true = sym (ap (λ t. (t && nat_lt name.at 53) || same_name name (count_name other)) e) ∙ own in
         let parts = and_parts (name.kind == 8) (name.at == set_number other) count in
         let kind = eqb-true name.kind 8 parts.0 in
         let at = eqb-true name.at (set_number other) parts.1 in
@@ -332,7 +368,18 @@ other_files set other k name apart own = go (name.kind == set_kind other) refl
 
 -- a file that is touched is the set's
 touched_own : (set : Set) (k : Text) (name : Name) → is_of_set set name ≡ false → is_touched set k name ≡ false
-touched_own set k name not = let parts = or_parts (name.kind == set_kind set) (same_name name (count_name set)) not in or_from _ _ (and_false _ _ parts.0) parts.1
+touched_own set k name not =
+    let parts = or_parts ((name.kind == set_kind set) && nat_lt name.at 53) (same_name name (count_name set)) not in
+    or_from _ _ (go (name.kind == set_kind set) refl parts.0) parts.1
+  where
+    go : (t : Bool) → (name.kind == set_kind set) ≡ t → ((name.kind == set_kind set) && nat_lt name.at 53) ≡ false → same_name name (bucket_name set (bucket_of k)) ≡ false
+    go false e none = and_false _ _ e
+    go true e none =
+        let high : nat_lt name.at 53 ≡ false = sym (ap (λ t. t && nat_lt name.at 53) e) ∙ none in
+        let low = below_53 k in
+        false_and (name.kind == set_kind set) _
+        (ne_eqb name.at (bucket_of k)
+        (λ f. let less : nat_lt name.at 53 ≡ true = lt-ltb name.at 53 (omega (arith, f, low)) in let bad : true ≡ false = sym less ∙ high in cc))
 
 pub kept_elsewhere : (dir : Dir) (set : Set) (k : Text) (puts : List Put) (name : Name) → touches_only (is_touched set k) puts ≡ true → is_of_set set name ≡ false → with_puts dir puts name ≡ dir name
 kept_elsewhere dir set k puts name only not = left_alone (is_touched set k) dir puts name only (touched_own set k name not)

@@ -18,7 +18,8 @@ use Rattle.ml_base.proofs.SortedLaws.{bytes_total, same_bytes, found_with, sorte
 use Rattle.ml_subs.specs.declared.member_list.Member.{Member}
 use Rattle.ml_subs.specs.Members.{member_key, member_of, with_member, IsOrdered}
 use Rattle.ml_subs.specs.Buckets.{bucket_of}
-use Rattle.ml_subs.specs.Reading.{is_below, rises, gathered, counted, member_by}
+use Rattle.ml_base.specs.Keys.{is_below}
+use Rattle.ml_subs.specs.Reading.{rises, gathered, counted, member_by}
 use Rattle.ml_subs.proofs.Orders.{not_equal, rising_ordered}
 
 abbrev AreIn : ℕ → List Member → Type 0

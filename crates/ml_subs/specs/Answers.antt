@@ -2,23 +2,14 @@
 use Rattle.std.specs.Prelude.{◌≡◌, ◌<◌, ◌+◌, ℕ, true, false, List, [], ◌∷◌, length, Option, Some, None}
 use Rattle.ml_base.specs.Bytes.{Text}
 use Rattle.ml_base.specs.Dir.{Dir, with_puts}
-use Rattle.ml_base.specs.declared.names.Name.{Name}
 use Rattle.ml_base.specs.declared.names.Set.{Set}
 use Rattle.ml_base.specs.declared.puts.Put.{Put}
-use Rattle.ml_base.specs.declared.part.PartError.{PartError}
-use Rattle.ml_base.specs.declared.part.PartError.TheVariants.{Fault, Memory, Damaged}
 use Rattle.ml_subs.specs.declared.member_list.Member.{Member}
 use Rattle.ml_subs.specs.declared.changing.AddAnswer.{AddAnswer}
 use Rattle.ml_subs.specs.declared.changing.AddAnswer.TheVariants.{Added, Already, Full}
 use Rattle.ml_subs.specs.Members.{has_key, with_member, without_member, member_key}
 use Rattle.ml_subs.specs.Buckets.{bucket_of, bucket_file}
 use Rattle.ml_subs.specs.Subscribers.{AreSubscribers, bucket_name, count_name, count_text}
-
--- a file that is named as damaged has this property
-abbrev pub OnDamaged : PartError → (Name → Type 0) → Type 0
-OnDamaged Fault P = Unit {0}
-OnDamaged Memory P = Unit {0}
-OnDamaged (Damaged name) P = P name
 
 -- the puts that make a bucket's file and the count what they are to be
 abbrev pub changes : Set → ℕ → Option Text → ℕ → List Put

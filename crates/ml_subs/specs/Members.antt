@@ -1,5 +1,5 @@
 -- Members of a set, in the order of their keys.
-use Rattle.std.specs.Prelude.{◌≡◌, ◌<◌, ℕ, true, Bool, List, Option, is_some}
+use Rattle.std.specs.Prelude.{◌≡◌, true, Bool, List, Option, is_some}
 use Rattle.ml_base.specs.Bytes.{Text}
 use Rattle.ml_base.specs.Address.{key}
 use Rattle.ml_base.specs.Sorted.{byte_cmp, entry_of, is_sorted, with_entry, without_key}
@@ -28,7 +28,3 @@ with_member m ms = with_entry byte_cmp member_key m ms
 -- the list without the member of this key
 abbrev pub without_member : Text → List Member → List Member
 without_member k ms = without_key byte_cmp member_key k ms
-
--- seconds since 1970, before the year 10000
-abbrev pub IsMoment : ℕ → Type 0
-IsMoment n = n < 253_402_300_800

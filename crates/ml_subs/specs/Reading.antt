@@ -1,24 +1,19 @@
 -- Bytes that are read as members, from a place on.
-use Rattle.std.specs.Prelude.{◌≡◌, ◌≢◌, ◌≤◌, ◌+◌, ℕ, zero, suc, Bool, true, false, ◌&&◌, List, [], ◌∷◌, ◌++◌, length, take, drop, Option, is_some, IfSome}
+use Rattle.std.specs.Prelude.{◌≡◌, ◌≢◌, ◌≤◌, ◌+◌, ℕ, zero, suc, Bool, true, false, ◌&&◌, List, [], ◌∷◌, ◌++◌, length, take, drop, Option, Some, None, IfSome}
 use Rattle.std.specs.Option.{option_to_list}
 use Rattle.std.specs.List.{AllByRecursion, list_all}
-use Rattle.std.specs.Ordering.{is_lt}
 use Rattle.ml_base.specs.Bytes.{Text}
 use Rattle.ml_base.specs.Address.{key, IsAddress}
-use Rattle.ml_base.specs.Sorted.{byte_cmp}
+use Rattle.ml_base.specs.Keys.{is_below}
 use Rattle.ml_subs.specs.declared.member_list.Member.{Member}
 use Rattle.ml_subs.specs.declared.records.Layout.{Layout}
 use Rattle.ml_subs.specs.declared.records.Layout.TheVariants.{Undated, Dated}
 use Rattle.ml_subs.specs.declared.records.Record.{Record}
-use Rattle.ml_subs.specs.Buckets.{IsMember, IsTold, IsBucket, layout_line, record_text, records}
+use Rattle.ml_subs.specs.Buckets.{IsMember, IsMomentIn, IsBucket, layout_line, record_text, records}
 
 -- the member of a record
-abbrev pub told : Record → Member
-told r = record { who = r.who.now; since = r.since }
-
--- a key below another
-abbrev pub is_below : Text → Text → Bool
-is_below a b = is_lt (byte_cmp (key a) (key b))
+abbrev pub as_member : Record → Member
+as_member r = record { who = r.who.now; since = r.since }
 
 -- members whose keys rise, the first of them above an address's
 abbrev pub rises : Text → List Member → Bool
@@ -38,7 +33,7 @@ member_by who since = record { who = who; since = since }
 -- a record that a layout can spell, whatever bucket its member belongs to
 pub record IsRecord (layout : Layout) (m : Member) : Type 0 where
   pub address : IsAddress m.who
-  pub since : IsTold layout m.since
+  pub since : IsMomentIn layout m.since
 
 -- bytes that begin with a member's record
 pub record BeginsWith (layout : Layout) (text : Text) (m : Member) (more : Text) : Type 0 where
@@ -74,10 +69,10 @@ pub record IsLayoutOf (text : Text) (layout : Layout) (body : Text) : Type 0 whe
   pub only : (n : ℕ) (ms : List Member) → IsBucket n text ms → AreRead layout n [] body ms
   pub makes : (n : ℕ) (ms : List Member) → AreRead layout n [] body ms → IsBucket n text ms
 
--- whether bytes begin with a member of an address's key, and what is behind him, or all of them
-abbrev pub IsSameKey : Layout → ℕ → Text → Text → Bool → Text → Type 0
-IsSameKey layout n who text true more = (m : Member) × BeginsWith layout text m more × IsMember layout n m × (key m.who ≡ key who)
-IsSameKey layout n who text false more = (more ≡ text) × ((m : Member) (ms : List Member) → AreRead layout n [] text (m ∷ ms) → key m.who ≢ key who)
+-- the member of an address's key with whom bytes begin, and what is behind him, or none and all of them
+abbrev pub IsSameKey : Layout → ℕ → Text → Text → Option Member → Text → Type 0
+IsSameKey layout n who text (Some m) more = BeginsWith layout text m more × IsMember layout n m × (key m.who ≡ key who)
+IsSameKey layout n who text None more = (more ≡ text) × ((m : Member) (ms : List Member) → AreRead layout n [] text (m ∷ ms) → key m.who ≢ key who)
 
 -- members whose records are these bytes, before and behind a place
 pub record AreAround (layout : Layout) (before behind : Text) (below above : List Member) : Type 0 where
@@ -86,20 +81,19 @@ pub record AreAround (layout : Layout) (before behind : Text) (below above : Lis
   pub each_below : AllByRecursion (IsRecord layout) below
   pub each_above : AllByRecursion (IsRecord layout) above
 
--- the members on both sides of a key's place, and the one of the key, where there is one
-pub record Sides (layout : Layout) (who before : Text) (found : Bool) (behind : Text) : Type 0 where
+-- the members on both sides of a key's place, round the one of the key, where there is one
+pub record Sides (layout : Layout) (who before : Text) (here : Option Member) (behind : Text) : Type 0 where
   pub below : List Member
-  pub here : Option Member
   pub above : List Member
   pub lower : list_all (λ m. is_below m.who who) below ≡ true
   pub higher : list_all (λ m. is_below who m.who) above ≡ true
   pub is : IfSome here (λ m. key m.who ≡ key who)
-  pub told : found ≡ is_some here
+  pub record_here : IfSome here (IsRecord layout)
   pub around : AreAround layout before behind below above
 
 -- all of them
-abbrev pub joined : {layout : Layout} {who before : Text} {found : Bool} {behind : Text} → Sides layout who before found behind → List Member
-joined s = s.below ++ (option_to_list s.here ++ s.above)
+abbrev pub joined : {layout : Layout} {who before : Text} {here : Option Member} {behind : Text} → Sides layout who before here behind → List Member
+joined {here = here} s = s.below ++ (option_to_list here ++ s.above)
 
 -- the members of the first buckets, one bucket behind the other
 abbrev pub gathered : (ℕ → List Member) → ℕ → List Member

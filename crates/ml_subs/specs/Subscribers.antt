@@ -1,5 +1,5 @@
 -- A set of subscribers, spread over 53 files and a count.
-use Rattle.std.specs.Prelude.{◌≡◌, ◌≢◌, ◌<◌, ◌≤◌, ℕ, Bool, ◌||◌, ◌==◌, List, [], ◌∷◌, ◌++◌, length, Some, ◌⊎◌}
+use Rattle.std.specs.Prelude.{◌≡◌, ◌≢◌, ◌<◌, ◌≤◌, ℕ, Bool, true, false, ◌&&◌, ◌||◌, ◌==◌, nat_lt, List, [], ◌∷◌, ◌++◌, length, Some, ◌⊎◌}
 use Rattle.std.specs.Fmt.{decimal}
 use Rattle.ml_base.specs.Bytes.{Text}
 use Rattle.ml_base.specs.Dir.{Dir, same_name}
@@ -7,7 +7,7 @@ use Rattle.ml_base.specs.Name.{set_kind, set_number}
 use Rattle.ml_base.specs.declared.names.Name.{Name}
 use Rattle.ml_base.specs.declared.names.Set.{Set}
 use Rattle.ml_subs.specs.declared.member_list.Member.{Member}
-use Rattle.ml_subs.specs.Members.{member_of, IsOrdered}
+use Rattle.ml_subs.specs.Members.{member_of, has_key, IsOrdered}
 use Rattle.ml_subs.specs.Buckets.{bucket_of, IsBucketFile}
 
 -- the name of one bucket's file
@@ -33,6 +33,10 @@ pub record AreJoined (dir : Dir) (set : Set) (ms : List Member) : Type 0 where
   pub files : AreBuckets dir set buckets
   pub joined : (k : Text) → member_of k ms ≡ member_of k (buckets (bucket_of k))
 
+-- the members that the bucket of a key has
+abbrev pub IsBucketOf : Dir → Set → Text → List Member → Type 0
+IsBucketOf dir set k ms = IsBucketFile (bucket_of k) (dir (bucket_name set (bucket_of k))) ms
+
 -- the files of a set stand for these members: the buckets have them, and the count is how many they are, 100,000 at most
 pub record AreSubscribers (dir : Dir) (set : Set) (ms : List Member) : Type 0 where
   pub members : AreJoined dir set ms
@@ -43,24 +47,40 @@ pub record AreSubscribers (dir : Dir) (set : Set) (ms : List Member) : Type 0 wh
 abbrev pub IsNoBucket : Dir → Set → ℕ → Type 0
 IsNoBucket dir set n = (ms : List Member) → ¬ IsBucketFile n (dir (bucket_name set n)) ms
 
+-- the name of one of a set's 53 buckets
+abbrev pub IsBucketName : Set → Name → Type 0
+IsBucketName set name = (n : ℕ) × (n < 53) × (name ≡ bucket_name set n)
+
+-- one of a set's 53 buckets, outside its grammar
+abbrev pub IsBadBucket : Dir → Set → Name → Type 0
+IsBadBucket dir set name = (n : ℕ) × (n < 53) × (name ≡ bucket_name set n) × IsNoBucket dir set n
+
 -- a count's file that spells no number from a least one to 100,000
 abbrev pub IsNoCount : Dir → Set → ℕ → Type 0
 IsNoCount dir set least = (n : ℕ) → least ≤ n → n ≤ 100_000 → dir (count_name set) ≢ Some (count_text n)
 
--- a file outside its grammar: the bucket with a number, or the count, where it spells no number from a least one on
-abbrev pub IsUnread : Dir → Set → ℕ → ℕ → Name → Type 0
-IsUnread dir set n least name = ((name ≡ bucket_name set n) × IsNoBucket dir set n) ⊎ ((name ≡ count_name set) × IsNoCount dir set least)
+-- how many a set's members are at least, where it has a key, or where it hasn't
+abbrev pub least_count : Bool → ℕ
+least_count true = 1
+least_count false = 0
+
+-- a file that a change of a key can't read: the key's bucket outside its grammar; or, where the bucket has the key, or
+-- hasn't it, as the change wants it to be, a count that spells no number that such a set can have
+abbrev pub IsUnread : Dir → Set → Text → Bool → Name → Type 0
+IsUnread dir set k has name =
+    ((name ≡ bucket_name set (bucket_of k)) × IsNoBucket dir set (bucket_of k))
+    ⊎ ((name ≡ count_name set) × ((ms : List Member) × IsBucketOf dir set k ms × (has_key k ms ≡ has)) × IsNoCount dir set (least_count has))
 
 -- a file of a set that no list of members can have: a bucket outside its grammar, or a count that isn't that of the buckets
 abbrev pub Breaks : Dir → Set → Name → Type 0
 Breaks dir set name =
-    ((n : ℕ) × (n < 53) × (name ≡ bucket_name set n) × IsNoBucket dir set n)
+    IsBadBucket dir set name
     ⊎ ((name ≡ count_name set) × ((buckets : ℕ → List Member) × AreBuckets dir set buckets) × ((ms : List Member) → ¬ AreSubscribers dir set ms))
 
 -- whether a file is the bucket of a key, or the count, of a set
 abbrev pub is_touched : Set → Text → Name → Bool
 is_touched set k name = same_name name (bucket_name set (bucket_of k)) || same_name name (count_name set)
 
--- whether a file is one of a set's
+-- whether a file is one of a set's: one of its 53 buckets, or its count
 abbrev pub is_of_set : Set → Name → Bool
-is_of_set set name = name.kind == set_kind set || same_name name (count_name set)
+is_of_set set name = ((name.kind == set_kind set) && nat_lt name.at 53) || same_name name (count_name set)

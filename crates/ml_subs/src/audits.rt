@@ -1,13 +1,12 @@
 // Whether each set stands for a list of members.
 ghost use Rattle.std.specs.Prelude.{◌≡◌, ◌<◌, ◌≤◌, true, List, ℕ, Option, Some, None, IsTrue, IfOk, IfErr, IfSome, IfNone, OnOk, IsErrOf, length, min, ◌^◌, ◌-◌};
-ghost use Rattle.ml_base.specs.Faults.{Rose};
 ghost use Rattle.ml_base.specs.declared.names.Set.{Set};
-ghost use Rattle.ml_base.specs.declared.part.PartError.TheVariants.{Fault};
+ghost use Rattle.ml_base.specs.PartErrors.{OnDamaged};
+ghost use Rattle.ml_base.specs.ReadFiles.{IsReading, NamesDamaged};
 ghost use Rattle.ml_subs.specs.declared.member_list.Member.{Member};
 ghost use Rattle.ml_subs.specs.Buckets.{IsBucketFile};
-ghost use Rattle.ml_subs.specs.Subscribers.{AreSubscribers, AreBuckets, IsNoBucket, Breaks, is_of_set};
+ghost use Rattle.ml_subs.specs.Subscribers.{AreSubscribers, AreBuckets, IsNoBucket, IsBucketName, IsBadBucket, Breaks, is_of_set};
 ghost use Rattle.ml_subs.specs.Subscribers as spec;
-ghost use Rattle.ml_subs.specs.Answers.{OnDamaged};
 ghost use Rattle.ml_subs.specs.Reading.{counted};
 
 use crate::counts::count_of;
@@ -35,11 +34,8 @@ fn count_bucket(n: u8, file: &Option<Bytes>) -> Option<usize>
 fn audit_bucket<F: Files>(alloc: Global, files: &mut F, set: Set, n: u8) -> Result<u64, PartError>
     requires { n < 53 }
     ensures value { IsTrue F.tells → IfOk result (λ count. (ms : List Member) × IsBucketFile n (F.map files.old (spec.bucket_name set n)) ms × (count ≡ length ms)) }
-    ensures named { IfErr result (λ e. OnDamaged e (λ name. name ≡ spec.bucket_name set n)) }
-    ensures damaged { IsTrue F.tells → IfErr result (λ e. OnDamaged e (λ _. IsNoBucket (F.map files.old) set n)) }
-    ensures kept { F.kept files.old files.new }
-    ensures later { F.faults files.old ≤ F.faults files.new }
-    ensures cause { IsErrOf result Fault → Rose (F.faults files.old) (F.faults files.new) }
+    ensures names { NamesDamaged ⟦<F as Files>⟧ (λ name. name ≡ spec.bucket_name set n) (λ _. IsNoBucket (F.map files.old) set n) result }
+    ensures reads { IsReading ⟦<F as Files>⟧ files.old files.new result }
 {
     let name = bucket_name(set, n);
     let file = files.get(alloc, name)?;
@@ -52,11 +48,8 @@ fn audit_bucket<F: Files>(alloc: Global, files: &mut F, set: Set, n: u8) -> Resu
 // How many members the buckets of a set have, as far as 64 bits count.
 fn audit_buckets<F: Files>(alloc: Global, files: &mut F, set: Set) -> Result<u64, PartError>
     ensures value { IsTrue F.tells → IfOk result (λ count. (buckets : ℕ → List Member) × AreBuckets (F.map files.old) set buckets × (count ≡ min (counted buckets 53) (2 ^ 64 - 1))) }
-    ensures named { IfErr result (λ e. OnDamaged e (λ name. (n : ℕ) × (n < 53) × (name ≡ spec.bucket_name set n))) }
-    ensures damaged { IsTrue F.tells → IfErr result (λ e. OnDamaged e (λ name. (n : ℕ) × (n < 53) × (name ≡ spec.bucket_name set n) × IsNoBucket (F.map files.old) set n)) }
-    ensures kept { F.kept files.old files.new }
-    ensures later { F.faults files.old ≤ F.faults files.new }
-    ensures cause { IsErrOf result Fault → Rose (F.faults files.old) (F.faults files.new) }
+    ensures names { NamesDamaged ⟦<F as Files>⟧ (IsBucketName set) (IsBadBucket (F.map files.old) set) result }
+    ensures reads { IsReading ⟦<F as Files>⟧ files.old files.new result }
 {
     let mut count: u64 = 0;
     for n in 0..53 {
@@ -68,11 +61,8 @@ fn audit_buckets<F: Files>(alloc: Global, files: &mut F, set: Set) -> Result<u64
 // Whether the files of one set stand for a list of members.
 fn audit_set<F: Files>(alloc: Global, files: &mut F, set: Set) -> Result<(), PartError>
     ensures value { IsTrue F.tells → OnOk result ((ms : List Member) × AreSubscribers (F.map files.old) set ms) }
-    ensures named { IfErr result (λ e. OnDamaged e (λ name. is_of_set set name ≡ true)) }
-    ensures damaged { IsTrue F.tells → IfErr result (λ e. OnDamaged e (Breaks (F.map files.old) set)) }
-    ensures kept { F.kept files.old files.new }
-    ensures later { F.faults files.old ≤ F.faults files.new }
-    ensures cause { IsErrOf result Fault → Rose (F.faults files.old) (F.faults files.new) }
+    ensures names { NamesDamaged ⟦<F as Files>⟧ (λ name. is_of_set set name ≡ true) (Breaks (F.map files.old) set) result }
+    ensures reads { IsReading ⟦<F as Files>⟧ files.old files.new result }
 {
     let found = audit_buckets(alloc, files, set)?;
     let count = count_of(alloc, files, set, 0)?;
@@ -87,11 +77,9 @@ fn audit_set<F: Files>(alloc: Global, files: &mut F, set: Set) -> Result<(), Par
 /// members the buckets have. It reads all files of the five sets, in their order, and names the first that breaks this.
 pub fn audit<F: Files>(alloc: Global, files: &mut F) -> Result<(), PartError>
     ensures ok { IsTrue F.tells → OnOk result ((set : Set) → (ms : List Member) × AreSubscribers (F.map files.old) set ms) }
-    ensures named { IfErr result (λ e. OnDamaged e (λ name. (set : Set) × (is_of_set set name ≡ true))) }
-    ensures damaged { IsTrue F.tells → IfErr result (λ e. OnDamaged e (λ name. (set : Set) × Breaks (F.map files.old) set name)) }
-    ensures kept { F.kept files.old files.new }
-    ensures later { F.faults files.old ≤ F.faults files.new }
-    ensures cause { IsErrOf result Fault → Rose (F.faults files.old) (F.faults files.new) }
+    ensures names { NamesDamaged ⟦<F as Files>⟧ (λ name. (set : Set) × (is_of_set set name ≡ true)) (λ name. (set : Set) × Breaks (F.map files.old) set name) result }
+    ensures sound { IsTrue F.tells → ((set : Set) → (ms : List Member) × AreSubscribers (F.map files.old) set ms) → IfErr result (λ e. OnDamaged e (λ _. ⊥)) }
+    ensures reads { IsReading ⟦<F as Files>⟧ files.old files.new result }
 {
     audit_set(alloc, files, Set::List)?;
     audit_set(alloc, files, Set::Digest)?;

@@ -1,11 +1,8 @@
 // The count of a set.
 ghost use Rattle.std.specs.Prelude.{◌≡◌, ◌≢◌, ◌≤◌, ℕ, Some, None, IsTrue, IfOk, IfErr, IfSome, IfNone, IsErrOf};
-ghost use Rattle.ml_base.specs.Faults.{Rose};
-ghost use Rattle.ml_base.specs.declared.names.Name.{Name};
-ghost use Rattle.ml_base.specs.declared.part.PartError.TheVariants.{Fault, Damaged};
+ghost use Rattle.ml_base.specs.ReadFiles.{IsReading, NamesDamaged};
 ghost use Rattle.ml_subs.specs.Subscribers.{count_text, IsNoCount};
 ghost use Rattle.ml_subs.specs.Subscribers as spec;
-ghost use Rattle.ml_subs.specs.Answers.{OnDamaged};
 
 use crate::names::count_name;
 use ml_base::{Bytes, Files, PartError, Set, number_within, write_number};
@@ -47,11 +44,8 @@ pub(crate) fn count_of<F: Files>(
 ) -> Result<u64, PartError>
     ensures value { IsTrue F.tells → IfOk result (λ n. (least ≤ n) × (n ≤ 100_000) × (F.map files.old (spec.count_name set) ≡ Some (count_text n))) }
     ensures few { IfOk result (λ n. (least ≤ n) × (n ≤ 100_000)) }
-    ensures named { IfErr result (λ e. OnDamaged e (λ name. name ≡ spec.count_name set)) }
-    ensures damaged { IsTrue F.tells → IfErr result (λ e. OnDamaged e (λ name. IsNoCount (F.map files.old) set least)) }
-    ensures kept { F.kept files.old files.new }
-    ensures later { F.faults files.old ≤ F.faults files.new }
-    ensures cause { IsErrOf result Fault → Rose (F.faults files.old) (F.faults files.new) }
+    ensures names { NamesDamaged ⟦<F as Files>⟧ (λ name. name ≡ spec.count_name set) (λ _. IsNoCount (F.map files.old) set least) result }
+    ensures reads { IsReading ⟦<F as Files>⟧ files.old files.new result }
 {
     let name = count_name(set);
     let file = files.get(alloc, name)?;

@@ -9,13 +9,10 @@ mod laws;
 mod lists;
 mod member_list;
 mod names;
-mod order;
 mod places;
 mod records;
 mod rewriting;
 mod sets;
-#[cfg(test)]
-mod tests;
 
 pub use audits::audit;
 pub use changing::AddAnswer;
@@ -23,4 +20,4 @@ pub use hashing::bucket;
 pub use laws::{law_changes, law_order, law_sets};
 pub use lists::{all, members};
 pub use member_list::{Member, MemberList};
-pub use sets::{add, member, remove};
+pub use sets::{add, find, member, remove, size};

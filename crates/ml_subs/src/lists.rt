@@ -1,39 +1,22 @@
 // All members of a set, in the order of their keys.
 ghost use Rattle.std.specs.Prelude.{◌≡◌, ◌<◌, ◌≤◌, ◌++◌, [], map, true, false, List, ℕ, Bool, Option, Some, None, IsTrue, IfOk, IfErr, OnOk, IsErrOf};
 ghost use Rattle.std.specs.List.Sorted.{IsPermutation, IsSortedByKey};
-ghost use Rattle.ml_base.specs.Faults.{Rose};
-ghost use Rattle.ml_base.specs.Address.{IsAddress};
 ghost use Rattle.ml_base.specs.Sorted.{byte_cmp};
-ghost use Rattle.ml_base.specs.declared.part.PartError.TheVariants.{Fault};
+ghost use Rattle.ml_base.specs.PartErrors.{OnDamaged};
+ghost use Rattle.ml_base.specs.ReadFiles.{IsReading, NamesDamaged};
 ghost use Rattle.ml_subs.specs.declared.member_list.Member.{Member};
 ghost use Rattle.ml_subs.specs.Members.{member_key};
 ghost use Rattle.ml_subs.specs.Buckets.{IsBucketFile};
-ghost use Rattle.ml_subs.specs.Subscribers.{AreSubscribers, AreJoined, AreBuckets, IsNoBucket};
+ghost use Rattle.ml_subs.specs.Subscribers.{AreSubscribers, AreJoined, AreBuckets, IsNoBucket, IsBucketName, IsBadBucket};
 ghost use Rattle.ml_subs.specs.Subscribers as spec;
-ghost use Rattle.ml_subs.specs.Answers.{OnDamaged};
-ghost use Rattle.ml_subs.specs.Reading.{told, AreRead, IsRecord, gathered, AreAdded};
+ghost use Rattle.ml_subs.specs.Reading.{AreRead, gathered, AreAdded};
 
 use crate::names::bucket_name;
-use crate::order::compare;
 use crate::places::split_layout;
-use crate::records::{Layout, Record, next_member};
+use crate::records::{Layout, member_from, next_member};
 use crate::{Member, MemberList};
-use ml_base::{Address, AddressList, Bytes, Files, PartError, Row, Set};
+use ml_base::{AddressList, Bytes, Files, PartError, Row, Set, compare_keys};
 use std::alloc::{AllocError, Global};
-
-// The member of a record. Its text is an address, so nothing but memory can be wanting.
-fn member_from(alloc: Global, found: Record<'_>) -> Result<Member, AllocError>
-    requires { IsAddress found.who.now }
-    ensures { IfOk result (λ m. m ≡ told found.entry) }
-{
-    match Address::parse(alloc, found.who) {
-        Ok(who) => Ok(Member {
-            who,
-            since: found.since,
-        }),
-        Err(_) => Err(AllocError),
-    }
-}
 
 // Adds the members that bytes spell. False where they spell none of the bucket in order.
 fn add_members(
@@ -86,11 +69,8 @@ fn read_bucket<F: Files>(
 ) -> Result<(), PartError>
     requires { n < 53 }
     ensures value { IsTrue F.tells → OnOk result ((ms : List Member) × IsBucketFile n (F.map files.old (spec.bucket_name set n)) ms × (out.new ≡ out.old ++ ms)) }
-    ensures named { IfErr result (λ e. OnDamaged e (λ name. name ≡ spec.bucket_name set n)) }
-    ensures damaged { IsTrue F.tells → IfErr result (λ e. OnDamaged e (λ _. IsNoBucket (F.map files.old) set n)) }
-    ensures kept { F.kept files.old files.new }
-    ensures later { F.faults files.old ≤ F.faults files.new }
-    ensures cause { IsErrOf result Fault → Rose (F.faults files.old) (F.faults files.new) }
+    ensures names { NamesDamaged ⟦<F as Files>⟧ (λ name. name ≡ spec.bucket_name set n) (λ _. IsNoBucket (F.map files.old) set n) result }
+    ensures reads { IsReading ⟦<F as Files>⟧ files.old files.new result }
 {
     let name = bucket_name(set, n);
     let file = files.get(alloc, name)?;
@@ -104,11 +84,8 @@ fn read_bucket<F: Files>(
 // The members of a set's buckets, one bucket behind the other.
 fn read_buckets<F: Files>(alloc: Global, files: &mut F, set: Set) -> Result<MemberList, PartError>
     ensures value { IsTrue F.tells → IfOk result (λ ms. (buckets : ℕ → List Member) × AreBuckets (F.map files.old) set buckets × (ms ≡ gathered buckets 53)) }
-    ensures named { IfErr result (λ e. OnDamaged e (λ name. (n : ℕ) × (n < 53) × (name ≡ spec.bucket_name set n))) }
-    ensures damaged { IsTrue F.tells → IfErr result (λ e. OnDamaged e (λ name. (n : ℕ) × (n < 53) × (name ≡ spec.bucket_name set n) × IsNoBucket (F.map files.old) set n)) }
-    ensures kept { F.kept files.old files.new }
-    ensures later { F.faults files.old ≤ F.faults files.new }
-    ensures cause { IsErrOf result Fault → Rose (F.faults files.old) (F.faults files.new) }
+    ensures names { NamesDamaged ⟦<F as Files>⟧ (IsBucketName set) (IsBadBucket (F.map files.old) set) result }
+    ensures reads { IsReading ⟦<F as Files>⟧ files.old files.new result }
 {
     let mut found = MemberList::new(alloc);
     for n in 0..53 {
@@ -117,27 +94,26 @@ fn read_buckets<F: Files>(alloc: Global, files: &mut F, set: Set) -> Result<Memb
     Ok(found)
 }
 
-// The members in the order of their keys.
-fn in_order(list: MemberList) -> MemberList
-    ensures permutation { IsPermutation list result }
-    ensures sorted { IsSortedByKey member_key byte_cmp result }
+// The members in the order of their keys. Each bucket's come in that order, and the sort merges such rows.
+fn in_order(list: MemberList) -> Result<MemberList, AllocError>
+    ensures permutation { IfOk result (IsPermutation list) }
+    ensures sorted { IfOk result (IsSortedByKey member_key byte_cmp) }
 {
     let mut items = list.into_vec();
-    items.sort_unstable_by(|a, b| compare(a.who.bytes(), b.who.bytes()));
-    Row::from_vec(items)
+    items.sort_by(|a, b| compare_keys(a.who.bytes(), b.who.bytes()))?;
+    Ok(Row::from_vec(items))
 }
 
 /// The members of a set, in ascending order of key. It reads the set's 53 files and not its count.
 pub fn members<F: Files>(alloc: Global, files: &mut F, set: Set) -> Result<MemberList, PartError>
     ensures value { IsTrue F.tells → IfOk result (λ members. (ms : List Member) → AreSubscribers (F.map files.old) set ms → members ≡ ms) }
     ensures joined { IsTrue F.tells → IfOk result (AreJoined (F.map files.old) set) }
-    ensures named { IfErr result (λ e. OnDamaged e (λ name. (n : ℕ) × (n < 53) × (name ≡ spec.bucket_name set n))) }
-    ensures damaged { IsTrue F.tells → IfErr result (λ e. OnDamaged e (λ name. (n : ℕ) × (n < 53) × (name ≡ spec.bucket_name set n) × IsNoBucket (F.map files.old) set n)) }
-    ensures kept { F.kept files.old files.new }
-    ensures later { F.faults files.old ≤ F.faults files.new }
-    ensures cause { IsErrOf result Fault → Rose (F.faults files.old) (F.faults files.new) }
+    ensures names { NamesDamaged ⟦<F as Files>⟧ (IsBucketName set) (IsBadBucket (F.map files.old) set) result }
+    ensures sound { IsTrue F.tells → (ms : List Member) → AreSubscribers (F.map files.old) set ms → IfErr result (λ e. OnDamaged e (λ _. ⊥)) }
+    ensures reads { IsReading ⟦<F as Files>⟧ files.old files.new result }
 {
-    Ok(in_order(read_buckets(alloc, files, set)?))
+    let list = read_buckets(alloc, files, set)?;
+    Ok(in_order(list)?)
 }
 
 // The addresses of members.
@@ -155,11 +131,9 @@ fn addresses_of(alloc: Global, list: MemberList) -> Result<AddressList, AllocErr
 pub fn all<F: Files>(alloc: Global, files: &mut F, set: Set) -> Result<AddressList, PartError>
     ensures value { IsTrue F.tells → IfOk result (λ addresses. (ms : List Member) → AreSubscribers (F.map files.old) set ms → addresses ≡ map (λ m. m.who) ms) }
     ensures joined { IsTrue F.tells → IfOk result (λ addresses. (ms : List Member) × AreJoined (F.map files.old) set ms × (addresses ≡ map (λ m. m.who) ms)) }
-    ensures named { IfErr result (λ e. OnDamaged e (λ name. (n : ℕ) × (n < 53) × (name ≡ spec.bucket_name set n))) }
-    ensures damaged { IsTrue F.tells → IfErr result (λ e. OnDamaged e (λ name. (n : ℕ) × (n < 53) × (name ≡ spec.bucket_name set n) × IsNoBucket (F.map files.old) set n)) }
-    ensures kept { F.kept files.old files.new }
-    ensures later { F.faults files.old ≤ F.faults files.new }
-    ensures cause { IsErrOf result Fault → Rose (F.faults files.old) (F.faults files.new) }
+    ensures names { NamesDamaged ⟦<F as Files>⟧ (IsBucketName set) (IsBadBucket (F.map files.old) set) result }
+    ensures sound { IsTrue F.tells → (ms : List Member) → AreSubscribers (F.map files.old) set ms → IfErr result (λ e. OnDamaged e (λ _. ⊥)) }
+    ensures reads { IsReading ⟦<F as Files>⟧ files.old files.new result }
 {
     let list = members(alloc, files, set)?;
     Ok(addresses_of(alloc, list)?)

@@ -2,21 +2,21 @@
 ghost use Rattle.std.specs.Prelude.{◌≡◌, ℕ, List, Option, Some, None, IfSome, IfNone, [], ◌∷◌};
 ghost use Rattle.ml_subs.specs.declared.member_list.Member.{Member};
 ghost use Rattle.ml_subs.specs.Buckets.{IsBucketFile, IsBucket};
-ghost use Rattle.ml_subs.specs.Reading.{Sides, joined, IsSameKey, AreSkipped, AreRead, IsFront, IsLayoutOf};
+ghost use Rattle.std.specs.Option.{option_map};
+ghost use Rattle.ml_subs.specs.Reading.{as_member, Sides, joined, IsSameKey, AreSkipped, AreRead, IsFront, IsLayoutOf};
 
-use crate::order::is_below;
-use crate::records::{Layout, count_members, next_member};
-use ml_base::{Address, Bytes};
+use crate::records::{Layout, Record, count_members, next_member};
+use ml_base::{Address, Bytes, is_below};
 
 // The line that a bucket of layout 2 begins with.
 pub(crate) const DATED_LINE: &[u8] = b"layout 2\n";
 
-// Where a key stands in a bucket: the records below it, whether it has one, and the records above.
+// Where a key stands in a bucket: the records below it, its own, where there is one, and the records above.
 #[derive(Clone, Copy)]
 pub(crate) struct Place<'a> {
     pub layout: Layout,
     pub before: &'a [u8],
-    pub found: bool,
+    pub here: Option<Record<'a>>,
     pub behind: &'a [u8],
 }
 
@@ -64,45 +64,50 @@ fn skip_lower(layout: Layout, n: u8, who: &Address, text: &[u8]) -> Option<usize
     Some(text.len())
 }
 
-// Whether bytes begin with the record of an address's key, and what is behind it, or all of them where they don't.
-fn same_key<'a>(layout: Layout, n: u8, who: &Address, text: &'a [u8]) -> (bool, &'a [u8])
-    ensures { IsSameKey layout n who.now text.now result.0 result.1.now }
+// The record of an address's key with which bytes begin, and what is behind it, or none and all of them.
+fn same_key<'a>(
+    layout: Layout,
+    n: u8,
+    who: &Address,
+    text: &'a [u8],
+) -> (Option<Record<'a>>, &'a [u8])
+    ensures { IsSameKey layout n who.now text.now (option_map as_member result.0) result.1.now }
 {
     let Some((record, more)) = next_member(layout, n, b"", text) else {
-        return (false, text);
+        return (None, text);
     };
     if record.who.eq_ignore_ascii_case(who.bytes()) {
-        return (true, more);
+        return (Some(record), more);
     }
-    (false, text)
+    (None, text)
 }
 
 // Where an address stands in the records of a bucket, or None where they are no members of the bucket in order.
 fn place_in<'a>(layout: Layout, n: u8, who: &Address, text: &'a [u8]) -> Option<Place<'a>>
-    ensures some { IfSome result (λ p. (s : Sides p.layout who.now p.before.now p.found p.behind.now) × AreRead layout n [] text.now (joined s)) }
+    ensures some { IfSome result (λ p. (s : Sides p.layout who.now p.before.now (option_map as_member p.here) p.behind.now) × AreRead layout n [] text.now (joined s)) }
     ensures none { IfNone result ((ms : List Member) → ¬ AreRead layout n [] text.now ms) }
 {
     let (before, rest) = text.split_at(skip_lower(layout, n, who, text)?);
-    let (found, behind) = same_key(layout, n, who, rest);
+    let (here, behind) = same_key(layout, n, who, rest);
     let _above = count_members(layout, n, who.bytes(), behind)?;
     Some(Place {
         layout,
         before,
-        found,
+        here,
         behind,
     })
 }
 
 // Where an address stands in a bucket's file, or None where the file is outside its grammar.
 pub(crate) fn find_place<'a>(n: u8, file: &'a Option<Bytes>, who: &Address) -> Option<Place<'a>>
-    ensures some { IfSome result (λ p. (s : Sides p.layout who.now p.before.now p.found p.behind.now) × IsBucketFile n file.now (joined s)) }
+    ensures some { IfSome result (λ p. (s : Sides p.layout who.now p.before.now (option_map as_member p.here) p.behind.now) × IsBucketFile n file.now (joined s)) }
     ensures none { IfNone result ((ms : List Member) → ¬ IsBucketFile n file.now ms) }
 {
     match file {
         None => Some(Place {
             layout: Layout::Dated,
             before: b"",
-            found: false,
+            here: None,
             behind: b"",
         }),
         Some(text) => {

@@ -1,19 +1,16 @@
 // The records of a bucket's text.
-ghost use Rattle.std.specs.Prelude.{◌≡◌, ◌≢◌, ◌<◌, ◌≤◌, ◌↔◌, true, ◌++◌, ◌∷◌, List, ℕ, IsTrue, IfSome, IfNone, length};
-ghost use Rattle.std.specs.List.{list_any};
-ghost use Rattle.std.specs.Char.{is_ascii_uppercase};
+ghost use Rattle.std.specs.Prelude.{◌≡◌, ◌≢◌, ◌<◌, ◌≤◌, ◌↔◌, true, ◌++◌, ◌∷◌, List, ℕ, IsTrue, IfOk, IfSome, IfNone, length};
 ghost use Rattle.ml_base.specs.Bytes.{Text};
 ghost use Rattle.ml_base.specs.Address.{IsAddress};
+ghost use Rattle.ml_base.specs.Keys as keys;
 ghost use Rattle.ml_subs.specs.declared.member_list.Member.{Member};
-ghost use Rattle.ml_subs.specs.Buckets.{IsMember, IsTold, moment_text};
-ghost use Rattle.ml_subs.specs.Reading as reading;
-ghost use Rattle.ml_subs.specs.Reading.{AreRead, BeginsWith, told};
+ghost use Rattle.ml_subs.specs.Buckets.{IsMember, IsMomentIn, moment_text};
+ghost use Rattle.ml_subs.specs.Reading.{AreRead, BeginsWith, as_member};
 
+use crate::Member;
 use crate::hashing::bucket_of_bytes;
-use crate::order::is_below;
-use ml_base::{Address, number_within, split_first, split_last};
-
-const LAST_MOMENT: u64 = 253_402_300_799;
+use ml_base::{Address, LAST_MOMENT, is_below, is_kept, number_within, split_first};
+use std::alloc::{AllocError, Global};
 
 // How a bucket's records are spelled: layout 1 has addresses alone, and layout 2 their moments too.
 #[derive(Clone, Copy)]
@@ -29,30 +26,10 @@ pub(crate) struct Record<'a> {
     pub since: u64,
 }
 
-// Whether a text has a capital letter.
-fn has_capital(text: &[u8]) -> bool
-    ensures { result ≡ list_any is_ascii_uppercase text.now }
-{
-    text.iter().any(|byte| byte.is_ascii_uppercase())
-}
-
-// Whether a text is an address, spelled as it is kept: with its host in lower case.
-fn is_kept(text: &[u8]) -> bool
-    ensures { IsTrue result ↔ IsAddress text.now }
-{
-    if Address::check(text).is_err() {
-        return false;
-    }
-    match split_last(b'@', text) {
-        None => false,
-        Some((_, host)) => !has_capital(host),
-    }
-}
-
 // The moment that bytes begin with in a layout, and what is behind it.
 fn next_moment(layout: Layout, text: &[u8]) -> Option<(u64, &[u8])>
-    ensures some { IfSome result (λ r. IsTold layout r.0 × (text.now ≡ moment_text layout r.0 ++ r.1.now)) }
-    ensures none { IfNone result ((since : ℕ) (more : Text) → IsTold layout since → text.now ≢ moment_text layout since ++ more) }
+    ensures some { IfSome result (λ r. IsMomentIn layout r.0 × (text.now ≡ moment_text layout r.0 ++ r.1.now)) }
+    ensures none { IfNone result ((since : ℕ) (more : Text) → IsMomentIn layout since → text.now ≢ moment_text layout since ++ more) }
 {
     match layout {
         Layout::Undated => Some((0, text)),
@@ -63,9 +40,23 @@ fn next_moment(layout: Layout, text: &[u8]) -> Option<(u64, &[u8])>
     }
 }
 
+// The member of a record. Its text is an address, so nothing but memory can be wanting.
+pub(crate) fn member_from(alloc: Global, found: Record<'_>) -> Result<Member, AllocError>
+    requires { IsAddress found.who.now }
+    ensures { IfOk result (λ m. m ≡ as_member found.entry) }
+{
+    match Address::parse(alloc, found.who) {
+        Ok(who) => Ok(Member {
+            who,
+            since: found.since,
+        }),
+        Err(_) => Err(AllocError),
+    }
+}
+
 // The record that bytes begin with, and what is behind it, or None where none does.
 pub(crate) fn next_record(layout: Layout, text: &[u8]) -> Option<(Record<'_>, &[u8])>
-    ensures some { IfSome result (λ r. BeginsWith layout text.now (told r.0) r.1.now) }
+    ensures some { IfSome result (λ r. BeginsWith layout text.now (as_member r.0) r.1.now) }
     ensures none { IfNone result ((m : Member) (more : Text) → ¬ BeginsWith layout text.now m more) }
 {
     let [first, rest @ ..] = text else {
@@ -90,7 +81,7 @@ pub(crate) fn next_member<'a>(
     floor: &[u8],
     text: &'a [u8],
 ) -> Option<(Record<'a>, &'a [u8])>
-    ensures some { IfSome result (λ r. BeginsWith layout text.now (told r.0) r.1.now × IsMember layout n (told r.0) × (reading.is_below floor.now (told r.0).who ≡ true)) }
+    ensures some { IfSome result (λ r. BeginsWith layout text.now (as_member r.0) r.1.now × IsMember layout n (as_member r.0) × (keys.is_below floor.now (as_member r.0).who ≡ true)) }
     ensures none { IfNone result ((m : Member) (ms : List Member) → ¬ AreRead layout n floor.now text.now (m ∷ ms)) }
     ensures shorter { IfSome result (λ r. length r.1.now < length text.now) }
 {

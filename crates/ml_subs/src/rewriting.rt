@@ -4,13 +4,16 @@ ghost use Rattle.std.specs.List.{AllByRecursion};
 ghost use Rattle.ml_base.specs.Address.{IsAddress};
 ghost use Rattle.ml_subs.specs.declared.member_list.Member.{Member};
 ghost use Rattle.ml_subs.specs.declared.records.Layout.TheVariants.{Undated, Dated};
-ghost use Rattle.ml_subs.specs.Buckets.{record_text, records, bucket_text, bucket_file};
+ghost use Rattle.ml_subs.specs.Buckets.{layout_line, record_text, records, bucket_text, bucket_file};
 ghost use Rattle.ml_subs.specs.Reading.{IsRecord, AreAround, member_by};
 
 use crate::places::{DATED_LINE, Place};
 use crate::records::Layout;
 use ml_base::{Address, Bytes, split_first, write_number};
 use std::alloc::{AllocError, Global};
+
+// The most bytes that a record has besides its address: `T`, a NUL, twenty digits and a NUL.
+const RECORD_ROOM: usize = 23;
 
 // Adds the record of a member.
 fn add_record(out: &mut Bytes, who: &[u8], since: u64) -> Result<(), AllocError>
@@ -48,6 +51,17 @@ fn add_records(out: &mut Bytes, layout: Layout, text: &[u8]) -> Result<(), Alloc
     }
 }
 
+// The line of a new text, with room for the records round a place, and for more.
+fn begun(alloc: Global, place: &Place<'_>, more: usize) -> Result<Bytes, AllocError>
+    ensures { IfOk result (λ bytes. bytes ≡ layout_line Dated) }
+{
+    let kept = place.before.len().saturating_add(place.behind.len());
+    let room = DATED_LINE.len().saturating_add(kept).saturating_add(more);
+    let mut out = Bytes::with_capacity(alloc, room)?;
+    out.extend(DATED_LINE)?;
+    Ok(out)
+}
+
 // The text of a bucket with one more member in his place.
 pub(crate) fn text_with(
     alloc: Global,
@@ -59,7 +73,7 @@ pub(crate) fn text_with(
     ensures text { (below above : List Member) → AreAround place.now.layout place.now.before.now place.now.behind.now below above → IfOk result (λ bytes. bytes ≡ bucket_text Dated (below ++ member_by who.now since ∷ above)) }
 {
     let address = who.bytes();
-    let mut out = Bytes::from_slice(alloc, DATED_LINE)?;
+    let mut out = begun(alloc, place, address.len().saturating_add(RECORD_ROOM))?;
     add_records(&mut out, place.layout, place.before)?;
     add_record(&mut out, address, since)?;
     add_records(&mut out, place.layout, place.behind)?;
@@ -73,7 +87,7 @@ pub(crate) fn text_without(alloc: Global, place: &Place<'_>) -> Result<Option<By
     if place.before.is_empty() && place.behind.is_empty() {
         return Ok(None);
     }
-    let mut out = Bytes::from_slice(alloc, DATED_LINE)?;
+    let mut out = begun(alloc, place, 0)?;
     add_records(&mut out, place.layout, place.before)?;
     add_records(&mut out, place.layout, place.behind)?;
     Ok(Some(out))

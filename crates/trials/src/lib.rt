@@ -2,8 +2,12 @@
 #![tactic(auto)]
 
 #[cfg(test)]
+mod base;
+#[cfg(test)]
 mod config;
 #[cfg(test)]
 mod header;
 #[cfg(test)]
 mod plain;
+#[cfg(test)]
+mod subs;

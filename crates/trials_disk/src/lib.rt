@@ -1,7 +1,9 @@
-//! Tests of the parts' public calls.
+//! Tests of the disk's public calls.
 #![tactic(auto)]
 
 #[cfg(test)]
 mod log;
+#[cfg(test)]
+mod site;
 #[cfg(test)]
 mod store;

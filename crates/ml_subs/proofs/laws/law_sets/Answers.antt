@@ -1,4 +1,5 @@
-use Rattle.ml_subs.proofs.Standing.{bucket_one, joined_one, subscribers_one, nobody_there, own_files, broken, subscribers_each}
+use Rattle.ml_subs.proofs.Standing.{bucket_one, joined_one, subscribers_one, nobody_there, own_files, broken, own_table, subscribers_each}
+use Rattle.ml_subs.proofs.Answering.{unread}
 use Rattle.ml_subs.proofs.laws.law_sets.Goals as goal
 
 pub returns-clause-bucket : goal.returns-clause-bucket
@@ -15,6 +16,12 @@ returns-clause-own c = own_files
 
 pub returns-clause-broken : goal.returns-clause-broken
 returns-clause-broken c = broken
+
+pub returns-clause-unread : goal.returns-clause-unread
+returns-clause-unread c = unread
+
+pub returns-clause-files : goal.returns-clause-files
+returns-clause-files c = own_table
 
 pub returns-clause-nobody : goal.returns-clause-nobody
 returns-clause-nobody c = nobody_there

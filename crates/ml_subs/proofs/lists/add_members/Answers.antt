@@ -1,6 +1,6 @@
 use Rattle.std.proofs.Common.{◌∙◌, ◌++◌, [], ◌∷◌, sym, ap₂, append_assoc}
-use Rattle.ml_subs.specs.Reading.{told}
-use Rattle.ml_subs.proofs.Kept.{some_left, none_left}
+use Rattle.ml_subs.specs.Reading.{as_member}
+use Rattle.ml_subs.proofs.Options.{some_left, none_left}
 use Rattle.ml_subs.proofs.Spelled.{leads_end, leads_more, leads_nowhere}
 use Rattle.ml_subs.proofs.lists.add_members.Goals as goal
 
@@ -13,9 +13,9 @@ pub loop-last-preserved : goal.loop-last-preserved
 loop-last-preserved c =
     let read = c.loop-last.invariant in
     let next = c.in-Some.ensures.some in (
-      read.0 ++ told c.in-Some.record ∷ [],
-      c.in_ok-push.ensures.ok ∙ ap₂ (λ l m. l ++ m ∷ []) read.1 c.in_ok-member_from.ensures ∙ append_assoc c.args.out.now read.0 (told c.in-Some.record ∷ []),
-      leads_more c.args.layout c.args.n [] c.args.text.now read.0 c.loop-last.last.now c.loop-last.rest.now (told c.in-Some.record) c.in-Some.more.now read.2 next.0 next.1 next.2,
+      read.0 ++ as_member c.in-Some.record ∷ [],
+      c.in_ok-push.ensures.ok ∙ ap₂ (λ l m. l ++ m ∷ []) read.1 c.in_ok-member_from.ensures ∙ append_assoc c.args.out.now read.0 (as_member c.in-Some.record ∷ []),
+      leads_more c.args.layout c.args.n [] c.args.text.now read.0 c.loop-last.last.now c.loop-last.rest.now (as_member c.in-Some.record) c.in-Some.more.now read.2 next.0 next.1 next.2,
     )
 
 pub returns : goal.returns

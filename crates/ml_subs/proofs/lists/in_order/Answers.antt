@@ -10,5 +10,5 @@ use Rattle.ml_subs.proofs.lists.in_order.Goals as goal
 
 pub returns-clause-sorted : goal.returns-clause-sorted
 returns-clause-sorted c =
-    let up = c.sort_unstable_by.ensures.sorted (λ x y. is_lt (byte_cmp (member_key x) (member_key y))) (ranks_by bytes_total member_key) (answers_always _ _ _ (λ f a r g h. search rules)) in
+    let up = c.in_ok-sort_by.ensures.sorted (λ x y. is_lt (byte_cmp (member_key x) (member_key y))) (ranks_by bytes_total member_key) (answers_always _ _ _ (λ f a r g h. search rules)) in
     subst (λ (l : List Member). IsSortedByKey member_key byte_cmp l) (sym c.from_vec.ensures) up

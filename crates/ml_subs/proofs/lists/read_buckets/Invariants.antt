@@ -1,11 +1,10 @@
-use Rattle.std.proofs.Common.{◌≤◌}
 use Rattle.std.specs.Bool.{IsTrue}
+use Rattle.ml_base.specs.ReadFiles.{AreKept}
 use Rattle.ml_subs.proofs.Gathering.{Gathers}
 use Rattle.ml_subs.proofs.lists.read_buckets.Given as goal
 
 abbrev pub invariant-loop-n : goal.invariant-loop-n
 invariant-loop-n g l = record {
-  kept : g.F.Files.kept l.fn.files l.files;
-  later : g.F.Files.faults l.fn.files ≤ g.F.Files.faults l.files;
+  read : AreKept g.F.Files l.fn.files l.files;
   found : IsTrue g.F.Files.tells → Gathers (g.F.Files.map l.fn.files) l.set l.n l.found;
 }

@@ -2,7 +2,7 @@ use Rattle.std.proofs.Common.{[], None, Some, Option, refl, sym, ap, ◌∙◌, 
 use Rattle.ml_base.specs.Bytes.{Text}
 use Rattle.ml_subs.specs.Buckets.{IsBucketFile}
 use Rattle.ml_subs.specs.Reading.{joined}
-use Rattle.ml_subs.proofs.Kept.{if_some_from}
+use Rattle.ml_subs.proofs.Options.{if_some_from}
 use Rattle.ml_subs.proofs.places.find_place.Goals as goal
 
 pub returns-in-None-clause-some : goal.returns-in-None-clause-some
@@ -10,12 +10,11 @@ returns-in-None-clause-some c =
     let there : IsBucketFile c.args.n c.args.file.now [] = subst (λ (f : Option Text). IsBucketFile c.args.n f []) (sym c.in-None.is) refl in (
       record {
         below = [];
-        here = None;
         above = [];
         lower = refl;
         higher = refl;
         is = tt;
-        told = refl;
+        record_here = tt;
         around = record { front = refl; back = refl; each_below = tt; each_above = tt };
       },
       there,

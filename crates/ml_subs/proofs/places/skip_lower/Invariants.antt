@@ -1,7 +1,8 @@
 use Rattle.std.proofs.Common.{◌≡◌, true, List, [], length}
 use Rattle.std.specs.List.{list_all}
 use Rattle.ml_subs.specs.declared.member_list.Member.{Member}
-use Rattle.ml_subs.specs.Reading.{Leads, is_below}
+use Rattle.ml_base.specs.Keys.{is_below}
+use Rattle.ml_subs.specs.Reading.{Leads}
 use Rattle.ml_subs.proofs.places.skip_lower.Given as goal
 
 abbrev pub invariant-loop-address : goal.invariant-loop-address

@@ -1,6 +1,6 @@
 use Rattle.std.proofs.Common.{◌∙◌, ◌+◌, ◌++◌, [], ◌∷◌, sym, ap, arith, length-append}
-use Rattle.ml_subs.specs.Reading.{told}
-use Rattle.ml_subs.proofs.Kept.{some_left, none_left}
+use Rattle.ml_subs.specs.Reading.{as_member}
+use Rattle.ml_subs.proofs.Options.{some_left, none_left}
 use Rattle.ml_subs.proofs.Spelled.{leads_end, leads_more, leads_nowhere, leads_room}
 use Rattle.ml_subs.proofs.records.count_members.Goals as goal
 
@@ -19,9 +19,9 @@ pub loop-last-preserved : goal.loop-last-preserved
 loop-last-preserved c =
     let read = c.loop-last.invariant in
     let next = c.in-Some.ensures.some in (
-      read.0 ++ told c.in-Some.record ∷ [],
-      ap (λ k. k + 1) read.1 ∙ sym (length-append read.0 (told c.in-Some.record ∷ [])),
-      leads_more c.args.layout c.args.n c.args.floor.now c.args.text.now read.0 c.loop-last.last.now c.loop-last.rest.now (told c.in-Some.record) c.in-Some.more.now read.2 next.0 next.1 next.2,
+      read.0 ++ as_member c.in-Some.record ∷ [],
+      ap (λ k. k + 1) read.1 ∙ sym (length-append read.0 (as_member c.in-Some.record ∷ [])),
+      leads_more c.args.layout c.args.n c.args.floor.now c.args.text.now read.0 c.loop-last.last.now c.loop-last.rest.now (as_member c.in-Some.record) c.in-Some.more.now read.2 next.0 next.1 next.2,
     )
 
 pub returns-clause-some : goal.returns-clause-some

@@ -1,26 +1,29 @@
-use Rattle.std.proofs.Common.{◌∙◌, ◌+◌, ap, ap₂, sym, arith, Some, Option}
+use Rattle.std.proofs.Common.{◌≡◌, ◌∙◌, ◌+◌, ap, ap₂, sym, subst, rules, arith, true, false, Some, Option}
+use Rattle.std.proofs.lemmas.Result.{IfErr-weaker}
 use Rattle.ml_base.specs.Bytes.{Text}
 use Rattle.ml_base.specs.Address.{key}
 use Rattle.ml_base.specs.Dir.{Dir}
 use Rattle.ml_subs.specs.declared.changing.AddAnswer.TheVariants.{Added}
 use Rattle.ml_subs.specs.Buckets.{bucket_file}
-use Rattle.ml_subs.specs.Subscribers.{count_name, count_text}
+use Rattle.ml_subs.specs.Subscribers.{IsNoCount, IsUnread, count_name, count_text, is_touched}
+use Rattle.ml_base.specs.PartErrors.{OnDamaged}
 use Rattle.ml_subs.specs.Answers.{changes}
 use Rattle.ml_subs.specs.Reading.{joined, member_by}
-use Rattle.ml_subs.proofs.Answering.{sides_has, sides_with, file_with, bucket_there, addition, has_of_set, count_of_set}
+use Rattle.ml_base.proofs.DamagedNames.{on_damaged, on_both}
+use Rattle.ml_subs.proofs.Answering.{sides_has, sides_with, file_with, bucket_there, addition, has_of_set, count_of_set, count_touched, unread_count, unread}
 use Rattle.ml_subs.proofs.sets.add.Goals as goal
 
-pub returns-then-place-clause-read : goal.returns-then-place-clause-read
-returns-then-place-clause-read g c told =
+pub returns-then-is_some-clause-read : goal.returns-then-is_some-clause-read
+returns-then-is_some-clause-read g c told =
     let place = c.in-Some.ensures.some in (
       joined place.0,
       bucket_there (g.F.Files.map c.args.files.now) c.args.set (key c.args.a.now) c.bucket-n.result c.bucket_name-name.result c.in_ok-file.file (joined place.0) c.bucket-n.ensures.value c.bucket_name-name.ensures (c.in_ok-file.ensures.value told) place.1,
-      sides_has place.0 ∙ c.if-place.true,
+      sides_has c.in-Some.place.here place.0 ∙ sym c.is_some.ensures ∙ c.if-is_some.true,
     )
 
-pub returns-then-place-clause-value : goal.returns-then-place-clause-value
-returns-then-place-clause-value g c told ms is =
-    let read = returns-then-place-clause-read g c told in
+pub returns-then-is_some-clause-value : goal.returns-then-is_some-clause-value
+returns-then-is_some-clause-value g c told ms is =
+    let read = returns-then-is_some-clause-read g c told in
     has_of_set (g.F.Files.map c.args.files.now) c.args.set ms read.0 (key c.args.a.now) is read.1 ∙ read.2
 
 pub returns-then-count-eq-MAX_MEMBERS-clause-read : goal.returns-then-count-eq-MAX_MEMBERS-clause-read
@@ -31,7 +34,7 @@ returns-then-count-eq-MAX_MEMBERS-clause-read g c told =
       joined place.0,
       bucket_there (g.F.Files.map c.args.files.now) c.args.set (key c.args.a.now) c.bucket-n.result c.bucket_name-name.result c.in_ok-file.file (joined place.0) c.bucket-n.ensures.value c.bucket_name-name.ensures (c.in_ok-file.ensures.value told) place.1,
       (
-        sides_has place.0 ∙ c.if-place.false,
+        sides_has c.in-Some.place.here place.0 ∙ sym c.is_some.ensures ∙ c.if-is_some.false,
         sym (ap (λ (dir : Dir). dir (count_name c.args.set)) same) ∙ count.2 ∙ ap (λ n. Some (count_text n)) c.if-count-eq-MAX_MEMBERS.true,
       ),
     )
@@ -49,11 +52,11 @@ returns-clause-read g c told =
     let count = c.in_ok-count.ensures.value told in
     let same = g.met.F.Files.kept_map c.args.files.now c.get.new.self told c.get.ensures.kept in
     let m = member_by c.args.a.now c.args.now in
-    let text = ap Some (c.in_ok-text.ensures.text (place.0).below (place.0).above (place.0).around) ∙ sym (file_with (place.0).below (place.0).above m) ∙ sym (ap bucket_file (sides_with m place.0 c.if-place.false)) in (
+    let text = ap Some (c.in_ok-text.ensures.text (place.0).below (place.0).above (place.0).around) ∙ sym (file_with (place.0).below (place.0).above m) ∙ sym (ap bucket_file (sides_with m c.in-Some.place.here place.0 (sym c.is_some.ensures ∙ c.if-is_some.false))) in (
       joined place.0,
       bucket_there (g.F.Files.map c.args.files.now) c.args.set (key c.args.a.now) c.bucket-n.result c.bucket_name-name.result c.in_ok-file.file (joined place.0) c.bucket-n.ensures.value c.bucket_name-name.ensures (c.in_ok-file.ensures.value told) place.1,
       (
-        sides_has place.0 ∙ c.if-place.false,
+        sides_has c.in-Some.place.here place.0 ∙ sym c.is_some.ensures ∙ c.if-is_some.false,
         (
           c.in_ok-count.count,
           omega (arith, count.1, c.if-count-eq-MAX_MEMBERS.false),
@@ -67,3 +70,24 @@ pub returns-clause-value : goal.returns-clause-value
 returns-clause-value g c told ms is =
     let read = returns-clause-read g c told in
     addition (g.F.Files.map c.args.files.now) c.args.set (member_by c.args.a.now c.args.now) (Added _) read.0 ms c.in_ok-text.ensures.address c.requires read.1 read.2 is
+
+pub returns-in_err-count-clause-names : goal.returns-in_err-count-clause-names
+returns-in_err-count-clause-names g c =
+    let e = c.in_err-count.field-0.0 in
+    let failed = c.in_err-count.ensures.names in
+    record {
+      named = let own : OnDamaged e (λ name. is_touched c.args.set (key c.args.a.now) name ≡ true) = on_damaged e (λ name. name ≡ count_name c.args.set) (λ name. is_touched c.args.set (key c.args.a.now) name ≡ true) (count_touched c.args.set (key c.args.a.now)) failed.named in search rules;
+      damaged = λ told.
+          let dir = g.F.Files.map c.args.files.now in
+          let place = c.in-Some.ensures.some in
+          let same = g.met.F.Files.kept_map c.args.files.now c.get.new.self told c.get.ensures.kept in
+          let there = bucket_there dir c.args.set (key c.args.a.now) c.bucket-n.result c.bucket_name-name.result c.in_ok-file.file (joined place.0) c.bucket-n.ensures.value c.bucket_name-name.ensures (c.in_ok-file.ensures.value told) place.1 in
+          let none = subst (λ (d : Dir). OnDamaged e (λ _. IsNoCount d c.args.set 0)) same (failed.damaged told) in
+          let unread : OnDamaged e (IsUnread dir c.args.set (key c.args.a.now) false) =
+          on_both e (λ name. name ≡ count_name c.args.set) (λ _. IsNoCount dir c.args.set 0) (IsUnread dir c.args.set (key c.args.a.now) false) (unread_count dir c.args.set (key c.args.a.now) false (joined place.0) there (sides_has c.in-Some.place.here place.0 ∙ sym c.is_some.ensures ∙ c.if-is_some.false)) failed.named none in
+          search rules;
+    }
+
+pub returns-in_err-count-clause-sound : goal.returns-in_err-count-clause-sound
+returns-in_err-count-clause-sound g c told ms is =
+    IfErr-weaker _ _ _ (λ e. on_damaged e (IsUnread (g.F.Files.map c.args.files.now) c.args.set (key c.args.a.now) false) (λ _. ⊥) (λ name bad. unread (g.F.Files.map c.args.files.now) c.args.set (key c.args.a.now) false name ms bad is)) ((returns-in_err-count-clause-names g c).damaged told)

@@ -9,7 +9,7 @@ returns-in-Some-clause-read g c told =
     let place = c.in-Some.ensures.some in (
       joined place.0,
       bucket_there (g.F.Files.map c.args.files.now) c.args.set (key c.args.a.now) c.bucket-n.result c.bucket_name-name.result c.in_ok-file.file (joined place.0) c.bucket-n.ensures.value c.bucket_name-name.ensures (c.in_ok-file.ensures.value told) place.1,
-      sym (sides_has place.0),
+      c.is_some.ensures ∙ sym (sides_has c.in-Some.place.here place.0),
     )
 
 pub returns-in-Some-clause-value : goal.returns-in-Some-clause-value
