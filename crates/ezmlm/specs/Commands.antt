@@ -4,7 +4,7 @@ use Rattle.std.specs.declared.string.String.{String}
 use Rattle.std.specs.String.{string_bytes}
 use Rattle.ml_base.specs.Bytes.{Text}
 use Rattle.ml_plain.specs.declared.Item.{Item}
-use Rattle.ml_plain.specs.Plain.{Plain}
+use Rattle.ml_run.specs.FiveLists.{FiveLists}
 use Rattle.ml_run.specs.declared.lines.Why.TheVariants as whys
 use Rattle.ml_run.specs.Lines.{stop_text}
 use Rattle.ml_run.specs.SetFile.{Files}
@@ -37,7 +37,7 @@ is_spool_status status =
     status == 0 || status == 65 || status == 71 || status == 72 || status == 73 || status == 74 || status == 75 || status == 111
 
 -- what `spool` does to a list: what a run does
-pub record Spools (status : ℕ) (files : Files) (output : Text) (items : List Item) (ending : StreamEnd) (p : Plain) (out : Text) : Type 0 where
+pub record Spools (status : ℕ) (files : Files) (output : Text) (items : List Item) (ending : StreamEnd) (p : FiveLists) (out : Text) : Type 0 where
   pub answered : ℕ
   pub run : ℕ
   pub status_is : status ≡ spool_status run

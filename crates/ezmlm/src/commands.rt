@@ -3,7 +3,7 @@ ghost use Rattle.std.specs.Prelude.{◌≡◌, ◌⊎◌, false, ℕ, List, IsTr
 ghost use Rattle.ml_base.specs.Bytes.{Text};
 ghost use Rattle.ml_base.specs.Faults.{Rose};
 ghost use Rattle.ml_plain.specs.declared.Item.{Item as TheItem};
-ghost use Rattle.ml_plain.specs.Plain.{Plain};
+ghost use Rattle.ml_run.specs.FiveLists.{FiveLists};
 ghost use Rattle.ml_run.specs.Stream.{StreamEnd};
 ghost use Rattle.ml_run.specs.Serving.{Begins};
 ghost use Rattle.ml_run.specs.Running.{NamesDamaged};
@@ -18,8 +18,9 @@ const MOST_ITEMS: u64 = 1_000_000;
 /// Does what the words say, and answers the exit status and the site. The words are those behind the list's folder.
 ///
 /// `spool` answers the items of the input, at most 1,000,000 of them: 0 where the input was read to its end, else a
-/// stop line tells why not, with the status 65, 71, 72, 74, 75 or 111. Other words are no command: 64. The status is 73
-/// where the output failed. Nothing is written but answer lines and one stop line.
+/// stop line tells why not, with the status 65, 71, 72, 74, 75 or 111. Other words are no command: 64, and no call on the
+/// disk is made, nor is the input read. The status is 73 where the output failed. Nothing is written but answer lines and
+/// one stop line.
 pub fn ezmlm_main<I: Source, S: Site, K: Clock>(
     alloc: Global,
     words: &[String],
@@ -27,12 +28,13 @@ pub fn ezmlm_main<I: Source, S: Site, K: Clock>(
     site: S,
     _clock: &mut K,
 ) -> (u8, S)
-    ensures spools { IsTrue S.tells_all → IsCommand (texts words.now) → (items : List TheItem) (ending : StreamEnd) (p : Plain) (out : Text) →
+    ensures spools { IsTrue S.tells_all → IsCommand (texts words.now) → (items : List TheItem) (ending : StreamEnd) (p : FiveLists) (out : Text) →
         Begins (I.left input.old) (S.disk site).reads.files (S.output site) items ending p out →
         Spools result.0 (S.disk result.1).reads.files (S.output result.1) items ending p out }
     ensures command { IsCommand (texts words.now) → IsTrue (is_spool_status result.0) }
     ensures usage { IsTrue S.tells_all → ¬ IsCommand (texts words.now) → AnswersUsage result.0 (S.output site) (S.output result.1) }
     ensures no_command { ¬ IsCommand (texts words.now) → (result.0 ≡ 64) ⊎ (result.0 ≡ 73) }
+    ensures no_call { ¬ IsCommand (texts words.now) → S.disk_calls result.1 ≡ S.disk_calls site }
     ensures no_disk { ¬ IsCommand (texts words.now) → S.disk_faults result.1 ≡ S.disk_faults site }
     ensures no_change { IsTrue S.tells_all → ¬ IsCommand (texts words.now) → S.disk result.1 ≡ S.disk site }
     ensures no_input { ¬ IsCommand (texts words.now) → input.new ≡ input.old }
@@ -62,7 +64,7 @@ fn is_spool(words: &[String]) -> bool
 
 // Answers the items of the input.
 fn spool<I: Source, S: Site>(alloc: Global, input: &mut I, site: S) -> (u8, S)
-    ensures spools { IsTrue S.tells_all → (items : List TheItem) (ending : StreamEnd) (p : Plain) (out : Text) →
+    ensures spools { IsTrue S.tells_all → (items : List TheItem) (ending : StreamEnd) (p : FiveLists) (out : Text) →
         Begins (I.left input.old) (S.disk site).reads.files (S.output site) items ending p out →
         Spools result.0 (S.disk result.1).reads.files (S.output result.1) items ending p out }
     ensures statuses { IsTrue (is_spool_status result.0) }
@@ -86,6 +88,7 @@ fn exit_status(status: u8) -> u8
 fn refuse<S: Site>(mut site: S) -> (u8, S)
     ensures status { (result.0 ≡ 64) ⊎ (result.0 ≡ 73) }
     ensures usage { IsTrue S.tells_all → AnswersUsage result.0 (S.output site) (S.output result.1) }
+    ensures disk_calls { S.disk_calls result.1 ≡ S.disk_calls site }
     ensures disk_faults { S.disk_faults result.1 ≡ S.disk_faults site }
     ensures disk { IsTrue S.tells_all → S.disk result.1 ≡ S.disk site }
     ensures output { result.0 ≡ 73 → Rose (S.output_faults site) (S.output_faults result.1) }

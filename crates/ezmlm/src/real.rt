@@ -2,7 +2,7 @@
 //! that each fault is counted. That each call does what it says is for the reader of these files.
 ghost use Rattle.std.specs.Prelude.{◌≡◌, ◌≤◌, [], false};
 ghost use Rattle.ml_site.specs.Disk.{nothing, untold};
-ghost use Rattle.ml_base.specs.Faults.{Rose};
+ghost use Rattle.ml_base.specs.Faults.{Rose, next_call};
 ghost use Rattle.ml_site.specs.declared.site.SiteError.TheVariants.{Failed as FailedCall};
 
 mod changes;
@@ -27,6 +27,7 @@ use std::io::ErrorKind;
 #[derive(Drop)]
 pub struct RealSite<'a> {
     folder: Folder<'a>,
+    disk_calls: u64,
     disk_faults: u64,
     output_faults: u64,
 }
@@ -35,15 +36,24 @@ impl<'a> RealSite<'a> {
     /// The site of the list in this folder. Its first call on the disk makes the folder, with those above it, and takes
     /// the lock; where it can't, that call fails, and the next one tries again. Nothing is done yet, and no memory taken.
     pub fn new(rt: &'a HostRuntime, dir: &'a str) -> Self
+        ensures calls { result.disk_calls ≡ 0 }
         ensures disk { result.disk_faults ≡ 0 }
         ensures output { result.output_faults ≡ 0 }
     {
         RealSite {
             folder: Folder::new(rt, dir),
+            disk_calls: 0,
             disk_faults: 0,
             output_faults: 0,
         }
     }
+}
+
+// Counts a call on the disk.
+fn count_call(calls: &mut u64)
+    ensures { calls.new ≡ next_call calls.old }
+{
+    *calls = calls.saturating_add(1);
 }
 
 // Counts a fault, and is its answer.
@@ -84,11 +94,14 @@ impl<'a> Site for RealSite<'a> {
 
     ghost log_bytes = { λ _. 0 };
 
+    ghost disk_calls = { λ s. s.disk_calls };
+
     ghost disk_faults = { λ s. s.disk_faults };
 
     ghost output_faults = { λ s. s.output_faults };
 
     fn read_log(&mut self, alloc: Global) -> Result<Bytes, SiteError> {
+        count_call(&mut self.disk_calls);
         match self.folder.read_log(alloc) {
             Ok(bytes) => Ok(bytes),
             Err(error) => Err(site_error(error, &mut self.disk_faults)),
@@ -96,6 +109,7 @@ impl<'a> Site for RealSite<'a> {
     }
 
     fn write_log(&mut self, _alloc: Global, at: u64, bytes: &[u8]) -> Result<(), SiteError> {
+        count_call(&mut self.disk_calls);
         match self.folder.write_log(at, bytes) {
             Ok(()) => Ok(()),
             Err(error) => Err(site_error(error, &mut self.disk_faults)),
@@ -103,6 +117,7 @@ impl<'a> Site for RealSite<'a> {
     }
 
     fn cut_log(&mut self, len: u64) -> Result<(), Failed> {
+        count_call(&mut self.disk_calls);
         match self.folder.cut_log(len) {
             Ok(()) => Ok(()),
             Err(_) => Err(failed(&mut self.disk_faults)),
@@ -110,6 +125,7 @@ impl<'a> Site for RealSite<'a> {
     }
 
     fn read_file(&mut self, alloc: Global, name: Name) -> Result<Option<Bytes>, SiteError> {
+        count_call(&mut self.disk_calls);
         match self.folder.read(alloc, name) {
             Ok(found) => Ok(found),
             Err(error) => Err(site_error(error, &mut self.disk_faults)),
@@ -117,6 +133,7 @@ impl<'a> Site for RealSite<'a> {
     }
 
     fn write_file(&mut self, _alloc: Global, name: Name, bytes: &[u8]) -> Result<(), SiteError> {
+        count_call(&mut self.disk_calls);
         match self.folder.write(name, bytes) {
             Ok(()) => Ok(()),
             Err(error) => Err(site_error(error, &mut self.disk_faults)),
@@ -124,6 +141,7 @@ impl<'a> Site for RealSite<'a> {
     }
 
     fn remove_file(&mut self, _alloc: Global, name: Name) -> Result<(), SiteError> {
+        count_call(&mut self.disk_calls);
         match self.folder.remove(name) {
             Ok(()) => Ok(()),
             Err(error) => Err(site_error(error, &mut self.disk_faults)),
@@ -131,6 +149,7 @@ impl<'a> Site for RealSite<'a> {
     }
 
     fn sync(&mut self) -> Result<(), Failed> {
+        count_call(&mut self.disk_calls);
         match self.folder.sync() {
             Ok(()) => Ok(()),
             Err(_) => Err(failed(&mut self.disk_faults)),

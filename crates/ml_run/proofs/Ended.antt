@@ -5,7 +5,7 @@ use Rattle.std.proofs.lemmas.Bool.Decides.{nat_tests}
 use Rattle.ml_base.specs.Bytes.{Text}
 use Rattle.ml_base.specs.declared.names.Name.{Name}
 use Rattle.ml_plain.specs.declared.Item.{Item}
-use Rattle.ml_plain.specs.Plain.{Plain, fold, text}
+use Rattle.ml_run.specs.FiveLists.{FiveLists, fold, text}
 use Rattle.ml_plain.specs.Replies.{is_status}
 use Rattle.ml_run.specs.declared.answers.ItemStop.TheVariants as item_stops
 use Rattle.ml_run.specs.declared.looping.Stop.{Stop}
@@ -37,11 +37,11 @@ no_line : (l : Option ℕ × Why) → ◌≡◌ {A = Line} (Some l) None → ⊥
 no_line l e = cc
 
 -- all of a list
-all_taken : (n : ℕ) (items : List Item) (files : Files) (p : Plain) → n ≡ length items → IsState files (fold p (take n items)) → IsState files (fold p items)
+all_taken : (n : ℕ) (items : List Item) (files : Files) (p : FiveLists) → n ≡ length items → IsState files (fold p (take n items)) → IsState files (fold p items)
 all_taken n items files p e s = subst (λ (l : List Item). IsState files (fold p l)) (take_all n items (omega (arith, e))) s
 
 -- a run without a stop line came to the end, or could not put an answer out
-pub quiet : (stop : Stop) (limit count last : ℕ) (files : Files) (output : Text) (items : List Item) (ending : StreamEnd) (p : Plain) (out : Text)
+pub quiet : (stop : Stop) (limit count last : ℕ) (files : Files) (output : Text) (items : List Item) (ending : StreamEnd) (p : FiveLists) (out : Text)
     → run_line stop ≡ None → Serves stop limit count last files output items ending p out → Runs (run_status stop last) limit count files output items ending p out
 quiet stops.End limit count last files output items ending p out e s =
     inl (record {
@@ -71,20 +71,20 @@ quiet (stops.Item number item_stops.Disk) limit count last files output items en
 quiet (stops.Item number (item_stops.Damaged name)) limit count last files output items ending p out e s = absurd (no_line _ e)
 
 -- what a run is that ends early, before its stop line
-pub record Early (why : Why) (who : Option ℕ) (status limit count : ℕ) (files : Files) (output : Text) (items : List Item) (ending : StreamEnd) (p : Plain) (out : Text) : Type 0 where
+pub record Early (why : Why) (who : Option ℕ) (status limit count : ℕ) (files : Files) (output : Text) (items : List Item) (ending : StreamEnd) (p : FiveLists) (out : Text) : Type 0 where
   pub within : count ≤ length items
   pub status_is : status ≡ status_of_why why
   pub early : EndsEarly why who limit count files items ending p
   pub put : output ≡ out ++ text p (take count items)
 
-early_same : (why other : Why) (who mine : Option ℕ) (status limit count : ℕ) (files : Files) (output : Text) (items : List Item) (ending : StreamEnd) (p : Plain) (out : Text)
+early_same : (why other : Why) (who mine : Option ℕ) (status limit count : ℕ) (files : Files) (output : Text) (items : List Item) (ending : StreamEnd) (p : FiveLists) (out : Text)
     → line_is who why ≡ line_is mine other → Early why who status limit count files output items ending p out → Early other mine status limit count files output items ending p out
 unfolding line_is who_of why_of
 early_same why other who mine status limit count files output items ending p out e h =
     subst (λ (w : Option ℕ). Early other w status limit count files output items ending p out) (ap who_of e)
     (subst (λ (w : Why). Early w who status limit count files output items ending p out) (ap why_of e) h)
 
-pub early : (stop : Stop) (why : Why) (who : Option ℕ) (limit count last : ℕ) (files : Files) (output : Text) (items : List Item) (ending : StreamEnd) (p : Plain) (out : Text)
+pub early : (stop : Stop) (why : Why) (who : Option ℕ) (limit count last : ℕ) (files : Files) (output : Text) (items : List Item) (ending : StreamEnd) (p : FiveLists) (out : Text)
     → run_line stop ≡ Some (who, why) → Serves stop limit count last files output items ending p out → Early why who (run_status stop last) limit count files output items ending p out
 unfolding line_is
 early stops.End why who limit count last files output items ending p out e s = absurd (no_line _ (sym e))
@@ -113,7 +113,7 @@ early (stops.Item number item_stops.Disk) why who limit count last files output 
 early (stops.Item number (item_stops.Damaged name)) why who limit count last files output items ending p out e s = absurd s.gives
 
 -- its whole stop line is out
-pub stopped : (why : Why) (who : Option ℕ) (status limit count : ℕ) (mid files : Files) (before output piece : Text) (items : List Item) (ending : StreamEnd) (p : Plain) (out : Text)
+pub stopped : (why : Why) (who : Option ℕ) (status limit count : ℕ) (mid files : Files) (before output piece : Text) (items : List Item) (ending : StreamEnd) (p : FiveLists) (out : Text)
     → Early why who status limit count mid before items ending p out → files ≡ mid → output ≡ before ++ piece → piece ≡ stop_text who status why → Runs status limit count files output items ending p out
 stopped why who status limit count mid files before output piece items ending p out h same put is =
     inr (inl (record {
@@ -126,7 +126,7 @@ stopped why who status limit count mid files before output piece items ending p 
     }))
 
 -- a front of it is
-pub cut_off : (why : Why) (who : Option ℕ) (status limit count : ℕ) (mid files : Files) (before output piece : Text) (items : List Item) (ending : StreamEnd) (p : Plain) (out : Text)
+pub cut_off : (why : Why) (who : Option ℕ) (status limit count : ℕ) (mid files : Files) (before output piece : Text) (items : List Item) (ending : StreamEnd) (p : FiveLists) (out : Text)
     → Early why who status limit count mid before items ending p out → files ≡ mid → (n : ℕ) × (output ≡ before ++ take n piece) → piece ≡ stop_text who status why → Runs 73 limit count files output items ending p out
 cut_off why who status limit count mid files before output piece items ending p out h same put is =
     inr (inr (record {

@@ -6,7 +6,7 @@ use Rattle.std.specs.declared.cmp.Ordering.TheVariants.{Less, Equal, Greater}
 use Rattle.std.specs.Ordering.{is_eq, match_ordering, ordering_reverse}
 use Rattle.std.specs.Cmp.Lexicographic.{nat_list_cmp_total}
 use Rattle.ml_base.specs.Address.{IsAddress, key}
-use Rattle.ml_plain.specs.Plain.{address_cmp, has, with_address}
+use Rattle.ml_run.specs.FiveLists.{address_cmp, has, with_address}
 use Rattle.ml_run.specs.SetFile.{IsFile, IsSet, FirstAbove, Ascending, spelled}
 
 turned : (a b : List ℕ) → address_cmp a b ≡ Greater → address_cmp b a ≡ Less

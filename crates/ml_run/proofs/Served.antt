@@ -4,7 +4,7 @@ use Rattle.std.proofs.lemmas.List.{take_all}
 use Rattle.std.specs.List.{slice_get}
 use Rattle.ml_base.specs.Bytes.{Text, is_empty}
 use Rattle.ml_plain.specs.declared.Item.{Item}
-use Rattle.ml_plain.specs.Plain.{Plain, step0, fold, text}
+use Rattle.ml_run.specs.FiveLists.{FiveLists, step0, fold, text}
 use Rattle.ml_plain.specs.Replies.{line, status_of}
 use Rattle.ml_run.specs.declared.reader.Letter.{Letter}
 use Rattle.ml_run.specs.declared.stream.StreamError.{StreamError}
@@ -101,16 +101,16 @@ none_left place n bs items ending s le none =
     none_dropped : (n : ℕ) (xs : List Item) → drop n xs ≡ [] → n ≤ length xs → n ≡ length xs
     none_dropped n xs e le = omega (arith, ap length e, length-drop n xs)
 
-fold_more : (p : Plain) (xs : List Item) (i : Item) → fold p (xs ++ i ∷ []) ≡ (step0 (fold p xs) i).0
+fold_more : (p : FiveLists) (xs : List Item) (i : Item) → fold p (xs ++ i ∷ []) ≡ (step0 (fold p xs) i).0
 fold_more p [] i = refl
 fold_more p (x ∷ xs) i = fold_more (step0 p x).0 xs i
 
-text_more : (p : Plain) (xs : List Item) (i : Item) → text p (xs ++ i ∷ []) ≡ text p xs ++ line i.number (step0 (fold p xs) i).1
+text_more : (p : FiveLists) (xs : List Item) (i : Item) → text p (xs ++ i ∷ []) ≡ text p xs ++ line i.number (step0 (fold p xs) i).1
 text_more p [] i = append-nil (line i.number (step0 p i).1)
 text_more p (x ∷ xs) i =
     ap (λ t. line x.number (step0 p x).1 ++ t) (text_more (step0 p x).0 xs i) ∙ sym (append_assoc (line x.number (step0 p x).1) (text (step0 p x).0 xs) (line i.number (step0 (fold (step0 p x).0 xs) i).1))
 
-last_more : (status : ℕ) (p : Plain) (xs : List Item) (i : Item) → last_from status p (xs ++ i ∷ []) ≡ status_of (step0 (fold p xs) i).1.code
+last_more : (status : ℕ) (p : FiveLists) (xs : List Item) (i : Item) → last_from status p (xs ++ i ∷ []) ≡ status_of (step0 (fold p xs) i).1.code
 last_more status p [] i = refl
 last_more status p (x ∷ xs) i = last_more (status_of (step0 p x).1.code) (step0 p x).0 xs i
 
@@ -124,7 +124,7 @@ next_dropped (suc n) (x ∷ xs) later i e =
     (omega (arith, h.0), ap (λ k. drop k (x ∷ xs)) q ∙ h.1, ap (λ k. take k (x ∷ xs)) q ∙ ap (λ t. x ∷ t) h.2, h.3)
 
 -- one more item is answered
-pub answered_more : (n : ℕ) (items later : List Item) (i : Item) (files : Files) (output : Text) (p : Plain) (out : Text) → drop n items ≡ i ∷ later
+pub answered_more : (n : ℕ) (items later : List Item) (i : Item) (files : Files) (output : Text) (p : FiveLists) (out : Text) → drop n items ≡ i ∷ later
     → IsState files (step0 (fold p (take n items)) i).0 → output ≡ (out ++ text p (take n items)) ++ line i.number (step0 (fold p (take n items)) i).1 → Answered (n + 1) files output items p out
 answered_more n items later i files output p out next state put =
     let h = next_dropped n items later i next in
@@ -134,13 +134,13 @@ answered_more n items later i files output p out next state put =
       put = put ∙ append_assoc out (text p (take n items)) (line i.number (step0 (fold p (take n items)) i).1) ∙ ap (λ t. out ++ t) (sym (ap (text p) h.2 ∙ text_more p (take n items) i));
     }
 
-pub last_answered : (n : ℕ) (items later : List Item) (i : Item) (p : Plain) (status : ℕ) → drop n items ≡ i ∷ later → status ≡ status_of (step0 (fold p (take n items)) i).1.code → status ≡ last_status p (take (n + 1) items)
+pub last_answered : (n : ℕ) (items later : List Item) (i : Item) (p : FiveLists) (status : ℕ) → drop n items ≡ i ∷ later → status ≡ status_of (step0 (fold p (take n items)) i).1.code → status ≡ last_status p (take (n + 1) items)
 last_answered n items later i p status next is =
     let h = next_dropped n items later i next in
     is ∙ sym (ap (last_status p) h.2 ∙ last_more 0 p (take n items) i)
 
 -- nothing is answered at the start
-pub none_answered : (files : Files) (output : Text) (items : List Item) (p : Plain) (out : Text) → IsState files p → output ≡ out → Answered 0 files output items p out
+pub none_answered : (files : Files) (output : Text) (items : List Item) (p : FiveLists) (out : Text) → IsState files p → output ≡ out → Answered 0 files output items p out
 none_answered files output items p out state put = record { within = omega arith; state = state; put = put ∙ sym (append-nil out) }
 
 -- all are answered where none is left
@@ -153,14 +153,14 @@ all_broken place bs x n items ending s le e =
     let h = stream_err place bs x (drop n items) ending s e in (h.1, omega (arith, ap length h.0, length-drop n items))
 
 -- the loop came to the end
-pub end_serves : (limit n last : ℕ) (files : Files) (output : Text) (items : List Item) (ending : StreamEnd) (p : Plain) (out : Text)
+pub end_serves : (limit n last : ℕ) (files : Files) (output : Text) (items : List Item) (ending : StreamEnd) (p : FiveLists) (out : Text)
     → n ≤ limit → last ≡ last_status p (take n items) → Answered n files output items p out → (ending ≡ End) × (n ≡ length items) → Serves stops.End limit n last files output items ending p out
 end_serves limit n last files output items ending p out few is a e =
     let all : take n items ≡ items = take_all n items (omega (arith, e.1)) in
     (e.0, e.1, few, is ∙ ap (last_status p) all, a)
 
 -- an error of the reader, in place of an item
-pub error_serves : (place : ℕ) (bs : Text) (e : StreamError) (limit n last : ℕ) (files : Files) (output : Text) (items : List Item) (ending : StreamEnd) (p : Plain) (out : Text)
+pub error_serves : (place : ℕ) (bs : Text) (e : StreamError) (limit n last : ℕ) (files : Files) (output : Text) (items : List Item) (ending : StreamEnd) (p : FiveLists) (out : Text)
     → IsStream place bs (drop n items) ending → n < limit → Answered n files output items p out → Tells e (item_at place bs) → Serves (stop_of_stream e) limit n last files output items ending p out
 error_serves place bs (Bad at) limit n last files output items ending p out s few a t = let h = all_broken place bs (Bad at) n items ending s a.within t in (h.0, h.1, few, a)
 error_serves place bs (Short at) limit n last files output items ending p out s few a t = let h = all_broken place bs (Short at) n items ending s a.within t in (h.0, h.1, few, a)
@@ -168,7 +168,7 @@ error_serves place bs Fault limit n last files output items ending p out s few a
 error_serves place bs Memory limit n last files output items ending p out s few a t = a
 
 -- the item in hand was refused
-pub refused : (stop : ItemStop) (number n : ℕ) (files : Files) (output : Text) (items later : List Item) (i : Item) (p : Plain) (out : Text)
+pub refused : (stop : ItemStop) (number n : ℕ) (files : Files) (output : Text) (items later : List Item) (i : Item) (p : FiveLists) (out : Text)
     → n ≤ length items → drop n items ≡ i ∷ later → number ≡ i.number → ItemGives (Err stop) files output i (fold p (take n items)) (out ++ text p (take n items)) → Refused stop number n files output items p out
 refused stop number n files output items later i p out within next is gives =
     record { within = within; hand = record { item = i; next = (next_dropped n items later i next).3; number_is = is }; gives = gives }

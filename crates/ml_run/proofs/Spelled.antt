@@ -16,11 +16,11 @@ use Rattle.ml_base.proofs.Netstrings.{no_colon, regroup}
 use Rattle.ml_base.proofs.Addresses.{address_kept}
 use Rattle.ml_plain.specs.declared.Item.{Item}
 use Rattle.ml_plain.specs.declared.Act.{Act}
-use Rattle.ml_plain.specs.declared.Act.TheVariants.{Add}
+use Rattle.ml_plain.specs.declared.Act.TheVariants.{Deliver, Timed, Add, Remove, Sent, Rekey, Floor}
 use Rattle.ml_run.specs.declared.reader.Letter.{Letter}
 use Rattle.ml_run.specs.declared.reader.Letter.TheVariants as letters
 use Rattle.ml_run.specs.Stream.{got, and_then, length_at, element_at, item_number_of, moment_of, add_at, act_at, elements_at, item_at, letter_of, behind_letter, some_item}
-use Rattle.ml_run.specs.Writing.{KeepsLimits, HasAddress, IsOfAddress, letter, spelled_act, spelled_item}
+use Rattle.ml_run.specs.Writing.{IsStreamItem, AddsAddress, letter, spelled_act, spelled_item}
 use Rattle.ml_run.proofs.Elements.{content_full, element_ok, comma_some, item_ok, add_ok}
 
 -- the digits of a length, and its colon
@@ -81,7 +81,7 @@ number_short n small = length-decimal-le 12 n (omega arith) (omega arith) (omega
 places : (place : ℕ) (a b : Text) → place + length a + length b ≡ place + length (a ++ b)
 places place a b = omega (arith, length-append a b)
 
-act_written : (place : ℕ) (act : Act) (l : Letter) (rest : Text) → letter_of (letter act) ≡ Some l → IsOfAddress act → act_at l place (spelled_act act ++ rest) ≡ got act (place + length (spelled_act act)) rest
+act_written : (place : ℕ) (act : Act) (l : Letter) (rest : Text) → letter_of (letter act) ≡ Some l → AddsAddress act → act_at l place (spelled_act act ++ rest) ≡ got act (place + length (spelled_act act)) rest
 act_written place (Add set who) letters.Add rest e a =
     let set_is = set_read set in
     ap (add_at place) (append_assoc (ns (set_word set)) (ns who) rest)
@@ -89,17 +89,29 @@ act_written place (Add set who) letters.Add rest e a =
     (element_written 6 place set_of (set_word set) set (ns who ++ rest) (omega arith) set_is.1 set_is.0)
     (element_written 400 (place + length (ns (set_word set))) address_of who who rest (omega arith) (address_short who a) (address_kept who a))
     ∙ ap (λ k. got (Add set who) k rest) (places place (ns (set_word set)) (ns who))
+act_written place (Deliver sender recipient message) l rest e a = absurd a
+act_written place Timed l rest e a = absurd a
+act_written place (Remove set who) l rest e a = absurd a
+act_written place (Sent id) l rest e a = absurd a
+act_written place (Rekey key) l rest e a = absurd a
+act_written place (Floor at) l rest e a = absurd a
 
-has_letter : (act : Act) → (l : Letter) × (letter_of (letter act) ≡ Some l)
-has_letter (Add set who) = (letters.Add, refl)
+has_letter : (act : Act) → AddsAddress act → (l : Letter) × (letter_of (letter act) ≡ Some l)
+has_letter (Add set who) a = (letters.Add, refl)
+has_letter (Deliver sender recipient message) a = absurd a
+has_letter Timed a = absurd a
+has_letter (Remove set who) a = absurd a
+has_letter (Sent id) a = absurd a
+has_letter (Rekey key) a = absurd a
+has_letter (Floor at) a = absurd a
 
-pub item_written : (place : ℕ) (item : Item) (rest : Text) → KeepsLimits item → HasAddress item
+pub item_written : (place : ℕ) (item : Item) (rest : Text) → IsStreamItem item → AddsAddress item.act
     → item_at place (spelled_item item ++ rest) ≡ got (Some item) (place + length (spelled_item item)) rest
 item_written place item rest k a =
     let number = ns (decimal item.number) in
     let moment = ns (decimal item.moment) in
     let act = spelled_act item.act in
-    let l = has_letter item.act in
+    let l = has_letter item.act a in
     let flat : ((number ++ moment) ++ act) ++ rest ≡ number ++ (moment ++ (act ++ rest)) = append_assoc (number ++ moment) act rest ∙ append_assoc number moment (act ++ rest) in
     let p1 = place + 1 + length number in
     let p2 = p1 + length moment in

@@ -10,7 +10,8 @@ use Rattle.ml_base.specs.Name.{set_kind}
 use Rattle.ml_site.specs.Disk.{Contents, MayLeave, File}
 use Rattle.ml_base.specs.Dir.{same_name, with_file}
 use Rattle.ml_plain.specs.declared.Act.{Act}
-use Rattle.ml_plain.specs.Plain.{Plain, Sets, put, has, is_full, added, add_reply, already, full, subscribed, with_address}
+use Rattle.ml_run.specs.FiveLists.{FiveLists, Sets, put, has, is_full, added, add_reply, with_address}
+use Rattle.ml_plain.specs.Answers.{already, full, subscribed}
 use Rattle.ml_run.specs.SetFile.{Files, file_of, IsSet, IsFile, IsState, IsStateBut, IsDamaged}
 use Rattle.ml_run.specs.Answers.{ActGives, OthersStand}
 use Rattle.ml_run.specs.Stops.{stop_of}
@@ -25,7 +26,7 @@ name_test : (s set : Set) → same_name (file_of s) (file_of set) ≡ (set_kind 
 name_test s set = and_true (set_kind s == set_kind set)
 
 -- what was read of a set's file stands for the set
-pub set_read : (old : Contents) (p : Plain) (set : Set) (name : Name) (file : Option Text) → IsState old.files p → name ≡ file_of set
+pub set_read : (old : Contents) (p : FiveLists) (set : Set) (name : Name) (file : Option Text) → IsState old.files p → name ≡ file_of set
     → file ≡ old.files name → IsSet file (p.sets set)
 set_read old p set name file st n found = subst (λ f. IsSet f (p.sets set)) (sym (found ∙ ap old.files n)) (st set)
 
@@ -39,13 +40,13 @@ put_set sets set s ms n other here =
     ]
 
 -- a list with these members in one of its sets
-abbrev pub with_set : Plain → Set → List Text → Plain
+abbrev pub with_set : FiveLists → Set → List Text → FiveLists
 with_set p set ms = record { sets = put p.sets set ms }
 
-pub state_same : (files : Files) (p : Plain) (set : Set) (ms : List Text) → IsState files p → ms ≡ p.sets set → IsState files (with_set p set ms)
+pub state_same : (files : Files) (p : FiveLists) (set : Set) (ms : List Text) → IsState files p → ms ≡ p.sets set → IsState files (with_set p set ms)
 state_same files p set ms st e s = put_set p.sets set s ms files (λ ne. st s) (subst (λ l. IsSet (files (file_of set)) l) (sym e) (st set))
 
-pub state_written : (files : Files) (p : Plain) (set : Set) (bytes : Text) (ms : List Text) → IsState files p → IsFile bytes ms → IsState (with_file files (file_of set) (Some bytes)) (with_set p set ms)
+pub state_written : (files : Files) (p : FiveLists) (set : Set) (bytes : Text) (ms : List Text) → IsState files p → IsFile bytes ms → IsState (with_file files (file_of set) (Some bytes)) (with_set p set ms)
 state_written files p set bytes ms st f s =
     put_set p.sets set s ms (with_file files (file_of set) (Some bytes))
     (λ ne. subst (λ o. IsSet o (p.sets s)) (sym (ap (λ t. if t then Some bytes else files (file_of s)) (name_test s set ∙ ne_eqb (set_kind s) (set_kind set) ne))) (st s))
@@ -70,7 +71,7 @@ reply_subscribed ms who h few =
     )
 
 -- an error of the site refuses the act
-pub site_err : (e : SiteError) (files : Files) (act : Act) (p : Plain) → OthersStand act files p → ActGives (Err (stop_of e)) files act p
+pub site_err : (e : SiteError) (files : Files) (act : Act) (p : FiveLists) → OthersStand act files p → ActGives (Err (stop_of e)) files act p
 site_err Failed files act p others = others
 site_err Memory files act p others = others
 
@@ -90,7 +91,7 @@ kinds_differ : (a b : Set) → a ≢ b → set_kind a ≢ set_kind b
 kinds_differ a b differ e = differ (sym (at_kind a) ∙ ap set_at e ∙ at_kind b)
 
 -- where at most the file of one set was written, the other sets stand as before
-pub others_written : (old new : Contents) (p : Plain) (set : Set) (name : Name) → IsState old.files p → name ≡ file_of set → MayLeave old (File name ∷ []) new → IsStateBut set new.files p
+pub others_written : (old new : Contents) (p : FiveLists) (set : Set) (name : Name) → IsState old.files p → name ≡ file_of set → MayLeave old (File name ∷ []) new → IsStateBut set new.files p
 others_written old new p set name st n may other differ =
     let apart : file_of other ≢ name = λ e. kinds_differ other set differ (ap (λ (q : Name). q.kind) (e ∙ n)) in
     subst (λ o. IsSet o (p.sets other)) (sym (may.files (file_of other) (apart, tt))) (st other)

@@ -1,10 +1,11 @@
+pub mod FiveLists
 pub mod Stream
+pub mod Writing
 pub mod Reading
 pub mod Items
 pub mod SetFile
 pub mod Stops
 pub mod Answers
 pub mod Lines
-pub mod Writing
 pub mod Serving
 pub mod Running

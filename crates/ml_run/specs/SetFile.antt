@@ -8,7 +8,7 @@ use Rattle.ml_base.specs.declared.names.Set.{Set}
 use Rattle.ml_base.specs.Name.{set_kind}
 use Rattle.ml_base.specs.Address.{IsAddress}
 use Rattle.ml_base.specs.declared.names.Name.{Name}
-use Rattle.ml_plain.specs.Plain.{Plain, address_cmp, has, with_address}
+use Rattle.ml_run.specs.FiveLists.{FiveLists, address_cmp, has, with_address}
 use Rattle.ml_run.specs.declared.sets.Plan.{Plan}
 use Rattle.ml_run.specs.declared.sets.Plan.TheVariants as plans
 
@@ -47,11 +47,11 @@ IsSet None members = members ≡ []
 IsSet (Some bytes) members = IsFile bytes members
 
 -- the files stand for this list
-abbrev pub IsState : Files → Plain → Type 0
+abbrev pub IsState : Files → FiveLists → Type 0
 IsState files p = (set : Set) → IsSet (files (file_of set)) (p.sets set)
 
 -- the files stand for this list, but nothing is said of one set
-abbrev pub IsStateBut : Set → Files → Plain → Type 0
+abbrev pub IsStateBut : Set → Files → FiveLists → Type 0
 IsStateBut set files p = (other : Set) → other ≢ set → IsSet (files (file_of other)) (p.sets other)
 
 -- the file of this name stands for no set: it is damaged

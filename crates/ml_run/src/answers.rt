@@ -4,11 +4,12 @@ ghost use Rattle.ml_base.specs.Bytes.{Text};
 ghost use Rattle.ml_base.specs.Name.{is_in_table};
 ghost use Rattle.ml_base.specs.declared.names.Name.{Name as TheName};
 ghost use Rattle.ml_base.specs.Faults.{Rose};
-ghost use Rattle.ml_plain.specs.Plain.{Plain};
+ghost use Rattle.ml_run.specs.FiveLists.{FiveLists};
 ghost use Rattle.ml_plain.specs.declared.Act.TheVariants.{Add};
 ghost use Rattle.ml_plain.specs.Replies.{is_code, is_status};
 ghost use Rattle.ml_run.specs.SetFile.{IsState, IsDamaged};
 ghost use Rattle.ml_run.specs.Answers.{ActGives, ItemGives};
+ghost use Rattle.ml_run.specs.Writing.{IsAdd};
 
 use crate::answer_line;
 use crate::sets::{Plan, plan_for};
@@ -61,7 +62,7 @@ impl From<Failed> for ItemStop {
 
 // Puts an address among a set's members, where it isn't and there is room.
 fn add<S: Site>(alloc: Global, site: &mut S, set: Set, who: &Address) -> Result<Reply, ItemStop>
-    ensures state { IsTrue S.tells_reads → (p : Plain) → IsState (S.disk site.old).reads.files p → ActGives result (S.disk site.new).reads.files (Add set who.now) p }
+    ensures state { IsTrue S.tells_reads → (p : FiveLists) → IsState (S.disk site.old).reads.files p → ActGives result (S.disk site.new).reads.files (Add set who.now) p }
     ensures output { IsTrue S.tells_all → S.output site.new ≡ S.output site.old }
     ensures put { S.output_faults site.new ≡ S.output_faults site.old }
     ensures later { S.disk_faults site.old ≤ S.disk_faults site.new }
@@ -97,8 +98,10 @@ fn add<S: Site>(alloc: Global, site: &mut S, set: Set, who: &Address) -> Result<
     }
 }
 
+// Does what an act asks that a stream can have.
 fn apply<S: Site>(alloc: Global, site: &mut S, act: &Act) -> Result<Reply, ItemStop>
-    ensures state { IsTrue S.tells_reads → (p : Plain) → IsState (S.disk site.old).reads.files p → ActGives result (S.disk site.new).reads.files act.now p }
+    requires { IsAdd act.now }
+    ensures state { IsTrue S.tells_reads → (p : FiveLists) → IsState (S.disk site.old).reads.files p → ActGives result (S.disk site.new).reads.files act.now p }
     ensures output { IsTrue S.tells_all → S.output site.new ≡ S.output site.old }
     ensures put { S.output_faults site.new ≡ S.output_faults site.old }
     ensures later { S.disk_faults site.old ≤ S.disk_faults site.new }
@@ -110,12 +113,14 @@ fn apply<S: Site>(alloc: Global, site: &mut S, act: &Act) -> Result<Reply, ItemS
 {
     match act {
         Act::Add { set, who } => add(alloc, site, *set, who),
+        _ => unreachable!(),
     }
 }
 
 // Does what an item asks, puts its answer out, and answers the status of its reply.
 pub(crate) fn answer<S: Site>(alloc: Global, site: &mut S, item: &Item) -> Result<u8, ItemStop>
-    ensures gives { IsTrue S.tells_all → (p : Plain) (out : Text) → IsState (S.disk site.old).reads.files p → S.output site.old ≡ out →
+    requires { IsAdd item.now.act }
+    ensures gives { IsTrue S.tells_all → (p : FiveLists) (out : Text) → IsState (S.disk site.old).reads.files p → S.output site.old ≡ out →
         ItemGives result (S.disk site.new).reads.files (S.output site.new) item.now p out }
     ensures damaged { IsTrue S.tells_reads → (name : TheName) → IsErrOf result (ItemStop.Damaged name) → IsDamaged (S.disk site.new).reads.files name }
     ensures named { (name : TheName) → IsErrOf result (ItemStop.Damaged name) → IsTrue (is_in_table name) }

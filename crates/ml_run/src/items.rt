@@ -1,8 +1,9 @@
 // Items, one at a time.
-ghost use Rattle.std.specs.Prelude.{◌≡◌, ◌↔◌, ◌<◌, ◌≤◌, ◌^◌, ℕ, List, Option, Some, None, Ok, true, not, IsTrue, IsSome, IfOk, OnOk, IfErr, IsErrOf, length};
+ghost use Rattle.std.specs.Prelude.{◌≡◌, ◌↔◌, ◌<◌, ◌≤◌, ◌^◌, ℕ, List, Option, Some, None, Ok, true, not, IsTrue, IsSome, IfSome, IfOk, OnOk, IfErr, IsErrOf, length};
 ghost use Rattle.ml_base.specs.Faults.{Rose, HasCause};
 ghost use Rattle.ml_base.specs.Bytes.{Text, is_empty};
 ghost use Rattle.ml_run.specs.Stream.{item_at};
+ghost use Rattle.ml_run.specs.Writing.{IsStreamItem};
 ghost use Rattle.ml_run.specs.Items.{HasLeft, NextRead, place_of, ahead_of, error_of};
 ghost use Rattle.ml_run.specs.declared.stream.StreamError.{StreamError as TheError};
 
@@ -35,7 +36,8 @@ impl Items {
         }
     }
 
-    /// The next item, or None at the end of the stream. It takes no byte behind the item from the source.
+    /// The next item, or None at the end of the stream. Of any source an item's number has at most 12 digits, its moment is
+    /// before the year 10000, and its act is an Add. It takes no byte behind the item from the source.
     /// After an error it answers that error again and reads no more. `Bad` and `Short` come only where the stream is
     /// so, and `Fault` only where the source's count of faults rose. `Memory` is free.
     pub fn next<I: Source>(
@@ -45,6 +47,7 @@ impl Items {
     ) -> Result<Option<Item>, StreamError>
         ensures read { error_of self.old ≡ None → (bs : Text) → HasLeft self.old (I.left input.old) bs →
             NextRead result self.new (I.left input.new) (item_at (place_of self.old) bs) }
+        ensures item { IfOk result (λ found. IfSome found IsStreamItem) }
         ensures again { (e : TheError) → error_of self.old ≡ Some e → IsErrOf result e }
         ensures no_more { (e : TheError) → error_of self.old ≡ Some e → input.new ≡ input.old }
         ensures ahead { OnOk result (ahead_of self.new ≡ None) }

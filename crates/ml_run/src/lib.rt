@@ -15,7 +15,7 @@ mod tests;
 mod writing;
 
 pub use items::Items;
-pub use laws::{law_items, law_streams};
+pub use laws::{law_items, law_members, law_streams};
 pub use lines::{Why, answer_line, stop_line};
 pub use running::{Ending, run};
 pub use stream::StreamError;

@@ -5,7 +5,7 @@ ghost use Rattle.ml_base.specs.Name.{is_in_table};
 ghost use Rattle.ml_base.specs.declared.names.Name.{Name as TheName};
 ghost use Rattle.ml_base.specs.Faults.{Rose};
 ghost use Rattle.ml_plain.specs.declared.Item.{Item as TheItem};
-ghost use Rattle.ml_plain.specs.Plain.{Plain};
+ghost use Rattle.ml_run.specs.FiveLists.{FiveLists};
 ghost use Rattle.ml_plain.specs.Replies.{is_status};
 ghost use Rattle.ml_run.specs.SetFile.{IsDamaged};
 ghost use Rattle.ml_run.specs.Stream.{StreamEnd};
@@ -44,7 +44,7 @@ pub(crate) fn serve<I: Source, S: Site>(
     input: &mut I,
     site: &mut S,
 ) -> Served
-    ensures whole { IsTrue S.tells_all → (items : List TheItem) (ending : StreamEnd) (p : Plain) (out : Text) →
+    ensures whole { IsTrue S.tells_all → (items : List TheItem) (ending : StreamEnd) (p : FiveLists) (out : Text) →
         Begins (I.left input.old) (S.disk site.old).reads.files (S.output site.old) items ending p out →
         Serves result.stop limit result.answered result.last (S.disk site.new).reads.files (S.output site.new) items ending p out }
     ensures input { result.stop ≡ Stop.Input → Rose (I.faults input.old) (I.faults input.new) }

@@ -1,11 +1,12 @@
 // The elements of a stream, read from a source of bytes.
-ghost use Rattle.std.specs.Prelude.{◌≡◌, ◌<◌, ◌≤◌, ◌++◌, ◌^◌, [], ℕ, List, Some, None, IfOk, OnOk, IsErrOf, MatchBool, length};
+ghost use Rattle.std.specs.Prelude.{◌≡◌, ◌<◌, ◌≤◌, ◌++◌, ◌^◌, [], ℕ, List, Some, None, IfOk, IfSome, OnOk, IsErrOf, MatchBool, length};
 ghost use Rattle.ml_base.specs.Faults.{Rose, HasCause};
 ghost use Rattle.ml_base.specs.Bytes.{Text};
 ghost use Rattle.ml_base.specs.Name.{set_of};
 ghost use Rattle.ml_base.specs.Address.{address_of};
 ghost use Rattle.ml_run.specs.Stream.{length_at, content_at, comma_at, element_at, item_number_of, moment_of, add_at, act_at, elements_at, item_at, letter_of};
 ghost use Rattle.ml_run.specs.Reading.{Stands, Reads, Steps};
+ghost use Rattle.ml_run.specs.Writing.{IsAdd, IsStreamItem};
 
 use crate::StreamError;
 use ml_base::{Address, AddressError, Bytes, Set, is_next_digit, number_within};
@@ -163,6 +164,7 @@ impl Reader {
         ensures read { (bs : List ℕ) → Stands self.old.place self.old.ahead (I.left input.old) bs →
             Reads result self.new.place self.new.ahead (I.left input.new) (element_at 12 item_number_of self.old.place bs) }
         ensures ahead { OnOk result (self.new.ahead ≡ None) }
+        ensures limit { IfOk result (λ number. number ≤ 999_999_999_999) }
         ensures later { I.faults input.old ≤ I.faults input.new }
         ensures cause { IsErrOf result StreamError.Fault → Rose (I.faults input.old) (I.faults input.new) }
     {
@@ -180,6 +182,7 @@ impl Reader {
         ensures read { (bs : List ℕ) → Stands self.old.place self.old.ahead (I.left input.old) bs →
             Reads result self.new.place self.new.ahead (I.left input.new) (element_at 12 moment_of self.old.place bs) }
         ensures ahead { OnOk result (self.new.ahead ≡ None) }
+        ensures limit { IfOk result (λ moment. moment < 253_402_300_800) }
         ensures later { I.faults input.old ≤ I.faults input.new }
         ensures cause { IsErrOf result StreamError.Fault → Rose (I.faults input.old) (I.faults input.new) }
     {
@@ -231,6 +234,7 @@ impl Reader {
         ensures read { (bs : List ℕ) → Stands self.old.place self.old.ahead (I.left input.old) bs →
             Reads result self.new.place self.new.ahead (I.left input.new) (add_at self.old.place bs) }
         ensures ahead { OnOk result (self.new.ahead ≡ None) }
+        ensures adds { IfOk result IsAdd }
         ensures later { I.faults input.old ≤ I.faults input.new }
         ensures cause { IsErrOf result StreamError.Fault → Rose (I.faults input.old) (I.faults input.new) }
     {
@@ -249,6 +253,7 @@ impl Reader {
         ensures read { (bs : List ℕ) → Stands self.old.place self.old.ahead (I.left input.old) bs →
             Reads result self.new.place self.new.ahead (I.left input.new) (act_at letter self.old.place bs) }
         ensures ahead { OnOk result (self.new.ahead ≡ None) }
+        ensures adds { IfOk result IsAdd }
         ensures later { I.faults input.old ≤ I.faults input.new }
         ensures cause { IsErrOf result StreamError.Fault → Rose (I.faults input.old) (I.faults input.new) }
     {
@@ -268,6 +273,7 @@ impl Reader {
         ensures read { (bs : List ℕ) → Stands self.old.place self.old.ahead (I.left input.old) bs →
             Reads result self.new.place self.new.ahead (I.left input.new) (elements_at letter self.old.place bs) }
         ensures ahead { OnOk result (self.new.ahead ≡ None) }
+        ensures item { IfOk result IsStreamItem }
         ensures later { I.faults input.old ≤ I.faults input.new }
         ensures cause { IsErrOf result StreamError.Fault → Rose (I.faults input.old) (I.faults input.new) }
     {
@@ -290,6 +296,7 @@ impl Reader {
         ensures read { (bs : List ℕ) → Stands self.old.place self.old.ahead (I.left input.old) bs →
             Reads result self.new.place self.new.ahead (I.left input.new) (item_at self.old.place bs) }
         ensures ahead { OnOk result (self.new.ahead ≡ None) }
+        ensures item { IfOk result (λ found. IfSome found IsStreamItem) }
         ensures later { I.faults input.old ≤ I.faults input.new }
         ensures cause { IsErrOf result StreamError.Fault → Rose (I.faults input.old) (I.faults input.new) }
     {

@@ -4,7 +4,7 @@ ghost use Rattle.ml_base.specs.Bytes.{Text};
 ghost use Rattle.ml_base.specs.declared.names.Name.{Name as TheName};
 ghost use Rattle.ml_base.specs.Faults.{Rose};
 ghost use Rattle.ml_plain.specs.declared.Item.{Item as TheItem};
-ghost use Rattle.ml_plain.specs.Plain.{Plain};
+ghost use Rattle.ml_run.specs.FiveLists.{FiveLists};
 ghost use Rattle.ml_run.specs.Lines.{stop_text, HasPath};
 ghost use Rattle.ml_run.specs.SetFile.{IsDamaged};
 ghost use Rattle.ml_run.specs.Stream.{StreamEnd};
@@ -68,7 +68,7 @@ fn line_of(stop: Stop) -> Option<(Option<u64>, Why)>
 /// (the stream is bad or ends too early), 71 (out of memory), 72 (more items than `limit`), 73 (the output failed), 74 (the
 /// source failed), 75 (a file is damaged) or 111 (the disk failed).
 pub fn run<I: Source, S: Site>(alloc: Global, limit: u64, input: &mut I, mut site: S) -> (Ending, S)
-    ensures whole { IsTrue S.tells_all → (items : List TheItem) (ending : StreamEnd) (p : Plain) (out : Text) →
+    ensures whole { IsTrue S.tells_all → (items : List TheItem) (ending : StreamEnd) (p : FiveLists) (out : Text) →
         Begins (I.left input.old) (S.disk site).reads.files (S.output site) items ending p out →
         Runs result.0.status limit result.0.answered (S.disk result.1).reads.files (S.output result.1) items ending p out }
     ensures statuses { IsTrue (is_run_status result.0.status) }

@@ -3,7 +3,7 @@ ghost use Rattle.std.specs.Prelude.{false, ◌≡◌, ◌≢◌, ◌<◌, ◌≤
 ghost use Rattle.ml_run.specs.SetFile.{IsFile, IsSet, IsPlan, spelled, texts};
 ghost use Rattle.ml_base.specs.Bytes.{is_nul};
 ghost use Rattle.std.specs.List.{list_any};
-ghost use Rattle.ml_plain.specs.Plain.{address_cmp, has, with_address};
+ghost use Rattle.ml_run.specs.FiveLists.{address_cmp, has, with_address};
 
 use ml_base::{Address, Bytes};
 use std::alloc::{AllocError, Global};

@@ -25,6 +25,7 @@ fn adds(found: &Option<Item>, number: u64, moment: u64, set: Set, address: &[u8]
 fn is_about(act: &Act, wanted: Set, address: &[u8]) -> bool {
     match act {
         Act::Add { set, who } => *set == wanted && who.bytes() == address,
+        _ => false,
     }
 }
 

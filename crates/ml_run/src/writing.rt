@@ -2,17 +2,17 @@
 ghost use Rattle.std.specs.Prelude.{◌≡◌, ◌++◌, IfOk, OnOk};
 ghost use Rattle.std.specs.Fmt.{decimal};
 ghost use Rattle.ml_base.specs.Netstrings.{ns};
-ghost use Rattle.ml_run.specs.Writing.{KeepsLimits, spelled_act, spelled_item};
+ghost use Rattle.ml_run.specs.Writing.{IsAdd, IsStreamItem, spelled_act, spelled_item};
 ghost use Rattle.ml_run.specs.Writing as spec;
 
 use ml_base::{Bytes, push_netstring, write_number};
 use ml_plain::{Act, Item};
 use std::alloc::{AllocError, Global};
 
-/// The bytes that stand for an item in a stream. The item keeps the stream's limits: a number of at most
-/// 12 digits, and a moment in seconds since 1970 that is before the year 10000.
+/// The bytes that stand for an item in a stream. The item is one that a stream can have: its number has at most 12 digits,
+/// its moment, in seconds since 1970, is before the year 10000, and its act adds an address.
 pub fn write_item(alloc: Global, item: &Item) -> Result<Bytes, AllocError>
-    requires { KeepsLimits item.now }
+    requires { IsStreamItem item.now }
     ensures { IfOk result (λ bytes. bytes ≡ spelled_item item.now) }
 {
     let mut out = Bytes::new(alloc);
@@ -24,10 +24,12 @@ pub fn write_item(alloc: Global, item: &Item) -> Result<Bytes, AllocError>
 }
 
 fn letter(act: &Act) -> u8
+    requires { IsAdd act.now }
     ensures { result ≡ spec.letter act.now }
 {
     match act {
         Act::Add { .. } => b'A',
+        _ => unreachable!(),
     }
 }
 
@@ -42,6 +44,7 @@ fn push_number(out: &mut Bytes, number: u64) -> Result<(), AllocError>
 
 // Adds what an act is about at the end. An error leaves a part of it there.
 fn push_act(out: &mut Bytes, act: &Act) -> Result<(), AllocError>
+    requires { IsAdd act.now }
     ensures { OnOk result (out.new ≡ out.old ++ spelled_act act.now) }
 {
     match act {
@@ -49,6 +52,7 @@ fn push_act(out: &mut Bytes, act: &Act) -> Result<(), AllocError>
             push_netstring(out, set.word())?;
             push_netstring(out, who.bytes())
         }
+        _ => unreachable!(),
     }
 }
 

@@ -13,9 +13,9 @@ returns-in_err-reply-clause-gives g c told p out st o =
 pub returns-in-Ok-clause-gives : goal.returns-in-Ok-clause-gives
 returns-in-Ok-clause-gives g c told p out st o =
     item_done c.args.item.now c.in_ok-reply.reply _ (g.S.Site.disk c.apply.new.site).reads.files (g.S.Site.disk c.give.new.self).reads.files (g.S.Site.output c.apply.new.site) (g.S.Site.output c.give.new.self) p out _
-    (c.in_ok-reply.ensures.state (g.met.S.Site.all_has_reads told) p st) (ap (λ (d : Disk). d.reads.files) (c.in-Ok.ensures.disk told)) (c.in_ok-reply.ensures.output told ∙ o) (c.in-Ok.ensures.ok told) c.answer_line-len.ensures.text c.status.ensures.value
+    (c.in_ok-reply.ensures.state (g.met.S.Site.all_has_reads told) p st) (ap (λ (d : Disk). d.reads.files) (c.in-Ok.ensures.same.disk told)) (c.in_ok-reply.ensures.output told ∙ o) (c.in-Ok.ensures.ok told) c.answer_line-len.ensures.text c.status.ensures.value
 
 pub returns-in-Err-clause-gives : goal.returns-in-Err-clause-gives
 returns-in-Err-clause-gives g c told p out st o =
     item_cut c.args.item.now c.in_ok-reply.reply (g.S.Site.disk c.apply.new.site).reads.files (g.S.Site.disk c.give.new.self).reads.files (g.S.Site.output c.apply.new.site) (g.S.Site.output c.give.new.self) p out _
-    (c.in_ok-reply.ensures.state (g.met.S.Site.all_has_reads told) p st) (ap (λ (d : Disk). d.reads.files) (c.in-Err.ensures.disk told)) (c.in_ok-reply.ensures.output told ∙ o) (c.in-Err.ensures.err told) c.answer_line-len.ensures.text
+    (c.in_ok-reply.ensures.state (g.met.S.Site.all_has_reads told) p st) (ap (λ (d : Disk). d.reads.files) (c.in-Err.ensures.same.disk told)) (c.in_ok-reply.ensures.output told ∙ o) (c.in-Err.ensures.err told) c.answer_line-len.ensures.text

@@ -1,7 +1,7 @@
 use Rattle.std.proofs.Common.{◌≡◌, true, false, ◌∙◌, ◌<◌, ◌++◌, sym, ap, subst, arith, List, take, drop}
 use Rattle.ml_base.specs.Bytes.{is_empty}
 use Rattle.ml_plain.specs.declared.Item.{Item}
-use Rattle.ml_plain.specs.Plain.{fold, text}
+use Rattle.ml_run.specs.FiveLists.{fold, text}
 use Rattle.ml_run.specs.declared.looping.Served.{Served}
 use Rattle.ml_run.specs.declared.looping.Stop.TheVariants as stops
 use Rattle.ml_run.specs.Items.{place_of}

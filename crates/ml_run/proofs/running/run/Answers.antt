@@ -53,7 +53,7 @@ returns-in-Ok-clause-whole g c told items ending p out b =
     let e = early c.serve-served.result.stop c.in-Some.why c.in-Some.number c.args.limit c.serve-served.result.answered c.serve-served.result.last mid before items ending p out line (c.serve-served.ensures.whole told items ending p out b) in
     subst (λ s. Runs s c.args.limit c.serve-served.result.answered files output items ending p out) (sym c.status_of-status.ensures)
     (stopped c.in-Some.why c.in-Some.number (run_status c.serve-served.result.stop c.serve-served.result.last) c.args.limit c.serve-served.result.answered mid files before output _ items ending p out e
-    (ap (λ (d : Disk). d.reads.files) (c.in-Ok.ensures.disk told)) (c.in-Ok.ensures.ok told) (c.stop_line-len.ensures.text ∙ ap (λ s. stop_text c.in-Some.number s c.in-Some.why) c.status_of-status.ensures))
+    (ap (λ (d : Disk). d.reads.files) (c.in-Ok.ensures.same.disk told)) (c.in-Ok.ensures.ok told) (c.stop_line-len.ensures.text ∙ ap (λ s. stop_text c.in-Some.number s c.in-Some.why) c.status_of-status.ensures))
 
 pub returns-in-Ok-clause-answered : goal.returns-in-Ok-clause-answered
 returns-in-Ok-clause-answered g c = c.serve-served.ensures.few
@@ -63,7 +63,7 @@ returns-in-Ok-clause-damaged g c told e =
     let line : run_line c.serve-served.result.stop ≡ Some (c.in-Some.number, c.in-Some.why) = sym c.line_of.ensures ∙ c.in-Some.is in
     names_damaged c.serve-served.result.stop c.in-Some.why c.in-Some.number c.serve-served.result.last (g.S.Site.disk c.serve-served.new.site).reads.files (g.S.Site.disk c.give.new.self).reads.files
     (g.S.Site.output c.serve-served.new.site) (g.S.Site.output c.give.new.self) _ line c.serve-served.ensures.last (sym c.status_of-status.ensures ∙ e)
-    (c.serve-served.ensures.damaged (g.met.S.Site.all_has_reads told)) (ap (λ (d : Disk). d.reads.files) (c.in-Ok.ensures.disk told)) (c.in-Ok.ensures.ok told)
+    (c.serve-served.ensures.damaged (g.met.S.Site.all_has_reads told)) (ap (λ (d : Disk). d.reads.files) (c.in-Ok.ensures.same.disk told)) (c.in-Ok.ensures.ok told)
     (c.stop_line-len.ensures.text ∙ ap (λ s. stop_text c.in-Some.number s c.in-Some.why) c.status_of-status.ensures)
 
 pub returns-in-Err-clause-whole : goal.returns-in-Err-clause-whole
@@ -75,7 +75,7 @@ returns-in-Err-clause-whole g c told items ending p out b =
     let line : run_line c.serve-served.result.stop ≡ Some (c.in-Some.number, c.in-Some.why) = sym c.line_of.ensures ∙ c.in-Some.is in
     let e = early c.serve-served.result.stop c.in-Some.why c.in-Some.number c.args.limit c.serve-served.result.answered c.serve-served.result.last mid before items ending p out line (c.serve-served.ensures.whole told items ending p out b) in
     cut_off c.in-Some.why c.in-Some.number (run_status c.serve-served.result.stop c.serve-served.result.last) c.args.limit c.serve-served.result.answered mid files before output _ items ending p out e
-    (ap (λ (d : Disk). d.reads.files) (c.in-Err.ensures.disk told)) (c.in-Err.ensures.err told) (c.stop_line-len.ensures.text ∙ ap (λ s. stop_text c.in-Some.number s c.in-Some.why) c.status_of-status.ensures)
+    (ap (λ (d : Disk). d.reads.files) (c.in-Err.ensures.same.disk told)) (c.in-Err.ensures.err told) (c.stop_line-len.ensures.text ∙ ap (λ s. stop_text c.in-Some.number s c.in-Some.why) c.status_of-status.ensures)
 
 pub returns-in-Err-clause-answered : goal.returns-in-Err-clause-answered
 returns-in-Err-clause-answered g c = c.serve-served.ensures.few
