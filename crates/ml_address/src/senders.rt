@@ -8,7 +8,7 @@ use ml_base::{Address, Bytes};
 use std::alloc::{AllocError, Global};
 
 /// The envelope sender of a copy to this recipient: `base`, where `each` is set the recipient with its `@` written as
-/// `=`, then `@` and `host`.
+/// `=`, then `@` and `host` (Bernstein's note on VERP). The one error is want of memory.
 pub fn verp(alloc: Global, path: &Path, to: &Address) -> Result<Bytes, AllocError>
     ensures { IfOk result (λ sender. sender ≡ spec.verp path.now to.now) }
 {

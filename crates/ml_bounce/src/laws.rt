@@ -1,12 +1,12 @@
 // What holds of the files of a ledger, apart from the code.
-ghost use Rattle.std.specs.Prelude.{◌≡◌, ◌↔◌, ◌<◌, ℕ, true, List, [], Option, Some, None, unwrap_or};
+ghost use Rattle.std.specs.Prelude.{◌≡◌, ◌≢◌, ◌↔◌, ◌<◌, ℕ, true, List, [], Option, Some, None, unwrap_or};
 ghost use Rattle.ml_base.specs.Bytes.{Text};
-ghost use Rattle.ml_base.specs.Dir.{Dir};
+ghost use Rattle.ml_base.specs.Dir.{Dir, with_put};
 ghost use Rattle.ml_base.specs.declared.names.Name.{Name};
-ghost use Rattle.ml_bounce.specs.Files.{IsLedger, IsLedgerFile, ledger_name, is_of_ledger};
+ghost use Rattle.ml_bounce.specs.Files.{IsLedger, IsLedgerFile, IsEntry, ledger_name, ledger_place, ledger_put, is_of_ledger};
 ghost use Rattle.ml_bounce.specs.Changes.{probe_failed};
 ghost use Rattle.ml_bounce.specs.Course.{Change, after_all, IsCourse};
-ghost use Rattle.ml_bounce.specs.Ledger.{Ledger, find_entry};
+ghost use Rattle.ml_bounce.specs.Ledger.{Ledger, LedgerEntry, find_entry, with_ledger, forget};
 ghost use Rattle.ml_bounce.specs.Reading.{ledger_of};
 
 /// A ledger's file is read as exactly the entries that it spells, and an absent one as an empty one. So a file spells one row
@@ -23,6 +23,18 @@ pub fn law_ledger()
     ensures own { (dir other : Dir) (kind : ℕ) (ledger : Ledger) → ((name : Name) → is_of_ledger kind name ≡ true → other name ≡ dir name) → IsLedger dir kind ledger → IsLedger other kind ledger }
     ensures broken { (dir : Dir) (kind n : ℕ) (ledger : Ledger) → n < 53 → ledger_of n (unwrap_or (dir (ledger_name kind n)) []) ≡ None → ¬ IsLedger dir kind ledger }
     ensures nothing { (dir : Dir) (kind : ℕ) → ((n : ℕ) → n < 53 → dir (ledger_name kind n) ≡ None) → IsLedger dir kind [] }
+{}
+
+/// What a ledger has of a key stands in the file of the key's hash. An entry is put into a ledger, in the place of its key's
+/// own, by that file with it; and a key is forgotten by that file without it, which goes where no entry is left. Either leaves
+/// every other file as it is.
+pub fn law_ledger_changes()
+    ensures found { (dir : Dir) (kind : ℕ) (ledger bucket : Ledger) (k : Text) → IsLedger dir kind ledger → IsLedgerFile (ledger_place k) (dir (ledger_name kind (ledger_place k))) bucket → find_entry k ledger ≡ find_entry k bucket }
+    ensures put { (dir : Dir) (kind : ℕ) (ledger bucket : Ledger) (e : LedgerEntry) → IsLedger dir kind ledger → IsEntry (ledger_place e.key) e → IsLedgerFile (ledger_place e.key) (dir (ledger_name kind (ledger_place e.key))) bucket →
+        IsLedger (with_put dir (ledger_put kind (ledger_place e.key) (with_ledger e bucket))) kind (with_ledger e ledger) }
+    ensures forgotten { (dir : Dir) (kind : ℕ) (ledger bucket : Ledger) (k : Text) → IsLedger dir kind ledger → IsLedgerFile (ledger_place k) (dir (ledger_name kind (ledger_place k))) bucket →
+        IsLedger (with_put dir (ledger_put kind (ledger_place k) (forget k bucket))) kind (forget k ledger) }
+    ensures elsewhere { (dir : Dir) (kind n : ℕ) (entries : Ledger) (name : Name) → name ≢ ledger_name kind n → with_put dir (ledger_put kind n entries) name ≡ dir name }
 {}
 
 /// A probe's failure takes an entry out of a ledger only behind the whole course: from a ledger without the key, whatever

@@ -1,9 +1,11 @@
 -- The mark's file is read as exactly the mark that it spells.
-use Rattle.std.proofs.Common.{◌≡◌, ◌↔◌, ◌≤◌, ℕ, [], ◌∷◌, ◌++◌, Option, Some, None, refl, sym, ap, ap₂, ◌∙◌, subst, arith, append_assoc, option_map}
+use Rattle.std.proofs.Common.{◌≡◌, ◌≢◌, cond, ◌↔◌, ◌≤◌, ℕ, [], ◌∷◌, ◌++◌, Option, Some, None, refl, sym, ap, ap₂, ◌∙◌, subst, arith, append_assoc, option_map}
 use Rattle.std.specs.Fmt.{decimal}
 use Rattle.std.specs.Option.{option_and_then}
 use Rattle.ml_base.specs.Bytes.{Text}
-use Rattle.ml_base.specs.Dir.{Dir}
+use Rattle.ml_base.specs.Dir.{Dir, with_put, same_name}
+use Rattle.ml_base.specs.declared.names.Name.{Name}
+use Rattle.ml_base.proofs.Bools.{one_name, not_true}
 use Rattle.ml_base.specs.Numbers.{number_within}
 use Rattle.ml_base.specs.Splits.{split_first}
 use Rattle.ml_base.proofs.NumberLaws.{number_spelled, number_read}
@@ -12,7 +14,7 @@ use Rattle.ml_rows.specs.Rows.{both_of}
 use Rattle.ml_rows.specs.Values.{line_number, number_line}
 use Rattle.ml_rows.proofs.RowLaws.{one_some, none_some, made_read, both_read, both_there}
 use Rattle.ml_rows.proofs.ValueLaws.{line_read, line_written, decimal_without}
-use Rattle.ml_digest.specs.Due.{IsMark, mark_name, mark_text, mark_in}
+use Rattle.ml_digest.specs.Due.{IsMark, mark_name, mark_text, mark_in, mark_put}
 use Rattle.ml_digest.specs.declared.posts.Mark.{Mark}
 
 abbrev mark_of : ℕ × ℕ → Mark
@@ -63,3 +65,9 @@ mark_one dir mark other is also =
 
 pub mark_own : (dir other : Dir) (mark : Mark) → other mark_name ≡ dir mark_name → IsMark dir mark → IsMark other mark
 mark_own dir other mark same is = record { last = is.last; issue = is.issue; text = same ∙ is.text }
+
+pub mark_set : (dir : Dir) (mark : Mark) → mark.last ≤ 99_999_999 → mark.issue ≤ 99_999_999 → IsMark (with_put dir (mark_put mark)) mark
+mark_set dir mark p q = record { last = p; issue = q; text = refl }
+
+pub mark_elsewhere : (dir : Dir) (mark : Mark) (name : Name) → name ≢ mark_name → with_put dir (mark_put mark) name ≡ dir name
+mark_elsewhere dir mark name other = ap (λ b. cond b (Some (mark_text mark)) (dir name)) (not_true (same_name name mark_name) (λ e. other (one_name name mark_name e)))

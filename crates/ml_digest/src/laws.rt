@@ -1,22 +1,31 @@
 // What holds of the mark's file and of the text of digests, apart from the code.
-ghost use Rattle.std.specs.Prelude.{◌≡◌, ◌↔◌, ◌≤◌, false, ℕ, List, Some, map};
+ghost use Rattle.std.specs.Prelude.{◌≡◌, ◌≢◌, ◌↔◌, ◌≤◌, false, ℕ, List, Some, map};
 ghost use Rattle.ml_base.specs.Bytes.{Text};
-ghost use Rattle.ml_base.specs.Dir.{Dir};
+ghost use Rattle.ml_base.specs.Dir.{Dir, with_put};
 ghost use Rattle.ml_base.specs.Splits.{has_byte};
+ghost use Rattle.ml_base.specs.declared.names.Name.{Name};
 ghost use Rattle.ml_config.specs.Configuration.{IsConfig};
 ghost use Rattle.ml_config.specs.declared.configuration.Config.{Config};
 ghost use Rattle.ml_digest.specs.Burst.{IsDigest};
 ghost use Rattle.ml_digest.specs.Digest.{digest_text, message_text, AreDigested};
-ghost use Rattle.ml_digest.specs.Due.{IsMark, mark_name, mark_in};
+ghost use Rattle.ml_digest.specs.Due.{due, IsNextRange, IsMark, mark_name, mark_in, mark_put};
 ghost use Rattle.ml_digest.specs.declared.posts.DigestPost.{DigestPost};
 ghost use Rattle.ml_digest.specs.declared.posts.Mark.{Mark};
+ghost use Rattle.ml_digest.specs.declared.posts.Range.{Range};
 
 /// The mark's file is read as exactly the mark that it spells. So it holds one mark at most, and which it is depends on that
-/// file alone.
+/// file alone. Writing a mark makes it hold that mark, and leaves every other file as it is.
 pub fn law_mark()
     ensures read { (dir : Dir) (mark : Mark) (text : Text) → dir mark_name ≡ Some text → (mark_in text ≡ Some mark) ↔ IsMark dir mark }
     ensures one { (dir : Dir) (mark other : Mark) → IsMark dir mark → IsMark dir other → mark ≡ other }
     ensures own { (dir other : Dir) (mark : Mark) → other mark_name ≡ dir mark_name → IsMark dir mark → IsMark other mark }
+    ensures put { (dir : Dir) (mark : Mark) → mark.last ≤ 99_999_999 → mark.issue ≤ 99_999_999 → IsMark (with_put dir (mark_put mark)) mark }
+    ensures elsewhere { (dir : Dir) (mark : Mark) (name : Name) → name ≢ mark_name → with_put dir (mark_put mark) name ≡ dir name }
+{}
+
+/// A digest that is due goes on behind the last one, and takes the longest row of posts that one digest may have.
+pub fn law_due()
+    ensures { (last oldest now : ℕ) (sizes : List ℕ) (range : Range) → due last sizes oldest now ≡ Some range → IsNextRange last sizes range }
 {}
 
 /// A text is a digest of one number and one row of messages at most.

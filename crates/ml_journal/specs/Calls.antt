@@ -28,13 +28,14 @@ pub record Keeps {S : Type 0} (told : Ghosts S) (most : ℕ) (failed : Type 0) (
   pub cause : failed → Rose (told.disk_faults old) (told.disk_faults new)
   pub others : told.output_faults new ≡ told.output_faults old
 
--- the disk is left as it is: what reads give, the images, the syncs, the log bytes and the count of faults are the same
+-- the disk is left as it is: no call on it was made; what reads give, the images, the syncs, the log bytes and the count of faults are the same
 pub record LeavesDisk {S : Type 0} (told : Ghosts S) (old new : S) : Type 0 where
   pub reads : IsTrue told.tells_reads → (told.disk new).reads ≡ (told.disk old).reads
   pub disk_is : IsTrue told.tells_all → told.disk new ≡ told.disk old
   pub syncs : IsTrue told.tells_all → told.syncs new ≡ told.syncs old
   pub log_bytes : IsTrue told.tells_all → told.log_bytes new ≡ told.log_bytes old
   pub disk_faults_are : told.disk_faults new ≡ told.disk_faults old
+  pub disk_calls_are : told.disk_calls new ≡ told.disk_calls old
 
 -- the directory stays the same, as reads give it and at each moment
 pub record KeepsDirectory {S : Type 0} (told : Ghosts S) (old new : S) : Type 0 where

@@ -52,7 +52,7 @@ pub struct MemSite {
 
 impl MemSite {
     ghost use Rattle.ml_site.specs.MemSites.{mem_disk, mem_disk_at, mem_output, mem_output_at, mem_left_since, mem_calls, call_room, output_room};
-    ghost use Rattle.ml_site.specs.MemSites.{site_disk_faults, site_output_faults, site_failing, site_last, site_made};
+    ghost use Rattle.ml_site.specs.MemSites.{site_disk_calls, site_disk_faults, site_output_faults, site_failing, site_last, site_made};
 
     /// A site over an image, with room for `calls` calls and `output` bytes of output, which are reserved at once.
     /// No call is to fail, and nothing is pending.
@@ -65,6 +65,7 @@ impl MemSite {
         ensures disk { IfOk result (λ site. mem_disk site ≡ at_rest (contents image.log image.files)) }
         ensures output { IfOk result (λ site. mem_output site ≡ []) }
         ensures moment { IfOk result (λ site. mem_calls site ≡ 0) }
+        ensures disk_calls { IfOk result (λ site. site_disk_calls site ≡ 0) }
         ensures disk_faults { IfOk result (λ site. site_disk_faults site ≡ 0) }
         ensures output_faults { IfOk result (λ site. site_output_faults site ≡ 0) }
         ensures call_room { IfOk result (λ site. call_room site ≡ calls) }
@@ -103,6 +104,7 @@ impl MemSite {
         ensures calls { mem_calls self.new ≡ mem_calls self.old }
         ensures call_room { call_room self.new ≡ call_room self.old }
         ensures output_room { output_room self.new ≡ output_room self.old }
+        ensures disk_calls { site_disk_calls self.new ≡ site_disk_calls self.old }
         ensures disk_faults { site_disk_faults self.new ≡ site_disk_faults self.old }
         ensures output_faults { site_output_faults self.new ≡ site_output_faults self.old }
     {
@@ -120,6 +122,7 @@ impl MemSite {
         ensures calls { mem_calls self.new ≡ mem_calls self.old }
         ensures call_room { call_room self.new ≡ call_room self.old }
         ensures output_room { output_room self.new ≡ output_room self.old }
+        ensures disk_calls { site_disk_calls self.new ≡ site_disk_calls self.old }
         ensures disk_faults { site_disk_faults self.new ≡ site_disk_faults self.old }
         ensures output_faults { site_output_faults self.new ≡ site_output_faults self.old }
     {

@@ -10,7 +10,7 @@ use std::alloc::Global;
 use std::collections::BTreeMap;
 
 /// A site in memory whose calls never fail, though they may want memory. It tells what reads give and nothing else.
-/// It keeps no record of its calls, and drops what is put out.
+/// It counts its calls on the disk and keeps no record of them, and drops what is put out.
 #[derive(Drop)]
 pub struct Unfailing {
     log: Bytes,
@@ -19,11 +19,12 @@ pub struct Unfailing {
 }
 
 impl Unfailing {
-    ghost use Rattle.ml_site.specs.Unfailed.{unfailing_disk};
+    ghost use Rattle.ml_site.specs.Unfailed.{unfailing_disk, unfailing_calls};
 
     /// A site over an image. It takes no memory.
     pub fn new(image: Image) -> Unfailing
-        ensures { unfailing_disk result ≡ at_rest (contents image.log image.files) }
+        ensures disk { unfailing_disk result ≡ at_rest (contents image.log image.files) }
+        ensures calls { unfailing_calls result ≡ 0 }
     {
         Unfailing {
             log: image.log,

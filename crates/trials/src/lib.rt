@@ -2,6 +2,8 @@
 #![tactic(auto)]
 
 #[cfg(test)]
+mod address;
+#[cfg(test)]
 mod base;
 #[cfg(test)]
 mod config;

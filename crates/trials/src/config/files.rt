@@ -1,6 +1,6 @@
 // The files of the configuration and of the keys.
-use ml_config::{Config, Former, Keys, key, load, read_config, set_keys, write_config};
 use ml_base::{Bytes, Layer, MapFiles, Name, Numbers, PartError};
+use ml_config::{Config, Former, Keys, key, load, read_config, set_keys, write_config};
 use std::alloc::Global;
 use std::collections::BTreeMap;
 use std::test::Fail;

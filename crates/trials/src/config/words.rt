@@ -1,6 +1,6 @@
 // The words of `make`. A row has them with `|` between, and HEX for the digits of the key.
-use ml_config::{ConfigError, config_from_words, initial, write_config};
 use ml_base::{Bytes, Name};
+use ml_config::{ConfigError, config_from_words, initial, write_config};
 use std::alloc::{AllocError, Global};
 use std::test::Fail;
 

@@ -1,4 +1,4 @@
-use Rattle.ml_digest.proofs.Marks.{mark_exact, mark_one, mark_own}
+use Rattle.ml_digest.proofs.Marks.{mark_exact, mark_one, mark_own, mark_set, mark_elsewhere}
 use Rattle.ml_digest.proofs.laws.law_mark.Goals as goal
 
 pub returns-clause-read : goal.returns-clause-read
@@ -9,3 +9,9 @@ returns-clause-one c = mark_one
 
 pub returns-clause-own : goal.returns-clause-own
 returns-clause-own c = mark_own
+
+pub returns-clause-put : goal.returns-clause-put
+returns-clause-put c = mark_set
+
+pub returns-clause-elsewhere : goal.returns-clause-elsewhere
+returns-clause-elsewhere c = mark_elsewhere

@@ -1,4 +1,4 @@
-use Rattle.std.proofs.Common.{[], None, Some, Option, refl, sym, ap, ◌∙◌, subst}
+use Rattle.std.proofs.Common.{[], Some, Option, refl, sym, ap, ◌∙◌, subst}
 use Rattle.ml_base.specs.Bytes.{Text}
 use Rattle.ml_subs.specs.Buckets.{IsBucketFile}
 use Rattle.ml_subs.specs.Reading.{joined}
