@@ -36,7 +36,7 @@ is_same a b = bytes_eq (key a) (key b)
 abbrev pub is_admin : Plain → Text → Bool
 is_admin p sender = is_moderator p sender && p.config.flags.r
 
--- the set is allow or deny, which none but such a moderator may change
+-- the set is none of list and digest, so that none but such a moderator may change it, and the sender is none
 abbrev pub is_closed : Plain → Set → Text → Bool
 is_closed p sets.List sender = false
 is_closed p sets.Digest sender = false

@@ -4,7 +4,7 @@ pub mod Elements
 pub mod Written
 pub mod Records
 pub mod Members
-pub mod Joined
+pub mod AddedMembers
 pub mod States
 pub mod Answering
 pub mod Served

@@ -1,6 +1,6 @@
 -- Keys are equal where neither is below the other.
 use Rattle.std.proofs.lemmas.Map.Text.{is_eq-slice_cmp}
-use Rattle.ml_run.proofs.Joined.{member_with, length_with}
+use Rattle.ml_run.proofs.AddedMembers.{member_with, length_with}
 use Rattle.ml_run.proofs.laws.law_members.Goals as goal
 
 pub returns-clause-found : goal.returns-clause-found
