@@ -7,7 +7,10 @@ ghost use Rattle.ml_hold.specs.Answers.{IsSpelled};
 ghost use Rattle.ml_hold.specs.Reading.{told};
 
 use crate::Held;
-use ml_base::{Address, Bytes, LAST_MOMENT, is_kept, number_within, push_netstring, split_netstring, write_number};
+use ml_base::{
+    Address, Bytes, LAST_MOMENT, is_kept, number_within, push_netstring, split_netstring,
+    write_number,
+};
 use std::alloc::{AllocError, Global};
 
 const MAX_MESSAGE: usize = 33_554_432;
