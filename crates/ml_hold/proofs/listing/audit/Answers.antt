@@ -1,4 +1,4 @@
-use Rattle.std.proofs.Common.{arith, ◌∙◌, ◌+◌, ◌≤◌, ◌<◌, ap, not, IsTrue}
+use Rattle.std.proofs.Common.{arith, ◌∙◌, ◌≤◌, ◌<◌, ap, not, IsTrue}
 use Rattle.ml_base.specs.Ranges.{is_drawn}
 use Rattle.ml_hold.specs.Answers.{IsSpelled}
 use Rattle.ml_hold.specs.Reading.{told}

@@ -1,6 +1,5 @@
-use Rattle.std.proofs.Common.{arith, sym, ap, ◌∙◌, ◌+◌, ◌≤◌, ◌<◌, ◌++◌, List, ℕ, inl, inr, append-nil, IsTrue}
+use Rattle.std.proofs.Common.{arith, sym, ap, ◌∙◌, ◌≤◌, ◌<◌, ◌++◌, List, ℕ, inl, inr, append-nil, IsTrue}
 use Rattle.ml_base.specs.Ranges.{is_drawn}
-use Rattle.ml_hold.specs.Answers.{IsSpelled}
 use Rattle.ml_hold.specs.Reading.{told}
 use Rattle.ml_hold.proofs.Aged.{first_at, none_at, some_is, rest, GoesOn, older_begin, older_kept, older_end}
 use Rattle.ml_hold.proofs.listing.older.Goals as goal

@@ -1,4 +1,4 @@
-use Rattle.std.proofs.Common.{arith, ◌∙◌, ◌+◌, ◌≤◌, ◌<◌, ap, not, IsTrue}
+use Rattle.std.proofs.Common.{arith, ◌∙◌, ◌≤◌, ◌<◌, ap, not, IsTrue}
 use Rattle.ml_base.specs.Ranges.{is_drawn}
 use Rattle.ml_queue.proofs.Walked.{first_at, none_at, read_there, some_is, audit_more, audit_end}
 use Rattle.ml_queue.proofs.listing.audit.Goals as goal

@@ -1,4 +1,4 @@
-use Rattle.std.proofs.Common.{arith, sym, ap, ◌∙◌, ◌+◌, ◌≤◌, ◌<◌, ◌++◌, ◌∷◌, [], List, ℕ, append-nil, IsTrue}
+use Rattle.std.proofs.Common.{arith, sym, ap, ◌∙◌, ◌+◌, ◌≤◌, ◌<◌, ◌++◌, List, ℕ, append-nil, IsTrue}
 use Rattle.ml_base.specs.Ranges.{is_drawn}
 use Rattle.ml_drawn.proofs.Drawings.{from_on}
 use Rattle.ml_queue.proofs.Walked.{numbers, first_at, none_at, some_is, ids_begin, ids_more, ids_end}
