@@ -1,3 +1,4 @@
+pub mod Folded
 pub mod Orders
 pub mod Options
 pub mod Spelled

@@ -95,6 +95,11 @@ pub record Sides (layout : Layout) (who before : Text) (here : Option Member) (b
 abbrev pub joined : {layout : Layout} {who before : Text} {here : Option Member} {behind : Text} → Sides layout who before here behind → List Member
 joined {here = here} s = s.below ++ (option_to_list here ++ s.above)
 
+-- the key of an address beside it, or none where the address is its own key
+abbrev pub IsKeyBeside : Option Text → Text → Type 0
+IsKeyBeside (Some k) who = k ≡ key who
+IsKeyBeside None who = who ≡ key who
+
 -- the members of the first buckets, one bucket behind the other
 abbrev pub gathered : (ℕ → List Member) → ℕ → List Member
 gathered buckets zero = []

@@ -5,6 +5,7 @@ mod audits;
 mod changing;
 mod counts;
 mod hashing;
+mod keyed;
 mod laws;
 mod lists;
 mod member_list;

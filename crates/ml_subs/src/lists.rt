@@ -11,11 +11,12 @@ ghost use Rattle.ml_subs.specs.Subscribers.{AreSubscribers, AreJoined, AreBucket
 ghost use Rattle.ml_subs.specs.Subscribers as spec;
 ghost use Rattle.ml_subs.specs.Reading.{AreRead, gathered, AreAdded};
 
+use crate::keyed::Keyed;
 use crate::names::bucket_name;
 use crate::places::split_layout;
 use crate::records::{Layout, member_from, next_member};
 use crate::{Member, MemberList};
-use ml_base::{AddressList, Bytes, Files, PartError, Row, Set, compare_keys};
+use ml_base::{AddressList, Bytes, Files, PartError, Row, Set};
 use std::alloc::{AllocError, Global};
 
 // Adds the members that bytes spell. False where they spell none of the bucket in order.
@@ -24,7 +25,7 @@ fn add_members(
     layout: Layout,
     n: u8,
     text: &[u8],
-    out: &mut MemberList,
+    out: &mut Row<Keyed>,
 ) -> Result<bool, AllocError>
     ensures { IfOk result (λ is. AreAdded out.old out.new is (AreRead layout n [] text.now)) }
 {
@@ -34,7 +35,8 @@ fn add_members(
         let Some((record, more)) = next_member(layout, n, last, rest) else {
             return Ok(false);
         };
-        out.push(member_from(alloc, record)?)?;
+        let member = member_from(alloc, record)?;
+        out.push(Keyed::new(alloc, member)?)?;
         last = record.who;
         rest = more;
     }
@@ -46,7 +48,7 @@ fn add_bucket(
     alloc: Global,
     n: u8,
     file: &Option<Bytes>,
-    out: &mut MemberList,
+    out: &mut Row<Keyed>,
 ) -> Result<bool, AllocError>
     ensures { IfOk result (λ is. AreAdded out.old out.new is (IsBucketFile n file.now)) }
 {
@@ -65,7 +67,7 @@ fn read_bucket<F: Files>(
     files: &mut F,
     set: Set,
     n: u8,
-    out: &mut MemberList,
+    out: &mut Row<Keyed>,
 ) -> Result<(), PartError>
     requires { n < 53 }
     ensures value { IsTrue F.tells → OnOk result ((ms : List Member) × IsBucketFile n (F.map files.old (spec.bucket_name set n)) ms × (out.new ≡ out.old ++ ms)) }
@@ -82,12 +84,12 @@ fn read_bucket<F: Files>(
 }
 
 // The members of a set's buckets, one bucket behind the other.
-fn read_buckets<F: Files>(alloc: Global, files: &mut F, set: Set) -> Result<MemberList, PartError>
+fn read_buckets<F: Files>(alloc: Global, files: &mut F, set: Set) -> Result<Row<Keyed>, PartError>
     ensures value { IsTrue F.tells → IfOk result (λ ms. (buckets : ℕ → List Member) × AreBuckets (F.map files.old) set buckets × (ms ≡ gathered buckets 53)) }
     ensures names { NamesDamaged ⟦<F as Files>⟧ (IsBucketName set) (IsBadBucket (F.map files.old) set) result }
     ensures reads { IsReading ⟦<F as Files>⟧ files.old files.new result }
 {
-    let mut found = MemberList::new(alloc);
+    let mut found = Row::new(alloc);
     for n in 0..53 {
         read_bucket(alloc, files, set, n, &mut found)?;
     }
@@ -95,13 +97,25 @@ fn read_buckets<F: Files>(alloc: Global, files: &mut F, set: Set) -> Result<Memb
 }
 
 // The members in the order of their keys. Each bucket's come in that order, and the sort merges such rows.
-fn in_order(list: MemberList) -> Result<MemberList, AllocError>
+fn in_order(list: Row<Keyed>) -> Result<Row<Keyed>, AllocError>
     ensures permutation { IfOk result (IsPermutation list) }
     ensures sorted { IfOk result (IsSortedByKey member_key byte_cmp) }
 {
     let mut items = list.into_vec();
-    items.sort_by(|a, b| compare_keys(a.who.bytes(), b.who.bytes()))?;
+    items.sort_by(|a, b| a.compare(b))?;
     Ok(Row::from_vec(items))
+}
+
+// The members without their keys.
+fn without_keys(alloc: Global, list: Row<Keyed>) -> Result<MemberList, AllocError>
+    ensures { IfOk result (λ members. members ≡ list) }
+{
+    let items = list.into_vec();
+    let mut members = Vec::with_capacity(alloc, items.len())?;
+    for keyed in items {
+        members.push(keyed.into_member())?;
+    }
+    Ok(Row::from_vec(members))
 }
 
 /// The members of a set, in ascending order of key. It reads the set's 53 files and not its count.
@@ -112,19 +126,21 @@ pub fn members<F: Files>(alloc: Global, files: &mut F, set: Set) -> Result<Membe
     ensures sound { IsTrue F.tells → (ms : List Member) → AreSubscribers (F.map files.old) set ms → IfErr result (λ e. OnDamaged e (λ _. ⊥)) }
     ensures reads { IsReading ⟦<F as Files>⟧ files.old files.new result }
 {
-    let list = read_buckets(alloc, files, set)?;
-    Ok(in_order(list)?)
+    let found = read_buckets(alloc, files, set)?;
+    let sorted = in_order(found)?;
+    Ok(without_keys(alloc, sorted)?)
 }
 
 // The addresses of members.
 fn addresses_of(alloc: Global, list: MemberList) -> Result<AddressList, AllocError>
     ensures { IfOk result (λ addresses. addresses ≡ map (λ m. m.who) list) }
 {
-    let mut addresses = AddressList::new(alloc);
-    for member in list.into_vec() {
+    let items = list.into_vec();
+    let mut addresses = Vec::with_capacity(alloc, items.len())?;
+    for member in items {
         addresses.push(member.who)?;
     }
-    Ok(addresses)
+    Ok(Row::from_vec(addresses))
 }
 
 /// The addresses of a set's members, in ascending order of key. It reads the set's 53 files and not its count.
