@@ -7,7 +7,8 @@ use Rattle.std.proofs.lemmas.List.FromFn.{map-range_with_len_more}
 use Rattle.std.specs.List.{range_with_len}
 use Rattle.ml_base.specs.Bytes.{Text}
 use Rattle.std.specs.Prelude.{IsTrue}
-use Rattle.ml_base.specs.Dir.{are_files, with_puts}
+use Rattle.ml_base.specs.Dir.{Dir, are_files, laid_by, newest_put, with_puts}
+use Rattle.ml_base.proofs.Laid.{newest_decides}
 use Rattle.ml_base.specs.declared.names.Name.{Name}
 use Rattle.ml_base.specs.declared.puts.Put.{Put}
 use Rattle.ml_config.specs.FirstFiles.{empty_count, first_files, first_puts, no_files}
@@ -50,6 +51,12 @@ module _ (c : Config) (key : Text) (a : ℕ) where
 
 pub files_agree : (c : Config) (key : Text) (name : Name) → with_puts no_files (first_puts c key) name ≡ first_files c key name
 files_agree c key name = by_kind c key name.at name.kind
+
+-- the same in any directory, where it has no file
+pub files_over : (c : Config) (key : Text) (dir : Dir) (name : Name) → dir name ≡ None → with_puts dir (first_puts c key) name ≡ first_files c key name
+files_over c key dir name absent =
+    newest_decides (first_puts c key) name dir ∙ ap (laid_by (newest_put (first_puts c key) name)) absent
+    ∙ sym (newest_decides (first_puts c key) name no_files) ∙ files_agree c key name
 
 pub puts_are_files : (c : Config) (key : Text) → IsTrue (are_files (first_puts c key))
 unfolding first_puts

@@ -1,7 +1,7 @@
 // The files of a new list.
-ghost use Rattle.std.specs.Prelude.{◌≡◌, ◌++◌, ◌∷◌, [], map, IfOk, IsTrue, OnOk};
+ghost use Rattle.std.specs.Prelude.{◌≡◌, ◌++◌, ◌∷◌, [], map, IfOk, IsTrue, None, OnOk};
 ghost use Rattle.std.specs.List.{range_with_len};
-ghost use Rattle.ml_base.specs.Dir.{with_puts, are_files};
+ghost use Rattle.ml_base.specs.Dir.{Dir, with_puts, are_files};
 ghost use Rattle.ml_base.specs.declared.names.Name.{Name};
 ghost use Rattle.ml_config.specs.FirstFiles.{empty_count, file_put, first_files, no_files};
 ghost use Rattle.ml_config.specs.FirstFiles as spec;
@@ -11,9 +11,12 @@ use ml_base::{Bytes, Name, Put, Txn};
 use std::alloc::{AllocError, Global};
 
 /// What makes the files of a new list with this configuration and this key: those two, empty sets, no posts, no digests,
-/// no held posts and no queue entries.
+/// no held posts and no queue entries. In any directory, each file that isn't there becomes what it is in a new list: one of
+/// those, or none.
 pub fn initial(alloc: Global, config: &Config, key: &[u8; 32]) -> Result<Txn, AllocError>
+    ensures puts { IfOk result (λ txn. txn ≡ spec.first_puts config.now key.now) }
     ensures files { IfOk result (λ txn. (name : Name) → with_puts no_files txn name ≡ first_files config.now key.now name) }
+    ensures over { IfOk result (λ txn. (dir : Dir) (name : Name) → dir name ≡ None → with_puts dir txn name ≡ first_files config.now key.now name) }
     ensures names { IfOk result (λ txn. IsTrue (are_files txn)) }
 {
     first_puts(alloc, config, key)

@@ -17,7 +17,7 @@ ghost use Rattle.ml_hold.specs.Held.{Pending, IsPending};
 ghost use Rattle.ml_queue.specs.Queue.{Queue, IsQueue};
 ghost use Rattle.ml_subs.specs.declared.member_list.Member.{Member};
 ghost use Rattle.ml_subs.specs.Subscribers.{AreSubscribers, is_touched};
-ghost use Rattle.ml_plain.specs.Directory.{LawNewList, IsList, IsState, is_of_list, is_of_state, archive_kinds, held_kinds, queue_kinds, list_ledger_kinds, digest_ledger_kinds, mark_kinds, keys_kinds};
+ghost use Rattle.ml_plain.specs.Directory.{LawLaidNew, LawNewList, IsList, IsState, is_of_list, is_of_state, archive_kinds, held_kinds, queue_kinds, list_ledger_kinds, digest_ledger_kinds, mark_kinds, keys_kinds};
 ghost use Rattle.ml_plain.specs.Histories.{State, Kept, keep, from_floor};
 ghost use Rattle.ml_plain.specs.KeptFiles.{AreReplies, IsRepliesFile, IsWritten, IsRisen, slots_of, is_kept, replies_name, is_of_replies};
 ghost use Rattle.ml_plain.specs.OnceLaws.{Once, Joined};
@@ -49,9 +49,12 @@ pub fn law_chain()
     ensures { LawChain }
 {}
 
-/// The files of a new list stand for the list without members, posts and mail, and without any kept reply.
+/// A directory with the files of a new list, and no other file of the table but maybe the log, stands for the list without members,
+/// posts and mail, and without any kept reply. So does what the puts of `ml_config::initial` leave of a directory that has no file of the
+/// table but maybe the log. Files outside the table may be there, and aren't looked at.
 pub fn law_new_list()
-    ensures { LawNewList }
+    ensures files { LawNewList }
+    ensures laid { LawLaidNew }
 {}
 
 /// Each step makes the next digest or none: a digest begins with the post behind the last one of the digest before it, has at least one

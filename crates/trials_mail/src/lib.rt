@@ -5,3 +5,5 @@
 mod address;
 #[cfg(test)]
 mod header;
+#[cfg(test)]
+mod reply;
