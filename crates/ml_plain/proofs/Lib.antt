@@ -21,6 +21,7 @@ pub mod Turns
 pub mod History
 pub mod Joining
 pub mod Slots
+pub mod KeptExact
 pub mod Frames
 pub mod StateFiles
 pub mod OneState

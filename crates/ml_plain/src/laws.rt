@@ -1,5 +1,6 @@
 // What holds of every history of a list.
-ghost use Rattle.std.specs.Prelude.{◌≡◌, ◌≢◌, ◌<◌, ◌≤◌, ◌+◌, ◌*◌, ◌/◌, ◌%◌, max, true, ◌∷◌, [], ℕ, List, Option, Some, length};
+ghost use Rattle.std.specs.Prelude.{◌≡◌, ◌↔◌, ◌≢◌, ◌<◌, ◌≤◌, ◌+◌, ◌*◌, ◌/◌, ◌%◌, max, true, ◌∷◌, [], ℕ, List, Option, Some, length};
+ghost use Rattle.std.specs.List.{AllByRecursion};
 ghost use Rattle.ml_base.specs.Bytes.{Text};
 ghost use Rattle.ml_base.specs.Dir.{Dir, with_file, with_puts, touches_only};
 ghost use Rattle.ml_base.specs.declared.names.Name.{Name};
@@ -19,7 +20,8 @@ ghost use Rattle.ml_subs.specs.declared.member_list.Member.{Member};
 ghost use Rattle.ml_subs.specs.Subscribers.{AreSubscribers, is_touched};
 ghost use Rattle.ml_plain.specs.Directory.{LawLaidNew, LawNewList, IsList, IsState, is_of_list, is_of_state, archive_kinds, held_kinds, queue_kinds, list_ledger_kinds, digest_ledger_kinds, mark_kinds, keys_kinds};
 ghost use Rattle.ml_plain.specs.Histories.{State, Kept, keep, from_floor};
-ghost use Rattle.ml_plain.specs.KeptFiles.{AreReplies, IsRepliesFile, IsWritten, IsRisen, slots_of, is_kept, replies_name, is_of_replies};
+ghost use Rattle.ml_plain.specs.KeptFiles.{AreReplies, IsFloorFile, IsRepliesFile, IsSlot, IsWritten, IsRisen, slots_of, slot_text, is_kept, replies_name, is_of_replies};
+ghost use Rattle.ml_plain.specs.KeptRead.{floor_in, reply_in};
 ghost use Rattle.ml_plain.specs.OnceLaws.{Once, Joined};
 ghost use Rattle.ml_plain.specs.Plain.{Plain, with_members};
 ghost use Rattle.ml_plain.specs.Runs.{Run};
@@ -111,4 +113,14 @@ pub fn law_changes()
     ensures floor_kept { (dir : Dir) (f at : ℕ) (kept : Kept) → AreReplies dir f kept → at ≤ f → AreReplies dir (max f at) (from_floor (max f at) kept) }
     ensures floor_risen { (dir other : Dir) (f at : ℕ) (kept : Kept) → AreReplies dir f kept → f < at → at ≤ 999_999_999_999 → IsRisen dir other f at →
         IsRepliesFile (512 * (at / 512)) (other (replies_name (at / 512))) (from_floor at kept) → AreReplies other (max f at) (from_floor (max f at) kept) }
+{}
+
+/// A file holds a floor exactly where it is read as that floor: 1 where the file is absent, and else the number from 2 to
+/// 999,999,999,999 that stands in it in decimal, with an LF behind it. A slot's nine bytes are read as a reply, or as none, exactly where
+/// they spell it: zeros are none; else the first is the code and the other eight the number, most significant byte first, for a number
+/// other than 0.
+pub fn law_kept_files()
+    ensures floor { (file : Option Text) (floor : ℕ) → IsFloorFile file floor ↔ (floor_in file ≡ Some floor) }
+    ensures slot { (n : ℕ) (o : Option Reply) → IsSlot n o → reply_in n (slot_text o) ≡ Some o }
+    ensures only { (n : ℕ) (text : Text) (o : Option Reply) → AllByRecursion (λ b. b < 256) text → reply_in n text ≡ Some o → IsSlot n o × (text ≡ slot_text o) }
 {}
