@@ -10,8 +10,6 @@ mod reader;
 mod running;
 mod sets;
 mod stream;
-#[cfg(test)]
-mod tests;
 mod writing;
 
 pub use items::Items;

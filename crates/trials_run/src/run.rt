@@ -1,7 +1,7 @@
 // Readers of items, over sources in memory.
-use crate::{Items, StreamError};
 use ml_base::{Bytes, Numbers, Set};
 use ml_plain::{Act, Item};
+use ml_run::{Items, StreamError};
 use ml_site::{Failed, MemSource, Source};
 use std::alloc::{AllocError, Global};
 use std::test::Fail;
