@@ -1,10 +1,12 @@
 // The grammar of requests: what a recipient asks. Words match in any case of ASCII letters.
-ghost use Rattle.std.specs.Prelude.{◌≡◌, nat_lt, ◌==◌, ◌<◌, ◌+◌, ◌^◌, ℕ, Some, None, Bool, length, unwrap_or};
+ghost use Rattle.std.specs.Prelude.{◌≡◌, ◌≢◌, nat_lt, ◌==◌, ◌<◌, ◌+◌, ◌^◌, ℕ, Some, None, IfSome, Bool, length, unwrap_or};
 ghost use Rattle.std.specs.Option.{option_map, option_copied, option_and_then};
 ghost use Rattle.std.specs.List.{list_all};
 ghost use Rattle.std.specs.Str.{str_eq_ignore_ascii_case};
 ghost use Rattle.ml_base.specs.Splits.{split_first};
 ghost use Rattle.ml_address.specs.Requests as requests;
+ghost use Rattle.ml_address.specs.Requests.{Other};
+ghost use Rattle.ml_address.specs.Spelling.{IsSpelling};
 ghost use Rattle.ml_address.specs.Reading as spec;
 ghost use Rattle.ml_address.specs.Reading.{request_of};
 ghost use Rattle.ml_address.specs.Views.{who_view, signed_view, request_view};
@@ -24,9 +26,18 @@ pub(crate) struct Signed<'a> {
 }
 
 /// What a recipient asks of the list LOCAL@HOST: None where it is not the list's, and Other where it is the list's and
-/// no row of the grammar has it. It takes no memory.
-#[tactic(auto, unfolding(crate::specs::Reading::request_of))]
+/// no row of the grammar has it. The parts of an address are the recipient's own bytes, at the place where the request
+/// has them: behind LOCAL, its words and what stands before the address, and in front of the `@`. It takes no memory.
 pub fn read_request<'a>(local: &[u8], host: &[u8], recipient: &'a [u8]) -> Option<Request<'a>>
+    ensures value { option_map request_view result ≡ request_of local.now host.now recipient.now }
+    ensures places { IfSome result (λ r. request_view r ≢ Other → IsSpelling local.now host.now (request_view r) recipient.now) }
+{
+    found_request(local, host, recipient)
+}
+
+// The request that a recipient spells.
+#[tactic(auto, unfolding(crate::specs::Reading::request_of))]
+fn found_request<'a>(local: &[u8], host: &[u8], recipient: &'a [u8]) -> Option<Request<'a>>
     ensures { option_map request_view result ≡ request_of local.now host.now recipient.now }
 {
     let (before, behind) = split_last(b'@', recipient)?;

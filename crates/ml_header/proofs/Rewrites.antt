@@ -1,6 +1,7 @@
 -- Messages that are rewritten, field by field.
-use Rattle.std.proofs.Common.{◌≡◌, ℕ, zero, suc, ◌+◌, ◌-◌, ◌<◌, ◌≤◌, Bool, true, false, not, cond, ◌==◌, ◌&&◌, ◌||◌, nat_eq, List, [], ◌∷◌, ◌++◌, length, take, drop, Option, Some, None, is_some, codes, filter, refl, sym, ap, ap₂, ◌∙◌, arith, append_assoc, length-append}
+use Rattle.std.proofs.Common.{◌≡◌, ℕ, zero, suc, ◌+◌, ◌-◌, ◌<◌, ◌≤◌, Bool, true, false, not, cond, ◌==◌, ◌&&◌, ◌||◌, nat_eq, List, [], ◌∷◌, ◌++◌, length, take, drop, Option, Some, None, is_some, codes, filter, find, unwrap_or, refl, sym, ap, ap₂, ◌∙◌, arith, append_assoc, length-append}
 use Rattle.std.specs.List.{flat_map, ends_with}
+use Rattle.std.specs.Option.{option_map, option_or}
 use Rattle.std.specs.Str.{bytes_eq}
 use Rattle.std.proofs.lemmas.Slice.Eq.{bytes_eq-Decides}
 use Rattle.memchr.specs.Find.{OccursAt, FindsNeedle}
@@ -10,10 +11,11 @@ use Rattle.ml_base.specs.Splits.{lines, split_first, onto_first}
 use Rattle.ml_base.specs.Texts.{lf, with_line_end, with_last_line_end}
 use Rattle.ml_base.proofs.Bools.{not_true}
 use Rattle.ml_header.specs.Lines.{begins_with, begins_blank}
-use Rattle.ml_header.specs.Fields.{FieldText, header_of, with_line, field_line, fields, body, has_name}
-use Rattle.ml_header.specs.Rewriting.{has_part, onto_names, names_from, all_names, names_of, is_among, spaced, with_prefix, prefix_first, prefixed, trailed, whole_subject, is_plain_text, is_base64}
+use Rattle.ml_header.specs.Fields.{FieldText, header_of, with_line, field_line, fields, field, body, has_name}
+use Rattle.ml_header.specs.Unfolding.{unfolded_value}
+use Rattle.ml_header.specs.Rewriting.{has_part, onto_names, names_from, all_names, names_of, is_among, spaced, with_prefix, prefix_first, prefixed, trailed, is_plain_text, is_base64}
 use Rattle.ml_header.specs.Rewriting as words
-use Rattle.ml_header.specs.Steps.{IsWhole, AreWhole, due_prefix, due_trailer, with_due, here, later, with_first, sent_fields, with_trailer, kept_text}
+use Rattle.ml_header.specs.Steps.{IsWhole, AreWhole, due_prefix, due_trailer, value_in, onto_value, with_due, here, later, with_first, sent_fields, with_trailer, kept_text}
 use Rattle.ml_header.proofs.Headers.{field_line_is}
 use Rattle.ml_base.proofs.SplitLaws.{first_read}
 
@@ -142,21 +144,6 @@ is_found part text (Some k) found = sym (found_part part text k found.1)
 abbrev subject : Text
 subject = codes "subject"
 
-abbrev first_when : Bool → Text → FieldText → List FieldText → List FieldText
-first_when is prefix f fs = cond is (with_prefix prefix f ∷ fs) (f ∷ prefix_first subject prefix fs)
-
-first_next : (due : Option Text) (f : FieldText) (fs : List FieldText) → with_first due (f ∷ fs) ≡ with_due (here due f) f ∷ with_first (later due f) fs
-first_next None f fs = go (has_name subject f)
-  where
-    go : (t : Bool) → f ∷ fs ≡ with_due (cond t None None) f ∷ with_first (cond t None None) fs
-    go true = refl
-    go false = refl
-first_next (Some prefix) f fs = go (has_name subject f)
-  where
-    go : (t : Bool) → first_when t prefix f fs ≡ with_due (cond t (Some prefix) None) f ∷ with_first (cond t None (Some prefix)) fs
-    go true = refl
-    go false = refl
-
 same_among : (names : List Text) (due : Option Text) (f : FieldText) → is_among names (with_due due f) ≡ is_among names f
 same_among names None f = refl
 same_among names (Some prefix) f = refl
@@ -178,7 +165,36 @@ kept_next remove due f fs = ap (λ t. flat_map put_field (cond (not t) (with_due
 
 pub sent_next : (remove : Text) (due : Option Text) (f : FieldText) (fs : List FieldText)
     → sent_fields remove (with_first due (f ∷ fs)) ≡ kept_text remove (here due f) f ++ sent_fields remove (with_first (later due f) fs)
-sent_next remove due f fs = ap (sent_fields remove) (first_next due f fs) ∙ kept_next remove (here due f) f (with_first (later due f) fs)
+sent_next remove due f fs = kept_next remove (here due f) f (with_first (later due f) fs)
+
+-- a value that was found is kept, and a later one looked for only while none was
+pub value_next : (name : Text) (found : Option Text) (f : FieldText) (fs : List FieldText)
+    → option_or (onto_value name found f) (value_in name fs) ≡ option_or found (value_in name (f ∷ fs))
+value_next name (Some value) f fs = refl
+value_next name None f fs = go (has_name name f)
+  where
+    go : (t : Bool) → option_or (cond t (Some f.value) None) (value_in name fs) ≡ option_map (λ g. g.value) (cond t (Some f) (find (has_name name) fs))
+    go true = refl
+    go false = refl
+
+-- one turn over the fields
+pub value_turn : (name : Text) (found next : Option Text) (f : FieldText) (fs all : List FieldText) (v : Option Text)
+    → all ≡ f ∷ fs → next ≡ onto_value name found f → option_or found (value_in name all) ≡ v → option_or next (value_in name fs) ≡ v
+value_turn name found next f fs all v is then e =
+    ap (λ o. option_or o (value_in name fs)) then ∙ value_next name found f fs ∙ ap (λ l. option_or found (value_in name l)) (sym is) ∙ e
+
+pub text_turn : (remove old new v : Text) (due rest : Option Text) (f : FieldText) (fs all : List FieldText)
+    → all ≡ f ∷ fs → new ≡ old ++ kept_text remove (here due f) f → rest ≡ later due f → old ++ sent_fields remove (with_first due all) ≡ v
+    → new ++ sent_fields remove (with_first rest fs) ≡ v
+text_turn remove old new v due rest f fs all is put left e =
+    ap₂ (λ t r. t ++ sent_fields remove (with_first r fs)) put left
+    ∙ append_assoc old (kept_text remove (here due f) f) (sent_fields remove (with_first (later due f) fs))
+    ∙ ap (λ t. old ++ t) (sym (sent_next remove due f fs))
+    ∙ ap (λ l. old ++ sent_fields remove (with_first due l)) (sym is) ∙ e
+
+pub value_end : (found : Option Text) → option_or found None ≡ found
+value_end (Some value) = refl
+value_end None = refl
 
 -- the fields of a message are whole
 whole_field : (line : Text) (parts : Text × Text) (loose : Text) → field_line line ≡ Some parts → line ++ loose ≡ parts.0 ++ 58 ∷ (parts.1 ++ loose)
@@ -202,25 +218,64 @@ fields_whole m = go (is_empty (header_of (lines m)).loose)
     go false = tt
 
 -- the steps make the whole
-due_fields : (prefix : Option Text) (m : Text) → with_first (due_prefix prefix m) (fields m) ≡ prefixed prefix m
-due_fields None m = refl
-due_fields (Some prefix) m = go (has_part (lower prefix) (lower (whole_subject m)))
+none_first : (fs : List FieldText) → with_first None fs ≡ fs
+none_first [] = refl
+none_first (f ∷ fs) = ap (λ t. f ∷ t) (none_first fs)
+
+-- the unfolded subject of fields, or nothing where there is none
+abbrev subject_in : Option FieldText → Text
+subject_in found = unwrap_or (option_map (λ f. unfolded_value f.value) found) []
+
+abbrev by_subject : Bool → Text → List FieldText → List FieldText
+by_subject has prefix fs = cond has fs (prefix_first subject prefix fs)
+
+first_is : (prefix : Text) (fs : List FieldText) → with_first (Some prefix) fs ≡ by_subject (has_part (lower prefix) (lower (subject_in (find (has_name subject) fs)))) prefix fs
+first_is prefix [] = go (has_part (lower prefix) [])
   where
-    go : (t : Bool) → with_first (cond t None (Some prefix)) (fields m) ≡ cond t (fields m) (prefix_first subject prefix (fields m))
+    go : (t : Bool) → [] ≡ by_subject t prefix []
     go true = refl
     go false = refl
+first_is prefix (f ∷ fs) = go (has_name subject f) (first_is prefix fs)
+  where
+    named : (h : Bool) → with_due (cond h None (Some prefix)) f ∷ with_first None fs ≡ cond h (f ∷ fs) (with_prefix prefix f ∷ fs)
+    named true = ap (λ t. f ∷ t) (none_first fs)
+    named false = ap (λ t. with_prefix prefix f ∷ t) (none_first fs)
 
-due_body : (trailer : Option Text) (m : Text) → with_trailer (due_trailer trailer m) (body m) ≡ trailed trailer m
+    unnamed : (h : Bool) → with_first (Some prefix) fs ≡ by_subject h prefix fs → f ∷ with_first (Some prefix) fs ≡ cond h (f ∷ fs) (f ∷ prefix_first subject prefix fs)
+    unnamed true more = ap (λ t. f ∷ t) more
+    unnamed false more = ap (λ t. f ∷ t) more
+
+    go : (t : Bool) → with_first (Some prefix) fs ≡ by_subject (has_part (lower prefix) (lower (subject_in (find (has_name subject) fs)))) prefix fs
+        → with_due (cond t (due_prefix prefix f.value) None) f ∷ with_first (cond t None (Some prefix)) fs
+        ≡ cond (has_part (lower prefix) (lower (subject_in (cond t (Some f) (find (has_name subject) fs))))) (f ∷ fs) (cond t (with_prefix prefix f ∷ fs) (f ∷ prefix_first subject prefix fs))
+    go true more = named (has_part (lower prefix) (lower (unfolded_value f.value)))
+    go false more = unnamed (has_part (lower prefix) (lower (subject_in (find (has_name subject) fs)))) more
+
+due_fields : (prefix : Option Text) (m : Text) → with_first prefix (fields m) ≡ prefixed prefix m
+due_fields None m = none_first (fields m)
+due_fields (Some prefix) m = first_is prefix (fields m)
+
+value_unfolded : (o : Option FieldText) → option_map unfolded_value (option_map (λ f. f.value) o) ≡ option_map (λ f. unfolded_value f.value) o
+value_unfolded None = refl
+value_unfolded (Some f) = refl
+
+due_body : (trailer : Option Text) (m : Text) → with_trailer (due_trailer trailer (value_in (codes "content-type") (fields m)) (value_in (codes "content-transfer-encoding") (fields m))) (body m) ≡ trailed trailer m
 due_body None m = refl
-due_body (Some trailer) m = go (is_plain_text m && not (is_base64 m))
+due_body (Some trailer) m =
+    ap₂ (λ plain base64. with_trailer (cond (plain && not base64) (Some trailer) None) (body m))
+    (ap (λ o. begins_with (codes "text/plain") (lower (unwrap_or o (codes "text/plain")))) (value_unfolded (field (codes "content-type") m)))
+    (ap (λ o. bytes_eq (lower (unwrap_or o [])) (codes "base64")) (value_unfolded (field (codes "content-transfer-encoding") m)))
+    ∙ go (is_plain_text m && not (is_base64 m))
   where
     go : (t : Bool) → with_trailer (cond t (Some trailer) None) (body m) ≡ cond t (with_last_line_end (body m) ++ trailer) (body m)
     go true = refl
     go false = refl
 
-pub all_steps : (m remove add : Text) (prefix trailer due last : Option Text) (fs : List FieldText) (rest : Text)
-    → due ≡ due_prefix prefix m → last ≡ due_trailer trailer m → fs ≡ fields m → rest ≡ body m
-    → ((add ++ sent_fields remove (with_first due fs)) ++ 10 ∷ []) ++ with_trailer last rest ≡ words.rewritten m remove add prefix trailer
-all_steps m remove add prefix trailer due last fs rest a b c d =
+pub all_steps : (m remove add : Text) (prefix trailer kind encoding last : Option Text) (fs : List FieldText) (rest : Text)
+    → fs ≡ fields m → kind ≡ value_in (codes "content-type") fs → encoding ≡ value_in (codes "content-transfer-encoding") fs
+    → last ≡ due_trailer trailer kind encoding → rest ≡ body m
+    → ((add ++ sent_fields remove (with_first prefix fs)) ++ 10 ∷ []) ++ with_trailer last rest ≡ words.rewritten m remove add prefix trailer
+all_steps m remove add prefix trailer kind encoding last fs rest a b c d e =
     ap₂ (λ f t. ((add ++ sent_fields remove f) ++ 10 ∷ []) ++ t)
-    (ap₂ (λ p f. with_first p f) a c ∙ due_fields prefix m) (ap₂ (λ t r. with_trailer t r) b d ∙ due_body trailer m)
+    (ap (with_first prefix) a ∙ due_fields prefix m)
+    (ap₂ (λ t r. with_trailer t r) (d ∙ ap₂ (λ k n. due_trailer trailer k n) (b ∙ ap (value_in (codes "content-type")) a) (c ∙ ap (value_in (codes "content-transfer-encoding")) a)) e ∙ due_body trailer m)

@@ -1,10 +1,14 @@
 -- A message is rewritten in steps: whether a prefix and a trailer are due, and then field by field.
-use Rattle.std.specs.Prelude.{◌≡◌, not, ◌&&◌, List, [], ◌∷◌, ◌++◌, Option, Some, None, if◌then◌else◌, codes, filter}
+use Rattle.std.specs.Prelude.{◌≡◌, Bool, not, ◌&&◌, List, [], ◌∷◌, ◌++◌, Option, Some, None, if◌then◌else◌, codes, filter, find, unwrap_or}
 use Rattle.std.specs.List.{flat_map, AllByRecursion}
+use Rattle.std.specs.Option.{option_map}
+use Rattle.std.specs.Str.{bytes_eq}
 use Rattle.ml_base.specs.Bytes.{Text, lower}
 use Rattle.ml_base.specs.Texts.{with_line_end, with_last_line_end}
+use Rattle.ml_header.specs.Lines.{begins_with}
 use Rattle.ml_header.specs.Fields.{FieldText, has_name}
-use Rattle.ml_header.specs.Rewriting.{has_part, names_of, is_among, with_prefix, prefix_first, whole_subject, is_plain_text, is_base64}
+use Rattle.ml_header.specs.Unfolding.{unfolded_value}
+use Rattle.ml_header.specs.Rewriting.{has_part, names_of, is_among, with_prefix}
 
 -- a field's lines are its name, a colon and its value
 abbrev pub IsWhole : FieldText → Type 0
@@ -13,15 +17,31 @@ IsWhole f = f.lines ≡ f.name ++ 58 ∷ f.value
 abbrev pub AreWhole : List FieldText → Type 0
 AreWhole fs = AllByRecursion IsWhole fs
 
--- the prefix, where the subject hasn't it
-abbrev pub due_prefix : Option Text → Text → Option Text
-due_prefix None m = None
-due_prefix (Some prefix) m = if has_part (lower prefix) (lower (whole_subject m)) then None else Some prefix
+-- the prefix, unless a subject's value has it somewhere in any case of letters
+abbrev pub due_prefix : Text → Text → Option Text
+due_prefix prefix value = if has_part (lower prefix) (lower (unfolded_value value)) then None else Some prefix
+
+-- the value of the first field of a name
+abbrev pub value_in : Text → List FieldText → Option Text
+value_in name fs = option_map (λ f. f.value) (find (has_name name) fs)
+
+-- the value that was found in fields before this one, or its own where it has the name
+abbrev pub onto_value : Text → Option Text → FieldText → Option Text
+onto_value name (Some value) f = Some value
+onto_value name None f = if has_name name f then Some f.value else None
+
+-- the value of no content type, or of one that begins with `text/plain`
+abbrev pub is_plain_kind : Option Text → Bool
+is_plain_kind kind = begins_with (codes "text/plain") (lower (unwrap_or (option_map unfolded_value kind) (codes "text/plain")))
+
+-- the value of an encoding in base64
+abbrev pub is_base64_encoding : Option Text → Bool
+is_base64_encoding encoding = bytes_eq (lower (unwrap_or (option_map unfolded_value encoding) [])) (codes "base64")
 
 -- the trailer, where the body is plain text
-abbrev pub due_trailer : Option Text → Text → Option Text
-due_trailer None m = None
-due_trailer (Some trailer) m = if is_plain_text m && not (is_base64 m) then Some trailer else None
+abbrev pub due_trailer : Option Text → Option Text → Option Text → Option Text
+due_trailer None kind encoding = None
+due_trailer (Some trailer) kind encoding = if is_plain_kind kind && not (is_base64_encoding encoding) then Some trailer else None
 
 -- a field with a prefix, where there is one
 abbrev pub with_due : Option Text → FieldText → FieldText
@@ -30,15 +50,17 @@ with_due (Some prefix) f = with_prefix prefix f
 
 -- the prefix that goes into a field, and the one that is left for those behind it
 abbrev pub here : Option Text → FieldText → Option Text
-here due f = if has_name (codes "subject") f then due else None
+here None f = None
+here (Some prefix) f = if has_name (codes "subject") f then due_prefix prefix f.value else None
 
 abbrev pub later : Option Text → FieldText → Option Text
-later due f = if has_name (codes "subject") f then None else due
+later None f = None
+later (Some prefix) f = if has_name (codes "subject") f then None else Some prefix
 
--- the fields with a prefix in the first subject, where there is one
+-- the fields with a prefix in the first subject, where it is due
 abbrev pub with_first : Option Text → List FieldText → List FieldText
-with_first None fs = fs
-with_first (Some prefix) fs = prefix_first (codes "subject") prefix fs
+with_first prefix [] = []
+with_first prefix (f ∷ fs) = with_due (here prefix f) f ∷ with_first (later prefix f) fs
 
 -- the text of the fields but for those that are left out
 abbrev pub sent_fields : Text → List FieldText → Text

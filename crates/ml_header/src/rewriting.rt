@@ -3,14 +3,15 @@ ghost use Rattle.std.specs.Prelude.{◌≡◌, ◌++◌, ◌<◌, IfOk, OnOk, le
 ghost use Rattle.std.specs.Option.{option_map};
 ghost use Rattle.ml_base.specs.Bytes.{lower};
 ghost use Rattle.ml_base.specs.Texts.{with_line_end, with_last_line_end};
-ghost use Rattle.ml_header.specs.Unfolding.{unfolded};
+ghost use Rattle.ml_header.specs.Unfolding as values;
 ghost use Rattle.ml_header.specs.Rewriting as words;
 ghost use Rattle.ml_header.specs.Rewriting.{names_of};
 ghost use Rattle.ml_header.specs.Places.{text_of};
 ghost use Rattle.ml_header.specs.Steps as steps;
-ghost use Rattle.ml_header.specs.Steps.{IsWhole, AreWhole, with_due, with_first, with_trailer, sent_fields, kept_text};
+ghost use Rattle.ml_header.specs.Steps.{IsWhole, AreWhole, onto_value, value_in, with_due, with_first, with_trailer, sent_fields, kept_text};
 
 use crate::lines::begins_blank;
+use crate::unfolding::unfolded_value;
 use crate::{Field, Fields, Message};
 use memchr::memmem;
 use ml_base::{Bytes, split_first};
@@ -19,21 +20,45 @@ use std::alloc::{AllocError, Global};
 // Two spaces round a prefix, and three LFs: of the last field, behind the header, and before a trailer.
 const ENDS: usize = 5;
 
-// The unfolded value of the first field of a name, in lower case, or None where there is no such field.
-fn lower_value(
-    alloc: Global,
-    message: &Message<'_>,
-    name: &[u8],
-) -> Result<Option<Bytes>, AllocError>
-    ensures { IfOk result (λ value. value ≡ option_map lower (unfolded name.now message.now)) }
-{
-    match message.unfolded(alloc, name)? {
-        None => Ok(None),
-        Some(value) => {
-            let lower = value.as_slice().to_ascii_lowercase(alloc)?;
-            Ok(Some(Bytes::from_vec(lower)))
+// The values that decide whether a trailer is due: those of the first content type and the first encoding, as far as
+// fields were read.
+#[derive(Clone, Copy)]
+struct Met<'a> {
+    kind: Option<&'a [u8]>,
+    encoding: Option<&'a [u8]>,
+}
+
+impl<'a> Met<'a> {
+    // With a further field.
+    fn with(self, field: &Field<'a>) -> Met<'a>
+        ensures kind { option_map (λ v. v.now) result.kind ≡ onto_value (codes "content-type") (option_map (λ v. v.now) self.entry.kind) (text_of field.now) }
+        ensures encoding { option_map (λ v. v.now) result.encoding ≡ onto_value (codes "content-transfer-encoding") (option_map (λ v. v.now) self.entry.encoding) (text_of field.now) }
+    {
+        Met {
+            kind: first_value(self.kind, b"content-type", field),
+            encoding: first_value(self.encoding, b"content-transfer-encoding", field),
         }
     }
+}
+
+// The value that was found, or that of a field with this name.
+fn first_value<'a>(found: Option<&'a [u8]>, name: &[u8], field: &Field<'a>) -> Option<&'a [u8]>
+    ensures { option_map (λ v. v.now) result ≡ onto_value name.now (option_map (λ v. v.now) found.entry) (text_of field.now) }
+{
+    match found {
+        Some(value) => Some(value),
+        None if field.is_named(name) => Some(field.value),
+        None => None,
+    }
+}
+
+// A value in one line and in lower case.
+fn lower_value(alloc: Global, value: &[u8]) -> Result<Bytes, AllocError>
+    ensures { IfOk result (λ text. text ≡ lower (values.unfolded_value value.now)) }
+{
+    let line = unfolded_value(alloc, value)?;
+    let lower = line.as_slice().to_ascii_lowercase(alloc)?;
+    Ok(Bytes::from_vec(lower))
 }
 
 // Whether a text has another at some place.
@@ -43,64 +68,62 @@ fn has_part(part: &[u8], text: &[u8]) -> bool
     memmem::find(text, part).is_some()
 }
 
-// The prefix, unless the unfolded subject has it at some place in any case of letters.
+// The prefix, unless a subject's value has it at some place in any case of letters.
 fn due_prefix<'p>(
     alloc: Global,
-    message: &Message<'_>,
-    prefix: Option<&'p [u8]>,
+    prefix: &'p [u8],
+    value: &[u8],
 ) -> Result<Option<&'p [u8]>, AllocError>
-    ensures { IfOk result (λ due. option_map (λ p. p.now) due ≡ steps.due_prefix (option_map (λ p. p.now) prefix.entry) message.now) }
+    ensures { IfOk result (λ due. option_map (λ p. p.now) due ≡ steps.due_prefix prefix.now value.now) }
 {
-    match prefix {
-        None => Ok(None),
-        Some(prefix) => {
-            let subject = match lower_value(alloc, message, b"subject")? {
-                None => Bytes::new(alloc),
-                Some(subject) => subject,
-            };
-            let wanted = prefix.to_ascii_lowercase(alloc)?;
-            if has_part(wanted.as_slice(), subject.as_slice()) {
-                Ok(None)
-            } else {
-                Ok(Some(prefix))
-            }
-        }
+    let subject = lower_value(alloc, value)?;
+    let wanted = prefix.to_ascii_lowercase(alloc)?;
+    if has_part(wanted.as_slice(), subject.as_slice()) {
+        Ok(None)
+    } else {
+        Ok(Some(prefix))
     }
 }
 
 // Whether there is no content type, or one that begins with `text/plain`.
-fn is_plain_text(alloc: Global, message: &Message<'_>) -> Result<bool, AllocError>
-    ensures { IfOk result (λ is. is ≡ words.is_plain_text message.now) }
+fn is_plain_text(alloc: Global, kind: Option<&[u8]>) -> Result<bool, AllocError>
+    ensures { IfOk result (λ is. is ≡ steps.is_plain_kind (option_map (λ v. v.now) kind.entry)) }
 {
-    match lower_value(alloc, message, b"content-type")? {
+    match kind {
         None => Ok(true),
-        Some(value) => Ok(value.as_slice().starts_with(b"text/plain")),
+        Some(value) => {
+            let value = lower_value(alloc, value)?;
+            Ok(value.as_slice().starts_with(b"text/plain"))
+        }
     }
 }
 
 // Whether the body is spelled in base64.
-fn is_base64(alloc: Global, message: &Message<'_>) -> Result<bool, AllocError>
-    ensures { IfOk result (λ is. is ≡ words.is_base64 message.now) }
+fn is_base64(alloc: Global, encoding: Option<&[u8]>) -> Result<bool, AllocError>
+    ensures { IfOk result (λ is. is ≡ steps.is_base64_encoding (option_map (λ v. v.now) encoding.entry)) }
 {
-    match lower_value(alloc, message, b"content-transfer-encoding")? {
+    match encoding {
         None => Ok(false),
-        Some(value) => Ok(value.as_slice() == b"base64".as_slice()),
+        Some(value) => {
+            let value = lower_value(alloc, value)?;
+            Ok(value.as_slice() == b"base64".as_slice())
+        }
     }
 }
 
 // The trailer, where the body is plain text.
 fn due_trailer<'t>(
     alloc: Global,
-    message: &Message<'_>,
+    met: &Met<'_>,
     trailer: Option<&'t [u8]>,
 ) -> Result<Option<&'t [u8]>, AllocError>
-    ensures { IfOk result (λ due. option_map (λ t. t.now) due ≡ steps.due_trailer (option_map (λ t. t.now) trailer.entry) message.now) }
+    ensures { IfOk result (λ due. option_map (λ t. t.now) due ≡ steps.due_trailer (option_map (λ t. t.now) trailer.entry) (option_map (λ v. v.now) met.now.kind) (option_map (λ v. v.now) met.now.encoding)) }
 {
     match trailer {
         None => Ok(None),
         Some(trailer) => {
-            let plain = is_plain_text(alloc, message)?;
-            let base64 = is_base64(alloc, message)?;
+            let plain = is_plain_text(alloc, met.kind)?;
+            let base64 = is_base64(alloc, met.encoding)?;
             if plain && !base64 {
                 Ok(Some(trailer))
             } else {
@@ -178,14 +201,24 @@ fn push_spaced(text: &mut Bytes, value: &[u8]) -> Result<(), AllocError>
 }
 
 // The prefix that goes into a field, and the one that is left for those behind it.
-fn split_due<'p>(field: &Field<'_>, due: Option<&'p [u8]>) -> (Option<&'p [u8]>, Option<&'p [u8]>)
-    ensures here { option_map (λ p. p.now) result.0 ≡ steps.here (option_map (λ p. p.now) due.entry) (text_of field.now) }
-    ensures later { option_map (λ p. p.now) result.1 ≡ steps.later (option_map (λ p. p.now) due.entry) (text_of field.now) }
+fn split_due<'p>(
+    alloc: Global,
+    field: &Field<'_>,
+    prefix: Option<&'p [u8]>,
+) -> Result<(Option<&'p [u8]>, Option<&'p [u8]>), AllocError>
+    ensures here { IfOk result (λ r. option_map (λ p. p.now) r.0 ≡ steps.here (option_map (λ p. p.now) prefix.entry) (text_of field.now)) }
+    ensures later { IfOk result (λ r. option_map (λ p. p.now) r.1 ≡ steps.later (option_map (λ p. p.now) prefix.entry) (text_of field.now)) }
 {
-    if field.is_named(b"subject") {
-        (due, None)
-    } else {
-        (None, due)
+    match prefix {
+        None => Ok((None, None)),
+        Some(prefix) => {
+            if field.is_named(b"subject") {
+                let due = due_prefix(alloc, prefix, field.value)?;
+                Ok((due, None))
+            } else {
+                Ok((None, Some(prefix)))
+            }
+        }
     }
 }
 
@@ -206,23 +239,32 @@ fn push_kept(
     }
 }
 
-// Adds the fields but for those that are left out, with a prefix in the first subject where there is one.
-fn push_fields(
+// Adds the fields but for those that are left out, with a prefix in the first subject where it is due. It goes over the
+// fields once, and answers the values that it met.
+fn push_fields<'a>(
+    alloc: Global,
     text: &mut Bytes,
-    mut fields: Fields<'_>,
+    mut fields: Fields<'a>,
     remove: &[u8],
     prefix: Option<&[u8]>,
-) -> Result<(), AllocError>
+) -> Result<Met<'a>, AllocError>
     requires { AreWhole fields }
-    ensures { OnOk result (text.new ≡ text.old ++ sent_fields remove.now (with_first (option_map (λ p. p.now) prefix.entry) fields.entry)) }
+    ensures text { OnOk result (text.new ≡ text.old ++ sent_fields remove.now (with_first (option_map (λ p. p.now) prefix.entry) fields.entry)) }
+    ensures kind { IfOk result (λ met. option_map (λ v. v.now) met.kind ≡ value_in (codes "content-type") fields.entry) }
+    ensures encoding { IfOk result (λ met. option_map (λ v. v.now) met.encoding ≡ value_in (codes "content-transfer-encoding") fields.entry) }
 {
     let mut due = prefix;
+    let mut met = Met {
+        kind: None,
+        encoding: None,
+    };
     while let Some(field) = fields.next() {
-        let (here, later) = split_due(&field, due);
+        let (here, later) = split_due(alloc, &field, due)?;
         push_kept(text, &field, remove, here)?;
         due = later;
+        met = met.with(&field);
     }
-    Ok(())
+    Ok(met)
 }
 
 // Adds a body, and an LF where it has bytes and doesn't end in one.
@@ -273,13 +315,12 @@ pub(crate) fn rewritten(
 ) -> Result<Bytes, AllocError>
     ensures { IfOk result (λ text. text ≡ words.rewritten message.now remove.now add.now (option_map (λ p. p.now) prefix.entry) (option_map (λ t. t.now) trailer.entry)) }
 {
-    let prefix = due_prefix(alloc, message, prefix)?;
-    let trailer = due_trailer(alloc, message, trailer)?;
     let room = room(message.bytes(), add, prefix, trailer);
     let mut text = Bytes::with_capacity(alloc, room)?;
     text.extend(add)?;
-    push_fields(&mut text, message.fields(), remove, prefix)?;
+    let met = push_fields(alloc, &mut text, message.fields(), remove, prefix)?;
     text.push(b'\n')?;
+    let trailer = due_trailer(alloc, &met, trailer)?;
     push_body(&mut text, message.body(), trailer)?;
     Ok(text)
 }
