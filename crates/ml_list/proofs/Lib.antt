@@ -1,0 +1,9 @@
+pub mod Damages
+pub mod FloorFiles
+pub mod Reading
+pub mod Lists
+pub mod Risen
+pub mod Steps
+pub mod LookedUp
+pub mod States
+pub mod Named

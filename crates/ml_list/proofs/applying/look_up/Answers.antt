@@ -1,0 +1,42 @@
+use Rattle.std.proofs.Common.{◌≡◌, ◌∙◌, ◌*◌, ◌/◌, ◌<◌, Option, true, refl, sym, ap, subst, arith, rules}
+use Rattle.std.proofs.lemmas.Nat.{div_below}
+use Rattle.ml_base.specs.Dir.{Dir}
+use Rattle.ml_plain.specs.declared.Reply.{Reply}
+use Rattle.ml_plain.specs.KeptFiles.{IsRepliesFile, replies_name}
+use Rattle.ml_list.specs.Applying.{Repeats}
+use Rattle.ml_list.specs.Damage.{IsDamaged, IsNoReplies, is_looked_up, replies}
+use Rattle.ml_list.proofs.Damages.{one_named}
+use Rattle.ml_list.proofs.Named.{looks_up_replies}
+use Rattle.ml_list.proofs.LookedUp.{is_new_weaker}
+use Rattle.ml_list.proofs.Steps.{below_floor, above_floor}
+use Rattle.ml_list.proofs.applying.look_up.Goals as goal
+
+pub returns-then-number-floor-clause-value : goal.returns-then-number-floor-clause-value
+returns-then-number-floor-clause-value g c told q is =
+    below_floor (g.F.Files.map c.args.files.now) q c.args.number c.in_ok-floor.floor c.stale.result is (c.in_ok-floor.ensures.value told) c.if-number-eq0.false c.if-number-floor.true c.stale.ensures
+
+pub returns-clause-value : goal.returns-clause-value
+returns-clause-value g c told q is =
+    let dir = g.F.Files.map c.args.files.now in
+    let n = c.args.number in
+    let most = c.requires in
+    let same = g.met.F.Files.kept_map c.args.files.now c.floor.new.files told c.floor.ensures.reads.kept in
+    let group : n / 512 < 1_953_125_000 = div_below n 512 1_953_125_000 (omega arith) (omega (arith, most)) in
+    let found = c.in_ok-found.ensures.value told q.kept (subst (λ (d : Dir). IsRepliesFile (512 * (n / 512)) (d (replies_name (n / 512))) q.kept) (sym same) ((is.replies).files (n / 512) group)) in
+    subst (λ (o : Option Reply). Repeats q n o) (sym c.looked_up.ensures.answer)
+    (above_floor dir q n c.in_ok-floor.floor c.in_ok-found.found.reply is (c.in_ok-floor.ensures.value told) c.if-number-eq0.false c.if-number-floor.false found)
+
+pub returns-clause-file : goal.returns-clause-file
+returns-clause-file g c told =
+    let same = g.met.F.Files.kept_map c.args.files.now c.floor.new.files told c.floor.ensures.reads.kept in
+    is_new_weaker c.looked_up.result _ _ (λ file e some. e ∙ c.in_ok-found.ensures.file told ∙ ap (λ (d : Dir). d (replies_name (c.args.number / 512))) same) c.looked_up.ensures.file
+
+pub returns-in_err-found-clause-names : goal.returns-in_err-found-clause-names
+returns-in_err-found-clause-names g c =
+    let dir = g.F.Files.map c.args.files.now in
+    let n = c.args.number in
+    let most = c.requires in
+    let group = div_below n 512 1_953_125_000 (omega arith) (omega (arith, most)) in
+    let names = one_named g.F.Files (λ name. is_looked_up n name ≡ true) _ (replies_name (n / 512)) (IsNoReplies (g.F.Files.map c.floor.new.files) (n / 512)) (IsDamaged dir) (looks_up_replies n c.if-number-eq0.false)
+    (λ told none. replies (n / 512) group refl (subst (λ (d : Dir). IsNoReplies d (n / 512)) (g.met.F.Files.kept_map c.args.files.now c.floor.new.files told c.floor.ensures.reads.kept) none)) c.in_err-found.ensures.names in
+    search rules

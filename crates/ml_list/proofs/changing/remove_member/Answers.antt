@@ -1,0 +1,22 @@
+use Rattle.std.proofs.Common.{◌≡◌, true, rules}
+use Rattle.ml_base.specs.Address.{key}
+use Rattle.ml_list.proofs.Damages.{set_named}
+use Rattle.ml_list.proofs.Lists.{removed_list, touched_puts}
+use Rattle.ml_list.specs.Damage.{is_read_by}
+use Rattle.ml_plain.specs.declared.Act.TheVariants.{Remove}
+use Rattle.ml_list.proofs.changing.remove_member.Goals as goal
+
+pub returns-in_err-answer-clause-names : goal.returns-in_err-answer-clause-names
+returns-in_err-answer-clause-names g c =
+    let dir = g.F.Files.map c.args.files.now in
+    let k = key c.args.who.now in
+    let names = set_named g.F.Files (λ name. is_read_by (Remove c.args.set c.args.who.now) name ≡ true) _ dir c.args.set k true (λ name e. e) c.in_err-answer.ensures.names c.in_err-answer.ensures.sound in
+    search rules
+
+pub returns-clause-value : goal.returns-clause-value
+returns-clause-value g c told p is =
+    let dir = g.F.Files.map c.args.files.now in
+    removed_list dir p c.args.set c.args.who.now c.in_ok-answer.answer c.removal.result c.requires is (c.in_ok-answer.ensures.value told (p.sets c.args.set) (is.sets c.args.set)) c.in_ok-answer.ensures.others c.removal.ensures.puts c.removal.ensures.reply
+
+pub returns-clause-own : goal.returns-clause-own
+returns-clause-own g c = touched_puts c.args.set (key c.args.who.now) _ c.removal.result.0 c.in_ok-answer.ensures.others c.removal.ensures.puts

@@ -1,0 +1,42 @@
+use Rattle.std.proofs.Common.{◌≡◌, ◌∙◌, ◌*◌, ◌/◌, true, refl, sym, subst, arith, rules}
+use Rattle.std.proofs.lemmas.Nat.{div_below}
+use Rattle.ml_base.specs.Dir.{Dir}
+use Rattle.ml_plain.specs.Histories.{Kept, from_floor}
+use Rattle.ml_plain.specs.KeptFiles.{IsRepliesFile, replies_name}
+use Rattle.ml_list.specs.Damage.{IsDamaged, IsNoReplies, is_read_by, replies}
+use Rattle.ml_list.proofs.Damages.{one_named}
+use Rattle.ml_list.proofs.Named.{reads_replies}
+use Rattle.ml_plain.specs.declared.Act.TheVariants.{Floor}
+use Rattle.ml_list.proofs.Steps.{raise_refused, raise_stays, raise_rises}
+use Rattle.ml_list.proofs.rising.raise.Goals as goal
+
+pub returns-then-not-may_rise-clause-value : goal.returns-then-not-may_rise-clause-value
+returns-then-not-may_rise-clause-value g c told q is =
+    raise_refused (g.F.Files.map c.args.files.now) q c.args.number c.args.at c.in_ok-floor.floor is (c.in_ok-floor.ensures.value told) (c.new.result, c.refused.result)
+    (sym c.may_rise.ensures ∙ c.if-not-may_rise.true) c.new.ensures c.refused.ensures
+
+pub returns-then-at-floor-clause-value : goal.returns-then-at-floor-clause-value
+returns-then-at-floor-clause-value g c told q is =
+    raise_stays (g.F.Files.map c.args.files.now) q c.args.number c.args.at c.in_ok-floor.floor is (c.in_ok-floor.ensures.value told) (c.new-then-at-floor.result, c.floored.result)
+    (sym c.may_rise.ensures ∙ c.if-not-may_rise.false) c.if-at-floor.true c.new-then-at-floor.ensures c.floored.ensures
+
+pub returns-in_err-txn-clause-names : goal.returns-in_err-txn-clause-names
+returns-in_err-txn-clause-names g c =
+    let dir = g.F.Files.map c.args.files.now in
+    let at = c.args.at in
+    let most = c.requires in
+    let group = div_below at 512 1_953_125_000 (omega arith) (omega (arith, most)) in
+    let names = one_named g.F.Files (λ name. is_read_by (Floor at) name ≡ true) _ (replies_name (at / 512)) (IsNoReplies (g.F.Files.map c.floor.new.files) (at / 512)) (IsDamaged dir) (reads_replies at)
+    (λ told none. replies (at / 512) group refl (subst (λ (d : Dir). IsNoReplies d (at / 512)) (g.met.F.Files.kept_map c.args.files.now c.floor.new.files told c.floor.ensures.reads.kept) none)) c.in_err-txn.ensures.names in
+    search rules
+
+pub returns-clause-value : goal.returns-clause-value
+returns-clause-value g c told q is =
+    let dir = g.F.Files.map c.args.files.now in
+    let at = c.args.at in
+    let most = c.requires in
+    let same = g.met.F.Files.kept_map c.args.files.now c.floor.new.files told c.floor.ensures.reads.kept in
+    let rise = c.in_ok-txn.ensures.value told in
+    raise_rises dir q c.args.number at c.in_ok-floor.floor is (c.in_ok-floor.ensures.value told) (c.in_ok-txn.txn, c.floored-2.result) rise.0
+    (sym c.may_rise.ensures ∙ c.if-not-may_rise.false) c.if-at-floor.false most (div_below at 512 1_953_125_000 (omega arith) (omega (arith, most))) rise.1 c.floored-2.ensures
+    (subst (λ (d : Dir). (kept : Kept) → IsRepliesFile (512 * (at / 512)) (d (replies_name (at / 512))) kept → IsRepliesFile (512 * (at / 512)) rise.0 (from_floor at kept)) same rise.2)

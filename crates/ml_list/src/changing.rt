@@ -1,0 +1,142 @@
+// What acts change of the list: its sets and its keys.
+ghost use Rattle.std.specs.Prelude.{◌≡◌, ◌<◌, ◌≤◌, true, IsTrue, IfOk, IfErr, IfSome, IsErrOf};
+ghost use Rattle.ml_base.specs.Dir.{are_files, touches_only};
+ghost use Rattle.ml_base.specs.ReadFiles.{IsReading, NamesDamaged};
+ghost use Rattle.ml_subs.specs.Answers.{puts_of, puts_if};
+ghost use Rattle.ml_base.specs.Ranges.{IsMoment};
+ghost use Rattle.ml_plain.specs.declared.Act.TheVariants as acts;
+ghost use Rattle.ml_plain.specs.Answers.{rekeyed, toosoon};
+ghost use Rattle.ml_plain.specs.Plain.{Plain};
+ghost use Rattle.ml_plain.specs.Answers as answers;
+ghost use Rattle.ml_plain.specs.Steps as spec;
+ghost use Rattle.ml_plain.specs.Directory.{IsList, is_of_list};
+ghost use Rattle.ml_plain.specs.KeptFiles.{is_kept};
+ghost use Rattle.ml_list.specs.Acts.{HasNoLedger};
+ghost use Rattle.ml_list.specs.Applying.{DoesList, addition_reply, removal_reply};
+ghost use Rattle.ml_list.specs.Damage.{IsDamaged, is_read_by};
+
+use ml_base::{Address, Files, PartError, Set, Txn, age};
+use ml_config::{Former, Keys, key, set_keys};
+use ml_plain::Reply;
+use ml_subs::{AddAnswer, add, remove};
+use std::alloc::Global;
+
+// How long a new key stays in force at least, in seconds.
+const SHORTEST_USE: u64 = 1_000_000;
+
+// Adds an address to a set.
+pub(crate) fn add_member<F: Files>(
+    alloc: Global,
+    files: &mut F,
+    set: Set,
+    who: &Address,
+    now: u64,
+) -> Result<(Txn, Reply), PartError>
+    requires { IsMoment now }
+    ensures value { IsTrue F.tells → IfOk result (λ done. (p : Plain) → IsList (F.map files.old) p → DoesList (F.map files.old) done (spec.add now set who.now p)) }
+    ensures own { IfOk result (λ done. touches_only is_of_list done.0 ≡ true) }
+    ensures files { IfOk result (λ done. IsTrue (are_files done.0)) }
+    ensures reply { IfOk result (λ done. is_kept done.1 ≡ true) }
+    ensures names { NamesDamaged ⟦<F as Files>⟧ (λ name. is_read_by (acts.Add set who.now) name ≡ true) (IsDamaged (F.map files.old)) result }
+    ensures reads { IsReading ⟦<F as Files>⟧ files.old files.new result }
+{
+    let answer = add(alloc, files, set, who, now)?;
+    Ok(addition(alloc, answer))
+}
+
+// The puts and the reply of adding.
+fn addition(alloc: Global, answer: AddAnswer) -> (Txn, Reply)
+    ensures puts { result.0 ≡ puts_of answer }
+    ensures reply { result.1 ≡ addition_reply answer }
+{
+    match answer {
+        AddAnswer::Added(txn) => (txn, plain(Reply::SUBSCRIBED)),
+        AddAnswer::Already => (Txn::new(alloc), plain(Reply::ALREADY)),
+        AddAnswer::Full => (Txn::new(alloc), plain(Reply::FULL)),
+    }
+}
+
+// Removes an address from a set.
+pub(crate) fn remove_member<F: Files>(
+    alloc: Global,
+    files: &mut F,
+    set: Set,
+    who: &Address,
+) -> Result<(Txn, Reply), PartError>
+    requires { HasNoLedger set }
+    ensures value { IsTrue F.tells → IfOk result (λ done. (p : Plain) → IsList (F.map files.old) p → DoesList (F.map files.old) done (spec.remove set who.now p)) }
+    ensures own { IfOk result (λ done. touches_only is_of_list done.0 ≡ true) }
+    ensures files { IfOk result (λ done. IsTrue (are_files done.0)) }
+    ensures reply { IfOk result (λ done. is_kept done.1 ≡ true) }
+    ensures names { NamesDamaged ⟦<F as Files>⟧ (λ name. is_read_by (acts.Remove set who.now) name ≡ true) (IsDamaged (F.map files.old)) result }
+    ensures reads { IsReading ⟦<F as Files>⟧ files.old files.new result }
+{
+    let answer = remove(alloc, files, set, who)?;
+    Ok(removal(alloc, answer))
+}
+
+// The puts and the reply of removing.
+fn removal(alloc: Global, answer: Option<Txn>) -> (Txn, Reply)
+    ensures puts { result.0 ≡ puts_if answer }
+    ensures reply { result.1 ≡ removal_reply answer }
+{
+    match answer {
+        Some(txn) => (txn, plain(Reply::UNSUBSCRIBED)),
+        None => (Txn::new(alloc), plain(Reply::ABSENT)),
+    }
+}
+
+// Changes the key.
+pub(crate) fn change_key<F: Files>(
+    alloc: Global,
+    files: &mut F,
+    new: &[u8; 32],
+    now: u64,
+) -> Result<(Txn, Reply), PartError>
+    requires { IsMoment now }
+    ensures value { IsTrue F.tells → IfOk result (λ done. (p : Plain) → IsList (F.map files.old) p → DoesList (F.map files.old) done (spec.rekey now new.now p)) }
+    ensures own { IfOk result (λ done. touches_only is_of_list done.0 ≡ true) }
+    ensures files { IfOk result (λ done. IsTrue (are_files done.0)) }
+    ensures reply { IfOk result (λ done. is_kept done.1 ≡ true) }
+    ensures names { NamesDamaged ⟦<F as Files>⟧ (λ name. is_read_by (acts.Rekey new.now) name ≡ true) (IsDamaged (F.map files.old)) result }
+    ensures reads { IsReading ⟦<F as Files>⟧ files.old files.new result }
+{
+    let keys = key(alloc, files)?;
+    if is_recent(now, keys.former) {
+        return Ok((Txn::new(alloc), plain(Reply::TOOSOON)));
+    }
+    let changed = changed_keys(keys, now, *new);
+    let txn = set_keys(alloc, &changed)?;
+    Ok((txn, plain(Reply::REKEYED)))
+}
+
+// Whether the key was changed at most 1,000,000 seconds ago.
+fn is_recent(now: u64, former: Option<Former>) -> bool
+    ensures { result ≡ spec.is_recent now former }
+{
+    match former {
+        Some(former) => age(now, former.changed) <= SHORTEST_USE,
+        None => false,
+    }
+}
+
+// These keys with a new one.
+fn changed_keys(keys: Keys, now: u64, new: [u8; 32]) -> Keys
+    ensures { result ≡ spec.changed_keys keys now new }
+{
+    let last = keys.key;
+    Keys {
+        key: new,
+        former: Some(Former {
+            key: last,
+            changed: now,
+        }),
+    }
+}
+
+// The reply of a code that has no number.
+fn plain(code: u8) -> Reply
+    ensures { result ≡ answers.plain code }
+{
+    Reply { code, number: 0 }
+}

@@ -1,0 +1,15 @@
+//! What an item does to the files of a list: the step of the plain list, and each numbered item once.
+#![tactic(auto)]
+
+mod applying;
+mod changing;
+mod floors;
+mod laws;
+mod loading;
+mod rising;
+mod slots;
+
+pub use applying::apply;
+pub use floors::floor;
+pub use laws::law_damage;
+pub use loading::load;

@@ -1,0 +1,178 @@
+// The floor rises.
+ghost use Rattle.std.specs.Prelude.{◌≡◌, ◌<◌, ◌≤◌, ◌+◌, ◌*◌, ◌/◌, ◌%◌, ◌++◌, max, true, ℕ, IsTrue, IfOk, IfErr, IfSome, IfNone, IsErrOf, OnOk, Option, length, ◌==◌};
+ghost use Rattle.ml_base.specs.Dir.{touches_only, with_puts, are_files};
+ghost use Rattle.ml_base.specs.ReadFiles.{IsReading, NamesDamaged};
+ghost use Rattle.ml_base.specs.PartErrors.{OnDamaged};
+ghost use Rattle.ml_plain.specs.Answers.{badfloor};
+ghost use Rattle.ml_plain.specs.Answers as spec;
+ghost use Rattle.std.specs.List.{list_all};
+ghost use Rattle.ml_base.specs.Bytes.{Text};
+ghost use Rattle.ml_plain.specs.Histories.{State, Kept, from_floor};
+ghost use Rattle.ml_plain.specs.Histories as steps;
+ghost use Rattle.ml_plain.specs.Directory.{IsState};
+ghost use Rattle.ml_plain.specs.KeptFiles.{IsRepliesFile, is_kept, floor_name};
+ghost use Rattle.ml_plain.specs.KeptFiles as states;
+ghost use Rattle.ml_list.specs.Applying.{Does};
+ghost use Rattle.ml_list.specs.Damage.{IsDamaged, IsNoReplies, is_read_by};
+ghost use Rattle.ml_list.specs.Rising.{removals, rise_puts};
+ghost use Rattle.ml_plain.specs.declared.Act.TheVariants as acts;
+ghost use Rattle.ml_plain.specs.KeptFiles.{IsEmptied};
+
+use crate::floors::{FLOOR, floor, floor_text};
+use crate::slots::{SIZE, SLOTS, replies_name};
+use ml_base::{Bytes, Files, Name, PartError, Put, Txn, put_piece};
+use ml_plain::Reply;
+use std::alloc::{AllocError, Global};
+
+// How far the floor may rise at once.
+const LONGEST_RISE: u64 = 512_000;
+
+// The floor no lower than this, asked for by an item with this number.
+pub(crate) fn raise<F: Files>(
+    alloc: Global,
+    files: &mut F,
+    number: u64,
+    at: u64,
+) -> Result<(Txn, Reply), PartError>
+    requires { at ≤ 999_999_999_999 }
+    ensures value { IsTrue F.tells → IfOk result (λ done. (q : State) → IsState (F.map files.old) q → Does (F.map files.old) done (steps.raise q number at)) }
+    ensures reply { IfOk result (λ done. is_kept done.1 ≡ true) }
+    ensures files { IfOk result (λ done. IsTrue (are_files done.0)) }
+    ensures names { NamesDamaged ⟦<F as Files>⟧ (λ name. is_read_by (acts.Floor at) name ≡ true) (IsDamaged (F.map files.old)) result }
+    ensures reads { IsReading ⟦<F as Files>⟧ files.old files.new result }
+{
+    let floor = floor(alloc, files)?;
+    if !may_rise(floor, number, at) {
+        return Ok((Txn::new(alloc), refused()));
+    }
+    if at <= floor {
+        return Ok((Txn::new(alloc), floored(floor)));
+    }
+    let txn = rise(alloc, files, floor, at)?;
+    Ok((txn, floored(at)))
+}
+
+// Whether a floor may rise so far, asked for by an item with this number.
+fn may_rise(floor: u64, number: u64, at: u64) -> bool
+    requires { floor ≤ 999_999_999_999 }
+    ensures { result ≡ steps.may_rise floor number at }
+{
+    at <= floor + LONGEST_RISE && (number == 0 || at <= number)
+}
+
+fn refused() -> Reply
+    ensures { result ≡ badfloor }
+{
+    Reply {
+        code: Reply::BADFLOOR,
+        number: 0,
+    }
+}
+
+fn floored(floor: u64) -> Reply
+    ensures { result ≡ spec.floored floor }
+{
+    Reply {
+        code: Reply::FLOORED,
+        number: floor,
+    }
+}
+
+// The puts of a rise of the floor. It reads the one file of kept replies that the new floor cuts.
+fn rise<F: Files>(alloc: Global, files: &mut F, floor: u64, at: u64) -> Result<Txn, PartError>
+    requires least { 1 ≤ floor }
+    requires up { floor < at }
+    requires most { at ≤ 999_999_999_999 }
+    ensures value { IsTrue F.tells → IfOk result (λ txn. (cut : Option Text) × (txn ≡ rise_puts floor at cut) × ((kept : Kept) → IsRepliesFile (512 * (at / 512)) (F.map files.old (states.replies_name (at / 512))) kept → IsRepliesFile (512 * (at / 512)) cut (from_floor at kept))) }
+    ensures files { IfOk result (λ txn. IsTrue (are_files txn)) }
+    ensures names { NamesDamaged ⟦<F as Files>⟧ (λ name. name ≡ states.replies_name (at / 512)) (λ _. IsNoReplies (F.map files.old) (at / 512)) result }
+    ensures reads { IsReading ⟦<F as Files>⟧ files.old files.new result }
+{
+    let name = replies_name(at);
+    let file = files.get(alloc, name)?;
+    let Some(bytes) = cut(file, (at % SLOTS) as usize) else {
+        return Err(PartError::Damaged(name));
+    };
+    Ok(rise_txn(alloc, floor, at, name, bytes)?)
+}
+
+// The puts of a rise of the floor, with what is left of the file that it cuts.
+fn rise_txn(
+    alloc: Global,
+    floor: u64,
+    at: u64,
+    name: Name,
+    bytes: Option<Bytes>,
+) -> Result<Txn, AllocError>
+    requires least { 1 ≤ floor }
+    requires up { floor < at }
+    requires most { at ≤ 999_999_999_999 }
+    requires name { name ≡ states.replies_name (at / 512) }
+    ensures { IfOk result (λ txn. txn ≡ rise_puts floor at bytes) }
+{
+    let mut txn = Txn::new(alloc);
+    remove_files(&mut txn, floor / SLOTS, at / SLOTS)?;
+    txn.push(Put { name, bytes })?;
+    txn.push(Put {
+        name: FLOOR,
+        bytes: Some(floor_text(alloc, at)?),
+    })?;
+    Ok(txn)
+}
+
+// Adds puts that remove the files of kept replies from one on to before another.
+fn remove_files(txn: &mut Txn, from: u64, to: u64) -> Result<(), AllocError>
+    requires { from ≤ to }
+    ensures { OnOk result (txn.new ≡ txn.old ++ removals from to) }
+{
+    for group in from..to {
+        txn.push(Put {
+            name: Name {
+                kind: 19,
+                at: group,
+            },
+            bytes: None,
+        })?;
+    }
+    Ok(())
+}
+
+// What is left of a file of kept replies whose first slots are emptied, which is no file where nothing is left in it. It
+// is None where the file's length is outside the grammar.
+fn cut(file: Option<Bytes>, slots: usize) -> Option<Option<Bytes>>
+    requires { slots < 512 }
+    ensures some { IfSome result (λ left. (first : ℕ) (kept : Kept) → IsRepliesFile first file kept → IsRepliesFile first left (from_floor (first + slots) kept)) }
+    ensures none { IfNone result ((first : ℕ) (kept : Kept) → ¬ IsRepliesFile first file kept) }
+{
+    let Some(text) = file else {
+        return Some(None);
+    };
+    if text.len() != SIZE {
+        return None;
+    }
+    let left = emptied(text, slots);
+    if is_empty(left.as_slice()) {
+        Some(None)
+    } else {
+        Some(Some(left))
+    }
+}
+
+// The bytes with their first slots emptied.
+fn emptied(text: Bytes, slots: usize) -> Bytes
+    requires slots { slots < 512 }
+    requires size { length text ≡ 4608 }
+    ensures { IsEmptied text slots result }
+{
+    let zeros = [0u8; SIZE];
+    let mut bytes = text.into_vec();
+    put_piece(bytes.as_mut_slice(), 0, &zeros[..9 * slots]);
+    Bytes::from_vec(bytes)
+}
+
+// Whether all bytes are zeros.
+fn is_empty(bytes: &[u8]) -> bool
+    ensures { result ≡ list_all (λ b. b == 0) bytes.now }
+{
+    bytes.iter().all(|byte| *byte == 0)
+}
