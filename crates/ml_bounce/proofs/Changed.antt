@@ -45,7 +45,7 @@ spelled_file : (es : Ledger) → unwrap_or (ledger_file es) [] ≡ flat_map entr
 spelled_file [] = refl
 spelled_file (e ∷ es) = refl
 
-same_key : (a b : Text) → eq_by_cmp byte_cmp a b ≡ bytes_eq a b
+pub same_key : (a b : Text) → eq_by_cmp byte_cmp a b ≡ bytes_eq a b
 same_key a b = is_eq-slice_cmp a b
 
 -- a key of another file is another key

@@ -75,13 +75,13 @@ stage_written (WarnFailed t) e = ap (option_map (λ t. WarnFailed t)) (moment_wr
 stage_written (Probed t) e = ap (option_map (λ t. Probed t)) (moment_written t (moment_range t e))
 
 -- a key
-key_read : (text k : Text) → key_in text ≡ Some k → (k ≡ text) × IsAddress k × (lower k ≡ k)
+pub key_read : (text k : Text) → key_in text ≡ Some k → (k ≡ text) × IsAddress k × (lower k ≡ k)
 key_read text k e =
     let o = only_read (λ k. bytes_eq (lower k) k) (address_in text) k e in
     let is = address_is text k o.0 in
     (is.0, subst (λ (t : Text). IsAddress t) (sym is.0) is.1, (bytes_eq-Decides (lower k) k).0 o.1)
 
-key_written : (k : Text) → IsAddress k → lower k ≡ k → key_in k ≡ Some k
+pub key_written : (k : Text) → IsAddress k → lower k ≡ k → key_in k ≡ Some k
 key_written k is low = only_there (λ k. bytes_eq (lower k) k) (address_in k) k (address_there k is) ((bytes_eq-Decides (lower k) k).1 low)
 
 -- what the values of an entry are to each other

@@ -1,6 +1,7 @@
 -- Which texts are read as the files of a ledger.
-use Rattle.std.specs.Prelude.{ℕ, Bool, not, ◌&&◌, ◌||◌, ◌==◌, nat_le, List, [], ◌∷◌, length, Option, Some, None, option_map, if◌then◌else◌}
+use Rattle.std.specs.Prelude.{ℕ, Bool, true, not, ◌&&◌, ◌||◌, ◌==◌, nat_le, List, [], ◌∷◌, length, Option, Some, None, option_map, if◌then◌else◌}
 use Rattle.std.specs.Option.{option_and_then}
+use Rattle.std.specs.Ordering.{is_lt}
 use Rattle.std.specs.Str.{bytes_eq}
 use Rattle.ml_base.specs.Bytes.{Text, lower, is_empty}
 use Rattle.ml_base.specs.Netstrings.{netstring_at}
@@ -51,3 +52,18 @@ entry_at n place text = option_and_then (λ found. option_map (λ e. (e, found.1
 -- the entries of the file with this number: a row of them, in ascending order of key
 abbrev pub ledger_of : ℕ → Text → Option Ledger
 ledger_of n text = only_if (is_sorted byte_cmp (λ e. e.key)) (row_of (entry_at n) 0 text)
+
+-- whether a key is below that of the first of a row of entries, if there is one
+abbrev pub is_below_first : Text → Ledger → Bool
+is_below_first k [] = true
+is_below_first k (e ∷ es) = is_lt (byte_cmp k e.key)
+
+-- whether the first of a row of entries, if there is one, isn't below a key
+abbrev pub is_from : Text → Ledger → Bool
+is_from k [] = true
+is_from k (e ∷ es) = not (is_lt (byte_cmp e.key k))
+
+-- the entries without the first, where it is of this key
+abbrev pub behind_key : Text → Ledger → Ledger
+behind_key k [] = []
+behind_key k (e ∷ es) = if bytes_eq e.key k then es else e ∷ es

@@ -1,0 +1,164 @@
+-- What is read piece by piece is what the whole is read as.
+use Rattle.std.proofs.Common.{◌≡◌, ◌<◌, ◌+◌, ℕ, Bool, true, false, cond, not, ◌==◌, ◌&&◌, List, [], ◌∷◌, ◌++◌, length, Option, Some, None, refl, sym, ap, ◌∙◌, arith, append_assoc, option_map}
+use Rattle.std.specs.List.{list_any, list_all}
+use Rattle.std.specs.Option.{option_and_then}
+use Rattle.std.specs.Char.{is_ascii_uppercase}
+use Rattle.std.specs.Ordering.{is_lt}
+use Rattle.std.proofs.lemmas.Bool.{and_parts, and_from, false≢true, eqb-true}
+use Rattle.ml_base.specs.Address.{IsAddress}
+use Rattle.ml_base.specs.Bytes.{Text, lower, is_empty}
+use Rattle.ml_base.specs.Netstrings.{netstring_at}
+use Rattle.ml_base.specs.Numbers.{number_within}
+use Rattle.ml_base.specs.Sorted.{byte_cmp, is_sorted}
+use Rattle.ml_base.specs.Splits.{split_first, onto_first, onto_line}
+use Rattle.ml_base.proofs.BelowLemmas.{less}
+use Rattle.ml_base.proofs.SortedLaws.{bytes_total}
+use Rattle.ml_rows.specs.Rows.{onto, netstrings_at, row_of}
+use Rattle.ml_rows.specs.Values.{all_numbers, split_all, comma_numbers}
+use Rattle.ml_rows.proofs.RowLaws.{row_goes_on, row_fails}
+use Rattle.ml_bounce.specs.Files.{IsEntry, entry_text}
+use Rattle.ml_bounce.specs.Ledger.{Ledger, LedgerEntry}
+use Rattle.ml_bounce.specs.Reading.{key_in, entry_of_content, entry_of_fields, entry_at, is_below_first}
+use Rattle.ml_bounce.proofs.Exact.{key_read, key_written, entry_read, entry_written, entry_some}
+use Rattle.ml_bounce.proofs.Folded.{own_key, none_capital}
+
+module _ {A : Type 0} where
+  -- a value onto what is there
+  pub onto_more : (out : List A) (a : A) (o : Option (List A)) → option_map (λ more. out ++ more) (onto a o) ≡ option_map (λ more. (out ++ a ∷ []) ++ more) o
+  onto_more out a None = refl
+  onto_more out a (Some more) = ap Some (sym (append_assoc out (a ∷ []) more))
+
+  -- one more was read
+  pub one_more : (whole : Option (List A)) (out : List A) (a : A) (here more : Option (List A)) → whole ≡ option_map (λ xs. out ++ xs) here → here ≡ onto a more → whole ≡ option_map (λ xs. (out ++ a ∷ []) ++ xs) more
+  one_more whole out a here more e f = e ∙ ap (option_map (λ xs. out ++ xs)) f ∙ onto_more out a more
+
+-- the texts that a text is split into, by its first comma
+abbrev pub parts_by : Option (Text × Text) → Text → List Text
+parts_by None text = text ∷ []
+parts_by (Some p) text = p.0 ∷ split_all 44 p.1
+
+split_parts : (text : Text) → split_all 44 text ≡ parts_by (split_first 44 text) text
+split_parts [] = refl
+split_parts (x ∷ xs) = go (x == 44) (split_first 44 xs) (split_parts xs)
+  where
+    go : (t : Bool) (o : Option (Text × Text)) → split_all 44 xs ≡ parts_by o xs → cond t ([] ∷ split_all 44 xs) (onto_line x (split_all 44 xs)) ≡ parts_by (cond t (Some ([], xs)) (onto_first x o)) (x ∷ xs)
+    go true o e = refl
+    go false None e = ap (onto_line x) e
+    go false (Some p) e = ap (onto_line x) e
+
+abbrev two : Text → Text → Option (Text × Text)
+two a b = Some (a, b)
+
+abbrev numbers_in : Text → Option (List ℕ)
+numbers_in text = all_numbers 99_999_999 (split_all 44 text)
+
+pub comma_some : (text : Text) → 0 < length text → comma_numbers 99_999_999 text ≡ numbers_in text
+comma_some [] lt = absurd (omega arith)
+comma_some (b ∷ bs) lt = refl
+
+-- a number in front of a comma
+pub number_more : (text digits more : Text) (n : ℕ) → two digits more ≡ split_first 44 text → Some n ≡ number_within 99_999_999 digits → numbers_in text ≡ onto n (numbers_in more)
+number_more text digits more n cut is =
+    ap (all_numbers 99_999_999) (split_parts text ∙ ap (λ o. parts_by o text) (sym cut)) ∙ ap (option_and_then (λ m. onto m (numbers_in more))) (sym is)
+
+pub number_not : (text digits more : Text) → two digits more ≡ split_first 44 text → None ≡ number_within 99_999_999 digits → numbers_in text ≡ None
+number_not text digits more cut is =
+    ap (all_numbers 99_999_999) (split_parts text ∙ ap (λ o. parts_by o text) (sym cut)) ∙ ap (option_and_then (λ m. onto m (numbers_in more))) (sym is)
+
+-- and the last number
+pub last_number : (text : Text) (n : ℕ) → None ≡ split_first 44 text → Some n ≡ number_within 99_999_999 text → numbers_in text ≡ Some (n ∷ [])
+last_number text n cut is = ap (all_numbers 99_999_999) (split_parts text ∙ ap (λ o. parts_by o text) (sym cut)) ∙ ap (option_and_then (λ m. onto m (Some []))) (sym is)
+
+pub last_not : (text : Text) → None ≡ split_first 44 text → None ≡ number_within 99_999_999 text → numbers_in text ≡ None
+last_not text cut is = ap (all_numbers 99_999_999) (split_parts text ∙ ap (λ o. parts_by o text) (sym cut)) ∙ ap (option_and_then (λ m. onto m (Some []))) (sym is)
+
+-- a key
+pub key_there : (text : Text) (capital : Bool) → IsAddress text → capital ≡ list_any is_ascii_uppercase text → not capital ≡ true → key_in text ≡ Some text
+key_there text true is e none = absurd (false≢true none)
+key_there text false is e none = key_written text is (own_key text (sym e))
+
+pub key_not : (text : Text) (capital : Bool) → capital ≡ list_any is_ascii_uppercase text → not capital ≡ false → key_in text ≡ None
+key_not text false e some = absurd (false≢true (sym some))
+key_not text true e some = go (key_in text) refl
+  where
+    go : (o : Option Text) → key_in text ≡ o → o ≡ None
+    go None found = refl
+    go (Some k) found =
+        let key = key_read text k found in
+        let low : lower text ≡ text = ap lower (sym key.0) ∙ key.2 ∙ key.0 in
+        absurd (false≢true (sym (none_capital text) ∙ ap (list_any is_ascii_uppercase) low ∙ sym e))
+
+-- four netstrings with nothing behind them, or with something
+abbrev ended : ℕ → List Text × Text → Option LedgerEntry
+ended n found = cond (is_empty found.1) (entry_of_fields n found.0) None
+
+pub four_cut : (text k b f l s m d e : Text) → two k b ≡ netstring_at text → two f l ≡ netstring_at b → two s m ≡ netstring_at l → two d e ≡ netstring_at m
+    → netstrings_at 4 text ≡ Some (k ∷ f ∷ s ∷ d ∷ [], e)
+four_cut text k b f l s m d e p q r t = rw (sym p, sym q, sym r, sym t) refl
+
+pub four_not : (text k b f l s m d e : Text) → two k b ≡ netstring_at text → two f l ≡ netstring_at b → two s m ≡ netstring_at l → two d e ≡ netstring_at m → 0 < length e
+    → (n : ℕ) → entry_of_content n text ≡ None
+four_not text k b f l s m d e p q r t some n = ap (option_and_then (ended n)) (four_cut text k b f l s m d e p q r t) ∙ go e some
+  where
+    go : (e : Text) → 0 < length e → ended n (k ∷ f ∷ s ∷ d ∷ [], e) ≡ None
+    go [] lt = absurd (omega arith)
+    go (b ∷ bs) lt = refl
+
+abbrev first_key : LedgerEntry → Text
+first_key e = e.key
+
+lt_then : (a b c : Text) → is_lt (byte_cmp a b) ≡ true → is_lt (byte_cmp b c) ≡ true → is_lt (byte_cmp a c) ≡ true
+lt_then a b c e f = ap is_lt (bytes_total.trans a b c (less _ e) (less _ f))
+
+-- whether keys rise, told from the front on
+below_more : (k : Text) (e : LedgerEntry) (es : Ledger) → is_lt (byte_cmp k e.key) ≡ true → list_all (λ (f : LedgerEntry). is_lt (byte_cmp e.key f.key)) es ≡ true → list_all (λ (f : LedgerEntry). is_lt (byte_cmp k f.key)) es ≡ true
+below_more k e [] lt all = refl
+below_more k e (f ∷ fs) lt all =
+    let parts = and_parts (is_lt (byte_cmp e.key f.key)) (list_all (λ (g : LedgerEntry). is_lt (byte_cmp e.key g.key)) fs) all in
+    and_from _ _ (lt_then k e.key f.key lt parts.0) (below_more k e fs lt parts.1)
+
+-- whether keys rise is told by their neighbours
+both_are : (a b : Bool) → (b ≡ true → a ≡ true) → (a && b) ≡ b
+both_are true b h = refl
+both_are false true h = h refl
+both_are false false h = refl
+
+pub sorted_more : (e : LedgerEntry) (es : Ledger) → is_below_first e.key es ≡ true → is_sorted byte_cmp first_key (e ∷ es) ≡ is_sorted byte_cmp first_key es
+sorted_more e [] lt = refl
+sorted_more e (f ∷ fs) lt =
+    both_are (list_all (λ (g : LedgerEntry). is_lt (byte_cmp e.key g.key)) (f ∷ fs)) (is_sorted byte_cmp first_key (f ∷ fs))
+    (λ all. let parts = and_parts (list_all (λ (g : LedgerEntry). is_lt (byte_cmp f.key g.key)) fs) (is_sorted byte_cmp first_key fs) all in and_from _ _ lt (below_more e.key f fs lt parts.0))
+
+pub sorted_not : (e : LedgerEntry) (es : Ledger) → is_below_first e.key es ≡ false → is_sorted byte_cmp first_key (e ∷ es) ≡ false
+sorted_not e [] lt = absurd (false≢true (sym lt))
+sorted_not e (f ∷ fs) lt = ap (λ b. (b && list_all (λ (g : LedgerEntry). is_lt (byte_cmp e.key g.key)) fs) && is_sorted byte_cmp first_key (f ∷ fs)) lt
+
+-- a row of entries goes on behind its first
+abbrev with_rest : ℕ → Text × Text → Option (LedgerEntry × Text)
+with_rest n found = option_map (λ e. (e, found.1)) (entry_of_content n found.0)
+
+abbrev onto_rest : Text → LedgerEntry → LedgerEntry × Text
+onto_rest more e = (e, more)
+
+pub entry_more : (n k : ℕ) (text content more : Text) (e : LedgerEntry) → two content more ≡ netstring_at text → Some e ≡ entry_of_content n content → row_of (entry_at n) k text ≡ onto e (row_of (entry_at n) (k + 1) more)
+entry_more n k text content more e cut is =
+    row_goes_on (entry_at n) entry_text (λ place. IsEntry n) (entry_written n) (entry_read n) (λ place e is. entry_some e) k text e more
+    (ap (option_and_then (with_rest n)) (sym cut) ∙ ap (option_map (onto_rest more)) (sym is))
+
+pub entry_uncut : (n k : ℕ) (text : Text) → None ≡ netstring_at text → 0 < length text → row_of (entry_at n) k text ≡ None
+entry_uncut n k text cut some =
+    row_fails (entry_at n) entry_text (λ place. IsEntry n) (entry_written n) (entry_read n) (λ place e is. entry_some e) k text some (ap (option_and_then (with_rest n)) (sym cut))
+
+pub entry_unread : (n k : ℕ) (text content more : Text) → two content more ≡ netstring_at text → None ≡ entry_of_content n content → 0 < length text → row_of (entry_at n) k text ≡ None
+entry_unread n k text content more cut is some =
+    row_fails (entry_at n) entry_text (λ place. IsEntry n) (entry_written n) (entry_read n) (λ place e is. entry_some e) k text some
+    (ap (option_and_then (with_rest n)) (sym cut) ∙ ap (option_map (onto_rest more)) (sym is))
+
+-- whether bytes are left
+pub some_left : (text : Text) → (length text == 0) ≡ false → 0 < length text
+some_left [] e = cc
+some_left (b ∷ bs) e = omega arith
+
+pub none_left : (text : Text) → (length text == 0) ≡ true → text ≡ []
+none_left [] e = refl
+none_left (b ∷ bs) e = absurd (omega (arith, eqb-true (length (b ∷ bs)) 0 e))

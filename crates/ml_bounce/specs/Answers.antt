@@ -1,0 +1,55 @@
+-- The ledgers of sets, and what the calls on them answer.
+use Rattle.std.specs.Prelude.{◌+◌, ℕ, Bool, true, false, List, [], ◌∷◌, Option, Some, None, is_some, if◌then◌else◌}
+use Rattle.ml_base.specs.Bytes.{Text}
+use Rattle.ml_base.specs.Dir.{Dir, with_puts}
+use Rattle.ml_base.specs.Name.{set_kind}
+use Rattle.ml_base.specs.declared.names.Name.{Name}
+use Rattle.ml_base.specs.declared.names.Set.{Set}
+use Rattle.ml_base.specs.declared.names.Set.TheVariants as sets
+use Rattle.ml_base.specs.declared.puts.Put.{Put}
+use Rattle.ml_bounce.specs.Files.{IsLedger, IsLedgerFile, ledger_name, ledger_place, ledger_put}
+use Rattle.ml_bounce.specs.Ledger.{Ledger, find_entry, forget}
+
+-- whether a set has a ledger
+abbrev pub has_ledger : Set → Bool
+has_ledger sets.List = true
+has_ledger sets.Digest = true
+has_ledger sets.Allow = false
+has_ledger sets.Deny = false
+has_ledger sets.Moderators = false
+
+-- the kind of the files of a set's ledger: 15 of the set list, and 16 of the set digest
+abbrev pub ledger_kind : Set → ℕ
+ledger_kind set = set_kind set + 12
+
+-- the file in which a set's ledger has a key
+abbrev pub key_file : Set → Text → Name
+key_file set k = ledger_name (ledger_kind set) (ledger_place k)
+
+-- a directory's file of a key has these entries
+abbrev pub IsBucketOf : Dir → Set → Text → Ledger → Type 0
+IsBucketOf dir set k bucket = IsLedgerFile (ledger_place k) (dir (key_file set k)) bucket
+
+-- one of a ledger's files that spells no entries
+abbrev pub IsNoFile : Dir → Set → ℕ → Type 0
+IsNoFile dir set n = (entries : Ledger) → ¬ IsLedgerFile n (dir (ledger_name (ledger_kind set) n)) entries
+
+-- the puts that write a row of entries into the file of a key
+abbrev pub writes : Set → Text → Ledger → List Put
+writes set k entries = ledger_put (ledger_kind set) (ledger_place k) entries ∷ []
+
+-- the puts by which a key is forgotten: none where there is no entry
+abbrev pub forgets : Set → Text → Ledger → List Put
+forgets set k bucket = if is_some (find_entry k bucket) then writes set k (forget k bucket) else []
+
+-- an answer by which the files stand for another ledger, or None where there is none
+abbrev pub LeadsTo : Dir → Set → Option (List Put) → Option Ledger → Type 0
+LeadsTo dir set (Some txn) (Some ledger) = IsLedger (with_puts dir txn) (ledger_kind set) ledger
+LeadsTo dir set None None = Unit {0}
+LeadsTo dir set (Some txn) None = ⊥
+LeadsTo dir set None (Some ledger) = ⊥
+
+-- the puts of an answer that may be none
+abbrev pub puts_of : Option (List Put) → List Put
+puts_of None = []
+puts_of (Some txn) = txn

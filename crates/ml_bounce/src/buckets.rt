@@ -1,0 +1,96 @@
+// The files of a set's ledger.
+ghost use Rattle.std.specs.Prelude.{◌≡◌, ◌<◌, ◌∷◌, [], true, ℕ, List, IsTrue, IfOk};
+ghost use Rattle.ml_base.specs.Address.{key};
+ghost use Rattle.ml_base.specs.Name.{is_file};
+ghost use Rattle.ml_base.specs.ReadFiles.{IsReading, NamesDamaged};
+ghost use Rattle.ml_bounce.specs.Answers.{has_ledger, ledger_kind, key_file, IsBucketOf, IsNoFile};
+ghost use Rattle.ml_bounce.specs.Files.{IsLedgerFile, ledger_name, ledger_place};
+
+use crate::reading::{Entries, read_file};
+use ml_base::{Address, Bytes, Files, Name, PartError, Put, Set, Txn, hash};
+use std::alloc::{AllocError, Global};
+
+// The key of an address.
+pub(crate) fn key_of(alloc: Global, who: &Address) -> Result<Bytes, AllocError>
+    ensures { IfOk result (λ k. k ≡ key who.now) }
+{
+    let mut bytes = Vec::from_slice(alloc, who.bytes())?;
+    bytes.as_mut_slice().make_ascii_lowercase();
+    Ok(Bytes::from_vec(bytes))
+}
+
+// The number of the file that has a key.
+pub(crate) fn place_of(key: &[u8]) -> u8
+    ensures value { result ≡ ledger_place key.now }
+    ensures below { result < 53 }
+{
+    (hash(key) % 53) as u8
+}
+
+// The name of one of the files of a set's ledger.
+pub(crate) fn file_name(set: Set, n: u8) -> Name
+    requires { IsTrue (has_ledger set) }
+    ensures name { result ≡ ledger_name (ledger_kind set) n }
+    ensures file { n < 53 → IsTrue (is_file result) }
+{
+    let kind = match set {
+        Set::List => 15,
+        Set::Digest => 16,
+        _ => unreachable!(),
+    };
+    Name { kind, at: n as u64 }
+}
+
+// The put that writes the file of a key, or removes it.
+pub(crate) fn written(
+    alloc: Global,
+    set: Set,
+    key: &[u8],
+    bytes: Option<Bytes>,
+) -> Result<Txn, AllocError>
+    requires { IsTrue (has_ledger set) }
+    ensures { IfOk result (λ txn. txn ≡ record { name = key_file set key.now; bytes = bytes } ∷ []) }
+{
+    let mut txn = Txn::new(alloc);
+    txn.push(Put {
+        name: file_name(set, place_of(key)),
+        bytes,
+    })?;
+    Ok(txn)
+}
+
+// The entries of one of these files.
+pub(crate) fn read_bucket<F: Files>(
+    alloc: Global,
+    files: &mut F,
+    set: Set,
+    n: u8,
+) -> Result<Entries, PartError>
+    requires ledger { IsTrue (has_ledger set) }
+    requires place { n < 53 }
+    ensures value { IsTrue F.tells → IfOk result (IsLedgerFile n (F.map files.old (ledger_name (ledger_kind set) n))) }
+    ensures names { NamesDamaged ⟦<F as Files>⟧ (λ name. name ≡ ledger_name (ledger_kind set) n) (λ _. IsNoFile (F.map files.old) set n) result }
+    ensures reads { IsReading ⟦<F as Files>⟧ files.old files.new result }
+{
+    let name = file_name(set, n);
+    let file = files.get(alloc, name)?;
+    match read_file(alloc, n, &file)? {
+        Some(entries) => Ok(entries),
+        None => Err(PartError::Damaged(name)),
+    }
+}
+
+// The entries of the file of a key.
+pub(crate) fn bucket_of<F: Files>(
+    alloc: Global,
+    files: &mut F,
+    set: Set,
+    key: &[u8],
+) -> Result<Entries, PartError>
+    requires { IsTrue (has_ledger set) }
+    ensures value { IsTrue F.tells → IfOk result (IsBucketOf (F.map files.old) set key.now) }
+    ensures names { NamesDamaged ⟦<F as Files>⟧ (λ name. name ≡ key_file set key.now) (λ _. IsNoFile (F.map files.old) set (ledger_place key.now)) result }
+    ensures reads { IsReading ⟦<F as Files>⟧ files.old files.new result }
+{
+    read_bucket(alloc, files, set, place_of(key))
+}

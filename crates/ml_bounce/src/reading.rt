@@ -1,0 +1,218 @@
+// The entries of a ledger's file.
+ghost use Rattle.std.specs.Prelude.{◌≡◌, ◌<◌, true, false, ℕ, IsTrue, List, [], ◌∷◌, Option, Some, None, IfOk, IfSome, IfNone, unwrap_or};
+ghost use Rattle.std.specs.Char.{is_ascii_uppercase};
+ghost use Rattle.std.specs.List.{list_any};
+ghost use Rattle.std.specs.Ordering.{is_lt};
+ghost use Rattle.ml_base.specs.Address.{IsAddress};
+ghost use Rattle.ml_base.specs.Sorted.{byte_cmp, is_sorted};
+ghost use Rattle.ml_rows.specs.Rows.{netstrings_at, row_of};
+ghost use Rattle.ml_bounce.specs.Ledger.{is_blank_at};
+ghost use Rattle.ml_bounce.specs.Reading.{stage_of, key_in, entry_of_content, entry_at, ledger_of};
+ghost use Rattle.ml_bounce.specs.Reading as spec;
+
+use crate::numbers::{are_distinct, numbers_of};
+use crate::{LedgerEntry, Stage};
+use ml_base::{Address, Bytes, LAST_MOMENT, Row, hash, is_kept, number_within, split_netstring};
+use std::alloc::{AllocError, Global};
+use std::cmp::Ordering;
+
+// The entries of one file.
+pub(crate) type Entries = Row<LedgerEntry>;
+
+pub(crate) const MAX_MISSED: usize = 100;
+
+// The stage that a text spells.
+fn read_stage(text: &[u8]) -> Option<Stage>
+    ensures { result ≡ stage_of text.now }
+{
+    let [letter, rest @ ..] = text else {
+        return None;
+    };
+    if *letter == b'n' {
+        return if rest.is_empty() {
+            Some(Stage::Unwarned)
+        } else {
+            None
+        };
+    }
+    if *letter == b'w' {
+        return Some(Stage::Warned(number_within(LAST_MOMENT, rest)?));
+    }
+    if *letter == b'f' {
+        return Some(Stage::WarnFailed(number_within(LAST_MOMENT, rest)?));
+    }
+    if *letter == b'p' {
+        return Some(Stage::Probed(number_within(LAST_MOMENT, rest)?));
+    }
+    None
+}
+
+// Whether a text has a capital letter.
+fn has_capital(text: &[u8]) -> bool
+    ensures { result ≡ list_any is_ascii_uppercase text.now }
+{
+    text.iter().any(|byte| byte.is_ascii_uppercase())
+}
+
+// Whether a text is an address in lower case.
+fn is_key(text: &[u8]) -> bool
+    ensures address { IsTrue result → IsAddress text.now }
+    ensures key { IsTrue result → key_in text.now ≡ Some text.now }
+    ensures none { result ≡ false → key_in text.now ≡ None }
+{
+    is_kept(text) && !has_capital(text)
+}
+
+// The four texts of an entry.
+#[derive(Clone, Copy)]
+struct Texts<'a> {
+    key: &'a [u8],
+    first: &'a [u8],
+    stage: &'a [u8],
+    missed: &'a [u8],
+}
+
+// The four texts whose netstrings a text is.
+fn texts_of(text: &[u8]) -> Option<Texts<'_>>
+    ensures some { IfSome result (λ t. netstrings_at 4 text.now ≡ Some (t.key.now ∷ t.first.now ∷ t.stage.now ∷ t.missed.now ∷ [], [])) }
+    ensures none { IfNone result ((n : ℕ) → entry_of_content n text.now ≡ None) }
+{
+    let (key, behind) = split_netstring(text)?;
+    let (first, later) = split_netstring(behind)?;
+    let (stage, last) = split_netstring(later)?;
+    let (missed, end) = split_netstring(last)?;
+    if !end.is_empty() {
+        return None;
+    }
+    Some(Texts {
+        key,
+        first,
+        stage,
+        missed,
+    })
+}
+
+// Whether an entry is left with nothing to remember.
+pub(crate) fn is_blank(stage: Stage, missed: &[u64]) -> bool
+    ensures { result ≡ is_blank_at stage missed.now }
+{
+    match stage {
+        Stage::Unwarned => missed.is_empty(),
+        Stage::Warned(_) => false,
+        Stage::WarnFailed(_) => false,
+        Stage::Probed(_) => false,
+    }
+}
+
+// Whether the values of an entry fit each other, and the file with this number.
+fn fits(n: u8, key: &[u8], first: u64, stage: Stage, missed: &[u64]) -> bool
+    ensures { result ≡ spec.fits n (record { key = key.now; first = first; stage = stage; missed = missed.now }) }
+{
+    missed.len() <= MAX_MISSED
+        && are_distinct(missed)
+        && (!missed.is_empty() || first == 0)
+        && !is_blank(stage, missed)
+        && hash(key) % 53 == n as u32
+}
+
+// The entry that a text spells, where it belongs to the file with this number.
+fn entry_of(alloc: Global, n: u8, text: &[u8]) -> Result<Option<LedgerEntry>, AllocError>
+    ensures { IfOk result (λ r. r ≡ entry_of_content n text.now) }
+{
+    let Some(texts) = texts_of(text) else {
+        return Ok(None);
+    };
+    if !is_key(texts.key) {
+        return Ok(None);
+    }
+    let Some(first) = number_within(LAST_MOMENT, texts.first) else {
+        return Ok(None);
+    };
+    let Some(stage) = read_stage(texts.stage) else {
+        return Ok(None);
+    };
+    let Some(missed) = numbers_of(alloc, texts.missed)? else {
+        return Ok(None);
+    };
+    if !fits(n, texts.key, first, stage, missed.as_slice()) {
+        return Ok(None);
+    }
+    let key = Address::from_kept(alloc, texts.key)?;
+    Ok(Some(LedgerEntry {
+        key,
+        first,
+        stage,
+        missed,
+    }))
+}
+
+// The entries whose row a text is.
+fn entries_of(alloc: Global, n: u8, text: &[u8]) -> Result<Option<Entries>, AllocError>
+    ensures { IfOk result (λ r. r ≡ row_of (entry_at n) 0 text.now) }
+{
+    let mut out = Entries::new(alloc);
+    let mut rest = text;
+    while !rest.is_empty() {
+        let Some((content, more)) = split_netstring(rest) else {
+            return Ok(None);
+        };
+        let Some(entry) = entry_of(alloc, n, content)? else {
+            return Ok(None);
+        };
+        out.push(entry)?;
+        rest = more;
+    }
+    Ok(Some(out))
+}
+
+// Whether a text stands before another in the order of bytes.
+pub(crate) fn is_before(a: &[u8], b: &[u8]) -> bool
+    ensures { result ≡ is_lt (byte_cmp a.now b.now) }
+{
+    a.cmp(b) == Ordering::Less
+}
+
+// Whether a key is below that of the first of some entries.
+fn is_below_first(key: &[u8], entries: &[LedgerEntry]) -> bool
+    ensures { result ≡ spec.is_below_first key.now entries.now }
+{
+    match entries {
+        [] => true,
+        [first, ..] => is_before(key, first.key.bytes()),
+    }
+}
+
+// Whether the keys of entries rise.
+fn is_rising(entries: &[LedgerEntry]) -> bool
+    ensures { result ≡ is_sorted byte_cmp (λ e. e.key) entries.now }
+{
+    let mut rest = entries;
+    while let [first, more @ ..] = rest {
+        if !is_below_first(first.key.bytes(), more) {
+            return false;
+        }
+        rest = more;
+    }
+    true
+}
+
+// The entries of the file with this number, or None where it is outside its grammar.
+pub(crate) fn read_file(
+    alloc: Global,
+    n: u8,
+    file: &Option<Bytes>,
+) -> Result<Option<Entries>, AllocError>
+    ensures { IfOk result (λ r. r ≡ ledger_of n (unwrap_or file.now [])) }
+{
+    let Some(text) = file else {
+        return Ok(Some(Entries::new(alloc)));
+    };
+    let Some(entries) = entries_of(alloc, n, text.as_slice())? else {
+        return Ok(None);
+    };
+    if is_rising(entries.as_slice()) {
+        Ok(Some(entries))
+    } else {
+        Ok(None)
+    }
+}
