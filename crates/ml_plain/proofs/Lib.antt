@@ -31,3 +31,5 @@ pub mod NewList
 pub mod Silent
 pub mod DigestLaw
 pub mod IssueLaw
+pub mod HeaderRows
+pub mod MailLaw

@@ -22,6 +22,7 @@ ghost use Rattle.ml_plain.specs.Directory.{LawLaidNew, LawNewList, IsList, IsSta
 ghost use Rattle.ml_plain.specs.Histories.{State, Kept, keep, from_floor};
 ghost use Rattle.ml_plain.specs.KeptFiles.{AreReplies, IsFloorFile, IsRepliesFile, IsSlot, IsWritten, IsRisen, slots_of, slot_text, is_kept, replies_name, is_of_replies};
 ghost use Rattle.ml_plain.specs.KeptRead.{floor_in, reply_in};
+ghost use Rattle.ml_plain.specs.MailFields.{LawMails};
 ghost use Rattle.ml_plain.specs.OnceLaws.{Once, Joined};
 ghost use Rattle.ml_plain.specs.Plain.{Plain, with_members};
 ghost use Rattle.ml_plain.specs.Runs.{Run};
@@ -123,4 +124,12 @@ pub fn law_kept_files()
     ensures floor { (file : Option Text) (floor : ℕ) → IsFloorFile file floor ↔ (floor_in file ≡ Some floor) }
     ensures slot { (n : ℕ) (o : Option Reply) → IsSlot n o → reply_in n (slot_text o) ≡ Some o }
     ensures only { (n : ℕ) (text : Text) (o : Option Reply) → AllByRecursion (λ b. b < 256) text → reply_in n text ≡ Some o → IsSlot n o × (text ≡ slot_text o) }
+{}
+
+/// The header of each mail of the list is read as the fields `Mailing-List`, `Precedence`, `From`, `To`, `Reply-To` where the mail has an
+/// address for answers, `Date` and `Subject`, in this order and no others. The value of each is what was put there, behind a space and
+/// with an LF behind it, and the body is all that was put behind the header. So it is whatever the mail says, and wherever the list's
+/// address, the recipient and the address for answers have no LF: nobody can add a field to a mail or end its header.
+pub fn law_mails()
+    ensures { LawMails }
 {}

@@ -6,8 +6,8 @@ mod laws;
 
 pub use codes::{has_number, status, word};
 pub use laws::{
-    law_chain, law_changes, law_digests, law_joined, law_kept_files, law_leaving, law_new_list,
-    law_once, law_parts, law_posts, law_states,
+    law_chain, law_changes, law_digests, law_joined, law_kept_files, law_leaving, law_mails,
+    law_new_list, law_once, law_parts, law_posts, law_states,
 };
 use ml_base::{Address, Bytes, Set};
 
