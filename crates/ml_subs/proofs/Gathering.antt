@@ -1,5 +1,5 @@
 -- Buckets that are read one behind the other.
-use Rattle.std.proofs.Common.{◌≡◌, ℕ, zero, suc, ◌+◌, ◌-◌, ◌^◌, ◌<◌, ◌≤◌, Bool, true, false, cond, ◌==◌, List, [], ◌++◌, length, min, Some, refl, sym, ap, ap₂, ◌∙◌, subst, arith, add-one, inl, inr}
+use Rattle.std.proofs.Common.{◌≡◌, ℕ, zero, suc, ◌+◌, ◌-◌, ◌^◌, ◌<◌, ◌≤◌, Bool, true, false, cond, ◌==◌, List, [], ◌++◌, length, min, Option, Some, Result, Ok, Err, IfOk, refl, sym, ap, ap₂, ◌∙◌, subst, arith, add-one, inl, inr}
 use Rattle.std.proofs.lemmas.Bool.{eqb-true, eqb-false, eq-eqb, ne_eqb}
 use Rattle.std.specs.List.Sorted.{IsPermutation, IsSortedByKey}
 use Rattle.ml_base.specs.Dir.{Dir}
@@ -12,7 +12,8 @@ use Rattle.ml_base.specs.PartErrors.{OnDamaged}
 use Rattle.ml_subs.specs.declared.member_list.Member.{Member}
 use Rattle.ml_subs.specs.Members.{member_key}
 use Rattle.ml_subs.specs.Buckets.{IsBucketFile}
-use Rattle.ml_subs.specs.Subscribers.{AreBuckets, AreJoined, AreSubscribers, Breaks, IsBadBucket, IsBucketName, IsNoCount, is_of_set, bucket_name, count_name, count_text}
+use Rattle.ml_base.specs.Bytes.{Text}
+use Rattle.ml_subs.specs.Subscribers.{AreFiles, file_in, AreBuckets, AreJoined, AreSubscribers, Breaks, IsBadBucket, IsBucketName, IsNoCount, is_of_set, bucket_name, count_name, count_text}
 use Rattle.ml_subs.specs.Reading.{gathered, counted}
 use Rattle.ml_base.proofs.DamagedNames.{on_damaged}
 use Rattle.ml_subs.proofs.Rewritten.{count_one, some_one}
@@ -132,3 +133,16 @@ each_set P a b c d e sets.Digest = b
 each_set P a b c d e sets.Allow = c
 each_set P a b c d e sets.Deny = d
 each_set P a b c d e sets.Moderators = e
+
+-- what the files of a set's buckets hold as they were read, the set holds
+pub joined_in : (dir : Dir) (set : Set) (texts : List (Option Text)) (ms : List Member) → AreFiles dir set 53 texts → AreJoined (file_in texts) set ms → AreJoined dir set ms
+joined_in dir set texts ms same is = record {
+  ordered = is.ordered;
+  buckets = is.buckets;
+  files = λ n less. subst (λ (f : Option Text). IsBucketFile n f (is.buckets n)) (same.each n less) (is.files n less);
+  joined = is.joined;
+}
+
+pub ok_from : {T E : Type 0} (r : Result T E) (P Q : T → Type 0) → ((x : T) → P x → Q x) → IfOk r P → IfOk r Q
+ok_from (Ok x) P Q f is = f x is
+ok_from (Err e) P Q f is = tt

@@ -95,10 +95,10 @@ pub record Sides (layout : Layout) (who before : Text) (here : Option Member) (b
 abbrev pub joined : {layout : Layout} {who before : Text} {here : Option Member} {behind : Text} → Sides layout who before here behind → List Member
 joined {here = here} s = s.below ++ (option_to_list here ++ s.above)
 
--- the key of an address beside it, or none where the address is its own key
-abbrev pub IsKeyBeside : Option Text → Text → Type 0
-IsKeyBeside (Some k) who = k ≡ key who
-IsKeyBeside None who = who ≡ key who
+-- an address, and whether it is its own key; where it may not be, nothing is said
+pub record IsKeyed (who : Text) (is_key : Bool) : Type 0 where
+  pub address : IsAddress who
+  pub own : is_key ≡ true → who ≡ key who
 
 -- the members of the first buckets, one bucket behind the other
 abbrev pub gathered : (ℕ → List Member) → ℕ → List Member

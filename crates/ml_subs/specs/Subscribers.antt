@@ -1,5 +1,5 @@
 -- A set of subscribers, spread over 53 files and a count.
-use Rattle.std.specs.Prelude.{◌≡◌, ◌≢◌, ◌<◌, ◌≤◌, ℕ, Bool, true, false, ◌&&◌, ◌||◌, ◌==◌, nat_lt, List, [], ◌∷◌, ◌++◌, length, Some, ◌⊎◌}
+use Rattle.std.specs.Prelude.{◌≡◌, ◌≢◌, ◌<◌, ◌≤◌, ℕ, Bool, true, false, ◌&&◌, ◌||◌, ◌==◌, nat_lt, List, [], ◌∷◌, ◌++◌, length, Option, Some, None, ◌⊎◌, slice_index_or}
 use Rattle.std.specs.Fmt.{decimal}
 use Rattle.ml_base.specs.Bytes.{Text}
 use Rattle.ml_base.specs.Dir.{Dir, same_name}
@@ -54,6 +54,14 @@ IsBucketName set name = (n : ℕ) × (n < 53) × (name ≡ bucket_name set n)
 -- one of a set's 53 buckets, outside its grammar
 abbrev pub IsBadBucket : Dir → Set → Name → Type 0
 IsBadBucket dir set name = (n : ℕ) × (n < 53) × (name ≡ bucket_name set n) × IsNoBucket dir set n
+
+-- the files of a set's buckets, of which these are the bytes, bucket by bucket
+abbrev pub file_in : List (Option Text) → Name → Option Text
+file_in texts name = slice_index_or texts name.at None
+
+-- the bytes of a set's first buckets
+pub record AreFiles (dir : Dir) (set : Set) (count : ℕ) (texts : List (Option Text)) : Type 0 where
+  pub each : (n : ℕ) → n < count → slice_index_or texts n None ≡ dir (bucket_name set n)
 
 -- a count's file that spells no number from a least one to 100,000
 abbrev pub IsNoCount : Dir → Set → ℕ → Type 0

@@ -1,33 +1,35 @@
-// Members beside their keys, by which they are sorted.
+// Members where a bucket's text spells them, which are sorted before their addresses are copied.
 ghost use Rattle.std.specs.Prelude.{◌≡◌, IfOk};
 ghost use Rattle.std.specs.Char.{is_ascii_uppercase};
 ghost use Rattle.std.specs.List.{list_any};
+ghost use Rattle.ml_base.specs.Address.{IsAddress};
 ghost use Rattle.ml_base.specs.Sorted.{byte_cmp};
 ghost use Rattle.ml_subs.specs.Members.{member_key};
-ghost use Rattle.ml_subs.specs.Reading.{IsKeyBeside};
+ghost use Rattle.ml_subs.specs.Reading.{as_member};
 
 use crate::Member;
-use ml_base::Bytes;
+use crate::records::{Record, member_from};
+use ml_base::compare_keys;
 use std::alloc::{AllocError, Global};
 use std::cmp::Ordering;
 use std::marker::Model;
 
-// A member, and his key where his address isn't spelled as that. Contracts see the member.
+// A member's record, and whether his address is its own key. Contracts see the member.
 #[derive(Drop)]
-pub(crate) struct Keyed {
-    folded: Option<Bytes>,
-    member: Member,
+pub(crate) struct Keyed<'a> {
+    record: Record<'a>,
+    is_key: bool,
 }
 
-impl Model for Keyed {
+impl<'a> Model for Keyed<'a> {
     ghost use Rattle.ml_subs.specs.declared.member_list.Member.{Member};
-    ghost use Rattle.ml_subs.specs.Reading.{IsKeyBeside};
+    ghost use Rattle.ml_subs.specs.Reading.{IsKeyed, as_member};
 
     ghost Value = { Member };
 
-    ghost view = { λ k. k.member };
+    ghost view = { λ k. as_member k.record };
 
-    ghost invariant = { λ k. IsKeyBeside k.folded k.member.who };
+    ghost invariant = { λ k. IsKeyed k.record.who.now k.is_key };
 }
 
 // Whether a text has a capital letter.
@@ -37,46 +39,33 @@ fn has_capital(text: &[u8]) -> bool
     text.iter().any(|byte| byte.is_ascii_uppercase())
 }
 
-// The key of an address, or None where the address is its own key.
-fn folded_key(alloc: Global, who: &[u8]) -> Result<Option<Bytes>, AllocError>
-    ensures { IfOk result (λ folded. IsKeyBeside folded who.now) }
-{
-    if !has_capital(who) {
-        return Ok(None);
-    }
-    let mut key = Vec::from_slice(alloc, who)?;
-    key.as_mut_slice().make_ascii_lowercase();
-    Ok(Some(Bytes::from_vec(key)))
-}
-
-impl Keyed {
-    // A member with his key, which is folded here once.
-    pub(crate) fn new(alloc: Global, member: Member) -> Result<Self, AllocError>
-        ensures { IfOk result (λ k. k ≡ member) }
+impl<'a> Keyed<'a> {
+    // The member of a record, whose text is an address.
+    pub(crate) fn new(found: Record<'a>) -> Keyed<'a>
+        requires { IsAddress found.who.now }
+        ensures { result ≡ as_member found.entry }
     {
-        let folded = folded_key(alloc, member.who.bytes())?;
-        Ok(Keyed { folded, member })
-    }
-
-    fn key(&self) -> &[u8]
-        ensures { result.now ≡ member_key self.now }
-    {
-        match &self.folded {
-            Some(key) => key.as_slice(),
-            None => self.member.who.bytes(),
+        Keyed {
+            record: found,
+            is_key: !has_capital(found.who),
         }
     }
 
-    // How the keys of two members stand.
-    pub(crate) fn compare(&self, other: &Keyed) -> Ordering
+    // How the keys of two members stand. Those that are spelled as they are need no folding.
+    pub(crate) fn compare(&self, other: &Keyed<'_>) -> Ordering
         ensures { result ≡ byte_cmp (member_key self.now) (member_key other.now) }
     {
-        self.key().cmp(other.key())
+        if self.is_key && other.is_key {
+            self.record.who.cmp(other.record.who)
+        } else {
+            compare_keys(self.record.who, other.record.who)
+        }
     }
 
-    pub(crate) fn into_member(self) -> Member
-        ensures { result ≡ self }
+    // The member, with his address in memory of its own.
+    pub(crate) fn member(&self, alloc: Global) -> Result<Member, AllocError>
+        ensures { IfOk result (λ m. m ≡ self.now) }
     {
-        self.member
+        member_from(alloc, self.record)
     }
 }

@@ -1,31 +1,30 @@
 // All members of a set, in the order of their keys.
-ghost use Rattle.std.specs.Prelude.{◌≡◌, ◌<◌, ◌≤◌, ◌++◌, [], map, true, false, List, ℕ, Bool, Option, Some, None, IsTrue, IfOk, IfErr, OnOk, IsErrOf};
+ghost use Rattle.std.specs.Prelude.{◌≡◌, ◌<◌, ◌≤◌, ◌++◌, [], map, true, false, List, ℕ, Bool, Option, Some, None, IsTrue, IfOk, IfErr, OnOk, IsErrOf, length};
 ghost use Rattle.std.specs.List.Sorted.{IsPermutation, IsSortedByKey};
 ghost use Rattle.ml_base.specs.Sorted.{byte_cmp};
 ghost use Rattle.ml_base.specs.PartErrors.{OnDamaged};
+ghost use Rattle.ml_base.specs.declared.part.PartError.TheVariants.{Fault};
 ghost use Rattle.ml_base.specs.ReadFiles.{IsReading, NamesDamaged};
 ghost use Rattle.ml_subs.specs.declared.member_list.Member.{Member};
 ghost use Rattle.ml_subs.specs.Members.{member_key};
 ghost use Rattle.ml_subs.specs.Buckets.{IsBucketFile};
-ghost use Rattle.ml_subs.specs.Subscribers.{AreSubscribers, AreJoined, AreBuckets, IsNoBucket, IsBucketName, IsBadBucket};
-ghost use Rattle.ml_subs.specs.Subscribers as spec;
+ghost use Rattle.ml_subs.specs.Subscribers.{AreSubscribers, AreJoined, AreBuckets, AreFiles, file_in, IsBucketName, IsBadBucket};
 ghost use Rattle.ml_subs.specs.Reading.{AreRead, gathered, AreAdded};
 
 use crate::keyed::Keyed;
 use crate::names::bucket_name;
 use crate::places::split_layout;
-use crate::records::{Layout, member_from, next_member};
+use crate::records::{Layout, next_member};
 use crate::{Member, MemberList};
 use ml_base::{AddressList, Bytes, Files, PartError, Row, Set};
 use std::alloc::{AllocError, Global};
 
 // Adds the members that bytes spell. False where they spell none of the bucket in order.
-fn add_members(
-    alloc: Global,
+fn add_members<'a>(
     layout: Layout,
     n: u8,
-    text: &[u8],
-    out: &mut Row<Keyed>,
+    text: &'a [u8],
+    out: &mut Row<Keyed<'a>>,
 ) -> Result<bool, AllocError>
     ensures { IfOk result (λ is. AreAdded out.old out.new is (AreRead layout n [] text.now)) }
 {
@@ -35,8 +34,7 @@ fn add_members(
         let Some((record, more)) = next_member(layout, n, last, rest) else {
             return Ok(false);
         };
-        let member = member_from(alloc, record)?;
-        out.push(Keyed::new(alloc, member)?)?;
+        out.push(Keyed::new(record))?;
         last = record.who;
         rest = more;
     }
@@ -44,61 +42,65 @@ fn add_members(
 }
 
 // Adds the members of a bucket's file. False where it is outside its grammar.
-fn add_bucket(
-    alloc: Global,
+fn add_bucket<'a>(
     n: u8,
-    file: &Option<Bytes>,
-    out: &mut Row<Keyed>,
+    file: &'a Option<Bytes>,
+    out: &mut Row<Keyed<'a>>,
 ) -> Result<bool, AllocError>
     ensures { IfOk result (λ is. AreAdded out.old out.new is (IsBucketFile n file.now)) }
 {
     match file {
         None => Ok(true),
         Some(text) => match split_layout(text.as_slice()) {
-            Some((layout, body)) => add_members(alloc, layout, n, body, out),
+            Some((layout, body)) => add_members(layout, n, body, out),
             None => Ok(false),
         },
     }
 }
 
-// Adds the members of one bucket of a set.
-fn read_bucket<F: Files>(
+// The files of a set's buckets.
+fn read_files<F: Files>(
     alloc: Global,
     files: &mut F,
     set: Set,
-    n: u8,
-    out: &mut Row<Keyed>,
-) -> Result<(), PartError>
-    requires { n < 53 }
-    ensures value { IsTrue F.tells → OnOk result ((ms : List Member) × IsBucketFile n (F.map files.old (spec.bucket_name set n)) ms × (out.new ≡ out.old ++ ms)) }
-    ensures names { NamesDamaged ⟦<F as Files>⟧ (λ name. name ≡ spec.bucket_name set n) (λ _. IsNoBucket (F.map files.old) set n) result }
+) -> Result<Row<Option<Bytes>>, PartError>
+    ensures value { IsTrue F.tells → IfOk result (AreFiles (F.map files.old) set 53) }
+    ensures length { IfOk result (λ texts. length texts ≡ 53) }
+    ensures sound { IfErr result (λ e. OnDamaged e (λ _. ⊥)) }
     ensures reads { IsReading ⟦<F as Files>⟧ files.old files.new result }
 {
-    let name = bucket_name(set, n);
-    let file = files.get(alloc, name)?;
-    if add_bucket(alloc, n, &file, out)? {
-        Ok(())
-    } else {
-        Err(PartError::Damaged(name))
+    let mut texts = Row::new(alloc);
+    for n in 0..53 {
+        let file = files.get(alloc, bucket_name(set, n))?;
+        texts.push(file)?;
     }
+    Ok(texts)
 }
 
-// The members of a set's buckets, one bucket behind the other.
-fn read_buckets<F: Files>(alloc: Global, files: &mut F, set: Set) -> Result<Row<Keyed>, PartError>
-    ensures value { IsTrue F.tells → IfOk result (λ ms. (buckets : ℕ → List Member) × AreBuckets (F.map files.old) set buckets × (ms ≡ gathered buckets 53)) }
-    ensures names { NamesDamaged ⟦<F as Files>⟧ (IsBucketName set) (IsBadBucket (F.map files.old) set) result }
-    ensures reads { IsReading ⟦<F as Files>⟧ files.old files.new result }
+// The members that the files of a set's buckets spell, one bucket behind the other.
+fn spelled_members<'a>(
+    alloc: Global,
+    set: Set,
+    texts: &'a Row<Option<Bytes>>,
+) -> Result<Row<Keyed<'a>>, PartError>
+    requires { length texts.now ≡ 53 }
+    ensures value { IfOk result (λ ms. (buckets : ℕ → List Member) × AreBuckets (file_in texts.now) set buckets × (ms ≡ gathered buckets 53)) }
+    ensures names { IfErr result (λ e. OnDamaged e (IsBadBucket (file_in texts.now) set)) }
+    ensures faultless { ¬ IsErrOf result Fault }
 {
     let mut found = Row::new(alloc);
     for n in 0..53 {
-        read_bucket(alloc, files, set, n, &mut found)?;
+        let file = &texts.as_slice()[n as usize];
+        if !add_bucket(n, file, &mut found)? {
+            return Err(PartError::Damaged(bucket_name(set, n)));
+        }
     }
     Ok(found)
 }
 
 // The members in the order of their keys. Each bucket's come in that order, and the sort merges such rows.
-fn in_order(list: Row<Keyed>) -> Result<Row<Keyed>, AllocError>
-    ensures permutation { IfOk result (IsPermutation list) }
+fn in_order<'a>(list: Row<Keyed<'a>>) -> Result<Row<Keyed<'a>>, AllocError>
+    ensures permutation { IfOk result (IsPermutation list.entry) }
     ensures sorted { IfOk result (IsSortedByKey member_key byte_cmp) }
 {
     let mut items = list.into_vec();
@@ -106,16 +108,31 @@ fn in_order(list: Row<Keyed>) -> Result<Row<Keyed>, AllocError>
     Ok(Row::from_vec(items))
 }
 
-// The members without their keys.
-fn without_keys(alloc: Global, list: Row<Keyed>) -> Result<MemberList, AllocError>
-    ensures { IfOk result (λ members. members ≡ list) }
+// The members, with their addresses in memory of their own.
+fn copied_members(alloc: Global, list: &Row<Keyed<'_>>) -> Result<MemberList, AllocError>
+    ensures { IfOk result (λ members. members ≡ list.now) }
 {
-    let items = list.into_vec();
-    let mut members = Vec::with_capacity(alloc, items.len())?;
-    for keyed in items {
-        members.push(keyed.into_member())?;
+    let mut members = Vec::with_capacity(alloc, list.as_slice().len())?;
+    for keyed in list.as_slice() {
+        members.push(keyed.member(alloc)?)?;
     }
     Ok(Row::from_vec(members))
+}
+
+// The members that the files of a set's buckets spell, in ascending order of key.
+fn sorted_members(
+    alloc: Global,
+    set: Set,
+    texts: &Row<Option<Bytes>>,
+) -> Result<MemberList, PartError>
+    requires { length texts.now ≡ 53 }
+    ensures joined { IfOk result (AreJoined (file_in texts.now) set) }
+    ensures names { IfErr result (λ e. OnDamaged e (IsBadBucket (file_in texts.now) set)) }
+    ensures faultless { ¬ IsErrOf result Fault }
+{
+    let found = spelled_members(alloc, set, texts)?;
+    let sorted = in_order(found)?;
+    Ok(copied_members(alloc, &sorted)?)
 }
 
 /// The members of a set, in ascending order of key. It reads the set's 53 files and not its count.
@@ -126,9 +143,8 @@ pub fn members<F: Files>(alloc: Global, files: &mut F, set: Set) -> Result<Membe
     ensures sound { IsTrue F.tells → (ms : List Member) → AreSubscribers (F.map files.old) set ms → IfErr result (λ e. OnDamaged e (λ _. ⊥)) }
     ensures reads { IsReading ⟦<F as Files>⟧ files.old files.new result }
 {
-    let found = read_buckets(alloc, files, set)?;
-    let sorted = in_order(found)?;
-    Ok(without_keys(alloc, sorted)?)
+    let texts = read_files(alloc, files, set)?;
+    sorted_members(alloc, set, &texts)
 }
 
 // The addresses of members.

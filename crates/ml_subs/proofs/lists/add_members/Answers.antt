@@ -14,7 +14,7 @@ loop-last-preserved c =
     let read = c.loop-last.invariant in
     let next = c.in-Some.ensures.some in (
       read.0 ++ as_member c.in-Some.record ∷ [],
-      c.in_ok-push.ensures.ok ∙ ap₂ (λ l m. l ++ m ∷ []) read.1 (c.in_ok-new.ensures ∙ c.in_ok-member.ensures) ∙ append_assoc c.args.out.now read.0 (as_member c.in-Some.record ∷ []),
+      c.in_ok-push.ensures.ok ∙ ap₂ (λ l m. l ++ m ∷ []) read.1 (c.new.ensures) ∙ append_assoc c.args.out.now read.0 (as_member c.in-Some.record ∷ []),
       leads_more c.args.layout c.args.n [] c.args.text.now read.0 c.loop-last.last.now c.loop-last.rest.now (as_member c.in-Some.record) c.in-Some.more.now read.2 next.0 next.1 next.2,
     )
 

@@ -1,15 +1,13 @@
-use Rattle.std.proofs.Common.{sym, subst, List}
+use Rattle.std.proofs.Common.{◌≡◌, List}
 use Rattle.ml_subs.specs.declared.member_list.Member.{Member}
-use Rattle.ml_subs.specs.Subscribers.{AreJoined}
-use Rattle.ml_subs.proofs.Gathering.{members_joined}
+use Rattle.ml_subs.specs.Subscribers.{AreJoined, AreSubscribers, file_in}
+use Rattle.ml_subs.proofs.Gathering.{joined_in, ok_from}
 use Rattle.ml_subs.proofs.Standing.{joined_one}
 use Rattle.ml_subs.proofs.lists.members.Goals as goal
 
-pub returns-clause-joined : goal.returns-clause-joined
-returns-clause-joined g c told =
-    let dir = g.F.Files.map c.args.files.now in
-    let joined = members_joined dir c.args.set c.in_ok-found.found c.in_ok-sorted.sorted (c.in_ok-found.ensures.value told) c.in_ok-sorted.ensures.permutation c.in_ok-sorted.ensures.sorted in
-    subst (λ (l : List Member). AreJoined dir c.args.set l) (sym c.in_ok-without_keys.ensures) joined
-
 pub returns-clause-value : goal.returns-clause-value
-returns-clause-value g c told ms is = joined_one (g.F.Files.map c.args.files.now) c.args.set c.in_ok-without_keys.field-0 ms (returns-clause-joined g c told) is.members
+returns-clause-value g c told =
+    let dir = g.F.Files.map c.args.files.now in
+    let texts = c.in_ok-texts.texts in
+    ok_from c.sorted_members.result (AreJoined (file_in texts) c.args.set) (λ found. (ms : List Member) → AreSubscribers dir c.args.set ms → found ≡ ms)
+    (λ found joined ms is. joined_one dir c.args.set found ms (joined_in dir c.args.set texts found (c.in_ok-texts.ensures.value told) joined) is.members) c.sorted_members.ensures.joined
