@@ -1,5 +1,6 @@
 -- Which files are damaged, from what the calls of the parts say.
-use Rattle.std.proofs.Common.{◌≡◌, Bool, true, IsTrue, IfErr, List, Result, Ok, Err, sym, subst}
+use Rattle.std.proofs.lemmas.Nat.{mod_below}
+use Rattle.std.proofs.Common.{◌≡◌, ◌<◌, ℕ, arith, Bool, false, true, IsTrue, IfErr, List, Result, Ok, Err, sym, subst}
 use Rattle.ml_base.specs.Bytes.{Text}
 use Rattle.ml_base.specs.Dir.{Dir}
 use Rattle.ml_base.specs.PartErrors.{OnDamaged}
@@ -7,10 +8,14 @@ use Rattle.ml_base.specs.ReadFiles.{AreKept, IsReading, NamesDamaged}
 use Rattle.ml_base.specs.declared.files.Files.{Ghosts}
 use Rattle.ml_base.specs.declared.names.Name.{Name}
 use Rattle.ml_base.specs.declared.names.Set.{Set}
+use Rattle.ml_base.specs.declared.names.Set.TheVariants as sets
+use Rattle.ml_base.specs.Hash.{hash_of}
 use Rattle.ml_base.specs.declared.part.PartError.{PartError}
 use Rattle.ml_base.specs.declared.part.PartError.TheVariants.{Fault, Memory, Damaged}
 use Rattle.ml_base.proofs.ReadingLemmas.{reading_ok}
 use Rattle.ml_base.proofs.DamagedNames.{err_damaged, err_both_damaged}
+use Rattle.ml_bounce.specs.Answers.{has_ledger, IsNoFile}
+use Rattle.ml_bounce.specs.Files.{ledger_place}
 use Rattle.ml_subs.specs.declared.member_list.Member.{Member}
 use Rattle.ml_subs.specs.Subscribers.{AreSubscribers, IsUnread, is_touched}
 use Rattle.ml_plain.specs.Histories.{State}
@@ -31,6 +36,14 @@ none_damaged dir q name is (damage.floor e none) = none q.floor (is.replies).fro
 none_damaged dir q name is (damage.replies group low e none) = none q.kept ((is.replies).files group low)
 none_damaged dir q name is (damage.keys e none) = none (q.plain).keys (is.list).keys
 none_damaged dir q name is (damage.subscribers set k has e none) = none ((q.plain).sets set) ((is.list).sets set)
+none_damaged dir q name is (damage.ledger set k has e none) = there set has (ledger_place k) (mod_below (hash_of k) 53 (omega arith)) none
+  where
+    there : (set : Set) → IsTrue (has_ledger set) → (n : ℕ) → n < 53 → IsNoFile dir set n → ⊥
+    there sets.List has n low none = none _ ((is.list).list_ledger.files n low)
+    there sets.Digest has n low none = none _ ((is.list).digest_ledger.files n low)
+    there sets.Allow has n low none = absurd (let bad : false ≡ true = has in cc)
+    there sets.Deny has n low none = absurd (let bad : false ≡ true = has in cc)
+    there sets.Moderators has n low none = absurd (let bad : false ≡ true = has in cc)
 
 -- so there a call that names only damaged files names none
 pub sound_by : {T : Type 0} (dir : Dir) (q : State) (r : Result T PartError) → IsState dir q → IfErr r (λ e. OnDamaged e (IsDamaged dir)) → IfErr r (λ e. OnDamaged e (λ _. ⊥))

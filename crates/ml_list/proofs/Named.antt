@@ -1,10 +1,13 @@
 -- The files that an item may read are of the table.
 use Rattle.std.proofs.Common.{◌≡◌, ◌⊎◌, inl, inr, ◌<◌, ◌≤◌, ◌/◌, ◌≢◌, ℕ, Bool, true, false, eqb, ◌==◌, leb, not, ◌&&◌, ◌||◌, refl, ap, ◌∙◌, arith}
 use Rattle.std.proofs.lemmas.Bool.{or_cases, and_parts, and_from, eq-eqb, le-leb, ne_eqb}
-use Rattle.std.proofs.lemmas.Nat.{div_below}
+use Rattle.std.proofs.lemmas.Nat.{div_below, mod_below}
 use Rattle.ml_base.specs.Address.{key}
 use Rattle.ml_base.specs.Bytes.{Text}
 use Rattle.ml_base.specs.Dir.{same_name}
+use Rattle.ml_base.specs.Hash.{hash_of}
+use Rattle.ml_bounce.specs.Answers.{has_ledger, key_file}
+use Rattle.ml_bounce.specs.Files.{ledger_place}
 use Rattle.ml_base.specs.Name.{is_in_table, first_place, last_place}
 use Rattle.ml_base.specs.declared.names.Name.{Name}
 use Rattle.ml_base.specs.declared.names.Set.{Set}
@@ -19,7 +22,7 @@ use Rattle.ml_plain.specs.declared.Act.TheVariants.{Deliver, Timed, Add, Remove,
 use Rattle.ml_plain.specs.declared.Item.{Item}
 use Rattle.ml_plain.specs.Items.{IsItem, IsAct}
 use Rattle.ml_plain.specs.KeptFiles.{floor_name, replies_name}
-use Rattle.ml_list.specs.Damage.{IsNamed, may_read, is_looked_up, is_read_by}
+use Rattle.ml_list.specs.Damage.{IsNamed, may_read, is_entry_of, is_looked_up, is_read_by}
 
 named : (name other : Name) → same_name name other ≡ true → is_in_table other ≡ true → IsNamed name
 named name other e there = record { table = ap is_in_table (one_name name other e) ∙ there }
@@ -53,6 +56,17 @@ touched_named set k name e = go (or_cases (same_name name (bucket_name set (buck
     go (inl b) = named name (bucket_name set (bucket_of k)) b (bucket_in set (bucket_of k) (below_53 k))
     go (inr c) = named name (count_name set) c (count_in set)
 
+entry_in : (set : Set) (k : Text) → has_ledger set ≡ true → is_in_table (key_file set k) ≡ true
+entry_in sets.List k has = in_table 15 (ledger_place k) refl (omega arith) (let low = mod_below (hash_of k) 53 (omega arith) in omega (arith, low))
+entry_in sets.Digest k has = in_table 16 (ledger_place k) refl (omega arith) (let low = mod_below (hash_of k) 53 (omega arith) in omega (arith, low))
+entry_in sets.Allow k has = absurd (let bad : false ≡ true = has in cc)
+entry_in sets.Deny k has = absurd (let bad : false ≡ true = has in cc)
+entry_in sets.Moderators k has = absurd (let bad : false ≡ true = has in cc)
+
+entry_named : (set : Set) (k : Text) (name : Name) → is_entry_of set k name ≡ true → IsNamed name
+entry_named set k name e =
+    let parts = and_parts (has_ledger set) (same_name name (key_file set k)) e in named name (key_file set k) parts.1 (entry_in set k parts.0)
+
 floor_or_replies : (n : ℕ) (name : Name) → n ≤ 999_999_999_999 → (same_name name floor_name || same_name name (replies_name (n / 512))) ≡ true → IsNamed name
 floor_or_replies n name most e = go (or_cases (same_name name floor_name) (same_name name (replies_name (n / 512))) e)
   where
@@ -65,7 +79,11 @@ nothing name e = cc
 
 read_named : (act : Act) (name : Name) → IsAct act → is_read_by act name ≡ true → IsNamed name
 read_named (Add set who) name is e = touched_named set (key who) name e
-read_named (Remove set who) name is e = touched_named set (key who) name e
+read_named (Remove set who) name is e = go (or_cases (is_touched set (key who) name) (is_entry_of set (key who) name) e)
+  where
+    go : ((is_touched set (key who) name ≡ true) ⊎ (is_entry_of set (key who) name ≡ true)) → IsNamed name
+    go (inl t) = touched_named set (key who) name t
+    go (inr l) = entry_named set (key who) name l
 read_named (Rekey new) name is e = named name key_name e refl
 read_named (Floor at) name is e = floor_or_replies at name is.1 e
 read_named (Deliver sender recipient message) name is e = nothing name e

@@ -6,6 +6,8 @@ use Rattle.ml_base.specs.Dir.{Dir, same_name}
 use Rattle.ml_base.specs.Name.{is_in_table}
 use Rattle.ml_base.specs.declared.names.Name.{Name}
 use Rattle.ml_base.specs.declared.names.Set.{Set}
+use Rattle.ml_bounce.specs.Answers.{has_ledger, key_file, IsNoFile}
+use Rattle.ml_bounce.specs.Files.{ledger_place}
 use Rattle.ml_subs.specs.Subscribers.{AreSubscribers, IsUnread, is_touched}
 use Rattle.ml_subs.specs.declared.member_list.Member.{Member}
 use Rattle.ml_config.specs.ConfigFile.{IsDamagedConfig, config_name}
@@ -44,11 +46,16 @@ pub data IsDamaged (dir : Dir) (name : Name) : Type 0 where
   replies : (group : ℕ) → group < 1_953_125_000 → name ≡ replies_name group → IsNoReplies dir group → IsDamaged dir name
   keys : name ≡ key_name → IsNoKeys dir → IsDamaged dir name
   subscribers : (set : Set) (k : Text) (has : Bool) → IsUnread dir set k has name → IsNoSet dir set → IsDamaged dir name
+  ledger : (set : Set) (k : Text) → IsTrue (has_ledger set) → name ≡ key_file set k → IsNoFile dir set (ledger_place k) → IsDamaged dir name
+
+-- the file of a set's ledger that has a key, where the set has a ledger
+abbrev pub is_entry_of : Set → Text → Name → Bool
+is_entry_of set k name = has_ledger set && same_name name (key_file set k)
 
 -- the files that an act may read
 abbrev pub is_read_by : Act → Name → Bool
 is_read_by (Add set who) name = is_touched set (key who) name
-is_read_by (Remove set who) name = is_touched set (key who) name
+is_read_by (Remove set who) name = is_touched set (key who) name || is_entry_of set (key who) name
 is_read_by (Rekey new) name = same_name name key_name
 is_read_by (Floor at) name = same_name name floor_name || same_name name (replies_name (at / 512))
 is_read_by _ name = false
