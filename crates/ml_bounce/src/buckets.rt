@@ -1,6 +1,6 @@
 // The files of a set's ledger.
 ghost use Rattle.std.specs.Prelude.{◌≡◌, ◌<◌, ◌∷◌, [], true, ℕ, List, IsTrue, IfOk};
-ghost use Rattle.ml_base.specs.Address.{key};
+ghost use Rattle.ml_base.specs.Address.{key, IsAddress};
 ghost use Rattle.ml_base.specs.Name.{is_file};
 ghost use Rattle.ml_base.specs.ReadFiles.{IsReading, NamesDamaged};
 ghost use Rattle.ml_bounce.specs.Answers.{has_ledger, ledger_kind, key_file, IsBucketOf, IsNoFile};
@@ -12,7 +12,8 @@ use std::alloc::{AllocError, Global};
 
 // The key of an address.
 pub(crate) fn key_of(alloc: Global, who: &Address) -> Result<Bytes, AllocError>
-    ensures { IfOk result (λ k. k ≡ key who.now) }
+    ensures key { IfOk result (λ k. k ≡ key who.now) }
+    ensures address { IfOk result IsAddress }
 {
     let mut bytes = Vec::from_slice(alloc, who.bytes())?;
     bytes.as_mut_slice().make_ascii_lowercase();

@@ -10,10 +10,10 @@ use Rattle.ml_bounce.proofs.forgetting.forget.Goals as goal
 
 pub returns-clause-read : goal.returns-clause-read
 returns-clause-read g c told =
-    let k : c.as_slice.result.now ≡ key c.args.who.now = c.as_slice.ensures ∙ c.in_ok-key.ensures in (
+    let k : c.as_slice.result.now ≡ key c.args.who.now = c.as_slice.ensures ∙ c.in_ok-key.ensures.key in (
       c.in_ok-entries.entries,
       subst (λ (k : Text). IsBucketOf (g.F.Files.map c.args.files.now) c.args.set k c.in_ok-entries.entries) k (c.in_ok-entries.ensures.value told),
-      c.in_ok-forgotten.ensures ∙ ap (λ es. forgets c.args.set c.as_slice-2.result.now es) c.as_slice-3.ensures ∙ ap (λ (k : Text). forgets c.args.set k c.in_ok-entries.entries) (c.as_slice-2.ensures ∙ c.in_ok-key.ensures),
+      c.in_ok-forgotten.ensures ∙ ap (λ es. forgets c.args.set c.as_slice-2.result.now es) c.as_slice-3.ensures ∙ ap (λ (k : Text). forgets c.args.set k c.in_ok-entries.entries) (c.as_slice-2.ensures ∙ c.in_ok-key.ensures.key),
     )
 
 pub returns-clause-value : goal.returns-clause-value
@@ -24,9 +24,9 @@ returns-clause-value g c told dir ledger same is =
 pub returns-clause-others : goal.returns-clause-others
 returns-clause-others g c =
     forgets_only (λ name. same_name name (key_file c.args.set (key c.args.who.now))) c.args.set (key c.args.who.now) c.as_slice-3.result.now c.in_ok-forgotten.field-0 (name_itself (key_file c.args.set (key c.args.who.now)))
-    (c.in_ok-forgotten.ensures ∙ ap (λ (k : Text). forgets c.args.set k c.as_slice-3.result.now) (c.as_slice-2.ensures ∙ c.in_ok-key.ensures))
+    (c.in_ok-forgotten.ensures ∙ ap (λ (k : Text). forgets c.args.set k c.as_slice-3.result.now) (c.as_slice-2.ensures ∙ c.in_ok-key.ensures.key))
 
 pub returns-clause-files : goal.returns-clause-files
 returns-clause-files g c =
     forgets_only is_file c.args.set (key c.args.who.now) c.as_slice-3.result.now c.in_ok-forgotten.field-0 (ledger_file_of c.args.set (ledger_place (key c.args.who.now)) c.requires (place_below (key c.args.who.now)))
-    (c.in_ok-forgotten.ensures ∙ ap (λ (k : Text). forgets c.args.set k c.as_slice-3.result.now) (c.as_slice-2.ensures ∙ c.in_ok-key.ensures))
+    (c.in_ok-forgotten.ensures ∙ ap (λ (k : Text). forgets c.args.set k c.as_slice-3.result.now) (c.as_slice-2.ensures ∙ c.in_ok-key.ensures.key))
