@@ -32,4 +32,6 @@ pub mod Silent
 pub mod DigestLaw
 pub mod IssueLaw
 pub mod HeaderRows
+pub mod OneLine
 pub mod MailLaw
+pub mod SentMails

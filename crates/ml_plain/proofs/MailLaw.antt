@@ -1,35 +1,20 @@
 -- What the list puts into the header of a mail has no LF, so the header is read as it was put together.
-use Rattle.std.proofs.Common.{◌≡◌, ℕ, zero, suc, ◌+◌, ◌-◌, ◌*◌, ◌/◌, ◌%◌, ◌<◌, Bool, true, false, cond, ◌==◌, ◌||◌, List, [], ◌∷◌, ◌++◌, take, drop, map, codes, Option, Some, None, IfSome, refl, ap, ap₂, ◌∙◌, arith}
-use Rattle.std.specs.Fmt.{decimal, digits, digits_onto, digit_glyph}
-use Rattle.std.proofs.lemmas.Bool.{eqb-true}
+use Rattle.std.proofs.Common.{◌≡◌, ℕ, zero, suc, ◌+◌, ◌-◌, ◌*◌, ◌/◌, ◌%◌, true, false, ◌==◌, ◌||◌, List, [], ◌∷◌, ◌++◌, take, drop, map, codes, Option, Some, None, IfSome, refl, ap, ap₂, ◌∙◌, arith}
+use Rattle.std.specs.Fmt.{decimal}
 use Rattle.ml_base.specs.Bytes.{Text}
 use Rattle.ml_base.specs.Name.{two_digits, set_word}
 use Rattle.ml_base.specs.Splits.{has_byte}
 use Rattle.ml_base.specs.Texts.{list_address, lines_text}
-use Rattle.ml_base.specs.declared.names.Set.{Set}
-use Rattle.ml_base.specs.declared.names.Set.TheVariants as sets
-use Rattle.ml_base.proofs.Bools.{neither, not_true}
+use Rattle.ml_base.proofs.Bools.{neither}
 use Rattle.ml_config.specs.declared.configuration.Config.{Config}
-use Rattle.ml_config.proofs.ListAddress.{has_append}
 use Rattle.ml_header.specs.Fields.{is_name, fields, body}
 use Rattle.ml_reply.specs.Dates.{Civil, three, four_digits, day_text, time_text, date_text, civil_of, weekday}
 use Rattle.ml_reply.specs.Mails.{Letter, letter_of, letter_head, mail_text, the_list}
 use Rattle.ml_reply.specs.declared.mails.Mail.{Mail}
 use Rattle.ml_reply.specs.declared.mails.Mail.TheVariants.{AskSc, AskTc, AskUc, Welcome, Goodbye, Already, Absent, Help, Members, Moderate, Rejected, Expired, Warn, Probe, Archive}
 use Rattle.ml_plain.specs.MailFields.{mail_fields, HasNoLf, LawMails}
+use Rattle.ml_plain.proofs.OneLine.{Clean, joined, one_more, decimal_clean, own_clean, set_clean}
 use Rattle.ml_plain.proofs.HeaderRows.{IsLine, AreLines, field_at, line_at, row_read}
-
-abbrev Clean : Text → Type 0
-Clean text = has_byte 10 text ≡ false
-
-joined : (a b : Text) → Clean a → Clean b → Clean (a ++ b)
-joined a b x y = has_append 10 a b ∙ ap₂ (λ s t. s || t) x y
-
-other : (b : ℕ) → 10 < b → (b == 10) ≡ false
-other b more = not_true (b == 10) (λ e. let same = eqb-true b 10 e in omega arith)
-
-one_more : (b : ℕ) (text : Text) → 10 < b → Clean text → Clean (b ∷ text)
-one_more b text more clean = ap₂ (λ s t. s || t) (other b more) clean
 
 taken : (n : ℕ) (text : Text) → Clean text → Clean (take n text)
 taken zero text clean = refl
@@ -40,24 +25,6 @@ dropped : (n : ℕ) (text : Text) → Clean text → Clean (drop n text)
 dropped zero text clean = clean
 dropped (suc n) [] clean = refl
 dropped (suc n) (b ∷ bs) clean = dropped n bs (neither (b == 10) (has_byte 10 bs) clean).1
-
-glyph : (d : ℕ) → 10 < digit_glyph false d
-glyph d = grind arith
-
-digits_clean : (k n : ℕ) (acc : Text) → Clean acc → Clean (digits_onto k 10 false n acc)
-digits_clean zero n acc clean = clean
-digits_clean (suc k) n acc clean =
-    let more = one_more (digit_glyph false (n % 10)) acc (glyph (n % 10)) clean in
-    go (n / 10 == 0) more (digits_clean k (n / 10) (digit_glyph false (n % 10) ∷ acc) more)
-  where
-    go : (t : Bool) → Clean (digit_glyph false (n % 10) ∷ acc) → Clean (digits_onto k 10 false (n / 10) (digit_glyph false (n % 10) ∷ acc))
-        → Clean (cond t (digit_glyph false (n % 10) ∷ acc) (digits_onto k 10 false (n / 10) (digit_glyph false (n % 10) ∷ acc)))
-    go true one all = one
-    go false one all = all
-
-decimal_clean : (n : ℕ) → Clean (decimal n)
-unfolding digits
-decimal_clean n = digits_clean 64 n [] refl
 
 two_clean : (n : ℕ) → Clean (two_digits n)
 two_clean n = one_more (48 + n / 10) ((48 + n % 10) ∷ []) (omega arith) (one_more (48 + n % 10) [] (omega arith) refl)
@@ -96,16 +63,6 @@ date_clean moment =
     let time = time_text (moment % 86_400) in
     let to_day = joined day (codes " ") (day_clean (weekday (moment / 86_400)) (civil_of (moment / 86_400))) refl in
     joined (day ++ codes " " ++ time) (codes " -0000") (joined (day ++ codes " ") time to_day (time_clean (moment % 86_400))) refl
-
-own_clean : (local host rest : Text) → Clean local → Clean host → Clean rest → Clean (list_address local host rest)
-own_clean local host rest l h r = joined (local ++ 45 ∷ rest) (64 ∷ host) (joined local (45 ∷ rest) l r) h
-
-set_clean : (set : Set) → Clean (set_word set)
-set_clean sets.List = refl
-set_clean sets.Digest = refl
-set_clean sets.Allow = refl
-set_clean sets.Deny = refl
-set_clean sets.Moderators = refl
 
 subject_clean : (c : Config) (mail : Mail) → Clean c.local → Clean c.host → Clean (letter_of c mail).subject
 subject_clean c (AskSc to reply set who) l h = refl

@@ -23,6 +23,7 @@ ghost use Rattle.ml_plain.specs.Histories.{State, Kept, keep, from_floor};
 ghost use Rattle.ml_plain.specs.KeptFiles.{AreReplies, IsFloorFile, IsRepliesFile, IsSlot, IsWritten, IsRisen, slots_of, slot_text, is_kept, replies_name, is_of_replies};
 ghost use Rattle.ml_plain.specs.KeptRead.{floor_in, reply_in};
 ghost use Rattle.ml_plain.specs.MailFields.{LawMails};
+ghost use Rattle.ml_plain.specs.SentMails.{LawSentMails};
 ghost use Rattle.ml_plain.specs.OnceLaws.{Once, Joined};
 ghost use Rattle.ml_plain.specs.Plain.{Plain, with_members};
 ghost use Rattle.ml_plain.specs.Runs.{Run};
@@ -129,7 +130,12 @@ pub fn law_kept_files()
 /// The header of each mail of the list is read as the fields `Mailing-List`, `Precedence`, `From`, `To`, `Reply-To` where the mail has an
 /// address for answers, `Date` and `Subject`, in this order and no others. The value of each is what was put there, behind a space and
 /// with an LF behind it, and the body is all that was put behind the header. So it is whatever the mail says, and wherever the list's
-/// address, the recipient and the address for answers have no LF: nobody can add a field to a mail or end its header.
+/// address, the recipient and the address for answers have no LF.
+///
+/// Over every history of a list whose own address has no LF, in which only addresses are added, each entry that stands in the queue has
+/// the path of a post or of an issue, or goes to the owner alone, or is a mail that is read so. So nobody can add a field to a mail of
+/// the list or end its header, whatever he sends to it.
 pub fn law_mails()
-    ensures { LawMails }
+    ensures read { LawMails }
+    ensures sent { LawSentMails }
 {}
