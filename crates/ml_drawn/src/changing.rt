@@ -60,6 +60,7 @@ pub fn draw<F: Files>(
     ensures others { IfOk result (λ r. touches_only (is_of_series series) r.1 ≡ true) }
     ensures files { IfOk result (λ r. touches_only is_file r.1 ≡ true) }
     ensures names { NamesDamaged ⟦<F as Files>⟧ (λ name. name ≡ counter_name series) (λ _. IsNoCounter (F.map files.old) series) result }
+    ensures sound { IsTrue F.tells → (low next : ℕ) → IsCounter (F.map files.old (counter_name series)) low next → IfErr result (λ e. OnDamaged e (λ _. ⊥)) }
     ensures reads { IsReading ⟦<F as Files>⟧ files.old files.new result }
 {
     let counter = counter_of(alloc, files, series)?;
@@ -103,6 +104,7 @@ pub fn take_out<F: Files>(
     ensures others { IfOk result (λ txn. touches_only (is_of_series series) txn ≡ true) }
     ensures files { IfOk result (λ txn. touches_only is_file txn ≡ true) }
     ensures names { NamesDamaged ⟦<F as Files>⟧ (λ name. name ≡ counter_name series) (λ _. IsNoCounter (F.map files.old) series) result }
+    ensures sound { IsTrue F.tells → (low next : ℕ) → IsCounter (F.map files.old (counter_name series)) low next → IfErr result (λ e. OnDamaged e (λ _. ⊥)) }
     ensures reads { IsReading ⟦<F as Files>⟧ files.old files.new result }
 {
     let counter = counter_of(alloc, files, series)?;

@@ -2,6 +2,7 @@
 ghost use Rattle.std.specs.Prelude.{◌≡◌, ◌≢◌, ◌≤◌, ◌<◌, ◌∷◌, ◌++◌, ◌^◌, ℕ, Some, IsTrue, IfOk, IfErr, IfSome, IfNone, IsErrOf};
 ghost use Rattle.std.specs.Fmt.{decimal};
 ghost use Rattle.ml_base.specs.Drawn.{IsCounter, counter_text};
+ghost use Rattle.ml_base.specs.PartErrors.{OnDamaged};
 ghost use Rattle.ml_base.specs.ReadFiles.{IsReading, NamesDamaged};
 ghost use Rattle.ml_drawn.specs.Names.{counter_name};
 ghost use Rattle.ml_drawn.specs.Answers.{IsNoCounter, IsPair};
@@ -71,6 +72,7 @@ pub fn counter_of<F: Files>(
     ensures value { IsTrue F.tells → IfOk result (λ c. IsCounter (F.map files.old (counter_name series)) c.low c.next) }
     ensures ranges { IfOk result (λ c. (1 ≤ c.low) × (c.low ≤ c.next) × (c.next < 10 ^ 18)) }
     ensures names { NamesDamaged ⟦<F as Files>⟧ (λ name. name ≡ counter_name series) (λ _. IsNoCounter (F.map files.old) series) result }
+    ensures sound { IsTrue F.tells → (low next : ℕ) → IsCounter (F.map files.old (counter_name series)) low next → IfErr result (λ e. OnDamaged e (λ _. ⊥)) }
     ensures reads { IsReading ⟦<F as Files>⟧ files.old files.new result }
 {
     let name = series.counter();

@@ -4,6 +4,7 @@ ghost use Rattle.ml_base.specs.Dir.{with_puts, touches_only};
 ghost use Rattle.ml_base.specs.Drawn.{IsCounter};
 ghost use Rattle.ml_base.specs.Name.{is_file};
 ghost use Rattle.ml_base.specs.Ranges.{is_moment, is_drawn};
+ghost use Rattle.ml_base.specs.PartErrors.{OnDamaged};
 ghost use Rattle.ml_base.specs.ReadFiles.{IsReading, NamesDamaged};
 ghost use Rattle.ml_drawn.specs.declared.series.Series.TheVariants.{Tickets};
 ghost use Rattle.ml_drawn.specs.Names.{is_of_series};
@@ -30,6 +31,7 @@ pub fn hold<F: Files>(alloc: Global, files: &mut F, held: &Held) -> Result<(u64,
     ensures others { IfOk result (λ r. touches_only (is_of_series Tickets) r.1 ≡ true) }
     ensures files { IfOk result (λ r. touches_only is_file r.1 ≡ true) }
     ensures names { NamesDamaged ⟦<F as Files>⟧ (λ name. name ≡ tickets_name) (Breaks (F.map files.old)) result }
+    ensures sound { IsTrue F.tells → (pending : Pending) → IsPending (F.map files.old) pending → IfErr result (λ e. OnDamaged e (λ _. ⊥)) }
     ensures reads { IsReading ⟦<F as Files>⟧ files.old files.new result }
 {
     let text = text_of(alloc, held)?;
@@ -42,6 +44,7 @@ pub fn look<F: Files>(alloc: Global, files: &mut F, ticket: u64) -> Result<Optio
     ensures read { IsTrue F.tells → IfOk result (LooksBy (F.map files.old) ticket) }
     ensures drawn { IfOk result (λ answer. IfSome answer (λ _. IsTrue (is_drawn ticket))) }
     ensures names { NamesDamaged ⟦<F as Files>⟧ (λ name. name ≡ post_name ticket) (Breaks (F.map files.old)) result }
+    ensures sound { IsTrue F.tells → (pending : Pending) → IsPending (F.map files.old) pending → IfErr result (λ e. OnDamaged e (λ _. ⊥)) }
     ensures reads { IsReading ⟦<F as Files>⟧ files.old files.new result }
 {
     let Some(text) = file_of(alloc, files, Series::Tickets, ticket)? else {
@@ -65,6 +68,7 @@ pub fn take<F: Files>(
     ensures others { IfOk result (λ answer. touches_only (is_of_series Tickets) (puts_of answer) ≡ true) }
     ensures files { IfOk result (λ answer. touches_only is_file (puts_of answer) ≡ true) }
     ensures names { NamesDamaged ⟦<F as Files>⟧ (λ name. (name ≡ post_name ticket) ⊎ (name ≡ tickets_name)) (Breaks (F.map files.old)) result }
+    ensures sound { IsTrue F.tells → (pending : Pending) → IsPending (F.map files.old) pending → IfErr result (λ e. OnDamaged e (λ _. ⊥)) }
     ensures reads { IsReading ⟦<F as Files>⟧ files.old files.new result }
 {
     let Some(held) = look(alloc, files, ticket)? else {
@@ -79,6 +83,7 @@ pub fn next_ticket<F: Files>(alloc: Global, files: &mut F) -> Result<u64, PartEr
     ensures value { IsTrue F.tells → IfOk result (λ next. (pending : Pending) → IsCountedPending (F.map files.old) pending → next ≡ pending.next) }
     ensures read { IsTrue F.tells → IfOk result (λ next. (low : ℕ) × IsCounter (F.map files.old tickets_name) low next) }
     ensures names { NamesDamaged ⟦<F as Files>⟧ (λ name. name ≡ tickets_name) (Breaks (F.map files.old)) result }
+    ensures sound { IsTrue F.tells → (pending : Pending) → IsCountedPending (F.map files.old) pending → IfErr result (λ e. OnDamaged e (λ _. ⊥)) }
     ensures reads { IsReading ⟦<F as Files>⟧ files.old files.new result }
 {
     let counter = counter_of(alloc, files, Series::Tickets)?;

@@ -1,6 +1,7 @@
 // Held posts, one behind the other.
 ghost use Rattle.std.specs.Prelude.{◌≡◌, ◌≤◌, ◌⊎◌, ℕ, IsTrue, IfOk, IfErr, OnOk, IsErrOf};
 ghost use Rattle.ml_base.specs.Ranges.{is_moment};
+ghost use Rattle.ml_base.specs.PartErrors.{OnDamaged};
 ghost use Rattle.ml_base.specs.ReadFiles.{IsReading, NamesDamaged};
 ghost use Rattle.ml_hold.specs.Held.{Pending};
 ghost use Rattle.ml_hold.specs.Held as spec;
@@ -23,6 +24,7 @@ pub fn older<F: Files>(
     requires { IsTrue (is_moment now) }
     ensures value { IsTrue F.tells → IfOk result (λ tickets. (pending : Pending) → IsCountedPending (F.map files.old) pending → tickets ≡ spec.older now seconds max pending) }
     ensures names { NamesDamaged ⟦<F as Files>⟧ (λ name. (name ≡ tickets_name) ⊎ ((ticket : ℕ) × (name ≡ post_name ticket))) (BreaksCounted (F.map files.old)) result }
+    ensures sound { IsTrue F.tells → (pending : Pending) → IsCountedPending (F.map files.old) pending → IfErr result (λ e. OnDamaged e (λ _. ⊥)) }
     ensures reads { IsReading ⟦<F as Files>⟧ files.old files.new result }
 {
     let counter = counter_of(alloc, files, Series::Tickets)?;
@@ -50,6 +52,7 @@ pub fn older<F: Files>(
 pub fn audit<F: Files>(alloc: Global, files: &mut F) -> Result<(), PartError>
     ensures ok { IsTrue F.tells → OnOk result ((pending : Pending) × IsCountedPending (F.map files.old) pending) }
     ensures names { NamesDamaged ⟦<F as Files>⟧ (λ name. (name ≡ tickets_name) ⊎ ((ticket : ℕ) × (name ≡ post_name ticket))) (BreaksCounted (F.map files.old)) result }
+    ensures sound { IsTrue F.tells → (pending : Pending) → IsCountedPending (F.map files.old) pending → IfErr result (λ e. OnDamaged e (λ _. ⊥)) }
     ensures reads { IsReading ⟦<F as Files>⟧ files.old files.new result }
 {
     let counter = counter_of(alloc, files, Series::Tickets)?;

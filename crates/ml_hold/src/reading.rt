@@ -15,6 +15,10 @@ use std::alloc::{AllocError, Global};
 
 const MAX_MESSAGE: usize = 33_554_432;
 
+// The most bytes that a text has besides the sender and the message: the netstring of twenty digits, and twice eighteen
+// digits, a colon and a comma.
+const AROUND: usize = 64;
+
 // The parts of a held post's text.
 #[derive(Clone, Copy)]
 pub(crate) struct Parts<'a> {
@@ -63,14 +67,23 @@ pub(crate) fn held_of(alloc: Global, parts: Parts<'_>) -> Result<Held, AllocErro
     }
 }
 
-// The text of a held post.
+// The most bytes that the text of a held post has.
+fn room_of(held: &Held) -> usize {
+    let sender = held.sender.bytes().len();
+    held.message
+        .len()
+        .saturating_add(sender)
+        .saturating_add(AROUND)
+}
+
+// The text of a held post, whose bytes are written once.
 pub(crate) fn text_of(alloc: Global, held: &Held) -> Result<Bytes, AllocError>
     ensures address { IfOk result (λ _. IsAddress held.now.sender) }
     ensures text { IfOk result (λ bytes. bytes ≡ held_text held.now) }
 {
     let mut digits = [0u8; 20];
     let len = write_number(held.moment, &mut digits);
-    let mut out = Bytes::new(alloc);
+    let mut out = Bytes::with_capacity(alloc, room_of(held))?;
     push_netstring(&mut out, &digits[..len])?;
     push_netstring(&mut out, held.sender.bytes())?;
     push_netstring(&mut out, held.message.as_slice())?;

@@ -1,5 +1,6 @@
 // Entries of the queue, one behind the other.
 ghost use Rattle.std.specs.Prelude.{◌≡◌, ◌≤◌, ◌⊎◌, ℕ, IsTrue, IfOk, IfErr, OnOk, IsErrOf};
+ghost use Rattle.ml_base.specs.PartErrors.{OnDamaged};
 ghost use Rattle.ml_base.specs.ReadFiles.{IsReading, NamesDamaged};
 ghost use Rattle.ml_queue.specs.Queue.{Queue};
 ghost use Rattle.ml_queue.specs.Queue as spec;
@@ -14,6 +15,7 @@ use std::alloc::Global;
 pub fn ids<F: Files>(alloc: Global, files: &mut F) -> Result<Numbers, PartError>
     ensures value { IsTrue F.tells → IfOk result (λ ids. (queue : Queue) → IsCountedQueue (F.map files.old) queue → ids ≡ spec.ids queue) }
     ensures names { NamesDamaged ⟦<F as Files>⟧ (λ name. name ≡ ids_name) (BreaksCounted (F.map files.old)) result }
+    ensures sound { IsTrue F.tells → (queue : Queue) → IsCountedQueue (F.map files.old) queue → IfErr result (λ e. OnDamaged e (λ _. ⊥)) }
     ensures reads { IsReading ⟦<F as Files>⟧ files.old files.new result }
 {
     let counter = counter_of(alloc, files, Series::Ids)?;
@@ -31,6 +33,7 @@ pub fn ids<F: Files>(alloc: Global, files: &mut F) -> Result<Numbers, PartError>
 pub fn audit<F: Files>(alloc: Global, files: &mut F) -> Result<(), PartError>
     ensures ok { IsTrue F.tells → OnOk result ((queue : Queue) × IsCountedQueue (F.map files.old) queue) }
     ensures names { NamesDamaged ⟦<F as Files>⟧ (λ name. (name ≡ ids_name) ⊎ ((id : ℕ) × (name ≡ entry_name id))) (BreaksCounted (F.map files.old)) result }
+    ensures sound { IsTrue F.tells → (queue : Queue) → IsCountedQueue (F.map files.old) queue → IfErr result (λ e. OnDamaged e (λ _. ⊥)) }
     ensures reads { IsReading ⟦<F as Files>⟧ files.old files.new result }
 {
     let counter = counter_of(alloc, files, Series::Ids)?;

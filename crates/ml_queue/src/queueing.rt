@@ -5,6 +5,7 @@ ghost use Rattle.ml_base.specs.Dir.{with_puts, touches_only};
 ghost use Rattle.ml_base.specs.Drawn.{IsCounter};
 ghost use Rattle.ml_base.specs.Name.{is_file};
 ghost use Rattle.ml_base.specs.Sorted.{byte_cmp, is_sorted};
+ghost use Rattle.ml_base.specs.PartErrors.{OnDamaged};
 ghost use Rattle.ml_base.specs.ReadFiles.{IsReading, NamesDamaged};
 ghost use Rattle.ml_drawn.specs.declared.series.Series.TheVariants.{Ids};
 ghost use Rattle.ml_drawn.specs.Names.{is_of_series};
@@ -30,6 +31,7 @@ pub fn put<F: Files>(alloc: Global, files: &mut F, out: &Out) -> Result<(u64, Tx
     ensures others { IfOk result (λ r. touches_only (is_of_series Ids) r.1 ≡ true) }
     ensures files { IfOk result (λ r. touches_only is_file r.1 ≡ true) }
     ensures names { NamesDamaged ⟦<F as Files>⟧ (λ name. name ≡ ids_name) (Breaks (F.map files.old)) result }
+    ensures sound { IsTrue F.tells → (queue : Queue) → IsQueue (F.map files.old) queue → IfErr result (λ e. OnDamaged e (λ _. ⊥)) }
     ensures reads { IsReading ⟦<F as Files>⟧ files.old files.new result }
 {
     let text = write_out(alloc, out)?;
@@ -44,6 +46,7 @@ pub fn sent<F: Files>(alloc: Global, files: &mut F, id: u64) -> Result<Option<Tx
     ensures others { IfOk result (λ answer. touches_only (is_of_series Ids) (puts_of answer) ≡ true) }
     ensures files { IfOk result (λ answer. touches_only is_file (puts_of answer) ≡ true) }
     ensures names { NamesDamaged ⟦<F as Files>⟧ (λ name. name ≡ ids_name) (Breaks (F.map files.old)) result }
+    ensures sound { IsTrue F.tells → (queue : Queue) → IsQueue (F.map files.old) queue → IfErr result (λ e. OnDamaged e (λ _. ⊥)) }
     ensures reads { IsReading ⟦<F as Files>⟧ files.old files.new result }
 {
     let Some(_) = file_of(alloc, files, Series::Ids, id)? else {
@@ -57,6 +60,7 @@ pub fn entry<F: Files>(alloc: Global, files: &mut F, id: u64) -> Result<Option<O
     ensures value { IsTrue F.tells → IfOk result (λ answer. (queue : Queue) → IsQueue (F.map files.old) queue → answer ≡ spec.entry id queue) }
     ensures read { IsTrue F.tells → IfOk result (LooksBy (F.map files.old) id) }
     ensures names { NamesDamaged ⟦<F as Files>⟧ (λ name. name ≡ entry_name id) (Breaks (F.map files.old)) result }
+    ensures sound { IsTrue F.tells → (queue : Queue) → IsQueue (F.map files.old) queue → IfErr result (λ e. OnDamaged e (λ _. ⊥)) }
     ensures reads { IsReading ⟦<F as Files>⟧ files.old files.new result }
 {
     let Some(text) = file_of(alloc, files, Series::Ids, id)? else {
@@ -73,6 +77,7 @@ pub fn next_id<F: Files>(alloc: Global, files: &mut F) -> Result<u64, PartError>
     ensures value { IsTrue F.tells → IfOk result (λ next. (queue : Queue) → IsCountedQueue (F.map files.old) queue → next ≡ queue.next) }
     ensures read { IsTrue F.tells → IfOk result (λ next. (low : ℕ) × IsCounter (F.map files.old ids_name) low next) }
     ensures names { NamesDamaged ⟦<F as Files>⟧ (λ name. name ≡ ids_name) (Breaks (F.map files.old)) result }
+    ensures sound { IsTrue F.tells → (queue : Queue) → IsCountedQueue (F.map files.old) queue → IfErr result (λ e. OnDamaged e (λ _. ⊥)) }
     ensures reads { IsReading ⟦<F as Files>⟧ files.old files.new result }
 {
     let counter = counter_of(alloc, files, Series::Ids)?;

@@ -14,6 +14,15 @@ use std::alloc::{AllocError, Global};
 // No text is as long as this: a netstring's length has 18 digits at most.
 const TOO_LONG: u64 = 1_000_000_000_000_000_000;
 
+// The most bytes that a netstring has besides its content: eighteen digits, a colon and a comma.
+const AROUND: usize = 20;
+
+// The most that it has besides an address, whose length has three digits at most.
+const AROUND_ADDRESS: usize = 5;
+
+// The bytes of a letter's netstring.
+const LETTER: usize = 4;
+
 // What stands before the recipients in an entry's text, and their row.
 #[derive(Clone, Copy)]
 pub(crate) struct Front<'a> {
@@ -92,7 +101,21 @@ fn letter(each: bool) -> &'static [u8]
     if each { b"v" } else { b"p" }
 }
 
-// The text of an entry. It wants memory for one that no memory holds.
+// The most bytes that the text of an entry has.
+fn room_of(out: &Out) -> usize {
+    let path = out.path.base.len().saturating_add(out.path.host.len());
+    let mut room = path
+        .saturating_add(out.body.len())
+        .saturating_add(3 * AROUND + LETTER);
+    for who in out.to.as_slice() {
+        room = room
+            .saturating_add(who.bytes().len())
+            .saturating_add(AROUND_ADDRESS);
+    }
+    room
+}
+
+// The text of an entry, whose bytes are written once. It wants memory for one that no memory holds.
 pub(crate) fn write_out(alloc: Global, out: &Out) -> Result<Bytes, AllocError>
     requires { is_sorted byte_cmp key out.now.to ≡ true }
     ensures is { IfOk result (λ _. IsOut out.now) }
@@ -107,7 +130,7 @@ pub(crate) fn write_out(alloc: Global, out: &Out) -> Result<Bytes, AllocError>
     if is_long(&out.body) {
         return Err(AllocError);
     }
-    let mut text = Bytes::new(alloc);
+    let mut text = Bytes::with_capacity(alloc, room_of(out))?;
     push_netstring(&mut text, out.path.base.as_slice())?;
     push_netstring(&mut text, out.path.host.as_slice())?;
     push_netstring(&mut text, letter(out.path.each))?;

@@ -5,8 +5,7 @@ ghost use Rattle.ml_base.specs.Address.{IsAddress};
 ghost use Rattle.ml_base.specs.Splits.{ns_row};
 ghost use Rattle.ml_queue.specs.Reading.{AreRecipients};
 
-use crate::order::is_below;
-use ml_base::{Address, AddressList, Bytes, is_kept, push_netstring, split_netstring};
+use ml_base::{Address, AddressList, Bytes, is_below, is_kept, push_netstring, split_netstring};
 use std::alloc::{AllocError, Global};
 
 // The address of a text that is one as it is kept, so that nothing but memory can be wanting.

@@ -1,4 +1,10 @@
-use Rattle.std.proofs.Common.{Some}
+use Rattle.std.proofs.Common.{Some, sym, subst, rules}
+use Rattle.ml_base.specs.Dir.{Dir}
+use Rattle.ml_base.specs.Drawn.{IsCounter}
+use Rattle.ml_base.specs.PartErrors.{OnDamaged}
+use Rattle.ml_base.specs.ReadFiles.{IsReading}
+use Rattle.ml_base.proofs.ReadingLemmas.{kept_read, reading_then}
+use Rattle.ml_hold.specs.Answers.{tickets_name}
 use Rattle.ml_hold.proofs.Standing.{taking, taken_some}
 use Rattle.ml_hold.proofs.holding.take.Goals as goal
 
@@ -9,3 +15,19 @@ returns-clause-read g c told =
 
 pub returns-clause-value : goal.returns-clause-value
 returns-clause-value g c told pending is = taking (g.F.Files.map c.args.files.now) c.args.ticket (Some (c.in-Some.held, c.in_ok-txn.txn)) pending (returns-clause-read g c told) is
+
+pub returns-in_err-held-clause-sound : goal.returns-in_err-held-clause-sound
+returns-in_err-held-clause-sound g c told pending is =
+    let none : OnDamaged c.in_err-held.field-0.0 (λ _. ⊥) = c.in_err-held.ensures.sound told pending is in search rules
+
+pub returns-in_err-txn-clause-sound : goal.returns-in_err-txn-clause-sound
+returns-in_err-txn-clause-sound g c told pending is =
+    let same = g.met.F.Files.kept_map c.args.files.now c.look.new.files told c.look.ensures.reads.kept in
+    let counted = subst (λ (dir : Dir). IsCounter (dir tickets_name) is.low pending.next) (sym same) is.counted in
+    let none : OnDamaged c.in_err-txn.field-0.0 (λ _. ⊥) = c.in_err-txn.ensures.sound told is.low pending.next counted in search rules
+
+pub returns-in_err-txn-clause-reads : goal.returns-in_err-txn-clause-reads
+returns-in_err-txn-clause-reads g c =
+    let first = kept_read g.F.Files c.args.files.now c.look.new.files c.look.result c.look.ensures.reads in
+    let both : IsReading g.F.Files c.args.files.now c.take_out.new.files c.take_out.result = reading_then g.F.Files g.met.F.Files.kept_then c.args.files.now c.look.new.files c.take_out.new.files c.take_out.result first c.take_out.ensures.reads in
+    search rules

@@ -2,7 +2,9 @@ use Rattle.std.proofs.Common.{arith, ◌∙◌, ◌≤◌, ◌<◌, ap, not, IsT
 use Rattle.ml_base.specs.Ranges.{is_drawn}
 use Rattle.ml_hold.specs.Answers.{IsSpelled}
 use Rattle.ml_hold.specs.Reading.{told}
-use Rattle.ml_hold.proofs.Aged.{first_at, none_at, spelled_there, some_is, audit_more, audit_end}
+use Rattle.ml_hold.specs.declared.posts.Held.{Held}
+use Rattle.ml_hold.proofs.Alone.{broken_counted}
+use Rattle.ml_hold.proofs.Aged.{first_at, none_at, spelled_there, spelled_not, no_post, some_is, audit_more, audit_end}
 use Rattle.ml_hold.proofs.listing.audit.Goals as goal
 
 pub loop-found-preserved : goal.loop-found-preserved
@@ -25,6 +27,15 @@ loop-found-preserved g c =
           let spelled = spelled_there c.parts_of.result (λ p. IsSpelled c.as_slice.result.now (told p)) (c.is_none.ensures ∙ ap not c.if-is_none.false) c.parts_of.ensures.some in
           audit_more (g.F.Files.map c.args.files.now) c.in_ok-counter.counter.low c.loop-found.from c.in_ok-counter.counter.next c.in-Some.found c.as_slice.result.now (told spelled.0) up (before.walked tells) first c.as_slice.ensures spelled.1;
     }
+
+pub returns-then-is_none-clause-sound : goal.returns-then-is_none-clause-sound
+returns-then-is_none-clause-sound g c told pending is =
+    let before = c.loop-found.invariant in
+    let same = g.met.F.Files.kept_map c.args.files.now c.loop-found.files told before.are_kept.kept in
+    let none = spelled_not c.parts_of.result ((held : Held) → IsSpelled c.as_slice.result.now held → ⊥) (c.is_none.ensures ∙ ap not c.if-is_none.true) c.parts_of.ensures.none in
+    let bad = no_post (g.F.Files.map c.args.files.now) (g.F.Files.map c.loop-found.files) c.in_ok-counter.counter.low c.loop-found.from c.in_ok-counter.counter.next c.in_ok-found.field-0 c.in-Some.found
+    c.as_slice.result.now c.name.result (c.in_ok-counter.ensures.value told) before.up same (c.in_ok-found.ensures.value told) c.in-Some.is c.as_slice.ensures none c.name.ensures in
+    broken_counted (g.F.Files.map c.args.files.now) c.name.result pending bad is
 
 pub returns-clause-ok : goal.returns-clause-ok
 returns-clause-ok g c tells =

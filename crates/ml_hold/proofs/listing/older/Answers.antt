@@ -1,7 +1,9 @@
-use Rattle.std.proofs.Common.{arith, sym, ap, ◌∙◌, ◌≤◌, ◌<◌, ◌++◌, List, ℕ, inl, inr, append-nil, IsTrue}
+use Rattle.std.proofs.Common.{arith, rules, sym, ap, ◌∙◌, ◌≤◌, ◌<◌, ◌++◌, List, ℕ, inl, inr, append-nil, IsTrue}
 use Rattle.ml_base.specs.Ranges.{is_drawn}
+use Rattle.ml_base.proofs.ReadingLemmas.{kept_then}
 use Rattle.ml_hold.specs.Reading.{told}
-use Rattle.ml_hold.proofs.Aged.{first_at, none_at, some_is, rest, GoesOn, older_begin, older_kept, older_end}
+use Rattle.ml_hold.proofs.Alone.{broken_counted}
+use Rattle.ml_hold.proofs.Aged.{first_at, none_at, no_post, some_is, rest, GoesOn, older_begin, older_kept, older_end}
 use Rattle.ml_hold.proofs.listing.older.Goals as goal
 use Rattle.ml_hold.proofs.listing.older.Goals.{then-age-seconds+in_ok-push, else-age-seconds}
 
@@ -52,3 +54,21 @@ loop-room-preserved g c =
           (told c.in-Some-parts_of.parts) c.loop-room.tickets c.if-age-seconds.tickets c.if-age-seconds.room pending (c.in_ok-counter.ensures.value tells) is up first c.as_slice.ensures c.in-Some-parts_of.ensures.some
           c.loop-room-test.true goes (before.value tells pending is);
     }
+
+pub returns-in_default-parts_of-clause-sound : goal.returns-in_default-parts_of-clause-sound
+returns-in_default-parts_of-clause-sound g c tells pending is =
+    let before = c.loop-room.invariant in
+    let same = g.met.F.Files.kept_map c.args.files.now c.loop-room.files tells before.are_kept.kept in
+    let bad = no_post (g.F.Files.map c.args.files.now) (g.F.Files.map c.loop-room.files) c.in_ok-counter.counter.low c.loop-room.from c.in_ok-counter.counter.next c.in_ok-found.field-0 c.in-Some.found
+    c.as_slice.result.now c.name.result (c.in_ok-counter.ensures.value tells) before.up same (c.in_ok-found.ensures.value tells) c.in-Some.is c.as_slice.ensures c.in_default-parts_of.ensures.none c.name.ensures in
+    broken_counted (g.F.Files.map c.args.files.now) c.name.result pending bad is
+
+pub returns-in_default-parts_of-clause-reads : goal.returns-in_default-parts_of-clause-reads
+returns-in_default-parts_of-clause-reads g c =
+    let read = kept_then g.F.Files g.met.F.Files.kept_then c.args.files.now c.loop-room.files c.next_there.new.files c.loop-room.invariant.are_kept c.in_ok-found.ensures.are_kept in
+    record { kept = read.kept; later = read.later; cause = λ bad. absurd (cc) }
+
+pub returns-in_err-push-clause-reads : goal.returns-in_err-push-clause-reads
+returns-in_err-push-clause-reads g c =
+    let read = kept_then g.F.Files g.met.F.Files.kept_then c.args.files.now c.loop-room.files c.next_there.new.files c.loop-room.invariant.are_kept c.in_ok-found.ensures.are_kept in
+    record { kept = read.kept; later = read.later; cause = λ bad. search rules }
