@@ -1,18 +1,31 @@
 // What has to reach the disk before a sync is good.
-use super::descriptors::open_to_read;
+use super::descriptors::{open_folder, open_to_change, open_to_read};
+use super::folder::barred_or;
 use super::places::{Paths, Place, path_text};
 use ml_base::Name;
 use std::alloc::{AllocError, Global};
-use std::collections::BTreeSet;
+use std::collections::{BTreeMap, BTreeSet};
 use std::fs::File;
 use std::io;
 use std::io::ErrorKind;
+use std::os::unix::fs::FileExt;
+
+// How many files are kept open until the next sync, of the 1,024 descriptors that a process usually has.
+const MOST_KEPT: usize = 256;
+
+// How many bytes of a log are written back at once.
+const PIECE: usize = 4096;
 
 /// The log, files and folders that were changed since the last good sync.
 #[derive(Drop)]
 pub(super) struct Changes {
     log: bool,
-    files: BTreeSet<Name>,
+    // Whether this run has written the log back as it read.
+    is_log_back: bool,
+    // Each with the descriptor that it was written by, as far as these are kept: on Linux the one that was written is told
+    // of a write-back that failed, where another that is opened later may not be.
+    files: BTreeMap<Name, Option<File>>,
+    kept: usize,
     // Those with an entry that was made or removed, or that may have been.
     folders: BTreeSet<Place>,
     // The folder that the list's folder stands in.
@@ -28,7 +41,9 @@ impl Changes {
     pub fn new(alloc: Global) -> Self {
         Changes {
             log: true,
-            files: BTreeSet::new(alloc),
+            is_log_back: false,
+            files: BTreeMap::new(alloc),
+            kept: 0,
             folders: BTreeSet::new(alloc),
             outside: true,
             is_lost: false,
@@ -63,12 +78,52 @@ impl Changes {
 
     /// Notes a file that is to be written, and answers whether it wasn't noted yet.
     pub fn note_file(&mut self, name: Name) -> Result<bool, AllocError> {
-        Ok(self.files.insert(name)?)
+        if self.files.contains_key(&name) {
+            return Ok(false);
+        }
+        self.files.insert(name, None)?;
+        Ok(true)
     }
 
     /// Forgets a file that was removed or could not be opened: it has nothing to sync.
     pub fn forget_file(&mut self, name: Name) {
-        self.files.remove(&name);
+        if let Some(Some(_)) = self.files.remove(&name) {
+            self.kept = self.kept.saturating_sub(1);
+        }
+    }
+
+    /// Keeps a noted file open until the next sync, as far as there is room.
+    pub fn keep_file(&mut self, name: Name, file: File) {
+        if self.kept >= MOST_KEPT {
+            return;
+        }
+        if let Some(place) = self.files.get_mut(&name) {
+            *place = Some(file);
+            self.kept = self.kept.saturating_add(1);
+        }
+    }
+
+    /// A file that is kept open. It is kept no longer.
+    pub fn kept_file(&mut self, name: Name) -> Option<File> {
+        let file = self.files.get_mut(&name)?.take()?;
+        self.kept = self.kept.saturating_sub(1);
+        Some(file)
+    }
+
+    /// Whether files are kept open.
+    pub fn keeps_files(&self) -> bool {
+        self.kept > 0
+    }
+
+    /// Brings the files that are kept open to the disk and closes them. They stay noted.
+    pub fn close_files(&mut self) -> io::Result<()> {
+        for (_, place) in self.files.iter_mut() {
+            if let Some(file) = place.take() {
+                settled(file.sync_all(), &mut self.is_lost)?;
+            }
+        }
+        self.kept = 0;
+        Ok(())
     }
 
     /// Brings all of it to the disk and forgets it. An error forgets nothing. It takes no memory.
@@ -86,6 +141,7 @@ impl Changes {
         self.sync_folders(rt, paths)?;
         self.log = false;
         self.files.clear();
+        self.kept = 0;
         self.folders.clear();
         self.outside = false;
         Ok(())
@@ -102,21 +158,34 @@ impl Changes {
             return Ok(());
         }
         if let Some(file) = log {
-            // This brings the length too, and leaves out no more than the times.
-            return settled(file.sync_data(), &mut self.is_lost);
+            return self.sync_open_log(file);
         }
         // An earlier run may have written it.
-        match open_to_read(rt, paths.below(b"log")?) {
-            Ok(file) => settled(file.sync_data(), &mut self.is_lost),
+        match open_to_change(rt, paths.below(b"log")?) {
+            Ok(file) => self.sync_open_log(&file),
             Err(error) => absent_or(error),
         }
     }
 
+    // At the first sync of a run the log is written back as it reads.
+    fn sync_open_log(&mut self, file: &File) -> io::Result<()> {
+        if !self.is_log_back {
+            write_back(file)?;
+        }
+        // This brings the length too, and leaves out no more than the times.
+        settled(file.sync_data(), &mut self.is_lost)?;
+        self.is_log_back = true;
+        Ok(())
+    }
+
     // Without it a crash could leave a file that was written with other bytes.
     fn sync_files(&mut self, rt: &HostRuntime, paths: &mut Paths<'_>) -> io::Result<()> {
-        for name in self.files.iter() {
-            let file = open_to_read(rt, paths.file(*name)?)?;
-            settled(file.sync_all(), &mut self.is_lost)?;
+        for (name, kept) in self.files.iter() {
+            let synced = match kept {
+                Some(file) => file.sync_all(),
+                None => open_to_read(rt, paths.file(*name)?)?.sync_all(),
+            };
+            settled(synced, &mut self.is_lost)?;
         }
         Ok(())
     }
@@ -124,7 +193,7 @@ impl Changes {
     // Without it a crash could leave a file or a folder that was made absent, or a removed file there.
     fn sync_folders(&mut self, rt: &HostRuntime, paths: &mut Paths<'_>) -> io::Result<()> {
         for place in self.folders.iter() {
-            match open_to_read(rt, paths.folder(*place)?) {
+            match open_folder(rt, paths.folder(*place)?) {
                 Ok(folder) => settled(folder.sync_all(), &mut self.is_lost)?,
                 // Nothing was removed from a folder that isn't there.
                 Err(error) => absent_or(error)?,
@@ -132,11 +201,32 @@ impl Changes {
         }
         if self.outside {
             // Without it a crash could leave all of this and no entry that leads to it.
-            let folder = open_to_read(rt, paths.below(b"..")?)?;
-            settled(folder.sync_all(), &mut self.is_lost)?;
+            match open_folder(rt, paths.below(b"..")?) {
+                Ok(folder) => settled(folder.sync_all(), &mut self.is_lost)?,
+                Err(error) => barred_or(error)?,
+            }
         }
         Ok(())
     }
+}
+
+// Writes the bytes of a log again, as they read and where they stand, piece by piece. After a sync that failed, in an earlier
+// run too, Linux shows bytes that the disk hasn't got, and calls them written; the sync behind this brings them there.
+fn write_back(log: &File) -> io::Result<()> {
+    let mut piece = [0u8; PIECE];
+    let mut at: u64 = 0;
+    for _ in 0..u64::MAX {
+        match log.read_at(&mut piece, at) {
+            Ok(0) => return Ok(()),
+            Ok(count) => {
+                log.write_all_at(&piece[..count], at)?;
+                at = at.saturating_add(count as u64);
+            }
+            Err(error) if error.kind() == ErrorKind::Interrupted => {}
+            Err(error) => return Err(error),
+        }
+    }
+    Err(ErrorKind::Interrupted.into())
 }
 
 fn absent_or(error: io::Error) -> io::Result<()> {

@@ -1,21 +1,70 @@
-// Files whose numbers are no standard stream's.
-use std::fs::{File, OpenOptions};
-use std::io;
+// Files and folders of one user's own, whose numbers are no standard stream's.
+use std::fs::{DirBuilder, File, OpenOptions};
+use std::io::ErrorKind;
 use std::os::fd::AsRawFd;
+use std::os::unix::fs::{DirBuilderExt, OpenOptionsExt};
+use std::{fs, io};
 
-/// Opens a file or a folder to read it or to sync it.
+// The list's files and folders are for the user that the program runs as: the keys' file authorises whoever can read it.
+const FILE_MODE: u32 = 0o600;
+
+const FOLDER_MODE: u32 = 0o700;
+
+/// Opens a file to read it or to sync it.
 pub(super) fn open_to_read(rt: &HostRuntime, path: &str) -> io::Result<File> {
+    regular(rt, path)?;
     above_streams(File::open(rt, path)?)
+}
+
+/// Opens a file that is there to read and to write it, with its bytes as they are.
+pub(super) fn open_to_change(rt: &HostRuntime, path: &str) -> io::Result<File> {
+    regular(rt, path)?;
+    above_streams(OpenOptions::new().read(true).write(true).open(rt, path)?)
 }
 
 /// Opens a file to read and to write it, with its bytes as they are, and makes it where it is missing.
 pub(super) fn open_to_write(rt: &HostRuntime, path: &str) -> io::Result<File> {
+    match regular(rt, path) {
+        Err(error) if error.kind() != ErrorKind::NotFound => return Err(error),
+        _ => {}
+    }
     let file = OpenOptions::new()
         .read(true)
         .write(true)
         .create(true)
+        .mode(FILE_MODE)
         .open(rt, path)?;
     above_streams(file)
+}
+
+/// Opens a folder to sync it.
+pub(super) fn open_folder(rt: &HostRuntime, path: &str) -> io::Result<File> {
+    if !fs::metadata(rt, path)?.is_dir() {
+        return Err(ErrorKind::NotADirectory.into());
+    }
+    above_streams(File::open(rt, path)?)
+}
+
+/// Makes a folder, and answers whether it wasn't there.
+pub(super) fn make_folder(rt: &HostRuntime, path: &str) -> io::Result<bool> {
+    for _ in 0..u64::MAX {
+        match DirBuilder::new().mode(FOLDER_MODE).create(rt, path) {
+            Ok(()) => return Ok(true),
+            Err(error) if error.kind() == ErrorKind::Interrupted => {}
+            Err(error) if error.kind() == ErrorKind::AlreadyExists => return Ok(false),
+            Err(error) => return Err(error),
+        }
+    }
+    Err(ErrorKind::Interrupted.into())
+}
+
+// An error where what is there is no regular file: whoever opens a FIFO waits for another program.
+fn regular(rt: &HostRuntime, path: &str) -> io::Result<()> {
+    if fs::metadata(rt, path)?.is_file() {
+        Ok(())
+    } else {
+        Err(ErrorKind::InvalidInput.into())
+    }
 }
 
 // A standard stream that was closed leaves its number to the next file that is opened, and what is

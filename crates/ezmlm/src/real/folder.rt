@@ -1,6 +1,6 @@
 // The folder of a list: its log and its files.
 use super::changes::Changes;
-use super::descriptors::{open_to_read, open_to_write};
+use super::descriptors::{make_folder, open_folder, open_to_read, open_to_write};
 use super::places::{Paths, path_text};
 use ml_base::{Bytes, Name};
 use std::alloc::Global;
@@ -102,7 +102,7 @@ impl<'a> Folder<'a> {
         self.ready()?;
         self.changes.note_folders(name)?;
         let is_new = self.changes.note_file(name)?;
-        let file = match self.open_file(name) {
+        let file = match self.file_to_write(name) {
             Ok(file) => file,
             Err(error) => {
                 if is_new {
@@ -111,8 +111,24 @@ impl<'a> Folder<'a> {
                 return Err(error);
             }
         };
-        file.write_all_at(bytes, 0)?;
-        file.set_len(bytes.len() as u64)
+        let written = write_whole(&file, bytes);
+        self.changes.keep_file(name, file);
+        written
+    }
+
+    // A file to write it: as it was written since the last sync, or opened.
+    fn file_to_write(&mut self, name: Name) -> io::Result<File> {
+        if let Some(file) = self.changes.kept_file(name) {
+            return Ok(file);
+        }
+        match self.open_file(name) {
+            // There may be no further descriptor, as long as files are kept open for the next sync.
+            Err(_) if self.changes.keeps_files() => {
+                self.changes.close_files()?;
+                self.open_file(name)
+            }
+            answer => answer,
+        }
     }
 
     // Opens a file to write it, and makes it and the folders on the way to it where they are missing.
@@ -178,21 +194,31 @@ fn read_all(alloc: Global, mut file: File) -> io::Result<Bytes> {
     Ok(Bytes::from_vec(bytes))
 }
 
+// Gives a file these bytes and no others.
+fn write_whole(file: &File, bytes: &[u8]) -> io::Result<()> {
+    file.write_all_at(bytes, 0)?;
+    file.set_len(bytes.len() as u64)
+}
+
 // Makes the list's folder, and those above it, where they are missing. The list's own entry is for the first sync.
 fn make_list(rt: &HostRuntime, dir: &str) -> io::Result<()> {
     match make_folder(rt, dir) {
         Err(error) if error.kind() == ErrorKind::NotFound => {
             make_above(rt, dir.as_bytes())?;
-            make_folder(rt, dir)
+            make_folder(rt, dir)?;
         }
-        answer => answer,
+        answer => {
+            answer?;
+        }
     }
+    Ok(())
 }
 
-// Makes the folders above the list's own, from the top. Each entry reaches the disk before the next folder is made: else a
-// crash could leave a list to which no path leads. A run that is killed here leaves the list's own folder unmade, so the
-// next one comes here again.
+// Makes the folders above the list's own that are missing, from the top. Each entry reaches the disk before the next folder
+// is made: else a crash could leave a list to which no path leads. The last one that was there may be one whose entry an
+// earlier run made and was killed before it had synced it, so its entry is synced too.
 fn make_above(rt: &HostRuntime, dir: &[u8]) -> io::Result<()> {
+    let mut is_first = true;
     for (at, byte) in dir.iter().enumerate() {
         if *byte != b'/' || at == 0 {
             continue;
@@ -200,23 +226,33 @@ fn make_above(rt: &HostRuntime, dir: &[u8]) -> io::Result<()> {
         let Ok(above) = str::from_utf8(&dir[..at]) else {
             return Err(ErrorKind::InvalidFilename.into());
         };
-        make_folder(rt, above)?;
-        let parent = format!(in rt.alloc(); "{above}/..")?;
-        open_to_read(rt, parent.as_str())?.sync_all()?;
+        if make_folder(rt, above)? {
+            if is_first {
+                sync_above(rt, above, "/../..")?;
+                is_first = false;
+            }
+            sync_above(rt, above, "/..")?;
+        }
     }
     Ok(())
 }
 
-// Makes a folder, where it isn't there.
-fn make_folder(rt: &HostRuntime, path: &str) -> io::Result<()> {
-    for _ in 0..u64::MAX {
-        match fs::create_dir(rt, path) {
-            Err(error) if error.kind() == ErrorKind::Interrupted => {}
-            Err(error) if error.kind() == ErrorKind::AlreadyExists => return Ok(()),
-            answer => return answer,
-        }
+// Brings the entries of a folder above the list's own to the disk.
+fn sync_above(rt: &HostRuntime, path: &str, up: &str) -> io::Result<()> {
+    let folder = format!(in rt.alloc(); "{path}{up}")?;
+    match open_folder(rt, folder.as_str()) {
+        Ok(folder) => folder.sync_all(),
+        Err(error) => barred_or(error),
     }
-    Err(ErrorKind::Interrupted.into())
+}
+
+/// No error where a folder may not be opened: it isn't this user's, so an earlier one has made it.
+pub(super) fn barred_or(error: io::Error) -> io::Result<()> {
+    if error.kind() == ErrorKind::PermissionDenied {
+        Ok(())
+    } else {
+        Err(error)
+    }
 }
 
 // Removes a file, where it is there.

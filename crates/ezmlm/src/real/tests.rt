@@ -7,7 +7,7 @@ use super::{RealClock, RealSite, StdSource};
 use ml_base::{Bytes, Name};
 use ml_site::{Clock, Failed, Site, SiteError, Source};
 use std::alloc::Global;
-use std::os::unix::fs::symlink;
+use std::os::unix::fs::{PermissionsExt, symlink};
 use std::test::Fail;
 use std::{fs, io};
 
@@ -253,11 +253,98 @@ fn lost(rt: &HostRuntime) -> io::Result<bool> {
 fn after_a_failed_sync_none_is_good(rt: HostRuntime) -> io::Result<()> {
     let _ = fs::remove_dir_all(&rt, "real_lost");
     fs::create_dir(&rt, "real_lost")?;
-    // A device that can't be synced stands for the log.
-    symlink(&rt, "/dev/null", "real_lost/log")?;
+    // A file that can be read and written and can't be synced stands for the log.
+    symlink(&rt, "/proc/self/oom_score_adj", "real_lost/log")?;
     assert!(rt; lost(&rt)?);
     assert!(rt; RealSite::new(&rt, "real_lost").sync().is_ok());
     fs::remove_dir_all(&rt, "real_lost")?;
+    Ok(())
+}
+
+fn has_failed<T: Drop>(answer: Result<T, SiteError>) -> bool {
+    matches!(answer, Err(SiteError::Failed))
+}
+
+// Whether each call on a file, and one on the log, fails where no regular file is, and none waits.
+fn no_regular_file(rt: &HostRuntime) -> bool {
+    let mut site = RealSite::new(rt, "real_other");
+    let alloc = rt.alloc();
+    let is_refused = has_failed(read(&mut site, alloc, name(1, 0)))
+        && has_failed(write(&mut site, alloc, name(1, 0), b"x"))
+        && has_failed(read(&mut site, alloc, name(3, 1)))
+        && has_failed(site.read_log(alloc))
+        && has_failed(site.write_log(alloc, 0, b"1"));
+    is_refused && site.sync() == Err(Failed) && site.disk_faults == 6
+}
+
+#[test]
+fn a_file_that_is_no_regular_one_is_refused(rt: HostRuntime) -> io::Result<()> {
+    let _ = fs::remove_dir_all(&rt, "real_other");
+    fs::create_dir(&rt, "real_other")?;
+    fs::create_dir(&rt, "real_other/subscribers")?;
+    symlink(&rt, "/dev/full", "real_other/config")?;
+    symlink(&rt, "/", "real_other/subscribers/A")?;
+    symlink(&rt, "/dev/null", "real_other/log")?;
+    assert!(rt; no_regular_file(&rt));
+    fs::remove_dir_all(&rt, "real_other")?;
+    Ok(())
+}
+
+// The bits of who may do what with a file or a folder.
+fn mode_of(rt: &HostRuntime, path: &str) -> io::Result<u32> {
+    Ok(fs::metadata(rt, path)?.permissions().mode() & 0o777)
+}
+
+// Makes a list two folders down, with a file and a log, and syncs it.
+fn make_modes(rt: &HostRuntime) -> Result<bool, SiteError> {
+    let mut site = RealSite::new(rt, "real_modes/above/list");
+    write(&mut site, rt.alloc(), name(2, 0), b"key")?;
+    write(&mut site, rt.alloc(), name(4, 1), b"one")?;
+    site.write_log(rt.alloc(), 0, b"0")?;
+    Ok(site.sync().is_ok() && site.disk_faults == 0)
+}
+
+// What is made, and its mode.
+const MODES: [(&str, u32); 6] = [
+    ("real_modes/above", 0o700),
+    ("real_modes/above/list", 0o700),
+    ("real_modes/above/list/digest/subscribers", 0o700),
+    ("real_modes/above/list/key", 0o600),
+    ("real_modes/above/list/log", 0o600),
+    ("real_modes/above/list/lock", 0o600),
+];
+
+#[test]
+fn what_is_made_is_for_its_user_alone(rt: HostRuntime) -> Result<(), Fail> {
+    let _ = fs::remove_dir_all(&rt, "real_modes");
+    assert!(rt; make_modes(&rt)?);
+    for (path, mode) in MODES {
+        assert!(rt; mode_of(&rt, path)? == mode, "{path}");
+    }
+    fs::remove_dir_all(&rt, "real_modes")?;
+    Ok(())
+}
+
+// Writes 300 files, twice each, and syncs them: more than are kept open.
+fn many_written(rt: &HostRuntime) -> Result<bool, SiteError> {
+    let mut site = RealSite::new(rt, "real_many");
+    for text in [b"longer".as_slice(), b"kept".as_slice()] {
+        for at in 1..301 {
+            write(&mut site, rt.alloc(), name(13, at), text)?;
+        }
+    }
+    Ok(site.sync().is_ok() && site.disk_faults == 0)
+}
+
+#[test]
+fn more_files_are_written_than_are_kept_open(rt: HostRuntime) -> Result<(), Fail> {
+    let _ = fs::remove_dir_all(&rt, "real_many");
+    assert!(rt; many_written(&rt)?);
+    for at in [1, 256, 257, 300] {
+        let path = format!(in rt.alloc(); "real_many/pending/{at}")?;
+        assert!(rt; fs::read(&rt, path.as_str())?.as_slice() == b"kept".as_slice());
+    }
+    fs::remove_dir_all(&rt, "real_many")?;
     Ok(())
 }
 
