@@ -5,6 +5,7 @@ ghost use Rattle.ml_base.specs.ReadFiles.{IsReading, NamesDamaged};
 ghost use Rattle.ml_base.specs.PartErrors.{OnDamaged};
 ghost use Rattle.ml_plain.specs.KeptFiles.{IsFloorFile, floor_name};
 ghost use Rattle.ml_list.specs.Damage.{IsNoFloor};
+ghost use Rattle.ml_list.specs.Lookups.{IsInRange};
 
 use ml_base::{Bytes, Files, Name, PartError, number_within, write_number};
 use std::alloc::{AllocError, Global};
@@ -26,6 +27,26 @@ pub fn floor<F: Files>(alloc: Global, files: &mut F) -> Result<u64, PartError>
     match read_floor(&file) {
         Some(floor) => Ok(floor),
         None => Err(PartError::Damaged(FLOOR)),
+    }
+}
+
+// The floor: one that was read before, or else that of its file.
+pub(crate) fn floor_of<F: Files>(
+    alloc: Global,
+    files: &mut F,
+    known: Option<u64>,
+) -> Result<u64, PartError>
+    requires known { IsTrue F.tells → IfSome known (IsFloorFile (F.map files.old floor_name)) }
+    requires range { IsInRange known }
+    ensures value { IsTrue F.tells → IfOk result (IsFloorFile (F.map files.old floor_name)) }
+    ensures least { IfOk result (λ floor. 1 ≤ floor) }
+    ensures most { IfOk result (λ floor. floor ≤ 999_999_999_999) }
+    ensures names { NamesDamaged ⟦<F as Files>⟧ (λ name. name ≡ floor_name) (λ _. IsNoFloor (F.map files.old)) result }
+    ensures reads { IsReading ⟦<F as Files>⟧ files.old files.new result }
+{
+    match known {
+        Some(floor) => Ok(floor),
+        None => floor(alloc, files),
     }
 }
 

@@ -1,5 +1,5 @@
 // The floor rises.
-ghost use Rattle.std.specs.Prelude.{◌≡◌, ◌<◌, ◌≤◌, ◌+◌, ◌*◌, ◌/◌, ◌%◌, ◌++◌, max, true, ℕ, IsTrue, IfOk, IfErr, IfSome, IfNone, IsErrOf, OnOk, Option, length, ◌==◌};
+ghost use Rattle.std.specs.Prelude.{◌≡◌, ◌≢◌, ◌<◌, ◌≤◌, ◌+◌, ◌*◌, ◌/◌, ◌%◌, ◌++◌, max, true, ℕ, IsTrue, IfOk, IfErr, IfSome, IfNone, IsErrOf, OnOk, Option, length, ◌==◌};
 ghost use Rattle.ml_base.specs.Dir.{touches_only, with_puts, are_files};
 ghost use Rattle.ml_base.specs.ReadFiles.{IsReading, NamesDamaged};
 ghost use Rattle.ml_base.specs.PartErrors.{OnDamaged};
@@ -14,13 +14,14 @@ ghost use Rattle.ml_plain.specs.KeptFiles.{IsRepliesFile, is_kept, floor_name};
 ghost use Rattle.ml_plain.specs.KeptFiles as states;
 ghost use Rattle.ml_list.specs.Applying.{Does};
 ghost use Rattle.ml_list.specs.Damage.{IsDamaged, IsNoReplies, is_read_by};
+ghost use Rattle.ml_list.specs.Lookups.{IsInRange, IsRead};
 ghost use Rattle.ml_list.specs.Rising.{removals, rise_puts};
 ghost use Rattle.ml_plain.specs.declared.Act.TheVariants as acts;
 ghost use Rattle.ml_plain.specs.KeptFiles.{IsEmptied};
 
-use crate::floors::{FLOOR, floor, floor_text};
-use crate::slots::{SIZE, SLOTS, replies_name};
-use ml_base::{Bytes, Files, Name, PartError, Put, Txn, put_piece};
+use crate::floors::{FLOOR, floor_of, floor_text};
+use crate::slots::{Known, SIZE, SLOTS, replies_name};
+use ml_base::{Bytes, Files, Name, PartError, Put, Txn, copied, put_piece};
 use ml_plain::Reply;
 use std::alloc::{AllocError, Global};
 
@@ -33,22 +34,25 @@ pub(crate) fn raise<F: Files>(
     files: &mut F,
     number: u64,
     at: u64,
+    known: &Known,
 ) -> Result<(Txn, Reply), PartError>
-    requires { at ≤ 999_999_999_999 }
+    requires most { at ≤ 999_999_999_999 }
+    requires known { IsTrue F.tells → IsRead (F.map files.old) number known.now }
+    requires range { IsInRange known.now.floor }
     ensures value { IsTrue F.tells → IfOk result (λ done. (q : State) → IsState (F.map files.old) q → Does (F.map files.old) done (steps.raise q number at)) }
     ensures reply { IfOk result (λ done. is_kept done.1 ≡ true) }
     ensures files { IfOk result (λ done. IsTrue (are_files done.0)) }
     ensures names { NamesDamaged ⟦<F as Files>⟧ (λ name. is_read_by (acts.Floor at) name ≡ true) (IsDamaged (F.map files.old)) result }
     ensures reads { IsReading ⟦<F as Files>⟧ files.old files.new result }
 {
-    let floor = floor(alloc, files)?;
+    let floor = floor_of(alloc, files, known.floor)?;
     if !may_rise(floor, number, at) {
         return Ok((Txn::new(alloc), refused()));
     }
     if at <= floor {
         return Ok((Txn::new(alloc), floored(floor)));
     }
-    let txn = rise(alloc, files, floor, at)?;
+    let txn = rise(alloc, files, floor, at, number, &known.file)?;
     Ok((txn, floored(at)))
 }
 
@@ -79,21 +83,49 @@ fn floored(floor: u64) -> Reply
 }
 
 // The puts of a rise of the floor. It reads the one file of kept replies that the new floor cuts.
-fn rise<F: Files>(alloc: Global, files: &mut F, floor: u64, at: u64) -> Result<Txn, PartError>
+fn rise<F: Files>(
+    alloc: Global,
+    files: &mut F,
+    floor: u64,
+    at: u64,
+    number: u64,
+    own: &Option<Bytes>,
+) -> Result<Txn, PartError>
     requires least { 1 ≤ floor }
     requires up { floor < at }
     requires most { at ≤ 999_999_999_999 }
+    requires own { IsTrue F.tells → number ≢ 0 → own.now ≡ F.map files.old (states.replies_name (number / 512)) }
     ensures value { IsTrue F.tells → IfOk result (λ txn. (cut : Option Text) × (txn ≡ rise_puts floor at cut) × ((kept : Kept) → IsRepliesFile (512 * (at / 512)) (F.map files.old (states.replies_name (at / 512))) kept → IsRepliesFile (512 * (at / 512)) cut (from_floor at kept))) }
     ensures files { IfOk result (λ txn. IsTrue (are_files txn)) }
     ensures names { NamesDamaged ⟦<F as Files>⟧ (λ name. name ≡ states.replies_name (at / 512)) (λ _. IsNoReplies (F.map files.old) (at / 512)) result }
     ensures reads { IsReading ⟦<F as Files>⟧ files.old files.new result }
 {
     let name = replies_name(at);
-    let file = files.get(alloc, name)?;
+    let file = file_of(alloc, files, at, number, own)?;
     let Some(bytes) = cut(file, (at % SLOTS) as usize) else {
         return Err(PartError::Damaged(name));
     };
     Ok(rise_txn(alloc, floor, at, name, bytes)?)
+}
+
+// The file of kept replies that has a number, `at`: that of the item's own number, where it is the same, was read before.
+fn file_of<F: Files>(
+    alloc: Global,
+    files: &mut F,
+    at: u64,
+    number: u64,
+    own: &Option<Bytes>,
+) -> Result<Option<Bytes>, PartError>
+    requires most { at ≤ 999_999_999_999 }
+    requires own { IsTrue F.tells → number ≢ 0 → own.now ≡ F.map files.old (states.replies_name (number / 512)) }
+    ensures value { IsTrue F.tells → IfOk result (λ file. file ≡ F.map files.old (states.replies_name (at / 512))) }
+    ensures none { IfErr result (λ e. OnDamaged e (λ _. ⊥)) }
+    ensures reads { IsReading ⟦<F as Files>⟧ files.old files.new result }
+{
+    if number != 0 && number / SLOTS == at / SLOTS {
+        return Ok(copied(alloc, own.as_ref())?);
+    }
+    Ok(files.get(alloc, replies_name(at))?)
 }
 
 // The puts of a rise of the floor, with what is left of the file that it cuts.

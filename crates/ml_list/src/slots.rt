@@ -103,6 +103,13 @@ pub(crate) struct Found {
     pub file: Option<Bytes>,
 }
 
+// What was read for an item's number, where that isn't 0: the floor, and the number's file.
+#[derive(Drop)]
+pub(crate) struct Known {
+    pub floor: Option<u64>,
+    pub file: Option<Bytes>,
+}
+
 // The reply that is kept for a number, where there is one. It reads one file.
 pub(crate) fn kept_reply<F: Files>(
     alloc: Global,
@@ -181,25 +188,4 @@ pub(crate) fn keep(
         name,
         bytes: Some(with_reply(text, (number % SLOTS) as usize, reply)),
     })
-}
-
-// The same, with the file read from files.
-pub(crate) fn keep_in<F: Files>(
-    alloc: Global,
-    files: &mut F,
-    number: u64,
-    reply: Reply,
-) -> Result<Put, PartError>
-    requires numbered { number ≢ 0 }
-    requires most { number ≤ 999_999_999_999 }
-    requires fits { states.is_kept reply ≡ true }
-    ensures value { IsTrue F.tells → IfOk result (λ put. (floor : ℕ) (kept : Kept) → floor ≤ number → AreReplies (F.map files.old) floor kept → AreReplies (with_put (F.map files.old) put) floor (steps.keep number reply kept)) }
-    ensures name { IfOk result (λ put. put.name ≡ states.replies_name (number / 512)) }
-    ensures file { IfOk result (λ put. IsTrue (is_file put.name)) }
-    ensures sound { IfErr result (λ e. OnDamaged e (λ _. ⊥)) }
-    ensures reads { IsReading ⟦<F as Files>⟧ files.old files.new result }
-{
-    let file = files.get(alloc, replies_name(number))?;
-    let put = keep(alloc, file, number, reply)?;
-    Ok(put)
 }

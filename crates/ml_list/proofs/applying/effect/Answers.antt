@@ -1,10 +1,10 @@
-use Rattle.std.proofs.Common.{◌∙◌, sym, ap, subst}
+use Rattle.std.proofs.Common.{sym, ap, subst}
 use Rattle.ml_plain.specs.declared.Act.{Act}
 use Rattle.ml_plain.specs.Steps.{act_step}
 use Rattle.ml_plain.specs.Histories.{effect_by, floor_asked}
 use Rattle.ml_list.specs.Applying.{Does, DoesList}
 use Rattle.ml_base.proofs.DamagedNames.{ok_both}
-use Rattle.ml_list.proofs.Steps.{plain_does, none_is_some}
+use Rattle.ml_list.proofs.Steps.{plain_does}
 use Rattle.std.proofs.lemmas.Result.{IfOk-weaker}
 use Rattle.ml_list.proofs.applying.effect.Goals as goal
 
@@ -37,7 +37,3 @@ returns-in-Floor-clause-value g c told =
     let dir = g.F.Files.map c.args.files.now in
     let item = c.args.item.now in
     IfOk-weaker c.raise.result _ _ (λ done h q is. subst (λ (a : Act). Does dir done (effect_by q item (floor_asked a))) (sym c.in-Floor.is) (h q is)) (c.raise.ensures.value told)
-
-pub returns-in-Floor-clause-own : goal.returns-in-Floor-clause-own
-returns-in-Floor-clause-own g c =
-    IfOk-weaker c.raise.result _ _ (λ done h none. absurd (let bad = sym none ∙ ap floor_asked c.in-Floor.is in none_is_some _ bad)) c.raise.ensures.reply

@@ -1,8 +1,9 @@
-use Rattle.std.proofs.Common.{◌≡◌, ◌∙◌, ◌*◌, ◌/◌, ◌<◌, Option, true, refl, sym, ap, subst, arith, rules}
+use Rattle.std.proofs.Common.{◌≡◌, ◌∙◌, ◌*◌, ◌/◌, ◌<◌, ℕ, Option, IfSome, true, refl, sym, ap, subst, arith, rules}
 use Rattle.std.proofs.lemmas.Nat.{div_below}
 use Rattle.ml_base.specs.Dir.{Dir}
 use Rattle.ml_plain.specs.declared.Reply.{Reply}
-use Rattle.ml_plain.specs.KeptFiles.{IsRepliesFile, replies_name}
+use Rattle.ml_plain.specs.KeptFiles.{IsFloorFile, IsRepliesFile, floor_name, replies_name}
+use Rattle.ml_list.specs.Lookups.{IsInRange}
 use Rattle.ml_list.specs.Applying.{Repeats}
 use Rattle.ml_list.specs.Damage.{IsDamaged, IsNoReplies, is_looked_up, replies}
 use Rattle.ml_list.proofs.Damages.{one_named}
@@ -26,10 +27,18 @@ returns-clause-value g c told q is =
     subst (λ (o : Option Reply). Repeats q n o) (sym c.looked_up.ensures.answer)
     (above_floor dir q n c.in_ok-floor.floor c.in_ok-found.found.reply is (c.in_ok-floor.ensures.value told) c.if-number-eq0.false c.if-number-floor.false found)
 
-pub returns-clause-file : goal.returns-clause-file
-returns-clause-file g c told =
+pub returns-clause-known : goal.returns-clause-known
+returns-clause-known g c told =
+    let dir = g.F.Files.map c.args.files.now in
     let same = g.met.F.Files.kept_map c.args.files.now c.floor.new.files told c.floor.ensures.reads.kept in
-    is_new_weaker c.looked_up.result _ _ (λ file e some. e ∙ c.in_ok-found.ensures.file told ∙ ap (λ (d : Dir). d (replies_name (c.args.number / 512))) same) c.looked_up.ensures.file
+    is_new_weaker c.looked_up.result _ _ (λ known are. record {
+      floor = subst (λ (o : Option ℕ). IfSome o (IsFloorFile (dir floor_name))) (sym are.0) (c.in_ok-floor.ensures.value told);
+      file = λ some. are.1 ∙ c.in_ok-found.ensures.file told ∙ ap (λ (d : Dir). d (replies_name (c.args.number / 512))) same;
+    }) c.looked_up.ensures.known
+
+pub returns-clause-range : goal.returns-clause-range
+returns-clause-range g c =
+    is_new_weaker c.looked_up.result _ _ (λ known are. subst (λ (o : Option ℕ). IsInRange o) (sym are.0) (c.in_ok-floor.ensures.least, c.in_ok-floor.ensures.most)) c.looked_up.ensures.known
 
 pub returns-in_err-found-clause-names : goal.returns-in_err-found-clause-names
 returns-in_err-found-clause-names g c =

@@ -1,16 +1,20 @@
-use Rattle.std.proofs.Common.{◌∙◌, sym}
+use Rattle.std.proofs.Common.{◌∙◌, sym, ap}
 use Rattle.std.proofs.lemmas.Result.{IfOk-weaker}
 use Rattle.ml_base.specs.Dir.{with_puts}
 use Rattle.ml_base.specs.Name.{is_file}
 use Rattle.ml_base.proofs.DamagedNames.{ok_both}
-use Rattle.ml_list.proofs.Steps.{with_reply_does, replies_left, files_more}
+use Rattle.ml_list.proofs.Steps.{unkept_does, with_reply_does, files_more}
 use Rattle.ml_list.proofs.applying.with_reply_kept.Goals as goal
+
+pub returns-then-number-eq0-clause-value : goal.returns-then-number-eq0-clause-value
+returns-then-number-eq0-clause-value c = λ dir q there is high. unkept_does dir c.args.txn c.args.number c.args.reply q c.if-number-eq0.true is
 
 pub returns-clause-value : goal.returns-clause-value
 returns-clause-value c =
-    ok_both c.with_put.result _ _ _ (λ done puts reply dir q there only is high.
+    let some = c.if-number-eq0.false in
+    ok_both c.with_put.result _ _ _ (λ done puts reply dir q there is high.
     with_reply_does dir c.args.txn c.in_ok-put.put c.args.number c.args.reply q done is puts reply c.in_ok-put.ensures.name
-    (c.in_ok-put.ensures.value (with_puts dir c.args.txn) q.floor q.kept (there ∙ sym (replies_left dir c.args.txn _ only)) high is.replies))
+    (c.in_ok-put.ensures.value (with_puts dir c.args.txn) q.floor q.kept (c.in_ok-left.ensures dir (there some ∙ ap dir (sym c.replies_name.ensures.name)) ∙ ap (with_puts dir c.args.txn) c.replies_name.ensures.name) (high some) is.replies))
     c.with_put.ensures.puts c.with_put.ensures.reply
 
 pub returns-clause-files : goal.returns-clause-files

@@ -24,18 +24,18 @@ pub returns-in_err-txn-clause-names : goal.returns-in_err-txn-clause-names
 returns-in_err-txn-clause-names g c =
     let dir = g.F.Files.map c.args.files.now in
     let at = c.args.at in
-    let most = c.requires in
+    let most = c.requires.most in
     let group = div_below at 512 1_953_125_000 (omega arith) (omega (arith, most)) in
-    let names = one_named g.F.Files (λ name. is_read_by (Floor at) name ≡ true) _ (replies_name (at / 512)) (IsNoReplies (g.F.Files.map c.floor.new.files) (at / 512)) (IsDamaged dir) (reads_replies at)
-    (λ told none. replies (at / 512) group refl (subst (λ (d : Dir). IsNoReplies d (at / 512)) (g.met.F.Files.kept_map c.args.files.now c.floor.new.files told c.floor.ensures.reads.kept) none)) c.in_err-txn.ensures.names in
+    let names = one_named g.F.Files (λ name. is_read_by (Floor at) name ≡ true) _ (replies_name (at / 512)) (IsNoReplies (g.F.Files.map c.floor_of.new.files) (at / 512)) (IsDamaged dir) (reads_replies at)
+    (λ told none. replies (at / 512) group refl (subst (λ (d : Dir). IsNoReplies d (at / 512)) (g.met.F.Files.kept_map c.args.files.now c.floor_of.new.files told c.floor_of.ensures.reads.kept) none)) c.in_err-txn.ensures.names in
     search rules
 
 pub returns-clause-value : goal.returns-clause-value
 returns-clause-value g c told q is =
     let dir = g.F.Files.map c.args.files.now in
     let at = c.args.at in
-    let most = c.requires in
-    let same = g.met.F.Files.kept_map c.args.files.now c.floor.new.files told c.floor.ensures.reads.kept in
+    let most = c.requires.most in
+    let same = g.met.F.Files.kept_map c.args.files.now c.floor_of.new.files told c.floor_of.ensures.reads.kept in
     let rise = c.in_ok-txn.ensures.value told in
     raise_rises dir q c.args.number at c.in_ok-floor.floor is (c.in_ok-floor.ensures.value told) (c.in_ok-txn.txn, c.floored-2.result) rise.0
     (sym c.may_rise.ensures ∙ c.if-not-may_rise.false) c.if-at-floor.false most (div_below at 512 1_953_125_000 (omega arith) (omega (arith, most))) rise.1 c.floored-2.ensures
