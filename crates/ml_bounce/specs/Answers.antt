@@ -1,5 +1,5 @@
 -- The ledgers of sets, and what the calls on them answer.
-use Rattle.std.specs.Prelude.{◌+◌, ℕ, Bool, true, false, List, [], ◌∷◌, Option, Some, None, is_some, if◌then◌else◌}
+use Rattle.std.specs.Prelude.{◌≡◌, ◌<◌, ◌+◌, ℕ, zero, suc, Bool, true, false, List, [], ◌∷◌, ◌++◌, map, take, Option, Some, None, is_some, if◌then◌else◌}
 use Rattle.ml_base.specs.Bytes.{Text}
 use Rattle.ml_base.specs.Dir.{Dir, with_puts}
 use Rattle.ml_base.specs.Name.{set_kind}
@@ -7,8 +7,11 @@ use Rattle.ml_base.specs.declared.names.Name.{Name}
 use Rattle.ml_base.specs.declared.names.Set.{Set}
 use Rattle.ml_base.specs.declared.names.Set.TheVariants as sets
 use Rattle.ml_base.specs.declared.puts.Put.{Put}
+use Rattle.ml_bounce.specs.Changes.{due_entries, action_of, act}
+use Rattle.ml_bounce.specs.declared.actions.Action.{Action}
+use Rattle.ml_bounce.specs.declared.actions.Action.TheVariants.{Warn, Probe, Lapse}
 use Rattle.ml_bounce.specs.Files.{IsLedger, IsLedgerFile, ledger_name, ledger_place, ledger_put}
-use Rattle.ml_bounce.specs.Ledger.{Ledger, find_entry, forget}
+use Rattle.ml_bounce.specs.Ledger.{Ledger, LedgerEntry, find_entry, forget}
 
 -- whether a set has a ledger
 abbrev pub has_ledger : Set → Bool
@@ -53,3 +56,38 @@ LeadsTo dir set None (Some ledger) = ⊥
 abbrev pub puts_of : Option (List Put) → List Put
 puts_of None = []
 puts_of (Some txn) = txn
+
+-- the entries of the first files, one file behind the other
+abbrev pub gathered : (ℕ → Ledger) → ℕ → Ledger
+gathered buckets zero = []
+gathered buckets (suc n) = gathered buckets n ++ buckets n
+
+-- the name of one of a ledger's 53 files
+abbrev pub IsFileName : Set → Name → Type 0
+IsFileName set name = (n : ℕ) × (n < 53) × (name ≡ ledger_name (ledger_kind set) n)
+
+-- one of a ledger's 53 files, outside its grammar
+abbrev pub IsBadFile : Dir → Set → Name → Type 0
+IsBadFile dir set name = (n : ℕ) × (n < 53) × (name ≡ ledger_name (ledger_kind set) n) × IsNoFile dir set n
+
+-- the actions of the first so many due entries, in order of key
+abbrev pub first_due : ℕ → ℕ → Ledger → List Action
+first_due now max ledger = map action_of (take max (due_entries now ledger))
+
+-- whom an action is for
+abbrev pub action_key : Action → Text
+action_key (Warn to missed) = to
+action_key (Probe to) = to
+action_key (Lapse to) = to
+
+-- the puts by which what is due for a key's entry is done: none where there is no entry
+abbrev pub acts_for : Set → Text → ℕ → Ledger → Option LedgerEntry → List Put
+acts_for set k now bucket None = []
+acts_for set k now bucket (Some e) = writes set k (act now e bucket)
+
+abbrev pub acts : Set → Text → ℕ → Ledger → List Put
+acts set k now bucket = acts_for set k now bucket (find_entry k bucket)
+
+-- the first so many of a ledger's files have these entries
+abbrev pub AreFiles : Dir → Set → ℕ → (ℕ → Ledger) → Type 0
+AreFiles dir set n buckets = (i : ℕ) → i < n → IsLedgerFile i (dir (ledger_name (ledger_kind set) i)) (buckets i)

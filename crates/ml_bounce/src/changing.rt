@@ -27,7 +27,7 @@ fn copied_numbers(alloc: Global, numbers: &[u64]) -> Result<Numbers, AllocError>
 }
 
 // A copy of an entry, with room for one more missed number.
-fn copied(alloc: Global, entry: &LedgerEntry) -> Result<LedgerEntry, AllocError>
+pub(crate) fn copied(alloc: Global, entry: &LedgerEntry) -> Result<LedgerEntry, AllocError>
     ensures { IfOk result (λ copy. copy ≡ entry.now) }
 {
     Ok(LedgerEntry {
