@@ -83,19 +83,12 @@ fn can_note(number: u64, entry: &LedgerEntry) -> bool
 fn noted(entry: LedgerEntry, number: u64, now: u64) -> Result<LedgerEntry, AllocError>
     ensures { IfOk result (λ new. new ≡ spec.noted number now entry) }
 {
-    let mut missed = entry.missed;
-    let first = if missed.as_slice().is_empty() {
-        now
-    } else {
-        entry.first
-    };
-    missed.push(number)?;
-    Ok(LedgerEntry {
-        key: entry.key,
-        first,
-        stage: entry.stage,
-        missed,
-    })
+    let mut new = entry;
+    if new.missed.as_slice().is_empty() {
+        new.first = now;
+    }
+    new.missed.push(number)?;
+    Ok(new)
 }
 
 // What mail of a number to a key makes of the key's file once it bounced.

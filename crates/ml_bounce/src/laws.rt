@@ -1,11 +1,11 @@
 // What holds of the files of a ledger, apart from the code.
-ghost use Rattle.std.specs.Prelude.{◌≡◌, ◌≢◌, ◌↔◌, ◌<◌, ℕ, true, List, [], Option, Some, None, unwrap_or};
+ghost use Rattle.std.specs.Prelude.{◌≡◌, ◌≢◌, ◌↔◌, ◌<◌, ℕ, true, List, [], ◌∷◌, Option, Some, None, unwrap_or};
 ghost use Rattle.ml_base.specs.Bytes.{Text};
 ghost use Rattle.ml_base.specs.Dir.{Dir, with_put};
 ghost use Rattle.ml_base.specs.declared.names.Name.{Name};
 ghost use Rattle.ml_bounce.specs.Files.{IsLedger, IsLedgerFile, IsEntry, ledger_name, ledger_place, ledger_put, is_of_ledger};
-ghost use Rattle.ml_bounce.specs.Changes.{probe_failed};
-ghost use Rattle.ml_bounce.specs.Course.{Change, after_all, IsCourse};
+ghost use Rattle.ml_bounce.specs.Changes.{is_old, probe_failed};
+ghost use Rattle.ml_bounce.specs.Course.{Change, Bounced, Served, WarningBounced, after_all, IsCourse};
 ghost use Rattle.ml_bounce.specs.Ledger.{Ledger, LedgerEntry, find_entry, with_ledger, forget};
 ghost use Rattle.ml_bounce.specs.Reading.{ledger_of};
 
@@ -42,4 +42,12 @@ pub fn law_ledger_changes()
 /// was probed 1,000,000 seconds later at least, at the moment that the failure names, and it wasn't forgotten all the while.
 pub fn law_course()
     ensures { (k : Text) (probed : ℕ) (changes : List Change) (ledger left : Ledger) → find_entry k ledger ≡ None → probe_failed k probed (after_all changes ledger) ≡ Some left → IsCourse k probed changes }
+{}
+
+/// The whole course leads to a removal: mail to a key that has no entry bounces; 1,000,000 seconds later at least what is due for
+/// it is done, which is the warning; the warning of that very moment bounces; 1,000,000 seconds later at least what is due is done,
+/// which is the probe; and the failure of the probe of that very moment takes the entry out.
+pub fn law_removal()
+    ensures { (k : Text) (number first warned failed probed : ℕ) (ledger : Ledger) → find_entry k ledger ≡ None → is_old warned first ≡ true → is_old probed failed ≡ true →
+        (left : Ledger) × (probe_failed k probed (after_all (Bounced k number first ∷ Served k warned ∷ WarningBounced k warned failed ∷ Served k probed ∷ []) ledger) ≡ Some left) × (find_entry k left ≡ None) }
 {}
