@@ -2,3 +2,4 @@ pub mod Reading
 pub mod Drawings
 pub mod Stood
 pub mod Cutting
+pub mod Rising
