@@ -261,7 +261,7 @@ module _ (c : Config) (local : Clean c.local) (host : Clean c.host) where
       let text = posting.sent_text p.config m in
       let q : Plain = record p { posts = p.posts ++ record { sender = sender; moment = now; subject = subject text; bytes = text } ∷ [] } in
       sent_lines c q (post_path p.config (length p.posts + 1)) text (addresses p sets.List)
-      (OfPost (length p.posts + 1) (ap (λ c. post_path c (length p.posts + 1)) l.config)) (same_lines c p q refl refl refl refl l)
+      (OfPost (length p.posts + 1) m (ap (λ c. post_path c (length p.posts + 1)) l.config) (ap (λ c. posting.sent_text c m) l.config)) (same_lines c p q refl refl refl refl l)
 
   held_now_lines : (now : ℕ) (sender m : Text) (p : Plain) → Clean sender → Lines c p → Lines c (posting.held_now now sender m p).0
   held_now_lines now sender m p clean l =
@@ -388,7 +388,7 @@ module _ (c : Config) (local : Clean c.local) (host : Clean c.host) where
   request_lines now sender m p (WarnBounce set s) n l = changed_lines p set _ l
   request_lines now sender m p (ProbeBounce set s) n l = probed_lines p set _ _ l
   request_lines now sender m p (ReplyBounce set) n l = l
-  request_lines now sender m p Owner n l = sent_lines c p (reply_path p.config) m (p.config.owner ∷ []) (ToOwner (ap (λ (c : Config). c.owner ∷ []) l.config)) l
+  request_lines now sender m p Owner n l = sent_lines c p (reply_path p.config) m (p.config.owner ∷ []) (ToOwner (ap reply_path l.config) (ap (λ (c : Config). c.owner ∷ []) l.config)) l
   request_lines now sender m p Post n l = by_verdict_lines now sender m p (verdict p sender m) (held_clean p sender m) l
   request_lines now sender m p r n l = sender_lines now m p r (address_of sender) (address_clean sender) n l
 

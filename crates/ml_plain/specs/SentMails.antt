@@ -13,8 +13,9 @@ use Rattle.ml_plain.specs.declared.Item.{Item}
 use Rattle.ml_plain.specs.declared.Act.{Act}
 use Rattle.ml_plain.specs.declared.Act.TheVariants.{Add}
 use Rattle.ml_plain.specs.Laws.{after}
-use Rattle.ml_plain.specs.Mailing.{post_path, digest_path}
+use Rattle.ml_plain.specs.Mailing.{post_path, digest_path, reply_path}
 use Rattle.ml_plain.specs.MailFields.{mail_fields}
+use Rattle.ml_plain.specs.Posting.{sent_text}
 
 -- the text of a mail of some moment, which is read as its own fields and body
 pub record IsReadMail (c : Config) (text : Text) : Type 0 where
@@ -24,11 +25,11 @@ pub record IsReadMail (c : Config) (text : Text) : Type 0 where
   pub fields_are : fields text ≡ mail_fields c (letter_of c mail) moment
   pub body_is : body text ≡ (letter_of c mail).text
 
--- an entry is a post, an issue of the digest, a message that goes on to the owner, or such a mail
+-- an entry is a post with the text that is sent of a message, an issue of the digest, a message that goes on to the owner, or such a mail
 pub data IsSent (c : Config) (out : Out) : Type 0 where
-  OfPost : (number : ℕ) (path : out.path ≡ post_path c number) → IsSent c out
+  OfPost : (number : ℕ) (message : Text) (path : out.path ≡ post_path c number) (text : out.body ≡ sent_text c message) → IsSent c out
   OfIssue : (issue : ℕ) (path : out.path ≡ digest_path c issue) → IsSent c out
-  ToOwner : (to : out.to ≡ c.owner ∷ []) → IsSent c out
+  ToOwner : (path : out.path ≡ reply_path c) (to : out.to ≡ c.owner ∷ []) → IsSent c out
   OfMail : (mail : IsReadMail c out.body) → IsSent c out
 
 -- what is added is an address

@@ -132,9 +132,9 @@ pub fn law_kept_files()
 /// with an LF behind it, and the body is all that was put behind the header. So it is whatever the mail says, and wherever the list's
 /// address, the recipient and the address for answers have no LF.
 ///
-/// Over every history of a list whose own address has no LF, in which only addresses are added, each entry that stands in the queue has
-/// the path of a post or of an issue, or goes to the owner alone, or is a mail that is read so. So nobody can add a field to a mail of
-/// the list or end its header, whatever he sends to it.
+/// Over every history of a list whose own address has no LF, in which only addresses are added, each entry that stands in the queue is a
+/// post with the text that is sent of a message, or has the path of an issue, or goes to the owner alone, or is a mail that is read so.
+/// So nobody can add a field to a mail of the list or end its header, whatever he sends to it.
 pub fn law_mails()
     ensures read { LawMails }
     ensures sent { LawSentMails }
