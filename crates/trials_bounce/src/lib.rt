@@ -1,0 +1,5 @@
+//! Tests of the public calls on the ledgers of bounces.
+#![tactic(auto)]
+
+#[cfg(test)]
+mod ledgers;
