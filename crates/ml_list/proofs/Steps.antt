@@ -1,5 +1,5 @@
 -- An item's step, from its parts.
-use Rattle.std.proofs.Common.{◌≡◌, ◌⊎◌, inl, inr, ◌≢◌, ◌<◌, ◌≤◌, ℕ, ◌+◌, ◌*◌, ◌/◌, max, Bool, true, false, cond, eqb, leb, not, ◌&&◌, ◌||◌, List, [], ◌∷◌, ◌++◌, Option, Some, None, is_some, refl, sym, ap, ap₂, ◌∙◌, arith, subst}
+use Rattle.std.proofs.Common.{◌≡◌, ◌⊎◌, inl, inr, ◌≢◌, ◌<◌, ◌≤◌, ℕ, ◌+◌, ◌*◌, ◌/◌, max, Bool, true, false, cond, eqb, leb, not, ◌&&◌, ◌||◌, List, [], ◌∷◌, ◌++◌, Option, Some, None, refl, sym, ap, ap₂, ◌∙◌, arith, subst}
 use Rattle.std.proofs.lemmas.Bool.{eqb-true, ne_eqb, and_parts, or_cases, lt-ltb, le-ltb, leb-true, and_from}
 use Rattle.ml_base.specs.Bytes.{Text}
 use Rattle.ml_base.specs.Dir.{Dir, same_name, with_put, with_puts, touches_only}
@@ -165,13 +165,6 @@ effect_floor q item some le = go (floor_asked item.act)
     go None = le
     go (Some at) = risen at (may_rise q.floor item.number at) refl
 
--- an item that counts, with its reply kept
-pub counted_does : (dir : Dir) (q : State) (item : Item) (txn : List Put) (reply : Reply) (done : List Put × Reply) → IsState dir q → Repeats q item.number None → Does dir (txn, reply) (effect q item)
-    → ((s : State) → IsState (with_puts dir txn) s → (item.number ≢ 0 → s.floor ≤ item.number) → Does dir done (with_reply item.number (s, reply))) → Does dir done (with_reply item.number (effect q item))
-counted_does dir q item txn reply done is new does more =
-    subst (λ (r : Reply). Does dir done (with_reply item.number ((effect q item).0, r))) does.reply
-    (more (effect q item).0 does.state (λ some. effect_floor q item some (below_not q.floor item.number some new.0)))
-
 pub answered_does : (dir : Dir) (q : State) (item : Item) (reply : Reply) (puts : List Put) → puts ≡ [] → IsState dir q → Repeats q item.number (Some reply) → Does dir (puts, reply) (step q item)
 answered_does dir q item reply puts none is again =
     let is_step = repeat_is q item reply again in record {
@@ -184,17 +177,6 @@ new_does dir q item done new does = subst (λ (s : State × Reply). Does dir don
 
 pub files_more : (f : Name → Bool) (txn more : List Put) (put : Put) → more ≡ txn ++ put ∷ [] → touches_only f txn ≡ true → f put.name ≡ true → touches_only f more ≡ true
 files_more f txn more put e all one = ap (touches_only f) e ∙ touches_both f txn (put ∷ []) all (and_from (f put.name) true one refl)
-
-pub none_is_some : (n : ℕ) → None ≡ Some n → ⊥
-none_is_some n e = cc
-
-pub asks_none : (o : Option ℕ) → is_some o ≡ false → o ≡ None
-asks_none None e = refl
-asks_none (Some n) e = absurd (let bad : true ≡ false = e in cc)
-
--- the files of the replies are not among the list's puts
-pub replies_left : (dir : Dir) (txn : List Put) (group : ℕ) → touches_only is_of_list txn ≡ true → with_puts dir txn (replies_name group) ≡ dir (replies_name group)
-replies_left dir txn group only = left_alone is_of_list dir txn (replies_name group) only refl
 
 -- the floor behind an item that counts
 pub counted_floor : (q : State) (item : Item) → Repeats q item.number None → item.number ≢ 0 → (effect q item).0.floor ≤ item.number
