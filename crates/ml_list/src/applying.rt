@@ -32,6 +32,8 @@ use std::alloc::{AllocError, Global};
 /// An item whose number isn't 0 and is below the floor is answered `stale`, one whose number has a kept reply is answered
 /// with it, and neither changes anything. The reply of any other item is kept for its number, where that isn't 0.
 /// `Damaged` names a file that the item may read and that is outside its grammar. `Fault` comes only where a read failed.
+///
+/// The item is in its ranges, and so far its act is one that adds, removes, changes the key or raises the floor.
 pub fn apply<F: Files>(alloc: Global, files: F, item: &Item) -> (F, Result<(Txn, Reply), PartError>)
     requires item { IsItem item.now }
     requires applied { IsApplied item.now.act }
