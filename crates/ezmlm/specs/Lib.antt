@@ -1,2 +1,3 @@
 pub mod Commands
+pub mod Spooling
 pub mod Untold

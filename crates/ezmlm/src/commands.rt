@@ -1,15 +1,12 @@
 // The program, over any source, site and clock.
-ghost use Rattle.std.specs.Prelude.{◌≡◌, ◌⊎◌, false, ℕ, List, IsTrue};
-ghost use Rattle.ml_base.specs.Bytes.{Text};
-ghost use Rattle.ml_base.specs.Faults.{Rose};
-ghost use Rattle.ml_plain.specs.declared.Item.{Item as TheItem};
-ghost use Rattle.ml_run.specs.FiveLists.{FiveLists};
-ghost use Rattle.ml_run.specs.Stream.{StreamEnd};
-ghost use Rattle.ml_run.specs.Serving.{Begins};
-ghost use Rattle.ml_run.specs.Running.{NamesDamaged};
-ghost use Rattle.ezmlm.specs.Commands.{texts, IsCommand, is_spool_status, spool_status, Spools, AnswersUsage};
+ghost use Rattle.std.specs.Prelude.{◌≡◌, ◌∷◌, []};
+ghost use Rattle.ml_config.specs.MakeWords.{make_of};
+ghost use Rattle.ezmlm.specs.Commands.{texts, spool_of, named_of, command_of, spool_status, Spools, MakesAsked, Does};
+ghost use Rattle.ezmlm.specs.Spooling.{asked_by};
 
-use ml_run::{Why, run, stop_line};
+use ml_base::number_within;
+use ml_config::{ConfigError, config_from_words};
+use ml_run::{Why, make, run, stop};
 use ml_site::{Clock, Site, Source};
 use std::alloc::Global;
 
@@ -17,10 +14,11 @@ const MOST_ITEMS: u64 = 1_000_000;
 
 /// Does what the words say, and answers the exit status and the site. The words are those behind the list's folder.
 ///
-/// `spool` answers the items of the input, at most 1,000,000 of them: 0 where the input was read to its end, else a
-/// stop line tells why not, with the status 65, 71, 72, 74, 75 or 111. Other words are no command: 64, and no call on the
-/// disk is made, nor is the input read. The status is 73 where the output failed. Nothing is written but answer lines and
-/// one stop line.
+/// `spool` answers the items of the input, at most 1,000,000 of them, or as many as the word behind `-m` says: 0 where the
+/// input was read to its end, else a stop line tells why not, with the status 65, 71, 72, 74, 75 or 111. `make` makes a list and
+/// tells so, or a stop line tells why not, with the status 71, 75, 100 or 111. A count that is none is status 65 `words`; other
+/// words are no command: 64. With these no call on the disk is made, nor is the input read. The status is 73 where the output
+/// failed. Nothing is written but answer lines, the line of `make`, and one stop line.
 pub fn ezmlm_main<I: Source, S: Site, K: Clock>(
     alloc: Global,
     words: &[String],
@@ -28,52 +26,87 @@ pub fn ezmlm_main<I: Source, S: Site, K: Clock>(
     site: S,
     _clock: &mut K,
 ) -> (u8, S)
-    ensures spools { IsTrue S.tells_all → IsCommand (texts words.now) → (items : List TheItem) (ending : StreamEnd) (p : FiveLists) (out : Text) →
-        Begins (I.left input.old) (S.disk site).reads.files (S.output site) items ending p out →
-        Spools result.0 (S.disk result.1).reads.files (S.output result.1) items ending p out }
-    ensures command { IsCommand (texts words.now) → IsTrue (is_spool_status result.0) }
-    ensures usage { IsTrue S.tells_all → ¬ IsCommand (texts words.now) → AnswersUsage result.0 (S.output site) (S.output result.1) }
-    ensures no_command { ¬ IsCommand (texts words.now) → (result.0 ≡ 64) ⊎ (result.0 ≡ 73) }
-    ensures no_call { ¬ IsCommand (texts words.now) → S.disk_calls result.1 ≡ S.disk_calls site }
-    ensures no_disk { ¬ IsCommand (texts words.now) → S.disk_faults result.1 ≡ S.disk_faults site }
-    ensures no_change { IsTrue S.tells_all → ¬ IsCommand (texts words.now) → S.disk result.1 ≡ S.disk site }
-    ensures no_input { ¬ IsCommand (texts words.now) → input.new ≡ input.old }
-    ensures output { result.0 ≡ 73 → Rose (S.output_faults site) (S.output_faults result.1) }
-    ensures input { result.0 ≡ 74 → Rose (I.faults input.old) (I.faults input.new) }
-    ensures disk { result.0 ≡ 111 → Rose (S.disk_faults site) (S.disk_faults result.1) }
-    ensures damaged { IsTrue S.tells_all → result.0 ≡ 75 → NamesDamaged (S.disk result.1).reads.files (S.output result.1) }
+    ensures does { Does ⟦<I as Source>⟧ ⟦<S as Site>⟧ (command_of (texts words.now)) input.old input.new site result.1 result.0 }
     ensures clock { _clock.new ≡ _clock.old }
 {
-    if is_spool(words) {
-        spool(alloc, input, site)
-    } else {
-        refuse(site)
+    match words {
+        [name, rest @ ..] => named(alloc, name.as_str(), rest, input, site),
+        [] => stop(site, Why::Usage),
     }
 }
 
-// Whether the words are `spool` alone.
-fn is_spool(words: &[String]) -> bool
-    ensures yes { IsTrue result → IsCommand (texts words.now) }
-    ensures no { result ≡ false → ¬ IsCommand (texts words.now) }
+// Does what words ask for that begin with this one.
+fn named<I: Source, S: Site>(
+    alloc: Global,
+    name: &str,
+    rest: &[String],
+    input: &mut I,
+    site: S,
+) -> (u8, S)
+    ensures { Does ⟦<I as Source>⟧ ⟦<S as Site>⟧ (named_of name.now (texts rest.now)) input.old input.new site result.1 result.0 }
+{
+    if name == "spool" {
+        spool_words(alloc, rest, input, site)
+    } else if name == "make" {
+        make_words(alloc, rest, site)
+    } else {
+        stop(site, Why::Usage)
+    }
+}
+
+// What the words behind `spool` say: how many items a stream may have, or that a word holds no such number, or that they are
+// no words of it.
+#[derive(Clone, Copy)]
+enum Limit {
+    Items(u64),
+    BadWord,
+    NoCommand,
+}
+
+// Does what the words behind `spool` ask for.
+fn spool_words<I: Source, S: Site>(
+    alloc: Global,
+    words: &[String],
+    input: &mut I,
+    site: S,
+) -> (u8, S)
+    ensures { Does ⟦<I as Source>⟧ ⟦<S as Site>⟧ (spool_of (texts words.now)) input.old input.new site result.1 result.0 }
+{
+    match read_limit(words) {
+        Limit::Items(limit) => spool(alloc, limit, input, site),
+        Limit::BadWord => stop(site, Why::Words),
+        Limit::NoCommand => stop(site, Why::Usage),
+    }
+}
+
+fn read_limit(words: &[String]) -> Limit
+    ensures { asked_by result ≡ spool_of (texts words.now) }
 {
     match words {
-        [word] => word.as_str() == "spool",
-        _ => false,
+        [] => Limit::Items(MOST_ITEMS),
+        [option, count] => counted(option.as_str(), count.as_str()),
+        _ => Limit::NoCommand,
     }
 }
 
-// Answers the items of the input.
-fn spool<I: Source, S: Site>(alloc: Global, input: &mut I, site: S) -> (u8, S)
-    ensures spools { IsTrue S.tells_all → (items : List TheItem) (ending : StreamEnd) (p : FiveLists) (out : Text) →
-        Begins (I.left input.old) (S.disk site).reads.files (S.output site) items ending p out →
-        Spools result.0 (S.disk result.1).reads.files (S.output result.1) items ending p out }
-    ensures statuses { IsTrue (is_spool_status result.0) }
-    ensures output { result.0 ≡ 73 → Rose (S.output_faults site) (S.output_faults result.1) }
-    ensures input { result.0 ≡ 74 → Rose (I.faults input.old) (I.faults input.new) }
-    ensures disk { result.0 ≡ 111 → Rose (S.disk_faults site) (S.disk_faults result.1) }
-    ensures damaged { IsTrue S.tells_all → result.0 ≡ 75 → NamesDamaged (S.disk result.1).reads.files (S.output result.1) }
+// What `-m` and the word behind it say.
+fn counted(option: &str, count: &str) -> Limit
+    ensures { asked_by result ≡ spool_of (option.now ∷ count.now ∷ []) }
 {
-    let (ending, site) = run(alloc, MOST_ITEMS, input, site);
+    if option != "-m" {
+        return Limit::NoCommand;
+    }
+    match number_within(MOST_ITEMS, count.as_bytes()) {
+        Some(0) | None => Limit::BadWord,
+        Some(items) => Limit::Items(items),
+    }
+}
+
+// Answers the items of the input, at most so many.
+fn spool<I: Source, S: Site>(alloc: Global, limit: u64, input: &mut I, site: S) -> (u8, S)
+    ensures { Spools ⟦<I as Source>⟧ ⟦<S as Site>⟧ limit input.old input.new site result.1 result.0 }
+{
+    let (ending, site) = run(alloc, limit, input, site);
     (exit_status(ending.status), site)
 }
 
@@ -84,19 +117,13 @@ fn exit_status(status: u8) -> u8
     if status == 100 { 0 } else { status }
 }
 
-// Tells that the words are no command. No call on the disk is made.
-fn refuse<S: Site>(mut site: S) -> (u8, S)
-    ensures status { (result.0 ≡ 64) ⊎ (result.0 ≡ 73) }
-    ensures usage { IsTrue S.tells_all → AnswersUsage result.0 (S.output site) (S.output result.1) }
-    ensures disk_calls { S.disk_calls result.1 ≡ S.disk_calls site }
-    ensures disk_faults { S.disk_faults result.1 ≡ S.disk_faults site }
-    ensures disk { IsTrue S.tells_all → S.disk result.1 ≡ S.disk site }
-    ensures output { result.0 ≡ 73 → Rose (S.output_faults site) (S.output_faults result.1) }
+// Makes the list that the words behind `make` give.
+fn make_words<S: Site>(alloc: Global, words: &[String], site: S) -> (u8, S)
+    ensures { MakesAsked ⟦<S as Site>⟧ (make_of (texts words.now)) site result.1 result.0 }
 {
-    let mut line = [0u8; 64];
-    let len = stop_line(None, 64, Why::Usage, &mut line);
-    match site.give(&line[..len]) {
-        Ok(()) => (64, site),
-        Err(_) => (73, site),
+    match config_from_words(alloc, words) {
+        Ok(made) => make(alloc, &made.0, &made.1, site),
+        Err(ConfigError::Usage) => stop(site, Why::Usage),
+        Err(ConfigError::Memory) => stop(site, Why::Memory),
     }
 }

@@ -8,8 +8,7 @@ mod tests;
 
 use crate::commands::ezmlm_main;
 use crate::real::{RealClock, RealSite, StdSource};
-use ml_run::{Why, stop_line};
-use ml_site::Site;
+use ml_run::{Why, stop};
 use std::env;
 use std::io::{self, ErrorKind};
 use std::process::ExitCode;
@@ -48,11 +47,6 @@ fn run_words(rt: &HostRuntime, words: &[String]) -> ExitCode {
 
 // Tells that memory was wanting before anything was done.
 fn stop_for_memory(rt: &HostRuntime) -> ExitCode {
-    let mut site = RealSite::new(rt, "");
-    let mut line = [0u8; 64];
-    let len = stop_line(None, 71, Why::Memory, &mut line);
-    match site.give(&line[..len]) {
-        Ok(()) => ExitCode::from(71),
-        Err(_) => ExitCode::from(73),
-    }
+    let (status, _) = stop(RealSite::new(rt, ""), Why::Memory);
+    ExitCode::from(status)
 }

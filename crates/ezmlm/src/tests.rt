@@ -1,149 +1,219 @@
 // Whole runs of the program over memory. Each case is run and compared by a function of its own, which a table calls: so
 // little is left to prove of a test.
-ghost use Rattle.std.specs.Prelude.{IsTrue};
-ghost use Rattle.ml_base.specs.Name.{is_file};
-
-mod faults;
-mod grammar;
-mod runs;
-mod sets;
-
 use crate::commands::ezmlm_main;
-use ml_base::{Bytes, Name, Numbers};
-use ml_run::{Ending, run};
-use ml_site::{Image, MemClock, MemSite, MemSource, Site, SiteError};
+use ml_base::{Bytes, Numbers};
+use ml_site::{Image, MemClock, MemSite, MemSource};
 use std::alloc::{AllocError, Global};
 use std::collections::BTreeMap;
 use std::process::Abort;
+
+const KEY: &str = "000102030405060708090a0b0c0d0e0f101112131415161718191a1b1c1d1e1f";
 
 // The elements of each item begin at 0, 1, 5, 19 and 26 of its 32 bytes.
 const A_B: &[u8] = b"A1:7,10:1000000000,4:list,3:a@b,";
 
 const A_B_TWICE: &[u8] = b"A1:7,10:1000000000,4:list,3:a@b,A1:8,10:1000000001,4:list,3:A@B,";
 
-const A_B_C_D: &[u8] = b"A1:7,10:1000000000,4:list,3:a@b,A1:8,10:1000000001,4:list,3:c@d,";
-
-// The file of the subscribers.
-const SUBSCRIBERS: Name = Name { kind: 3, at: 0 };
-
-fn numbers(alloc: Global, items: &[u64]) -> Result<Numbers, AllocError> {
-    Ok(Numbers::from_vec(Vec::from_slice(alloc, items)?))
-}
-
 // A source of these bytes, whose named reads fail.
 fn source(alloc: Global, bytes: &[u8], fail: &[u64]) -> Result<MemSource, AllocError> {
-    let fail = numbers(alloc, fail)?;
+    let fail = Numbers::from_vec(Vec::from_slice(alloc, fail)?);
     Ok(MemSource::new(Bytes::from_slice(alloc, bytes)?, fail))
 }
 
-// A site with these files, whose named calls fail.
-fn site(alloc: Global, files: BTreeMap<Name, Bytes>, fail: &[u64]) -> Result<MemSite, AllocError> {
+// A site without files, whose named calls fail.
+fn empty(alloc: Global, fail: &[u64]) -> Result<MemSite, AllocError> {
     let image = Image {
         log: Bytes::new(alloc),
-        files,
+        files: BTreeMap::new(alloc),
     };
     let mut site = MemSite::new(alloc, image, 1000, 1000)?;
     site.fail(alloc, fail)?;
     Ok(site)
 }
 
-// A site without files, whose named calls fail.
-fn empty(alloc: Global, fail: &[u64]) -> Result<MemSite, AllocError> {
-    site(alloc, BTreeMap::new(alloc), fail)
-}
-
-// A site with one file, whose named calls fail.
-fn with_file(alloc: Global, name: Name, bytes: &[u8], fail: &[u64]) -> Result<MemSite, AllocError> {
-    let mut files = BTreeMap::new(alloc);
-    files.insert(name, Bytes::from_slice(alloc, bytes)?)?;
-    site(alloc, files, fail)
-}
-
-fn owned(alloc: Global, words: &[&str]) -> Result<Vec<String>, AllocError> {
-    let mut owned = Vec::new(alloc);
-    for word in words {
-        owned.push(String::from_str(alloc, word)?)?;
-    }
-    Ok(owned)
-}
-
-// Runs the program with these words, and answers the status and the site.
+// Runs the program with these words on a stream, and answers the status and the site.
 fn command(
     alloc: Global,
     words: &[&str],
     input: &mut MemSource,
     site: MemSite,
 ) -> Result<(u8, MemSite), AllocError> {
-    let words = owned(alloc, words)?;
+    let mut owned = Vec::new(alloc);
+    for word in words {
+        owned.push(String::from_str(alloc, word)?)?;
+    }
     let mut clock = MemClock::new(1_000_000_000, Numbers::new(alloc));
-    Ok(ezmlm_main(alloc, &words, input, site, &mut clock))
+    Ok(ezmlm_main(alloc, &owned, input, site, &mut clock))
 }
 
-// Runs the program on a stream, and answers the status and the site.
-fn spool(alloc: Global, stream: &[u8], site: MemSite) -> Result<(u8, MemSite), AllocError> {
-    command(alloc, &["spool"], &mut source(alloc, stream, &[])?, site)
+// Makes the list `list@ex.org`, and answers the status and the site.
+fn make(alloc: Global, site: MemSite) -> Result<(u8, MemSite), AllocError> {
+    let words = ["make", "--key", KEY, "list", "ex.org", "o@own.org"];
+    command(alloc, &words, &mut source(alloc, b"", &[])?, site)
 }
 
-// Whether the program ends so with these words on a stream, whose named reads fail, over a site.
-fn command_ends(
-    alloc: Global,
-    words: &[&str],
-    input: &mut MemSource,
-    site: MemSite,
-    status: u8,
-    output: &[u8],
-) -> Result<bool, AllocError> {
-    let (found, site) = command(alloc, words, input, site)?;
+// Whether `make` ends so over a site without files, whose named calls fail.
+fn make_ends(alloc: Global, fail: &[u64], status: u8, output: &[u8]) -> Result<bool, AllocError> {
+    let (found, site) = make(alloc, empty(alloc, fail)?)?;
     Ok(found == status && site.output() == output)
 }
 
-// Whether the program ends so on a stream over a site.
-fn ends_over(
+// Whether the program ends so with these words on a stream, whose named reads fail, over a list that was made before.
+fn list_ends(
     alloc: Global,
+    words: &[&str],
     stream: &[u8],
-    site: MemSite,
+    reads: &[u64],
     status: u8,
     output: &[u8],
 ) -> Result<bool, AllocError> {
-    let mut input = source(alloc, stream, &[])?;
-    command_ends(alloc, &["spool"], &mut input, site, status, output)
+    let (_, site) = make(alloc, empty(alloc, &[])?)?;
+    let mut input = source(alloc, stream, reads)?;
+    let (found, site) = command(alloc, words, &mut input, site)?;
+    Ok(
+        found == status
+            && site.output().strip_prefix(b"made list@ex.org\n".as_slice()) == Some(output),
+    )
 }
 
-// Whether the program ends so on a stream over a site without files, whose named calls fail.
-fn ends(
+// Whether the program ends so with these words on the input of one item over a site without files, whose named calls fail.
+fn words_end(
     alloc: Global,
-    stream: &[u8],
+    words: &[&str],
     fail: &[u64],
     status: u8,
     output: &[u8],
 ) -> Result<bool, AllocError> {
-    ends_over(alloc, stream, empty(alloc, fail)?, status, output)
-}
-
-// Whether a run up to a limit ends so over a site.
-fn run_ends(
-    alloc: Global,
-    limit: u64,
-    input: &mut MemSource,
-    site: MemSite,
-    ending: Ending,
-    output: &[u8],
-) -> bool {
-    let (found, site) = run(alloc, limit, input, site);
-    found == ending && site.output() == output
-}
-
-// Whether a file is there and has these bytes.
-fn has_file(alloc: Global, site: &mut MemSite, name: Name, bytes: &[u8]) -> Result<bool, SiteError>
-    requires { IsTrue (is_file name) }
-{
-    match site.read_file(alloc, name)? {
-        Some(found) => Ok(found.as_slice() == bytes),
-        None => Ok(false),
-    }
+    let mut input = source(alloc, A_B, &[])?;
+    let (found, site) = command(alloc, words, &mut input, empty(alloc, fail)?)?;
+    Ok(found == status && site.output() == output)
 }
 
 // Fails the test, and names the row of its table, where a case doesn't hold.
 fn holds(rt: &impl Abort, row: usize, case: bool) {
     assert!(rt; case, "row {row}");
+}
+
+// The streams, and what they are answered.
+const STREAMS: [(&[u8], u8, &[u8]); 8] = [
+    (b"", 0, b""),
+    (A_B, 0, b"7 0 subscribed\n"),
+    (A_B_TWICE, 0, b"7 0 subscribed\n8 0 already\n"),
+    (
+        b"A1:7,10:1000000000,4:list,3:a@b,A1:8,10:1000000001,4:list,3:A@B,A1:9,10:1000000002,4:list,3:a@",
+        65,
+        b"7 0 subscribed\n8 0 already\n- 65 short 90\n",
+    ),
+    (b"Q", 65, b"- 65 bad 0\n"),
+    (
+        b"A1:7,10:1000000000,4:list,3:a@b,T1:8,10:1000000001,",
+        65,
+        b"7 0 subscribed\n- 65 bad 32\n",
+    ),
+    // A number of its own is answered once.
+    (
+        b"A1:7,10:1000000000,4:list,3:a@b,R1:8,10:1000000001,4:list,3:a@b,A1:7,10:1000000002,4:list,3:a@b,R1:9,10:1000000003,4:list,3:a@b,",
+        0,
+        b"7 0 subscribed\n8 0 unsubscribed\n7 0 subscribed\n9 0 absent\n",
+    ),
+    // A floor, and repeats below it in the same group.
+    (
+        b"A1:7,10:1000000000,4:list,3:a@b,F1:0,10:1000000001,1:8,A1:7,10:1000000002,4:list,3:a@b,A1:8,10:1000000003,4:list,3:c@d,",
+        0,
+        b"7 0 subscribed\n0 0 floored 8\n7 100 stale\n8 0 subscribed\n",
+    ),
+];
+
+#[test]
+fn a_stream_is_answered(rt: HostRuntime) -> Result<(), AllocError> {
+    for (row, (stream, status, output)) in STREAMS.iter().enumerate() {
+        let case = list_ends(rt.alloc(), &["spool"], stream, &[], *status, output)?;
+        holds(&rt, row, case);
+    }
+    Ok(())
+}
+
+// The words, the stream, and what it is answered.
+const LIMITS: [(&[&str], &[u8], u8, &[u8]); 5] = [
+    (
+        &["spool", "-m", "2"],
+        A_B_TWICE,
+        0,
+        b"7 0 subscribed\n8 0 already\n",
+    ),
+    (
+        &["spool", "-m", "1"],
+        A_B_TWICE,
+        72,
+        b"7 0 subscribed\n- 72 more\n",
+    ),
+    (&["spool", "-m", "1000000"], A_B, 0, b"7 0 subscribed\n"),
+    (&["spool", "-m", "0"], A_B, 65, b"- 65 words\n"),
+    (&["spool", "-m", "1000001"], A_B, 65, b"- 65 words\n"),
+];
+
+#[test]
+fn a_stream_has_a_limit(rt: HostRuntime) -> Result<(), AllocError> {
+    for (row, (words, stream, status, output)) in LIMITS.iter().enumerate() {
+        let case = list_ends(rt.alloc(), words, stream, &[], *status, output)?;
+        holds(&rt, row, case);
+    }
+    Ok(())
+}
+
+// The reads that fail. An item takes 18: the bytes of letter, lengths, colons and commas one by one, and each content at
+// once.
+const READS: [(&[u64], u8, &[u8]); 4] = [
+    (&[1], 74, b"- 74 input\n"),
+    (&[18], 74, b"- 74 input\n"),
+    (&[19], 74, b"7 0 subscribed\n- 74 input\n"),
+    (&[38], 0, b"7 0 subscribed\n8 0 already\n"),
+];
+
+#[test]
+fn a_failing_input_ends_the_run(rt: HostRuntime) -> Result<(), AllocError> {
+    for (row, (reads, status, output)) in READS.iter().enumerate() {
+        let case = list_ends(rt.alloc(), &["spool"], A_B_TWICE, reads, *status, output)?;
+        holds(&rt, row, case);
+    }
+    Ok(())
+}
+
+const TOLD: &[u8] = b"- 64 usage\n";
+
+// The words, the calls that fail, and what is answered where there is no list.
+const WORDS: [(&[&str], &[u64], u8, &[u8]); 9] = [
+    (&[], &[], 64, TOLD),
+    (&["spol"], &[], 64, TOLD),
+    (&["Spool"], &[], 64, TOLD),
+    (&["spool", "x"], &[], 64, TOLD),
+    (&["spool", "-m", "1", "x"], &[], 64, TOLD),
+    (&["make"], &[], 64, TOLD),
+    (&["spool", "-m", "x"], &[], 65, b"- 65 words\n"),
+    (&["spol"], &[1], 73, b""),
+    (&["spool"], &[], 75, b"- 75 nolist\n"),
+];
+
+#[test]
+fn words_that_are_no_command_are_told_so(rt: HostRuntime) -> Result<(), AllocError> {
+    for (row, (words, fail, status, output)) in WORDS.iter().enumerate() {
+        holds(
+            &rt,
+            row,
+            words_end(rt.alloc(), words, fail, *status, output)?,
+        );
+    }
+    Ok(())
+}
+
+#[test]
+fn a_list_is_made_once(rt: HostRuntime) -> Result<(), AllocError> {
+    let alloc = rt.alloc();
+    holds(&rt, 0, make_ends(alloc, &[], 0, b"made list@ex.org\n")?);
+    holds(&rt, 1, make_ends(alloc, &[1], 111, b"- 111 disk\n")?);
+    let (_, site) = make(alloc, empty(alloc, &[])?)?;
+    let (status, site) = make(alloc, site)?;
+    let output = b"made list@ex.org\n- 100 there\n".as_slice();
+    holds(&rt, 2, status == 100 && site.output() == output);
+    Ok(())
 }

@@ -7,13 +7,14 @@ use Rattle.std.proofs.Math.Seq.{take-append_seam, drop-append_seam}
 use Rattle.ml_run.specs.declared.stream.StreamError.{StreamError}
 use Rattle.ml_run.specs.declared.stream.StreamError.TheVariants.{Bad, Short, Fault, Memory}
 use Rattle.ml_run.specs.Reading.{Stands, Tells}
-use Rattle.ml_run.specs.Stream.{Got, Read, got, and_then, length_at, bytes_at, content_at, comma_at, closed, element_at, add_at, act_at, elements_at, item_at, item_number_of, moment_of, letter_of, behind_letter, some_item}
+use Rattle.ml_run.specs.Stream.{Got, Read, got, and_then, length_at, bytes_at, content_at, comma_at, closed, element_at, floor_of, key_of, member_at, floor_at, rekey_at, act_at, elements_at, item_at, item_number_of, moment_of, letter_of, behind_letter, some_item}
 use Rattle.ml_run.specs.declared.reader.Letter.{Letter}
 use Rattle.ml_base.specs.declared.names.Set.{Set}
+use Rattle.ml_base.specs.Bytes.{Text}
 use Rattle.ml_base.specs.Name.{set_of}
 use Rattle.ml_base.specs.Address.{address_of}
 use Rattle.ml_plain.specs.declared.Act.{Act}
-use Rattle.ml_plain.specs.declared.Act.TheVariants.{Add}
+use Rattle.ml_plain.specs.declared.Act.TheVariants.{Floor, Rekey}
 use Rattle.ml_plain.specs.declared.Item.{Item}
 use Rattle.ml_run.proofs.Bytewise.{Fills}
 
@@ -90,13 +91,19 @@ item_ok letter p p1 p2 p3 bs r1 r2 r3 number moment act a b d =
     ∙ ap (λ r. and_then r (λ moment. and_then (act_at letter moment.place moment.rest) (λ act. got (record { number = number; moment = moment.value; act = act.value }) act.place act.rest))) b
     ∙ ap (λ r. and_then r (λ act. got (record { number = number; moment = moment; act = act.value }) act.place act.rest)) d
 
-pub add_ok : (p p1 p2 : ℕ) (bs r1 r2 : List ℕ) (set : Set) (who : List ℕ)
+pub member_ok : (act : Set → Text → Act) (p p1 p2 : ℕ) (bs r1 r2 : List ℕ) (set : Set) (who : List ℕ)
     → element_at 6 set_of p bs ≡ got set p1 r1
     → element_at 400 address_of p1 r1 ≡ got who p2 r2
-    → add_at p bs ≡ got (Add set who) p2 r2
-add_ok p p1 p2 bs r1 r2 set who a b =
-    ap (λ r. and_then r (λ set. and_then (element_at 400 address_of set.place set.rest) (λ who. got (Add set.value who.value) who.place who.rest))) a
-    ∙ ap (λ r. and_then r (λ who. got (Add set who.value) who.place who.rest)) b
+    → member_at act p bs ≡ got (act set who) p2 r2
+member_ok act p p1 p2 bs r1 r2 set who a b =
+    ap (λ r. and_then r (λ set. and_then (element_at 400 address_of set.place set.rest) (λ who. got (act set.value who.value) who.place who.rest))) a
+    ∙ ap (λ r. and_then r (λ who. got (act set who.value) who.place who.rest)) b
+
+pub floor_ok : (p p1 : ℕ) (bs r1 : List ℕ) (at : ℕ) → element_at 12 floor_of p bs ≡ got at p1 r1 → floor_at p bs ≡ got (Floor at) p1 r1
+floor_ok p p1 bs r1 at a = ap (λ r. and_then r (λ at. got (Floor at.value) at.place at.rest)) a
+
+pub rekey_ok : (p p1 : ℕ) (bs r1 : List ℕ) (key : List ℕ) → element_at 64 key_of p bs ≡ got key p1 r1 → rekey_at p bs ≡ got (Rekey key) p1 r1
+rekey_ok p p1 bs r1 key a = ap (λ r. and_then r (λ key. got (Rekey key.value) key.place key.rest)) a
 
 pub item_letter : (p place b : ℕ) (letter : Letter) (rest : List ℕ) → letter_of b ≡ Some letter → place ≡ p + 1 → item_at p (b ∷ rest) ≡ and_then (elements_at letter place rest) some_item
 item_letter p place b letter rest e is =

@@ -2,13 +2,18 @@ pub mod Filling
 pub mod Bytewise
 pub mod Elements
 pub mod Written
-pub mod Records
-pub mod Members
-pub mod AddedMembers
-pub mod States
-pub mod Answering
-pub mod Served
-pub mod Ended
 pub mod Streams
 pub mod Spelled
-mod Examples
+pub mod Ahead
+pub mod LaidPuts
+pub mod Grouping
+pub mod Leaving
+pub mod Served
+pub mod Spent
+pub mod Causes
+pub mod Rounds
+pub mod Whole
+pub mod Opening
+pub mod Named
+pub mod MadeLists
+pub mod Missing

@@ -1,183 +1,284 @@
--- A stream item by item, and what its first items leave.
-use Rattle.std.proofs.Common.{◌≡◌, inl, inr, ℕ, suc, zero, ◌+◌, ◌<◌, ◌≤◌, Bool, true, false, not, List, [], ◌∷◌, ◌++◌, length, take, drop, Option, Some, None, Result, Ok, Err, ap, sym, refl, subst, ◌∙◌, arith, append_assoc, append-nil, length-drop}
-use Rattle.std.proofs.lemmas.List.{take_all}
-use Rattle.std.specs.List.{slice_get}
-use Rattle.ml_base.specs.Bytes.{Text, is_empty}
+-- A run group by group, and its end.
+use Rattle.std.proofs.Common.{◌≡◌, ◌⊎◌, inl, inr, ⊎_elim, ℕ, ◌≤◌, IsTrue, List, [], ◌∷◌, ◌++◌, length, take, drop, Option, Some, None, ap, sym, refl, subst, ◌∙◌, arith, append_assoc, length-append}
+use Rattle.std.proofs.lemmas.List.{take_all, length-take, take-append-drop}
+use Rattle.ml_base.specs.Bytes.{Text}
+use Rattle.ml_base.specs.Faults.{Rose}
+use Rattle.ml_base.specs.Dir.{Dir, with_puts}
+use Rattle.ml_base.specs.declared.puts.Put.{Put}
+use Rattle.ml_site.specs.Disk.{Contents, Disk, IsImage, Giving}
+use Rattle.ml_site.specs.Moments.{LeavesOnly}
+use Rattle.ml_site.specs.declared.site.Site.{Ghosts}
+use Rattle.ml_site.proofs.Steps.{joins, goes_on}
+use Rattle.ml_journal.specs.Log.{directory}
+use Rattle.ml_journal.specs.Moments.{with_txn, IsOld}
+use Rattle.ml_journal.specs.Kept.{IsStill}
+use Rattle.ml_journal.specs.Stores.{the_dir}
 use Rattle.ml_plain.specs.declared.Item.{Item}
-use Rattle.ml_run.specs.FiveLists.{FiveLists, step0, fold, text}
-use Rattle.ml_plain.specs.Replies.{line, status_of}
-use Rattle.ml_run.specs.declared.reader.Letter.{Letter}
-use Rattle.ml_run.specs.declared.stream.StreamError.{StreamError}
-use Rattle.ml_run.specs.declared.stream.StreamError.TheVariants.{Bad, Short, Fault, Memory}
-use Rattle.ml_run.specs.declared.answers.ItemStop.{ItemStop}
-use Rattle.ml_run.specs.declared.looping.Stop.TheVariants as stops
-use Rattle.ml_run.specs.Stream.{Read, got, and_then, StreamEnd, End, Broken, IsStream, item_at, behind_letter, letter_of, elements_at, some_item}
-use Rattle.ml_run.specs.Reading.{Tells}
-use Rattle.ml_run.specs.SetFile.{Files, IsState}
-use Rattle.ml_run.specs.Answers.{ItemGives}
-use Rattle.ml_run.specs.Serving.{Answered, HasMore, Refused, Serves, last_from, last_status, stop_of_stream}
+use Rattle.ml_plain.specs.Directory.{IsState}
+use Rattle.ml_plain.specs.Histories.{State, fold, text, last_from}
+use Rattle.ml_list.proofs.States.{fold-append, text-append}
+use Rattle.ml_run.specs.declared.lines.Why.{Why}
+use Rattle.ml_run.specs.declared.lines.Why.TheVariants as whys
+use Rattle.ml_run.specs.Lines.{stop_text}
+use Rattle.ml_run.specs.Stops.{status_of_why}
+use Rattle.ml_run.specs.Stream.{StreamEnd, End}
+use Rattle.ml_run.specs.Groups.{IsNumberOf}
+use Rattle.ml_journal.specs.Calls.{Leaves, IsClean}
+use Rattle.ml_run.specs.Leaving.{HasState, IsAfterSome, Reached, IsSettling, IsServed, IsLeft}
+use Rattle.ml_run.specs.Endings.{StopLine, Runs, Says, who_of, IsMemory, ClosesTo, Finishes, IsLine}
+use Rattle.ml_run.proofs.Leaving.{same_state, other_list, txn_state, some_answered, settling, reached_none, reached_some, saying}
 
-abbrev ItemRead : Type 0
-ItemRead = Read (Option Item)
+module _ {S : Type 0} (told : Ghosts S) where
+  -- the moments of a group that was read, and of its commit and answers
+  pub settling_moments : (start old read new : S) (q : State) (items done more rest : List Item) (txn : List Put) (lines : Text) (reads : IsTrue told.tells_all → IsTrue told.tells_reads)
+      → IsServed told start old q items done (more ++ rest) → (IsTrue told.tells_reads → (told.disk read).reads ≡ (told.disk old).reads)
+      → (IsTrue told.tells_all → told.output read ≡ told.output old) → Leaves told old read (IsStill told old)
+      → IsState (with_puts (the_dir (directory (told.disk old).reads)) txn) (fold (fold q done) more) → lines ≡ text (fold q done) more
+      → Leaves told read new (IsSettling (directory (told.disk read).reads) txn lines (told.output read)) → Leaves told start new (IsAfterSome q items (told.output start))
+  settling_moments start old read new q items done more rest txn lines reads s same put still stands is time t =
+      let dir = directory (told.disk old).reads in
+      let before = told.output start in
+      let now : directory (told.disk read).reads ≡ dir = ap directory (same (reads t)) in
+      let one = joins told.moment told.left_since told.disk told.output start old read (IsAfterSome q items before) (IsStill told old) (IsAfterSome q items before) (s.moments t) (still t) (λ left out p. p)
+      (λ left out p. some_answered q items done (more ++ rest) before out left s.split (same_state dir (directory left) (fold q done) (ap directory p.0) s.state) (p.1 ∙ s.put t)) in
+      joins told.moment told.left_since told.disk told.output start read new (IsAfterSome q items before) (IsSettling (directory (told.disk read).reads) txn lines (told.output read)) (IsAfterSome q items before) one (time t) (λ left out p. p)
+      (λ left out p. settling q items done more rest before (told.output read) (directory (told.disk read).reads) txn lines left out s.split (same_state dir (directory (told.disk read).reads) (fold q done) now s.state)
+      (subst (λ (d : _). IsState (with_puts (the_dir d) txn) (fold (fold q done) more)) (sym now) stands) is (put t ∙ s.put t) p)
 
--- the parts of what was read, and others where nothing was
-value_of : ItemRead → Option Item
-value_of (Ok found) = found.value
-value_of (Err e) = None
+  -- a group was committed and answered
+  pub settled : (start old read new : S) (q : State) (items done more rest : List Item) (txn : List Put) (lines : Text) (reads : IsTrue told.tells_all → IsTrue told.tells_reads) → IsTrue told.tells_reads
+      → IsServed told start old q items done (more ++ rest) → (IsTrue told.tells_reads → (told.disk read).reads ≡ (told.disk old).reads)
+      → (IsTrue told.tells_all → told.output read ≡ told.output old) → Leaves told old read (IsStill told old)
+      → IsState (with_puts (the_dir (directory (told.disk old).reads)) txn) (fold (fold q done) more) → lines ≡ text (fold q done) more
+      → directory (told.disk new).reads ≡ with_txn txn (directory (told.disk read).reads) → (IsTrue told.tells_all → told.output new ≡ told.output read ++ lines)
+      → Leaves told read new (IsSettling (directory (told.disk read).reads) txn lines (told.output read)) → IsServed told start new q items (done ++ more) rest
+  settled start old read new q items done more rest txn lines reads r s same put still stands is committed answered time = record {
+    split = s.split ∙ sym (append_assoc done more rest);
+    state = other_list (directory (told.disk new).reads) (fold (fold q done) more) (fold q (done ++ more)) (sym (fold-append q done more))
+        (txn_state (directory (told.disk old).reads) (directory (told.disk new).reads) txn (fold q done) (fold (fold q done) more) (committed ∙ ap (λ (c : Contents). with_txn txn (directory c)) (same r)) s.state stands);
+    put = λ t. answered t ∙ ap (λ (o : Text). o ++ lines) (put t ∙ s.put t) ∙ ap (λ (l : Text). (told.output start ++ text q done) ++ l) is
+        ∙ append_assoc (told.output start) (text q done) (text (fold q done) more) ∙ ap (λ (l : Text). told.output start ++ l) (sym (text-append q done more));
+    moments = settling_moments start old read new q items done more rest txn lines reads s same put still stands is time;
+  }
 
-place_of : ItemRead → ℕ
-place_of (Ok found) = found.place
-place_of (Err e) = 0
+  -- how a directory may be whose commit was refused
+  pub reached_any : (old : Option Dir) (left : Contents) (q : State) (done more rest : List Item) (txn : List Put) → HasState old (fold q done) → IsState (with_puts (the_dir old) txn) (fold (fold q done) more)
+      → (directory left ≡ old) ⊎ (directory left ≡ with_txn txn old) → Reached q done (more ++ rest) left
+  reached_any old left q done more rest txn state stands any = ⊎_elim
+      (λ e. reached_none q done (more ++ rest) left (same_state old (directory left) (fold q done) e state))
+      (λ e. reached_some q done more rest left (other_list (directory left) (fold (fold q done) more) (fold q (done ++ more)) (sym (fold-append q done more)) (txn_state old (directory left) txn (fold q done) (fold (fold q done) more) e state stands)))
+      any
 
-rest_of : ItemRead → Text
-rest_of (Ok found) = found.rest
-rest_of (Err e) = []
+  -- which of the two an image is in the course of a commit
+  pub any_of : (old : Option Dir) (txn : List Put) (lines output : Text) (left : Contents) (out : Text) → IsSettling old txn lines output left out → (directory left ≡ old) ⊎ (directory left ≡ with_txn txn old)
+  any_of old txn lines output left out s = ⊎_elim (λ e. inl e.0) (λ e. inr e.0) s
 
-some_none : (i : Item) → Some i ≡ None → ⊥
-some_none i e = cc
+  -- a commit was refused
+  pub left_after : (start old read new : S) (q : State) (items done more rest : List Item) (txn : List Put) (lines : Text) (reads : IsTrue told.tells_all → IsTrue told.tells_reads) → IsTrue told.tells_reads
+      → IsServed told start old q items done (more ++ rest) → (IsTrue told.tells_reads → (told.disk read).reads ≡ (told.disk old).reads)
+      → (IsTrue told.tells_all → told.output read ≡ told.output old) → Leaves told old read (IsStill told old)
+      → IsState (with_puts (the_dir (directory (told.disk old).reads)) txn) (fold (fold q done) more) → lines ≡ text (fold q done) more
+      → (directory (told.disk new).reads ≡ directory (told.disk read).reads) ⊎ (directory (told.disk new).reads ≡ with_txn txn (directory (told.disk read).reads))
+      → (IsTrue told.tells_all → told.output new ≡ told.output read)
+      → Leaves told read new (IsSettling (directory (told.disk read).reads) txn lines (told.output read)) → IsLeft told start new q items done (more ++ rest)
+  left_after start old read new q items done more rest txn lines reads r s same put still stands is any quiet time =
+      let dir = directory (told.disk old).reads in
+      let now : directory (told.disk read).reads ≡ dir = ap directory (same r) in
+      let state : HasState (directory (told.disk read).reads) (fold q done) = same_state dir (directory (told.disk read).reads) (fold q done) now s.state in
+      let over : IsState (with_puts (the_dir (directory (told.disk read).reads)) txn) (fold (fold q done) more) = subst (λ (d : Option Dir). IsState (with_puts (the_dir d) txn) (fold (fold q done) more)) (sym now) stands in record {
+        split = s.split;
+        reached = reached_any (directory (told.disk read).reads) (told.disk new).reads q done more rest txn state over any;
+        images = λ t left image. reached_any (directory (told.disk read).reads) left q done more rest txn state over
+            (any_of (directory (told.disk read).reads) txn lines (told.output read) left (told.output new) ((time t).now left image));
+        put = λ t. quiet t ∙ put t ∙ s.put t;
+        moments = settling_moments start old read new q items done more rest txn lines reads s same put still stands is time;
+      }
 
-some_same : (i j : Item) → Some i ≡ Some j → i ≡ j
-some_same i j e = cc
+  -- some front of the line is out
+  pub says_front : (old new : S) (status : ℕ) (who : Option ℕ) (why : Why) → Says told old new status who why → IsTrue told.tells_all → (n : ℕ) × (told.output new ≡ told.output old ++ take n (stop_text who (status_of_why why) why))
+  says_front old new status who why s t =
+      let line = stop_text who (status_of_why why) why in
+      ⊎_elim (λ whole. (length line, whole.1 t ∙ ap (λ (l : Text). told.output old ++ l) (sym (take_all (length line) line (omega arith))))) (λ cut. cut.2 t) s.line
 
-err_ok : {X Y : Type 0} (x : X) (y : Y) → ◌≡◌ {A = Result Y X} (Err x) (Ok y) → ⊥
-err_ok x y e = cc
+  -- the moments of a stop line
+  pub said_moments : (start mid new : S) (q : State) (items done behind : List Item) (status : ℕ) (who : Option ℕ) (why : Why) → IsLeft told start mid q items done behind → IsNumberOf who behind → Says told mid new status who why
+      → Leaves told start new (IsAfterSome q items (told.output start))
+  said_moments start mid new q items done behind status who why l number s t =
+      let line = stop_text who (status_of_why why) why in
+      goes_on told.moment told.left_since told.disk told.output start mid new (IsAfterSome q items (told.output start)) (Giving (told.disk mid) (told.output mid) line) (l.moments t) (s.time t)
+      (λ left out g. saying q items done behind (told.output start) out line left who why g.1.0 l.split (l.images t left g.0) number refl (g.1.1 ∙ ap (λ (o : Text). o ++ take g.1.0 line) (l.put t)))
+      (λ left image. (subst (λ (d : Disk). IsImage d left) (s.disk_is t) image, says_front mid new status who why s t))
 
-pub stream_end : (place p : ℕ) (bs r : Text) (items : List Item) (ending : StreamEnd) → IsStream place bs items ending → item_at place bs ≡ got None p r → (items ≡ []) × (ending ≡ End)
-unfolding value_of
-stream_end place p bs r [] End h e = (refl, refl)
-stream_end place p bs r [] (Broken x) h e = absurd (err_ok x _ (sym h ∙ e))
-stream_end place p bs r (i ∷ is) ending h e = absurd (some_none i (ap value_of (sym h.2 ∙ e)))
+  -- once the store is closed, the same items are done and answered
+  pub closed_left : (start now mid : S) (q : State) (items done behind : List Item) → IsTrue told.tells_reads → IsServed told start now q items done behind
+      → (IsTrue told.tells_reads → directory (told.disk mid).reads ≡ directory (told.disk now).reads) → (IsTrue told.tells_all → told.output mid ≡ told.output now)
+      → Leaves told now mid (IsOld (directory (told.disk now).reads) (told.output now)) → IsLeft told start mid q items done behind
+  closed_left start now mid q items done behind r s same put time =
+      let dir = directory (told.disk now).reads in record {
+        split = s.split;
+        reached = reached_none q done behind (told.disk mid).reads (same_state dir (directory (told.disk mid).reads) (fold q done) (same r) s.state);
+        images = λ t left image. reached_none q done behind left (same_state dir (directory left) (fold q done) ((time t).now left image).0 s.state);
+        put = λ t. put t ∙ s.put t;
+        moments = λ t. joins told.moment told.left_since told.disk told.output start now mid (IsAfterSome q items (told.output start)) (IsOld dir (told.output now)) (IsAfterSome q items (told.output start)) (s.moments t) (time t)
+            (λ left out p. p) (λ left out p. some_answered q items done behind (told.output start) out left s.split (same_state dir (directory left) (fold q done) p.0 s.state) (p.1 ∙ s.put t));
+      }
 
-broken_same : (x y : StreamError) → ◌≡◌ {A = ItemRead} (Err x) (Err y) → y ≡ x
-broken_same x y e = cc
+-- what a line says where the close was refused keeps its number
+pub closes_who : (line final : StopLine) (rest disk : Type 0) (who : Option ℕ) (why : Why) → ClosesTo line final rest disk → final ≡ Some (who, why) → who ≡ who_of line
+closes_who line final rest disk who why c is = ⊎_elim (λ same. ap who_of (sym is ∙ same.0)) (λ more. ⊎_elim (λ same. ap who_of (sym is ∙ same.0)) (λ other. ⊎_elim (λ m. ap who_of (sym is ∙ m.0)) (λ d. ap who_of (sym is ∙ d.0)) other) more) c
 
-pub stream_err : (place : ℕ) (bs : Text) (x : StreamError) (items : List Item) (ending : StreamEnd) → IsStream place bs items ending → item_at place bs ≡ Err x → (items ≡ []) × (ending ≡ Broken x)
-stream_err place bs x [] End h e = absurd (err_ok x _ (sym e ∙ h))
-stream_err place bs x [] (Broken y) h e = (refl, ap Broken (broken_same x y (sym e ∙ h)))
-stream_err place bs x (i ∷ is) ending h e = absurd (err_ok x _ (sym e ∙ h.2))
+-- a line begins with the number of what is behind, or `-`
+pub line_number : (line : StopLine) (input : Type 0) (limit : ℕ) (held : Contents) (all : List Item) (ending : StreamEnd) (q : State) (done behind : List Item) → IsLine line input limit held all ending q done behind → IsNumberOf (who_of line) behind
+line_number None input limit held all ending q done behind l = tt
+line_number (Some (who, whys.Bad at)) input limit held all ending q done behind l = subst (λ (o : Option ℕ). IsNumberOf o behind) (sym l.0) tt
+line_number (Some (who, whys.Short at)) input limit held all ending q done behind l = subst (λ (o : Option ℕ). IsNumberOf o behind) (sym l.0) tt
+line_number (Some (who, whys.More)) input limit held all ending q done behind l = subst (λ (o : Option ℕ). IsNumberOf o behind) (sym l.0) tt
+line_number (Some (who, whys.Input)) input limit held all ending q done behind l = subst (λ (o : Option ℕ). IsNumberOf o behind) (sym l.0) tt
+line_number (Some (who, whys.Memory)) input limit held all ending q done behind l = l
+line_number (Some (who, whys.Disk)) input limit held all ending q done behind l = l.0
+line_number (Some (who, whys.Usage)) input limit held all ending q done behind l = absurd l
+line_number (Some (who, whys.Words)) input limit held all ending q done behind l = absurd l
+line_number (Some (who, whys.Long)) input limit held all ending q done behind l = absurd l
+line_number (Some (who, whys.Clock)) input limit held all ending q done behind l = absurd l
+line_number (Some (who, whys.NoList)) input limit held all ending q done behind l = absurd l
+line_number (Some (who, whys.At name)) input limit held all ending q done behind l = absurd l
+line_number (Some (who, whys.There)) input limit held all ending q done behind l = absurd l
+line_number (Some (who, whys.Absent)) input limit held all ending q done behind l = absurd l
 
-pub stream_item : (place p : ℕ) (bs r : Text) (i : Item) (items : List Item) (ending : StreamEnd) → IsStream place bs items ending → item_at place bs ≡ got (Some i) p r → (later : List Item) × (items ≡ i ∷ later) × IsStream p r later ending
-unfolding value_of place_of rest_of
-stream_item place p bs r i [] End h e = absurd (some_none i (ap value_of (sym e ∙ h)))
-stream_item place p bs r i [] (Broken x) h e = absurd (err_ok x _ (sym h ∙ e))
-stream_item place p bs r i (j ∷ js) ending h e =
-    let same = sym h.2 ∙ e in (
-      js,
-      ap (λ k. k ∷ js) (some_same j i (ap value_of same)),
-      subst (λ q. IsStream q r js ending) (ap place_of same) (subst (λ q. IsStream h.0 q js ending) (ap rest_of same) h.3),
-    )
-
--- bytes begin an item or are bad: they are no end
-no_end : (place p : ℕ) (b : ℕ) (bs r : Text) (o : Option Letter) → behind_letter place o bs ≡ got None p r → ⊥
-unfolding value_of
-no_end place p b bs r None e = err_ok (Bad place) _ e
-no_end place p b bs r (Some letter) e = go (elements_at letter (place + 1) bs) e
+none_behind : (limit : ℕ) (all done behind : List Item) → take limit all ≡ done ++ behind → limit ≤ length done → behind ≡ []
+none_behind limit all done behind split le = empty behind (omega (arith, ap length split, length-append done behind, length-take limit all, le))
   where
-    go : (x : Read Item) → and_then x some_item ≡ got None p r → ⊥
-    go (Ok found) h = some_none found.value (ap value_of h)
-    go (Err x) h = err_ok x _ h
+    empty : (l : List Item) → length l ≡ 0 → l ≡ []
+    empty [] e = refl
+    empty (x ∷ l) e = absurd (omega (arith, e))
 
--- whether bytes are left decides whether items or a bad element are
-pub more_left : (place n : ℕ) (bs : Text) (items : List Item) (ending : StreamEnd) → IsStream place bs (drop n items) ending → n ≤ length items → is_empty bs ≡ false → HasMore n items ending
-more_left place n bs items ending s le some = go (drop n items) refl s
+all_done : (limit : ℕ) (all done behind : List Item) → take limit all ≡ done ++ behind → done ≡ all → behind ≡ []
+all_done limit all done behind split is = empty behind (omega (arith, ap length split, length-append done behind, length-take limit all, ap length is))
   where
-    bytes : (bs : Text) → is_empty bs ≡ false → item_at place bs ≡ got None place [] → ⊥
-    bytes [] e h = cc
-    bytes (b ∷ bs) e h = no_end place place b bs [] (letter_of b) h
+    empty : (l : List Item) → length l ≡ 0 → l ≡ []
+    empty [] e = refl
+    empty (x ∷ l) e = absurd (omega (arith, e))
 
-    go : (later : List Item) → drop n items ≡ later → IsStream place bs later ending → HasMore n items ending
-    go [] e h = inr (λ is. bytes bs some (subst (λ (x : StreamEnd). IsStream place bs [] x) is h))
-    go (i ∷ is) e h = inl (omega (arith, ap length e, length-drop n items))
+some_not_none : (n : ℕ) → Some n ≡ None → ⊥
+some_not_none n e = cc
 
-pub none_left : (place n : ℕ) (bs : Text) (items : List Item) (ending : StreamEnd) → IsStream place bs (drop n items) ending → n ≤ length items → is_empty bs ≡ true → (ending ≡ End) × (n ≡ length items)
-none_left place n bs items ending s le none =
-    let e = stream_end place place bs [] (drop n items) ending s (ap (item_at place) (nothing bs none)) in
-    (e.1, none_dropped n items e.0 le)
-  where
-    nothing : (bs : Text) → is_empty bs ≡ true → bs ≡ []
-    nothing [] e = refl
-    nothing (b ∷ bs) e = cc
+-- a line without a number, which says nothing of memory, stands behind all items, or the source failed
+pub line_dash : (line : StopLine) (input : Type 0) (limit : ℕ) (held : Contents) (all : List Item) (ending : StreamEnd) (q : State) (done behind : List Item) → take limit all ≡ done ++ behind → (IsMemory line → ⊥)
+    → IsLine line input limit held all ending q done behind → who_of line ≡ None → (done ≡ []) ⊎ ((behind ≡ []) ⊎ input)
+line_dash None input limit held all ending q done behind split other l who = inr (inl (all_done limit all done behind split l.1))
+line_dash (Some (w, whys.Bad at)) input limit held all ending q done behind split other l who = inr (inl (all_done limit all done behind split l.1))
+line_dash (Some (w, whys.Short at)) input limit held all ending q done behind split other l who = inr (inl (all_done limit all done behind split l.1))
+line_dash (Some (w, whys.More)) input limit held all ending q done behind split other l who = inr (inl (none_behind limit all done behind split (omega (arith, l.1))))
+line_dash (Some (w, whys.Input)) input limit held all ending q done behind split other l who = inr (inr l.1)
+line_dash (Some (w, whys.Memory)) input limit held all ending q done behind split other l who = absurd (other refl)
+line_dash (Some (w, whys.Disk)) input limit held all ending q done behind split other l who = l.1 who
+line_dash (Some (w, whys.Usage)) input limit held all ending q done behind split other l who = absurd l
+line_dash (Some (w, whys.Words)) input limit held all ending q done behind split other l who = absurd l
+line_dash (Some (w, whys.Long)) input limit held all ending q done behind split other l who = absurd l
+line_dash (Some (w, whys.Clock)) input limit held all ending q done behind split other l who = absurd l
+line_dash (Some (w, whys.NoList)) input limit held all ending q done behind split other l who = absurd l
+line_dash (Some (w, whys.At name)) input limit held all ending q done behind split other l who = absurd l
+line_dash (Some (w, whys.There)) input limit held all ending q done behind split other l who = absurd l
+line_dash (Some (w, whys.Absent)) input limit held all ending q done behind split other l who = absurd l
 
-    none_dropped : (n : ℕ) (xs : List Item) → drop n xs ≡ [] → n ≤ length xs → n ≡ length xs
-    none_dropped n xs e le = omega (arith, ap length e, length-drop n xs)
+-- the line that is said once the store is closed
+pub closes_line : (line final : StopLine) (rest disk input : Type 0) (limit : ℕ) (held : Contents) (all : List Item) (ending : StreamEnd) (q : State) (done behind : List Item) → take limit all ≡ done ++ behind
+    → ClosesTo line final rest disk → IsLine line input limit held all ending q done behind → IsLine final input limit held all ending q done behind
+closes_line line final rest disk input limit held all ending q done behind split c l =
+    let P : StopLine → Type 0 = λ f. IsLine f input limit held all ending q done behind in
+    let number = line_number line input limit held all ending q done behind l in
+    ⊎_elim (λ same. subst P (sym same.0) l) (λ more. ⊎_elim (λ same. subst P (sym same.0) l) (λ other. ⊎_elim
+    (λ m. subst P (sym m.0) number)
+    (λ d. subst P (sym d.0) (number, line_dash line input limit held all ending q done behind split d.1 l)) other) more) c
 
-fold_more : (p : FiveLists) (xs : List Item) (i : Item) → fold p (xs ++ i ∷ []) ≡ (step0 (fold p xs) i).0
-fold_more p [] i = refl
-fold_more p (x ∷ xs) i = fold_more (step0 p x).0 xs i
+-- a line stays over what reads as the same directory
+pub line_held : (line : StopLine) (input : Type 0) (limit : ℕ) (held new : Contents) (all : List Item) (ending : StreamEnd) (q : State) (done behind : List Item) → directory new ≡ directory held
+    → IsLine line input limit held all ending q done behind → IsLine line input limit new all ending q done behind
+line_held None input limit held new all ending q done behind same l = l
+line_held (Some (w, whys.Bad at)) input limit held new all ending q done behind same l = (l.0, l.1, l.2, l.3, same_state (directory held) (directory new) (fold q done) same l.4)
+line_held (Some (w, whys.Short at)) input limit held new all ending q done behind same l = (l.0, l.1, l.2, l.3, same_state (directory held) (directory new) (fold q done) same l.4)
+line_held (Some (w, whys.More)) input limit held new all ending q done behind same l = (l.0, l.1, l.2, same_state (directory held) (directory new) (fold q done) same l.3)
+line_held (Some (w, whys.Input)) input limit held new all ending q done behind same l = (l.0, l.1, same_state (directory held) (directory new) (fold q done) same l.2)
+line_held (Some (w, whys.Memory)) input limit held new all ending q done behind same l = l
+line_held (Some (w, whys.Disk)) input limit held new all ending q done behind same l = l
+line_held (Some (w, whys.Usage)) input limit held new all ending q done behind same l = absurd l
+line_held (Some (w, whys.Words)) input limit held new all ending q done behind same l = absurd l
+line_held (Some (w, whys.Long)) input limit held new all ending q done behind same l = absurd l
+line_held (Some (w, whys.Clock)) input limit held new all ending q done behind same l = absurd l
+line_held (Some (w, whys.NoList)) input limit held new all ending q done behind same l = absurd l
+line_held (Some (w, whys.At name)) input limit held new all ending q done behind same l = absurd l
+line_held (Some (w, whys.There)) input limit held new all ending q done behind same l = absurd l
+line_held (Some (w, whys.Absent)) input limit held new all ending q done behind same l = absurd l
 
-text_more : (p : FiveLists) (xs : List Item) (i : Item) → text p (xs ++ i ∷ []) ≡ text p xs ++ line i.number (step0 (fold p xs) i).1
-text_more p [] i = append-nil (line i.number (step0 p i).1)
-text_more p (x ∷ xs) i =
-    ap (λ t. line x.number (step0 p x).1 ++ t) (text_more (step0 p x).0 xs i) ∙ sym (append_assoc (line x.number (step0 p x).1) (text (step0 p x).0 xs) (line i.number (step0 (fold (step0 p x).0 xs) i).1))
+module _ {S : Type 0} (told : Ghosts S) where
+  -- a run that says a line: it is out, or cut off
+  pub said_runs : (start mid new : S) (q : State) (all : List Item) (ending : StreamEnd) (input : Type 0) (limit answered status : ℕ) (done behind : List Item) (who : Option ℕ) (why : Why) → IsTrue told.tells_reads
+      → IsLeft told start mid q (take limit all) done behind → answered ≡ length done → IsLine (Some (who, why)) input limit (told.disk new).reads all ending q done behind → Says told mid new status who why
+      → Runs (IsTrue told.tells_all) input status limit answered (told.disk new).reads (told.output new) all ending q (told.output start)
+  said_runs start mid new q all ending input limit answered status done behind who why r l count line s =
+      let reached : Reached q done behind (told.disk new).reads = subst (λ (c : Contents). Reached q done behind c) (sym (s.reads r)) l.reached in
+      ⊎_elim
+      (λ whole. inr (inl (record {
+        why = why;
+        who = who;
+        done = done;
+        behind = behind;
+        split = l.split;
+        count = count;
+        reached = reached;
+        early = line;
+        status_is = whole.0;
+        put = λ t. whole.1 t ∙ ap (λ (o : Text). o ++ stop_text who (status_of_why why) why) (l.put t) ∙ ap (λ (n : ℕ). (told.output start ++ text q done) ++ stop_text who n why) (sym whole.0);
+      })))
+      (λ cut. inr (inr (record {
+        status_is = cut.0;
+        done = done;
+        behind = behind;
+        split = l.split;
+        count = count;
+        reached = reached;
+        put = λ t. let c = cut.2 t in (
+          take c.0 (stop_text who (status_of_why why) why),
+          drop c.0 (stop_text who (status_of_why why) why),
+          c.1 ∙ ap (λ (o : Text). o ++ take c.0 (stop_text who (status_of_why why) why)) (l.put t),
+          inr (who, why, line_number (Some (who, why)) input limit (told.disk new).reads all ending q done behind line, take-append-drop c.0 (stop_text who (status_of_why why) why)),
+        );
+      })))
+      s.line
 
-last_more : (status : ℕ) (p : FiveLists) (xs : List Item) (i : Item) → last_from status p (xs ++ i ∷ []) ≡ status_of (step0 (fold p xs) i).1.code
-last_more status p [] i = refl
-last_more status p (x ∷ xs) i = last_more (status_of (step0 p x).1.code) (step0 p x).0 xs i
+  -- a run whose store was closed
+  pub finished_runs : (start now new : S) (q : State) (all : List Item) (ending : StreamEnd) (input : Type 0) (limit answered status last : ℕ) (done behind : List Item) (line : StopLine) → IsTrue told.tells_reads
+      → IsServed told start now q (take limit all) done behind → answered ≡ length done → answered ≤ limit → last ≡ last_from 0 q done → IsLine line input limit (told.disk now).reads all ending q done behind → Finishes told now new line status last
+      → Runs (IsTrue told.tells_all) input status limit answered (told.disk new).reads (told.output new) all ending q (told.output start)
+  finished_runs start now new q all ending input limit answered status last done behind line r s count few last_is is f =
+      let left = closed_left told start now f.mid q (take limit all) done behind r s f.same f.output f.moments in
+      let mid : IsLine f.final input limit (told.disk f.mid).reads all ending q done behind =
+      line_held f.final input limit (told.disk now).reads (told.disk f.mid).reads all ending q done behind (f.same r)
+      (closes_line line f.final (IsClean told f.mid) (Rose (told.disk_faults now) (told.disk_faults f.mid)) input limit (told.disk now).reads all ending q done behind s.split f.closes is) in
+      ⊎_elim
+      (λ quiet.
+      let end : (ending ≡ End) × (done ≡ all) = subst (λ (l : StopLine). IsLine l input limit (told.disk f.mid).reads all ending q done behind) quiet.0 mid in
+      inl (record {
+        end = end.0;
+        count = count ∙ ap length end.1;
+        few = few;
+        status_is = quiet.1 ∙ last_is ∙ ap (last_from 0 q) end.1;
+        state = subst (λ (l : List Item). HasState (directory (told.disk new).reads) (fold q l)) end.1
+            (same_state (directory (told.disk now).reads) (directory (told.disk new).reads) (fold q done) (ap (λ (x : S). directory (told.disk x).reads) quiet.2 ∙ f.same r) s.state);
+        put = λ t. ap told.output quiet.2 ∙ left.put t ∙ ap (λ (l : List Item). told.output start ++ text q l) end.1;
+      }))
+      (λ said. said_runs start f.mid new q all ending input limit answered status done behind said.0 said.1 r left count
+      (line_held (Some (said.0, said.1)) input limit (told.disk f.mid).reads (told.disk new).reads all ending q done behind (ap directory (said.3.reads r))
+      (subst (λ (l : StopLine). IsLine l input limit (told.disk f.mid).reads all ending q done behind) said.2 mid)) said.3)
+      f.said
 
-pub next_dropped : (n : ℕ) (xs later : List Item) (i : Item) → drop n xs ≡ i ∷ later → (n < length xs) × (drop (n + 1) xs ≡ later) × (take (n + 1) xs ≡ take n xs ++ i ∷ []) × (slice_get xs n ≡ Some i)
-next_dropped zero [] later i e = cc
-next_dropped zero (x ∷ xs) later i e = let same : x ≡ i = cc in (omega arith, cc, ap (λ y. y ∷ []) same, ap Some same)
-next_dropped (suc n) [] later i e = cc
-next_dropped (suc n) (x ∷ xs) later i e =
-    let h = next_dropped n xs later i e in
-    let q : suc n + 1 ≡ suc (n + 1) = omega arith in
-    (omega (arith, h.0), ap (λ k. drop k (x ∷ xs)) q ∙ h.1, ap (λ k. take k (x ∷ xs)) q ∙ ap (λ t. x ∷ t) h.2, h.3)
-
--- one more item is answered
-pub answered_more : (n : ℕ) (items later : List Item) (i : Item) (files : Files) (output : Text) (p : FiveLists) (out : Text) → drop n items ≡ i ∷ later
-    → IsState files (step0 (fold p (take n items)) i).0 → output ≡ (out ++ text p (take n items)) ++ line i.number (step0 (fold p (take n items)) i).1 → Answered (n + 1) files output items p out
-answered_more n items later i files output p out next state put =
-    let h = next_dropped n items later i next in
-    record {
-      within = omega (arith, h.0);
-      state = subst (λ t. IsState files t) (sym (ap (fold p) h.2 ∙ fold_more p (take n items) i)) state;
-      put = put ∙ append_assoc out (text p (take n items)) (line i.number (step0 (fold p (take n items)) i).1) ∙ ap (λ t. out ++ t) (sym (ap (text p) h.2 ∙ text_more p (take n items) i));
-    }
-
-pub last_answered : (n : ℕ) (items later : List Item) (i : Item) (p : FiveLists) (status : ℕ) → drop n items ≡ i ∷ later → status ≡ status_of (step0 (fold p (take n items)) i).1.code → status ≡ last_status p (take (n + 1) items)
-last_answered n items later i p status next is =
-    let h = next_dropped n items later i next in
-    is ∙ sym (ap (last_status p) h.2 ∙ last_more 0 p (take n items) i)
-
--- nothing is answered at the start
-pub none_answered : (files : Files) (output : Text) (items : List Item) (p : FiveLists) (out : Text) → IsState files p → output ≡ out → Answered 0 files output items p out
-none_answered files output items p out state put = record { within = omega arith; state = state; put = put ∙ sym (append-nil out) }
-
--- all are answered where none is left
-pub all_answered : (place p : ℕ) (bs r : Text) (n : ℕ) (items : List Item) (ending : StreamEnd) → IsStream place bs (drop n items) ending → n ≤ length items → item_at place bs ≡ got None p r → (ending ≡ End) × (n ≡ length items)
-all_answered place p bs r n items ending s le e =
-    let h = stream_end place p bs r (drop n items) ending s e in (h.1, omega (arith, ap length h.0, length-drop n items))
-
-all_broken : (place : ℕ) (bs : Text) (x : StreamError) (n : ℕ) (items : List Item) (ending : StreamEnd) → IsStream place bs (drop n items) ending → n ≤ length items → item_at place bs ≡ Err x → (ending ≡ Broken x) × (n ≡ length items)
-all_broken place bs x n items ending s le e =
-    let h = stream_err place bs x (drop n items) ending s e in (h.1, omega (arith, ap length h.0, length-drop n items))
-
--- the loop came to the end
-pub end_serves : (limit n last : ℕ) (files : Files) (output : Text) (items : List Item) (ending : StreamEnd) (p : FiveLists) (out : Text)
-    → n ≤ limit → last ≡ last_status p (take n items) → Answered n files output items p out → (ending ≡ End) × (n ≡ length items) → Serves stops.End limit n last files output items ending p out
-end_serves limit n last files output items ending p out few is a e =
-    let all : take n items ≡ items = take_all n items (omega (arith, e.1)) in
-    (e.0, e.1, few, is ∙ ap (last_status p) all, a)
-
--- an error of the reader, in place of an item
-pub error_serves : (place : ℕ) (bs : Text) (e : StreamError) (limit n last : ℕ) (files : Files) (output : Text) (items : List Item) (ending : StreamEnd) (p : FiveLists) (out : Text)
-    → IsStream place bs (drop n items) ending → n < limit → Answered n files output items p out → Tells e (item_at place bs) → Serves (stop_of_stream e) limit n last files output items ending p out
-error_serves place bs (Bad at) limit n last files output items ending p out s few a t = let h = all_broken place bs (Bad at) n items ending s a.within t in (h.0, h.1, few, a)
-error_serves place bs (Short at) limit n last files output items ending p out s few a t = let h = all_broken place bs (Short at) n items ending s a.within t in (h.0, h.1, few, a)
-error_serves place bs Fault limit n last files output items ending p out s few a t = a
-error_serves place bs Memory limit n last files output items ending p out s few a t = a
-
--- the item in hand was refused
-pub refused : (stop : ItemStop) (number n : ℕ) (files : Files) (output : Text) (items later : List Item) (i : Item) (p : FiveLists) (out : Text)
-    → n ≤ length items → drop n items ≡ i ∷ later → number ≡ i.number → ItemGives (Err stop) files output i (fold p (take n items)) (out ++ text p (take n items)) → Refused stop number n files output items p out
-refused stop number n files output items later i p out within next is gives =
-    record { within = within; hand = record { item = i; next = (next_dropped n items later i next).3; number_is = is }; gives = gives }
-
--- what a test says of bytes that are left
-pub some_bytes : (more none : Bool) → more ≡ true → more ≡ not none → none ≡ false
-some_bytes more true is e = cc
-some_bytes more false is e = refl
-
-pub no_bytes : (more none : Bool) → more ≡ false → more ≡ not none → none ≡ true
-no_bytes more true is e = refl
-no_bytes more false is e = cc
+  -- and its moments
+  pub finished_moments : (start now new : S) (q : State) (items done behind : List Item) (line : StopLine) (status last : ℕ) (reads : IsTrue told.tells_all → IsTrue told.tells_reads) → IsServed told start now q items done behind → IsNumberOf (who_of line) behind
+      → Finishes told now new line status last → Leaves told start new (IsAfterSome q items (told.output start))
+  finished_moments start now new q items done behind line status last reads s number f t =
+      let left = closed_left told start now f.mid q items done behind (reads t) s f.same f.output f.moments in
+      ⊎_elim
+      (λ quiet. subst (λ (x : S). LeavesOnly told.moment told.left_since told.disk told.output start x (IsAfterSome q items (told.output start))) (sym quiet.2) (left.moments t))
+      (λ said. said_moments told start f.mid new q items done behind status said.0 said.1 left
+      (subst (λ (o : Option ℕ). IsNumberOf o behind) (sym (closes_who line f.final (IsClean told f.mid) (Rose (told.disk_faults now) (told.disk_faults f.mid)) said.0 said.1 f.closes said.2)) number) said.3 t)
+      f.said

@@ -4,12 +4,15 @@ use Rattle.ml_base.specs.Bytes.{Text}
 use Rattle.ml_base.specs.Numbers.{is_next_digit}
 use Rattle.ml_base.specs.Name.{set_of}
 use Rattle.ml_base.specs.Address.{address_of}
+use Rattle.ml_base.specs.declared.names.Set.{Set}
+use Rattle.ml_plain.specs.declared.Act.{Act}
+use Rattle.ml_plain.specs.declared.Act.TheVariants.{Add, Remove}
 use Rattle.ml_plain.specs.declared.Item.{Item}
 use Rattle.ml_run.specs.declared.reader.Letter.{Letter}
 use Rattle.ml_run.specs.declared.reader.Letter.TheVariants as letters
 use Rattle.ml_run.specs.declared.stream.StreamError.TheVariants.{Bad, Short}
-use Rattle.ml_run.specs.Stream.{Got, Read, got, and_then, length_at, content_at, comma_at, closed, element_at, item_number_of, moment_of, add_at, act_at, elements_at, item_at, letter_of, behind_letter, some_item, StreamEnd, End, Broken, IsStream}
-use Rattle.ml_run.proofs.Served.{stream_end, stream_err, stream_item}
+use Rattle.ml_run.specs.Stream.{Got, Read, got, and_then, length_at, content_at, comma_at, closed, element_at, item_number_of, moment_of, floor_of, key_of, member_at, add_at, remove_at, floor_at, rekey_at, act_at, elements_at, item_at, letter_of, behind_letter, some_item, StreamEnd, End, Broken, IsStream}
+use Rattle.ml_run.proofs.Ahead.{stream_end, stream_err, stream_item}
 
 -- what was got leaves fewer bytes
 abbrev Shorter : {X : Type 0} → Text → Read X → Type 0
@@ -81,13 +84,16 @@ element_shorter limit read start bs =
     (λ l. choose_long (nat_lt (length l.rest) l.value) l.rest (Err (Short start)) (Ok (record { value = take l.value l.rest; place = l.place + l.value; rest = drop l.value l.rest })) tt (omega (arith, length-drop l.value l.rest))))
     (λ got. closed_long start (read got.value) got.place got.rest)
 
-add_shorter : (place : ℕ) (bs : Text) → Shorter bs (add_at place bs)
-add_shorter place bs =
+member_shorter : (act : Set → Text → Act) (place : ℕ) (bs : Text) → Shorter bs (member_at act place bs)
+member_shorter act place bs =
     less_then bs (element_at 6 set_of place bs) _ (element_shorter 6 set_of place bs) (λ set.
     long_then set.rest (element_at 400 address_of set.place set.rest) _ (shorter_is set.rest (element_at 400 address_of set.place set.rest) (element_shorter 400 address_of set.place set.rest)) (λ who. omega arith))
 
 act_longer : (letter : Letter) (place : ℕ) (bs : Text) → NoLonger bs (act_at letter place bs)
-act_longer letters.Add place bs = shorter_is bs (add_at place bs) (add_shorter place bs)
+act_longer letters.Add place bs = shorter_is bs (add_at place bs) (member_shorter (λ set who. Add set who) place bs)
+act_longer letters.Remove place bs = shorter_is bs (remove_at place bs) (member_shorter (λ set who. Remove set who) place bs)
+act_longer letters.Rekey place bs = shorter_is bs (rekey_at place bs) (less_then bs (element_at 64 key_of place bs) _ (element_shorter 64 key_of place bs) (λ key. omega arith))
+act_longer letters.Floor place bs = shorter_is bs (floor_at place bs) (less_then bs (element_at 12 floor_of place bs) _ (element_shorter 12 floor_of place bs) (λ at. omega arith))
 
 elements_shorter : (letter : Letter) (place : ℕ) (bs : Text) → Shorter bs (elements_at letter place bs)
 unfolding elements_at

@@ -1,8 +1,12 @@
 -- The stream: items as a letter and netstrings, and where it goes on no further.
 use Rattle.std.specs.Prelude.{◌≡◌, ℕ, suc, ◌+◌, ◌-◌, ◌*◌, true, false, ◌==◌, nat_lt, if◌then◌else◌, List, [], ◌∷◌, length, take, drop, Option, Some, None, Result, Ok, Err}
+use Rattle.std.specs.Str.{bytes_eq}
+use Rattle.hex.specs.Hex.{decode_sized, encode_lower}
+use Rattle.hex.specs.declared.error.FromHexError.{FromHexError}
 use Rattle.ml_base.specs.Bytes.{Text}
 use Rattle.ml_base.specs.Numbers.{number_within, is_next_digit}
 use Rattle.ml_base.specs.Name.{set_of}
+use Rattle.ml_base.specs.declared.names.Set.{Set}
 use Rattle.ml_base.specs.Address.{address_of}
 use Rattle.ml_plain.specs.declared.Item.{Item}
 use Rattle.ml_plain.specs.declared.Act.{Act}
@@ -70,20 +74,53 @@ item_number_of text = number_within 999_999_999_999 text
 abbrev pub moment_of : Text → Option ℕ
 moment_of text = number_within 253_402_300_799 text
 
+-- a floor, from 1 on
+abbrev pub some_floor : Option ℕ → Option ℕ
+some_floor None = None
+some_floor (Some at) = if at == 0 then None else Some at
+
+abbrev pub floor_of : Text → Option ℕ
+floor_of text = some_floor (item_number_of text)
+
+-- a key of 32 bytes, whose 64 digits in lower case are the text
+abbrev pub some_key : Text → Result Text FromHexError → Option Text
+some_key text (Ok key) = if bytes_eq (encode_lower key) text then Some key else None
+some_key text (Err e) = None
+
+abbrev pub key_of : Text → Option Text
+key_of text = some_key text (decode_sized text 32)
+
 -- the kind of an item by its first byte
 abbrev pub letter_of : ℕ → Option Letter
-letter_of b = if b == 65 then Some letters.Add else None
+letter_of b = if b == 65 then Some letters.Add else (if b == 70 then Some letters.Floor else (if b == 75 then Some letters.Rekey else (if b == 82 then Some letters.Remove else None)))
 
--- a set and an address
-abbrev pub add_at : ℕ → Text → Read Act
-add_at place bs =
+-- a set and an address, and what is done to them
+abbrev pub member_at : (Set → Text → Act) → ℕ → Text → Read Act
+member_at act place bs =
     and_then (element_at 6 set_of place bs) (λ set.
     and_then (element_at 400 address_of set.place set.rest) (λ who.
-    got (acts.Add set.value who.value) who.place who.rest))
+    got (act set.value who.value) who.place who.rest))
+
+abbrev pub add_at : ℕ → Text → Read Act
+add_at place bs = member_at (λ set who. acts.Add set who) place bs
+
+abbrev pub remove_at : ℕ → Text → Read Act
+remove_at place bs = member_at (λ set who. acts.Remove set who) place bs
+
+-- a floor
+abbrev pub floor_at : ℕ → Text → Read Act
+floor_at place bs = and_then (element_at 12 floor_of place bs) (λ at. got (acts.Floor at.value) at.place at.rest)
+
+-- a key
+abbrev pub rekey_at : ℕ → Text → Read Act
+rekey_at place bs = and_then (element_at 64 key_of place bs) (λ key. got (acts.Rekey key.value) key.place key.rest)
 
 -- the elements of an act behind number and moment
 abbrev pub act_at : Letter → ℕ → Text → Read Act
 act_at letters.Add place bs = add_at place bs
+act_at letters.Floor place bs = floor_at place bs
+act_at letters.Rekey place bs = rekey_at place bs
+act_at letters.Remove place bs = remove_at place bs
 
 -- the elements of an item behind its letter
 unfoldable pub elements_at : Letter → ℕ → Text → Read Item

@@ -4,11 +4,13 @@ ghost use Rattle.ml_base.specs.Faults.{Rose, HasCause};
 ghost use Rattle.ml_base.specs.Bytes.{Text};
 ghost use Rattle.ml_base.specs.Name.{set_of};
 ghost use Rattle.ml_base.specs.Address.{address_of};
-ghost use Rattle.ml_run.specs.Stream.{length_at, content_at, comma_at, element_at, item_number_of, moment_of, add_at, act_at, elements_at, item_at, letter_of};
+ghost use Rattle.ml_run.specs.Stream.{length_at, content_at, comma_at, element_at, item_number_of, moment_of, floor_of, key_of, add_at, remove_at, floor_at, rekey_at, act_at, elements_at, item_at, letter_of};
 ghost use Rattle.ml_run.specs.Reading.{Stands, Reads, Steps};
-ghost use Rattle.ml_run.specs.Writing.{IsAdd, IsStreamItem};
+ghost use Rattle.ml_plain.specs.Items.{IsAct};
+ghost use Rattle.ml_list.specs.Acts.{KeepsLimits, IsApplied};
 
 use crate::StreamError;
+use hex::{decode_to_slice, encode_to_slice};
 use ml_base::{Address, AddressError, Bytes, Set, is_next_digit, number_within};
 use ml_plain::{Act, Item};
 use ml_site::{Failed, Source};
@@ -24,6 +26,9 @@ const MAX_MOMENT: u64 = 253_402_300_799;
 #[derive(Clone, Copy)]
 pub(crate) enum Letter {
     Add,
+    Floor,
+    Rekey,
+    Remove,
 }
 
 fn read_letter(byte: u8) -> Option<Letter>
@@ -31,6 +36,12 @@ fn read_letter(byte: u8) -> Option<Letter>
 {
     if byte == b'A' {
         Some(Letter::Add)
+    } else if byte == b'F' {
+        Some(Letter::Floor)
+    } else if byte == b'K' {
+        Some(Letter::Rekey)
+    } else if byte == b'R' {
+        Some(Letter::Remove)
     } else {
         None
     }
@@ -229,18 +240,97 @@ impl Reader {
         Ok(value)
     }
 
-    // A set and an address.
+    // A set and an address that joins it.
     fn add<I: Source>(&mut self, alloc: Global, input: &mut I) -> Result<Act, StreamError>
         ensures read { (bs : List ℕ) → Stands self.old.place self.old.ahead (I.left input.old) bs →
             Reads result self.new.place self.new.ahead (I.left input.new) (add_at self.old.place bs) }
         ensures ahead { OnOk result (self.new.ahead ≡ None) }
-        ensures adds { IfOk result IsAdd }
+        ensures limit { IfOk result IsAct }
+        ensures applied { IfOk result IsApplied }
         ensures later { I.faults input.old ≤ I.faults input.new }
         ensures cause { IsErrOf result StreamError.Fault → Rose (I.faults input.old) (I.faults input.new) }
     {
         let set = self.set(alloc, input)?;
         let who = self.address(alloc, input)?;
         Ok(Act::Add { set, who })
+    }
+
+    // A set and an address that leaves it.
+    fn remove<I: Source>(&mut self, alloc: Global, input: &mut I) -> Result<Act, StreamError>
+        ensures read { (bs : List ℕ) → Stands self.old.place self.old.ahead (I.left input.old) bs →
+            Reads result self.new.place self.new.ahead (I.left input.new) (remove_at self.old.place bs) }
+        ensures ahead { OnOk result (self.new.ahead ≡ None) }
+        ensures limit { IfOk result IsAct }
+        ensures applied { IfOk result IsApplied }
+        ensures later { I.faults input.old ≤ I.faults input.new }
+        ensures cause { IsErrOf result StreamError.Fault → Rose (I.faults input.old) (I.faults input.new) }
+    {
+        let set = self.set(alloc, input)?;
+        let who = self.address(alloc, input)?;
+        Ok(Act::Remove { set, who })
+    }
+
+    // An element that holds a floor.
+    fn floor_value<I: Source>(&mut self, alloc: Global, input: &mut I) -> Result<u64, StreamError>
+        ensures read { (bs : List ℕ) → Stands self.old.place self.old.ahead (I.left input.old) bs →
+            Reads result self.new.place self.new.ahead (I.left input.new) (element_at 12 floor_of self.old.place bs) }
+        ensures ahead { OnOk result (self.new.ahead ≡ None) }
+        ensures limit { IfOk result (λ at. (1 ≤ at) × (at ≤ 999_999_999_999)) }
+        ensures later { I.faults input.old ≤ I.faults input.new }
+        ensures cause { IsErrOf result StreamError.Fault → Rose (I.faults input.old) (I.faults input.new) }
+    {
+        let start = self.place;
+        let text = self.content(alloc, input, 12)?;
+        let Some(value) = read_floor(text.as_slice()) else {
+            return Err(StreamError::Bad { at: start });
+        };
+        self.comma(input, start)?;
+        Ok(value)
+    }
+
+    // A floor.
+    fn floor<I: Source>(&mut self, alloc: Global, input: &mut I) -> Result<Act, StreamError>
+        ensures read { (bs : List ℕ) → Stands self.old.place self.old.ahead (I.left input.old) bs →
+            Reads result self.new.place self.new.ahead (I.left input.new) (floor_at self.old.place bs) }
+        ensures ahead { OnOk result (self.new.ahead ≡ None) }
+        ensures limit { IfOk result IsAct }
+        ensures applied { IfOk result IsApplied }
+        ensures later { I.faults input.old ≤ I.faults input.new }
+        ensures cause { IsErrOf result StreamError.Fault → Rose (I.faults input.old) (I.faults input.new) }
+    {
+        let at = self.floor_value(alloc, input)?;
+        Ok(Act::Floor { at })
+    }
+
+    // An element that holds a key.
+    fn key<I: Source>(&mut self, alloc: Global, input: &mut I) -> Result<[u8; 32], StreamError>
+        ensures read { (bs : List ℕ) → Stands self.old.place self.old.ahead (I.left input.old) bs →
+            Reads result self.new.place self.new.ahead (I.left input.new) (element_at 64 key_of self.old.place bs) }
+        ensures ahead { OnOk result (self.new.ahead ≡ None) }
+        ensures later { I.faults input.old ≤ I.faults input.new }
+        ensures cause { IsErrOf result StreamError.Fault → Rose (I.faults input.old) (I.faults input.new) }
+    {
+        let start = self.place;
+        let text = self.content(alloc, input, 64)?;
+        let Some(value) = read_key(text.as_slice()) else {
+            return Err(StreamError::Bad { at: start });
+        };
+        self.comma(input, start)?;
+        Ok(value)
+    }
+
+    // A key.
+    fn rekey<I: Source>(&mut self, alloc: Global, input: &mut I) -> Result<Act, StreamError>
+        ensures read { (bs : List ℕ) → Stands self.old.place self.old.ahead (I.left input.old) bs →
+            Reads result self.new.place self.new.ahead (I.left input.new) (rekey_at self.old.place bs) }
+        ensures ahead { OnOk result (self.new.ahead ≡ None) }
+        ensures limit { IfOk result IsAct }
+        ensures applied { IfOk result IsApplied }
+        ensures later { I.faults input.old ≤ I.faults input.new }
+        ensures cause { IsErrOf result StreamError.Fault → Rose (I.faults input.old) (I.faults input.new) }
+    {
+        let key = self.key(alloc, input)?;
+        Ok(Act::Rekey { key })
     }
 
     // The elements of an act behind number and moment.
@@ -253,12 +343,16 @@ impl Reader {
         ensures read { (bs : List ℕ) → Stands self.old.place self.old.ahead (I.left input.old) bs →
             Reads result self.new.place self.new.ahead (I.left input.new) (act_at letter self.old.place bs) }
         ensures ahead { OnOk result (self.new.ahead ≡ None) }
-        ensures adds { IfOk result IsAdd }
+        ensures limit { IfOk result IsAct }
+        ensures applied { IfOk result IsApplied }
         ensures later { I.faults input.old ≤ I.faults input.new }
         ensures cause { IsErrOf result StreamError.Fault → Rose (I.faults input.old) (I.faults input.new) }
     {
         match letter {
             Letter::Add => self.add(alloc, input),
+            Letter::Floor => self.floor(alloc, input),
+            Letter::Rekey => self.rekey(alloc, input),
+            Letter::Remove => self.remove(alloc, input),
         }
     }
 
@@ -273,7 +367,7 @@ impl Reader {
         ensures read { (bs : List ℕ) → Stands self.old.place self.old.ahead (I.left input.old) bs →
             Reads result self.new.place self.new.ahead (I.left input.new) (elements_at letter self.old.place bs) }
         ensures ahead { OnOk result (self.new.ahead ≡ None) }
-        ensures item { IfOk result IsStreamItem }
+        ensures limits { IfOk result KeepsLimits }
         ensures later { I.faults input.old ≤ I.faults input.new }
         ensures cause { IsErrOf result StreamError.Fault → Rose (I.faults input.old) (I.faults input.new) }
     {
@@ -296,7 +390,7 @@ impl Reader {
         ensures read { (bs : List ℕ) → Stands self.old.place self.old.ahead (I.left input.old) bs →
             Reads result self.new.place self.new.ahead (I.left input.new) (item_at self.old.place bs) }
         ensures ahead { OnOk result (self.new.ahead ≡ None) }
-        ensures item { IfOk result (λ found. IfSome found IsStreamItem) }
+        ensures limits { IfOk result (λ found. IfSome found KeepsLimits) }
         ensures later { I.faults input.old ≤ I.faults input.new }
         ensures cause { IsErrOf result StreamError.Fault → Rose (I.faults input.old) (I.faults input.new) }
     {
@@ -309,6 +403,36 @@ impl Reader {
         };
         Ok(Some(self.elements(alloc, input, letter)?))
     }
+}
+
+// The key that a text spells, or None where it spells none.
+fn read_key(text: &[u8]) -> Option<[u8; 32]>
+    ensures { result ≡ key_of text.now }
+{
+    let mut key = [0u8; 32];
+    if decode_to_slice(text, &mut key).is_err() {
+        return None;
+    }
+    let mut digits = [0u8; 64];
+    if encode_to_slice(key.as_slice(), &mut digits).is_err() {
+        return None;
+    }
+    if digits.as_slice() == text {
+        Some(key)
+    } else {
+        None
+    }
+}
+
+// The floor that a text spells, or None where it spells none.
+fn read_floor(text: &[u8]) -> Option<u64>
+    ensures value { result ≡ floor_of text.now }
+    ensures limit { IfSome result (λ at. (1 ≤ at) × (at ≤ 999_999_999_999)) }
+{
+    let Some(at) = number_within(MAX_NUMBER, text) else {
+        return None;
+    };
+    if at == 0 { None } else { Some(at) }
 }
 
 // The address that a text spells, or None where it spells none.

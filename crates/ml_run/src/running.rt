@@ -1,102 +1,146 @@
-// A whole run, with its stop line.
-ghost use Rattle.std.specs.Prelude.{◌≡◌, ◌≤◌, ◌++◌, ℕ, List, IsTrue, IfSome, Some};
-ghost use Rattle.ml_base.specs.Bytes.{Text};
-ghost use Rattle.ml_base.specs.declared.names.Name.{Name as TheName};
+// A whole run.
+ghost use Rattle.std.specs.Prelude.{◌≡◌, ◌⊎◌, ◌≤◌, ◌<◌, ◌+◌, ◌-◌, ◌*◌, ◌/◌, ℕ, List, [], ◌∷◌, take, length, IsTrue, IsSome, Some, None};
+ghost use Rattle.ml_base.specs.Dir.{Dir};
 ghost use Rattle.ml_base.specs.Faults.{Rose};
+ghost use Rattle.ml_config.specs.ConfigFile.{config_name};
+ghost use Rattle.ml_site.specs.Disk.{IsAtRest, Now};
 ghost use Rattle.ml_plain.specs.declared.Item.{Item as TheItem};
-ghost use Rattle.ml_run.specs.FiveLists.{FiveLists};
-ghost use Rattle.ml_run.specs.Lines.{stop_text, HasPath};
-ghost use Rattle.ml_run.specs.SetFile.{IsDamaged};
+ghost use Rattle.ml_journal.specs.Log.{directory};
+ghost use Rattle.ml_journal.specs.Stores.{site_of};
+ghost use Rattle.ml_plain.specs.Histories.{State};
+ghost use Rattle.ml_run.specs.Endings.{Begins, Runs, Opens, Names, MissesList};
+ghost use Rattle.ml_journal.specs.Calls.{Leaves};
+ghost use Rattle.ml_run.specs.Leaving.{IsAfterSome};
+ghost use Rattle.ml_run.specs.Stops.{is_run_status, why_of_open};
 ghost use Rattle.ml_run.specs.Stream.{StreamEnd};
-ghost use Rattle.ml_run.specs.Serving.{Begins, Runs};
-ghost use Rattle.ml_run.specs.Running.{is_run_status, run_status, run_line, NamesDamaged};
-ghost use Rattle.ml_run.specs.declared.lines.Why.TheVariants as whys;
 
-use crate::answers::ItemStop;
-use crate::looping::{Stop, serve};
-use crate::{Why, stop_line};
+use crate::adding::why_of;
+pub use crate::closing::Ending;
+use crate::closing::{finish, say};
+use crate::lines::Why;
+use crate::serving::serve;
+use ml_base::{Bytes, Name};
+use ml_journal::{OpenError, Store};
+use ml_list::load;
 use ml_site::{Site, Source};
-use std::alloc::Global;
+use std::alloc::{AllocError, Global};
 
-/// How a run ended: its status, and how many items were answered.
-#[derive(Clone, Copy, Debug, PartialEq, Eq)]
-pub struct Ending {
-    pub status: u8,
-    pub answered: u64,
-}
+// The answers of a group have so many bytes at most.
+const BUFFER_SIZE: usize = 1024;
 
-// The status of a run that ended so, where its stop line is put out.
-fn status_of(stop: Stop, last: u8) -> u8
-    ensures { result ≡ run_status stop last }
-{
-    match stop {
-        Stop::End => last,
-        Stop::More => 72,
-        Stop::Bad(_) => 65,
-        Stop::Short(_) => 65,
-        Stop::Input => 74,
-        Stop::Memory => 71,
-        Stop::Item(_, ItemStop::Memory) => 71,
-        Stop::Item(_, ItemStop::Disk) => 111,
-        Stop::Item(_, ItemStop::Damaged(_)) => 75,
-        Stop::Item(_, ItemStop::Output) => 73,
-    }
-}
-
-// What the stop line of a run that ended so says, or None where it has none.
-fn line_of(stop: Stop) -> Option<(Option<u64>, Why)>
-    ensures { result ≡ run_line stop }
-{
-    match stop {
-        Stop::End => None,
-        Stop::More => Some((None, Why::More)),
-        Stop::Bad(at) => Some((None, Why::Bad(at))),
-        Stop::Short(at) => Some((None, Why::Short(at))),
-        Stop::Input => Some((None, Why::Input)),
-        Stop::Memory => Some((None, Why::Memory)),
-        Stop::Item(number, ItemStop::Memory) => Some((Some(number), Why::Memory)),
-        Stop::Item(number, ItemStop::Disk) => Some((Some(number), Why::Disk)),
-        Stop::Item(number, ItemStop::Damaged(name)) => Some((Some(number), Why::At(name))),
-        Stop::Item(_, ItemStop::Output) => None,
-    }
-}
-
-/// Answers the items of a stream in order, at most `limit` of them, and hands the site back. Each item is read, its file
-/// written and synced, and its answer line given. A run that ends early gives one stop line last.
+/// Opens what lies on a site, answers the items of a stream in order, at most `limit` of them, closes the site and hands it
+/// back.
 ///
-/// The status is that of the last item's reply, or 0 where there was no item, where the stream was read to its end; else 65
-/// (the stream is bad or ends too early), 71 (out of memory), 72 (more items than `limit`), 73 (the output failed), 74 (the
-/// source failed), 75 (a file is damaged) or 111 (the disk failed).
-pub fn run<I: Source, S: Site>(alloc: Global, limit: u64, input: &mut I, mut site: S) -> (Ending, S)
-    ensures whole { IsTrue S.tells_all → (items : List TheItem) (ending : StreamEnd) (p : FiveLists) (out : Text) →
-        Begins (I.left input.old) (S.disk site).reads.files (S.output site) items ending p out →
-        Runs result.0.status limit result.0.answered (S.disk result.1).reads.files (S.output result.1) items ending p out }
+/// Up to 16 items are committed together, and then their answer lines are given. A run that ends early gives one stop line
+/// last. The status is that of the last item's reply, or 0 where there was no item, where the stream was read to its end; else
+/// 65 (the stream is bad or ends too early), 71 (out of memory), 72 (more items than `limit`), 73 (the output failed), 74 (the
+/// source failed), 75 (there is no list, or a file is damaged) or 111 (the disk failed).
+pub fn run<I: Source, S: Site>(alloc: Global, limit: u64, input: &mut I, site: S) -> (Ending, S)
+    // How it ended, and what it leaves then.
+    ensures whole { IsTrue S.tells_reads → (all : List TheItem) (ending : StreamEnd) (q : State) →
+        Begins (I.left input.old) (S.disk site).reads all ending q →
+        Runs (IsTrue S.tells_all) (Rose (I.faults input.old) (I.faults input.new)) result.0.status limit result.0.answered
+        (S.disk result.1).reads (S.output result.1) all ending q (S.output site) }
+
+    // At every moment, and where something is pending at the start from the first sync that succeeds.
+    ensures moments { IsTrue S.tells_all → (all : List TheItem) (ending : StreamEnd) (q : State) →
+        Begins (I.left input.old) (S.disk site).reads all ending q →
+        Opens ⟦<S as Site>⟧ site result.1 (IsAfterSome q (take limit all) (S.output site)) }
+    ensures at_rest { IsAtRest (S.disk site) → (all : List TheItem) (ending : StreamEnd) (q : State) →
+        Begins (I.left input.old) (S.disk site).reads all ending q →
+        Leaves ⟦<S as Site>⟧ site result.1 (IsAfterSome q (take limit all) (S.output site)) }
+
+    // Nothing is pending then, but after a fault or want of memory.
+    ensures rest { (all : List TheItem) (ending : StreamEnd) (q : State) → Begins (I.left input.old) (S.disk site).reads all ending q →
+        (Rose (S.disk_faults site) (S.disk_faults result.1) → ⊥) → (result.0.status ≡ 71 → ⊥) → (result.0.status ≡ 73 → ⊥)
+        → IsTrue S.tells_all → IsAtRest (S.disk result.1) }
+
+    // The log is one closed gate then, but after a fault, want of memory, or on a log without a directory.
+    ensures gate { IsSome (directory (S.disk site).reads) → (result.0.status ≡ 71 → ⊥) → (result.0.status ≡ 73 → ⊥) → (result.0.status ≡ 111 → ⊥)
+        → IsTrue S.tells_reads → (S.disk result.1).reads.log ≡ 0 ∷ [] }
+
+    // Where there is no configuration, it says so.
+    ensures nolist { IsTrue S.tells_reads → (files : Dir) → directory (S.disk site).reads ≡ Some files → files config_name ≡ None →
+        MissesList (IsTrue S.tells_all) result.0.status (S.output site) (S.output result.1) }
+
+    // Which statuses there are, and where the counts rose.
     ensures statuses { IsTrue (is_run_status result.0.status) }
     ensures answered { result.0.answered ≤ limit }
     ensures input { result.0.status ≡ 74 → Rose (I.faults input.old) (I.faults input.new) }
     ensures disk { result.0.status ≡ 111 → Rose (S.disk_faults site) (S.disk_faults result.1) }
     ensures output { result.0.status ≡ 73 → Rose (S.output_faults site) (S.output_faults result.1) }
-    ensures damaged { IsTrue S.tells_all → result.0.status ≡ 75 → NamesDamaged (S.disk result.1).reads.files (S.output result.1) }
+
+    // Status 75 comes only where there is no configuration, or where the file that the line names is damaged.
+    ensures named { IsTrue S.tells_all → result.0.status ≡ 75 → Names (directory (S.disk site).reads) (directory (S.disk result.1).reads) (S.output result.1) }
     ensures input_later { I.faults input.old ≤ I.faults input.new }
     ensures disk_later { S.disk_faults site ≤ S.disk_faults result.1 }
     ensures output_later { S.output_faults site ≤ S.output_faults result.1 }
+
+    // How many syncs it makes.
+    ensures syncs { IsTrue S.tells_all → S.syncs result.1 ≤ S.syncs site + 16 + 2 * (result.0.answered / 16)
+        + (S.log_bytes result.1 - S.log_bytes site) / 1_048_576 }
 {
-    let served = serve(alloc, limit, input, &mut site);
-    let status = status_of(served.stop, served.last);
-    let answered = served.answered;
-    let Some((number, why)) = line_of(served.stop) else {
-        return (Ending { status, answered }, site);
+    let Ok(buffer) = take_buffer(alloc) else {
+        return say(site, None, Why::Memory, 0);
     };
-    let mut line = [0u8; 64];
-    let len = stop_line(number, status, why, &mut line);
-    match site.give(&line[..len]) {
-        Ok(()) => (Ending { status, answered }, site),
-        Err(_) => (
-            Ending {
-                status: 73,
-                answered,
-            },
-            site,
-        ),
+    match Store::open(alloc, site) {
+        Ok(store) => opened(alloc, limit, input, store, buffer),
+        Err((error, site)) => say(site, None, not_opened(error), 0),
+    }
+}
+
+// Takes the memory for the answers of a group.
+fn take_buffer(alloc: Global) -> Result<Bytes, AllocError> {
+    Ok(Bytes::from_vec(Vec::with_capacity(alloc, BUFFER_SIZE)?))
+}
+
+// A run over a store that was opened: where its configuration is there, the items are answered.
+fn opened<I: Source, S: Site>(
+    alloc: Global,
+    limit: u64,
+    input: &mut I,
+    store: Store<S>,
+    buffer: Bytes,
+) -> (Ending, S)
+    ensures whole { IsTrue S.tells_reads → (all : List TheItem) (ending : StreamEnd) (q : State) →
+        Begins (I.left input.old) (S.disk (site_of store)).reads all ending q →
+        Runs (IsTrue S.tells_all) (Rose (I.faults input.old) (I.faults input.new)) result.0.status limit result.0.answered
+        (S.disk result.1).reads (S.output result.1) all ending q (S.output (site_of store)) }
+    ensures moments { (all : List TheItem) (ending : StreamEnd) (q : State) →
+        Begins (I.left input.old) (S.disk (site_of store)).reads all ending q →
+        Leaves ⟦<S as Site>⟧ (site_of store) result.1 (IsAfterSome q (take limit all) (S.output (site_of store))) }
+    ensures rest { (Rose (S.disk_faults (site_of store)) (S.disk_faults result.1) → ⊥) → (result.0.status ≡ 71 → ⊥) → (result.0.status ≡ 73 → ⊥)
+        → IsTrue S.tells_all → IsAtRest (S.disk result.1) }
+    ensures gate { (result.0.status ≡ 71 → ⊥) → (result.0.status ≡ 73 → ⊥) → (result.0.status ≡ 111 → ⊥) → IsTrue S.tells_reads → (S.disk result.1).reads.log ≡ 0 ∷ [] }
+    ensures nolist { IsTrue S.tells_reads → (files : Dir) → directory (S.disk (site_of store)).reads ≡ Some files → files config_name ≡ None →
+        MissesList (IsTrue S.tells_all) result.0.status (S.output (site_of store)) (S.output result.1) }
+    ensures statuses { IsTrue (is_run_status result.0.status) }
+    ensures answered { result.0.answered ≤ limit }
+    ensures input { result.0.status ≡ 74 → Rose (I.faults input.old) (I.faults input.new) }
+    ensures disk { result.0.status ≡ 111 → Rose (S.disk_faults (site_of store)) (S.disk_faults result.1) }
+    ensures output { result.0.status ≡ 73 → Rose (S.output_faults (site_of store)) (S.output_faults result.1) }
+    ensures named { IsTrue S.tells_all → (files : Dir) → directory (S.disk (site_of store)).reads ≡ Some files → result.0.status ≡ 75 → Names (Some files) (directory (S.disk result.1).reads) (S.output result.1) }
+    ensures input_later { I.faults input.old ≤ I.faults input.new }
+    ensures disk_later { S.disk_faults (site_of store) ≤ S.disk_faults result.1 }
+    ensures output_later { S.output_faults (site_of store) ≤ S.output_faults result.1 }
+    ensures syncs { IsTrue S.tells_all → (S.disk (site_of store)).reads.log ≡ 0 ∷ [] →
+        S.syncs result.1 ≤ S.syncs (site_of store) + 8 + 2 * (result.0.answered / 16) + (S.log_bytes result.1 - S.log_bytes (site_of store)) / 1_048_576 }
+{
+    let mut store = store;
+    match load(alloc, &mut store) {
+        Ok(Some(_)) => serve(alloc, limit, input, store, buffer),
+        Ok(None) => finish(alloc, store, Some((None, Why::NoList)), 0, 0),
+        Err(error) => finish(alloc, store, Some((None, why_of(error))), 0, 0),
+    }
+}
+
+// Why a run ends whose store was not opened.
+pub(crate) fn not_opened(error: OpenError) -> Why
+    ensures { result ≡ why_of_open error }
+{
+    match error {
+        OpenError::Fault => Why::Disk,
+        OpenError::Damaged => Why::At(Name { kind: 0, at: 0 }),
+        OpenError::Memory => Why::Memory,
     }
 }

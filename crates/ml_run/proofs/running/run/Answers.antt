@@ -1,84 +1,122 @@
-use Rattle.std.proofs.Common.{◌≡◌, ◌∙◌, None, Some, sym, ap, subst}
-use Rattle.ml_site.specs.Disk.{Disk}
-use Rattle.ml_run.specs.Lines.{stop_text}
-use Rattle.ml_run.specs.Serving.{Runs}
-use Rattle.ml_run.specs.Running.{is_run_status, run_status, run_line}
-use Rattle.ml_run.proofs.Ended.{Quiet, quiet, early, stopped, cut_off, quiet_status, names_damaged, has_path}
+use Rattle.std.proofs.Common.{◌≡◌, ◌⊎◌, inl, inr, ⊎_elim, sym, refl, subst, ◌∙◌, take, Option, None, Some, IsTrue, ℕ, arith}
+use Rattle.ml_base.specs.Faults.{Rose}
+use Rattle.ml_journal.specs.Log.{directory}
+use Rattle.ml_journal.specs.Stores.{site_of}
+use Rattle.ml_run.specs.declared.lines.Why.{Why}
+use Rattle.ml_run.specs.declared.lines.Why.TheVariants as whys
+use Rattle.ml_run.specs.Endings.{Begins}
+use Rattle.ml_run.proofs.Leaving.{same_state}
+use Rattle.std.specs.Result.{IsErrAnd}
+use Rattle.ml_journal.specs.declared.errors.OpenError.TheVariants.{Fault}
+use Rattle.ml_run.proofs.Opening.{at_site, runs_before, early_runs, unopened_said, untouched, opened_said, opened_then, from_rest, open_why, open_at_rest}
+use Rattle.ml_base.specs.Dir.{Dir}
+use Rattle.ml_journal.specs.Stores.{the_dir}
+use Rattle.ml_run.specs.Stops.{status_of_why}
+use Rattle.ml_run.specs.Endings.{IsFound, Names}
+use Rattle.ml_run.proofs.Named.{said_named, some_dir}
+use Rattle.ml_run.proofs.Opening.{open_found}
+use Rattle.std.specs.Prelude.{IsSome}
+use Rattle.ml_run.proofs.Missing.{said_fails, said_misses, misses_before, open_fails, fails_not}
 use Rattle.ml_run.proofs.running.run.Goals as goal
 
 pub returns-in_default-clause-whole : goal.returns-in_default-clause-whole
-returns-in_default-clause-whole g c told items ending p out b =
-    let files = (g.S.Site.disk c.serve-served.new.site).reads.files in
-    let output = g.S.Site.output c.serve-served.new.site in
-    let none : run_line c.serve-served.result.stop ≡ None = sym c.line_of.ensures ∙ c.in_default.is in
-    subst (λ s. Runs s c.args.limit c.serve-served.result.answered files output items ending p out) (sym c.status_of-status.ensures)
-    (quiet c.serve-served.result.stop c.args.limit c.serve-served.result.answered c.serve-served.result.last files output items ending p out none (c.serve-served.ensures.whole told items ending p out b))
+returns-in_default-clause-whole g c told all ending q b =
+    early_runs g.S.Site c.args.site c.args.site c.say.result.1 q all ending (Rose (g.I.Source.faults c.args.input.now) (g.I.Source.faults c.args.input.now)) c.args.limit c.say.result.0.answered c.say.result.0.status whys.Memory told b.state
+    (λ r. refl) (λ t. refl) c.say.ensures.answered (inl refl) c.say.ensures.says
 
-pub returns-in_default-clause-statuses : goal.returns-in_default-clause-statuses
-returns-in_default-clause-statuses g c =
-    let q : Quiet c.serve-served.result.stop c.serve-served.result.last = quiet_status c.serve-served.result.stop c.serve-served.result.last (sym c.line_of.ensures ∙ c.in_default.is) c.serve-served.ensures.last in
-    ap is_run_status c.status_of-status.ensures ∙ q.status
+pub returns-in_default-clause-moments : goal.returns-in_default-clause-moments
+returns-in_default-clause-moments g c told all ending q b =
+    inl (unopened_said g.S.Site c.args.site c.args.site c.say.result.1 c.say.result.0.status whys.Memory (untouched g.S.Site g.met.S.Site.only_now c.args.site told) c.say.ensures.says told)
 
-pub returns-in_default-clause-answered : goal.returns-in_default-clause-answered
-returns-in_default-clause-answered g c = c.serve-served.ensures.few
+pub returns-in_default-clause-at_rest : goal.returns-in_default-clause-at_rest
+returns-in_default-clause-at_rest g c rest all ending q b told =
+    from_rest g.S.Site c.args.site c.say.result.1 q (take c.args.limit all) b.state rest (returns-in_default-clause-moments g c told all ending q b)
 
-pub returns-in_default-clause-input : goal.returns-in_default-clause-input
-returns-in_default-clause-input g c e =
-    let q : Quiet c.serve-served.result.stop c.serve-served.result.last = quiet_status c.serve-served.result.stop c.serve-served.result.last (sym c.line_of.ensures ∙ c.in_default.is) c.serve-served.ensures.last in
-    absurd (q.input (sym c.status_of-status.ensures ∙ e))
+pub returns-in-Ok-open-clause-whole : goal.returns-in-Ok-open-clause-whole
+returns-in-Ok-open-clause-whole g c told all ending q b =
+    let now = site_of c.in-Ok-open.store in
+    let b' : Begins (g.I.Source.left c.args.input.now) (g.S.Site.disk now).reads all ending q = record { bytes = b.bytes; left_is = b.left_is; stream = b.stream; state = same_state (directory (g.S.Site.disk c.args.site).reads) (directory (g.S.Site.disk now).reads) q (at_site (λ s. directory (g.S.Site.disk s).reads ≡ directory (g.S.Site.disk c.args.site).reads) c.open.result _ c.in-Ok-open.is (c.open.ensures.same told)) b.state } in
+    runs_before (IsTrue g.S.Site.tells_all) (Rose (g.I.Source.faults c.args.input.now) (g.I.Source.faults c.opened.new.input)) c.opened.result.0.status c.args.limit c.opened.result.0.answered (g.S.Site.disk c.opened.result.1).reads (g.S.Site.output c.opened.result.1) all ending q
+    (g.S.Site.output now) (g.S.Site.output c.args.site) (λ t. at_site (λ s. g.S.Site.output s ≡ g.S.Site.output c.args.site) c.open.result _ c.in-Ok-open.is (c.open.ensures.keeps.output t)) (c.opened.ensures.whole told all ending q b')
 
-pub returns-in_default-clause-disk : goal.returns-in_default-clause-disk
-returns-in_default-clause-disk g c e =
-    let q : Quiet c.serve-served.result.stop c.serve-served.result.last = quiet_status c.serve-served.result.stop c.serve-served.result.last (sym c.line_of.ensures ∙ c.in_default.is) c.serve-served.ensures.last in
-    absurd (q.disk (sym c.status_of-status.ensures ∙ e))
+pub returns-in-Ok-open-clause-moments : goal.returns-in-Ok-open-clause-moments
+returns-in-Ok-open-clause-moments g c told all ending q b =
+    let now = site_of c.in-Ok-open.store in
+    let b' : Begins (g.I.Source.left c.args.input.now) (g.S.Site.disk now).reads all ending q = record { bytes = b.bytes; left_is = b.left_is; stream = b.stream; state = same_state (directory (g.S.Site.disk c.args.site).reads) (directory (g.S.Site.disk now).reads) q (at_site (λ s. directory (g.S.Site.disk s).reads ≡ directory (g.S.Site.disk c.args.site).reads) c.open.result _ c.in-Ok-open.is (c.open.ensures.same (g.met.S.Site.all_has_reads told))) b.state } in
+    opened_then g.S.Site c.args.site now c.opened.result.1 q (take c.args.limit all) b.state (at_site (λ s. g.S.Site.output s ≡ g.S.Site.output c.args.site) c.open.result _ c.in-Ok-open.is (c.open.ensures.keeps.output told)) (c.in-Ok-open.ensures.moments told) (c.opened.ensures.moments all ending q b' told)
 
-pub returns-in_default-clause-output : goal.returns-in_default-clause-output
-returns-in_default-clause-output g c e =
-    let q : Quiet c.serve-served.result.stop c.serve-served.result.last = quiet_status c.serve-served.result.stop c.serve-served.result.last (sym c.line_of.ensures ∙ c.in_default.is) c.serve-served.ensures.last in
-    let h = q.output (sym c.status_of-status.ensures ∙ e) in
-    c.serve-served.ensures.output h.0 h.1
-
-pub returns-in_default-clause-damaged : goal.returns-in_default-clause-damaged
-returns-in_default-clause-damaged g c told e =
-    let q : Quiet c.serve-served.result.stop c.serve-served.result.last = quiet_status c.serve-served.result.stop c.serve-served.result.last (sym c.line_of.ensures ∙ c.in_default.is) c.serve-served.ensures.last in
-    absurd (q.damaged (sym c.status_of-status.ensures ∙ e))
-
-pub returns-in-Ok-clause-whole : goal.returns-in-Ok-clause-whole
-returns-in-Ok-clause-whole g c told items ending p out b =
-    let mid = (g.S.Site.disk c.serve-served.new.site).reads.files in
-    let files = (g.S.Site.disk c.give.new.self).reads.files in
-    let before = g.S.Site.output c.serve-served.new.site in
-    let output = g.S.Site.output c.give.new.self in
-    let line : run_line c.serve-served.result.stop ≡ Some (c.in-Some.number, c.in-Some.why) = sym c.line_of.ensures ∙ c.in-Some.is in
-    let e = early c.serve-served.result.stop c.in-Some.why c.in-Some.number c.args.limit c.serve-served.result.answered c.serve-served.result.last mid before items ending p out line (c.serve-served.ensures.whole told items ending p out b) in
-    subst (λ s. Runs s c.args.limit c.serve-served.result.answered files output items ending p out) (sym c.status_of-status.ensures)
-    (stopped c.in-Some.why c.in-Some.number (run_status c.serve-served.result.stop c.serve-served.result.last) c.args.limit c.serve-served.result.answered mid files before output _ items ending p out e
-    (ap (λ (d : Disk). d.reads.files) (c.in-Ok.ensures.same.disk told)) (c.in-Ok.ensures.ok told) (c.stop_line-len.ensures.text ∙ ap (λ s. stop_text c.in-Some.number s c.in-Some.why) c.status_of-status.ensures))
-
-pub returns-in-Ok-clause-answered : goal.returns-in-Ok-clause-answered
-returns-in-Ok-clause-answered g c = c.serve-served.ensures.few
-
-pub returns-in-Ok-clause-damaged : goal.returns-in-Ok-clause-damaged
-returns-in-Ok-clause-damaged g c told e =
-    let line : run_line c.serve-served.result.stop ≡ Some (c.in-Some.number, c.in-Some.why) = sym c.line_of.ensures ∙ c.in-Some.is in
-    names_damaged c.serve-served.result.stop c.in-Some.why c.in-Some.number c.serve-served.result.last (g.S.Site.disk c.serve-served.new.site).reads.files (g.S.Site.disk c.give.new.self).reads.files
-    (g.S.Site.output c.serve-served.new.site) (g.S.Site.output c.give.new.self) _ line c.serve-served.ensures.last (sym c.status_of-status.ensures ∙ e)
-    (c.serve-served.ensures.damaged (g.met.S.Site.all_has_reads told)) (ap (λ (d : Disk). d.reads.files) (c.in-Ok.ensures.same.disk told)) (c.in-Ok.ensures.ok told)
-    (c.stop_line-len.ensures.text ∙ ap (λ s. stop_text c.in-Some.number s c.in-Some.why) c.status_of-status.ensures)
+pub returns-in-Ok-open-clause-at_rest : goal.returns-in-Ok-open-clause-at_rest
+returns-in-Ok-open-clause-at_rest g c rest all ending q b told =
+    from_rest g.S.Site c.args.site c.opened.result.1 q (take c.args.limit all) b.state rest (returns-in-Ok-open-clause-moments g c told all ending q b)
 
 pub returns-in-Err-clause-whole : goal.returns-in-Err-clause-whole
-returns-in-Err-clause-whole g c told items ending p out b =
-    let mid = (g.S.Site.disk c.serve-served.new.site).reads.files in
-    let files = (g.S.Site.disk c.give.new.self).reads.files in
-    let before = g.S.Site.output c.serve-served.new.site in
-    let output = g.S.Site.output c.give.new.self in
-    let line : run_line c.serve-served.result.stop ≡ Some (c.in-Some.number, c.in-Some.why) = sym c.line_of.ensures ∙ c.in-Some.is in
-    let e = early c.serve-served.result.stop c.in-Some.why c.in-Some.number c.args.limit c.serve-served.result.answered c.serve-served.result.last mid before items ending p out line (c.serve-served.ensures.whole told items ending p out b) in
-    cut_off c.in-Some.why c.in-Some.number (run_status c.serve-served.result.stop c.serve-served.result.last) c.args.limit c.serve-served.result.answered mid files before output _ items ending p out e
-    (ap (λ (d : Disk). d.reads.files) (c.in-Err.ensures.same.disk told)) (c.in-Err.ensures.err told) (c.stop_line-len.ensures.text ∙ ap (λ s. stop_text c.in-Some.number s c.in-Some.why) c.status_of-status.ensures)
+returns-in-Err-clause-whole g c told all ending q b =
+    let why : (c.not_opened.result ≡ whys.Memory) ⊎ (c.not_opened.result ≡ whys.Disk) = subst (λ (w : Why). (w ≡ whys.Memory) ⊎ (w ≡ whys.Disk)) (sym c.not_opened.ensures)
+    (open_why c.in-Err.error (directory (g.S.Site.disk c.args.site).reads) q b.state (c.in-Err.ensures.damaged told)) in
+    early_runs g.S.Site c.args.site c.in-Err.site c.say-in-Err.result.1 q all ending (Rose (g.I.Source.faults c.args.input.now) (g.I.Source.faults c.args.input.now)) c.args.limit c.say-in-Err.result.0.answered c.say-in-Err.result.0.status c.not_opened.result told b.state
+    (λ r. at_site (λ s. directory (g.S.Site.disk s).reads ≡ directory (g.S.Site.disk c.args.site).reads) c.open.result _ c.in-Err.is (c.open.ensures.same r)) (λ t. at_site (λ s. g.S.Site.output s ≡ g.S.Site.output c.args.site) c.open.result _ c.in-Err.is (c.open.ensures.keeps.output t)) c.say-in-Err.ensures.answered why c.say-in-Err.ensures.says
 
-pub returns-in-Err-clause-answered : goal.returns-in-Err-clause-answered
-returns-in-Err-clause-answered g c = c.serve-served.ensures.few
+pub returns-in-Err-clause-moments : goal.returns-in-Err-clause-moments
+returns-in-Err-clause-moments g c told all ending q b = ⊎_elim
+    (λ early. inl (unopened_said g.S.Site c.args.site c.in-Err.site c.say-in-Err.result.1 c.say-in-Err.result.0.status c.not_opened.result early.1 c.say-in-Err.ensures.says told))
+    (λ late. inr (record {
+      synced = late.synced;
+      first = late.first;
+      rest = late.rest;
+      same = late.same;
+      until = late.until;
+      since = opened_said g.S.Site c.args.site late.synced c.in-Err.site c.say-in-Err.result.1 q (take c.args.limit all) c.say-in-Err.result.0.status c.not_opened.result b.state (at_site (λ s. g.S.Site.output s ≡ g.S.Site.output c.args.site) c.open.result _ c.in-Err.is (c.open.ensures.keeps.output told)) late.since c.say-in-Err.ensures.says told;
+    }))
+    (c.in-Err.ensures.moments_err told)
 
-pub stop_line-len-requires : goal.stop_line-len-requires
-stop_line-len-requires g c = has_path c.serve-served.result.stop c.in-Some.why c.in-Some.number (sym c.line_of.ensures ∙ c.in-Some.is) c.serve-served.ensures.named
+pub returns-in-Err-clause-at_rest : goal.returns-in-Err-clause-at_rest
+returns-in-Err-clause-at_rest g c rest all ending q b told =
+    from_rest g.S.Site c.args.site c.say-in-Err.result.1 q (take c.args.limit all) b.state rest (returns-in-Err-clause-moments g c told all ending q b)
+
+pub returns-in_default-clause-named : goal.returns-in_default-clause-named
+returns-in_default-clause-named g c t is = said_named g.S.Site c.args.site c.say.result.1 c.say.result.0.status None whys.Memory (directory (g.S.Site.disk c.args.site).reads) c.say.ensures.says is t (g.met.S.Site.all_has_reads t) (λ e. absurd (omega (arith, e)))
+
+pub returns-in-Ok-open-clause-named : goal.returns-in-Ok-open-clause-named
+returns-in-Ok-open-clause-named g c t is =
+    let told = g.met.S.Site.all_has_reads t in
+    let dir = directory (g.S.Site.disk c.args.site).reads in
+    let d : dir ≡ Some (the_dir dir) = some_dir dir (c.in-Ok-open.ensures.found told) in
+    subst (λ (o : Option Dir). Names o (directory (g.S.Site.disk c.opened.result.1).reads) (g.S.Site.output c.opened.result.1)) (sym d) (c.opened.ensures.named t (the_dir dir) (at_site (λ s. directory (g.S.Site.disk s).reads ≡ directory (g.S.Site.disk c.args.site).reads) c.open.result _ c.in-Ok-open.is (c.open.ensures.same told) ∙ d) is)
+
+pub returns-in-Err-clause-named : goal.returns-in-Err-clause-named
+returns-in-Err-clause-named g c t is =
+    let told = g.met.S.Site.all_has_reads t in
+    let dir = directory (g.S.Site.disk c.args.site).reads in
+    said_named g.S.Site c.in-Err.site c.say-in-Err.result.1 c.say-in-Err.result.0.status None c.not_opened.result dir c.say-in-Err.ensures.says is t told
+    (subst (λ (w : Why). status_of_why w ≡ 75 → IsFound None w dir (directory (g.S.Site.disk c.in-Err.site).reads)) (sym c.not_opened.ensures)
+    (open_found c.in-Err.error dir (directory (g.S.Site.disk c.in-Err.site).reads) (c.in-Err.ensures.damaged told)))
+
+pub returns-in-Err-clause-rest : goal.returns-in-Err-clause-rest
+returns-in-Err-clause-rest g c all ending q b no_fault no_memory no_output t =
+    let told = g.met.S.Site.all_has_reads t in
+    let says = c.say-in-Err.ensures.says in
+    let line : (c.say-in-Err.result.0.status ≡ status_of_why c.not_opened.result) ⊎ (c.say-in-Err.result.0.status ≡ 73) = ⊎_elim (λ l. inl l.0) (λ r. inr r.0) says.line in
+    absurd (open_at_rest c.in-Err.error c.not_opened.result (directory (g.S.Site.disk c.args.site).reads) q c.say-in-Err.result.0.status (Rose (g.S.Site.disk_faults c.args.site) (g.S.Site.disk_faults c.say-in-Err.result.1)) b.state (c.in-Err.ensures.damaged told) c.not_opened.ensures
+    line (λ e. subst (λ (n : ℕ). Rose (g.S.Site.disk_faults c.args.site) n) (sym says.disk_faults) (at_site (λ s. Rose (g.S.Site.disk_faults c.args.site) (g.S.Site.disk_faults s)) c.open.result _ c.in-Err.is (c.open.ensures.keeps.cause (subst (λ r. IsErrAnd r (λ e. e.0 ≡ Fault)) (sym c.in-Err.is) e)))) no_fault no_memory no_output)
+
+pub returns-in_default-clause-gate : goal.returns-in_default-clause-gate
+returns-in_default-clause-gate g c some one two three told = absurd (fails_not c.say.result.0.status (said_fails g.S.Site c.args.site c.say.result.1 c.say.result.0.status None whys.Memory (inl refl) c.say.ensures.says) one two three)
+
+pub returns-in-Err-clause-gate : goal.returns-in-Err-clause-gate
+returns-in-Err-clause-gate g c some one two three told =
+    absurd (fails_not c.say-in-Err.result.0.status (said_fails g.S.Site c.in-Err.site c.say-in-Err.result.1 c.say-in-Err.result.0.status None c.not_opened.result
+    (open_fails c.in-Err.error c.not_opened.result (directory (g.S.Site.disk c.args.site).reads) some (c.in-Err.ensures.damaged told) c.not_opened.ensures) c.say-in-Err.ensures.says) one two three)
+
+pub returns-in_default-clause-nolist : goal.returns-in_default-clause-nolist
+returns-in_default-clause-nolist g c told files found none = said_misses g.S.Site c.args.site c.say.result.1 (g.S.Site.output c.args.site) c.say.result.0.status None whys.Memory (inl refl) c.say.ensures.says
+
+pub returns-in-Ok-open-clause-nolist : goal.returns-in-Ok-open-clause-nolist
+returns-in-Ok-open-clause-nolist g c told files found none =
+    misses_before (IsTrue g.S.Site.tells_all) c.opened.result.0.status (g.S.Site.output (site_of c.in-Ok-open.store)) (g.S.Site.output c.args.site) (g.S.Site.output c.opened.result.1)
+    (λ t. at_site (λ s. g.S.Site.output s ≡ g.S.Site.output c.args.site) c.open.result _ c.in-Ok-open.is (c.open.ensures.keeps.output t))
+    (c.opened.ensures.nolist told files (at_site (λ s. directory (g.S.Site.disk s).reads ≡ directory (g.S.Site.disk c.args.site).reads) c.open.result _ c.in-Ok-open.is (c.open.ensures.same told) ∙ found) none)
+
+pub returns-in-Err-clause-nolist : goal.returns-in-Err-clause-nolist
+returns-in-Err-clause-nolist g c told files found none =
+    said_misses g.S.Site c.in-Err.site c.say-in-Err.result.1 (g.S.Site.output c.args.site) c.say-in-Err.result.0.status None c.not_opened.result
+    (open_fails c.in-Err.error c.not_opened.result (directory (g.S.Site.disk c.args.site).reads) (subst (λ (o : Option Dir). IsSome o) (sym found) refl) (c.in-Err.ensures.damaged told) c.not_opened.ensures) c.say-in-Err.ensures.says

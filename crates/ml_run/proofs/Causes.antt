@@ -1,0 +1,260 @@
+-- Which statuses a run has, and which counts rose.
+use Rattle.std.proofs.Common.{◌≡◌, ⊎_elim, ℕ, ◌+◌, ◌<◌, ◌≤◌, true, IsTrue, [], ◌∷◌, Option, Some, None, ap, sym, refl, subst, ◌∙◌, arith}
+use Rattle.std.proofs.lemmas.Bool.Decides.{nat_tests}
+use Rattle.ml_base.specs.Faults.{Rose}
+use Rattle.ml_base.specs.declared.names.Name.{Name}
+use Rattle.ml_site.specs.Disk.{Contents, Disk, IsAtRest}
+use Rattle.ml_site.specs.declared.site.Site.{Ghosts}
+use Rattle.ml_journal.specs.Calls.{IsClean}
+use Rattle.ml_plain.specs.Replies.{is_status}
+use Rattle.ml_run.specs.declared.lines.Why.{Why}
+use Rattle.ml_run.specs.declared.lines.Why.TheVariants as whys
+use Rattle.ml_run.specs.Stops.{status_of_why, is_run_status}
+use Rattle.ml_run.specs.declared.groups.GroupEnd.{GroupEnd}
+use Rattle.ml_run.specs.declared.groups.GroupEnd.TheVariants as ends
+use Rattle.ml_run.specs.Groups.{HasReason, EndsWithReason}
+use Rattle.ml_run.specs.Spending.{IsRefused}
+use Rattle.ml_run.specs.Endings.{StopLine, who_of, Says, IsMemory, ClosesTo, Finishes, Refuses, HasLineReason, HasCauses}
+
+pub rose_later : (a b c : ℕ) → Rose a b → b ≤ c → Rose a c
+rose_later a b c rose le = omega (arith, rose, le)
+
+pub rose_earlier : (a b c : ℕ) → a ≤ b → Rose b c → Rose a c
+rose_earlier a b c le rose = omega (arith, rose, le)
+
+-- what follows from the causes of a reason
+pub reason_map : (why : Why) (input input' d d' : Type 0) (damaged damaged' : Name → Type 0) → (input → input') → (d → d') → ((name : Name) → damaged name → damaged' name) → HasReason why input d damaged → HasReason why input' d' damaged'
+reason_map (whys.Bad at) input input' d d' damaged damaged' e f h r = r
+reason_map (whys.Short at) input input' d d' damaged damaged' e f h r = r
+reason_map whys.More input input' d d' damaged damaged' e f h r = r
+reason_map whys.Input input input' d d' damaged damaged' e f h r = e r
+reason_map whys.Memory input input' d d' damaged damaged' e f h r = r
+reason_map whys.Disk input input' d d' damaged damaged' e f h r = f r
+reason_map (whys.At name) input input' d d' damaged damaged' e f h r = (r.0, h name r.1)
+reason_map whys.NoList input input' d d' damaged damaged' e f h r = absurd r
+reason_map whys.Usage input input' d d' damaged damaged' e f h r = absurd r
+reason_map whys.Words input input' d d' damaged damaged' e f h r = absurd r
+reason_map whys.Long input input' d d' damaged damaged' e f h r = absurd r
+reason_map whys.Clock input input' d d' damaged damaged' e f h r = absurd r
+reason_map whys.There input input' d d' damaged damaged' e f h r = absurd r
+reason_map whys.Absent input input' d d' damaged damaged' e f h r = absurd r
+
+reason_weaker : (why : Why) (input d d' : Type 0) (damaged : Name → Type 0) → (d → d') → HasReason why input d damaged → HasReason why input d' damaged
+reason_weaker why input d d' damaged f r = reason_map why input input d d' damaged damaged (λ x. x) f (λ name x. x) r
+
+-- the causes of the end of a group, without what is damaged
+pub end_reason : (end : GroupEnd) (input input' disk : Type 0) (damaged : Name → Type 0) → (input → input') → EndsWithReason end input disk damaged → EndsWithReason end input' disk (λ name. Unit {0})
+end_reason ends.Full input input' disk damaged f r = r
+end_reason ends.Last input input' disk damaged f r = r
+end_reason (ends.Stopped who why) input input' disk damaged f r = reason_map why input input' disk disk damaged (λ name. Unit {0}) f (λ d. d) (λ name d. tt) r
+
+line_weaker : (line : StopLine) (input d d' : Type 0) (damaged : Name → Type 0) → (d → d') → HasLineReason line input d damaged → HasLineReason line input d' damaged
+line_weaker None input d d' damaged f r = r
+line_weaker (Some line) input d d' damaged f r = reason_weaker line.1 input d d' damaged f r
+
+closes_reason : (line final : StopLine) (rest disk input d d' : Type 0) (damaged : Name → Type 0) → ClosesTo line final rest disk → (d → d') → (disk → d') → HasLineReason line input d damaged → HasLineReason final input d' damaged
+closes_reason line final rest disk input d d' damaged c f g r =
+    let P : StopLine → Type 0 = λ l. HasLineReason l input d' damaged in
+    let same = line_weaker line input d d' damaged f r in
+    ⊎_elim (λ e. subst P (sym e.0) same) (λ more. ⊎_elim (λ e. subst P (sym e.0) same) (λ other. ⊎_elim (λ m. subst P (sym m.0) tt) (λ e. subst P (sym e.0) (g e.2)) other) more) c
+
+other_status : (status : ℕ) (input disk output : Type 0) → IsTrue (is_run_status status) → (status ≡ 74 → ⊥) → (status ≡ 111 → ⊥) → (status ≡ 73 → ⊥) → HasCauses status input disk output
+other_status status input disk output known one two three = record { known = known; of_input = λ e. absurd (one e); of_disk = λ e. absurd (two e); of_output = λ e. absurd (three e) }
+
+why_causes : (why : Why) (input d o : Type 0) (damaged : Name → Type 0) → HasReason why input d damaged → HasCauses (status_of_why why) input d o
+why_causes (whys.Bad at) input d o damaged r = other_status 65 input d o refl (λ e. omega (arith, e)) (λ e. omega (arith, e)) (λ e. omega (arith, e))
+why_causes (whys.Short at) input d o damaged r = other_status 65 input d o refl (λ e. omega (arith, e)) (λ e. omega (arith, e)) (λ e. omega (arith, e))
+why_causes whys.More input d o damaged r = other_status 72 input d o refl (λ e. omega (arith, e)) (λ e. omega (arith, e)) (λ e. omega (arith, e))
+why_causes whys.Input input d o damaged r = record { known = refl; of_input = λ e. r; of_disk = λ e. absurd (omega (arith, e)); of_output = λ e. absurd (omega (arith, e)) }
+why_causes whys.Memory input d o damaged r = other_status 71 input d o refl (λ e. omega (arith, e)) (λ e. omega (arith, e)) (λ e. omega (arith, e))
+why_causes whys.Disk input d o damaged r = record { known = refl; of_input = λ e. absurd (omega (arith, e)); of_disk = λ e. r; of_output = λ e. absurd (omega (arith, e)) }
+why_causes (whys.At name) input d o damaged r = other_status 75 input d o refl (λ e. omega (arith, e)) (λ e. omega (arith, e)) (λ e. omega (arith, e))
+why_causes whys.NoList input d o damaged r = absurd r
+why_causes whys.Usage input d o damaged r = absurd r
+why_causes whys.Words input d o damaged r = absurd r
+why_causes whys.Long input d o damaged r = absurd r
+why_causes whys.Clock input d o damaged r = absurd r
+why_causes whys.There input d o damaged r = absurd r
+why_causes whys.Absent input d o damaged r = absurd r
+
+cut_causes : (input d o : Type 0) → o → HasCauses 73 input d o
+cut_causes input d o rose = record { known = refl; of_input = λ e. absurd (omega (arith, e)); of_disk = λ e. absurd (omega (arith, e)); of_output = λ e. rose }
+
+status_run : (last : ℕ) → is_status last ≡ true → is_run_status last ≡ true
+status_run last is = grind (arith, nat_tests)
+
+status_not : (last n : ℕ) → is_status last ≡ true → 0 < n → n < 100 → ¬ (last ≡ n)
+status_not last n is low high e = grind (arith, nat_tests)
+
+status_not_111 : (last : ℕ) → is_status last ≡ true → ¬ (last ≡ 111)
+status_not_111 last is e = grind (arith, nat_tests)
+
+same_said : (a b : Option ℕ × Why) → ◌≡◌ {A = StopLine} (Some a) (Some b) → a ≡ b
+same_said a b e = cc
+
+none_line : (a : Option ℕ × Why) → ◌≡◌ {A = StopLine} None (Some a) → ⊥
+none_line a e = cc
+
+module _ {S : Type 0} (told : Ghosts S) where
+  pub said_causes : (mid new : S) (d0 o0 status : ℕ) (who : Option ℕ) (why : Why) (input : Type 0) (damaged : Name → Type 0) → o0 ≤ told.output_faults mid → HasReason why input (Rose d0 (told.disk_faults mid)) damaged → Says told mid new status who why
+      → HasCauses status input (Rose d0 (told.disk_faults new)) (Rose o0 (told.output_faults new))
+  said_causes mid new d0 o0 status who why input damaged le r s =
+      let P : ℕ → Type 0 = λ n. HasCauses n input (Rose d0 (told.disk_faults new)) (Rose o0 (told.output_faults new)) in
+      ⊎_elim
+      (λ whole. subst P (sym whole.0) (why_causes why input (Rose d0 (told.disk_faults new)) (Rose o0 (told.output_faults new)) damaged
+      (reason_weaker why input (Rose d0 (told.disk_faults mid)) (Rose d0 (told.disk_faults new)) damaged (λ rose. subst (λ (n : ℕ). Rose d0 n) (sym s.disk_faults) rose) r)))
+      (λ cut. subst P (sym cut.0) (cut_causes input (Rose d0 (told.disk_faults new)) (Rose o0 (told.output_faults new)) (rose_earlier o0 (told.output_faults mid) (told.output_faults new) le cut.1)))
+      s.line
+
+  pub finished_causes : (now new : S) (d0 o0 status last : ℕ) (line : StopLine) (input : Type 0) (damaged : Name → Type 0) → d0 ≤ told.disk_faults now → o0 ≤ told.output_faults now → is_status last ≡ true
+      → HasLineReason line input (Rose d0 (told.disk_faults now)) damaged → Finishes told now new line status last → HasCauses status input (Rose d0 (told.disk_faults new)) (Rose o0 (told.output_faults new))
+  finished_causes now new d0 o0 status last line input damaged dle ole is r f =
+      let reason : HasLineReason f.final input (Rose d0 (told.disk_faults f.mid)) damaged = closes_reason line f.final (IsClean told f.mid) (Rose (told.disk_faults now) (told.disk_faults f.mid)) input
+      (Rose d0 (told.disk_faults now)) (Rose d0 (told.disk_faults f.mid)) damaged f.closes (λ rose. rose_later d0 (told.disk_faults now) (told.disk_faults f.mid) rose f.faults) (λ rose. rose_earlier d0 (told.disk_faults now) (told.disk_faults f.mid) dle rose) r in
+      ⊎_elim
+      (λ quiet. subst (λ (n : ℕ). HasCauses n input (Rose d0 (told.disk_faults new)) (Rose o0 (told.output_faults new))) (sym quiet.1)
+      (other_status last input (Rose d0 (told.disk_faults new)) (Rose o0 (told.output_faults new)) (status_run last is) (status_not last 74 is (omega arith) (omega arith)) (status_not_111 last is) (status_not last 73 is (omega arith) (omega arith))))
+      (λ said. said_causes f.mid new d0 o0 status said.0 said.1 input damaged (omega (arith, ole, f.others))
+      (subst (λ (l : StopLine). HasLineReason l input (Rose d0 (told.disk_faults f.mid)) damaged) said.2 reason) said.3)
+      f.said
+
+  -- the counts don't fall
+  pub finished_disk : (now new : S) (line : StopLine) (status last : ℕ) → Finishes told now new line status last → told.disk_faults now ≤ told.disk_faults new
+  finished_disk now new line status last f = ⊎_elim
+      (λ quiet. omega (arith, f.faults, ap told.disk_faults quiet.2))
+      (λ said. omega (arith, f.faults, said.3.disk_faults))
+      f.said
+
+  pub finished_output : (now new : S) (line : StopLine) (status last : ℕ) → Finishes told now new line status last → told.output_faults now ≤ told.output_faults new
+  finished_output now new line status last f = ⊎_elim
+      (λ quiet. omega (arith, f.others, ap told.output_faults quiet.2))
+      (λ said. omega (arith, f.others, said.3.output_faults))
+      f.said
+
+  memory_status : (mid new : S) (status : ℕ) (who : Option ℕ) (why : Why) → Says told mid new status who why → why ≡ whys.Memory → (status ≡ 71 → ⊥) → (status ≡ 73 → ⊥) → ⊥
+  memory_status mid new status who why s is one two = ⊎_elim (λ whole. one (whole.0 ∙ ap status_of_why is)) (λ cut. two cut.0) s.line
+
+  -- nothing is pending then
+  pub finished_rest : (now new : S) (line : StopLine) (status last : ℕ) → Finishes told now new line status last → (Rose (told.disk_faults now) (told.disk_faults new) → ⊥) → (status ≡ 71 → ⊥) → (status ≡ 73 → ⊥)
+      → IsTrue told.tells_all → IsAtRest (told.disk new)
+  finished_rest now new line status last f none one two t =
+      let later : IsAtRest (told.disk f.mid) → IsAtRest (told.disk new) = λ rest. ⊎_elim
+      (λ quiet. subst (λ (x : S). IsAtRest (told.disk x)) (sym quiet.2) rest)
+      (λ said. subst (λ (d : Disk). IsAtRest d) (sym (said.3.disk_is t)) rest)
+      f.said in
+      let memory : IsMemory f.final → ⊥ = λ is. ⊎_elim
+      (λ quiet. subst IsMemory quiet.0 is)
+      (λ said. memory_status f.mid new status said.0 said.1 said.3 (subst IsMemory said.2 is) one two)
+      f.said in
+      ⊎_elim (λ e. later (e.1.rest t)) (λ more. ⊎_elim (λ e. absurd (memory (subst IsMemory (sym e.0) e.1))) (λ other. ⊎_elim (λ m. absurd (memory (subst IsMemory (sym m.0) refl)))
+      (λ e. absurd (none (risen f e.2))) other) more) f.closes
+    where
+      risen : (f : Finishes told now new line status last) → Rose (told.disk_faults now) (told.disk_faults f.mid) → Rose (told.disk_faults now) (told.disk_faults new)
+      risen f rose = ⊎_elim
+          (λ quiet. subst (λ (x : S). Rose (told.disk_faults now) (told.disk_faults x)) (sym quiet.2) rose)
+          (λ said. subst (λ (n : ℕ). Rose (told.disk_faults now) n) (sym said.3.disk_faults) rose)
+          f.said
+
+  disk_status : (mid new : S) (status : ℕ) (who : Option ℕ) (why : Why) → Says told mid new status who why → why ≡ whys.Disk → (status ≡ 111 → ⊥) → (status ≡ 73 → ⊥) → ⊥
+  disk_status mid new status who why s is one two = ⊎_elim (λ whole. one (whole.0 ∙ ap status_of_why is)) (λ cut. two cut.0) s.line
+
+  -- the log is one gate then
+  pub finished_gate : (now new : S) (line : StopLine) (status last : ℕ) → Finishes told now new line status last → is_status last ≡ true → (status ≡ 71 → ⊥) → (status ≡ 73 → ⊥) → (status ≡ 111 → ⊥)
+      → IsTrue told.tells_reads → (told.disk new).reads.log ≡ 0 ∷ []
+  finished_gate now new line status last f sound one two three r =
+      let later : (told.disk f.mid).reads.log ≡ 0 ∷ [] → (told.disk new).reads.log ≡ 0 ∷ [] = λ gate. ⊎_elim
+      (λ quiet. subst (λ (x : S). (told.disk x).reads.log ≡ 0 ∷ []) (sym quiet.2) gate)
+      (λ said. ap (λ (c : Contents). c.log) (said.3.reads r) ∙ gate)
+      f.said in
+      let memory : IsMemory f.final → ⊥ = λ is. ⊎_elim
+      (λ quiet. subst IsMemory quiet.0 is)
+      (λ said. memory_status f.mid new status said.0 said.1 said.3 (subst IsMemory said.2 is) one two)
+      f.said in
+      let disk : (who : Option ℕ) → f.final ≡ Some (who, whys.Disk) → ⊥ = λ who is. ⊎_elim
+      (λ quiet. none_line (who, whys.Disk) (sym quiet.0 ∙ is))
+      (λ said. disk_status f.mid new status said.0 said.1 said.3 (ap (λ (p : Option ℕ × Why). p.1) (same_said (said.0, said.1) (who, whys.Disk) (sym said.2 ∙ is))) three two)
+      f.said in
+      ⊎_elim (λ e. later (e.1.log r)) (λ more. ⊎_elim (λ e. absurd (memory (subst IsMemory (sym e.0) e.1))) (λ other. ⊎_elim (λ m. absurd (memory (subst IsMemory (sym m.0) refl)))
+      (λ e. absurd (disk (who_of line) e.0)) other) more) f.closes
+
+  -- a refused group has one of these statuses
+  pub refused_status : (mid new : S) (status : ℕ) (first : Option ℕ) (why : Option Why) (disk output : Type 0) → IsRefused why disk output → Refuses told mid new first why status
+      → (status ≡ 71 → ⊥) → (status ≡ 73 → ⊥) → (status ≡ 111 → ⊥) → ⊥
+  refused_status mid new status first None disk output refused f one two three = two (f.quiet refl).0
+  refused_status mid new status first (Some whys.Memory) disk output refused f one two three = memory_status mid new status first whys.Memory (f.said whys.Memory refl) refl one two
+  refused_status mid new status first (Some whys.Disk) disk output refused f one two three = disk_status mid new status first whys.Disk (f.said whys.Disk refl) refl three two
+  refused_status mid new status first (Some (whys.Bad at)) disk output refused f one two three = refused
+  refused_status mid new status first (Some (whys.Short at)) disk output refused f one two three = refused
+  refused_status mid new status first (Some whys.More) disk output refused f one two three = refused
+  refused_status mid new status first (Some whys.Input) disk output refused f one two three = refused
+  refused_status mid new status first (Some whys.Usage) disk output refused f one two three = refused
+  refused_status mid new status first (Some whys.Words) disk output refused f one two three = refused
+  refused_status mid new status first (Some whys.Long) disk output refused f one two three = refused
+  refused_status mid new status first (Some whys.Clock) disk output refused f one two three = refused
+  refused_status mid new status first (Some whys.NoList) disk output refused f one two three = refused
+  refused_status mid new status first (Some (whys.At name)) disk output refused f one two three = refused
+  refused_status mid new status first (Some whys.There) disk output refused f one two three = refused
+  refused_status mid new status first (Some whys.Absent) disk output refused f one two three = refused
+
+  pub finished_syncs : (now new : S) (line : StopLine) (status last : ℕ) → Finishes told now new line status last → IsTrue told.tells_all → (told.syncs new ≤ told.syncs now + 3) × (told.syncs now ≤ told.syncs new) × (told.log_bytes now ≤ told.log_bytes new)
+  finished_syncs now new line status last f t =
+      let spends = f.spends t in
+      ⊎_elim
+      (λ quiet. (omega (arith, spends.few, ap told.syncs quiet.2), omega (arith, spends.stay, ap told.syncs quiet.2), omega (arith, spends.bytes_stay, ap told.log_bytes quiet.2)))
+      (λ said. (omega (arith, spends.few, said.3.syncs t), omega (arith, spends.stay, said.3.syncs t), omega (arith, spends.bytes_stay, said.3.log_bytes t)))
+      f.said
+
+  -- a group was refused
+  pub refused_causes : (mid new : S) (d0 o0 d1 o1 status : ℕ) (first : Option ℕ) (why : Option Why) (input : Type 0) → d0 ≤ d1 → o0 ≤ o1 → o0 ≤ told.output_faults mid → IsRefused why (Rose d1 (told.disk_faults mid)) (Rose o1 (told.output_faults mid)) → Refuses told mid new first why status
+      → HasCauses status input (Rose d0 (told.disk_faults new)) (Rose o0 (told.output_faults new))
+  refused_causes mid new d0 o0 d1 o1 status first None input dle ole mle refused f =
+      let quiet = f.quiet refl in
+      subst (λ (n : ℕ). HasCauses n input (Rose d0 (told.disk_faults new)) (Rose o0 (told.output_faults new))) (sym quiet.0)
+      (cut_causes input (Rose d0 (told.disk_faults new)) (Rose o0 (told.output_faults new)) (subst (λ (x : S). Rose o0 (told.output_faults x)) (sym quiet.1) (rose_earlier o0 o1 (told.output_faults mid) ole refused)))
+  refused_causes mid new d0 o0 d1 o1 status first (Some reason) input dle ole mle refused f =
+      said_causes mid new d0 o0 status first reason input (λ name. Unit {0}) mle (refused_reason reason input refused) (f.said reason refl)
+    where
+      refused_reason : (reason : Why) (input : Type 0) → IsRefused (Some reason) (Rose d1 (told.disk_faults mid)) (Rose o1 (told.output_faults mid)) → HasReason reason input (Rose d0 (told.disk_faults mid)) (λ name. Unit {0})
+      refused_reason whys.Disk input r = rose_earlier d0 d1 (told.disk_faults mid) dle r
+      refused_reason whys.Memory input r = tt
+      refused_reason (whys.Bad at) input r = absurd r
+      refused_reason (whys.Short at) input r = absurd r
+      refused_reason whys.More input r = absurd r
+      refused_reason whys.Input input r = absurd r
+      refused_reason whys.Usage input r = absurd r
+      refused_reason whys.Words input r = absurd r
+      refused_reason whys.Long input r = absurd r
+      refused_reason whys.Clock input r = absurd r
+      refused_reason whys.NoList input r = absurd r
+      refused_reason (whys.At name) input r = absurd r
+      refused_reason whys.There input r = absurd r
+      refused_reason whys.Absent input r = absurd r
+
+  -- the counts after a refused group
+  pub refused_counts : (mid new : S) (status : ℕ) (first : Option ℕ) (why : Option Why) → Refuses told mid new first why status → (told.disk_faults new ≡ told.disk_faults mid) × (told.output_faults mid ≤ told.output_faults new)
+  refused_counts mid new status first None f = (ap told.disk_faults (f.quiet refl).1, omega (arith, ap told.output_faults (f.quiet refl).1))
+  refused_counts mid new status first (Some reason) f = ((f.said reason refl).disk_faults, (f.said reason refl).output_faults)
+
+  pub refused_syncs : (mid new : S) (status : ℕ) (first : Option ℕ) (why : Option Why) → Refuses told mid new first why status → IsTrue told.tells_all → (told.syncs new ≡ told.syncs mid) × (told.log_bytes new ≡ told.log_bytes mid)
+  refused_syncs mid new status first None f t = (ap told.syncs (f.quiet refl).1, ap told.log_bytes (f.quiet refl).1)
+  refused_syncs mid new status first (Some reason) f t = ((f.said reason refl).syncs t, (f.said reason refl).log_bytes t)
+
+  -- what is pending after a refused group is a fault's, or memory was wanting, or the output failed
+  pub refused_rest : (mid new : S) (d0 d1 status : ℕ) (first : Option ℕ) (why : Option Why) (output : Type 0) → d0 ≤ d1 → IsRefused why (Rose d1 (told.disk_faults mid)) output → Refuses told mid new first why status
+      → (Rose d0 (told.disk_faults new) → ⊥) → (status ≡ 71 → ⊥) → (status ≡ 73 → ⊥) → ⊥
+  refused_rest mid new d0 d1 status first None output dle refused f none one two = two (f.quiet refl).0
+  refused_rest mid new d0 d1 status first (Some whys.Memory) output dle refused f none one two = memory_status mid new status first whys.Memory (f.said whys.Memory refl) refl one two
+  refused_rest mid new d0 d1 status first (Some whys.Disk) output dle refused f none one two =
+      none (subst (λ (n : ℕ). Rose d0 n) (sym (f.said whys.Disk refl).disk_faults) (rose_earlier d0 d1 (told.disk_faults mid) dle refused))
+  refused_rest mid new d0 d1 status first (Some (whys.Bad at)) output dle refused f none one two = refused
+  refused_rest mid new d0 d1 status first (Some (whys.Short at)) output dle refused f none one two = refused
+  refused_rest mid new d0 d1 status first (Some whys.More) output dle refused f none one two = refused
+  refused_rest mid new d0 d1 status first (Some whys.Input) output dle refused f none one two = refused
+  refused_rest mid new d0 d1 status first (Some whys.Usage) output dle refused f none one two = refused
+  refused_rest mid new d0 d1 status first (Some whys.Words) output dle refused f none one two = refused
+  refused_rest mid new d0 d1 status first (Some whys.Long) output dle refused f none one two = refused
+  refused_rest mid new d0 d1 status first (Some whys.Clock) output dle refused f none one two = refused
+  refused_rest mid new d0 d1 status first (Some whys.NoList) output dle refused f none one two = refused
+  refused_rest mid new d0 d1 status first (Some (whys.At name)) output dle refused f none one two = refused
+  refused_rest mid new d0 d1 status first (Some whys.There) output dle refused f none one two = refused
+  refused_rest mid new d0 d1 status first (Some whys.Absent) output dle refused f none one two = refused

@@ -1,0 +1,151 @@
+-- One group of a run: what was gathered, and how the run goes on or ends behind it.
+use Rattle.std.proofs.Common.{◌≡◌, ◌≢◌, ◌⊎◌, inl, inr, ⊎_elim, ℕ, true, false, ◌+◌, ◌-◌, ◌<◌, ◌≤◌, IsTrue, List, [], ◌∷◌, ◌++◌, length, take, drop, Option, Some, None, ap, sym, refl, subst, ◌∙◌, arith, append_assoc, length-append}
+use Rattle.std.specs.Prelude.{IsSome}
+use Rattle.std.proofs.lemmas.List.{append-nil, take-append-drop}
+use Rattle.ml_base.specs.Bytes.{Text}
+use Rattle.ml_base.specs.Dir.{Dir}
+use Rattle.ml_base.specs.declared.names.Name.{Name}
+use Rattle.ml_site.specs.Disk.{Contents}
+use Rattle.ml_site.specs.Moments.{LeavesOnly}
+use Rattle.ml_site.specs.declared.site.Site.{Ghosts}
+use Rattle.ml_journal.specs.Log.{directory}
+use Rattle.ml_plain.specs.declared.Item.{Item}
+use Rattle.ml_plain.specs.Histories.{State, fold, text, last_from}
+use Rattle.ml_list.proofs.States.{last-append}
+use Rattle.ml_run.specs.declared.items.Items.{Items}
+use Rattle.ml_run.specs.declared.groups.Group.{Group}
+use Rattle.ml_run.specs.declared.groups.GroupEnd.TheVariants as ends
+use Rattle.ml_run.specs.declared.lines.Why.{Why}
+use Rattle.ml_run.specs.declared.lines.Why.TheVariants as whys
+use Rattle.ml_run.specs.Stream.{StreamEnd, End}
+use Rattle.ml_run.specs.Groups.{Gathers, IsStop, IsFirst, IsNumberOf, HasReason}
+use Rattle.ml_journal.specs.Calls.{Leaves}
+use Rattle.ml_run.specs.Leaving.{HasState, IsAfterSome, IsServed, IsLeft}
+use Rattle.ml_run.specs.Spending.{IsRefused}
+use Rattle.ml_run.specs.Endings.{EndsEarly, HasMore, Runs, Refuses, IsServing, IsLine}
+use Rattle.ml_run.proofs.Leaving.{take_split, same_state}
+use Rattle.ml_run.proofs.Served.{said_moments, said_runs}
+
+module _ {S : Type 0} (told : Ghosts S) where
+  -- what a group had ahead, cut behind it
+  pub group_split : (start now : S) (limit answered last : ℕ) (reader : Items) (left : Option Text) (all : List Item) (ending : StreamEnd) (q : State) (i : IsServing told start now limit answered last reader left all ending q)
+      (items rest : List Item) (count : ℕ) → i.ahead ≡ items ++ rest → count ≡ length items → count ≤ limit - answered
+      → IsServed told start now q (take limit all) i.done (items ++ take (limit - (answered + count)) rest)
+  group_split start now limit answered last reader left all ending q i items rest count split is le =
+      let cut : take (limit - answered) i.ahead ≡ items ++ take (limit - (answered + count)) rest =
+      ap (take (limit - answered)) split ∙ take_split (limit - answered) items rest (omega (arith, is, le)) ∙ ap (λ (n : ℕ). items ++ take n rest) (let e : (limit - answered) - length items ≡ limit - (answered + count) = omega (arith, is) in e) in
+      subst (λ (l : List Item). IsServed told start now q (take limit all) i.done l) cut i.served
+
+  -- the run goes on behind a group
+  pub next_serving : (start now new : S) (limit answered last : ℕ) (reader next : Items) (left left' : Option Text) (all : List Item) (ending : StreamEnd) (q : State) (i : IsServing told start now limit answered last reader left all ending q)
+      (dir : Dir) (g : Group) (room : ℕ) (s : Gathers dir last g ends.Full room next left' i.ahead ending (fold q i.done))
+      → IsServed told start new q (take limit all) (i.done ++ s.items) (take (limit - (answered + g.count)) s.rest) → IsServing told start new limit (answered + g.count) g.last next left' all ending q
+  next_serving start now new limit answered last reader next left left' all ending q i dir g room s served = record {
+    done = i.done ++ s.items;
+    ahead = s.rest;
+    split = i.split ∙ ap (λ (l : List Item). i.done ++ l) s.split ∙ sym (append_assoc i.done s.items s.rest);
+    count = omega (arith, i.count, s.holds.count, length-append i.done s.items);
+    last_is = s.holds.last_is ∙ ap (λ (n : ℕ). last_from n (fold q i.done) s.items) i.last_is ∙ sym (last-append 0 q i.done s.items);
+    stream = s.ends;
+    served = served;
+  }
+
+none_left : (all done rest : List Item) → all ≡ done ++ rest → rest ≡ [] → done ≡ all
+none_left all done rest split is = sym (append-nil done) ∙ ap (λ (l : List Item). done ++ l) (sym is) ∙ sym split
+
+more_left : (limit : ℕ) (all done rest : List Item) (ending : StreamEnd) → all ≡ done ++ rest → length done ≡ limit → (rest ≢ []) ⊎ (¬ (ending ≡ End)) → HasMore limit all ending
+more_left limit all done rest ending split is some = ⊎_elim (λ ne. inl (longer rest split ne)) (λ other. inr other) some
+  where
+    longer : (rest : List Item) → all ≡ done ++ rest → rest ≢ [] → limit < length all
+    longer [] split ne = absurd (ne refl)
+    longer (x ∷ xs) split ne = omega (arith, is, ap length split, length-append done (x ∷ xs))
+
+-- the stream was at its end
+pub last_line : (rest : List Item) (ending : StreamEnd) (input : Type 0) (limit : ℕ) (held : Contents) (all : List Item) (q : State) (done behind : List Item) → all ≡ done ++ rest → rest ≡ [] → ending ≡ End → IsLine None input limit held all ending q done behind
+last_line rest ending input limit held all q done behind split none end = (end, none_left all done rest split none)
+
+some_not_none : (n : ℕ) → Some n ≡ None → ⊥
+some_not_none n e = cc
+
+not_none : (who : Option ℕ) → IsSome who → who ≡ None → ⊥
+not_none None some e = let h : false ≡ true = some in cc
+not_none (Some n) some e = some_not_none n e
+
+-- the group was stopped
+pub stop_line : (why : Why) (who : Option ℕ) (more : ℕ) (rest : List Item) (ending : StreamEnd) (input disk : Type 0) (damaged : Name → Type 0) (limit : ℕ) (held : Contents) (all : List Item) (q : State) (done : List Item)
+    → all ≡ done ++ rest → more ≡ limit - length done → length done ≤ limit → HasState (directory held) (fold q done) → IsStop why who more rest ending → HasReason why input disk damaged
+    → EndsEarly why who input limit held all ending q done (take more rest)
+stop_line (whys.Bad at) who more rest ending input disk damaged limit held all q done split is few state stop reason = (stop.0, none_left all done rest split stop.2, omega (arith, stop.1, is), stop.3, state)
+stop_line (whys.Short at) who more rest ending input disk damaged limit held all q done split is few state stop reason = (stop.0, none_left all done rest split stop.2, omega (arith, stop.1, is), stop.3, state)
+stop_line whys.More who more rest ending input disk damaged limit held all q done split is few state stop reason =
+    let full : length done ≡ limit = omega (arith, stop.1, is, few) in (stop.0, full, more_left limit all done rest ending split full stop.2, state)
+stop_line whys.Input who more rest ending input disk damaged limit held all q done split is few state stop reason = (stop, reason, state)
+stop_line whys.Memory who more rest ending input disk damaged limit held all q done split is few state stop reason = stop
+stop_line whys.Disk who more rest ending input disk damaged limit held all q done split is few state stop reason = (stop.1, λ none. absurd (not_none who stop.0 none))
+stop_line whys.Usage who more rest ending input disk damaged limit held all q done split is few state stop reason = absurd stop
+stop_line whys.Words who more rest ending input disk damaged limit held all q done split is few state stop reason = absurd stop
+stop_line whys.Long who more rest ending input disk damaged limit held all q done split is few state stop reason = absurd stop
+stop_line whys.Clock who more rest ending input disk damaged limit held all q done split is few state stop reason = absurd stop
+stop_line whys.NoList who more rest ending input disk damaged limit held all q done split is few state stop reason = absurd stop
+stop_line (whys.At name) who more rest ending input disk damaged limit held all q done split is few state stop reason = absurd stop
+stop_line whys.There who more rest ending input disk damaged limit held all q done split is few state stop reason = absurd stop
+stop_line whys.Absent who more rest ending input disk damaged limit held all q done split is few state stop reason = absurd stop
+
+-- the number of the first item of a group
+pub first_next : (first : Option ℕ) (items rest : List Item) → IsFirst first items → (0 < length items → IsSome first) → IsNumberOf first (items ++ rest)
+first_next first [] rest is some = subst (λ (o : Option ℕ). IsNumberOf o rest) (sym is) tt
+first_next first (x ∷ xs) rest is some = subst (λ (o : Option ℕ). IsNumberOf o (x ∷ xs ++ rest)) (sym is) refl
+
+-- what a refused group leaves, that is told of the site
+pub refused_line : (reason : Why) (first : Option ℕ) (disk output input : Type 0) (limit : ℕ) (held : Contents) (all : List Item) (ending : StreamEnd) (q : State) (done behind : List Item) → IsRefused (Some reason) disk output → IsNumberOf first behind → IsSome first
+    → IsLine (Some (first, reason)) input limit held all ending q done behind
+refused_line whys.Memory first disk output input limit held all ending q done behind r number some = number
+refused_line whys.Disk first disk output input limit held all ending q done behind r number some = (number, λ none. absurd (not_none first some none))
+refused_line (whys.Bad at) first disk output input limit held all ending q done behind r number some = absurd r
+refused_line (whys.Short at) first disk output input limit held all ending q done behind r number some = absurd r
+refused_line whys.More first disk output input limit held all ending q done behind r number some = absurd r
+refused_line whys.Input first disk output input limit held all ending q done behind r number some = absurd r
+refused_line whys.Usage first disk output input limit held all ending q done behind r number some = absurd r
+refused_line whys.Words first disk output input limit held all ending q done behind r number some = absurd r
+refused_line whys.Long first disk output input limit held all ending q done behind r number some = absurd r
+refused_line whys.Clock first disk output input limit held all ending q done behind r number some = absurd r
+refused_line whys.NoList first disk output input limit held all ending q done behind r number some = absurd r
+refused_line (whys.At name) first disk output input limit held all ending q done behind r number some = absurd r
+refused_line whys.There first disk output input limit held all ending q done behind r number some = absurd r
+refused_line whys.Absent first disk output input limit held all ending q done behind r number some = absurd r
+
+module _ {S : Type 0} (told : Ghosts S) where
+  -- a run whose group was refused
+  pub refused_runs : (start mid new : S) (q : State) (all : List Item) (ending : StreamEnd) (input disk output : Type 0) (limit answered status : ℕ) (done more rest : List Item) (first : Option ℕ) (why : Option Why) → IsTrue told.tells_reads
+      → take limit all ≡ done ++ (more ++ rest) → answered ≡ length done → ((reason : Why) → why ≡ Some reason → IsLeft told start mid q (take limit all) done (more ++ rest))
+      → (why ≡ None → HasState (directory (told.disk mid).reads) (fold q (done ++ more)))
+      → (IsTrue told.tells_all → (n : ℕ) × (told.output mid ≡ (told.output start ++ text q done) ++ take n (text (fold q done) more)))
+      → IsNumberOf first (more ++ rest) → ((reason : Why) → why ≡ Some reason → IsSome first) → IsRefused why disk output → Refuses told mid new first why status
+      → Runs (IsTrue told.tells_all) input status limit answered (told.disk new).reads (told.output new) all ending q (told.output start)
+  refused_runs start mid new q all ending input disk output limit answered status done more rest first None r split count left state put number some refused f =
+      let quiet = f.quiet refl in
+      inr (inr (record {
+        status_is = quiet.0;
+        done = done;
+        behind = more ++ rest;
+        split = split;
+        count = count;
+        reached = record { waiting = more; next = rest; split = refl; state = same_state (directory (told.disk mid).reads) (directory (told.disk new).reads) (fold q (done ++ more)) (ap (λ (x : S). directory (told.disk x).reads) quiet.1) (state refl) };
+        put = λ t. let p = put t in (
+          take p.0 (text (fold q done) more),
+          drop p.0 (text (fold q done) more),
+          ap told.output quiet.1 ∙ p.1,
+          inl (more, rest, refl, same_state (directory (told.disk mid).reads) (directory (told.disk new).reads) (fold q (done ++ more)) (ap (λ (x : S). directory (told.disk x).reads) quiet.1) (state refl), take-append-drop p.0 (text (fold q done) more)),
+        );
+      }))
+  refused_runs start mid new q all ending input disk output limit answered status done more rest first (Some reason) r split count left state put number some refused f =
+      said_runs told start mid new q all ending input limit answered status done (more ++ rest) first reason r (left reason refl) count
+      (refused_line reason first disk output input limit (told.disk new).reads all ending q done (more ++ rest) refused number (some reason refl)) (f.said reason refl)
+
+  -- and its moments
+  pub refused_moments : (start mid new : S) (q : State) (items done more rest : List Item) (first : Option ℕ) (why : Option Why) (status : ℕ) → ((reason : Why) → why ≡ Some reason → IsLeft told start mid q items done (more ++ rest))
+      → Leaves told start mid (IsAfterSome q items (told.output start)) → IsNumberOf first (more ++ rest) → Refuses told mid new first why status → Leaves told start new (IsAfterSome q items (told.output start))
+  refused_moments start mid new q items done more rest first None status left time number f t =
+      subst (λ (x : S). LeavesOnly told.moment told.left_since told.disk told.output start x (IsAfterSome q items (told.output start))) (sym (f.quiet refl).1) (time t)
+  refused_moments start mid new q items done more rest first (Some reason) status left time number f t =
+      said_moments told start mid new q items done (more ++ rest) status first reason (left reason refl) number (f.said reason refl) t

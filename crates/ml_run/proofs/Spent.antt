@@ -1,0 +1,104 @@
+-- The bound on syncs.
+use Rattle.std.proofs.Common.{◌≡◌, ◌⊎◌, inl, inr, ⊎_elim, ℕ, ◌+◌, ◌-◌, ◌*◌, ◌/◌, ◌^◌, ◌≤◌, ◌<◌, min, List, length, ap, ◌∙◌, arith}
+use Rattle.std.proofs.lemmas.Bool.{cases_lt}
+use Rattle.ml_base.specs.declared.puts.Put.{Put}
+use Rattle.ml_journal.specs.Records.{content_size}
+use Rattle.ml_journal.specs.Stores.{grown}
+use Rattle.ml_journal.specs.Spending.{Spends}
+use Rattle.ml_site.specs.Disk.{Contents}
+use Rattle.ml_site.specs.declared.site.Site.{Ghosts}
+use Rattle.ml_run.specs.Spending.{CostsAtMost, Costs, HasSpent}
+
+-- nothing is spent at the start, on a log of one gate
+pub spent_none : (syncs bytes log : ℕ) → log ≤ 1 → HasSpent syncs syncs bytes bytes log 0 0
+spent_none syncs bytes log le = record {
+  full = 0;
+  heavy = 0;
+  laid = 0;
+  of_answered = omega arith;
+  of_bytes = omega arith;
+  of_log = omega (arith, le);
+  few = omega arith;
+}
+
+-- one group more, that counts as so many full and so many heavy ones
+spent_group : (s0 s1 s2 b0 b1 b2 l1 l2 answered count others extra full heavy : ℕ) (txn : List Put) → HasSpent s0 s1 b0 b1 l1 answered others → Costs s1 s2 b1 b2 l1 l2 txn
+    → 16 * full ≤ count → 4_194_304 * heavy ≤ content_size txn → 2 ≤ extra + 2 * full + 2 * heavy → HasSpent s0 s2 b0 b2 l2 (answered + count) (others + extra)
+spent_group s0 s1 s2 b0 b1 b2 l1 l2 answered count others extra full heavy txn h spends enough size two = ⊎_elim
+    (λ lt. let many = spends.many lt in record {
+      full = h.full + full;
+      heavy = h.heavy + heavy;
+      laid = h.laid + 1;
+      of_answered = omega (arith, h.of_answered, enough);
+      of_bytes = omega (arith, h.of_bytes, spends.content, size);
+      of_log = omega (arith, h.of_log, many.1, many.2);
+      few = omega (arith, h.few, many.0, two);
+    })
+    (λ le. let two_syncs = spends.few le in record {
+      full = h.full + full;
+      heavy = h.heavy + heavy;
+      laid = h.laid;
+      of_answered = omega (arith, h.of_answered, enough);
+      of_bytes = omega (arith, h.of_bytes, spends.content, size);
+      of_log = omega (arith, h.of_log, two_syncs.1);
+      few = omega (arith, h.few, two_syncs.0, two);
+    })
+    (cases_lt 8_388_608 (grown l1 txn))
+
+-- a group of 16 items
+pub spent_full : (s0 s1 s2 b0 b1 b2 l1 l2 answered count others : ℕ) (txn : List Put) → HasSpent s0 s1 b0 b1 l1 answered others → Costs s1 s2 b1 b2 l1 l2 txn → count ≡ 16 → HasSpent s0 s2 b0 b2 l2 (answered + count) (others + 0)
+spent_full s0 s1 s2 b0 b1 b2 l1 l2 answered count others txn h spends is = spent_group s0 s1 s2 b0 b1 b2 l1 l2 answered count others 0 1 0 txn h spends (omega (arith, is)) (omega arith) (omega arith)
+
+-- a group of so many bytes
+pub spent_heavy : (s0 s1 s2 b0 b1 b2 l1 l2 answered count others size : ℕ) (txn : List Put) → HasSpent s0 s1 b0 b1 l1 answered others → Costs s1 s2 b1 b2 l1 l2 txn
+    → 4_194_304 ≤ size → size ≡ min (content_size txn) (2 ^ 64 - 1) → HasSpent s0 s2 b0 b2 l2 (answered + count) (others + 0)
+spent_heavy s0 s1 s2 b0 b1 b2 l1 l2 answered count others size txn h spends le is = spent_group s0 s1 s2 b0 b1 b2 l1 l2 answered count others 0 0 1 txn h spends (omega arith) (omega (arith, le, is)) (omega arith)
+
+-- another
+pub spent_other : (s0 s1 s2 b0 b1 b2 l1 l2 answered count others : ℕ) (txn : List Put) → HasSpent s0 s1 b0 b1 l1 answered others → Costs s1 s2 b1 b2 l1 l2 txn → HasSpent s0 s2 b0 b2 l2 (answered + count) (others + 2)
+spent_other s0 s1 s2 b0 b1 b2 l1 l2 answered count others txn h spends = spent_group s0 s1 s2 b0 b1 b2 l1 l2 answered count others 2 0 0 txn h spends (omega arith) (omega arith) (omega arith)
+
+-- what is spent is bounded by the answers and the log bytes
+pub spent_bound : (s0 s1 s2 b0 b1 b2 log answered others more : ℕ) → HasSpent s0 s1 b0 b1 log answered others → CostsAtMost more s1 s2 b1 b2 → s2 ≤ s0 + (others + more + 1) + 2 * (answered / 16) + (b2 - b0) / 1_048_576
+spent_bound s0 s1 s2 b0 b1 b2 log answered others more h last =
+    let groups : h.full ≤ answered / 16 = full_groups h.full answered h.of_answered in
+    let bytes : 2 * h.heavy + 3 * h.laid ≤ (b2 - b0) / 1_048_576 + 1 = heavy_groups h.heavy h.laid (b2 - b0) (omega (arith, h.of_bytes, last.bytes_stay)) (omega (arith, h.of_bytes, h.of_log, last.bytes_stay)) in
+    omega (arith, groups, bytes, h.few, last.few)
+  where
+    full_groups : (full answered : ℕ) → 16 * full ≤ answered → full ≤ answered / 16
+    full_groups full answered le = omega (arith, le)
+
+    heavy_groups : (heavy laid bytes : ℕ) → 4_194_304 * heavy ≤ bytes → 8_388_608 * laid ≤ bytes + 1 → 2 * heavy + 3 * laid ≤ bytes / 1_048_576 + 1
+    heavy_groups heavy laid bytes one two = omega (arith, one, two)
+
+-- what a group cost whose store was read from before
+pub costs_of : {S : Type 0} (told : Ghosts S) (old read new : S) (txn : List Put) → (told.disk read).reads ≡ (told.disk old).reads → told.syncs read ≡ told.syncs old → told.log_bytes read ≡ told.log_bytes old
+    → Spends told (grown (length (told.disk read).reads.log) txn) (content_size txn) read new
+    → Costs (told.syncs old) (told.syncs new) (told.log_bytes old) (told.log_bytes new) (length (told.disk old).reads.log) (length (told.disk new).reads.log) txn
+costs_of {S} told old read new txn same syncs bytes s =
+    let log : length (told.disk read).reads.log ≡ length (told.disk old).reads.log = ap (λ (held : Contents). length held.log) same in
+    let size : grown (length (told.disk read).reads.log) txn ≡ grown (length (told.disk old).reads.log) txn = ap (λ n. grown n txn) log in record {
+      content = omega (arith, s.handed, bytes);
+      few = λ le. ⊎_elim (λ a. (omega (arith, a.1.syncs, syncs), omega (arith, a.1.grows, bytes, log))) (λ b. absurd (omega (arith, le, b.0, size))) s.cost;
+      many = λ lt. ⊎_elim (λ a. absurd (omega (arith, lt, a.0, size))) (λ b. (omega (arith, b.1.syncs, syncs), b.1.short, omega (arith, b.1.paid, bytes, log))) s.cost;
+    }
+
+-- what a commit spent, and then lines were put out
+pub spent_on : {S : Type 0} (told : Ghosts S) (size contents : ℕ) (old mid new : S) → (told.disk new).reads ≡ (told.disk mid).reads → told.syncs new ≡ told.syncs mid → told.log_bytes new ≡ told.log_bytes mid
+    → Spends told size contents old mid → Spends told size contents old new
+spent_on {S} told size contents old mid new same syncs bytes s =
+    let log : length (told.disk new).reads.log ≡ length (told.disk mid).reads.log = ap (λ (held : Contents). length held.log) same in record {
+      handed = omega (arith, s.handed, bytes);
+      cost = ⊎_elim (λ a. inl (a.0, record { syncs = omega (arith, a.1.syncs, syncs); grows = omega (arith, a.1.grows, bytes, log) }))
+          (λ b. inr (b.0, record { syncs = omega (arith, b.1.syncs, syncs); paid = omega (arith, b.1.paid, bytes); short = log ∙ b.1.short })) s.cost;
+    }
+
+-- a group that the run goes on behind: it is full, or heavy, or the last that is to be read
+pub spent_next : (s0 s1 s2 b0 b1 b2 l1 l2 answered count limit others size : ℕ) (txn : List Put) → HasSpent s0 s1 b0 b1 l1 answered others → (answered < limit → others ≡ 0) → Costs s1 s2 b1 b2 l1 l2 txn → size ≡ min (content_size txn) (2 ^ 64 - 1)
+    → 0 < count → count ≤ limit - answered → (count ≡ 16) ⊎ ((4_194_304 ≤ size) ⊎ (count ≡ limit - answered))
+    → (more : ℕ) × (more ≤ 2) × (answered + count < limit → more ≡ 0) × HasSpent s0 s2 b0 b2 l2 (answered + count) more
+spent_next s0 s1 s2 b0 b1 b2 l1 l2 answered count limit others size txn h none spends is some few full =
+    let zero : others ≡ 0 = none (omega (arith, some, few)) in
+    ⊎_elim (λ e. (others + 0, omega (arith, zero), λ lt. omega (arith, zero), spent_full s0 s1 s2 b0 b1 b2 l1 l2 answered count others txn h spends e))
+    (λ more. ⊎_elim (λ heavy. (others + 0, omega (arith, zero), λ lt. omega (arith, zero), spent_heavy s0 s1 s2 b0 b1 b2 l1 l2 answered count others size txn h spends heavy is))
+    (λ e. (others + 2, omega (arith, zero), λ lt. absurd (omega (arith, lt, e, some)), spent_other s0 s1 s2 b0 b1 b2 l1 l2 answered count others txn h spends)) more) full

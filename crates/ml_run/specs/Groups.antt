@@ -1,0 +1,146 @@
+-- Groups of items, and what is ahead of them in the stream.
+use Rattle.std.specs.Prelude.{◌≡◌, ◌≢◌, ◌⊎◌, ◌<◌, ◌≤◌, ◌+◌, ◌-◌, ◌^◌, min, ℕ, true, IsTrue, IsSome, List, [], ◌∷◌, ◌++◌, length, take, Option, Some, None}
+use Rattle.ml_base.specs.Bytes.{Text}
+use Rattle.ml_base.specs.Dir.{Dir, are_files, with_puts}
+use Rattle.ml_base.specs.Laying.{laid_in, are_distinct}
+use Rattle.ml_base.specs.declared.names.Name.{Name}
+use Rattle.ml_base.specs.declared.puts.Put.{Put}
+use Rattle.ml_journal.specs.Records.{content_size}
+use Rattle.ml_plain.specs.declared.Item.{Item}
+use Rattle.ml_plain.specs.declared.Reply.{Reply}
+use Rattle.ml_plain.specs.Replies.{is_status, line, status_of}
+use Rattle.ml_list.specs.Damage.{IsNamed}
+use Rattle.ml_plain.specs.Directory.{IsState}
+use Rattle.ml_plain.specs.Histories.{State, fold, text, last_from}
+use Rattle.ml_run.specs.declared.items.Items.{Items}
+use Rattle.ml_run.specs.declared.groups.Group.{Group}
+use Rattle.ml_run.specs.declared.groups.GroupEnd.{GroupEnd}
+use Rattle.ml_run.specs.declared.groups.GroupEnd.TheVariants as ends
+use Rattle.ml_run.specs.declared.lines.Why.{Why}
+use Rattle.ml_run.specs.declared.lines.Why.TheVariants as whys
+use Rattle.ml_run.specs.declared.stream.StreamError.TheVariants as errors
+use Rattle.ml_run.specs.Items.{HasLeft, place_of}
+use Rattle.ml_run.specs.Stream.{StreamEnd, End, Broken, IsStream}
+
+-- a row with others laid over it one by one: each in the place of the newest one of its file, or last where there is none
+abbrev pub laid_all : List Put → List Put → List Put
+laid_all puts [] = puts
+laid_all puts (put ∷ more) = laid_all (laid_in put puts) more
+
+-- puts of files, no two of one file, their size counted, at most 16 items, and none of them no puts
+pub record IsGroup (g : Group) : Type 0 where
+  pub files : IsTrue (are_files g.txn)
+  pub distinct : are_distinct g.txn ≡ true
+  pub size : g.size ≡ min (content_size g.txn) (2 ^ 64 - 1)
+  pub last : IsTrue (is_status g.last)
+  pub few : g.count ≤ 16
+  pub none : g.count ≡ 0 → g.txn ≡ []
+  pub first : 0 < g.count → IsSome g.first
+
+-- no items
+pub record IsEmptyGroup (g : Group) : Type 0 where
+  pub txn : g.txn ≡ []
+  pub lines : g.lines ≡ []
+  pub count : g.count ≡ 0
+  pub first : g.first ≡ None
+
+-- the number that the first of them has: that of the group before, or this one where it has none
+abbrev pub first_number : Option ℕ → ℕ → Option ℕ
+first_number None number = Some number
+first_number (Some first) number = Some first
+
+-- a group with one item more, whose puts are laid over the others
+pub record HasNext (old new : Group) (number : ℕ) (more : List Put) (reply : Reply) : Type 0 where
+  pub txn : new.txn ≡ laid_all old.txn more
+  pub lines : new.lines ≡ old.lines ++ line number reply
+  pub count : new.count ≡ old.count + 1
+  pub first : new.first ≡ first_number old.first number
+  pub last : new.last ≡ status_of reply.code
+
+-- a stop line begins with the number of the next item, or with `-`
+abbrev pub IsNumberOf : Option ℕ → List Item → Type 0
+IsNumberOf None next = Unit {0}
+IsNumberOf (Some number) [] = ⊥
+IsNumberOf (Some number) (item ∷ items) = number ≡ item.number
+
+-- the number of the first of some items, where there is one
+abbrev pub IsFirst : Option ℕ → List Item → Type 0
+IsFirst first [] = first ≡ None
+IsFirst first (item ∷ items) = first ≡ Some item.number
+
+-- the reader and its source have these items ahead, and then the stream goes on so
+pub record IsAhead (reader : Items) (left : Option Text) (items : List Item) (ending : StreamEnd) : Type 0 where
+  pub bytes : Text
+  pub has : HasLeft reader left bytes
+  pub stream : IsStream (place_of reader) bytes items ending
+
+-- a group holds what these items do to a list, over a directory that stands for it, and their answers
+pub record Holds (dir : Dir) (last : ℕ) (g : Group) (q : State) (items : List Item) : Type 0 where
+  pub state : IsState (with_puts dir g.txn) (fold q items)
+  pub lines : g.lines ≡ text q items
+  pub count : g.count ≡ length items
+  pub first : IsFirst g.first items
+  pub last_is : g.last ≡ last_from last q items
+
+-- Why a group of so many items was stopped, where so many more were to be read; these items are behind it.
+abbrev pub IsStop : Why → Option ℕ → ℕ → List Item → StreamEnd → Type 0
+IsStop (whys.Bad at) who more rest ending = (who ≡ None) × (0 < more) × (rest ≡ []) × (ending ≡ Broken (errors.Bad at))
+IsStop (whys.Short at) who more rest ending = (who ≡ None) × (0 < more) × (rest ≡ []) × (ending ≡ Broken (errors.Short at))
+IsStop whys.More who more rest ending = (who ≡ None) × (more ≡ 0) × ((rest ≢ []) ⊎ (¬ (ending ≡ End)))
+IsStop whys.Input who more rest ending = who ≡ None
+IsStop whys.Memory who more rest ending = IsNumberOf who (take more rest)
+IsStop whys.Disk who more rest ending = IsSome who × IsNumberOf who (take more rest)
+IsStop _ who more rest ending = ⊥
+
+-- How a group ended, where so many more items were to be read; these are behind it.
+abbrev pub IsEnd : GroupEnd → ℕ → Items → Option Text → List Item → StreamEnd → Type 0
+IsEnd ends.Full more reader left rest ending = IsAhead reader left rest ending
+IsEnd ends.Last more reader left rest ending = (rest ≡ []) × (ending ≡ End)
+IsEnd (ends.Stopped who why) more reader left rest ending = IsStop why who more rest ending
+
+-- a group of the first items that were ahead, of which at most so many were to be read
+pub record Gathers (dir : Dir) (last : ℕ) (g : Group) (end : GroupEnd) (room : ℕ) (reader : Items) (left : Option Text) (ahead : List Item) (ending : StreamEnd) (q : State) : Type 0 where
+  pub items : List Item
+  pub rest : List Item
+  pub split : ahead ≡ items ++ rest
+  pub holds : Holds dir last g q items
+  pub ends : IsEnd end (room - g.count) reader left rest ending
+
+-- why a stop comes: only where a count rose, or a file is damaged
+abbrev pub HasReason : Why → Type 0 → Type 0 → (Name → Type 0) → Type 0
+HasReason (whys.Bad at) input disk damaged = Unit {0}
+HasReason (whys.Short at) input disk damaged = Unit {0}
+HasReason whys.More input disk damaged = Unit {0}
+HasReason whys.Input input disk damaged = input
+HasReason whys.Memory input disk damaged = Unit {0}
+HasReason whys.Disk input disk damaged = disk
+HasReason (whys.At name) input disk damaged = IsNamed name × damaged name
+HasReason _ input disk damaged = ⊥
+
+abbrev pub EndsWithReason : GroupEnd → Type 0 → Type 0 → (Name → Type 0) → Type 0
+EndsWithReason ends.Full input disk damaged = Unit {0}
+EndsWithReason ends.Last input disk damaged = Unit {0}
+EndsWithReason (ends.Stopped who why) input disk damaged = HasReason why input disk damaged
+
+-- a stop line that names a file of an item's begins with the item's number
+abbrev pub IsNumbered : Option ℕ → Why → Type 0
+IsNumbered who (whys.At name) = IsSome who
+IsNumbered who _ = Unit {0}
+
+abbrev pub EndsNumbered : GroupEnd → Type 0
+EndsNumbered ends.Full = Unit {0}
+EndsNumbered ends.Last = Unit {0}
+EndsNumbered (ends.Stopped who why) = IsNumbered who why
+
+-- a group that is full has 16 items, or so many bytes, or all that were to be read
+abbrev pub IsFullGroup : GroupEnd → Group → ℕ → Type 0
+IsFullGroup ends.Full g room = (0 < g.count) × ((g.count ≡ 16) ⊎ ((4_194_304 ≤ g.size) ⊎ (g.count ≡ room)))
+IsFullGroup ends.Last g room = Unit {0}
+IsFullGroup (ends.Stopped who why) g room = Unit {0}
+
+-- why an item is refused: memory was wanting, the disk failed, or a file is damaged
+abbrev pub IsPartReason : Why → Type 0
+IsPartReason whys.Memory = Unit {0}
+IsPartReason whys.Disk = Unit {0}
+IsPartReason (whys.At name) = Unit {0}
+IsPartReason _ = ⊥

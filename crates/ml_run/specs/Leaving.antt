@@ -1,0 +1,94 @@
+-- What a run may leave at any moment.
+use Rattle.std.specs.Prelude.{◌≡◌, ◌⊎◌, ℕ, IsTrue, List, ◌++◌, take, Option, Some}
+use Rattle.ml_base.specs.Bytes.{Text}
+use Rattle.ml_base.specs.Dir.{Dir}
+use Rattle.ml_base.specs.declared.puts.Put.{Put}
+use Rattle.ml_site.specs.Disk.{Contents, Disk, IsImage}
+use Rattle.ml_site.specs.declared.site.Site.{Ghosts}
+use Rattle.ml_journal.specs.Calls.{Leaves}
+use Rattle.ml_journal.specs.Log.{directory}
+use Rattle.ml_journal.specs.Moments.{with_txn}
+use Rattle.ml_journal.specs.Stores.{site_of, the_dir}
+use Rattle.ml_journal.specs.declared.store.Store.{Store}
+use Rattle.ml_plain.specs.declared.Item.{Item}
+use Rattle.ml_plain.specs.Directory.{IsState}
+use Rattle.ml_plain.specs.Histories.{State, fold, text}
+use Rattle.ml_run.specs.declared.lines.Why.{Why}
+use Rattle.ml_run.specs.Lines.{stop_text}
+use Rattle.ml_run.specs.Stops.{status_of_why}
+use Rattle.ml_run.specs.Groups.{IsNumberOf}
+
+-- the directory that a store shows
+abbrev pub dir_of : {S : Type 0} {told : Ghosts S} → Store S told → Dir
+dir_of {S} {told} store = the_dir (directory (told.disk (site_of store)).reads)
+
+-- the directory is there, and it stands for this list
+pub record HasState (dir : Option Dir) (q : State) : Type 0 where
+  pub files : Dir
+  pub is : dir ≡ Some files
+  pub stands : IsState files q
+
+-- a whole stop line before these items: its status has its WHY, and it begins with the number of the first of them or `-`
+pub record IsStopLine (next : List Item) (line : Text) : Type 0 where
+  pub who : Option ℕ
+  pub why : Why
+  pub number : IsNumberOf who next
+  pub is : line ≡ stop_text who (status_of_why why) why
+
+-- some first bytes of the answers of these items are out
+pub record AnswersOut (q : State) (items : List Item) (before out : Text) : Type 0 where
+  pub front : Text
+  pub more : Text
+  pub split : text q items ≡ front ++ more
+  pub put : out ≡ before ++ front
+
+-- the answers of the first of these items are out, and some first bytes of one stop line
+pub record LineOut (q : State) (items rest : List Item) (before out : Text) : Type 0 where
+  pub answered : List Item
+  pub waiting : List Item
+  pub split : items ≡ answered ++ waiting
+  pub front : Text
+  pub more : Text
+  pub line : IsStopLine (waiting ++ rest) (front ++ more)
+  pub put : out ≡ (before ++ text q answered) ++ front
+
+-- The directory stands for the list after some first items, and what was put out is some first bytes of their answers,
+-- or the answers of some first of them and some first bytes of one stop line.
+pub record IsAfterSome (q : State) (items : List Item) (before : Text) (left : Contents) (out : Text) : Type 0 where
+  pub first : List Item
+  pub rest : List Item
+  pub split : items ≡ first ++ rest
+  pub state : HasState (directory left) (fold q first)
+  pub put : AnswersOut q first before out ⊎ LineOut q first rest before out
+
+-- what a crash at the start may leave, and some first bytes of one stop line at most
+pub record IsUnopened (disk : Disk) (before : Text) (left : Contents) (out : Text) : Type 0 where
+  pub image : IsImage disk left
+  pub put : (out ≡ before) ⊎ ((front more : Text) × ((next : List Item) → IsStopLine next (front ++ more)) × (out ≡ before ++ front))
+
+-- behind the answered items some more are done
+pub record Reached (q : State) (done behind : List Item) (left : Contents) : Type 0 where
+  pub waiting : List Item
+  pub next : List Item
+  pub split : behind ≡ waiting ++ next
+  pub state : HasState (directory left) (fold q (done ++ waiting))
+
+-- in the course of a commit and its answers
+abbrev pub IsSettling : Option Dir → List Put → Text → Text → Contents → Text → Type 0
+IsSettling dir txn lines before left out =
+    ((directory left ≡ dir) × (out ≡ before)) ⊎ ((directory left ≡ with_txn txn dir) × ((n : ℕ) × (out ≡ before ++ take n lines)))
+
+-- The first items are done and answered, and no more.
+pub record IsServed {S : Type 0} (told : Ghosts S) (start now : S) (q : State) (items done behind : List Item) : Type 0 where
+  pub split : items ≡ done ++ behind
+  pub state : HasState (directory (told.disk now).reads) (fold q done)
+  pub put : IsTrue told.tells_all → told.output now ≡ told.output start ++ text q done
+  pub moments : Leaves told start now (IsAfterSome q items (told.output start))
+
+-- The first items are answered, and some more may be done, at the site and after a crash now.
+pub record IsLeft {S : Type 0} (told : Ghosts S) (start now : S) (q : State) (items done behind : List Item) : Type 0 where
+  pub split : items ≡ done ++ behind
+  pub reached : Reached q done behind (told.disk now).reads
+  pub images : IsTrue told.tells_all → (left : Contents) → IsImage (told.disk now) left → Reached q done behind left
+  pub put : IsTrue told.tells_all → told.output now ≡ told.output start ++ text q done
+  pub moments : Leaves told start now (IsAfterSome q items (told.output start))

@@ -1,0 +1,36 @@
+-- How many syncs a run makes, and why its calls are refused.
+use Rattle.std.specs.Prelude.{◌≡◌, ℕ, ◌+◌, ◌*◌, ◌≤◌, ◌<◌, List, Option, Some, None}
+use Rattle.ml_base.specs.declared.puts.Put.{Put}
+use Rattle.ml_journal.specs.Records.{content_size}
+use Rattle.ml_journal.specs.Stores.{grown}
+use Rattle.ml_run.specs.declared.lines.Why.{Why}
+use Rattle.ml_run.specs.declared.lines.Why.TheVariants as whys
+
+-- at most so many syncs more, and no log byte less
+pub record CostsAtMost (most : ℕ) (syncs syncs' bytes bytes' : ℕ) : Type 0 where
+  pub few : syncs' ≤ syncs + most
+  pub stay : syncs ≤ syncs'
+  pub bytes_stay : bytes ≤ bytes'
+
+-- what a group costs: two syncs where the log stays within its length, and else three more, with so many bytes paid
+pub record Costs (syncs syncs' bytes bytes' log log' : ℕ) (txn : List Put) : Type 0 where
+  pub content : bytes + content_size txn ≤ bytes'
+  pub few : grown log txn ≤ 8_388_608 → (syncs' ≤ syncs + 2) × (log' + bytes ≤ log + bytes')
+  pub many : 8_388_608 < grown log txn → (syncs' ≤ syncs + 5) × (log' ≡ 1) × (8_388_608 + bytes < log + bytes')
+
+-- why a group was refused: the output's count rose, or the disk's, or memory was wanting
+abbrev pub IsRefused : Option Why → Type 0 → Type 0 → Type 0
+IsRefused None disk output = output
+IsRefused (Some whys.Disk) disk output = disk
+IsRefused (Some whys.Memory) disk output = Unit {0}
+IsRefused (Some _) disk output = ⊥
+
+-- What a run has spent: syncs for full groups, for groups that gave many bytes, for laying down, and a few others.
+pub record HasSpent (syncs syncs' bytes bytes' log answered others : ℕ) : Type 0 where
+  pub full : ℕ
+  pub heavy : ℕ
+  pub laid : ℕ
+  pub of_answered : 16 * full ≤ answered
+  pub of_bytes : bytes + 4_194_304 * heavy ≤ bytes'
+  pub of_log : bytes + 8_388_608 * laid + log ≤ bytes' + 1
+  pub few : syncs' ≤ syncs + others + 2 * full + 2 * heavy + 3 * laid

@@ -1,0 +1,164 @@
+// A group of items that are committed together.
+ghost use Rattle.std.specs.Prelude.{◌≡◌, ◌≤◌, ◌<◌, ◌+◌, ◌-◌, ◌^◌, ◌++◌, [], ◌∷◌, min, true, ℕ, IsTrue, OnOk, OnErr, IfErr, Some, None};
+ghost use Rattle.ml_base.specs.Dir.{are_files};
+ghost use Rattle.ml_journal.specs.Records.{content_size};
+ghost use Rattle.ml_plain.specs.Replies.{is_code, is_status, line, status_of};
+ghost use Rattle.ml_run.specs.Groups.{IsGroup, IsEmptyGroup, HasNext, first_number};
+
+use crate::laying::laid;
+use crate::lines::{Why, answer_line};
+use ml_base::{Bytes, Put, Txn};
+use ml_plain::{Reply, status};
+use std::alloc::Global;
+
+// The most items of a group.
+pub(crate) const MAX_ITEMS: u64 = 16;
+
+// A group ends as soon as it gives so many bytes to files.
+pub(crate) const MAX_SIZE: u64 = 4_194_304;
+
+// The items of a group: their puts, the lines that answer them, how many they are, how many bytes the puts give to files,
+// the number of the first, and the status of the last, or of the last before the group.
+#[derive(Drop)]
+pub(crate) struct Group {
+    pub(crate) txn: Txn,
+    pub(crate) lines: Bytes,
+    pub(crate) count: u64,
+    pub(crate) size: u64,
+    pub(crate) first: Option<u64>,
+    pub(crate) last: u8,
+}
+
+// How a group ended: it is as large as it may be, the stream is at its end, or the next item is refused.
+#[derive(Clone, Copy)]
+pub(crate) enum GroupEnd {
+    Full,
+    Last,
+    Stopped(Option<u64>, Why),
+}
+
+// A group without items, whose lines will stand in this buffer.
+pub(crate) fn empty_group(alloc: Global, buffer: Bytes, last: u8) -> Group
+    requires { IsTrue (is_status last) }
+    ensures empty { IsEmptyGroup result }
+    ensures group { IsGroup result }
+    ensures last { result.last ≡ last }
+{
+    let mut lines = buffer;
+    lines.truncate(0);
+    Group {
+        txn: Txn::new(alloc),
+        lines,
+        count: 0,
+        size: 0,
+        first: None,
+        last,
+    }
+}
+
+// Lays an item's puts over those of a group of fewer than 16, and adds its answer. Where memory is wanting the group is as it
+// was.
+pub(crate) fn with_answer(
+    group: Group,
+    number: u64,
+    more: Txn,
+    reply: Reply,
+) -> (Group, Result<(), Why>)
+    requires group { IsGroup group }
+    requires room { group.count < 16 }
+    requires files { IsTrue (are_files more) }
+    requires code { IsTrue (is_code reply.code) }
+    ensures done { OnOk result.1 (HasNext group result.0 number more reply) }
+    ensures same { OnErr result.1 (result.0 ≡ group) }
+    ensures group { IsGroup result.0 }
+    ensures memory { IfErr result.1 (λ why. why ≡ Why.Memory) }
+{
+    let Group {
+        mut txn,
+        mut lines,
+        count,
+        size,
+        first,
+        last,
+    } = group;
+    let before = lines.len();
+    let mut line = [0u8; 64];
+    let len = answer_line(number, reply, &mut line);
+    match lines.extend(&line[..len]) {
+        Err(_) => (
+            Group {
+                txn,
+                lines,
+                count,
+                size,
+                first,
+                last,
+            },
+            Err(Why::Memory),
+        ),
+        Ok(()) => {
+            let front = txn.as_slice().len();
+            match txn.join(more) {
+                Err(_) => {
+                    lines.truncate(before);
+                    (
+                        Group {
+                            txn,
+                            lines,
+                            count,
+                            size,
+                            first,
+                            last,
+                        },
+                        Err(Why::Memory),
+                    )
+                }
+                Ok(()) => {
+                    let puts = laid(txn, front);
+                    let size = contents_size(puts.as_slice());
+                    (
+                        Group {
+                            txn: puts,
+                            lines,
+                            count: count + 1,
+                            size,
+                            first: first_of(first, number),
+                            last: status(reply.code),
+                        },
+                        Ok(()),
+                    )
+                }
+            }
+        }
+    }
+}
+
+// The number of a group's first item, with one item more.
+fn first_of(first: Option<u64>, number: u64) -> Option<u64>
+    ensures { result ≡ first_number first number }
+{
+    match first {
+        Some(first) => Some(first),
+        None => Some(number),
+    }
+}
+
+// How many bytes puts give to files, as far as that can be counted.
+fn contents_size(puts: &[Put]) -> u64
+    ensures { result ≡ min (content_size puts.now) (2 ^ 64 - 1) }
+{
+    let mut size: u64 = 0;
+    for put in puts {
+        size = size.saturating_add(put_size(put));
+    }
+    size
+}
+
+fn put_size(put: &Put) -> u64
+    ensures { result ≡ min (content_size (put.now ∷ [])) (2 ^ 64 - 1) }
+{
+    match &put.bytes {
+        Some(bytes) => bytes.len() as u64,
+        None => 0,
+    }
+}

@@ -1,0 +1,61 @@
+// Puts laid over others, one put of a file.
+ghost use Rattle.std.specs.Prelude.{◌≡◌, ◌≤◌, ◌<◌, ◌+◌, false, Some, MatchOption, length, take, drop, slice_get};
+ghost use Rattle.ml_base.specs.Dir.{touches};
+ghost use Rattle.ml_base.specs.Laying.{laid_in, IsNewestAt};
+ghost use Rattle.ml_base.specs.declared.puts.Put.{Put as ThePut};
+ghost use Rattle.ml_run.specs.Groups.{laid_all};
+
+use ml_base::{Name, Put, Txn};
+
+// Lays the puts of a row from a place on over those before them: each in the place of the newest one of its file, or behind
+// them where there is none. It takes no memory.
+pub(crate) fn laid(txn: Txn, front: usize) -> Txn
+    requires { front ≤ length txn }
+    ensures { result ≡ laid_all (take front txn) (drop front txn) }
+{
+    let mut puts = txn.into_vec();
+    let mut kept = front;
+    for at in front..puts.len() {
+        let place = newest_place(&puts[..kept], puts[at].name);
+        kept = lay_one(&mut puts, kept, at, place);
+    }
+    puts.truncate(kept);
+    Txn::from_vec(puts)
+}
+
+// Lays the put at a place over the first `kept`, in the place of the newest one of its file or behind them, and answers how
+// many these are then. What is between them is left in any order.
+fn lay_one(puts: &mut [Put], kept: usize, at: usize, place: Option<usize>) -> usize
+    requires kept { kept ≤ at }
+    requires at { at < length puts.old }
+    requires place { (put : ThePut) → slice_get puts.old at ≡ Some put → MatchOption place (touches (take kept puts.old) put.name ≡ false) (IsNewestAt (take kept puts.old) put.name) }
+    ensures laid { (put : ThePut) → slice_get puts.old at ≡ Some put → take result puts.new ≡ laid_in put (take kept puts.old) }
+    ensures rest { drop (at + 1) puts.new ≡ drop (at + 1) puts.old }
+    ensures size { length puts.new ≡ length puts.old }
+    ensures within { result ≤ at + 1 }
+{
+    match place {
+        Some(place) => {
+            puts.swap(place, at);
+            kept
+        }
+        None => {
+            puts.swap(kept, at);
+            kept + 1
+        }
+    }
+}
+
+// The place of the newest put of a file.
+fn newest_place(puts: &[Put], name: Name) -> Option<usize>
+    ensures { MatchOption result (touches puts.now name ≡ false) (IsNewestAt puts.now name) }
+{
+    let mut at = puts.len();
+    while at > 0 {
+        at -= 1;
+        if puts[at].name == name {
+            return Some(at);
+        }
+    }
+    None
+}

@@ -1,0 +1,163 @@
+// A new list.
+ghost use Rattle.std.specs.Prelude.{◌≡◌, ◌≢◌, ◌⊎◌, ◌≤◌, IsTrue, IfOk, Some, None};
+ghost use Rattle.ml_base.specs.Dir.{Dir, are_files};
+ghost use Rattle.ml_base.specs.Faults.{Rose};
+ghost use Rattle.ml_config.specs.ConfigFile.{config_name};
+ghost use Rattle.ml_config.specs.FirstFiles.{first_puts};
+ghost use Rattle.ml_site.specs.Disk.{IsAtRest};
+ghost use Rattle.ml_journal.specs.Calls.{Leaves};
+ghost use Rattle.ml_journal.specs.Log.{directory};
+ghost use Rattle.ml_journal.specs.Stores.{site_of};
+ghost use Rattle.ml_run.specs.Endings.{Opens, Finishes};
+ghost use Rattle.ml_run.specs.Lines.{HasPath};
+ghost use Rattle.ml_run.specs.Making.{IsMaking, Makes, Tells, TellsClosed, is_make_status, made_text};
+
+use crate::closing::{closed, finish, stop};
+use crate::lines::Why;
+use crate::running::not_opened;
+use crate::settling::why_refused;
+use ml_base::{Bytes, Files, FilesError, Name, Txn};
+use ml_config::{Config, initial};
+use ml_journal::Store;
+use ml_site::Site;
+use std::alloc::{AllocError, Global};
+
+// The file of the configuration.
+const CONFIG: Name = Name { kind: 1, at: 0 };
+
+/// Makes a list with this configuration and this key on a site, and hands the site back. The list's files are written in one
+/// commit, the store is closed, and `made LOCAL@HOST` is given.
+///
+/// The status is 0 then. A stop line tells why no list is made: 100 where there is a configuration, whatever its bytes, and
+/// nothing is changed; 71 (out of memory), 75 (the log is damaged) or 111 (the disk failed), after which the list is whole or
+/// not there. It is 73 where the output failed.
+pub fn make<S: Site>(alloc: Global, config: &Config, key: &[u8; 32], site: S) -> (u8, S)
+    // What it leaves.
+    ensures makes { IsTrue S.tells_reads → Makes (IsTrue S.tells_all) result.0 (directory (S.disk site).reads) (first_puts config.now key.now)
+        (made_text config.now) (S.output site) (S.disk result.1).reads (S.output result.1) }
+    ensures there { IsTrue S.tells_reads → (files : Dir) → directory (S.disk site).reads ≡ Some files → files config_name ≢ None →
+        (result.0 ≡ 100) ⊎ ((result.0 ≡ 71) ⊎ ((result.0 ≡ 73) ⊎ (result.0 ≡ 111))) }
+
+    // At every moment, and where something is pending at the start from the first sync that succeeds.
+    ensures moments { IsTrue S.tells_all → Opens ⟦<S as Site>⟧ site result.1
+        (IsMaking (directory (S.disk site).reads) (first_puts config.now key.now) (made_text config.now) (S.output site)) }
+    ensures at_rest { IsAtRest (S.disk site) → Leaves ⟦<S as Site>⟧ site result.1
+        (IsMaking (directory (S.disk site).reads) (first_puts config.now key.now) (made_text config.now) (S.output site)) }
+
+    // Nothing is pending then, but after a fault or want of memory.
+    ensures rest { (Rose (S.disk_faults site) (S.disk_faults result.1) → ⊥) → (result.0 ≡ 71 → ⊥) → (result.0 ≡ 73 → ⊥)
+        → IsTrue S.tells_all → IsAtRest (S.disk result.1) }
+
+    // Which statuses there are, and where the counts rose.
+    ensures statuses { IsTrue (is_make_status result.0) }
+    ensures disk { result.0 ≡ 111 → Rose (S.disk_faults site) (S.disk_faults result.1) }
+    ensures output { result.0 ≡ 73 → Rose (S.output_faults site) (S.output_faults result.1) }
+    ensures disk_later { S.disk_faults site ≤ S.disk_faults result.1 }
+    ensures output_later { S.output_faults site ≤ S.output_faults result.1 }
+{
+    let Ok((txn, line)) = prepared(alloc, config, key) else {
+        return stop(site, Why::Memory);
+    };
+    match Store::open(alloc, site) {
+        Ok(store) => made(alloc, store, &txn, line.as_slice()),
+        Err((error, site)) => stop(site, not_opened(error)),
+    }
+}
+
+// The files of a new list, and the line that tells of it.
+fn prepared(alloc: Global, config: &Config, key: &[u8; 32]) -> Result<(Txn, Bytes), AllocError>
+    ensures puts { IfOk result (λ list. list.0 ≡ first_puts config.now key.now) }
+    ensures files { IfOk result (λ list. IsTrue (are_files list.0)) }
+    ensures line { IfOk result (λ list. list.1 ≡ made_text config.now) }
+{
+    let txn = initial(alloc, config, key)?;
+    let line = made_line(alloc, config)?;
+    Ok((txn, line))
+}
+
+// The line that tells of a new list.
+fn made_line(alloc: Global, config: &Config) -> Result<Bytes, AllocError>
+    ensures { IfOk result (λ line. line ≡ made_text config.now) }
+{
+    let size = config.local.len().saturating_add(config.host.len());
+    let mut line = Bytes::with_capacity(alloc, size.saturating_add(7))?;
+    line.extend(b"made ")?;
+    line.extend(config.local.as_slice())?;
+    line.push(b'@')?;
+    line.extend(config.host.as_slice())?;
+    line.push(b'\n')?;
+    Ok(line)
+}
+
+// Makes a list over a store that was opened, where there is no configuration.
+fn made<S: Site>(alloc: Global, store: Store<S>, txn: &Txn, line: &[u8]) -> (u8, S)
+    requires files { IsTrue (are_files txn.now) }
+    ensures makes { IsTrue S.tells_reads → Makes (IsTrue S.tells_all) result.0 (directory (S.disk (site_of store)).reads) txn.now line.now (S.output (site_of store)) (S.disk result.1).reads (S.output result.1) }
+    ensures there { IsTrue S.tells_reads → (files : Dir) → directory (S.disk (site_of store)).reads ≡ Some files → files config_name ≢ None →
+        (result.0 ≡ 100) ⊎ ((result.0 ≡ 71) ⊎ ((result.0 ≡ 73) ⊎ (result.0 ≡ 111))) }
+    ensures moments { Leaves ⟦<S as Site>⟧ (site_of store) result.1 (IsMaking (directory (S.disk (site_of store)).reads) txn.now line.now (S.output (site_of store))) }
+    ensures rest { (Rose (S.disk_faults (site_of store)) (S.disk_faults result.1) → ⊥) → (result.0 ≡ 71 → ⊥) → (result.0 ≡ 73 → ⊥)
+        → IsTrue S.tells_all → IsAtRest (S.disk result.1) }
+    ensures statuses { IsTrue (is_make_status result.0) }
+    ensures disk { result.0 ≡ 111 → Rose (S.disk_faults (site_of store)) (S.disk_faults result.1) }
+    ensures output { result.0 ≡ 73 → Rose (S.output_faults (site_of store)) (S.output_faults result.1) }
+    ensures disk_later { S.disk_faults (site_of store) ≤ S.disk_faults result.1 }
+    ensures output_later { S.output_faults (site_of store) ≤ S.output_faults result.1 }
+{
+    let mut store = store;
+    match store.get(alloc, CONFIG) {
+        Ok(Some(_)) => unmade(alloc, store, Why::There),
+        Ok(None) => committed(alloc, store, txn, line),
+        Err(FilesError::Fault) => unmade(alloc, store, Why::Disk),
+        Err(FilesError::Memory) => unmade(alloc, store, Why::Memory),
+    }
+}
+
+// Commits the files of a new list, closes the store, and tells of it.
+fn committed<S: Site>(alloc: Global, store: Store<S>, txn: &Txn, line: &[u8]) -> (u8, S)
+    requires files { IsTrue (are_files txn.now) }
+    ensures makes { IsTrue S.tells_reads → Makes (IsTrue S.tells_all) result.0 (directory (S.disk (site_of store)).reads) txn.now line.now (S.output (site_of store)) (S.disk result.1).reads (S.output result.1) }
+    ensures moments { Leaves ⟦<S as Site>⟧ (site_of store) result.1 (IsMaking (directory (S.disk (site_of store)).reads) txn.now line.now (S.output (site_of store))) }
+    ensures rest { (Rose (S.disk_faults (site_of store)) (S.disk_faults result.1) → ⊥) → (result.0 ≡ 71 → ⊥) → (result.0 ≡ 73 → ⊥)
+        → IsTrue S.tells_all → IsAtRest (S.disk result.1) }
+    ensures statuses { IsTrue (is_make_status result.0) }
+    ensures disk { result.0 ≡ 111 → Rose (S.disk_faults (site_of store)) (S.disk_faults result.1) }
+    ensures output { result.0 ≡ 73 → Rose (S.output_faults (site_of store)) (S.output_faults result.1) }
+    ensures disk_later { S.disk_faults (site_of store) ≤ S.disk_faults result.1 }
+    ensures output_later { S.output_faults (site_of store) ≤ S.output_faults result.1 }
+{
+    match store.commit(alloc, txn) {
+        Ok(store) => told(alloc, store, line),
+        Err((error, site)) => stop(site, why_refused(error)),
+    }
+}
+
+// Closes the store of a list that was committed, and tells of it.
+fn told<S: Site>(alloc: Global, store: Store<S>, line: &[u8]) -> (u8, S)
+    ensures { TellsClosed ⟦<S as Site>⟧ (site_of store) result.1 result.0 line.now }
+{
+    match closed(alloc, store, None) {
+        (Some((_, why)), site) => stop(site, why),
+        (None, site) => tell(site, line),
+    }
+}
+
+// Closes the store of a list that is not made, and tells why.
+fn unmade<S: Site>(alloc: Global, store: Store<S>, why: Why) -> (u8, S)
+    requires { HasPath why }
+    ensures { Finishes ⟦<S as Site>⟧ (site_of store) result.1 (Some (None, why)) result.0 0 }
+{
+    let (ending, site) = finish(alloc, store, Some((None, why)), 0, 0);
+    (ending.status, site)
+}
+
+// Puts the line out that tells of a list. The status is 0, or 73 where the output fails.
+fn tell<S: Site>(site: S, line: &[u8]) -> (u8, S)
+    ensures { Tells ⟦<S as Site>⟧ site result.1 result.0 line.now }
+{
+    let mut site = site;
+    match site.give(line) {
+        Ok(()) => (0, site),
+        Err(_) => (73, site),
+    }
+}
