@@ -2,4 +2,14 @@
 #![tactic(auto)]
 
 #[cfg(test)]
+mod answers;
+#[cfg(test)]
+mod crashes;
+#[cfg(test)]
+mod grammar;
+#[cfg(test)]
+mod groups;
+#[cfg(test)]
+mod lists;
+#[cfg(test)]
 mod run;
