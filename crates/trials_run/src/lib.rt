@@ -6,6 +6,8 @@ mod answers;
 #[cfg(test)]
 mod crashes;
 #[cfg(test)]
+mod full;
+#[cfg(test)]
 mod grammar;
 #[cfg(test)]
 mod groups;
