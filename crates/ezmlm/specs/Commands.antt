@@ -6,13 +6,16 @@ use Rattle.std.specs.String.{string_bytes}
 use Rattle.ml_base.specs.Bytes.{Text}
 use Rattle.ml_base.specs.Dir.{Dir}
 use Rattle.ml_base.specs.Faults.{Rose}
+use Rattle.ml_base.specs.Name.{is_file}
 use Rattle.ml_base.specs.Numbers.{number_within}
+use Rattle.ml_base.specs.declared.names.Name.{Name}
 use Rattle.ml_config.specs.ConfigFile.{config_name}
 use Rattle.ml_config.specs.FirstFiles.{first_puts}
 use Rattle.ml_config.specs.MakeWords.{make_of}
 use Rattle.ml_config.specs.declared.configuration.Config.{Config}
 use Rattle.ml_plain.specs.declared.Item.{Item}
-use Rattle.ml_plain.specs.Histories.{State}
+use Rattle.ml_plain.specs.Histories.{State, fresh}
+use Rattle.ml_plain.specs.Plain.{new_list}
 use Rattle.ml_site.specs.Disk.{IsAtRest}
 use Rattle.ml_site.specs.declared.site.Site.{Ghosts}
 use Rattle.ml_site.specs.declared.source.Source.{Ghosts as SourceGhosts}
@@ -21,7 +24,7 @@ use Rattle.ml_journal.specs.Log.{directory}
 use Rattle.ml_run.specs.declared.lines.Why.TheVariants as whys
 use Rattle.ml_run.specs.Stream.{StreamEnd}
 use Rattle.ml_run.specs.Endings.{Begins, Runs, Opens, Names, MissesList, Says}
-use Rattle.ml_run.specs.Leaving.{IsAfterSome}
+use Rattle.ml_run.specs.Leaving.{HasState, IsAfterSome}
 use Rattle.ml_run.specs.Making.{IsMaking, Makes, made_text, is_make_status}
 
 -- the bytes of each word
@@ -101,6 +104,8 @@ pub record Spools {I S : Type 0} (source : SourceGhosts I) (told : Ghosts S) (li
 pub record MakesList {S : Type 0} (told : Ghosts S) (config : Config) (key : Text) (old new : S) (status : ℕ) : Type 0 where
   pub known : IsTrue (is_make_status status)
   pub makes : IsTrue told.tells_reads → Makes (IsTrue told.tells_all) status (directory (told.disk old).reads) (first_puts config key) (made_text config) (told.output old) (told.disk new).reads (told.output new)
+  pub state : IsTrue told.tells_reads → (files : Dir) → directory (told.disk old).reads ≡ Some files → ((name : Name) → IsTrue (is_file name) → files name ≡ None) → status ≡ 0
+      → HasState (directory (told.disk new).reads) (fresh (new_list config key))
   pub there : IsTrue told.tells_reads → (files : Dir) → directory (told.disk old).reads ≡ Some files → files config_name ≢ None → (status ≡ 100) ⊎ ((status ≡ 71) ⊎ ((status ≡ 73) ⊎ (status ≡ 111)))
   pub moments : IsTrue told.tells_all → Opens told old new (IsMaking (directory (told.disk old).reads) (first_puts config key) (made_text config) (told.output old))
   pub at_rest : IsAtRest (told.disk old) → Leaves told old new (IsMaking (directory (told.disk old).reads) (first_puts config key) (made_text config) (told.output old))

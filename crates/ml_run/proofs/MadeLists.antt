@@ -1,8 +1,16 @@
 -- How a list is made, call by call.
 use Rattle.std.proofs.Common.{◌≡◌, ◌⊎◌, inl, inr, ⊎_elim, ℕ, IsTrue, List, [], ◌++◌, take, Option, Some, None, ap, sym, refl, subst, ◌∙◌, length, arith}
 use Rattle.ml_base.specs.Bytes.{Text}
-use Rattle.ml_base.specs.Dir.{Dir}
+use Rattle.ml_base.specs.Dir.{Dir, with_puts}
+use Rattle.ml_base.specs.Name.{is_file}
+use Rattle.ml_base.specs.declared.names.Name.{Name}
 use Rattle.ml_base.specs.declared.puts.Put.{Put}
+use Rattle.ml_config.specs.Configuration.{IsConfig}
+use Rattle.ml_config.specs.FirstFiles.{first_puts}
+use Rattle.ml_config.specs.declared.configuration.Config.{Config}
+use Rattle.ml_plain.specs.Histories.{fresh}
+use Rattle.ml_plain.specs.Plain.{new_list}
+use Rattle.ml_plain.proofs.NewList.{laid_state}
 use Rattle.ml_site.specs.Disk.{Contents, Disk, IsImage, Giving, IsAtRest, Now}
 use Rattle.ml_site.specs.Moments.{LeavesOnly, FromFirstSync}
 use Rattle.ml_site.specs.declared.site.Site.{Ghosts}
@@ -20,7 +28,7 @@ use Rattle.ml_run.specs.declared.lines.Why.TheVariants as whys
 use Rattle.ml_run.specs.Lines.{stop_text}
 use Rattle.ml_run.specs.Stops.{status_of_why, why_of_open, why_of_commit}
 use Rattle.ml_run.specs.Groups.{IsNumberOf}
-use Rattle.ml_run.specs.Leaving.{IsUnopened, IsStopLine}
+use Rattle.ml_run.specs.Leaving.{HasState, IsUnopened, IsStopLine}
 use Rattle.std.proofs.lemmas.List.{take_all, take_at}
 use Rattle.ml_run.specs.Endings.{Says, Finishes, ClosesTo, StopLine, Opens}
 use Rattle.ml_run.specs.Making.{IsOneOf, SaysAtMost, IsMaking, IsUnmade, Makes, Tells, TellsClosed}
@@ -280,3 +288,31 @@ pub open_unmade : (error : OpenError) (dir held : Option Dir) (txn : List Put) �
 open_unmade opens.Fault dir held txn is none = inl is
 open_unmade opens.Memory dir held txn is none = inl is
 open_unmade opens.Damaged dir held txn is none = (is, refl, none refl)
+
+-- no reason has the status 0
+some_status : (why : Why) → status_of_why why ≡ 0 → ⊥
+some_status whys.Usage e = omega (arith, e)
+some_status (whys.Bad at) e = omega (arith, e)
+some_status (whys.Short at) e = omega (arith, e)
+some_status whys.Words e = omega (arith, e)
+some_status whys.Long e = omega (arith, e)
+some_status whys.Clock e = omega (arith, e)
+some_status whys.Memory e = omega (arith, e)
+some_status whys.More e = omega (arith, e)
+some_status whys.Input e = omega (arith, e)
+some_status whys.NoList e = omega (arith, e)
+some_status (whys.At name) e = omega (arith, e)
+some_status whys.There e = omega (arith, e)
+some_status whys.Absent e = omega (arith, e)
+some_status whys.Disk e = omega (arith, e)
+
+-- where there was no file, what was made stands for the new list
+pub made_state : (told : Type 0) (status : ℕ) (dir : Option Dir) (files : Dir) (config : Config) (key line before : Text) (held : Contents) (output : Text) → IsConfig config → length key ≡ 32 → dir ≡ Some files
+    → ((name : Name) → IsTrue (is_file name) → files name ≡ None) → status ≡ 0 → Makes told status dir (first_puts config key) line before held output → HasState (directory held) (fresh (new_list config key))
+made_state told status dir files config key line before held output sound long found none zero m = ⊎_elim
+    (λ made. record { files = with_puts files (first_puts config key); is = made.made ∙ ap (with_txn (first_puts config key)) found; stands = laid_state files config key sound long none })
+    (λ other. ⊎_elim
+    (λ refused. absurd (some_status refused.why (sym refused.status_is ∙ zero)))
+    (λ cut. absurd (omega (arith, cut.status_is, zero)))
+    other)
+    m

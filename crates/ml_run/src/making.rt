@@ -2,13 +2,19 @@
 ghost use Rattle.std.specs.Prelude.{◌≡◌, ◌≢◌, ◌⊎◌, ◌≤◌, IsTrue, IfOk, Some, None};
 ghost use Rattle.ml_base.specs.Dir.{Dir, are_files};
 ghost use Rattle.ml_base.specs.Faults.{Rose};
+ghost use Rattle.ml_base.specs.Name.{is_file};
+ghost use Rattle.ml_base.specs.declared.names.Name.{Name as TheName};
 ghost use Rattle.ml_config.specs.ConfigFile.{config_name};
+ghost use Rattle.ml_config.specs.Configuration.{IsConfig};
 ghost use Rattle.ml_config.specs.FirstFiles.{first_puts};
 ghost use Rattle.ml_site.specs.Disk.{IsAtRest};
 ghost use Rattle.ml_journal.specs.Calls.{Leaves};
 ghost use Rattle.ml_journal.specs.Log.{directory};
 ghost use Rattle.ml_journal.specs.Stores.{site_of};
+ghost use Rattle.ml_plain.specs.Histories.{fresh};
+ghost use Rattle.ml_plain.specs.Plain.{new_list};
 ghost use Rattle.ml_run.specs.Endings.{Opens, Finishes};
+ghost use Rattle.ml_run.specs.Leaving.{HasState};
 ghost use Rattle.ml_run.specs.Lines.{HasPath};
 ghost use Rattle.ml_run.specs.Making.{IsMaking, Makes, Tells, TellsClosed, is_make_status, made_text};
 
@@ -35,6 +41,8 @@ pub fn make<S: Site>(alloc: Global, config: &Config, key: &[u8; 32], site: S) ->
     // What it leaves.
     ensures makes { IsTrue S.tells_reads → Makes (IsTrue S.tells_all) result.0 (directory (S.disk site).reads) (first_puts config.now key.now)
         (made_text config.now) (S.output site) (S.disk result.1).reads (S.output result.1) }
+    ensures state { IsTrue S.tells_reads → IsConfig config.now → (files : Dir) → directory (S.disk site).reads ≡ Some files → ((name : TheName) → IsTrue (is_file name) → files name ≡ None) →
+        result.0 ≡ 0 → HasState (directory (S.disk result.1).reads) (fresh (new_list config.now key.now)) }
     ensures there { IsTrue S.tells_reads → (files : Dir) → directory (S.disk site).reads ≡ Some files → files config_name ≢ None →
         (result.0 ≡ 100) ⊎ ((result.0 ≡ 71) ⊎ ((result.0 ≡ 73) ⊎ (result.0 ≡ 111))) }
 

@@ -8,6 +8,7 @@ pub returns-in-Ok : goal.returns-in-Ok
 returns-in-Ok g c = subst (λ (o : Option (Config × Text)). MakesAsked g.S.Site o c.args.site c.make.result.1 c.make.result.0) (sym c.in-Ok.ensures.made) (inl (record {
   known = c.make.ensures.statuses;
   makes = c.make.ensures.makes;
+  state = λ told. c.make.ensures.state told c.in-Ok.ensures.ranges;
   there = c.make.ensures.there;
   moments = c.make.ensures.moments;
   at_rest = c.make.ensures.at_rest;

@@ -1,4 +1,4 @@
-use Rattle.std.proofs.Common.{◌≡◌, inl, ⊎_elim, refl, subst, sym, ◌∙◌}
+use Rattle.std.proofs.Common.{IsTrue, ◌≡◌, inl, ⊎_elim, refl, subst, sym, ◌∙◌}
 use Rattle.ml_config.specs.FirstFiles.{first_puts}
 use Rattle.ml_journal.specs.Log.{directory}
 use Rattle.ml_journal.specs.Stores.{site_of}
@@ -6,7 +6,7 @@ use Rattle.ml_run.specs.declared.lines.Why.{Why}
 use Rattle.ml_run.specs.declared.lines.Why.TheVariants as whys
 use Rattle.ml_run.specs.Making.{IsUnmade, made_text}
 use Rattle.ml_run.proofs.Opening.{at_site, untouched, unopened_said}
-use Rattle.ml_run.proofs.MadeLists.{said_makes, opened_makes, opened_making, refused_making, making_from_rest, open_unmade}
+use Rattle.ml_run.proofs.MadeLists.{made_state, said_makes, opened_makes, opened_making, refused_making, making_from_rest, open_unmade}
 use Rattle.ml_run.proofs.making.make.Goals as goal
 
 pub returns-in_default-clause-makes : goal.returns-in_default-clause-makes
@@ -51,3 +51,15 @@ returns-clause-moments g c t = ⊎_elim
 pub returns-clause-at_rest : goal.returns-clause-at_rest
 returns-clause-at_rest g c rest t =
     making_from_rest g.S.Site c.args.site c.stop-in-Err.result.1 (first_puts c.args.config.now c.args.key.now) (made_text c.args.config.now) rest (returns-clause-moments g c t)
+
+pub returns-in_default-clause-state : goal.returns-in_default-clause-state
+returns-in_default-clause-state g c told sound files found none zero = made_state (IsTrue g.S.Site.tells_all) c.stop.result.0 (directory (g.S.Site.disk c.args.site).reads) files c.args.config.now c.args.key.now (made_text c.args.config.now) (g.S.Site.output c.args.site) (g.S.Site.disk c.stop.result.1).reads (g.S.Site.output c.stop.result.1)
+    sound c.told-key found none zero (returns-in_default-clause-makes g c told)
+
+pub returns-in-Ok-open-clause-state : goal.returns-in-Ok-open-clause-state
+returns-in-Ok-open-clause-state g c told sound files found none zero = made_state (IsTrue g.S.Site.tells_all) c.made.result.0 (directory (g.S.Site.disk c.args.site).reads) files c.args.config.now c.args.key.now (made_text c.args.config.now) (g.S.Site.output c.args.site) (g.S.Site.disk c.made.result.1).reads (g.S.Site.output c.made.result.1)
+    sound c.told-key found none zero (returns-in-Ok-open-clause-makes g c told)
+
+pub returns-clause-state : goal.returns-clause-state
+returns-clause-state g c told sound files found none zero = made_state (IsTrue g.S.Site.tells_all) c.stop-in-Err.result.0 (directory (g.S.Site.disk c.args.site).reads) files c.args.config.now c.args.key.now (made_text c.args.config.now) (g.S.Site.output c.args.site) (g.S.Site.disk c.stop-in-Err.result.1).reads (g.S.Site.output c.stop-in-Err.result.1)
+    sound c.told-key found none zero (returns-clause-makes g c told)
