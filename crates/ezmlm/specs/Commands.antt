@@ -1,5 +1,5 @@
 -- The words of the command line, and what the program does for each.
-use Rattle.std.specs.Prelude.{◌≡◌, ◌≢◌, ◌⊎◌, ◌≤◌, ◌+◌, ◌-◌, ◌*◌, ◌/◌, ℕ, Bool, ◌==◌, ◌||◌, if◌then◌else◌, IsTrue, IsSome, List, [], ◌∷◌, map, take, codes, Option, Some, None}
+use Rattle.std.specs.Prelude.{◌≡◌, ◌≢◌, ◌⊎◌, ◌≤◌, ◌+◌, ◌-◌, ◌*◌, ◌/◌, ℕ, Bool, ◌==◌, ◌||◌, if◌then◌else◌, IsTrue, IsSome, List, [], ◌∷◌, length, map, take, codes, Option, Some, None}
 use Rattle.std.specs.Str.{bytes_eq}
 use Rattle.std.specs.declared.string.String.{String}
 use Rattle.std.specs.String.{string_bytes}
@@ -22,8 +22,8 @@ use Rattle.ml_site.specs.declared.source.Source.{Ghosts as SourceGhosts}
 use Rattle.ml_journal.specs.Calls.{Leaves}
 use Rattle.ml_journal.specs.Log.{directory}
 use Rattle.ml_run.specs.declared.lines.Why.TheVariants as whys
-use Rattle.ml_run.specs.Stream.{StreamEnd}
-use Rattle.ml_run.specs.Endings.{Begins, Runs, Opens, Names, MissesList, Says}
+use Rattle.ml_run.specs.Stream.{StreamEnd, End}
+use Rattle.ml_run.specs.Endings.{AnswersAll, Begins, Runs, Opens, Names, MissesList, Says}
 use Rattle.ml_run.specs.Leaving.{HasState, IsAfterSome}
 use Rattle.ml_run.specs.Making.{IsMaking, Makes, made_text, is_make_status}
 
@@ -86,6 +86,8 @@ pub record Spools {I S : Type 0} (source : SourceGhosts I) (told : Ghosts S) (li
   pub few : answered ≤ limit
   pub whole : IsTrue told.tells_reads → (all : List Item) (ending : StreamEnd) (q : State) → Begins (source.left input) (told.disk old).reads all ending q
       → Runs (IsTrue told.tells_all) (Rose (source.faults input) (source.faults next)) run limit answered (told.disk new).reads (told.output new) all ending q (told.output old)
+  pub complete : IsTrue told.tells_reads → (all : List Item) (q : State) → Begins (source.left input) (told.disk old).reads all End q → length all ≤ limit
+      → AnswersAll (IsTrue told.tells_all) run limit answered (told.disk new).reads (told.output new) all q (told.output old)
   pub moments : IsTrue told.tells_all → (all : List Item) (ending : StreamEnd) (q : State) → Begins (source.left input) (told.disk old).reads all ending q
       → Opens told old new (IsAfterSome q (take limit all) (told.output old))
   pub at_rest : IsAtRest (told.disk old) → (all : List Item) (ending : StreamEnd) (q : State) → Begins (source.left input) (told.disk old).reads all ending q

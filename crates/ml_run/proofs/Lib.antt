@@ -17,3 +17,4 @@ pub mod Opening
 pub mod Named
 pub mod MadeLists
 pub mod Missing
+pub mod Complete

@@ -101,6 +101,11 @@ Runs told input status limit answered held output all ending q before =
     ⊎ (Stopped told input status limit answered held output all ending q before
     ⊎ CutOff told status limit answered held output all q before)
 
+-- All items were answered; or memory was wanting, or the output, the input or the disk failed.
+abbrev pub AnswersAll : Type 0 → ℕ → ℕ → ℕ → Contents → Text → List Item → State → Text → Type 0
+AnswersAll told status limit answered held output all q before =
+    Ended told status limit answered held output all End q before ⊎ ((status ≡ 71) ⊎ ((status ≡ 73) ⊎ ((status ≡ 74) ⊎ (status ≡ 111))))
+
 -- a stop line was put out, or the output failed and some front of it was
 pub record Says {S : Type 0} (told : Ghosts S) (old new : S) (status : ℕ) (who : Option ℕ) (why : Why) : Type 0 where
   pub reads : IsTrue told.tells_reads → (told.disk new).reads ≡ (told.disk old).reads

@@ -8,11 +8,11 @@ ghost use Rattle.ml_plain.specs.declared.Item.{Item as TheItem};
 ghost use Rattle.ml_journal.specs.Log.{directory};
 ghost use Rattle.ml_journal.specs.Stores.{site_of};
 ghost use Rattle.ml_plain.specs.Histories.{State};
-ghost use Rattle.ml_run.specs.Endings.{Begins, Runs, Opens, Names, MissesList};
+ghost use Rattle.ml_run.specs.Endings.{AnswersAll, Begins, Runs, Opens, Names, MissesList};
 ghost use Rattle.ml_journal.specs.Calls.{Leaves};
 ghost use Rattle.ml_run.specs.Leaving.{IsAfterSome};
 ghost use Rattle.ml_run.specs.Stops.{is_run_status, why_of_open};
-ghost use Rattle.ml_run.specs.Stream.{StreamEnd};
+ghost use Rattle.ml_run.specs.Stream.{StreamEnd, End};
 
 use crate::adding::why_of;
 pub use crate::closing::Ending;
@@ -41,6 +41,10 @@ pub fn run<I: Source, S: Site>(alloc: Global, limit: u64, input: &mut I, site: S
         Begins (I.left input.old) (S.disk site).reads all ending q →
         Runs (IsTrue S.tells_all) (Rose (I.faults input.old) (I.faults input.new)) result.0.status limit result.0.answered
         (S.disk result.1).reads (S.output result.1) all ending q (S.output site) }
+
+    // A stream in the grammar and within the limit is answered item by item, unless memory is wanting or a count rises.
+    ensures complete { IsTrue S.tells_reads → (all : List TheItem) (q : State) → Begins (I.left input.old) (S.disk site).reads all End q → length all ≤ limit →
+        AnswersAll (IsTrue S.tells_all) result.0.status limit result.0.answered (S.disk result.1).reads (S.output result.1) all q (S.output site) }
 
     // At every moment, and where something is pending at the start from the first sync that succeeds.
     ensures moments { IsTrue S.tells_all → (all : List TheItem) (ending : StreamEnd) (q : State) →

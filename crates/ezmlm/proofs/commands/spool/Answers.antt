@@ -13,6 +13,7 @@ returns g c =
       known = known run status is c.run-site.ensures.statuses;
       few = c.run-site.ensures.answered;
       whole = c.run-site.ensures.whole;
+      complete = c.run-site.ensures.complete;
       moments = c.run-site.ensures.moments;
       at_rest = c.run-site.ensures.at_rest;
       rest = λ all ending q b none one two. c.run-site.ensures.rest all ending q b none (λ e. one (keeps run status 71 is refl e)) (λ e. two (keeps run status 73 is refl e));

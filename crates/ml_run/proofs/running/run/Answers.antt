@@ -16,6 +16,8 @@ use Rattle.ml_run.specs.Endings.{IsFound, Names}
 use Rattle.ml_run.proofs.Named.{said_named, some_dir}
 use Rattle.ml_run.proofs.Opening.{open_found}
 use Rattle.std.specs.Prelude.{IsSome}
+use Rattle.ml_run.specs.Stream.{End}
+use Rattle.ml_run.proofs.Complete.{answers_all}
 use Rattle.ml_run.proofs.Missing.{said_fails, said_misses, misses_before, open_fails, fails_not}
 use Rattle.ml_run.proofs.running.run.Goals as goal
 
@@ -120,3 +122,12 @@ pub returns-in-Err-clause-nolist : goal.returns-in-Err-clause-nolist
 returns-in-Err-clause-nolist g c told files found none =
     said_misses g.S.Site c.in-Err.site c.say-in-Err.result.1 (g.S.Site.output c.args.site) c.say-in-Err.result.0.status None c.not_opened.result
     (open_fails c.in-Err.error c.not_opened.result (directory (g.S.Site.disk c.args.site).reads) (subst (λ (o : Option Dir). IsSome o) (sym found) refl) (c.in-Err.ensures.damaged told) c.not_opened.ensures) c.say-in-Err.ensures.says
+
+pub returns-in_default-clause-complete : goal.returns-in_default-clause-complete
+returns-in_default-clause-complete g c told all q b few = answers_all _ _ _ _ _ _ _ all q _ few (returns-in_default-clause-whole g c told all End q b)
+
+pub returns-in-Ok-open-clause-complete : goal.returns-in-Ok-open-clause-complete
+returns-in-Ok-open-clause-complete g c told all q b few = answers_all _ _ _ _ _ _ _ all q _ few (returns-in-Ok-open-clause-whole g c told all End q b)
+
+pub returns-in-Err-clause-complete : goal.returns-in-Err-clause-complete
+returns-in-Err-clause-complete g c told all q b few = answers_all _ _ _ _ _ _ _ all q _ few (returns-in-Err-clause-whole g c told all End q b)
