@@ -23,7 +23,7 @@ use Rattle.ml_journal.specs.Calls.{Leaves}
 use Rattle.ml_journal.specs.Log.{directory}
 use Rattle.ml_run.specs.declared.lines.Why.TheVariants as whys
 use Rattle.ml_run.specs.Stream.{StreamEnd, End}
-use Rattle.ml_run.specs.Endings.{AnswersAll, Begins, Runs, Opens, Names, MissesList, Says}
+use Rattle.ml_run.specs.Endings.{AnswersAll, Begins, Runs, Opens, Names, MissesList, Says, FromTaken}
 use Rattle.ml_run.specs.Leaving.{HasState, IsAfterSome}
 use Rattle.ml_run.specs.Making.{IsMaking, Makes, made_text, is_make_status}
 
@@ -94,6 +94,8 @@ pub record Spools {I S : Type 0} (source : SourceGhosts I) (told : Ghosts S) (li
       → Leaves told old new (IsAfterSome q (take limit all) (told.output old))
   pub rest : (all : List Item) (ending : StreamEnd) (q : State) → Begins (source.left input) (told.disk old).reads all ending q
       → (Rose (told.disk_faults old) (told.disk_faults new) → ⊥) → (status ≡ 71 → ⊥) → (status ≡ 73 → ⊥) → IsTrue told.tells_all → IsAtRest (told.disk new)
+  pub taken : IsTrue told.tells_reads → (all : List Item) (ending : StreamEnd) (q : State) → Begins (source.left input) (told.disk old).reads all ending q
+      → FromTaken (source.left input) (source.left next) (λ items. (IsTrue told.tells_all → IsAfterSome q (take limit items) (told.output old) (told.disk new).reads (told.output new)) × (status ≡ 74 → answered ≡ length items))
   pub of_input : status ≡ 74 → Rose (source.faults input) (source.faults next)
   pub of_disk : status ≡ 111 → Rose (told.disk_faults old) (told.disk_faults new)
   pub of_output : status ≡ 73 → Rose (told.output_faults old) (told.output_faults new)

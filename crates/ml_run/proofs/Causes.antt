@@ -83,7 +83,7 @@ cut_causes input d o rose = record { known = refl; of_input = λ e. absurd (omeg
 status_run : (last : ℕ) → is_status last ≡ true → is_run_status last ≡ true
 status_run last is = grind (arith, nat_tests)
 
-status_not : (last n : ℕ) → is_status last ≡ true → 0 < n → n < 100 → ¬ (last ≡ n)
+pub status_not : (last n : ℕ) → is_status last ≡ true → 0 < n → n < 100 → ¬ (last ≡ n)
 status_not last n is low high e = grind (arith, nat_tests)
 
 status_not_111 : (last : ℕ) → is_status last ≡ true → ¬ (last ≡ 111)

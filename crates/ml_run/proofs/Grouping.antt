@@ -1,5 +1,5 @@
 -- What a group holds, item by item.
-use Rattle.std.proofs.Common.{◌≡◌, ℕ, suc, zero, ◌+◌, ◌-◌, ◌^◌, ◌<◌, min, true, Result, Ok, Err, OnOk, OnErr, IfOk, IfErr, List, [], ◌∷◌, ◌++◌, length, take, drop, get_or, Option, Some, None, ap, ap₂, sym, refl, subst, ◌∙◌, arith, append_assoc, length-append}
+use Rattle.std.proofs.Common.{◌≡◌, ◌≢◌, ℕ, suc, zero, ◌+◌, ◌-◌, ◌^◌, ◌<◌, min, true, Result, Ok, Err, OnOk, OnErr, IfOk, IfErr, List, [], ◌∷◌, ◌++◌, length, take, drop, get_or, Option, Some, None, ap, ap₂, sym, refl, subst, ◌∙◌, arith, append_assoc, length-append}
 use Rattle.std.specs.Prelude.{IsSome}
 use Rattle.std.proofs.lemmas.List.{take_at, drop_at, drop_more}
 use Rattle.ml_base.specs.Bytes.{Text}
@@ -17,6 +17,7 @@ use Rattle.ml_plain.specs.Histories.{State, fold, text, step}
 use Rattle.ml_list.proofs.States.{fold-nil, fold-one, fold-append, text-nil, text-one, text-append, last-nil, last-more}
 use Rattle.ml_run.specs.declared.items.Items.{Items}
 use Rattle.ml_run.specs.declared.groups.Group.{Group}
+use Rattle.ml_run.specs.declared.groups.GroupEnd.{GroupEnd}
 use Rattle.ml_run.specs.declared.groups.GroupEnd.TheVariants as ends
 use Rattle.ml_run.specs.declared.lines.Why.{Why}
 use Rattle.ml_run.specs.declared.lines.Why.TheVariants as whys
@@ -27,7 +28,7 @@ use Rattle.ml_base.specs.PartErrors.{OnDamaged}
 use Rattle.ml_run.specs.Stops.{why_of_part}
 use Rattle.ml_run.specs.Stream.{StreamEnd, End}
 use Rattle.ml_run.proofs.LaidPuts.{laid_over, laid_files, all_distinct}
-use Rattle.ml_run.specs.Groups.{laid_all, IsGroup, IsEmptyGroup, HasNext, Holds, IsFirst, first_number, IsAhead, Gathers, IsStop, IsNumberOf, HasReason, IsPartReason}
+use Rattle.ml_run.specs.Groups.{laid_all, IsGroup, IsEmptyGroup, HasNext, Holds, IsFirst, first_number, IsAhead, Gathers, IsStop, IsNumberOf, HasReason, IsPartReason, HasRoom, IsJustFull, EndsInTime}
 
 -- no items
 pub holds_none : (dir : Dir) (g : Group) (q : State) → IsEmptyGroup g → IsState dir q → Holds dir g.last g q []
@@ -130,6 +131,30 @@ pub added_next : (r : Result (Unit {0}) Why) (dir : Dir) (g mid new : Group) (it
 added_next (Ok u) dir g mid new item more reply same next gives = λ last q items h.
     holds_more dir last g new q items item more reply h (subst (λ (m : Group). HasNext m new item.number more reply) same next) (gives (fold q items) h.state)
 added_next (Err e) dir g mid new item more reply same next gives = tt
+
+-- the same of the group alone
+pub next_over : (r : Result (Unit {0}) Why) (g mid new : Group) (number : ℕ) (more : List Put) (reply : Reply) → mid ≡ g → OnOk r (HasNext mid new number more reply)
+    → OnOk r ((puts : List Put) × (answer : Reply) × HasNext g new number puts answer)
+next_over (Ok u) g mid new number more reply same next = (more, reply, subst (λ (m : Group). HasNext m new number more reply) same next)
+next_over (Err e) g mid new number more reply same next = tt
+
+-- the size of a group that is counted
+pub few_bytes : (g : Group) → IsGroup g → g.size < 4_194_304 → content_size g.txn < 4_194_304
+few_bytes g is low = omega (arith, is.size, low)
+
+-- no items have few bytes
+pub none_low : (g : Group) → IsGroup g → IsEmptyGroup g → g.size < 4_194_304
+none_low g is none = let zero : content_size g.txn ≡ 0 = ap content_size none.txn in omega (arith, is.size, zero)
+
+-- a group that ends for another reason than that it is full
+pub ended_in_time : (end : GroupEnd) (g : Group) → end ≢ ends.Full → HasRoom g → EndsInTime end g
+ended_in_time ends.Full g other room = absurd (other refl)
+ended_in_time ends.Last g other room = room
+ended_in_time (ends.Stopped who why) g other room = room
+
+-- a group that had room has one item more
+pub just_full : (g new : Group) (number : ℕ) → IsGroup g → g.count < 16 → g.size < 4_194_304 → (more : List Put) × (reply : Reply) × HasNext g new number more reply → IsJustFull new
+just_full g new number is few low h = record { before = g; number = number; more = h.0; reply = h.1; next = h.2; not_full = (few, few_bytes g is low) }
 
 -- the size from a place on
 pub content_next : (puts : List Put) (i : ℕ) (put : Put) → i < length puts → put ≡ get_or puts i put → content_size (drop i puts) ≡ content_size (put ∷ []) + content_size (drop (i + 1) puts)

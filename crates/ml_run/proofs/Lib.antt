@@ -7,6 +7,7 @@ pub mod Spelled
 pub mod Ahead
 pub mod LaidPuts
 pub mod Grouping
+pub mod ItemPaths
 pub mod Leaving
 pub mod Served
 pub mod Spent
@@ -18,3 +19,7 @@ pub mod Named
 pub mod MadeLists
 pub mod Missing
 pub mod Complete
+pub mod Locality
+pub mod Cuts
+pub mod Taking
+pub mod Taken

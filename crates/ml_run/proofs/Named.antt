@@ -1,5 +1,5 @@
 -- Where a run ends with 75.
-use Rattle.std.proofs.Common.{◌≡◌, inl, inr, ⊎_elim, ℕ, IsTrue, List, ◌++◌, Option, Some, None, true, false, ap, sym, refl, subst, ◌∙◌, arith}
+use Rattle.std.proofs.Common.{◌≡◌, inr, ⊎_elim, ℕ, IsTrue, List, ◌++◌, Option, Some, None, true, false, ap, sym, refl, subst, ◌∙◌, arith}
 use Rattle.std.proofs.lemmas.Bool.Decides.{nat_tests}
 use Rattle.std.specs.Prelude.{IsSome}
 use Rattle.ml_base.specs.Dir.{Dir, with_puts}
@@ -99,7 +99,7 @@ module _ {S : Type 0} (told : Ghosts S) where
 
 -- a reason of a group's end that gives 75 is a damaged file
 pub found_of : (who : Option ℕ) (why : Why) (input disk : Type 0) (found : Option Dir) (files : Dir) → HasReason why input disk (λ name. IsDamaged files name) → IsNumbered who why → status_of_why why ≡ 75 → IsFound who why found (Some files)
-found_of who (whys.At name) input disk found files r n e = inr (inl n, (files, refl, r.1))
+found_of who (whys.At name) input disk found files r n e = inr (inr (n.0, n.1, (files, refl, r.1)))
 found_of who whys.NoList input disk found files r n e = absurd r
 found_of who (whys.Bad at) input disk found files r n e = absurd (omega (arith, e))
 found_of who (whys.Short at) input disk found files r n e = absurd (omega (arith, e))

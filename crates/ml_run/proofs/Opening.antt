@@ -269,4 +269,4 @@ open_found opens.Damaged found held damaged e = inl (refl, refl, damaged refl)
 pub part_found : (error : PartError) (found held : Option Dir) (files : Dir) → held ≡ Some files → OnDamaged error (λ name. name ≡ config_name) → OnDamaged error (IsDamaged files) → status_of_why (why_of_part error) ≡ 75 → IsFound None (why_of_part error) found held
 part_found parts.Fault found held files is named damaged e = absurd (omega (arith, e))
 part_found parts.Memory found held files is named damaged e = absurd (omega (arith, e))
-part_found (parts.Damaged name) found held files is named damaged e = inr (inr named, (files, is, damaged))
+part_found (parts.Damaged name) found held files is named damaged e = inr (inl (refl, named, (files, is, damaged)))

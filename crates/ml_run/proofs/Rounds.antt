@@ -3,51 +3,66 @@ use Rattle.std.proofs.Common.{◌≡◌, ◌≢◌, ◌⊎◌, inl, inr, ⊎_eli
 use Rattle.std.specs.Prelude.{IsSome}
 use Rattle.std.proofs.lemmas.List.{append-nil, take-append-drop}
 use Rattle.ml_base.specs.Bytes.{Text}
-use Rattle.ml_base.specs.Dir.{Dir}
 use Rattle.ml_base.specs.declared.names.Name.{Name}
 use Rattle.ml_site.specs.Disk.{Contents}
 use Rattle.ml_site.specs.Moments.{LeavesOnly}
 use Rattle.ml_site.specs.declared.site.Site.{Ghosts}
 use Rattle.ml_journal.specs.Log.{directory}
 use Rattle.ml_plain.specs.declared.Item.{Item}
-use Rattle.ml_plain.specs.Histories.{State, fold, text, last_from}
-use Rattle.ml_list.proofs.States.{last-append}
-use Rattle.ml_run.specs.declared.items.Items.{Items}
-use Rattle.ml_run.specs.declared.groups.Group.{Group}
+use Rattle.ml_plain.specs.Histories.{State, fold, text}
 use Rattle.ml_run.specs.declared.groups.GroupEnd.TheVariants as ends
 use Rattle.ml_run.specs.declared.lines.Why.{Why}
 use Rattle.ml_run.specs.declared.lines.Why.TheVariants as whys
 use Rattle.ml_run.specs.Stream.{StreamEnd, End}
-use Rattle.ml_run.specs.Groups.{Gathers, IsStop, IsFirst, IsNumberOf, HasReason}
+use Rattle.ml_run.specs.Groups.{IsStop, IsFirst, IsNumberOf, HasReason}
 use Rattle.ml_journal.specs.Calls.{Leaves}
-use Rattle.ml_run.specs.Leaving.{HasState, IsAfterSome, IsServed, IsLeft}
+use Rattle.ml_run.specs.Leaving.{HasState, IsAfterSome, IsServed, IsLeft, IsStopLine}
+use Rattle.ml_site.proofs.Steps.{weaker}
 use Rattle.ml_run.specs.Spending.{IsRefused}
-use Rattle.ml_run.specs.Endings.{EndsEarly, HasMore, Runs, Refuses, IsServing, IsLine}
+use Rattle.ml_run.specs.Endings.{EndsEarly, HasMore, Runs, Refuses, IsLine}
 use Rattle.ml_run.proofs.Leaving.{take_split, same_state}
 use Rattle.ml_run.proofs.Served.{said_moments, said_runs}
 
-module _ {S : Type 0} (told : Ghosts S) where
-  -- what a group had ahead, cut behind it
-  pub group_split : (start now : S) (limit answered last : ℕ) (reader : Items) (left : Option Text) (all : List Item) (ending : StreamEnd) (q : State) (i : IsServing told start now limit answered last reader left all ending q)
-      (items rest : List Item) (count : ℕ) → i.ahead ≡ items ++ rest → count ≡ length items → count ≤ limit - answered
-      → IsServed told start now q (take limit all) i.done (items ++ take (limit - (answered + count)) rest)
-  group_split start now limit answered last reader left all ending q i items rest count split is le =
-      let cut : take (limit - answered) i.ahead ≡ items ++ take (limit - (answered + count)) rest =
-      ap (take (limit - answered)) split ∙ take_split (limit - answered) items rest (omega (arith, is, le)) ∙ ap (λ (n : ℕ). items ++ take n rest) (let e : (limit - answered) - length items ≡ limit - (answered + count) = omega (arith, is) in e) in
-      subst (λ (l : List Item). IsServed told start now q (take limit all) i.done l) cut i.served
+number_wider : (who : Option ℕ) (xs ys : List Item) → IsNumberOf who xs → IsNumberOf who (xs ++ ys)
+number_wider None xs ys is = tt
+number_wider (Some n) [] ys is = absurd is
+number_wider (Some n) (x ∷ xs) ys is = is
 
-  -- the run goes on behind a group
-  pub next_serving : (start now new : S) (limit answered last : ℕ) (reader next : Items) (left left' : Option Text) (all : List Item) (ending : StreamEnd) (q : State) (i : IsServing told start now limit answered last reader left all ending q)
-      (dir : Dir) (g : Group) (room : ℕ) (s : Gathers dir last g ends.Full room next left' i.ahead ending (fold q i.done))
-      → IsServed told start new q (take limit all) (i.done ++ s.items) (take (limit - (answered + g.count)) s.rest) → IsServing told start new limit (answered + g.count) g.last next left' all ending q
-  next_serving start now new limit answered last reader next left left' all ending q i dir g room s served = record {
-    done = i.done ++ s.items;
-    ahead = s.rest;
-    split = i.split ∙ ap (λ (l : List Item). i.done ++ l) s.split ∙ sym (append_assoc i.done s.items s.rest);
-    count = omega (arith, i.count, s.holds.count, length-append i.done s.items);
-    last_is = s.holds.last_is ∙ ap (λ (n : ℕ). last_from n (fold q i.done) s.items) i.last_is ∙ sym (last-append 0 q i.done s.items);
-    stream = s.ends;
-    served = served;
+line_wider : (waiting rest behind : List Item) (line : Text) → IsStopLine (waiting ++ rest) line → IsStopLine (waiting ++ (rest ++ behind)) line
+line_wider waiting rest behind line l = record {
+  who = l.who;
+  why = l.why;
+  number = subst (λ (items : List Item). IsNumberOf l.who items) (append_assoc waiting rest behind) (number_wider l.who (waiting ++ rest) behind l.number);
+  is = l.is;
+}
+
+-- what may be left of some items may be left of more
+pub after_wider : (q : State) (items done behind : List Item) (before out : Text) (left : Contents) → items ≡ done ++ behind → IsAfterSome q done before left out → IsAfterSome q items before left out
+after_wider q items done behind before out left split p = record {
+  first = p.first;
+  rest = p.rest ++ behind;
+  split = split ∙ ap (λ (l : List Item). l ++ behind) p.split ∙ append_assoc p.first p.rest behind;
+  state = p.state;
+  put = ⊎_elim (λ a. inl a) (λ l. inr (record { answered = l.answered; waiting = l.waiting; split = l.split; front = l.front; more = l.more; line = line_wider l.waiting p.rest behind (l.front ++ l.more) l.line; put = l.put })) p.put;
+}
+
+-- a stream cut behind so many items
+pub cut_split : (limit answered count : ℕ) (all done ahead items rest : List Item) → all ≡ done ++ ahead → answered ≡ length done → answered ≤ limit → ahead ≡ items ++ rest → count ≡ length items → count ≤ limit - answered
+    → take limit all ≡ done ++ (items ++ take (limit - (answered + count)) rest)
+cut_split limit answered count all done ahead items rest split count_is few next is le =
+    ap (take limit) split ∙ take_split limit done ahead (omega (arith, count_is, few))
+    ∙ ap (λ (l : List Item). done ++ l) (ap (λ (n : ℕ). take n ahead) (let e : limit - length done ≡ limit - answered = omega (arith, count_is) in e) ∙ ap (take (limit - answered)) next ∙ take_split (limit - answered) items rest (omega (arith, is, le))
+    ∙ ap (λ (n : ℕ). items ++ take n rest) (let e : (limit - answered) - length items ≡ limit - (answered + count) = omega (arith, is) in e))
+
+module _ {S : Type 0} (told : Ghosts S) where
+  -- what is served of the items that are done is served of more
+  pub served_wider : (start now : S) (q : State) (items done behind : List Item) → items ≡ done ++ behind → IsServed told start now q done done [] → IsServed told start now q items done behind
+  served_wider start now q items done behind split s = record {
+    split = split;
+    state = s.state;
+    put = s.put;
+    moments = λ t. weaker told.moment told.left_since told.disk told.output start now (IsAfterSome q done (told.output start)) (IsAfterSome q items (told.output start)) (s.moments t)
+        (λ left out p. after_wider q items done behind (told.output start) out left split p);
   }
 
 none_left : (all done rest : List Item) → all ≡ done ++ rest → rest ≡ [] → done ≡ all

@@ -17,7 +17,7 @@ use Rattle.ml_run.specs.declared.stream.StreamError.TheVariants as errors
 use Rattle.ml_run.specs.Lines.{stop_text}
 use Rattle.ml_run.specs.Stops.{status_of_why, is_run_status, log_name}
 use Rattle.ml_run.specs.Stream.{StreamEnd, End, Broken, IsStream}
-use Rattle.ml_run.specs.Groups.{IsNumberOf, IsAhead, HasReason}
+use Rattle.ml_run.specs.Groups.{IsNumberOf, IsAhead, HasReason, IsOfItem}
 use Rattle.ml_run.specs.declared.items.Items.{Items}
 use Rattle.ml_journal.specs.Moments.{IsOld}
 use Rattle.ml_site.specs.Moments.{BeforeFirstSync, FromFirstSync}
@@ -182,7 +182,18 @@ pub record IsServing {S : Type 0} (told : Ghosts S) (start now : S) (limit answe
   pub count : answered ≡ length done
   pub last_is : last ≡ last_from 0 q done
   pub stream : IsAhead reader left ahead ending
-  pub served : IsServed told start now q (take limit all) done (take (limit - answered) ahead)
+  pub served : IsServed told start now q done done []
+
+-- the bytes that were taken from what was left before have these whole items, and of them P holds
+pub record FromTaken (before after : Option Text) (P : List Item → Type 0) : Type 0 where
+  pub taken : Text
+  pub rest : Text
+  pub before_is : before ≡ Some (taken ++ rest)
+  pub after_is : after ≡ Some rest
+  pub items : List Item
+  pub ending : StreamEnd
+  pub stream : IsStream 0 taken items ending
+  pub holds : P items
 
 -- From the first sync that succeeds on a crash left what has P, and until then what one at the start could leave. Where no
 -- sync succeeded, the disk is as it was, and a crash left what one at the start could leave, with some front of one stop line
@@ -209,12 +220,16 @@ pub record HasCauses (status : ℕ) (input disk output : Type 0) : Type 0 where
   pub of_disk : status ≡ 111 → disk
   pub of_output : status ≡ 73 → output
 
--- Why a line says 75: there is no configuration, or the file that it names is damaged. It begins with the number of an item, but
--- for a missing configuration, and for a damaged log or configuration.
+-- a file is damaged in this directory
+abbrev pub IsDamagedIn : Option Dir → Name → Type 0
+IsDamagedIn held name = (files : Dir) × (held ≡ Some files) × IsDamaged files name
+
+-- Why a line says 75: there is no configuration, or the file that it names is damaged. For a missing configuration, and for a
+-- damaged log or configuration, it begins with `-`, and for each other file with the number of an item.
 abbrev pub IsFound : Option ℕ → Why → Option Dir → Option Dir → Type 0
 IsFound who whys.NoList found held = (who ≡ None) × ((files : Dir) × (found ≡ Some files) × (files config_name ≡ None))
 IsFound who (whys.At name) found held =
-    ((who ≡ None) × (name ≡ log_name) × (found ≡ None)) ⊎ ((IsSome who ⊎ (name ≡ config_name)) × ((files : Dir) × (held ≡ Some files) × IsDamaged files name))
+    ((who ≡ None) × (name ≡ log_name) × (found ≡ None)) ⊎ (((who ≡ None) × (name ≡ config_name) × IsDamagedIn held name) ⊎ (IsSome who × IsOfItem name × IsDamagedIn held name))
 IsFound who _ found held = ⊥
 
 -- Where there is no configuration, a run's stop line says so, or memory was wanting, or the output or the disk failed.

@@ -5,6 +5,7 @@ use Rattle.ml_base.specs.Dir.{Dir, are_files, with_puts}
 use Rattle.ml_base.specs.Laying.{laid_in, are_distinct}
 use Rattle.ml_base.specs.declared.names.Name.{Name}
 use Rattle.ml_base.specs.declared.puts.Put.{Put}
+use Rattle.ml_config.specs.ConfigFile.{config_name}
 use Rattle.ml_journal.specs.Records.{content_size}
 use Rattle.ml_plain.specs.declared.Item.{Item}
 use Rattle.ml_plain.specs.declared.Reply.{Reply}
@@ -19,8 +20,9 @@ use Rattle.ml_run.specs.declared.groups.GroupEnd.TheVariants as ends
 use Rattle.ml_run.specs.declared.lines.Why.{Why}
 use Rattle.ml_run.specs.declared.lines.Why.TheVariants as whys
 use Rattle.ml_run.specs.declared.stream.StreamError.TheVariants as errors
-use Rattle.ml_run.specs.Items.{HasLeft, place_of}
-use Rattle.ml_run.specs.Stream.{StreamEnd, End, Broken, IsStream}
+use Rattle.ml_run.specs.Items.{HasLeft, place_of, ahead_of}
+use Rattle.ml_run.specs.Stops.{log_name}
+use Rattle.ml_run.specs.Stream.{StreamEnd, End, Broken, IsStream, item_at, got}
 
 -- a row with others laid over it one by one: each in the place of the newest one of its file, or last where there is none
 abbrev pub laid_all : List Put → List Put → List Put
@@ -122,9 +124,13 @@ EndsWithReason ends.Full input disk damaged = Unit {0}
 EndsWithReason ends.Last input disk damaged = Unit {0}
 EndsWithReason (ends.Stopped who why) input disk damaged = HasReason why input disk damaged
 
+-- a file that an item reads is neither the log nor the configuration
+abbrev pub IsOfItem : Name → Type 0
+IsOfItem name = (name ≢ log_name) × (name ≢ config_name)
+
 -- a stop line that names a file of an item's begins with the item's number
 abbrev pub IsNumbered : Option ℕ → Why → Type 0
-IsNumbered who (whys.At name) = IsSome who
+IsNumbered who (whys.At name) = IsSome who × IsOfItem name
 IsNumbered who _ = Unit {0}
 
 abbrev pub EndsNumbered : GroupEnd → Type 0
@@ -138,9 +144,61 @@ IsFullGroup ends.Full g room = (0 < g.count) × ((g.count ≡ 16) ⊎ ((4_194_30
 IsFullGroup ends.Last g room = Unit {0}
 IsFullGroup (ends.Stopped who why) g room = Unit {0}
 
--- why an item is refused: memory was wanting, the disk failed, or a file is damaged
+-- a group that is not full: it has fewer than 16 items, and its puts have fewer bytes
+abbrev pub HasRoom : Group → Type 0
+HasRoom g = (g.count < 16) × (content_size g.txn < 4_194_304)
+
+-- a group that was not full before its last item
+pub record IsJustFull (g : Group) : Type 0 where
+  pub before : Group
+  pub number : ℕ
+  pub more : List Put
+  pub reply : Reply
+  pub next : HasNext before g number more reply
+  pub not_full : HasRoom before
+
+-- a group ends as soon as it is full, and one that ends for another reason isn't
+abbrev pub EndsInTime : GroupEnd → Group → Type 0
+EndsInTime ends.Full g = IsJustFull g
+EndsInTime ends.Last g = HasRoom g
+EndsInTime (ends.Stopped who why) g = HasRoom g
+
+-- why an item is refused: memory was wanting, the disk failed, or a file that it reads is damaged
 abbrev pub IsPartReason : Why → Type 0
 IsPartReason whys.Memory = Unit {0}
 IsPartReason whys.Disk = Unit {0}
-IsPartReason (whys.At name) = Unit {0}
+IsPartReason (whys.At name) = IsOfItem name
 IsPartReason _ = ⊥
+
+-- these bytes are these items one after the other, whatever follows them, and this is the place behind them
+abbrev pub Spells : ℕ → Text → List Item → ℕ → Type 0
+Spells place front [] behind = (front ≡ []) × (behind ≡ place)
+Spells place front (item ∷ items) behind =
+    (own rest : Text) × (next : ℕ) × (front ≡ own ++ rest) × ((more : Text) → item_at place (own ++ more) ≡ got (Some item) next more) × Spells next rest items behind
+
+-- the whole items of these bytes are these ones and then some that have P
+pub record HasWhole (place : ℕ) (front : Text) (items : List Item) (P : List Item → Type 0) : Type 0 where
+  pub behind : List Item
+  pub ending : StreamEnd
+  pub stream : IsStream place front (items ++ behind) ending
+  pub holds : P behind
+
+-- Which items the bytes hold that were taken for a group, where so many more were to be read: its own, and that of a stop line's
+-- number. Where the source failed they hold no others.
+abbrev pub TakesTo : GroupEnd → ℕ → Text → Text → List Item → ℕ → Items → Option Text → Type 0
+TakesTo ends.Full place front rest items more reader left = Spells place front items (place_of reader) × (ahead_of reader ≡ None) × HasLeft reader left rest
+TakesTo ends.Last place front rest items more reader left = HasWhole place front items (λ behind. Unit {0})
+TakesTo (ends.Stopped who why) place front rest items more reader left =
+    HasWhole place front items (λ behind. IsNumberOf who (take more behind) × (why ≡ whys.Input → behind ≡ []))
+
+-- so much was taken from the front for a group of these items
+pub record Takes (end : GroupEnd) (place : ℕ) (bs : Text) (items : List Item) (more : ℕ) (reader : Items) (left : Option Text) : Type 0 where
+  pub front : Text
+  pub rest : Text
+  pub split : bs ≡ front ++ rest
+  pub left_is : left ≡ Some rest
+  pub holds : TakesTo end place front rest items more reader left
+
+-- a group took its items, so many
+abbrev pub TakesSome : GroupEnd → ℕ → Text → ℕ → ℕ → Items → Option Text → Type 0
+TakesSome end place bs count more reader left = (items : List Item) × (length items ≡ count) × Takes end place bs items more reader left

@@ -2,7 +2,7 @@
 use Rattle.std.specs.Prelude.{◌≡◌, ℕ, ◌+◌, ◌^◌, ◌<◌, [], ◌++◌, length, Option, Some, None, Result, Ok, Err}
 use Rattle.std.specs.Option.{option_to_list}
 use Rattle.ml_base.specs.Bytes.{Text}
-use Rattle.ml_run.specs.Stream.{Read}
+use Rattle.ml_run.specs.Stream.{Read, StreamEnd, IsStream}
 use Rattle.ml_run.specs.declared.stream.StreamError.{StreamError}
 use Rattle.ml_run.specs.declared.stream.StreamError.TheVariants.{Bad, Short, Fault, Memory}
 
@@ -32,3 +32,27 @@ pub record Steps (old place : ℕ) (ahead : Option ℕ) (left : Option Text) (bs
   pub stands : Stands place ahead left rest
   pub place_is : place ≡ old + length (option_to_list b)
   pub end : b ≡ None → rest ≡ []
+
+-- fewer bytes than these were taken from the front
+pub record IsCut (size : ℕ) (bs : Text) (left : Option Text) : Type 0 where
+  pub front : Text
+  pub rest : Text
+  pub few : length front < size
+  pub split : bs ≡ front ++ rest
+  pub left_is : left ≡ Some rest
+
+-- no value is read
+abbrev pub Fails : {X : Type 0} → Read X → Type 0
+Fails read = (e : StreamError) × (read ≡ Err e)
+
+-- no whole item is at the front of these bytes
+abbrev pub IsNoItem : ℕ → Text → Type 0
+IsNoItem place bs = (ending : StreamEnd) × IsStream place bs [] ending
+
+-- An error was answered: some bytes were taken from the front, and where the source failed, this holds of these alone.
+pub record Breaks (e : StreamError) (left : Option Text) (bs : Text) (P : Text → Type 0) : Type 0 where
+  pub front : Text
+  pub rest : Text
+  pub split : bs ≡ front ++ rest
+  pub left_is : left ≡ Some rest
+  pub cut : e ≡ Fault → P front

@@ -1,5 +1,6 @@
 // A group of items, read and applied.
-ghost use Rattle.std.specs.Prelude.{◌≡◌, ◌≢◌, ◌≤◌, ◌<◌, ℕ, List, None, IsTrue};
+ghost use Rattle.std.specs.Prelude.{◌≡◌, ◌≢◌, ◌≤◌, ◌<◌, ◌-◌, ℕ, List, [], None, IsTrue};
+ghost use Rattle.ml_base.specs.Bytes.{Text};
 ghost use Rattle.ml_base.specs.Dir.{with_puts};
 ghost use Rattle.ml_base.specs.Faults.{Rose};
 ghost use Rattle.ml_plain.specs.declared.Item.{Item as TheItem};
@@ -8,8 +9,8 @@ ghost use Rattle.ml_journal.specs.Stores.{site_of};
 ghost use Rattle.ml_list.specs.Damage.{IsDamaged};
 ghost use Rattle.ml_plain.specs.Directory.{IsState};
 ghost use Rattle.ml_plain.specs.Histories.{State};
-ghost use Rattle.ml_run.specs.Groups.{IsGroup, IsEmptyGroup, IsAhead, Gathers, EndsWithReason, EndsNumbered, IsFullGroup, IsEnd};
-ghost use Rattle.ml_run.specs.Items.{error_of};
+ghost use Rattle.ml_run.specs.Groups.{IsGroup, IsEmptyGroup, IsAhead, Gathers, EndsWithReason, EndsNumbered, IsFullGroup, EndsInTime, IsEnd, Takes, TakesSome};
+ghost use Rattle.ml_run.specs.Items.{error_of, place_of, ahead_of, HasLeft};
 ghost use Rattle.ml_run.specs.Leaving.{dir_of};
 ghost use Rattle.ml_run.specs.Stops.{why_of_stream};
 ghost use Rattle.ml_run.specs.Stream.{StreamEnd};
@@ -40,10 +41,13 @@ pub(crate) fn gather<I: Source, S: Site>(
     ensures group { IsGroup result.1 }
     ensures few { result.1.count ≤ room }
     ensures full { IsFullGroup result.2 result.1 room }
+    ensures in_time { EndsInTime result.2 result.1 }
     ensures sound { result.2 ≡ Full → error_of reader.new ≡ None }
     ensures gathered { IsTrue S.tells_reads → (ahead : List TheItem) (ending : StreamEnd) (q : State) →
         IsAhead reader.old (I.left input.old) ahead ending → IsState (dir_of store) q →
         Gathers (dir_of store) group.last result.1 result.2 room reader.new (I.left input.new) ahead ending q }
+    ensures taken { (bs : Text) → ahead_of reader.old ≡ None → HasLeft reader.old (I.left input.old) bs →
+        TakesSome result.2 (place_of reader.old) bs result.1.count (room - result.1.count) reader.new (I.left input.new) }
     ensures later { I.faults input.old ≤ I.faults input.new }
     ensures numbered { EndsNumbered result.2 }
     ensures reason { EndsWithReason result.2 (Rose (I.faults input.old) (I.faults input.new))
@@ -82,6 +86,8 @@ fn behind<I: Source>(input: &mut I, reader: &mut Items) -> GroupEnd
     ensures sound { error_of reader.new ≡ None }
     ensures behind { (ahead : List TheItem) (ending : StreamEnd) → IsAhead reader.old (I.left input.old) ahead ending →
         IsEnd result 0 reader.new (I.left input.new) ahead ending }
+    ensures taken { (bs : Text) → HasLeft reader.old (I.left input.old) bs →
+        Takes result (place_of reader.old) bs [] 0 reader.new (I.left input.new) }
     ensures more { result ≢ Full }
     ensures later { I.faults input.old ≤ I.faults input.new }
     ensures reason { EndsWithReason result (Rose (I.faults input.old) (I.faults input.new)) ⊥ (λ _. ⊥) }

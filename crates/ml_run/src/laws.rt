@@ -22,6 +22,12 @@ pub fn law_items()
         item_at place (spelled_item item ++ rest) ≡ got (Some item) (place + length (spelled_item item)) rest }
 {}
 
+/// An item is read of its own bytes, whatever follows them.
+pub fn law_fronts()
+    ensures { (place next : ℕ) (bytes rest : Text) (item : TheItem) → item_at place bytes ≡ got (Some item) next rest →
+        (front : Text) × (bytes ≡ front ++ rest) × ((more : Text) → item_at place (front ++ more) ≡ got (Some item) next more) }
+{}
+
 /// Whatever numbers come how often in whatever runs: let runs begin on the list `p` that was just made, each on the state that
 /// the one before it left, which has done some first items of its own. Then the last state is the one after those items joined;
 /// each numbered item counts once, or, where it is first met below the floor, never; and a repeat is answered as the first one

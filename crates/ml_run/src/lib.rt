@@ -19,7 +19,7 @@ mod writing;
 
 pub use closing::stop;
 pub use items::Items;
-pub use laws::{law_items, law_joined, law_streams};
+pub use laws::{law_fronts, law_items, law_joined, law_streams};
 pub use lines::{Why, answer_line, stop_line};
 pub use making::make;
 pub use running::{Ending, run};

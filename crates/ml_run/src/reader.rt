@@ -1,11 +1,11 @@
 // The elements of a stream, read from a source of bytes.
-ghost use Rattle.std.specs.Prelude.{◌≡◌, ◌<◌, ◌≤◌, ◌++◌, ◌^◌, [], ℕ, List, Some, None, IfOk, IfSome, OnOk, IsErrOf, MatchBool, length};
+ghost use Rattle.std.specs.Prelude.{◌≡◌, ◌<◌, ◌≤◌, ◌++◌, ◌^◌, [], ℕ, List, Some, None, IfOk, IfSome, IfErr, OnOk, OnErr, IsErrOf, MatchBool, length};
 ghost use Rattle.ml_base.specs.Faults.{Rose, HasCause};
 ghost use Rattle.ml_base.specs.Bytes.{Text};
 ghost use Rattle.ml_base.specs.Name.{set_of};
 ghost use Rattle.ml_base.specs.Address.{address_of};
 ghost use Rattle.ml_run.specs.Stream.{length_at, content_at, comma_at, element_at, item_number_of, moment_of, floor_of, key_of, add_at, remove_at, floor_at, rekey_at, act_at, elements_at, item_at, letter_of};
-ghost use Rattle.ml_run.specs.Reading.{Stands, Reads, Steps};
+ghost use Rattle.ml_run.specs.Reading.{Stands, Reads, Steps, Breaks, Fails, IsCut, IsNoItem};
 ghost use Rattle.ml_plain.specs.Items.{IsAct};
 ghost use Rattle.ml_list.specs.Acts.{KeepsLimits, IsApplied};
 
@@ -59,6 +59,7 @@ fn fill<I: Source>(input: &mut I, buf: &mut [u8]) -> Result<bool, Failed>
     ensures full { (bs : List ℕ) → I.left input.old ≡ Some bs → IfOk result (λ full. MatchBool full
         ((rest : List ℕ) × (bs ≡ buf.new ++ rest) × (I.left input.new ≡ Some rest))
         ((length bs < length buf.new) × (I.left input.new ≡ Some []))) }
+    ensures cut { (bs : List ℕ) → I.left input.old ≡ Some bs → IfErr result (λ _. IsCut (length buf.new) bs (I.left input.new)) }
     ensures cause { HasCause (I.faults input.old) (I.faults input.new) result }
 {
     let mut filled: usize = 0;
@@ -77,6 +78,7 @@ impl Reader {
     fn byte<I: Source>(&mut self, input: &mut I) -> Result<Option<u8>, Failed>
         ensures read { (bs : List ℕ) → Stands self.old.place self.old.ahead (I.left input.old) bs → IfOk result (λ b.
             Steps self.old.place self.new.place self.new.ahead (I.left input.new) bs b) }
+        ensures stops { (bs : List ℕ) → Stands self.old.place self.old.ahead (I.left input.old) bs → OnErr result (I.left input.new ≡ Some bs) }
         ensures ahead { IfOk result (λ _. self.new.ahead ≡ None) }
         ensures cause { HasCause (I.faults input.old) (I.faults input.new) result }
     {
@@ -104,6 +106,8 @@ impl Reader {
         requires { limit < 10 ^ 18 }
         ensures read { (bs : List ℕ) → Stands self.old.place self.old.ahead (I.left input.old) bs →
             Reads result self.new.place self.new.ahead (I.left input.new) (length_at start limit 0 0 self.old.place bs) }
+        ensures stops { (bs : List ℕ) → Stands self.old.place self.old.ahead (I.left input.old) bs →
+            IfErr result (λ e. Breaks e (I.left input.new) bs (λ t. Fails (length_at start limit 0 0 self.old.place t))) }
         ensures ahead { OnOk result (self.new.ahead ≡ None) }
         ensures limit { IfOk result (λ n. n ≤ limit) }
         ensures later { I.faults input.old ≤ I.faults input.new }
@@ -139,6 +143,9 @@ impl Reader {
         requires { limit < 10 ^ 18 }
         ensures read { (bs : List ℕ) → Stands self.old.place self.old.ahead (I.left input.old) bs →
             Reads result self.new.place self.new.ahead (I.left input.new) (content_at self.old.place limit bs) }
+        ensures stops { (bs : List ℕ) → Stands self.old.place self.old.ahead (I.left input.old) bs →
+            IfErr result (λ e. Breaks e (I.left input.new) bs (λ t. Fails (content_at self.old.place limit t))) }
+        ensures ahead { OnOk result (self.new.ahead ≡ None) }
         ensures later { I.faults input.old ≤ I.faults input.new }
         ensures cause { IsErrOf result StreamError.Fault → Rose (I.faults input.old) (I.faults input.new) }
     {
@@ -156,6 +163,8 @@ impl Reader {
     fn comma<I: Source>(&mut self, input: &mut I, start: u64) -> Result<(), StreamError>
         ensures read { (bs : List ℕ) → Stands self.old.place self.old.ahead (I.left input.old) bs →
             Reads result self.new.place self.new.ahead (I.left input.new) (comma_at start self.old.place bs) }
+        ensures stops { (bs : List ℕ) → Stands self.old.place self.old.ahead (I.left input.old) bs →
+            IfErr result (λ e. Breaks e (I.left input.new) bs (λ t. Fails (comma_at start self.old.place t))) }
         ensures ahead { OnOk result (self.new.ahead ≡ None) }
         ensures later { I.faults input.old ≤ I.faults input.new }
         ensures cause { IsErrOf result StreamError.Fault → Rose (I.faults input.old) (I.faults input.new) }
@@ -174,6 +183,8 @@ impl Reader {
     fn number<I: Source>(&mut self, alloc: Global, input: &mut I) -> Result<u64, StreamError>
         ensures read { (bs : List ℕ) → Stands self.old.place self.old.ahead (I.left input.old) bs →
             Reads result self.new.place self.new.ahead (I.left input.new) (element_at 12 item_number_of self.old.place bs) }
+        ensures stops { (bs : List ℕ) → Stands self.old.place self.old.ahead (I.left input.old) bs →
+            IfErr result (λ e. Breaks e (I.left input.new) bs (λ t. Fails (element_at 12 item_number_of self.old.place t))) }
         ensures ahead { OnOk result (self.new.ahead ≡ None) }
         ensures limit { IfOk result (λ number. number ≤ 999_999_999_999) }
         ensures later { I.faults input.old ≤ I.faults input.new }
@@ -192,6 +203,8 @@ impl Reader {
     fn moment<I: Source>(&mut self, alloc: Global, input: &mut I) -> Result<u64, StreamError>
         ensures read { (bs : List ℕ) → Stands self.old.place self.old.ahead (I.left input.old) bs →
             Reads result self.new.place self.new.ahead (I.left input.new) (element_at 12 moment_of self.old.place bs) }
+        ensures stops { (bs : List ℕ) → Stands self.old.place self.old.ahead (I.left input.old) bs →
+            IfErr result (λ e. Breaks e (I.left input.new) bs (λ t. Fails (element_at 12 moment_of self.old.place t))) }
         ensures ahead { OnOk result (self.new.ahead ≡ None) }
         ensures limit { IfOk result (λ moment. moment < 253_402_300_800) }
         ensures later { I.faults input.old ≤ I.faults input.new }
@@ -210,6 +223,8 @@ impl Reader {
     fn set<I: Source>(&mut self, alloc: Global, input: &mut I) -> Result<Set, StreamError>
         ensures read { (bs : List ℕ) → Stands self.old.place self.old.ahead (I.left input.old) bs →
             Reads result self.new.place self.new.ahead (I.left input.new) (element_at 6 set_of self.old.place bs) }
+        ensures stops { (bs : List ℕ) → Stands self.old.place self.old.ahead (I.left input.old) bs →
+            IfErr result (λ e. Breaks e (I.left input.new) bs (λ t. Fails (element_at 6 set_of self.old.place t))) }
         ensures ahead { OnOk result (self.new.ahead ≡ None) }
         ensures later { I.faults input.old ≤ I.faults input.new }
         ensures cause { IsErrOf result StreamError.Fault → Rose (I.faults input.old) (I.faults input.new) }
@@ -227,6 +242,8 @@ impl Reader {
     fn address<I: Source>(&mut self, alloc: Global, input: &mut I) -> Result<Address, StreamError>
         ensures read { (bs : List ℕ) → Stands self.old.place self.old.ahead (I.left input.old) bs →
             Reads result self.new.place self.new.ahead (I.left input.new) (element_at 400 address_of self.old.place bs) }
+        ensures stops { (bs : List ℕ) → Stands self.old.place self.old.ahead (I.left input.old) bs →
+            IfErr result (λ e. Breaks e (I.left input.new) bs (λ t. Fails (element_at 400 address_of self.old.place t))) }
         ensures ahead { OnOk result (self.new.ahead ≡ None) }
         ensures later { I.faults input.old ≤ I.faults input.new }
         ensures cause { IsErrOf result StreamError.Fault → Rose (I.faults input.old) (I.faults input.new) }
@@ -244,6 +261,8 @@ impl Reader {
     fn add<I: Source>(&mut self, alloc: Global, input: &mut I) -> Result<Act, StreamError>
         ensures read { (bs : List ℕ) → Stands self.old.place self.old.ahead (I.left input.old) bs →
             Reads result self.new.place self.new.ahead (I.left input.new) (add_at self.old.place bs) }
+        ensures stops { (bs : List ℕ) → Stands self.old.place self.old.ahead (I.left input.old) bs →
+            IfErr result (λ e. Breaks e (I.left input.new) bs (λ t. Fails (add_at self.old.place t))) }
         ensures ahead { OnOk result (self.new.ahead ≡ None) }
         ensures limit { IfOk result IsAct }
         ensures applied { IfOk result IsApplied }
@@ -259,6 +278,8 @@ impl Reader {
     fn remove<I: Source>(&mut self, alloc: Global, input: &mut I) -> Result<Act, StreamError>
         ensures read { (bs : List ℕ) → Stands self.old.place self.old.ahead (I.left input.old) bs →
             Reads result self.new.place self.new.ahead (I.left input.new) (remove_at self.old.place bs) }
+        ensures stops { (bs : List ℕ) → Stands self.old.place self.old.ahead (I.left input.old) bs →
+            IfErr result (λ e. Breaks e (I.left input.new) bs (λ t. Fails (remove_at self.old.place t))) }
         ensures ahead { OnOk result (self.new.ahead ≡ None) }
         ensures limit { IfOk result IsAct }
         ensures applied { IfOk result IsApplied }
@@ -274,6 +295,8 @@ impl Reader {
     fn floor_value<I: Source>(&mut self, alloc: Global, input: &mut I) -> Result<u64, StreamError>
         ensures read { (bs : List ℕ) → Stands self.old.place self.old.ahead (I.left input.old) bs →
             Reads result self.new.place self.new.ahead (I.left input.new) (element_at 12 floor_of self.old.place bs) }
+        ensures stops { (bs : List ℕ) → Stands self.old.place self.old.ahead (I.left input.old) bs →
+            IfErr result (λ e. Breaks e (I.left input.new) bs (λ t. Fails (element_at 12 floor_of self.old.place t))) }
         ensures ahead { OnOk result (self.new.ahead ≡ None) }
         ensures limit { IfOk result (λ at. (1 ≤ at) × (at ≤ 999_999_999_999)) }
         ensures later { I.faults input.old ≤ I.faults input.new }
@@ -292,6 +315,8 @@ impl Reader {
     fn floor<I: Source>(&mut self, alloc: Global, input: &mut I) -> Result<Act, StreamError>
         ensures read { (bs : List ℕ) → Stands self.old.place self.old.ahead (I.left input.old) bs →
             Reads result self.new.place self.new.ahead (I.left input.new) (floor_at self.old.place bs) }
+        ensures stops { (bs : List ℕ) → Stands self.old.place self.old.ahead (I.left input.old) bs →
+            IfErr result (λ e. Breaks e (I.left input.new) bs (λ t. Fails (floor_at self.old.place t))) }
         ensures ahead { OnOk result (self.new.ahead ≡ None) }
         ensures limit { IfOk result IsAct }
         ensures applied { IfOk result IsApplied }
@@ -306,6 +331,8 @@ impl Reader {
     fn key<I: Source>(&mut self, alloc: Global, input: &mut I) -> Result<[u8; 32], StreamError>
         ensures read { (bs : List ℕ) → Stands self.old.place self.old.ahead (I.left input.old) bs →
             Reads result self.new.place self.new.ahead (I.left input.new) (element_at 64 key_of self.old.place bs) }
+        ensures stops { (bs : List ℕ) → Stands self.old.place self.old.ahead (I.left input.old) bs →
+            IfErr result (λ e. Breaks e (I.left input.new) bs (λ t. Fails (element_at 64 key_of self.old.place t))) }
         ensures ahead { OnOk result (self.new.ahead ≡ None) }
         ensures later { I.faults input.old ≤ I.faults input.new }
         ensures cause { IsErrOf result StreamError.Fault → Rose (I.faults input.old) (I.faults input.new) }
@@ -323,6 +350,8 @@ impl Reader {
     fn rekey<I: Source>(&mut self, alloc: Global, input: &mut I) -> Result<Act, StreamError>
         ensures read { (bs : List ℕ) → Stands self.old.place self.old.ahead (I.left input.old) bs →
             Reads result self.new.place self.new.ahead (I.left input.new) (rekey_at self.old.place bs) }
+        ensures stops { (bs : List ℕ) → Stands self.old.place self.old.ahead (I.left input.old) bs →
+            IfErr result (λ e. Breaks e (I.left input.new) bs (λ t. Fails (rekey_at self.old.place t))) }
         ensures ahead { OnOk result (self.new.ahead ≡ None) }
         ensures limit { IfOk result IsAct }
         ensures applied { IfOk result IsApplied }
@@ -342,6 +371,8 @@ impl Reader {
     ) -> Result<Act, StreamError>
         ensures read { (bs : List ℕ) → Stands self.old.place self.old.ahead (I.left input.old) bs →
             Reads result self.new.place self.new.ahead (I.left input.new) (act_at letter self.old.place bs) }
+        ensures stops { (bs : List ℕ) → Stands self.old.place self.old.ahead (I.left input.old) bs →
+            IfErr result (λ e. Breaks e (I.left input.new) bs (λ t. Fails (act_at letter self.old.place t))) }
         ensures ahead { OnOk result (self.new.ahead ≡ None) }
         ensures limit { IfOk result IsAct }
         ensures applied { IfOk result IsApplied }
@@ -366,6 +397,8 @@ impl Reader {
     ) -> Result<Item, StreamError>
         ensures read { (bs : List ℕ) → Stands self.old.place self.old.ahead (I.left input.old) bs →
             Reads result self.new.place self.new.ahead (I.left input.new) (elements_at letter self.old.place bs) }
+        ensures stops { (bs : List ℕ) → Stands self.old.place self.old.ahead (I.left input.old) bs →
+            IfErr result (λ e. Breaks e (I.left input.new) bs (λ t. Fails (elements_at letter self.old.place t))) }
         ensures ahead { OnOk result (self.new.ahead ≡ None) }
         ensures limits { IfOk result KeepsLimits }
         ensures later { I.faults input.old ≤ I.faults input.new }
@@ -389,6 +422,8 @@ impl Reader {
     ) -> Result<Option<Item>, StreamError>
         ensures read { (bs : List ℕ) → Stands self.old.place self.old.ahead (I.left input.old) bs →
             Reads result self.new.place self.new.ahead (I.left input.new) (item_at self.old.place bs) }
+        ensures stops { (bs : List ℕ) → Stands self.old.place self.old.ahead (I.left input.old) bs →
+            IfErr result (λ e. Breaks e (I.left input.new) bs (IsNoItem self.old.place)) }
         ensures ahead { OnOk result (self.new.ahead ≡ None) }
         ensures limits { IfOk result (λ found. IfSome found KeepsLimits) }
         ensures later { I.faults input.old ≤ I.faults input.new }

@@ -17,6 +17,9 @@ returns g c =
       moments = c.run-site.ensures.moments;
       at_rest = c.run-site.ensures.at_rest;
       rest = λ all ending q b none one two. c.run-site.ensures.rest all ending q b none (λ e. one (keeps run status 71 is refl e)) (λ e. two (keeps run status 73 is refl e));
+      taken = λ told all ending q b.
+          let t = c.run-site.ensures.taken told all ending q b in
+          record { taken = t.taken; rest = t.rest; before_is = t.before_is; after_is = t.after_is; items = t.items; ending = t.ending; stream = t.stream; holds = (t.holds.0, λ e. t.holds.1 (back run status 74 is (omega arith) e)) };
       of_input = λ e. c.run-site.ensures.input (back run status 74 is (omega arith) e);
       of_disk = λ e. c.run-site.ensures.disk (back run status 111 is (omega arith) e);
       of_output = λ e. c.run-site.ensures.output (back run status 73 is (omega arith) e);

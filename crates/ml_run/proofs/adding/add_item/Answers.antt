@@ -14,8 +14,9 @@ use Rattle.ml_list.proofs.Named.{may_read_named}
 use Rattle.ml_plain.specs.Directory.{IsState}
 use Rattle.ml_plain.specs.Histories.{State, step}
 use Rattle.ml_run.specs.Leaving.{dir_of}
-use Rattle.ml_run.proofs.Grouping.{same_group, added_next, at_ok, at_err, part_reason, when_told}
-use Rattle.ml_run.specs.Groups.{HasReason}
+use Rattle.ml_run.proofs.Grouping.{same_group, added_next, next_over, at_ok, at_err, part_reason, when_told}
+use Rattle.ml_run.specs.Groups.{HasReason, IsOfItem, IsPartReason}
+use Rattle.ml_run.proofs.ItemPaths.{of_item, part_of_item}
 use Rattle.ml_run.specs.declared.lines.Why.{Why}
 use Rattle.ml_run.proofs.adding.add_item.Goals as goal
 
@@ -46,3 +47,15 @@ returns-in-Err-clause-reason g c =
     λ e. subst (λ (x : ℕ × ℕ). Rose x.0 x.1) (λ i. (g.S.Site.disk_faults (site_of (c.new.ensures.files i)), g.S.Site.disk_faults (site_of ((sym c.parts-store.ensures.files) i)))) (c.apply-layer.ensures.reads.cause (c.in-Err.is ∙ ap Err e)) in
     subst (λ (w : Why). HasReason w ⊥ (Rose (g.S.Site.disk_faults (site_of c.args.store)) (g.S.Site.disk_faults (site_of c.parts-store.result.0))) (λ name. IsTrue g.S.Site.tells_reads → IsDamaged now name)) (sym c.why_of.ensures)
     (part_reason error _ _ cause named (when_told error (IsTrue g.S.Site.tells_reads) (IsDamaged now) damaged))
+
+pub returns-in-Ok-clause-next : goal.returns-in-Ok-clause-next
+returns-in-Ok-clause-next g c =
+    let txn : c.parts-store.result.1 ≡ c.args.group.txn = c.parts-store.ensures.txn ∙ c.apply-layer.ensures.reads.kept.1 ∙ c.new.ensures.txn in
+    next_over c.with_answer-group.result.1 c.args.group _ c.with_answer-group.result.0 c.args.item.now.number c.in-Ok.more c.in-Ok.reply (same_group c.args.group c.parts-store.result.1 c.args.group.lines txn refl) c.with_answer-group.ensures.done
+
+pub returns-in-Err-clause-part : goal.returns-in-Err-clause-part
+returns-in-Err-clause-part g c =
+    let item = c.args.item.now in
+    let named : OnDamaged c.in-Err.error IsOfItem = on_damaged c.in-Err.error _ IsOfItem (λ name e. of_item item name e)
+    (at_err (λ (e : PartError). OnDamaged e (λ name. may_read item name ≡ true)) c.apply-layer.result.1 c.in-Err.error c.apply-layer.ensures.names.named c.in-Err.is) in
+    subst IsPartReason (sym c.why_of.ensures) (part_of_item c.in-Err.error named)

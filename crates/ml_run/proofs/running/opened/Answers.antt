@@ -1,4 +1,4 @@
-use Rattle.std.proofs.Common.{◌≡◌, ◌⊎◌, sym, ap, refl, subst, ◌∙◌, arith, [], take, None, Some, IsTrue}
+use Rattle.std.proofs.Common.{◌≡◌, ◌⊎◌, sym, ap, refl, subst, ◌∙◌, arith, [], take, None, Some, IsTrue, List, length}
 use Rattle.ml_base.specs.Faults.{Rose}
 use Rattle.ml_base.specs.PartErrors.{OnDamaged}
 use Rattle.ml_base.specs.declared.part.PartError.{PartError}
@@ -10,7 +10,7 @@ use Rattle.ml_journal.specs.Stores.{site_of}
 use Rattle.ml_list.proofs.States.{last-nil}
 use Rattle.ml_run.specs.declared.lines.Why.{Why}
 use Rattle.ml_run.specs.declared.lines.Why.TheVariants as whys
-use Rattle.ml_run.specs.Leaving.{dir_of}
+use Rattle.ml_run.specs.Leaving.{dir_of, IsAfterSome}
 use Rattle.ml_run.specs.Endings.{Begins}
 use Rattle.ml_run.proofs.Leaving.{shown}
 use Rattle.ml_run.proofs.Served.{finished_runs, finished_moments}
@@ -25,6 +25,9 @@ use Rattle.ml_run.proofs.Named.{finished_named}
 use Rattle.ml_run.proofs.Opening.{part_found}
 use Rattle.ml_run.proofs.Causes.{finished_gate}
 use Rattle.ml_run.proofs.Missing.{none_why, finished_misses, finished_fails, misses_before}
+use Rattle.ml_plain.specs.declared.Item.{Item}
+use Rattle.ml_journal.specs.Calls.{Leaves}
+use Rattle.ml_run.proofs.Taken.{nothing_taken, taken_map}
 use Rattle.ml_run.proofs.running.opened.Goals as goal
 
 pub returns-in-Ok-Some-clause-whole : goal.returns-in-Ok-Some-clause-whole
@@ -106,3 +109,35 @@ returns-in-Err-clause-nolist g c told files found none =
     (at_err (λ (e : PartError). OnDamaged e (IsDamaged (dir_of c.args.store))) c.load.result c.in-Err.error (c.load.ensures.names.damaged told) c.in-Err.is)
     (ap (λ (d : Dir). d config_name) (ap the_dir found) ∙ none)) in
     finished_fails g.S.Site (site_of c.load.new.files) c.finish-in-Err.result.1 (g.S.Site.output (site_of c.args.store)) c.finish-in-Err.result.0.status 0 c.why_of.result why c.finish-in-Err.ensures.finishes
+
+pub returns-in-Ok-Some-clause-taken : goal.returns-in-Ok-Some-clause-taken
+returns-in-Ok-Some-clause-taken g c told all ending q b =
+    let kept = c.load.ensures.reads.kept in
+    let b' = subst (λ (held : Contents). Begins (g.I.Source.left c.args.input.now) held all ending q) (sym (kept.reads told)) b in
+    let now = site_of c.load.new.files in
+    taken_map (g.I.Source.left c.args.input.now) (g.I.Source.left c.serve.new.input) (λ (items : List Item). Leaves g.S.Site now c.serve.result.1 (IsAfterSome q (take c.args.limit items) (g.S.Site.output now)) × (c.serve.result.0.status ≡ 74 → c.serve.result.0.answered ≡ length items)) (λ (items : List Item). Leaves g.S.Site (site_of c.args.store) c.serve.result.1 (IsAfterSome q (take c.args.limit items) (g.S.Site.output (site_of c.args.store))) × (c.serve.result.0.status ≡ 74 → c.serve.result.0.answered ≡ length items)) (c.serve.ensures.taken told all ending q b')
+    (λ items p. (still_then g.S.Site (site_of c.args.store) now c.serve.result.1 q (take c.args.limit items) g.met.S.Site.all_has_reads b.state kept.moments kept.output_is p.0, p.1))
+
+pub returns-in-Ok-None-clause-taken : goal.returns-in-Ok-None-clause-taken
+returns-in-Ok-None-clause-taken g c told all ending q b =
+    let kept = c.load.ensures.reads.kept in
+    let b' = subst (λ (held : Contents). Begins (g.I.Source.left c.args.input.now) held all ending q) (sym (kept.reads told)) b in
+    let now = site_of c.load.new.files in
+    nothing_taken (g.I.Source.left c.args.input.now) b.bytes (λ (items : List Item). Leaves g.S.Site (site_of c.args.store) c.finish.result.1 (IsAfterSome q (take c.args.limit items) (g.S.Site.output (site_of c.args.store))) × (c.finish.result.0.status ≡ 74 → c.finish.result.0.answered ≡ length items)) b.left_is (
+      still_then g.S.Site (site_of c.args.store) now c.finish.result.1 q (take c.args.limit []) g.met.S.Site.all_has_reads b.state kept.moments kept.output_is
+          (finished_moments g.S.Site now now c.finish.result.1 q (take c.args.limit []) [] (take c.args.limit []) (Some (None, whys.NoList)) c.finish.result.0.status 0 g.met.S.Site.all_has_reads
+          (first_served g.S.Site now c.args.limit [] q b'.state (kept_itself g.met.S.Site.only_now c.load.new.files).moments) tt c.finish.ensures.finishes),
+      λ is. c.finish.ensures.answered,
+    )
+
+pub returns-in-Err-clause-taken : goal.returns-in-Err-clause-taken
+returns-in-Err-clause-taken g c told all ending q b =
+    let kept = c.load.ensures.reads.kept in
+    let b' = subst (λ (held : Contents). Begins (g.I.Source.left c.args.input.now) held all ending q) (sym (kept.reads told)) b in
+    let now = site_of c.load.new.files in
+    nothing_taken (g.I.Source.left c.args.input.now) b.bytes (λ (items : List Item). Leaves g.S.Site (site_of c.args.store) c.finish-in-Err.result.1 (IsAfterSome q (take c.args.limit items) (g.S.Site.output (site_of c.args.store))) × (c.finish-in-Err.result.0.status ≡ 74 → c.finish-in-Err.result.0.answered ≡ length items)) b.left_is (
+      still_then g.S.Site (site_of c.args.store) now c.finish-in-Err.result.1 q (take c.args.limit []) g.met.S.Site.all_has_reads b.state kept.moments kept.output_is
+          (finished_moments g.S.Site now now c.finish-in-Err.result.1 q (take c.args.limit []) [] (take c.args.limit []) (Some (None, c.why_of.result)) c.finish-in-Err.result.0.status 0 g.met.S.Site.all_has_reads
+          (first_served g.S.Site now c.args.limit [] q b'.state (kept_itself g.met.S.Site.only_now c.load.new.files).moments) tt c.finish-in-Err.ensures.finishes),
+      λ is. c.finish-in-Err.ensures.answered,
+    )

@@ -1,4 +1,4 @@
-use Rattle.std.proofs.Common.{◌≡◌, ◌⊎◌, inl, inr, ⊎_elim, sym, refl, subst, ◌∙◌, take, Option, None, Some, IsTrue, ℕ, arith}
+use Rattle.std.proofs.Common.{◌≡◌, ◌⊎◌, inl, inr, ⊎_elim, sym, refl, subst, ◌∙◌, take, Option, None, Some, IsTrue, ℕ, arith, List, [], length}
 use Rattle.ml_base.specs.Faults.{Rose}
 use Rattle.ml_journal.specs.Log.{directory}
 use Rattle.ml_journal.specs.Stores.{site_of}
@@ -19,6 +19,11 @@ use Rattle.std.specs.Prelude.{IsSome}
 use Rattle.ml_run.specs.Stream.{End}
 use Rattle.ml_run.proofs.Complete.{answers_all}
 use Rattle.ml_run.proofs.Missing.{said_fails, said_misses, misses_before, open_fails, fails_not}
+use Rattle.ml_base.specs.Bytes.{Text}
+use Rattle.ml_plain.specs.declared.Item.{Item}
+use Rattle.ml_journal.specs.Calls.{Leaves}
+use Rattle.ml_run.specs.Leaving.{IsAfterSome}
+use Rattle.ml_run.proofs.Taken.{nothing_taken, taken_map, said_after}
 use Rattle.ml_run.proofs.running.run.Goals as goal
 
 pub returns-in_default-clause-whole : goal.returns-in_default-clause-whole
@@ -131,3 +136,28 @@ returns-in-Ok-open-clause-complete g c told all q b few = answers_all _ _ _ _ _ 
 
 pub returns-in-Err-clause-complete : goal.returns-in-Err-clause-complete
 returns-in-Err-clause-complete g c told all q b few = answers_all _ _ _ _ _ _ _ all q _ few (returns-in-Err-clause-whole g c told all End q b)
+
+pub returns-in_default-clause-taken : goal.returns-in_default-clause-taken
+returns-in_default-clause-taken g c told all ending q b =
+    nothing_taken (g.I.Source.left c.args.input.now) b.bytes (λ (items : List Item). (IsTrue g.S.Site.tells_all → IsAfterSome q (take c.args.limit items) (g.S.Site.output c.args.site) (g.S.Site.disk c.say.result.1).reads (g.S.Site.output c.say.result.1)) × (c.say.result.0.status ≡ 74 → c.say.result.0.answered ≡ length items)) b.left_is
+    (λ t. said_after g.S.Site c.args.site c.args.site c.say.result.1 q (take c.args.limit []) c.say.result.0.status whys.Memory b.state (λ r. refl) refl told t c.say.ensures.says, λ is. c.say.ensures.answered)
+
+pub returns-in-Ok-open-clause-taken : goal.returns-in-Ok-open-clause-taken
+returns-in-Ok-open-clause-taken g c told all ending q b =
+    let now = site_of c.in-Ok-open.store in
+    let b' : Begins (g.I.Source.left c.args.input.now) (g.S.Site.disk now).reads all ending q = record { bytes = b.bytes; left_is = b.left_is; stream = b.stream; state = same_state (directory (g.S.Site.disk c.args.site).reads) (directory (g.S.Site.disk now).reads) q (at_site (λ s. directory (g.S.Site.disk s).reads ≡ directory (g.S.Site.disk c.args.site).reads) c.open.result _ c.in-Ok-open.is (c.open.ensures.same told)) b.state } in
+    taken_map (g.I.Source.left c.args.input.now) (g.I.Source.left c.opened.new.input) (λ (items : List Item). Leaves g.S.Site now c.opened.result.1 (IsAfterSome q (take c.args.limit items) (g.S.Site.output now)) × (c.opened.result.0.status ≡ 74 → c.opened.result.0.answered ≡ length items))
+    (λ (items : List Item). (IsTrue g.S.Site.tells_all → IsAfterSome q (take c.args.limit items) (g.S.Site.output c.args.site) (g.S.Site.disk c.opened.result.1).reads (g.S.Site.output c.opened.result.1)) × (c.opened.result.0.status ≡ 74 → c.opened.result.0.answered ≡ length items)) (c.opened.ensures.taken told all ending q b')
+    (λ items p. (
+      λ t. subst (λ (o : Text). IsAfterSome q (take c.args.limit items) o (g.S.Site.disk c.opened.result.1).reads (g.S.Site.output c.opened.result.1)) (at_site (λ s. g.S.Site.output s ≡ g.S.Site.output c.args.site) c.open.result _ c.in-Ok-open.is (c.open.ensures.keeps.output t))
+          ((p.0 t).now (g.S.Site.disk c.opened.result.1).reads (g.met.S.Site.reads_as_image c.opened.result.1 t)),
+      p.1,
+    ))
+
+pub returns-in-Err-clause-taken : goal.returns-in-Err-clause-taken
+returns-in-Err-clause-taken g c told all ending q b =
+    nothing_taken (g.I.Source.left c.args.input.now) b.bytes (λ (items : List Item). (IsTrue g.S.Site.tells_all → IsAfterSome q (take c.args.limit items) (g.S.Site.output c.args.site) (g.S.Site.disk c.say-in-Err.result.1).reads (g.S.Site.output c.say-in-Err.result.1)) × (c.say-in-Err.result.0.status ≡ 74 → c.say-in-Err.result.0.answered ≡ length items)) b.left_is (
+      λ t. said_after g.S.Site c.args.site c.in-Err.site c.say-in-Err.result.1 q (take c.args.limit []) c.say-in-Err.result.0.status c.not_opened.result b.state
+          (λ r. at_site (λ s. directory (g.S.Site.disk s).reads ≡ directory (g.S.Site.disk c.args.site).reads) c.open.result _ c.in-Err.is (c.open.ensures.same r)) (at_site (λ s. g.S.Site.output s ≡ g.S.Site.output c.args.site) c.open.result _ c.in-Err.is (c.open.ensures.keeps.output t)) told t c.say-in-Err.ensures.says,
+      λ is. c.say-in-Err.ensures.answered,
+    )

@@ -1,4 +1,4 @@
-use Rattle.std.proofs.Common.{◌≡◌, ◌≤◌, ◌-◌, ◌+◌, ◌*◌, ◌/◌, ℕ, sym, ap, refl, subst, length, Option, Some, None, IsTrue, arith}
+use Rattle.std.proofs.Common.{◌≡◌, ◌≤◌, ◌-◌, ◌+◌, ◌*◌, ◌/◌, ℕ, sym, ap, refl, subst, length, Option, Some, None, IsTrue, arith, List, [], ◌++◌, take, ◌∙◌}
 use Rattle.ml_base.specs.Bytes.{Text}
 use Rattle.ml_base.specs.Dir.{with_puts}
 use Rattle.ml_base.specs.Faults.{Rose}
@@ -10,16 +10,22 @@ use Rattle.ml_journal.specs.Stores.{site_of, the_dir}
 use Rattle.ml_plain.specs.Histories.{fold}
 use Rattle.ml_run.specs.declared.groups.GroupEnd.{GroupEnd}
 use Rattle.ml_run.specs.Stream.{IsStream}
-use Rattle.ml_run.specs.Items.{HasLeft}
-use Rattle.ml_run.specs.Groups.{EndsNumbered, IsEnd, IsStop, EndsWithReason, IsFullGroup}
-use Rattle.ml_run.specs.Leaving.{dir_of}
+use Rattle.ml_run.specs.Items.{HasLeft, place_of}
+use Rattle.ml_run.specs.Groups.{EndsNumbered, IsEnd, IsStop, EndsWithReason, IsFullGroup, TakesSome, IsNumberOf}
+use Rattle.ml_run.specs.Leaving.{dir_of, IsAfterSome}
 use Rattle.ml_run.specs.Endings.{IsServing}
 use Rattle.ml_run.proofs.Leaving.{shown}
-use Rattle.ml_run.proofs.Whole.{some_count, minus_plus, round, first_serving, round_next, round_last_runs, round_stop_runs, round_last_moments, round_stop_moments, round_refused}
+use Rattle.ml_run.proofs.Whole.{some_count, minus_plus, round, first_serving, round_next, round_last_runs, round_stop_runs, round_last_moments, round_stop_moments, round_refused, round_others, round_moments, group_refused}
 use Rattle.ml_run.proofs.Causes.{finished_gate, refused_status, rose_earlier, end_reason, finished_syncs, refused_causes, refused_counts, refused_rest, refused_syncs}
 use Rattle.ml_run.proofs.Spent.{costs_of, spent_next, spent_none, spent_other, spent_bound}
 use Rattle.ml_list.specs.Damage.{IsDamaged}
 use Rattle.ml_run.proofs.Named.{finished_named, quiet_named, refused_named, end_found, committed_dir}
+use Rattle.ml_plain.specs.declared.Item.{Item}
+use Rattle.ml_run.specs.declared.groups.GroupEnd.TheVariants.{Stopped}
+use Rattle.ml_journal.specs.Calls.{Leaves}
+use Rattle.ml_run.proofs.Rounds.{cut_split}
+use Rattle.ml_run.proofs.Taking.{takes_none}
+use Rattle.ml_run.proofs.Taken.{takes_joined, from_taken, finished_quiet, finished_other, all_answered}
 use Rattle.ml_run.proofs.serving.serve.Goals as goal
 
 pub groups-init : goal.groups-init
@@ -29,6 +35,12 @@ groups-init g c =
       empty = c.empty_group-group.ensures.empty;
       sound = c.new-reader.ensures.sound;
       few = omega arith;
+      taken = λ bytes is. (
+        [],
+        refl,
+        takes_none 0 bytes c.new-reader.result (g.I.Source.left c.args.input.now) (sym c.new-reader.ensures.place) c.new-reader.ensures.ahead
+            (subst (λ (o : Option Text). HasLeft c.new-reader.result o bytes) (sym is) (c.new-reader.ensures.left bytes (g.met.I.Source.room c.args.input.now bytes is))),
+      );
       input_later = omega arith;
       disk_later = omega arith;
       output_later = omega arith;
@@ -51,7 +63,7 @@ returns-in-Err-clause-whole g c told all ending q b =
     let s = c.gather-read.ensures.gathered told i.ahead ending (fold q i.done) i.stream (shown _ (fold q i.done) i.served.state) in
     (round_refused g.S.Site (site_of c.args.store) (site_of c.groups.now) (site_of c.gather-read.result.0) c.in-Err.site c.refused.result.1 c.args.limit c.groups.answered c.groups.group.last c.refused.result.0.status c.refused.result.0.answered c.groups.reader c.gather-read.new.reader (g.I.Source.left c.groups.input) (g.I.Source.left c.gather-read.new.input) all ending q
     (Rose (g.I.Source.faults c.args.input.now) (g.I.Source.faults c.gather-read.new.input)) (Rose (g.S.Site.disk_faults (site_of c.gather-read.result.0)) (g.S.Site.disk_faults c.in-Err.site)) (Rose (g.S.Site.output_faults (site_of c.gather-read.result.0)) (g.S.Site.output_faults c.in-Err.site)) i
-    c.gather-read.result.1 c.gather-read.result.2 s c.as_slice.result.now c.in-Err.why c.as_slice.ensures c.gather-read.ensures.few c.gather-read.ensures.group.first
+    c.gather-read.result.1 c.gather-read.result.2 s c.as_slice.result.now c.in-Err.why c.as_slice.ensures c.gather-read.ensures.few c.groups.invariant.few c.gather-read.ensures.group.first
     (λ some. some_count c.gather-read.result.1.count c.gather-read.result.1.txn c.gather-read.ensures.group.none (c.in-Err.ensures.some some))
     g.met.S.Site.all_has_reads told kept.reads kept.output_is kept.moments (c.in-Err.ensures.any told) (c.in-Err.ensures.committed told) (λ t some. c.in-Err.ensures.quiet t some) c.in-Err.ensures.cut c.in-Err.ensures.moments_err c.in-Err.ensures.refused c.refused.ensures.answered c.refused.ensures.refuses) in
     both.0
@@ -65,7 +77,7 @@ returns-in-Err-clause-moments g c all ending q b t =
     let s = c.gather-read.ensures.gathered told i.ahead ending (fold q i.done) i.stream (shown _ (fold q i.done) i.served.state) in
     (round_refused g.S.Site (site_of c.args.store) (site_of c.groups.now) (site_of c.gather-read.result.0) c.in-Err.site c.refused.result.1 c.args.limit c.groups.answered c.groups.group.last c.refused.result.0.status c.refused.result.0.answered c.groups.reader c.gather-read.new.reader (g.I.Source.left c.groups.input) (g.I.Source.left c.gather-read.new.input) all ending q
     (Rose (g.I.Source.faults c.args.input.now) (g.I.Source.faults c.gather-read.new.input)) (Rose (g.S.Site.disk_faults (site_of c.gather-read.result.0)) (g.S.Site.disk_faults c.in-Err.site)) (Rose (g.S.Site.output_faults (site_of c.gather-read.result.0)) (g.S.Site.output_faults c.in-Err.site)) i
-    c.gather-read.result.1 c.gather-read.result.2 s c.as_slice.result.now c.in-Err.why c.as_slice.ensures c.gather-read.ensures.few c.gather-read.ensures.group.first
+    c.gather-read.result.1 c.gather-read.result.2 s c.as_slice.result.now c.in-Err.why c.as_slice.ensures c.gather-read.ensures.few c.groups.invariant.few c.gather-read.ensures.group.first
     (λ some. some_count c.gather-read.result.1.count c.gather-read.result.1.txn c.gather-read.ensures.group.none (c.in-Err.ensures.some some))
     g.met.S.Site.all_has_reads told kept.reads kept.output_is kept.moments (c.in-Err.ensures.any told) (c.in-Err.ensures.committed told) (λ t some. c.in-Err.ensures.quiet t some) c.in-Err.ensures.cut c.in-Err.ensures.moments_err c.in-Err.ensures.refused c.refused.ensures.answered c.refused.ensures.refuses) in
     both.1 t
@@ -193,6 +205,10 @@ groups-preserved g c =
       empty = c.empty_group-group-in-Full.ensures.empty;
       sound = c.gather-read.ensures.sound c.in-Full.is;
       few = omega (arith, c.groups.invariant.few, c.gather-read.ensures.few);
+      taken = λ bytes is.
+          let t = c.groups.invariant.taken bytes is in
+          takes_joined bytes c.groups.answered c.gather-read.result.1.count 0 (c.args.limit - c.groups.answered - c.gather-read.result.1.count) 0 c.groups.reader c.gather-read.new.reader (g.I.Source.left c.groups.input) (g.I.Source.left c.gather-read.new.input) t
+          (subst (λ (e : GroupEnd). TakesSome e (place_of c.groups.reader) t.2.rest c.gather-read.result.1.count (c.args.limit - c.groups.answered - c.gather-read.result.1.count) c.gather-read.new.reader (g.I.Source.left c.gather-read.new.input)) c.in-Full.is (c.gather-read.ensures.taken t.2.rest t.2.holds.1 t.2.holds.2));
       input_later = omega (arith, c.groups.invariant.input_later, c.gather-read.ensures.later);
       disk_later = omega (arith, c.groups.invariant.disk_later, kept.disk_faults_are, c.in-Ok.ensures.faults);
       output_later = omega (arith, c.groups.invariant.output_later, kept.output_faults_are, c.in-Ok.ensures.others);
@@ -237,3 +253,54 @@ returns-in-Last-clause-gate g c one two three told = finished_gate g.S.Site (sit
 
 pub returns-in-Stopped-clause-gate : goal.returns-in-Stopped-clause-gate
 returns-in-Stopped-clause-gate g c one two three told = finished_gate g.S.Site (site_of c.in-Ok.settled) c.finish-in-Stopped.result.1 (Some (c.in-Stopped.number, c.in-Stopped.why)) c.finish-in-Stopped.result.0.status c.gather-read.result.1.last c.finish-in-Stopped.ensures.finishes c.gather-read.ensures.group.last one two three told
+
+pub returns-in-Err-clause-taken : goal.returns-in-Err-clause-taken
+returns-in-Err-clause-taken g c told all ending q b =
+    let i = c.groups.invariant.so_far told all ending q b in
+    let kept = c.gather-read.ensures.kept in
+    let s = c.gather-read.ensures.gathered told i.ahead ending (fold q i.done) i.stream (shown _ (fold q i.done) i.served.state) in
+    let t = c.groups.invariant.taken b.bytes b.left_is in
+    let u = c.gather-read.ensures.taken t.2.rest t.2.holds.1 t.2.holds.2 in
+    from_taken (g.I.Source.left c.args.input.now) (g.I.Source.left c.groups.input) (g.I.Source.left c.gather-read.new.input) b.bytes all ending i.done i.ahead s.items s.rest c.groups.answered c.gather-read.result.1.count 0 (c.args.limit - c.groups.answered - c.gather-read.result.1.count) c.groups.reader c.gather-read.new.reader c.gather-read.result.2
+    (λ (items : List Item). Leaves g.S.Site (site_of c.args.store) c.refused.result.1 (IsAfterSome q (take c.args.limit items) (g.S.Site.output (site_of c.args.store))) × (c.refused.result.0.status ≡ 74 → c.refused.result.0.answered ≡ length items)) b.left_is b.stream i.split i.count s.split s.holds.count t u
+    (λ behind tells. (
+      let split = cut_split c.args.limit c.groups.answered c.gather-read.result.1.count (i.done ++ (s.items ++ behind)) i.done (s.items ++ behind) s.items behind refl i.count c.groups.invariant.few refl s.holds.count c.gather-read.ensures.few in
+          let both = group_refused g.S.Site (site_of c.args.store) (site_of c.groups.now) (site_of c.gather-read.result.0) c.in-Err.site c.refused.result.1 c.args.limit c.groups.group.last c.refused.result.0.status c.refused.result.0.answered (i.done ++ (s.items ++ behind)) ending q
+          (Rose (g.I.Source.faults c.args.input.now) (g.I.Source.faults c.gather-read.new.input)) (Rose (g.S.Site.disk_faults (site_of c.gather-read.result.0)) (g.S.Site.disk_faults c.in-Err.site)) (Rose (g.S.Site.output_faults (site_of c.gather-read.result.0)) (g.S.Site.output_faults c.in-Err.site))
+          i.done s.items (take (c.args.limit - (c.groups.answered + c.gather-read.result.1.count)) behind) split i.served c.gather-read.result.1 s.holds c.as_slice.result.now c.in-Err.why c.as_slice.ensures c.gather-read.ensures.group.first
+          (λ some. some_count c.gather-read.result.1.count c.gather-read.result.1.txn c.gather-read.ensures.group.none (c.in-Err.ensures.some some))
+          g.met.S.Site.all_has_reads told kept.reads kept.output_is kept.moments (c.in-Err.ensures.any told) (c.in-Err.ensures.committed told) (λ t some. c.in-Err.ensures.quiet t some) c.in-Err.ensures.cut c.in-Err.ensures.moments_err c.in-Err.ensures.refused (c.refused.ensures.answered ∙ i.count) c.refused.ensures.refuses in
+          both.1,
+      λ is. absurd (refused_status g.S.Site c.in-Err.site c.refused.result.1 c.refused.result.0.status c.gather-read.result.1.first c.in-Err.why (Rose (g.S.Site.disk_faults (site_of c.gather-read.result.0)) (g.S.Site.disk_faults c.in-Err.site)) (Rose (g.S.Site.output_faults (site_of c.gather-read.result.0)) (g.S.Site.output_faults c.in-Err.site))
+          c.in-Err.ensures.refused c.refused.ensures.refuses (λ e. omega (arith, e, is)) (λ e. omega (arith, e, is)) (λ e. omega (arith, e, is))),
+    ))
+
+pub returns-in-Last-clause-taken : goal.returns-in-Last-clause-taken
+returns-in-Last-clause-taken g c told all ending q b =
+    let i = c.groups.invariant.so_far told all ending q b in
+    let kept = c.gather-read.ensures.kept in
+    let s = c.gather-read.ensures.gathered told i.ahead ending (fold q i.done) i.stream (shown _ (fold q i.done) i.served.state) in
+    let t = c.groups.invariant.taken b.bytes b.left_is in
+    let u = c.gather-read.ensures.taken t.2.rest t.2.holds.1 t.2.holds.2 in
+    from_taken (g.I.Source.left c.args.input.now) (g.I.Source.left c.groups.input) (g.I.Source.left c.gather-read.new.input) b.bytes all ending i.done i.ahead s.items s.rest c.groups.answered c.gather-read.result.1.count 0 (c.args.limit - c.groups.answered - c.gather-read.result.1.count) c.groups.reader c.gather-read.new.reader c.gather-read.result.2
+    (λ (items : List Item). Leaves g.S.Site (site_of c.args.store) c.finish.result.1 (IsAfterSome q (take c.args.limit items) (g.S.Site.output (site_of c.args.store))) × (c.finish.result.0.status ≡ 74 → c.finish.result.0.answered ≡ length items)) b.left_is b.stream i.split i.count s.split s.holds.count t u
+    (λ behind tells. (
+      round_moments g.S.Site (site_of c.args.store) (site_of c.in-Ok.settled) c.finish.result.1 c.args.limit (c.groups.answered + c.gather-read.result.1.count) c.gather-read.result.1.last c.finish.result.0.status (i.done ++ (s.items ++ behind)) behind q None g.met.S.Site.all_has_reads (round_others g.S.Site (site_of c.args.store) (site_of c.groups.now) (site_of c.gather-read.result.0) (site_of c.in-Ok.settled) c.args.limit c.groups.answered c.groups.group.last c.groups.reader c.gather-read.new.reader (g.I.Source.left c.groups.input) (g.I.Source.left c.gather-read.new.input) all ending q i c.gather-read.result.1 c.gather-read.result.2 s c.as_slice.result.now c.as_slice.ensures c.gather-read.ensures.few c.groups.invariant.few g.met.S.Site.all_has_reads told kept.reads kept.output_is kept.moments (c.in-Ok.ensures.done told) c.in-Ok.ensures.output c.in-Ok.ensures.moments (i.done ++ (s.items ++ behind)) behind refl) tt c.finish.ensures.finishes,
+      λ is. absurd (finished_quiet g.S.Site (site_of c.in-Ok.settled) c.finish.result.1 c.finish.result.0.status c.gather-read.result.1.last c.finish.ensures.finishes c.gather-read.ensures.group.last is),
+    ))
+
+pub returns-in-Stopped-clause-taken : goal.returns-in-Stopped-clause-taken
+returns-in-Stopped-clause-taken g c told all ending q b =
+    let i = c.groups.invariant.so_far told all ending q b in
+    let kept = c.gather-read.ensures.kept in
+    let s = c.gather-read.ensures.gathered told i.ahead ending (fold q i.done) i.stream (shown _ (fold q i.done) i.served.state) in
+    let t = c.groups.invariant.taken b.bytes b.left_is in
+    let u = subst (λ (e : GroupEnd). TakesSome e (place_of c.groups.reader) t.2.rest c.gather-read.result.1.count (c.args.limit - c.groups.answered - c.gather-read.result.1.count) c.gather-read.new.reader (g.I.Source.left c.gather-read.new.input)) c.in-Stopped.is (c.gather-read.ensures.taken t.2.rest t.2.holds.1 t.2.holds.2) in
+    from_taken (g.I.Source.left c.args.input.now) (g.I.Source.left c.groups.input) (g.I.Source.left c.gather-read.new.input) b.bytes all ending i.done i.ahead s.items s.rest c.groups.answered c.gather-read.result.1.count 0 (c.args.limit - c.groups.answered - c.gather-read.result.1.count) c.groups.reader c.gather-read.new.reader (Stopped c.in-Stopped.number c.in-Stopped.why)
+    (λ (items : List Item). Leaves g.S.Site (site_of c.args.store) c.finish-in-Stopped.result.1 (IsAfterSome q (take c.args.limit items) (g.S.Site.output (site_of c.args.store))) × (c.finish-in-Stopped.result.0.status ≡ 74 → c.finish-in-Stopped.result.0.answered ≡ length items)) b.left_is b.stream i.split i.count s.split s.holds.count t u
+    (λ behind tells. (
+      round_moments g.S.Site (site_of c.args.store) (site_of c.in-Ok.settled) c.finish-in-Stopped.result.1 c.args.limit (c.groups.answered + c.gather-read.result.1.count) c.gather-read.result.1.last c.finish-in-Stopped.result.0.status (i.done ++ (s.items ++ behind)) behind q (Some (c.in-Stopped.number, c.in-Stopped.why)) g.met.S.Site.all_has_reads (round_others g.S.Site (site_of c.args.store) (site_of c.groups.now) (site_of c.gather-read.result.0) (site_of c.in-Ok.settled) c.args.limit c.groups.answered c.groups.group.last c.groups.reader c.gather-read.new.reader (g.I.Source.left c.groups.input) (g.I.Source.left c.gather-read.new.input) all ending q i c.gather-read.result.1 c.gather-read.result.2 s c.as_slice.result.now c.as_slice.ensures c.gather-read.ensures.few c.groups.invariant.few g.met.S.Site.all_has_reads told kept.reads kept.output_is kept.moments (c.in-Ok.ensures.done told) c.in-Ok.ensures.output c.in-Ok.ensures.moments (i.done ++ (s.items ++ behind)) behind refl)
+          (subst (λ (n : ℕ). IsNumberOf c.in-Stopped.number (take n behind)) (minus_plus c.args.limit c.groups.answered c.gather-read.result.1.count) tells.0) c.finish-in-Stopped.ensures.finishes,
+      λ is. all_answered c.finish-in-Stopped.result.0.answered c.groups.answered c.gather-read.result.1.count i.done s.items behind c.finish-in-Stopped.ensures.answered i.count s.holds.count
+          (tells.1 (finished_other g.S.Site (site_of c.in-Ok.settled) c.finish-in-Stopped.result.1 c.in-Stopped.number c.in-Stopped.why c.finish-in-Stopped.result.0.status c.gather-read.result.1.last c.finish-in-Stopped.ensures.finishes c.gather-read.ensures.group.last is)),
+    ))

@@ -1,8 +1,12 @@
-use Rattle.std.proofs.Common.{◌∙◌, ap, sym}
+use Rattle.std.proofs.Common.{◌∙◌, ap, sym, ◌≡◌, subst, refl}
 use Rattle.std.proofs.lemmas.Result.{err_from_is_err_and}
-use Rattle.ml_run.specs.Stream.{item_at, elements_at, and_then, some_item}
+use Rattle.ml_run.specs.Stream.{item_at, elements_at, and_then, some_item, End}
 use Rattle.ml_run.proofs.Bytewise.{first_is, end_is, one_further}
 use Rattle.ml_run.proofs.Elements.{item_letter, item_bad, item_end, tells_too}
+use Rattle.ml_run.specs.Reading.{Breaks, IsNoItem}
+use Rattle.ml_run.specs.declared.stream.StreamError.{StreamError}
+use Rattle.ml_run.specs.declared.stream.StreamError.TheVariants.{Fault, Bad}
+use Rattle.ml_run.proofs.Cuts.{at_exit, breaks_none, breaks_byte, breaks_item, bad_not}
 use Rattle.ml_run.proofs.reader.Reader.item.Goals as goal
 
 pub returns-in_default-clause-read : goal.returns-in_default-clause-read
@@ -30,3 +34,21 @@ returns-clause-read g c bs s =
     let letter = item_letter c.args.self.now.place c.byte.new.self.place c.in-Some.b c.in-Some-read_letter.letter t.rest (sym c.in-Some-read_letter.ensures) (one_further c.args.self.now.place c.byte.new.self.place c.in_ok-b.field-0 c.in-Some.b t.place_is c.in-Some.is) in
     let k = c.in_ok-elements.ensures.read t.rest t.stands in
     (k.0, ap (item_at c.args.self.now.place) (first_is bs t.rest c.in_ok-b.field-0 c.in-Some.b t.is_all c.in-Some.is) ∙ letter ∙ ap (λ r. and_then r some_item) k.1, k.2)
+
+pub returns-in_err-b-clause-stops : goal.returns-in_err-b-clause-stops
+returns-in_err-b-clause-stops g c bs s =
+    at_exit c.from_residual.result (λ (e : StreamError). e ≡ Fault) (λ (e : StreamError). Breaks e (g.I.Source.left c.byte.new.input) bs (IsNoItem c.args.self.now.place)) c.from_residual.ensures.1
+    (λ e is. breaks_none e (g.I.Source.left c.byte.new.input) bs (IsNoItem c.args.self.now.place) (c.in_err-b.ensures.stops bs s) (End, refl))
+
+pub returns-in_default-read_letter-clause-stops : goal.returns-in_default-read_letter-clause-stops
+returns-in_default-read_letter-clause-stops g c bs s =
+    let t = c.in_ok-b.ensures.read bs s in
+    breaks_byte (Bad c.args.self.now.place) c.byte.new.self.place c.byte.new.self.ahead c.in_ok-b.field-0 (g.I.Source.left c.byte.new.input) bs t.rest (IsNoItem c.args.self.now.place) t.is_all c.in_ok-b.ensures.ahead t.stands (bad_not c.args.self.now.place)
+
+pub returns-in_err-elements-clause-stops : goal.returns-in_err-elements-clause-stops
+returns-in_err-elements-clause-stops g c bs s =
+    let t = c.in_ok-b.ensures.read bs s in
+    at_exit c.from_residual-in_err-elements.result (λ (e : StreamError). e ≡ c.in_err-elements.field-0.0) (λ (e : StreamError). Breaks e (g.I.Source.left c.elements.new.input) bs (IsNoItem c.args.self.now.place)) c.from_residual-in_err-elements.ensures.1
+    (λ e is. subst (λ (x : StreamError). Breaks x (g.I.Source.left c.elements.new.input) bs (IsNoItem c.args.self.now.place)) (sym is)
+    (breaks_item c.in_err-elements.field-0.0 c.args.self.now.place c.byte.new.self.place c.in-Some.b c.in-Some-read_letter.letter (g.I.Source.left c.elements.new.input) bs t.rest (first_is bs t.rest c.in_ok-b.field-0 c.in-Some.b t.is_all c.in-Some.is) (sym c.in-Some-read_letter.ensures)
+    (one_further c.args.self.now.place c.byte.new.self.place c.in_ok-b.field-0 c.in-Some.b t.place_is c.in-Some.is) (c.in_err-elements.ensures.stops t.rest t.stands)))

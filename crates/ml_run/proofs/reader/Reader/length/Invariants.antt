@@ -1,4 +1,4 @@
-use Rattle.std.proofs.Common.{◌≡◌, ◌≤◌, ◌+◌, ◌-◌, ◌*◌, ◌==◌, cond, List, ℕ}
+use Rattle.std.proofs.Common.{◌≡◌, ◌≤◌, ◌+◌, ◌-◌, ◌*◌, ◌==◌, cond, List, ◌++◌, ℕ}
 use Rattle.ml_run.specs.Stream.{length_at}
 use Rattle.ml_run.specs.Reading.{Stands}
 use Rattle.ml_run.proofs.reader.Reader.length.Given as goal
@@ -10,6 +10,9 @@ invariant-loop-b g l =
       n : l.n ≤ l.limit;
       count : l.count ≤ l.n + 1;
       later : g.I.Source.faults l.fn.input ≤ g.I.Source.faults l.input;
+      fronts : (bs : List ℕ) → Stands l.fn.self.place l.fn.self.ahead (left l.fn.input) bs → (front rest : List ℕ) × (bs ≡ front ++ rest)
+          × Stands l.self.place l.self.ahead (left l.input) rest
+          × ((more : List ℕ) → length_at l.start l.limit l.count l.n l.self.place more ≡ length_at l.start l.limit 0 0 l.fn.self.place (front ++ more));
       reads : (bs : List ℕ) → Stands l.fn.self.place l.fn.self.ahead (left l.fn.input) bs → (rest : List ℕ)
           × Stands l.self.place l.self.ahead (left l.input) rest
           × (length_at l.start l.limit l.count l.n l.self.place rest ≡ length_at l.start l.limit 0 0 l.fn.self.place bs);

@@ -1,0 +1,176 @@
+-- What a run takes from the source, and that it does no more than that.
+use Rattle.std.proofs.Common.{◌≡◌, ⊎_elim, ℕ, ◌+◌, true, IsTrue, List, [], ◌∷◌, ◌++◌, length, take, Option, Some, None, ap, sym, refl, subst, ◌∙◌, arith, append_assoc, length-append}
+use Rattle.std.proofs.Math.Seq.{take-append_seam}
+use Rattle.ml_base.specs.Bytes.{Text}
+use Rattle.ml_base.specs.Faults.{Rose}
+use Rattle.ml_site.specs.declared.site.Site.{Ghosts}
+use Rattle.ml_journal.specs.Log.{directory}
+use Rattle.ml_journal.specs.Calls.{IsClean}
+use Rattle.ml_plain.specs.declared.Item.{Item}
+use Rattle.ml_plain.specs.Histories.{State, fold, text}
+use Rattle.ml_plain.specs.Replies.{is_status}
+use Rattle.ml_list.proofs.States.{fold-nil, text-nil}
+use Rattle.std.proofs.lemmas.List.{append-nil}
+use Rattle.ml_run.specs.declared.items.Items.{Items}
+use Rattle.ml_run.specs.declared.groups.GroupEnd.{GroupEnd}
+use Rattle.ml_run.specs.declared.groups.GroupEnd.TheVariants as ends
+use Rattle.ml_run.specs.declared.lines.Why.{Why}
+use Rattle.ml_run.specs.declared.lines.Why.TheVariants as whys
+use Rattle.ml_run.specs.Stream.{got, StreamEnd, End, IsStream, item_at}
+use Rattle.ml_run.specs.Items.{place_of}
+use Rattle.ml_run.specs.Stops.{status_of_why}
+use Rattle.ml_run.specs.Lines.{stop_text}
+use Rattle.ml_run.specs.Groups.{HasWhole, TakesTo, TakesSome, IsNumberOf}
+use Rattle.ml_run.specs.Leaving.{HasState, IsAfterSome}
+use Rattle.ml_run.specs.Endings.{StopLine, ClosesTo, Says, Finishes, FromTaken}
+use Rattle.ml_run.proofs.Ahead.{stream_item}
+use Rattle.ml_run.proofs.Causes.{status_not}
+use Rattle.ml_run.proofs.Leaving.{same_state, other_list, reached_none, saying}
+use Rattle.ml_run.proofs.Locality.{item_local}
+use Rattle.ml_run.proofs.Served.{says_front}
+use Rattle.ml_run.proofs.Taking.{spells_joined, spells_stream}
+
+-- whole items of some bytes are items of more bytes
+stream_wider : (place : ℕ) (front more : Text) (xs behind all : List Item) (ending other : StreamEnd) → IsStream place front (xs ++ behind) ending → IsStream place (front ++ more) all other → (later : List Item) × (all ≡ xs ++ later)
+stream_wider place front more [] behind all ending other s t = (all, refl)
+stream_wider place front more (x ∷ xs) behind all ending other s t =
+    let one = item_local place front x s.0 s.1 s.2 in
+    let wide : item_at place (front ++ more) ≡ got (Some x) s.0 (s.1 ++ more) = ap (item_at place) (ap (λ (b : Text). b ++ more) one.split ∙ append_assoc one.one s.1 more) ∙ one.all (s.1 ++ more) in
+    let next = stream_item place s.0 (front ++ more) (s.1 ++ more) x all other t wide in
+    let rest = stream_wider s.0 s.1 more xs behind next.0 ending other s.3 next.2 in
+    (rest.0, next.1 ∙ ap (λ (l : List Item). x ∷ l) rest.1)
+
+prefix_same : (xs ys xs' ys' : List Item) → xs ++ ys ≡ xs' ++ ys' → length xs ≡ length xs' → xs ≡ xs'
+prefix_same xs ys xs' ys' is long = sym (take-append_seam xs ys) ∙ ap (λ (n : ℕ). take n (xs ++ ys)) long ∙ ap (take (length xs')) is ∙ take-append_seam xs' ys'
+
+-- what the end of a group tells of the items behind it that the bytes hold
+abbrev pub EndsTo : GroupEnd → ℕ → List Item → Type 0
+EndsTo ends.Full more behind = Unit {0}
+EndsTo ends.Last more behind = Unit {0}
+EndsTo (ends.Stopped who why) more behind = IsNumberOf who (take more behind) × (why ≡ whys.Input → behind ≡ [])
+
+takes_whole : (end : GroupEnd) (place : ℕ) (front rest : Text) (items : List Item) (more : ℕ) (reader : Items) (left : Option Text) → TakesTo end place front rest items more reader left → HasWhole place front items (EndsTo end more)
+takes_whole ends.Full place front rest items more reader left t =
+    record { behind = []; ending = End; stream = subst (λ (b : Text). IsStream place b (items ++ []) End) (append-nil front) (spells_stream place (place_of reader) front [] items [] End t.0 refl); holds = tt }
+takes_whole ends.Last place front rest items more reader left t = record { behind = t.behind; ending = t.ending; stream = t.stream; holds = tt }
+takes_whole (ends.Stopped who why) place front rest items more reader left t = record { behind = t.behind; ending = t.ending; stream = t.stream; holds = t.holds }
+
+-- a group that was read behind others
+pub takes_joined : (bytes : Text) (answered count m0 m1 m2 : ℕ) (reader next : Items) (left left' : Option Text) (t : TakesSome ends.Full 0 bytes answered m0 reader left) → TakesSome ends.Full (place_of reader) t.2.rest count m1 next left'
+    → TakesSome ends.Full 0 bytes (answered + count) m2 next left'
+takes_joined bytes answered count m0 m1 m2 reader next left left' t u = (
+  t.0 ++ u.0,
+  length-append t.0 u.0 ∙ (let e : length t.0 + length u.0 ≡ answered + count = omega (arith, t.1, u.1) in e),
+  record {
+    front = t.2.front ++ u.2.front;
+    rest = u.2.rest;
+    split = t.2.split ∙ ap (λ (b : Text). t.2.front ++ b) u.2.split ∙ sym (append_assoc t.2.front u.2.front u.2.rest);
+    left_is = u.2.left_is;
+    holds = (spells_joined 0 (place_of reader) (place_of next) t.2.front u.2.front t.0 u.0 t.2.holds.0 u.2.holds.0, u.2.holds.1, u.2.holds.2);
+  },
+)
+
+-- what was taken up to the end of a group
+pub from_taken : (before left left' : Option Text) (bytes : Text) (all : List Item) (ending : StreamEnd) (done ahead items rest : List Item) (answered count m0 more : ℕ) (reader next : Items) (end : GroupEnd) (P : List Item → Type 0)
+    → before ≡ Some bytes → IsStream 0 bytes all ending → all ≡ done ++ ahead → answered ≡ length done → ahead ≡ items ++ rest → count ≡ length items
+    → (t : TakesSome ends.Full 0 bytes answered m0 reader left) → TakesSome end (place_of reader) t.2.rest count more next left'
+    → ((behind : List Item) → EndsTo end more behind → P (done ++ (items ++ behind))) → FromTaken before left' P
+from_taken before left left' bytes all ending done ahead items rest answered count m0 more reader next end P is stream split done_is cut items_is t u f =
+    let w = takes_whole end (place_of reader) u.2.front u.2.rest u.0 more next left' u.2.holds in
+    let front = t.2.front ++ u.2.front in
+    let parts : bytes ≡ front ++ u.2.rest = t.2.split ∙ ap (λ (b : Text). t.2.front ++ b) u.2.split ∙ sym (append_assoc t.2.front u.2.front u.2.rest) in
+    let whole : IsStream 0 front ((t.0 ++ u.0) ++ w.behind) w.ending =
+    subst (λ (l : List Item). IsStream 0 front l w.ending) (sym (append_assoc t.0 u.0 w.behind)) (spells_stream 0 (place_of reader) t.2.front u.2.front t.0 (u.0 ++ w.behind) w.ending t.2.holds.0 w.stream) in
+    let wider = stream_wider 0 front u.2.rest (t.0 ++ u.0) w.behind all w.ending ending whole (subst (λ (b : Text). IsStream 0 b all ending) parts stream) in
+    let mine : all ≡ (done ++ items) ++ rest = split ∙ ap (λ (l : List Item). done ++ l) cut ∙ sym (append_assoc done items rest) in
+    let same : t.0 ++ u.0 ≡ done ++ items = prefix_same (t.0 ++ u.0) wider.0 (done ++ items) rest (sym wider.1 ∙ mine) (length-append t.0 u.0 ∙ (let e : length t.0 + length u.0 ≡ length done + length items = omega (arith, t.1, u.1, done_is, items_is) in e) ∙ sym (length-append done items)) in
+    let all_of : (t.0 ++ u.0) ++ w.behind ≡ done ++ (items ++ w.behind) = ap (λ (l : List Item). l ++ w.behind) same ∙ append_assoc done items w.behind in record {
+      taken = front;
+      rest = u.2.rest;
+      before_is = is ∙ ap (λ (b : Text). Some b) parts;
+      after_is = u.2.left_is;
+      items = done ++ (items ++ w.behind);
+      ending = w.ending;
+      stream = subst (λ (l : List Item). IsStream 0 front l w.ending) all_of whole;
+      holds = f w.behind w.holds;
+    }
+
+-- nothing was taken
+pub nothing_taken : (before : Option Text) (bytes : Text) (P : List Item → Type 0) → before ≡ Some bytes → P [] → FromTaken before before P
+nothing_taken before bytes P is p = record { taken = []; rest = bytes; before_is = is; after_is = is; items = []; ending = End; stream = refl; holds = p }
+
+pub taken_map : (before after : Option Text) (P Q : List Item → Type 0) → FromTaken before after P → ((items : List Item) → P items → Q items) → FromTaken before after Q
+taken_map before after P Q t f = record { taken = t.taken; rest = t.rest; before_is = t.before_is; after_is = t.after_is; items = t.items; ending = t.ending; stream = t.stream; holds = f t.items t.holds }
+
+-- all items that the bytes hold are answered
+pub all_answered : (count answered more : ℕ) (done items behind : List Item) → count ≡ answered + more → answered ≡ length done → more ≡ length items → behind ≡ [] → count ≡ length (done ++ (items ++ behind))
+all_answered count answered more done items behind is done_is more_is none =
+    let e : count ≡ length done + (length items + length behind) = omega (arith, is, done_is, more_is, ap length none) in
+    e ∙ ap (λ (n : ℕ). length done + n) (sym (length-append items behind)) ∙ sym (length-append done (items ++ behind))
+
+-- status 74 has one reason
+pub input_only : (why : Why) → status_of_why why ≡ 74 → why ≡ whys.Input
+input_only whys.Input is = refl
+input_only (whys.Bad at) is = absurd (omega (arith, is))
+input_only (whys.Short at) is = absurd (omega (arith, is))
+input_only whys.More is = absurd (omega (arith, is))
+input_only whys.Memory is = absurd (omega (arith, is))
+input_only whys.Disk is = absurd (omega (arith, is))
+input_only whys.Usage is = absurd (omega (arith, is))
+input_only whys.Words is = absurd (omega (arith, is))
+input_only whys.Long is = absurd (omega (arith, is))
+input_only whys.Clock is = absurd (omega (arith, is))
+input_only whys.NoList is = absurd (omega (arith, is))
+input_only (whys.At name) is = absurd (omega (arith, is))
+input_only whys.There is = absurd (omega (arith, is))
+input_only whys.Absent is = absurd (omega (arith, is))
+
+abbrev why_in : StopLine → Why
+why_in None = whys.Usage
+why_in (Some line) = line.1
+
+-- that of a line which another stands in place of
+line_input : (line final : StopLine) (rest disk : Type 0) (who : Option ℕ) (why : Why) → ClosesTo line final rest disk → final ≡ Some (who, why) → status_of_why why ≡ 74 → line ≡ Some (who, whys.Input)
+line_input line final rest disk who why c is status =
+    let input = input_only why status in
+    let said : final ≡ Some (who, whys.Input) = is ∙ ap (λ (w : Why). Some (who, w)) input in
+    ⊎_elim (λ same. sym same.0 ∙ said) (λ more. ⊎_elim (λ same. sym same.0 ∙ said) (λ other. ⊎_elim (λ m. absurd (memory _ who (sym m.0 ∙ said))) (λ d. absurd (disk_line _ who (sym d.0 ∙ said))) other) more) c
+  where
+    memory : (w who : Option ℕ) → ◌≡◌ {A = StopLine} (Some (w, whys.Memory)) (Some (who, whys.Input)) → ⊥
+    memory w who e = let bad : whys.Memory ≡ whys.Input = ap why_in e in cc
+
+    disk_line : (w who : Option ℕ) → ◌≡◌ {A = StopLine} (Some (w, whys.Disk)) (Some (who, whys.Input)) → ⊥
+    disk_line w who e = let bad : whys.Disk ≡ whys.Input = ap why_in e in cc
+
+module _ {S : Type 0} (told : Ghosts S) where
+  pub finished_input : (now new : S) (line : StopLine) (status last : ℕ) → Finishes told now new line status last → is_status last ≡ true → status ≡ 74 → (who : Option ℕ) × (line ≡ Some (who, whys.Input))
+  finished_input now new line status last f sound is = ⊎_elim
+      (λ quiet. absurd (status_not last 74 sound (omega arith) (omega arith) (sym quiet.1 ∙ is)))
+      (λ said. ⊎_elim
+      (λ whole. (said.0, line_input line f.final (IsClean told f.mid) (Rose (told.disk_faults now) (told.disk_faults f.mid)) said.0 said.1 f.closes said.2 (sym whole.0 ∙ is)))
+      (λ cut. absurd (omega (arith, cut.0, is)))
+      said.3.line)
+      f.said
+
+  pub finished_quiet : (now new : S) (status last : ℕ) → Finishes told now new None status last → is_status last ≡ true → status ≡ 74 → ⊥
+  finished_quiet now new status last f sound is = let h = finished_input now new None status last f sound is in none_line (h.0, whys.Input) h.1
+    where
+      none_line : (line : Option ℕ × Why) → ◌≡◌ {A = StopLine} None (Some line) → ⊥
+      none_line line e = cc
+
+  pub finished_other : (now new : S) (who : Option ℕ) (why : Why) (status last : ℕ) → Finishes told now new (Some (who, why)) status last → is_status last ≡ true → status ≡ 74 → why ≡ whys.Input
+  finished_other now new who why status last f sound is = let h = finished_input now new (Some (who, why)) status last f sound is in some_why h.0 h.1
+    where
+      some_why : (w : Option ℕ) → ◌≡◌ {A = StopLine} (Some (who, why)) (Some (w, whys.Input)) → why ≡ whys.Input
+      some_why w e = ap why_in e
+
+  -- a stop line before the first item
+  pub said_after : (start mid new : S) (q : State) (items : List Item) (status : ℕ) (why : Why) → HasState (directory (told.disk start).reads) q → (IsTrue told.tells_reads → directory (told.disk mid).reads ≡ directory (told.disk start).reads)
+      → told.output mid ≡ told.output start → IsTrue told.tells_reads → IsTrue told.tells_all → Says told mid new status None why → IsAfterSome q items (told.output start) (told.disk new).reads (told.output new)
+  said_after start mid new q items status why state same put r t s =
+      let line = stop_text None (status_of_why why) why in
+      let here : HasState (directory (told.disk new).reads) (fold q []) = other_list (directory (told.disk new).reads) q (fold q []) (sym (fold-nil q))
+      (same_state (directory (told.disk start).reads) (directory (told.disk new).reads) q (ap directory (s.reads r) ∙ same r) state) in
+      let before : told.output start ≡ told.output start ++ text q [] = sym (append-nil (told.output start)) ∙ ap (λ (l : Text). told.output start ++ l) (sym (text-nil q)) in
+      let out = says_front told mid new status None why s t in
+      saying q items [] items (told.output start) (told.output new) line (told.disk new).reads None why out.0 refl (reached_none q [] items (told.disk new).reads here) tt refl (out.1 ∙ ap (λ (o : Text). o ++ take out.0 line) (put ∙ before))

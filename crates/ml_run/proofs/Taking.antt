@@ -1,0 +1,158 @@
+-- What a group takes from the source.
+use Rattle.std.proofs.Common.{◌≡◌, ℕ, ◌+◌, ◌-◌, ◌<◌, List, [], ◌∷◌, ◌++◌, length, Option, Some, None, ap, sym, refl, subst, ◌∙◌, arith, append_assoc, length-append}
+use Rattle.std.specs.Option.{option_to_list}
+use Rattle.std.proofs.lemmas.List.{append-nil}
+use Rattle.ml_base.specs.Bytes.{Text}
+use Rattle.ml_plain.specs.declared.Item.{Item}
+use Rattle.ml_run.specs.declared.items.Items.{Items}
+use Rattle.ml_run.specs.declared.groups.GroupEnd.{GroupEnd}
+use Rattle.ml_run.specs.declared.groups.GroupEnd.TheVariants as ends
+use Rattle.ml_run.specs.declared.lines.Why.{Why}
+use Rattle.ml_run.specs.declared.lines.Why.TheVariants as whys
+use Rattle.ml_run.specs.declared.stream.StreamError.{StreamError}
+use Rattle.ml_run.specs.declared.stream.StreamError.TheVariants.{Bad, Short, Fault, Memory}
+use Rattle.ml_run.specs.Stream.{got, StreamEnd, End, IsStream, item_at}
+use Rattle.ml_run.specs.Reading.{Breaks, IsNoItem}
+use Rattle.ml_run.specs.Items.{HasLeft, place_of, ahead_of}
+use Rattle.ml_run.specs.Stops.{why_of_stream}
+use Rattle.ml_run.specs.Groups.{Spells, TakesTo, Takes, IsPartReason}
+use Rattle.ml_run.proofs.Ahead.{no_bytes_end}
+use Rattle.ml_run.proofs.Cuts.{left_own}
+use Rattle.ml_run.proofs.Grouping.{number_cut}
+use Rattle.ml_run.proofs.Locality.{item_local}
+use Rattle.ml_run.proofs.Streams.{streams}
+
+-- two rows of items
+pub spells_joined : (place mid end : ℕ) (one two : Text) (xs ys : List Item) → Spells place one xs mid → Spells mid two ys end → Spells place (one ++ two) (xs ++ ys) end
+spells_joined place mid end one two [] ys s t =
+    subst (λ (front : Text). Spells place (front ++ two) ys end) (sym s.0) (subst (λ (n : ℕ). Spells n two ys end) s.1 t)
+spells_joined place mid end one two (x ∷ xs) ys s t =
+    (s.0, s.1 ++ two, s.2, ap (λ (front : Text). front ++ two) s.3 ∙ append_assoc s.0 s.1 two, s.4, spells_joined s.2 mid end s.1 two xs ys s.5 t)
+
+-- what is behind a row of items is the rest of the stream
+pub spells_stream : (place mid : ℕ) (one more : Text) (xs later : List Item) (ending : StreamEnd) → Spells place one xs mid → IsStream mid more later ending → IsStream place (one ++ more) (xs ++ later) ending
+spells_stream place mid one more [] later ending s h =
+    subst (λ (front : Text). IsStream place (front ++ more) later ending) (sym s.0) (subst (λ (n : ℕ). IsStream n more later ending) s.1 h)
+spells_stream place mid one more (x ∷ xs) later ending s h = (
+  s.2,
+  s.1 ++ more,
+  ap (item_at place) (ap (λ (front : Text). front ++ more) s.3 ∙ append_assoc s.0 s.1 more) ∙ s.4 (s.1 ++ more),
+  spells_stream s.2 mid s.1 more xs later ending s.5 h,
+)
+
+-- one item
+pub spells_one : (place next : ℕ) (own : Text) (item : Item) → ((more : Text) → item_at place (own ++ more) ≡ got (Some item) next more) → Spells place own (item ∷ []) next
+spells_one place next own item all = (own, [], next, sym (append-nil own), all, (refl, refl))
+
+-- a group has taken its items, and some bytes more
+takes_more : (end : GroupEnd) (place mid : ℕ) (bs front rest own rest' : Text) (items : List Item) (more : ℕ) (reader : Items) (left : Option Text) (behind : List Item) (ending : StreamEnd) → bs ≡ front ++ rest → Spells place front items mid
+    → rest ≡ own ++ rest' → left ≡ Some rest' → IsStream mid own behind ending → ((front : Text) → IsStream place front (items ++ behind) ending → TakesTo end place front rest' items more reader left) → Takes end place bs items more reader left
+takes_more end place mid bs front rest own rest' items more reader left behind ending split spells next left_is stream f = record {
+  front = front ++ own;
+  rest = rest';
+  split = split ∙ ap (λ (t : Text). front ++ t) next ∙ sym (append_assoc front own rest');
+  left_is = left_is;
+  holds = f (front ++ own) (spells_stream place mid front own items behind ending spells stream);
+}
+
+-- an error was answered in place of an item
+pub takes_error : (e : StreamError) (place : ℕ) (bs : Text) (items : List Item) (more more' : ℕ) (reader new : Items) (left left' : Option Text) (t : Takes ends.Full place bs items more reader left)
+    → Breaks e left' t.rest (IsNoItem (place_of reader)) → Takes (ends.Stopped None (why_of_stream e)) place bs items more' new left'
+takes_error Fault place bs items more more' reader new left left' t b =
+    let none = b.cut refl in
+    takes_more (ends.Stopped None whys.Input) place (place_of reader) bs t.front t.rest b.front b.rest items more' new left' [] none.0 t.split t.holds.0 b.split b.left_is none.1
+    (λ front s. record { behind = []; ending = none.0; stream = s; holds = (tt, λ e. refl) })
+takes_error Memory place bs items more more' reader new left left' t b =
+    let some = streams (place_of reader) b.front in
+    takes_more (ends.Stopped None whys.Memory) place (place_of reader) bs t.front t.rest b.front b.rest items more' new left' some.0 some.1 t.split t.holds.0 b.split b.left_is some.2
+    (λ front s. record { behind = some.0; ending = some.1; stream = s; holds = (tt, λ e. absurd (memory_input e)) })
+  where
+    memory_input : whys.Memory ≡ whys.Input → ⊥
+    memory_input e = cc
+takes_error (Bad at) place bs items more more' reader new left left' t b =
+    let some = streams (place_of reader) b.front in
+    takes_more (ends.Stopped None (whys.Bad at)) place (place_of reader) bs t.front t.rest b.front b.rest items more' new left' some.0 some.1 t.split t.holds.0 b.split b.left_is some.2
+    (λ front s. record { behind = some.0; ending = some.1; stream = s; holds = (tt, λ e. absurd (bad_input e)) })
+  where
+    bad_input : whys.Bad at ≡ whys.Input → ⊥
+    bad_input e = cc
+takes_error (Short at) place bs items more more' reader new left left' t b =
+    let some = streams (place_of reader) b.front in
+    takes_more (ends.Stopped None (whys.Short at)) place (place_of reader) bs t.front t.rest b.front b.rest items more' new left' some.0 some.1 t.split t.holds.0 b.split b.left_is some.2
+    (λ front s. record { behind = some.0; ending = some.1; stream = s; holds = (tt, λ e. absurd (short_input e)) })
+  where
+    short_input : whys.Short at ≡ whys.Input → ⊥
+    short_input e = cc
+
+-- the stream was at its end
+pub takes_last : (place : ℕ) (bs : Text) (items : List Item) (more more' : ℕ) (reader new : Items) (left left' : Option Text) (p : ℕ) (rest : Text) (t : Takes ends.Full place bs items more reader left)
+    → item_at (place_of reader) t.rest ≡ got None p rest → ahead_of new ≡ None → HasLeft new left' rest → Takes ends.Last place bs items more' new left'
+takes_last place bs items more more' reader new left left' p rest t is none has =
+    let empty = no_bytes_end (place_of reader) p t.rest rest is in
+    takes_more ends.Last place (place_of reader) bs t.front t.rest [] rest items more' new left' [] End t.split t.holds.0 (empty.0 ∙ sym empty.1) (left_own (place_of new) (ahead_of new) left' rest none has) refl
+    (λ front s. record { behind = []; ending = End; stream = s; holds = tt })
+
+-- the next item was read
+pub takes_next : (place : ℕ) (bs : Text) (items : List Item) (more more' : ℕ) (reader new : Items) (left left' : Option Text) (item : Item) (rest : Text) (t : Takes ends.Full place bs items more reader left)
+    → item_at (place_of reader) t.rest ≡ got (Some item) (place_of new) rest → ahead_of new ≡ None → HasLeft new left' rest → Takes ends.Full place bs (items ++ item ∷ []) more' new left'
+takes_next place bs items more more' reader new left left' item rest t is none has =
+    let one = item_local (place_of reader) t.rest item (place_of new) rest is in record {
+      front = t.front ++ one.one;
+      rest = rest;
+      split = t.split ∙ ap (λ (s : Text). t.front ++ s) one.split ∙ sym (append_assoc t.front one.one rest);
+      left_is = left_own (place_of new) (ahead_of new) left' rest none has;
+      holds = (spells_joined place (place_of reader) (place_of new) t.front one.one items (item ∷ []) t.holds.0 (spells_one (place_of reader) (place_of new) one.one item one.all), none, has);
+    }
+
+not_input : (why : Why) → IsPartReason why → why ≡ whys.Input → ⊥
+not_input why part is = subst IsPartReason is part
+
+-- and refused
+pub takes_refused : (place : ℕ) (bs : Text) (items : List Item) (more more' : ℕ) (reader new : Items) (left left' : Option Text) (item : Item) (rest : Text) (why : Why) (t : Takes ends.Full place bs items more reader left)
+    → item_at (place_of reader) t.rest ≡ got (Some item) (place_of new) rest → ahead_of new ≡ None → HasLeft new left' rest → 0 < more' → IsPartReason why → Takes (ends.Stopped (Some item.number) why) place bs items more' new left'
+takes_refused place bs items more more' reader new left left' item rest why t is none has some part =
+    let one = item_local (place_of reader) t.rest item (place_of new) rest is in
+    let alone : item_at (place_of reader) one.one ≡ got (Some item) (place_of new) [] = ap (item_at (place_of reader)) (sym (append-nil one.one)) ∙ one.all [] in
+    takes_more (ends.Stopped (Some item.number) why) place (place_of reader) bs t.front t.rest one.one rest items more' new left' (item ∷ []) End t.split t.holds.0 one.split (left_own (place_of new) (ahead_of new) left' rest none has)
+    (place_of new, [], alone, refl)
+    (λ front s. record { behind = item ∷ []; ending = End; stream = s; holds = (number_cut more' item (item ∷ []) [] some refl, λ e. absurd (not_input why part e)) })
+
+-- no item was to be read
+more_input : whys.More ≡ whys.Input → ⊥
+more_input e = cc
+
+pub takes_byte : (place : ℕ) (bs : Text) (new : Items) (left' : Option Text) → HasLeft new left' bs → Takes (ends.Stopped None whys.More) place bs [] 0 new left'
+takes_byte place bs new left' has =
+    let some = streams place (option_to_list (ahead_of new)) in record {
+      front = option_to_list (ahead_of new);
+      rest = has.own;
+      split = has.is_all;
+      left_is = has.is_left;
+      holds = record { behind = some.0; ending = some.1; stream = some.2; holds = (tt, λ e. absurd (more_input e)) };
+    }
+
+pub takes_end : (place : ℕ) (bs : Text) (new : Items) (left' : Option Text) → HasLeft new left' bs → Takes ends.Last place bs [] 0 new left'
+takes_end place bs new left' has =
+    let some = streams place (option_to_list (ahead_of new)) in record {
+      front = option_to_list (ahead_of new);
+      rest = has.own;
+      split = has.is_all;
+      left_is = has.is_left;
+      holds = record { behind = some.0; ending = some.1; stream = some.2; holds = tt };
+    }
+
+pub takes_nothing : (place : ℕ) (bs : Text) (new : Items) (left' : Option Text) → ahead_of new ≡ None → HasLeft new left' bs → Takes (ends.Stopped None whys.Input) place bs [] 0 new left'
+takes_nothing place bs new left' none has = record {
+  front = [];
+  rest = bs;
+  split = refl;
+  left_is = left_own (place_of new) (ahead_of new) left' bs none has;
+  holds = record { behind = []; ending = End; stream = refl; holds = (tt, λ e. refl) };
+}
+
+-- a group has no items yet
+pub takes_none : (place : ℕ) (bs : Text) (reader : Items) (left : Option Text) → place ≡ place_of reader → ahead_of reader ≡ None → HasLeft reader left bs → Takes ends.Full place bs [] 0 reader left
+takes_none place bs reader left is none has = record { front = []; rest = bs; split = refl; left_is = left_own (place_of reader) (ahead_of reader) left bs none has; holds = ((refl, sym is), none, has) }
+
+pub one_longer : (items : List Item) (item : Item) (n m : ℕ) → length items ≡ n → m ≡ n + 1 → length (items ++ item ∷ []) ≡ m
+one_longer items item n m is next = length-append items (item ∷ []) ∙ (let e : length items + 1 ≡ m = omega (arith, is, next) in e)
