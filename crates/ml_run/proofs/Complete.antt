@@ -1,15 +1,15 @@
 -- A run that answers all items.
-use Rattle.std.proofs.Common.{◌≡◌, ◌⊎◌, inl, inr, ⊎_elim, ℕ, ◌≤◌, ◌<◌, List, length, refl, arith, ap, ◌∙◌}
+use Rattle.std.proofs.Common.{◌≡◌, ◌⊎◌, inl, inr, ⊎_elim, ℕ, ◌≤◌, List, length, refl, arith}
 use Rattle.ml_base.specs.Bytes.{Text}
 use Rattle.ml_site.specs.Disk.{Contents}
 use Rattle.ml_plain.specs.declared.Item.{Item}
 use Rattle.ml_plain.specs.Histories.{State}
-use Rattle.ml_run.specs.declared.lines.Why.{Why}
-use Rattle.ml_run.specs.declared.lines.Why.TheVariants as whys
-use Rattle.ml_run.specs.declared.stream.StreamError.{StreamError}
-use Rattle.ml_run.specs.Stops.{status_of_why}
-use Rattle.ml_run.specs.Stream.{StreamEnd, End, Broken}
-use Rattle.ml_run.specs.Endings.{Runs, EndsEarly, HasMore, AnswersAll}
+use Rattle.ml_ending.specs.declared.lines.Why.{Why}
+use Rattle.ml_ending.specs.declared.lines.Why.TheVariants as whys
+use Rattle.ml_stream.specs.declared.stream.StreamError.{StreamError}
+use Rattle.ml_ending.specs.Stops.{status_of_why}
+use Rattle.ml_stream.specs.Stream.{End, Broken}
+use Rattle.ml_run.specs.Endings.{Runs, EndsEarly, AnswersAll}
 
 end_broken : (e : StreamError) → End ≡ Broken e → ⊥
 end_broken e is = cc

@@ -15,18 +15,18 @@ use Rattle.ml_plain.specs.Directory.{IsState}
 use Rattle.ml_list.specs.Damage.{IsNamed}
 use Rattle.ml_plain.specs.Histories.{State, fold, text, step}
 use Rattle.ml_list.proofs.States.{fold-nil, fold-one, fold-append, text-nil, text-one, text-append, last-nil, last-more}
-use Rattle.ml_run.specs.declared.items.Items.{Items}
+use Rattle.ml_stream.specs.declared.items.Items.{Items}
 use Rattle.ml_run.specs.declared.groups.Group.{Group}
 use Rattle.ml_run.specs.declared.groups.GroupEnd.{GroupEnd}
 use Rattle.ml_run.specs.declared.groups.GroupEnd.TheVariants as ends
-use Rattle.ml_run.specs.declared.lines.Why.{Why}
-use Rattle.ml_run.specs.declared.lines.Why.TheVariants as whys
+use Rattle.ml_ending.specs.declared.lines.Why.{Why}
+use Rattle.ml_ending.specs.declared.lines.Why.TheVariants as whys
 use Rattle.ml_base.specs.declared.names.Name.{Name}
 use Rattle.ml_base.specs.declared.part.PartError.{PartError}
 use Rattle.ml_base.specs.declared.part.PartError.TheVariants.{Fault, Memory, Damaged}
 use Rattle.ml_base.specs.PartErrors.{OnDamaged}
-use Rattle.ml_run.specs.Stops.{why_of_part}
-use Rattle.ml_run.specs.Stream.{StreamEnd, End}
+use Rattle.ml_ending.specs.Stops.{why_of_part}
+use Rattle.ml_stream.specs.Stream.{StreamEnd, End}
 use Rattle.ml_run.proofs.LaidPuts.{laid_over, laid_files, all_distinct}
 use Rattle.ml_run.specs.Groups.{laid_all, IsGroup, IsEmptyGroup, HasNext, Holds, IsFirst, first_number, IsAhead, Gathers, IsStop, IsNumberOf, HasReason, IsPartReason, HasRoom, IsJustFull, EndsInTime}
 

@@ -13,9 +13,9 @@ use Rattle.ml_plain.specs.declared.Act.{Act}
 use Rattle.ml_plain.specs.declared.Act.TheVariants.{Deliver, Timed, Add, Remove, Sent, Rekey, Floor}
 use Rattle.ml_plain.specs.declared.Item.{Item}
 use Rattle.ml_list.specs.Damage.{may_read, is_looked_up, is_read_by}
-use Rattle.ml_run.specs.declared.lines.Why.{Why}
-use Rattle.ml_run.specs.declared.lines.Why.TheVariants as whys
-use Rattle.ml_run.specs.Stops.{log_name, why_of_part}
+use Rattle.ml_ending.specs.declared.lines.Why.{Why}
+use Rattle.ml_ending.specs.declared.lines.Why.TheVariants as whys
+use Rattle.ml_ending.specs.Stops.{log_name, why_of_part}
 use Rattle.ml_run.specs.Groups.{IsOfItem, IsNumbered, IsPartReason}
 
 -- the log

@@ -1,9 +1,3 @@
-pub mod Filling
-pub mod Bytewise
-pub mod Elements
-pub mod Written
-pub mod Streams
-pub mod Spelled
 pub mod Ahead
 pub mod LaidPuts
 pub mod Grouping
@@ -19,7 +13,5 @@ pub mod Named
 pub mod MadeLists
 pub mod Missing
 pub mod Complete
-pub mod Locality
-pub mod Cuts
 pub mod Taking
 pub mod Taken

@@ -1,5 +1,5 @@
 -- How a list is made, call by call.
-use Rattle.std.proofs.Common.{◌≡◌, ◌⊎◌, inl, inr, ⊎_elim, ℕ, IsTrue, List, [], ◌++◌, take, Option, Some, None, ap, sym, refl, subst, ◌∙◌, length, arith}
+use Rattle.std.proofs.Common.{◌≡◌, ◌⊎◌, inl, inr, ⊎_elim, ℕ, IsTrue, List, ◌++◌, take, Option, Some, None, ap, sym, refl, subst, ◌∙◌, length, arith}
 use Rattle.ml_base.specs.Bytes.{Text}
 use Rattle.ml_base.specs.Dir.{Dir, with_puts}
 use Rattle.ml_base.specs.Name.{is_file}
@@ -19,20 +19,16 @@ use Rattle.ml_journal.specs.Calls.{Leaves, ChangesDirectory, IsClean}
 use Rattle.ml_journal.specs.Kept.{IsStill}
 use Rattle.ml_journal.specs.Log.{directory}
 use Rattle.ml_journal.specs.Moments.{with_txn, IsOld, IsOldOrNew}
-use Rattle.ml_journal.specs.declared.errors.CommitError.{CommitError}
-use Rattle.ml_journal.specs.declared.errors.CommitError.TheVariants as commits
 use Rattle.ml_journal.specs.declared.errors.OpenError.{OpenError}
 use Rattle.ml_journal.specs.declared.errors.OpenError.TheVariants as opens
-use Rattle.ml_run.specs.declared.lines.Why.{Why}
-use Rattle.ml_run.specs.declared.lines.Why.TheVariants as whys
-use Rattle.ml_run.specs.Lines.{stop_text}
-use Rattle.ml_run.specs.Stops.{status_of_why, why_of_open, why_of_commit}
-use Rattle.ml_run.specs.Groups.{IsNumberOf}
-use Rattle.ml_run.specs.Leaving.{HasState, IsUnopened, IsStopLine}
-use Rattle.std.proofs.lemmas.List.{take_all, take_at}
-use Rattle.ml_run.specs.Endings.{Says, Finishes, ClosesTo, StopLine, Opens}
-use Rattle.ml_run.specs.Making.{IsOneOf, SaysAtMost, IsMaking, IsUnmade, Makes, Tells, TellsClosed}
-use Rattle.ml_run.proofs.Served.{says_front}
+use Rattle.ml_ending.specs.declared.lines.Why.{Why}
+use Rattle.ml_ending.specs.declared.lines.Why.TheVariants as whys
+use Rattle.ml_ending.specs.Lines.{stop_text}
+use Rattle.ml_ending.specs.Stops.{status_of_why, why_of_open}
+use Rattle.ml_ending.specs.Endings.{IsUnopened, Says, Finishes, Opens, TellsClosed}
+use Rattle.ml_run.specs.Leaving.{HasState}
+use Rattle.ml_run.specs.Making.{IsOneOf, IsMaking, IsUnmade, Makes}
+use Rattle.ml_ending.proofs.Said.{says_front, tells_front, some_stays, final_why, opening_then}
 
 -- where no list is made, the directory is the one before or the whole new one
 pub one_of : (why : Why) (dir held : Option Dir) (txn : List Put) → IsUnmade why dir txn held → IsOneOf dir txn held
@@ -54,41 +50,6 @@ one_of whys.Absent dir held txn u = absurd u
 -- memory was wanting, or the disk failed
 pub either_unmade : (why : Why) (dir held : Option Dir) (txn : List Put) → (why ≡ whys.Memory) ⊎ (why ≡ whys.Disk) → IsOneOf dir txn held → IsUnmade why dir txn held
 either_unmade why dir held txn is one = ⊎_elim (λ e. subst (λ (w : Why). IsUnmade w dir txn held) (sym e) one) (λ e. subst (λ (w : Why). IsUnmade w dir txn held) (sym e) one) is
-
-same_line : (a b : Option ℕ × Why) → ◌≡◌ {A = StopLine} (Some a) (Some b) → (a.0 ≡ b.0) × (a.1 ≡ b.1)
-same_line a b e = let same : a ≡ b = cc in (ap (λ (p : Option ℕ × Why). p.0) same, ap (λ (p : Option ℕ × Why). p.1) same)
-
-some_none : (line : Option ℕ × Why) → ◌≡◌ {A = StopLine} (Some line) None → ⊥
-some_none line e = cc
-
--- a run that has a line has one when its store is closed
-pub some_stays : (line : Option ℕ × Why) (final : StopLine) (rest disk : Type 0) → ClosesTo (Some line) final rest disk → final ≡ None → ⊥
-some_stays line final rest disk c is = ⊎_elim (λ a. some_none line (sym a.0 ∙ is)) (λ more. ⊎_elim (λ a. some_none line (sym a.0 ∙ is))
-    (λ other. ⊎_elim (λ m. some_none (line.0, whys.Memory) (sym m.0 ∙ is)) (λ d. some_none (line.0, whys.Disk) (sym d.0 ∙ is)) other) more) c
-
--- the same line, or why the close was refused
-pub final_why : (why : Why) (final : StopLine) (w : Option ℕ) (y : Why) (rest disk : Type 0) → ClosesTo (Some (None, why)) final rest disk → final ≡ Some (w, y)
-    → ((w ≡ None) × (y ≡ why)) ⊎ ((w ≡ None) × ((y ≡ whys.Memory) ⊎ (y ≡ whys.Disk)))
-final_why why final w y rest disk c is = ⊎_elim (λ a. inl (same_line (w, y) (None, why) (sym is ∙ a.0))) (λ more. ⊎_elim (λ a. inl (same_line (w, y) (None, why) (sym is ∙ a.0)))
-    (λ other. ⊎_elim (λ m. let e = same_line (w, y) (None, whys.Memory) (sym is ∙ m.0) in inr (e.0, inl e.1)) (λ d. let e = same_line (w, y) (None, whys.Disk) (sym is ∙ d.0) in inr (e.0, inr e.1)) other) more) c
-
--- what a list that was made says where its close was refused
-pub closed_why : (final : StopLine) (w : Option ℕ) (y : Why) (rest disk : Type 0) → ClosesTo None final rest disk → final ≡ Some (w, y) → (w ≡ None) × ((y ≡ whys.Memory) ⊎ ((y ≡ whys.Disk) × disk))
-closed_why final w y rest disk c is = ⊎_elim (λ a. absurd (some_none (w, y) (sym is ∙ a.0))) (λ more. ⊎_elim (λ a. absurd (some_none (w, y) (sym is ∙ a.0)))
-    (λ other. ⊎_elim (λ m. let e = same_line (w, y) (None, whys.Memory) (sym is ∙ m.0) in (e.0, inl e.1)) (λ d. let e = same_line (w, y) (None, whys.Disk) (sym is ∙ d.0) in (e.0, inr (e.1, d.2))) other) more) c
-
--- some first bytes of a stop line without a number
-front_said : (before out front more : Text) → IsStopLine [] (front ++ more) → out ≡ before ++ front → SaysAtMost before out
-front_said before out front more line put = go line.who line.why line.number line.is
-  where
-    go : (who : Option ℕ) (why : Why) → IsNumberOf who [] → front ++ more ≡ stop_text who (status_of_why why) why → SaysAtMost before out
-    go None why number is = inr (why, length front, put ∙ ap (λ (t : Text). before ++ t) (sym (take_at front more (length front) refl) ∙ ap (take (length front)) is))
-    go (Some n) why number is = absurd number
-
--- why a commit was refused
-pub commit_why : (error : CommitError) → (why_of_commit error ≡ whys.Memory) ⊎ (why_of_commit error ≡ whys.Disk)
-commit_why commits.Fault = inr refl
-commit_why commits.Memory = inl refl
 
 -- what making a list did, over an output that was the same at its start
 pub makes_before : (told : Type 0) (status : ℕ) (dir : Option Dir) (txn : List Put) (line old new : Text) (held : Contents) (output : Text) → (told → old ≡ new) → Makes told status dir txn line old held output → Makes told status dir txn line new held output
@@ -130,11 +91,6 @@ module _ {S : Type 0} (told : Ghosts S) where
       (λ left out g. inl (images left g.0, inr (why, g.1.0, g.1.1 ∙ ap (λ (o : Text). o ++ take g.1.0 text) put)))
       (λ left image. (subst (λ (d : Disk). IsImage d left) (s.disk_is t) image, says_front told mid new status None why s t))
 
-  -- some front of the line that tells of it is out
-  tells_front : (old new : S) (status : ℕ) (line : Text) → Tells told old new status line → IsTrue told.tells_all → (n : ℕ) × (told.output new ≡ told.output old ++ take n line)
-  tells_front old new status line s t =
-      ⊎_elim (λ whole. (length line, whole.1 t ∙ ap (λ (l : Text). told.output old ++ l) (sym (take_all (length line) line (omega arith))))) (λ cut. cut.2 t) s.line_is
-
   -- a list was committed, its store closed, and told of
   pub told_makes : (start old new : S) (dir : Option Dir) (txn : List Put) (line : Text) (status : ℕ) → IsTrue told.tells_reads → (IsTrue told.tells_all → told.output old ≡ told.output start)
       → directory (told.disk old).reads ≡ with_txn txn dir → TellsClosed told old new status line → Makes (IsTrue told.tells_all) status dir txn line (told.output start) (told.disk new).reads (told.output new)
@@ -163,7 +119,7 @@ module _ {S : Type 0} (told : Ghosts S) where
       ⊎_elim
       (λ tells. goes_on told.moment told.left_since told.disk told.output start f.mid new (IsMaking dir txn line (told.output start)) (Giving (told.disk f.mid) (told.output f.mid) line) one (tells.1.time t)
       (λ left out g. inr (images left g.0, (g.1.0, g.1.1 ∙ ap (λ (o : Text). o ++ take g.1.0 line) put')))
-      (λ left image. (subst (λ (d : Disk). IsImage d left) (tells.1.disk_is t) image, tells_front f.mid new status line tells.1 t)))
+      (λ left image. (subst (λ (d : Disk). IsImage d left) (tells.1.disk_is t) image, tells_front told f.mid new status line tells.1 t)))
       (λ stops. said_making start f.mid new (told.output start) dir txn line status stops.0 one (λ left image. inr (images left image)) put' stops.2 t)
       f.said
 
@@ -225,18 +181,6 @@ module _ {S : Type 0} (told : Ghosts S) where
       joins told.moment told.left_since told.disk told.output start read new P (IsMaking (directory (told.disk read).reads) txn line (told.output read)) P (read_making start read txn line still t) run (λ left out p. p)
       (λ left out p. subst (λ (x : Contents × Text). IsMaking (directory x.0) txn line x.1 left out) (λ i. (same i, put i)) p)
 
-  -- behind a sync that was the first a call goes on
-  pub opening_then : (start now new : S) (P : Contents → Text → Type 0) → FromFirstSync told.moment told.left_since told.disk told.output told.syncs start now (Now (told.disk start) (told.output start)) (IsOld (directory (told.disk start).reads) (told.output start))
-      → LeavesOnly told.moment told.left_since told.disk told.output now new P → ((left : Contents) (out : Text) → IsOld (directory (told.disk start).reads) (told.output start) left out → P left out) → Opens told start new P
-  opening_then start now new P first run old = inr (record {
-    synced = first.synced;
-    first = first.first;
-    rest = first.rest;
-    same = first.same;
-    until = first.until;
-    since = joins told.moment told.left_since told.disk told.output first.synced now new (IsOld (directory (told.disk start).reads) (told.output start)) P P first.since run old (λ left out p. p);
-  })
-
   -- a store was opened, and a list was made over it
   pub opened_makes : (start now new : S) (puts txn : List Put) (text line : Text) (status : ℕ) → puts ≡ txn → text ≡ line → directory (told.disk now).reads ≡ directory (told.disk start).reads → (IsTrue told.tells_all → told.output now ≡ told.output start)
       → Makes (IsTrue told.tells_all) status (directory (told.disk now).reads) puts text (told.output now) (told.disk new).reads (told.output new)
@@ -250,7 +194,7 @@ module _ {S : Type 0} (told : Ghosts S) where
       → LeavesOnly told.moment told.left_since told.disk told.output now new (IsMaking (directory (told.disk now).reads) puts text (told.output now))
       → Opens told start new (IsMaking (directory (told.disk start).reads) txn line (told.output start))
   opened_making start now new puts txn text line e f first same put run =
-      opening_then start now new (IsMaking (directory (told.disk start).reads) txn line (told.output start)) first
+      opening_then told start now new (IsMaking (directory (told.disk start).reads) txn line (told.output start)) first
       (weaker told.moment told.left_since told.disk told.output now new (IsMaking (directory (told.disk now).reads) puts text (told.output now)) (IsMaking (directory (told.disk start).reads) txn line (told.output start)) run
       (λ left out p. subst (λ (x : Option Dir × List Put × Text × Text). IsMaking x.0 x.1 x.2 x.3 left out) (λ i. (same i, e i, f i, put i)) p))
       (λ left out p. inl (inl p.0, inl p.1))
@@ -278,7 +222,7 @@ module _ {S : Type 0} (told : Ghosts S) where
       let same : (left : Contents) → IsImage (told.disk start) left → directory left ≡ directory (told.disk start).reads = λ left image. ap directory (rest_contents (told.disk start) left rest image) in
       ⊎_elim
       (λ early. weaker told.moment told.left_since told.disk told.output start new (IsUnopened (told.disk start) (told.output start)) P early.all
-      (λ left out u. inl (inl (same left u.image), ⊎_elim (λ none. inl none) (λ l. front_said (told.output start) out l.0 l.1 (l.2 []) l.3) u.put)))
+      (λ left out u. inl (inl (same left u.image), u.put)))
       (λ late. joins told.moment told.left_since told.disk told.output start late.synced new (Now (told.disk start) (told.output start)) P P late.until late.since
       (λ left out p. inl (inl (same left p.0), inl p.1)) (λ left out p. p))
       o

@@ -16,12 +16,12 @@ use Rattle.ml_journal.specs.declared.errors.OpenError.{OpenError}
 use Rattle.ml_journal.specs.declared.errors.OpenError.TheVariants as opens
 use Rattle.ml_list.specs.Damage.{IsDamaged}
 use Rattle.ml_list.specs.Damage as damage
-use Rattle.ml_run.specs.declared.lines.Why.{Why}
-use Rattle.ml_run.specs.declared.lines.Why.TheVariants as whys
-use Rattle.ml_run.specs.Lines.{stop_text}
-use Rattle.ml_run.specs.Stops.{status_of_why, why_of_open, why_of_part}
-use Rattle.ml_run.specs.Endings.{Says, Finishes, MissesList}
-use Rattle.ml_run.proofs.MadeLists.{some_stays, final_why}
+use Rattle.ml_ending.specs.declared.lines.Why.{Why}
+use Rattle.ml_ending.specs.declared.lines.Why.TheVariants as whys
+use Rattle.ml_ending.specs.Lines.{stop_text}
+use Rattle.ml_ending.specs.Stops.{status_of_why, why_of_open, why_of_part}
+use Rattle.ml_ending.specs.Endings.{Says, Finishes, MissesList}
+use Rattle.ml_ending.proofs.Said.{some_stays, final_why}
 
 -- a configuration that is damaged is there
 config_there : (dir : Dir) (name : Name) → name ≡ config_name → IsDamaged dir name → dir config_name ≢ None

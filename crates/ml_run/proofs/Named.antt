@@ -12,14 +12,15 @@ use Rattle.ml_site.specs.declared.site.Site.{Ghosts}
 use Rattle.ml_journal.specs.Log.{directory}
 use Rattle.ml_plain.specs.Replies.{is_status}
 use Rattle.ml_list.specs.Damage.{IsDamaged}
-use Rattle.ml_run.specs.declared.lines.Why.{Why}
-use Rattle.ml_run.specs.declared.lines.Why.TheVariants as whys
-use Rattle.ml_run.specs.Lines.{stop_text}
-use Rattle.ml_run.specs.Stops.{status_of_why}
+use Rattle.ml_ending.specs.declared.lines.Why.{Why}
+use Rattle.ml_ending.specs.declared.lines.Why.TheVariants as whys
+use Rattle.ml_ending.specs.Lines.{stop_text}
+use Rattle.ml_ending.specs.Stops.{status_of_why}
 use Rattle.ml_run.specs.Groups.{HasReason, IsNumbered}
-use Rattle.ml_run.proofs.Served.{closes_who}
+use Rattle.ml_ending.proofs.Said.{closes_who}
 use Rattle.ml_run.specs.Spending.{IsRefused}
-use Rattle.ml_run.specs.Endings.{StopLine, Says, Finishes, Refuses, IsFound, Names}
+use Rattle.ml_ending.specs.Endings.{StopLine, Says, Finishes, Refuses}
+use Rattle.ml_run.specs.Endings.{IsFound, Names}
 
 status_not_75 : (last : ℕ) → is_status last ≡ true → last ≡ 75 → ⊥
 status_not_75 last is e = grind (arith, nat_tests)

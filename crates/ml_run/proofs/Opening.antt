@@ -1,5 +1,5 @@
 -- The opening of a run, and a run that ends before its items.
-use Rattle.std.proofs.Common.{Result, ◌≡◌, ◌⊎◌, inl, inr, ⊎_elim, ℕ, IsTrue, List, [], ◌++◌, take, drop, Option, Some, None, ap, sym, refl, subst, ◌∙◌, arith}
+use Rattle.std.proofs.Common.{◌≡◌, ◌⊎◌, inl, inr, ⊎_elim, ℕ, IsTrue, List, [], ◌++◌, take, drop, Option, Some, None, ap, sym, refl, subst, ◌∙◌, arith}
 use Rattle.std.proofs.lemmas.List.{append-nil, take-append-drop}
 use Rattle.ml_base.specs.Bytes.{Text}
 use Rattle.ml_base.specs.Dir.{Dir}
@@ -10,35 +10,30 @@ use Rattle.ml_base.specs.declared.names.Name.{Name}
 use Rattle.ml_base.specs.declared.part.PartError.{PartError}
 use Rattle.ml_base.specs.declared.part.PartError.TheVariants as parts
 use Rattle.ml_site.specs.Disk.{Contents, Disk, IsImage, Giving, IsAtRest, Now}
-use Rattle.ml_site.specs.Moments.{LeavesOnly, BeforeFirstSync, FromFirstSync}
+use Rattle.ml_site.specs.Moments.{LeavesOnly, FromFirstSync}
 use Rattle.ml_site.specs.declared.site.Site.{Ghosts}
-use Rattle.ml_site.proofs.Steps.{started, goes_on, joins, weaker, rest_contents}
+use Rattle.ml_site.proofs.Steps.{goes_on, joins, weaker, rest_contents}
 use Rattle.ml_journal.specs.Log.{directory}
 use Rattle.ml_journal.specs.Moments.{IsOld}
 use Rattle.ml_journal.specs.Kept.{IsStill}
-use Rattle.ml_journal.specs.Stores.{site_after}
-use Rattle.ml_journal.specs.declared.store.Store.{Store}
 use Rattle.ml_journal.specs.declared.errors.OpenError.{OpenError}
 use Rattle.ml_journal.specs.declared.errors.OpenError.TheVariants as opens
 use Rattle.ml_plain.specs.declared.Item.{Item}
 use Rattle.ml_list.specs.Damage.{IsDamaged, IsNamed}
 use Rattle.ml_plain.specs.Histories.{State, fold, text}
 use Rattle.ml_list.proofs.States.{fold-nil, text-nil}
-use Rattle.ml_run.specs.declared.lines.Why.{Why}
-use Rattle.ml_run.specs.declared.lines.Why.TheVariants as whys
-use Rattle.ml_run.specs.Lines.{stop_text, HasPath}
-use Rattle.ml_run.specs.Stops.{status_of_why, why_of_part, why_of_open}
-use Rattle.ml_run.specs.Stream.{StreamEnd}
+use Rattle.ml_ending.specs.declared.lines.Why.{Why}
+use Rattle.ml_ending.specs.declared.lines.Why.TheVariants as whys
+use Rattle.ml_ending.specs.Lines.{stop_text, HasPath}
+use Rattle.ml_ending.specs.Stops.{status_of_why, why_of_part, why_of_open}
+use Rattle.ml_stream.specs.Stream.{StreamEnd}
 use Rattle.ml_run.specs.Groups.{HasReason}
-use Rattle.ml_journal.specs.Calls.{Leaves, OnlyNow}
-use Rattle.ml_run.specs.Leaving.{HasState, IsAfterSome, IsUnopened, Reached, IsServed}
-use Rattle.ml_run.specs.Endings.{Runs, Says, IsLine, Opens, IsFound}
+use Rattle.ml_journal.specs.Calls.{Leaves}
+use Rattle.ml_ending.specs.Endings.{IsUnopened, Says, Opens}
+use Rattle.ml_run.specs.Leaving.{HasState, IsAfterSome, Reached, IsServed}
+use Rattle.ml_run.specs.Endings.{Runs, IsLine, IsFound}
 use Rattle.ml_run.proofs.Leaving.{same_state, other_list, some_answered, saying, reached_none}
-use Rattle.ml_run.proofs.Served.{says_front}
-
--- what holds of the site behind a call holds of the one that it answers
-pub at_site : {S E : Type 0} {told : Ghosts S} (P : S → Type 0) (r x : Result (Store S told) (E × S)) → r ≡ x → P (site_after r) → P (site_after x)
-at_site {S} {E} {told} P r x is h = subst (λ (q : Result (Store S told) (E × S)). P (site_after q)) is h
+use Rattle.ml_ending.proofs.Said.{says_front}
 
 -- a run's end, told over an output that was the same at its start
 pub runs_before : (told input : Type 0) (status limit answered : ℕ) (held : Contents) (output : Text) (all : List Item) (ending : StreamEnd) (q : State) (old new : Text) → (told → old ≡ new)
@@ -112,11 +107,6 @@ open_at_rest opens.Memory why dir q status risen state damaged is (inl e) cause 
 open_at_rest opens.Memory why dir q status risen state damaged is (inr e) cause no_fault no_memory no_output = no_output e
 open_at_rest opens.Damaged why dir q status risen state damaged is line cause no_fault no_memory no_output = absurd (some_none state.files (sym state.is ∙ damaged refl))
 
-pub open_path : (error : OpenError) → HasPath (why_of_open error)
-open_path opens.Fault = tt
-open_path opens.Memory = tt
-open_path opens.Damaged = refl
-
 pub open_reason : (error : OpenError) (input disk : Type 0) → (error ≡ opens.Fault → disk) → HasReason (why_of_open error) input disk (λ name. Unit {0})
 open_reason opens.Fault input disk cause = cause refl
 open_reason opens.Memory input disk cause = tt
@@ -179,31 +169,6 @@ module _ {S : Type 0} (told : Ghosts S) where
       })))
       s.line
 
-  -- the moments of a line on a site that was not opened
-  unopened_moments : (start mid new : S) (status : ℕ) (why : Why) → LeavesOnly told.moment told.left_since told.disk told.output start mid (Now (told.disk start) (told.output start)) → Says told mid new status None why → IsTrue told.tells_all
-      → LeavesOnly told.moment told.left_since told.disk told.output start new (IsUnopened (told.disk start) (told.output start))
-  unopened_moments start mid new status why l s t =
-      let line = stop_text None (status_of_why why) why in
-      goes_on told.moment told.left_since told.disk told.output start mid new (IsUnopened (told.disk start) (told.output start)) (Giving (told.disk mid) (told.output mid) line)
-      (weaker told.moment told.left_since told.disk told.output start mid (Now (told.disk start) (told.output start)) (IsUnopened (told.disk start) (told.output start)) l (λ left out p. record { image = p.0; put = inl p.1 }))
-      (s.time t)
-      (λ left out g. let n = l.now left g.0 in record {
-        image = n.0;
-        put = inr (take g.1.0 line, drop g.1.0 line, λ next. record { who = None; why = why; number = tt; is = take-append-drop g.1.0 line }, g.1.1 ∙ ap (λ (o : Text). o ++ take g.1.0 line) n.1);
-      })
-      (λ left image. (subst (λ (d : Disk). IsImage d left) (s.disk_is t) image, says_front told mid new status None why s t))
-
-  pub unopened_said : (start mid new : S) (status : ℕ) (why : Why) → BeforeFirstSync told.moment told.left_since told.disk told.output told.syncs start mid (Now (told.disk start) (told.output start)) → Says told mid new status None why → IsTrue told.tells_all
-      → BeforeFirstSync told.moment told.left_since told.disk told.output told.syncs start new (IsUnopened (told.disk start) (told.output start))
-  unopened_said start mid new status why b s t = record { same = s.disk_is t ∙ b.same; none = s.syncs t ∙ b.none; all = unopened_moments start mid new status why b.all s t }
-
-  -- no call was made yet
-  pub untouched : OnlyNow told → (start : S) → IsTrue told.tells_all → BeforeFirstSync told.moment told.left_since told.disk told.output told.syncs start start (Now (told.disk start) (told.output start))
-  untouched only_now start t = record { same = refl; none = refl; all = nothing_left only_now start t }
-    where
-      nothing_left : OnlyNow told → (start : S) → IsTrue told.tells_all → LeavesOnly told.moment told.left_since told.disk told.output start start (Now (told.disk start) (told.output start))
-      nothing_left only_now start t = started told.moment told.left_since told.disk told.output start (Now (told.disk start) (told.output start)) (λ left out l. only_now start left out t l) (λ left image. (image, refl))
-
   -- the moments of a line on a site that was opened in part
   pub opened_said : (start first mid new : S) (q : State) (items : List Item) (status : ℕ) (why : Why) → HasState (directory (told.disk start).reads) q → told.output mid ≡ told.output start
       → LeavesOnly told.moment told.left_since told.disk told.output first mid (IsOld (directory (told.disk start).reads) (told.output start)) → Says told mid new status None why → IsTrue told.tells_all
@@ -254,7 +219,15 @@ module _ {S : Type 0} (told : Ghosts S) where
         rest = items;
         split = refl;
         state = same left u.image;
-        put = inr (record { answered = []; waiting = []; split = refl; front = line.0; more = line.1; line = line.2 items; put = line.3 ∙ ap (λ (o : Text). o ++ line.0) put });
+        put = inr (record {
+          answered = [];
+          waiting = [];
+          split = refl;
+          front = take line.1 (stop_text None (status_of_why line.0) line.0);
+          more = drop line.1 (stop_text None (status_of_why line.0) line.0);
+          line = record { who = None; why = line.0; number = tt; is = take-append-drop line.1 (stop_text None (status_of_why line.0) line.0) };
+          put = line.2 ∙ ap (λ (o : Text). o ++ take line.1 (stop_text None (status_of_why line.0) line.0)) put;
+        });
       }) u.put))
       (λ late. joins told.moment told.left_since told.disk told.output start late.synced new (Now (told.disk start) (told.output start)) (IsAfterSome q items (told.output start)) (IsAfterSome q items (told.output start)) late.until late.since
       (λ left out p. some_answered q items [] items (told.output start) out left refl (same left p.0) (p.1 ∙ put)) (λ left out p. p))

@@ -10,16 +10,16 @@ use Rattle.ml_site.specs.declared.site.Site.{Ghosts}
 use Rattle.ml_journal.specs.Log.{directory}
 use Rattle.ml_plain.specs.declared.Item.{Item}
 use Rattle.ml_plain.specs.Histories.{State, fold, text}
-use Rattle.ml_run.specs.declared.groups.GroupEnd.TheVariants as ends
-use Rattle.ml_run.specs.declared.lines.Why.{Why}
-use Rattle.ml_run.specs.declared.lines.Why.TheVariants as whys
-use Rattle.ml_run.specs.Stream.{StreamEnd, End}
+use Rattle.ml_ending.specs.declared.lines.Why.{Why}
+use Rattle.ml_ending.specs.declared.lines.Why.TheVariants as whys
+use Rattle.ml_stream.specs.Stream.{StreamEnd, End}
 use Rattle.ml_run.specs.Groups.{IsStop, IsFirst, IsNumberOf, HasReason}
 use Rattle.ml_journal.specs.Calls.{Leaves}
 use Rattle.ml_run.specs.Leaving.{HasState, IsAfterSome, IsServed, IsLeft, IsStopLine}
 use Rattle.ml_site.proofs.Steps.{weaker}
 use Rattle.ml_run.specs.Spending.{IsRefused}
-use Rattle.ml_run.specs.Endings.{EndsEarly, HasMore, Runs, Refuses, IsLine}
+use Rattle.ml_ending.specs.Endings.{Refuses}
+use Rattle.ml_run.specs.Endings.{EndsEarly, HasMore, Runs, IsLine}
 use Rattle.ml_run.proofs.Leaving.{take_split, same_state}
 use Rattle.ml_run.proofs.Served.{said_moments, said_runs}
 

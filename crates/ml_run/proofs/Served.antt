@@ -1,6 +1,6 @@
 -- A run group by group, and its end.
 use Rattle.std.proofs.Common.{◌≡◌, ◌⊎◌, inl, inr, ⊎_elim, ℕ, ◌≤◌, IsTrue, List, [], ◌∷◌, ◌++◌, length, take, drop, Option, Some, None, ap, sym, refl, subst, ◌∙◌, arith, append_assoc, length-append}
-use Rattle.std.proofs.lemmas.List.{take_all, length-take, take-append-drop}
+use Rattle.std.proofs.lemmas.List.{length-take, take-append-drop}
 use Rattle.ml_base.specs.Bytes.{Text}
 use Rattle.ml_base.specs.Faults.{Rose}
 use Rattle.ml_base.specs.Dir.{Dir, with_puts}
@@ -17,15 +17,17 @@ use Rattle.ml_plain.specs.declared.Item.{Item}
 use Rattle.ml_plain.specs.Directory.{IsState}
 use Rattle.ml_plain.specs.Histories.{State, fold, text, last_from}
 use Rattle.ml_list.proofs.States.{fold-append, text-append}
-use Rattle.ml_run.specs.declared.lines.Why.{Why}
-use Rattle.ml_run.specs.declared.lines.Why.TheVariants as whys
-use Rattle.ml_run.specs.Lines.{stop_text}
-use Rattle.ml_run.specs.Stops.{status_of_why}
-use Rattle.ml_run.specs.Stream.{StreamEnd, End}
+use Rattle.ml_ending.specs.declared.lines.Why.{Why}
+use Rattle.ml_ending.specs.declared.lines.Why.TheVariants as whys
+use Rattle.ml_ending.specs.Lines.{stop_text}
+use Rattle.ml_ending.specs.Stops.{status_of_why}
+use Rattle.ml_stream.specs.Stream.{StreamEnd, End}
+use Rattle.ml_ending.proofs.Said.{says_front, closes_who}
 use Rattle.ml_run.specs.Groups.{IsNumberOf}
 use Rattle.ml_journal.specs.Calls.{Leaves, IsClean}
 use Rattle.ml_run.specs.Leaving.{HasState, IsAfterSome, Reached, IsSettling, IsServed, IsLeft}
-use Rattle.ml_run.specs.Endings.{StopLine, Runs, Says, who_of, IsMemory, ClosesTo, Finishes, IsLine}
+use Rattle.ml_ending.specs.Endings.{StopLine, Says, who_of, IsMemory, ClosesTo, Finishes}
+use Rattle.ml_run.specs.Endings.{Runs, IsLine}
 use Rattle.ml_run.proofs.Leaving.{same_state, other_list, txn_state, some_answered, settling, reached_none, reached_some, saying}
 
 module _ {S : Type 0} (told : Ghosts S) where
@@ -94,12 +96,6 @@ module _ {S : Type 0} (told : Ghosts S) where
         moments = settling_moments start old read new q items done more rest txn lines reads s same put still stands is time;
       }
 
-  -- some front of the line is out
-  pub says_front : (old new : S) (status : ℕ) (who : Option ℕ) (why : Why) → Says told old new status who why → IsTrue told.tells_all → (n : ℕ) × (told.output new ≡ told.output old ++ take n (stop_text who (status_of_why why) why))
-  says_front old new status who why s t =
-      let line = stop_text who (status_of_why why) why in
-      ⊎_elim (λ whole. (length line, whole.1 t ∙ ap (λ (l : Text). told.output old ++ l) (sym (take_all (length line) line (omega arith))))) (λ cut. cut.2 t) s.line
-
   -- the moments of a stop line
   pub said_moments : (start mid new : S) (q : State) (items done behind : List Item) (status : ℕ) (who : Option ℕ) (why : Why) → IsLeft told start mid q items done behind → IsNumberOf who behind → Says told mid new status who why
       → Leaves told start new (IsAfterSome q items (told.output start))
@@ -107,7 +103,7 @@ module _ {S : Type 0} (told : Ghosts S) where
       let line = stop_text who (status_of_why why) why in
       goes_on told.moment told.left_since told.disk told.output start mid new (IsAfterSome q items (told.output start)) (Giving (told.disk mid) (told.output mid) line) (l.moments t) (s.time t)
       (λ left out g. saying q items done behind (told.output start) out line left who why g.1.0 l.split (l.images t left g.0) number refl (g.1.1 ∙ ap (λ (o : Text). o ++ take g.1.0 line) (l.put t)))
-      (λ left image. (subst (λ (d : Disk). IsImage d left) (s.disk_is t) image, says_front mid new status who why s t))
+      (λ left image. (subst (λ (d : Disk). IsImage d left) (s.disk_is t) image, says_front told mid new status who why s t))
 
   -- once the store is closed, the same items are done and answered
   pub closed_left : (start now mid : S) (q : State) (items done behind : List Item) → IsTrue told.tells_reads → IsServed told start now q items done behind
@@ -122,10 +118,6 @@ module _ {S : Type 0} (told : Ghosts S) where
         moments = λ t. joins told.moment told.left_since told.disk told.output start now mid (IsAfterSome q items (told.output start)) (IsOld dir (told.output now)) (IsAfterSome q items (told.output start)) (s.moments t) (time t)
             (λ left out p. p) (λ left out p. some_answered q items done behind (told.output start) out left s.split (same_state dir (directory left) (fold q done) p.0 s.state) (p.1 ∙ s.put t));
       }
-
--- what a line says where the close was refused keeps its number
-pub closes_who : (line final : StopLine) (rest disk : Type 0) (who : Option ℕ) (why : Why) → ClosesTo line final rest disk → final ≡ Some (who, why) → who ≡ who_of line
-closes_who line final rest disk who why c is = ⊎_elim (λ same. ap who_of (sym is ∙ same.0)) (λ more. ⊎_elim (λ same. ap who_of (sym is ∙ same.0)) (λ other. ⊎_elim (λ m. ap who_of (sym is ∙ m.0)) (λ d. ap who_of (sym is ∙ d.0)) other) more) c
 
 -- a line begins with the number of what is behind, or `-`
 pub line_number : (line : StopLine) (input : Type 0) (limit : ℕ) (held : Contents) (all : List Item) (ending : StreamEnd) (q : State) (done behind : List Item) → IsLine line input limit held all ending q done behind → IsNumberOf (who_of line) behind

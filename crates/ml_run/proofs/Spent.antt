@@ -7,7 +7,8 @@ use Rattle.ml_journal.specs.Stores.{grown}
 use Rattle.ml_journal.specs.Spending.{Spends}
 use Rattle.ml_site.specs.Disk.{Contents}
 use Rattle.ml_site.specs.declared.site.Site.{Ghosts}
-use Rattle.ml_run.specs.Spending.{CostsAtMost, Costs, HasSpent}
+use Rattle.ml_ending.specs.Endings.{CostsAtMost}
+use Rattle.ml_run.specs.Spending.{Costs, HasSpent}
 
 -- nothing is spent at the start, on a log of one gate
 pub spent_none : (syncs bytes log : ℕ) → log ≤ 1 → HasSpent syncs syncs bytes bytes log 0 0

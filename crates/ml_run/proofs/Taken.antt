@@ -11,23 +11,24 @@ use Rattle.ml_plain.specs.Histories.{State, fold, text}
 use Rattle.ml_plain.specs.Replies.{is_status}
 use Rattle.ml_list.proofs.States.{fold-nil, text-nil}
 use Rattle.std.proofs.lemmas.List.{append-nil}
-use Rattle.ml_run.specs.declared.items.Items.{Items}
+use Rattle.ml_stream.specs.declared.items.Items.{Items}
 use Rattle.ml_run.specs.declared.groups.GroupEnd.{GroupEnd}
 use Rattle.ml_run.specs.declared.groups.GroupEnd.TheVariants as ends
-use Rattle.ml_run.specs.declared.lines.Why.{Why}
-use Rattle.ml_run.specs.declared.lines.Why.TheVariants as whys
-use Rattle.ml_run.specs.Stream.{got, StreamEnd, End, IsStream, item_at}
-use Rattle.ml_run.specs.Items.{place_of}
-use Rattle.ml_run.specs.Stops.{status_of_why}
-use Rattle.ml_run.specs.Lines.{stop_text}
+use Rattle.ml_ending.specs.declared.lines.Why.{Why}
+use Rattle.ml_ending.specs.declared.lines.Why.TheVariants as whys
+use Rattle.ml_stream.specs.Stream.{got, StreamEnd, End, IsStream, item_at}
+use Rattle.ml_stream.specs.Items.{place_of}
+use Rattle.ml_ending.specs.Stops.{status_of_why}
+use Rattle.ml_ending.specs.Lines.{stop_text}
 use Rattle.ml_run.specs.Groups.{HasWhole, TakesTo, TakesSome, IsNumberOf}
 use Rattle.ml_run.specs.Leaving.{HasState, IsAfterSome}
-use Rattle.ml_run.specs.Endings.{StopLine, ClosesTo, Says, Finishes, FromTaken}
-use Rattle.ml_run.proofs.Ahead.{stream_item}
+use Rattle.ml_ending.specs.Endings.{StopLine, ClosesTo, Says, Finishes}
+use Rattle.ml_run.specs.Endings.{FromTaken}
+use Rattle.ml_stream.proofs.Ahead.{stream_item}
 use Rattle.ml_run.proofs.Causes.{status_not}
 use Rattle.ml_run.proofs.Leaving.{same_state, other_list, reached_none, saying}
-use Rattle.ml_run.proofs.Locality.{item_local}
-use Rattle.ml_run.proofs.Served.{says_front}
+use Rattle.ml_stream.proofs.Locality.{item_local}
+use Rattle.ml_ending.proofs.Said.{says_front}
 use Rattle.ml_run.proofs.Taking.{spells_joined, spells_stream}
 
 -- whole items of some bytes are items of more bytes

@@ -1,26 +1,26 @@
 -- What a group takes from the source.
-use Rattle.std.proofs.Common.{◌≡◌, ℕ, ◌+◌, ◌-◌, ◌<◌, List, [], ◌∷◌, ◌++◌, length, Option, Some, None, ap, sym, refl, subst, ◌∙◌, arith, append_assoc, length-append}
+use Rattle.std.proofs.Common.{◌≡◌, ℕ, ◌+◌, ◌<◌, List, [], ◌∷◌, ◌++◌, length, Option, Some, None, ap, sym, refl, subst, ◌∙◌, arith, append_assoc, length-append}
 use Rattle.std.specs.Option.{option_to_list}
 use Rattle.std.proofs.lemmas.List.{append-nil}
 use Rattle.ml_base.specs.Bytes.{Text}
 use Rattle.ml_plain.specs.declared.Item.{Item}
-use Rattle.ml_run.specs.declared.items.Items.{Items}
+use Rattle.ml_stream.specs.declared.items.Items.{Items}
 use Rattle.ml_run.specs.declared.groups.GroupEnd.{GroupEnd}
 use Rattle.ml_run.specs.declared.groups.GroupEnd.TheVariants as ends
-use Rattle.ml_run.specs.declared.lines.Why.{Why}
-use Rattle.ml_run.specs.declared.lines.Why.TheVariants as whys
-use Rattle.ml_run.specs.declared.stream.StreamError.{StreamError}
-use Rattle.ml_run.specs.declared.stream.StreamError.TheVariants.{Bad, Short, Fault, Memory}
-use Rattle.ml_run.specs.Stream.{got, StreamEnd, End, IsStream, item_at}
-use Rattle.ml_run.specs.Reading.{Breaks, IsNoItem}
-use Rattle.ml_run.specs.Items.{HasLeft, place_of, ahead_of}
+use Rattle.ml_ending.specs.declared.lines.Why.{Why}
+use Rattle.ml_ending.specs.declared.lines.Why.TheVariants as whys
+use Rattle.ml_stream.specs.declared.stream.StreamError.{StreamError}
+use Rattle.ml_stream.specs.declared.stream.StreamError.TheVariants.{Bad, Short, Fault, Memory}
+use Rattle.ml_stream.specs.Stream.{got, StreamEnd, End, IsStream, item_at}
+use Rattle.ml_stream.specs.Reading.{Breaks, IsNoItem}
+use Rattle.ml_stream.specs.Items.{HasLeft, place_of, ahead_of}
 use Rattle.ml_run.specs.Stops.{why_of_stream}
 use Rattle.ml_run.specs.Groups.{Spells, TakesTo, Takes, IsPartReason}
-use Rattle.ml_run.proofs.Ahead.{no_bytes_end}
-use Rattle.ml_run.proofs.Cuts.{left_own}
+use Rattle.ml_stream.proofs.Ahead.{no_bytes_end}
+use Rattle.ml_stream.proofs.Cuts.{left_own}
 use Rattle.ml_run.proofs.Grouping.{number_cut}
-use Rattle.ml_run.proofs.Locality.{item_local}
-use Rattle.ml_run.proofs.Streams.{streams}
+use Rattle.ml_stream.proofs.Locality.{item_local}
+use Rattle.ml_stream.proofs.Streams.{streams}
 
 -- two rows of items
 pub spells_joined : (place mid end : ℕ) (one two : Text) (xs ys : List Item) → Spells place one xs mid → Spells mid two ys end → Spells place (one ++ two) (xs ++ ys) end

@@ -15,16 +15,17 @@ use Rattle.ml_plain.specs.declared.Item.{Item}
 use Rattle.ml_plain.specs.Directory.{IsState}
 use Rattle.ml_plain.specs.Histories.{State, fold, text, last_from}
 use Rattle.ml_list.proofs.States.{fold-append, last-append, fold-nil, text-nil, last-nil}
-use Rattle.ml_run.specs.declared.items.Items.{Items}
+use Rattle.ml_stream.specs.declared.items.Items.{Items}
 use Rattle.ml_run.specs.declared.groups.Group.{Group}
 use Rattle.ml_run.specs.declared.groups.GroupEnd.{GroupEnd}
-use Rattle.ml_run.specs.declared.lines.Why.{Why}
-use Rattle.ml_run.specs.Stream.{StreamEnd, End}
+use Rattle.ml_ending.specs.declared.lines.Why.{Why}
+use Rattle.ml_stream.specs.Stream.{StreamEnd, End}
 use Rattle.ml_run.specs.Groups.{Gathers, Holds, IsStop, IsNumberOf, IsAhead, HasReason}
 use Rattle.ml_journal.specs.Calls.{Leaves}
 use Rattle.ml_run.specs.Leaving.{HasState, IsAfterSome, IsSettling, IsServed, IsLeft}
 use Rattle.ml_run.specs.Spending.{IsRefused}
-use Rattle.ml_run.specs.Endings.{StopLine, who_of, Runs, Finishes, Refuses, IsServing, IsLine}
+use Rattle.ml_ending.specs.Endings.{StopLine, who_of, Finishes, Refuses}
+use Rattle.ml_run.specs.Endings.{Runs, IsServing, IsLine}
 use Rattle.ml_run.proofs.Leaving.{take_split, same_state, other_list, txn_state, some_answered}
 use Rattle.ml_site.proofs.Steps.{weaker}
 use Rattle.std.proofs.lemmas.List.{append-nil}

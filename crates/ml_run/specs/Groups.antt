@@ -13,16 +13,16 @@ use Rattle.ml_plain.specs.Replies.{is_status, line, status_of}
 use Rattle.ml_list.specs.Damage.{IsNamed}
 use Rattle.ml_plain.specs.Directory.{IsState}
 use Rattle.ml_plain.specs.Histories.{State, fold, text, last_from}
-use Rattle.ml_run.specs.declared.items.Items.{Items}
+use Rattle.ml_stream.specs.declared.items.Items.{Items}
 use Rattle.ml_run.specs.declared.groups.Group.{Group}
 use Rattle.ml_run.specs.declared.groups.GroupEnd.{GroupEnd}
 use Rattle.ml_run.specs.declared.groups.GroupEnd.TheVariants as ends
-use Rattle.ml_run.specs.declared.lines.Why.{Why}
-use Rattle.ml_run.specs.declared.lines.Why.TheVariants as whys
-use Rattle.ml_run.specs.declared.stream.StreamError.TheVariants as errors
-use Rattle.ml_run.specs.Items.{HasLeft, place_of, ahead_of}
-use Rattle.ml_run.specs.Stops.{log_name}
-use Rattle.ml_run.specs.Stream.{StreamEnd, End, Broken, IsStream, item_at, got}
+use Rattle.ml_ending.specs.declared.lines.Why.{Why}
+use Rattle.ml_ending.specs.declared.lines.Why.TheVariants as whys
+use Rattle.ml_stream.specs.declared.stream.StreamError.TheVariants as errors
+use Rattle.ml_stream.specs.Items.{HasLeft, place_of, ahead_of}
+use Rattle.ml_ending.specs.Stops.{log_name}
+use Rattle.ml_stream.specs.Stream.{StreamEnd, End, Broken, IsStream, item_at, got}
 
 -- a row with others laid over it one by one: each in the place of the newest one of its file, or last where there is none
 abbrev pub laid_all : List Put → List Put → List Put

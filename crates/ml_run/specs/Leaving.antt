@@ -3,7 +3,7 @@ use Rattle.std.specs.Prelude.{◌≡◌, ◌⊎◌, ℕ, IsTrue, List, ◌++◌,
 use Rattle.ml_base.specs.Bytes.{Text}
 use Rattle.ml_base.specs.Dir.{Dir}
 use Rattle.ml_base.specs.declared.puts.Put.{Put}
-use Rattle.ml_site.specs.Disk.{Contents, Disk, IsImage}
+use Rattle.ml_site.specs.Disk.{Contents, IsImage}
 use Rattle.ml_site.specs.declared.site.Site.{Ghosts}
 use Rattle.ml_journal.specs.Calls.{Leaves}
 use Rattle.ml_journal.specs.Log.{directory}
@@ -13,9 +13,9 @@ use Rattle.ml_journal.specs.declared.store.Store.{Store}
 use Rattle.ml_plain.specs.declared.Item.{Item}
 use Rattle.ml_plain.specs.Directory.{IsState}
 use Rattle.ml_plain.specs.Histories.{State, fold, text}
-use Rattle.ml_run.specs.declared.lines.Why.{Why}
-use Rattle.ml_run.specs.Lines.{stop_text}
-use Rattle.ml_run.specs.Stops.{status_of_why}
+use Rattle.ml_ending.specs.declared.lines.Why.{Why}
+use Rattle.ml_ending.specs.Lines.{stop_text}
+use Rattle.ml_ending.specs.Stops.{status_of_why}
 use Rattle.ml_run.specs.Groups.{IsNumberOf}
 
 -- the directory that a store shows
@@ -60,11 +60,6 @@ pub record IsAfterSome (q : State) (items : List Item) (before : Text) (left : C
   pub split : items ≡ first ++ rest
   pub state : HasState (directory left) (fold q first)
   pub put : AnswersOut q first before out ⊎ LineOut q first rest before out
-
--- what a crash at the start may leave, and some first bytes of one stop line at most
-pub record IsUnopened (disk : Disk) (before : Text) (left : Contents) (out : Text) : Type 0 where
-  pub image : IsImage disk left
-  pub put : (out ≡ before) ⊎ ((front more : Text) × ((next : List Item) → IsStopLine next (front ++ more)) × (out ≡ before ++ front))
 
 -- behind the answered items some more are done
 pub record Reached (q : State) (done behind : List Item) (left : Contents) : Type 0 where

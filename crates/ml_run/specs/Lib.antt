@@ -1,8 +1,3 @@
-pub mod Stream
-pub mod Reading
-pub mod Items
-pub mod Lines
-pub mod Writing
 pub mod Stops
 pub mod Groups
 pub mod Leaving

@@ -3,14 +3,8 @@ use Rattle.std.specs.Prelude.{◌≡◌, ℕ, ◌+◌, ◌*◌, ◌≤◌, ◌<�
 use Rattle.ml_base.specs.declared.puts.Put.{Put}
 use Rattle.ml_journal.specs.Records.{content_size}
 use Rattle.ml_journal.specs.Stores.{grown}
-use Rattle.ml_run.specs.declared.lines.Why.{Why}
-use Rattle.ml_run.specs.declared.lines.Why.TheVariants as whys
-
--- at most so many syncs more, and no log byte less
-pub record CostsAtMost (most : ℕ) (syncs syncs' bytes bytes' : ℕ) : Type 0 where
-  pub few : syncs' ≤ syncs + most
-  pub stay : syncs ≤ syncs'
-  pub bytes_stay : bytes ≤ bytes'
+use Rattle.ml_ending.specs.declared.lines.Why.{Why}
+use Rattle.ml_ending.specs.declared.lines.Why.TheVariants as whys
 
 -- what a group costs: two syncs where the log stays within its length, and else three more, with so many bytes paid
 pub record Costs (syncs syncs' bytes bytes' log log' : ℕ) (txn : List Put) : Type 0 where

@@ -10,18 +10,18 @@ ghost use Rattle.ml_list.specs.Damage.{IsDamaged};
 ghost use Rattle.ml_plain.specs.Directory.{IsState};
 ghost use Rattle.ml_plain.specs.Histories.{State};
 ghost use Rattle.ml_run.specs.Groups.{IsGroup, IsEmptyGroup, IsAhead, Gathers, EndsWithReason, EndsNumbered, IsFullGroup, EndsInTime, IsEnd, Takes, TakesSome};
-ghost use Rattle.ml_run.specs.Items.{error_of, place_of, ahead_of, HasLeft};
+ghost use Rattle.ml_stream.specs.Items.{error_of, place_of, ahead_of, HasLeft};
 ghost use Rattle.ml_run.specs.Leaving.{dir_of};
 ghost use Rattle.ml_run.specs.Stops.{why_of_stream};
-ghost use Rattle.ml_run.specs.Stream.{StreamEnd};
+ghost use Rattle.ml_stream.specs.Stream.{StreamEnd};
 ghost use Rattle.ml_run.specs.declared.groups.GroupEnd.TheVariants.{Full};
 
 use crate::adding::add_item;
 use crate::groups::{Group, GroupEnd, MAX_ITEMS, MAX_SIZE};
-use crate::lines::Why;
-use crate::{Items, StreamError};
+use ml_ending::Why;
 use ml_journal::Store;
 use ml_site::{Site, Source};
+use ml_stream::{Items, StreamError};
 use std::alloc::Global;
 
 // Reads and applies the items of a group, at most `room` of them, over a group without items. Where no more are to be

@@ -6,8 +6,9 @@ ghost use Rattle.ml_plain.specs.Replies.{is_code, is_status, line, status_of};
 ghost use Rattle.ml_run.specs.Groups.{IsGroup, IsEmptyGroup, HasNext, first_number};
 
 use crate::laying::laid;
-use crate::lines::{Why, answer_line};
+use crate::lines::answer_line;
 use ml_base::{Bytes, Put, Txn};
+use ml_ending::Why;
 use ml_plain::{Reply, status};
 use std::alloc::Global;
 

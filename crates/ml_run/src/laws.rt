@@ -1,32 +1,8 @@
-// What holds of every stream.
-ghost use Rattle.std.specs.Prelude.{◌≡◌, ℕ, List, ◌+◌, ◌++◌, Some, length};
-ghost use Rattle.ml_base.specs.Bytes.{Text};
-ghost use Rattle.ml_plain.specs.declared.Item.{Item as TheItem};
-ghost use Rattle.ml_run.specs.Stream.{StreamEnd, IsStream, item_at, got};
-ghost use Rattle.ml_plain.specs.Items.{IsItem};
+// What holds of every row of runs.
+ghost use Rattle.std.specs.Prelude.{List};
 ghost use Rattle.ml_plain.specs.OnceLaws.{Joined};
 ghost use Rattle.ml_plain.specs.Plain.{Plain};
 ghost use Rattle.ml_plain.specs.Runs.{Run};
-ghost use Rattle.ml_run.specs.Writing.{IsRead, spelled_item};
-
-/// Every row of bytes is a stream of some items, with some end, and of no others.
-pub fn law_streams()
-    ensures some { (place : ℕ) (bytes : Text) → (items : List TheItem) × (ending : StreamEnd) × IsStream place bytes items ending }
-    ensures one { (place : ℕ) (bytes : Text) (items others : List TheItem) (ending other : StreamEnd) →
-        IsStream place bytes items ending → IsStream place bytes others other → (items ≡ others) × (ending ≡ other) }
-{}
-
-/// What is written of an item is read again as that item, whatever follows it.
-pub fn law_items()
-    ensures { (place : ℕ) (item : TheItem) (rest : Text) → IsItem item → IsRead item.act →
-        item_at place (spelled_item item ++ rest) ≡ got (Some item) (place + length (spelled_item item)) rest }
-{}
-
-/// An item is read of its own bytes, whatever follows them.
-pub fn law_fronts()
-    ensures { (place next : ℕ) (bytes rest : Text) (item : TheItem) → item_at place bytes ≡ got (Some item) next rest →
-        (front : Text) × (bytes ≡ front ++ rest) × ((more : Text) → item_at place (front ++ more) ≡ got (Some item) next more) }
-{}
 
 /// Whatever numbers come how often in whatever runs: let runs begin on the list `p` that was just made, each on the state that
 /// the one before it left, which has done some first items of its own. Then the last state is the one after those items joined;

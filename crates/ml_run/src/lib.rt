@@ -1,27 +1,20 @@
-//! The stream of items, and the run that answers it.
+//! The run that answers a stream of items, and the making of a list.
 #![tactic(auto)]
 
 mod adding;
-mod closing;
 mod gathering;
 mod groups;
-mod items;
 mod laws;
 mod laying;
 mod lines;
 mod making;
-mod reader;
 mod running;
 mod serving;
 mod settling;
-mod stream;
-mod writing;
 
-pub use closing::stop;
-pub use items::Items;
-pub use laws::{law_fronts, law_items, law_joined, law_streams};
-pub use lines::{Why, answer_line, stop_line};
+pub use laws::law_joined;
+pub use lines::answer_line;
 pub use making::make;
-pub use running::{Ending, run};
-pub use stream::StreamError;
-pub use writing::write_item;
+pub use ml_ending::{Ending, Why, stop, stop_line};
+pub use ml_stream::{Items, StreamError, law_fronts, law_items, law_streams, write_item};
+pub use running::run;

@@ -1,45 +1,10 @@
-// The lines that are put out. They take no memory.
-ghost use Rattle.std.specs.Prelude.{◌≡◌, ◌≤◌, ◌+◌, ◌++◌, IsTrue, length, take};
-ghost use Rattle.std.specs.Fmt.{decimal};
-ghost use Rattle.ml_base.specs.Name.{is_in_table, path_of};
+// The line that answers an item. It takes no memory.
+ghost use Rattle.std.specs.Prelude.{◌≡◌, ◌≤◌, ◌+◌, ◌++◌, IsTrue, take};
 ghost use Rattle.ml_plain.specs.Replies.{is_code, line, number_part};
-ghost use Rattle.ml_run.specs.Lines.{HasPath, number_text, stop_text, why_text};
 
-use ml_base::{Name, path, put_number, put_piece};
+use ml_base::{put_number, put_piece};
+use ml_ending::put_status;
 use ml_plain::{Reply, has_number, status, word};
-
-/// Why a run ends early, or gives one line alone.
-#[derive(Clone, Copy, Debug, PartialEq, Eq)]
-pub enum Why {
-    /// The words are no command.
-    Usage,
-    /// The stream has a wrong byte: the place, from 0, where the element begins that it belongs to.
-    Bad(u64),
-    /// The input ends too early: the place, from 0, where the element begins that it cuts off.
-    Short(u64),
-    /// A word of the command holds no number, set or address that it must hold.
-    Words,
-    /// The input is longer than it may be.
-    Long,
-    /// The clock can't be read.
-    Clock,
-    /// Memory is wanting.
-    Memory,
-    /// There are more items than were asked for.
-    More,
-    /// The input can't be read.
-    Input,
-    /// There is no list in the folder.
-    NoList,
-    /// A file isn't in its grammar.
-    At(Name),
-    /// There is a list in the folder already.
-    There,
-    /// What was asked for isn't there.
-    Absent,
-    /// The disk refuses.
-    Disk,
-}
 
 /// Writes the line that answers an item at the front of `out`, and answers its length.
 pub fn answer_line(number: u64, reply: Reply, out: &mut [u8; 64]) -> usize
@@ -71,89 +36,6 @@ fn put_reply_number(out: &mut [u8; 64], at: usize, reply: Reply) -> usize
     }
 }
 
-// An exit status has three digits at most.
-fn put_status(out: &mut [u8; 64], at: usize, status: u8) -> usize
-    requires { at ≤ 44 }
-    ensures place { result ≤ at + 3 }
-    ensures text { take result out.new ≡ take at out.old ++ decimal status }
-{
-    put_number(out, at, status as u64)
-}
-
-/// Writes the line that ends a run early at the front of `out`, and answers its length: the number of the item
-/// in hand, if there is one, the exit status, and why. The name of `At` stands in the table of files.
-pub fn stop_line(number: Option<u64>, status: u8, why: Why, out: &mut [u8; 64]) -> usize
-    requires { HasPath why }
-    ensures fits { result ≤ 64 }
-    ensures text { take result out.new ≡ stop_text number status why }
-{
-    let first = put_item_number(out, number);
-    let second = put_piece(out, first, b" ");
-    let third = put_status(out, second, status);
-    let fourth = put_piece(out, third, b" ");
-    let fifth = put_why(out, fourth, why);
-    put_piece(out, fifth, b"\n")
-}
-
-// The number of an item, or `-`.
-fn put_item_number(out: &mut [u8; 64], number: Option<u64>) -> usize
-    ensures place { result ≤ 20 }
-    ensures text { take result out.new ≡ number_text number }
-{
-    match number {
-        Some(number) => put_number(out, 0, number),
-        None => put_piece(out, 0, b"-"),
-    }
-}
-
-// What is said of why a run ends.
-fn put_why(out: &mut [u8; 64], at: usize, why: Why) -> usize
-    requires at { at ≤ 25 }
-    requires path { HasPath why }
-    ensures place { result ≤ 63 }
-    ensures text { take result out.new ≡ take at out.old ++ why_text why }
-{
-    match why {
-        Why::Usage => put_piece(out, at, b"usage"),
-        Why::Bad(place) => put_place(out, at, b"bad ", place),
-        Why::Short(place) => put_place(out, at, b"short ", place),
-        Why::Words => put_piece(out, at, b"words"),
-        Why::Long => put_piece(out, at, b"long"),
-        Why::Clock => put_piece(out, at, b"clock"),
-        Why::Memory => put_piece(out, at, b"memory"),
-        Why::More => put_piece(out, at, b"more"),
-        Why::Input => put_piece(out, at, b"input"),
-        Why::NoList => put_piece(out, at, b"nolist"),
-        Why::At(name) => put_path(out, at, name),
-        Why::There => put_piece(out, at, b"there"),
-        Why::Absent => put_piece(out, at, b"absent"),
-        Why::Disk => put_piece(out, at, b"disk"),
-    }
-}
-
-// A word, and the place in the stream that it is said of.
-fn put_place(out: &mut [u8; 64], at: usize, fault: &[u8], place: u64) -> usize
-    requires at { at ≤ 25 }
-    requires fault { length fault.now ≤ 6 }
-    ensures place { result ≤ 63 }
-    ensures text { take result out.new ≡ take at out.old ++ fault.now ++ decimal place }
-{
-    let digits = put_piece(out, at, fault);
-    put_number(out, digits, place)
-}
-
-// The path of a file: at most 38 bytes.
-fn put_path(out: &mut [u8; 64], at: usize, name: Name) -> usize
-    requires at { at ≤ 25 }
-    requires name { IsTrue (is_in_table name) }
-    ensures place { result ≤ 63 }
-    ensures text { take result out.new ≡ take at out.old ++ path_of name }
-{
-    let mut text = [0u8; 48];
-    let len = path(name, &mut text);
-    put_piece(out, at, &text[..len])
-}
-
 #[cfg(test)]
 mod tests {
     use super::*;
@@ -182,40 +64,5 @@ mod tests {
             &out[..len],
             b"18446744073709551615 0 unsubscribed\n".as_slice()
         );
-    }
-
-    fn stops_with(number: Option<u64>, status: u8, why: Why, expected: &[u8]) -> bool
-        requires { HasPath why }
-    {
-        let mut out = [0u8; 64];
-        let len = stop_line(number, status, why, &mut out);
-        &out[..len] == expected
-    }
-
-    #[test]
-    fn each_reason_stands_on_its_line(rt: HostRuntime) {
-        let bucket = Name { kind: 4, at: 52 };
-        assert!(rt; stops_with(None, 64, Why::Usage, b"- 64 usage\n"));
-        assert!(rt; stops_with(None, 65, Why::Bad(0), b"- 65 bad 0\n"));
-        assert!(rt; stops_with(None, 65, Why::Short(69), b"- 65 short 69\n"));
-        assert!(rt; stops_with(None, 65, Why::Words, b"- 65 words\n"));
-        assert!(rt; stops_with(None, 65, Why::Long, b"- 65 long\n"));
-        assert!(rt; stops_with(None, 69, Why::Clock, b"- 69 clock\n"));
-        assert!(rt; stops_with(Some(7), 71, Why::Memory, b"7 71 memory\n"));
-        assert!(rt; stops_with(None, 72, Why::More, b"- 72 more\n"));
-        assert!(rt; stops_with(None, 74, Why::Input, b"- 74 input\n"));
-        assert!(rt; stops_with(None, 75, Why::NoList, b"- 75 nolist\n"));
-        assert!(rt; stops_with(Some(0), 75, Why::At(Name::LOG), b"0 75 log\n"));
-        assert!(rt;
-            stops_with(
-                Some(u64::MAX),
-                75,
-                Why::At(bucket),
-                b"18446744073709551615 75 digest/subscribers/t\n"
-            )
-        );
-        assert!(rt; stops_with(None, 100, Why::There, b"- 100 there\n"));
-        assert!(rt; stops_with(None, 100, Why::Absent, b"- 100 absent\n"));
-        assert!(rt; stops_with(Some(12), 111, Why::Disk, b"12 111 disk\n"));
     }
 }

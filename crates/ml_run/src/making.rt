@@ -13,17 +13,14 @@ ghost use Rattle.ml_journal.specs.Log.{directory};
 ghost use Rattle.ml_journal.specs.Stores.{site_of};
 ghost use Rattle.ml_plain.specs.Histories.{fresh};
 ghost use Rattle.ml_plain.specs.Plain.{new_list};
-ghost use Rattle.ml_run.specs.Endings.{Opens, Finishes};
+ghost use Rattle.ml_ending.specs.Endings.{Opens, Finishes, Tells, TellsClosed};
 ghost use Rattle.ml_run.specs.Leaving.{HasState};
-ghost use Rattle.ml_run.specs.Lines.{HasPath};
-ghost use Rattle.ml_run.specs.Making.{IsMaking, Makes, Tells, TellsClosed, is_make_status, made_text};
+ghost use Rattle.ml_ending.specs.Lines.{HasPath};
+ghost use Rattle.ml_run.specs.Making.{IsMaking, Makes, is_make_status, made_text};
 
-use crate::closing::{closed, finish, stop};
-use crate::lines::Why;
-use crate::running::not_opened;
-use crate::settling::why_refused;
 use ml_base::{Bytes, Files, FilesError, Name, Txn};
 use ml_config::{Config, initial};
+use ml_ending::{Why, finish, not_opened, stop, told, why_refused};
 use ml_journal::Store;
 use ml_site::Site;
 use std::alloc::{AllocError, Global};
@@ -140,16 +137,6 @@ fn committed<S: Site>(alloc: Global, store: Store<S>, txn: &Txn, line: &[u8]) ->
     }
 }
 
-// Closes the store of a list that was committed, and tells of it.
-fn told<S: Site>(alloc: Global, store: Store<S>, line: &[u8]) -> (u8, S)
-    ensures { TellsClosed ⟦<S as Site>⟧ (site_of store) result.1 result.0 line.now }
-{
-    match closed(alloc, store, None) {
-        (Some((_, why)), site) => stop(site, why),
-        (None, site) => tell(site, line),
-    }
-}
-
 // Closes the store of a list that is not made, and tells why.
 fn unmade<S: Site>(alloc: Global, store: Store<S>, why: Why) -> (u8, S)
     requires { HasPath why }
@@ -157,15 +144,4 @@ fn unmade<S: Site>(alloc: Global, store: Store<S>, why: Why) -> (u8, S)
 {
     let (ending, site) = finish(alloc, store, Some((None, why)), 0, 0);
     (ending.status, site)
-}
-
-// Puts the line out that tells of a list. The status is 0, or 73 where the output fails.
-fn tell<S: Site>(site: S, line: &[u8]) -> (u8, S)
-    ensures { Tells ⟦<S as Site>⟧ site result.1 result.0 line.now }
-{
-    let mut site = site;
-    match site.give(line) {
-        Ok(()) => (0, site),
-        Err(_) => (73, site),
-    }
 }

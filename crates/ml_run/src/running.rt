@@ -8,19 +8,18 @@ ghost use Rattle.ml_plain.specs.declared.Item.{Item as TheItem};
 ghost use Rattle.ml_journal.specs.Log.{directory};
 ghost use Rattle.ml_journal.specs.Stores.{site_of};
 ghost use Rattle.ml_plain.specs.Histories.{State};
-ghost use Rattle.ml_run.specs.Endings.{AnswersAll, Begins, Runs, Opens, Names, MissesList, FromTaken};
+ghost use Rattle.ml_ending.specs.Endings.{Opens, MissesList};
+ghost use Rattle.ml_run.specs.Endings.{AnswersAll, Begins, Runs, Names, FromTaken};
 ghost use Rattle.ml_journal.specs.Calls.{Leaves};
 ghost use Rattle.ml_run.specs.Leaving.{IsAfterSome};
-ghost use Rattle.ml_run.specs.Stops.{is_run_status, why_of_open};
-ghost use Rattle.ml_run.specs.Stream.{StreamEnd, End};
+ghost use Rattle.ml_ending.specs.Stops.{why_of_open};
+ghost use Rattle.ml_run.specs.Stops.{is_run_status};
+ghost use Rattle.ml_stream.specs.Stream.{StreamEnd, End};
 
-use crate::adding::why_of;
-pub use crate::closing::Ending;
-use crate::closing::{finish, say};
-use crate::lines::Why;
 use crate::serving::serve;
-use ml_base::{Bytes, Name};
-use ml_journal::{OpenError, Store};
+use ml_base::Bytes;
+use ml_ending::{Ending, Why, finish, not_opened, say, why_of};
+use ml_journal::Store;
 use ml_list::load;
 use ml_site::{Site, Source};
 use std::alloc::{AllocError, Global};
@@ -146,16 +145,5 @@ fn opened<I: Source, S: Site>(
         Ok(Some(_)) => serve(alloc, limit, input, store, buffer),
         Ok(None) => finish(alloc, store, Some((None, Why::NoList)), 0, 0),
         Err(error) => finish(alloc, store, Some((None, why_of(error))), 0, 0),
-    }
-}
-
-// Why a run ends whose store was not opened.
-pub(crate) fn not_opened(error: OpenError) -> Why
-    ensures { result ≡ why_of_open error }
-{
-    match error {
-        OpenError::Fault => Why::Disk,
-        OpenError::Damaged => Why::At(Name { kind: 0, at: 0 }),
-        OpenError::Memory => Why::Memory,
     }
 }

@@ -11,16 +11,16 @@ ghost use Rattle.ml_run.specs.Endings.{Begins, Runs, Names, FromTaken};
 ghost use Rattle.ml_journal.specs.Calls.{Leaves};
 ghost use Rattle.ml_run.specs.Leaving.{dir_of, IsAfterSome};
 ghost use Rattle.ml_run.specs.Stops.{is_run_status};
-ghost use Rattle.ml_run.specs.Stream.{StreamEnd};
+ghost use Rattle.ml_stream.specs.Stream.{StreamEnd};
 
-use crate::Items;
-use crate::closing::{Ending, finish, refused};
 use crate::gathering::gather;
 use crate::groups::{GroupEnd, empty_group};
 use crate::settling::settle;
 use ml_base::Bytes;
+use ml_ending::{Ending, finish, refused};
 use ml_journal::Store;
 use ml_site::{Site, Source};
+use ml_stream::Items;
 use std::alloc::Global;
 
 // Answers the items of a stream in groups, at most `limit` of them. The buffer will hold the answers of a group.

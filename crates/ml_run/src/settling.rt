@@ -10,12 +10,13 @@ ghost use Rattle.ml_journal.specs.Stores.{site_of, the_dir, grown};
 ghost use Rattle.ml_journal.specs.Calls.{Leaves};
 ghost use Rattle.ml_run.specs.Leaving.{IsSettling};
 ghost use Rattle.ml_journal.specs.Spending.{Spends};
-ghost use Rattle.ml_run.specs.Spending.{CostsAtMost, IsRefused};
-ghost use Rattle.ml_run.specs.Stops.{why_of_commit};
+ghost use Rattle.ml_ending.specs.Endings.{CostsAtMost};
+ghost use Rattle.ml_run.specs.Spending.{IsRefused};
+ghost use Rattle.ml_ending.specs.Stops.{why_of_commit};
 
-use crate::lines::Why;
 use ml_base::Txn;
-use ml_journal::{CommitError, Store};
+use ml_ending::{Why, why_refused};
+use ml_journal::Store;
 use ml_site::Site;
 use std::alloc::Global;
 
@@ -84,15 +85,5 @@ fn answer<S: Site>(store: Store<S>, lines: &[u8]) -> Result<Store<S>, (Option<Wh
     match store.give(lines) {
         Ok(()) => Ok(store),
         Err(_) => Err((None, store.leave())),
-    }
-}
-
-// Why a run ends whose commit or closing was refused.
-pub(crate) fn why_refused(error: CommitError) -> Why
-    ensures { result ≡ why_of_commit error }
-{
-    match error {
-        CommitError::Fault => Why::Disk,
-        CommitError::Memory => Why::Memory,
     }
 }

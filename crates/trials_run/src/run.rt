@@ -1,8 +1,8 @@
 // Readers of items, over sources in memory.
 use ml_base::{Bytes, Numbers, Set};
 use ml_plain::{Act, Item};
-use ml_run::{Items, StreamError};
 use ml_site::{Failed, MemSource, Source};
+use ml_stream::{Items, StreamError};
 use std::alloc::{AllocError, Global};
 use std::test::Fail;
 

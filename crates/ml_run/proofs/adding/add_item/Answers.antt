@@ -17,7 +17,7 @@ use Rattle.ml_run.specs.Leaving.{dir_of}
 use Rattle.ml_run.proofs.Grouping.{same_group, added_next, next_over, at_ok, at_err, part_reason, when_told}
 use Rattle.ml_run.specs.Groups.{HasReason, IsOfItem, IsPartReason}
 use Rattle.ml_run.proofs.ItemPaths.{of_item, part_of_item}
-use Rattle.ml_run.specs.declared.lines.Why.{Why}
+use Rattle.ml_ending.specs.declared.lines.Why.{Why}
 use Rattle.ml_run.proofs.adding.add_item.Goals as goal
 
 pub returns-in-Ok-clause-done : goal.returns-in-Ok-clause-done

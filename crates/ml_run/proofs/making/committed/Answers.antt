@@ -2,10 +2,10 @@ use Rattle.std.proofs.Common.{◌≡◌, ◌⊎◌, subst, sym}
 use Rattle.ml_journal.specs.Calls.{ChangesDirectory}
 use Rattle.ml_journal.specs.Log.{directory}
 use Rattle.ml_journal.specs.Stores.{site_of}
-use Rattle.ml_run.specs.declared.lines.Why.{Why}
-use Rattle.ml_run.specs.declared.lines.Why.TheVariants as whys
-use Rattle.ml_run.proofs.Opening.{at_site}
-use Rattle.ml_run.proofs.MadeLists.{told_makes, told_making, said_makes, said_making, commit_making, commit_images, commit_why, either_unmade}
+use Rattle.ml_ending.specs.declared.lines.Why.{Why}
+use Rattle.ml_ending.specs.declared.lines.Why.TheVariants as whys
+use Rattle.ml_ending.proofs.Said.{at_site, commit_why}
+use Rattle.ml_run.proofs.MadeLists.{told_makes, told_making, said_makes, said_making, commit_making, commit_images, either_unmade}
 use Rattle.ml_run.proofs.making.committed.Goals as goal
 
 pub returns-in-Ok-clause-makes : goal.returns-in-Ok-clause-makes

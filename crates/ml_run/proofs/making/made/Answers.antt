@@ -1,7 +1,7 @@
 use Rattle.std.proofs.Common.{ap}
 use Rattle.ml_journal.specs.Log.{directory}
 use Rattle.ml_journal.specs.Stores.{site_of}
-use Rattle.ml_run.specs.declared.lines.Why.TheVariants as whys
+use Rattle.ml_ending.specs.declared.lines.Why.TheVariants as whys
 use Rattle.ml_run.proofs.MadeLists.{finished_making, read_making, read_then, read_makes}
 use Rattle.ml_run.proofs.making.made.Goals as goal
 

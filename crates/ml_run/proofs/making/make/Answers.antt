@@ -2,10 +2,10 @@ use Rattle.std.proofs.Common.{IsTrue, ◌≡◌, inl, ⊎_elim, refl, subst, sym
 use Rattle.ml_config.specs.FirstFiles.{first_puts}
 use Rattle.ml_journal.specs.Log.{directory}
 use Rattle.ml_journal.specs.Stores.{site_of}
-use Rattle.ml_run.specs.declared.lines.Why.{Why}
-use Rattle.ml_run.specs.declared.lines.Why.TheVariants as whys
+use Rattle.ml_ending.specs.declared.lines.Why.{Why}
+use Rattle.ml_ending.specs.declared.lines.Why.TheVariants as whys
 use Rattle.ml_run.specs.Making.{IsUnmade, made_text}
-use Rattle.ml_run.proofs.Opening.{at_site, untouched, unopened_said}
+use Rattle.ml_ending.proofs.Said.{at_site, untouched, unopened_said}
 use Rattle.ml_run.proofs.MadeLists.{made_state, said_makes, opened_makes, opened_making, refused_making, making_from_rest, open_unmade}
 use Rattle.ml_run.proofs.making.make.Goals as goal
 

@@ -8,8 +8,8 @@ use Rattle.ml_journal.specs.Log.{directory}
 use Rattle.ml_journal.specs.Kept.{kept_itself}
 use Rattle.ml_journal.specs.Stores.{site_of}
 use Rattle.ml_list.proofs.States.{last-nil}
-use Rattle.ml_run.specs.declared.lines.Why.{Why}
-use Rattle.ml_run.specs.declared.lines.Why.TheVariants as whys
+use Rattle.ml_ending.specs.declared.lines.Why.{Why}
+use Rattle.ml_ending.specs.declared.lines.Why.TheVariants as whys
 use Rattle.ml_run.specs.Leaving.{dir_of, IsAfterSome}
 use Rattle.ml_run.specs.Endings.{Begins}
 use Rattle.ml_run.proofs.Leaving.{shown}
@@ -19,11 +19,11 @@ use Rattle.ml_base.specs.Dir.{Dir}
 use Rattle.ml_journal.specs.Stores.{the_dir}
 use Rattle.ml_config.specs.ConfigFile.{config_name}
 use Rattle.ml_list.specs.Damage.{IsDamaged}
-use Rattle.ml_run.specs.Stops.{status_of_why}
+use Rattle.ml_ending.specs.Stops.{status_of_why}
 use Rattle.ml_run.specs.Endings.{IsFound}
 use Rattle.ml_run.proofs.Named.{finished_named}
 use Rattle.ml_run.proofs.Opening.{part_found}
-use Rattle.ml_run.proofs.Causes.{finished_gate}
+use Rattle.ml_ending.proofs.Finished.{finished_gate}
 use Rattle.ml_run.proofs.Missing.{none_why, finished_misses, finished_fails, misses_before}
 use Rattle.ml_plain.specs.declared.Item.{Item}
 use Rattle.ml_journal.specs.Calls.{Leaves}
@@ -87,10 +87,10 @@ returns-in-Err-clause-named g c t files found is =
     (subst (λ (d : Dir). OnDamaged c.in-Err.error (IsDamaged d)) (ap the_dir found) (at_err (λ (e : PartError). OnDamaged e (IsDamaged (dir_of c.args.store))) c.load.result c.in-Err.error (c.load.ensures.names.damaged told) c.in-Err.is))))
 
 pub returns-in-Ok-None-clause-gate : goal.returns-in-Ok-None-clause-gate
-returns-in-Ok-None-clause-gate g c one two three told = finished_gate g.S.Site (site_of c.load.new.files) c.finish.result.1 (Some (None, whys.NoList)) c.finish.result.0.status 0 c.finish.ensures.finishes refl one two three told
+returns-in-Ok-None-clause-gate g c one two three told = finished_gate g.S.Site (site_of c.load.new.files) c.finish.result.1 (Some (None, whys.NoList)) c.finish.result.0.status 0 c.finish.ensures.finishes one two three told
 
 pub returns-in-Err-clause-gate : goal.returns-in-Err-clause-gate
-returns-in-Err-clause-gate g c one two three told = finished_gate g.S.Site (site_of c.load.new.files) c.finish-in-Err.result.1 (Some (None, c.why_of.result)) c.finish-in-Err.result.0.status 0 c.finish-in-Err.ensures.finishes refl one two three told
+returns-in-Err-clause-gate g c one two three told = finished_gate g.S.Site (site_of c.load.new.files) c.finish-in-Err.result.1 (Some (None, c.why_of.result)) c.finish-in-Err.result.0.status 0 c.finish-in-Err.ensures.finishes one two three told
 
 pub returns-in-Ok-Some-clause-nolist : goal.returns-in-Ok-Some-clause-nolist
 returns-in-Ok-Some-clause-nolist g c told files found none =

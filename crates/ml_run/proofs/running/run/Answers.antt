@@ -2,21 +2,22 @@ use Rattle.std.proofs.Common.{◌≡◌, ◌⊎◌, inl, inr, ⊎_elim, sym, ref
 use Rattle.ml_base.specs.Faults.{Rose}
 use Rattle.ml_journal.specs.Log.{directory}
 use Rattle.ml_journal.specs.Stores.{site_of}
-use Rattle.ml_run.specs.declared.lines.Why.{Why}
-use Rattle.ml_run.specs.declared.lines.Why.TheVariants as whys
+use Rattle.ml_ending.specs.declared.lines.Why.{Why}
+use Rattle.ml_ending.specs.declared.lines.Why.TheVariants as whys
 use Rattle.ml_run.specs.Endings.{Begins}
 use Rattle.ml_run.proofs.Leaving.{same_state}
 use Rattle.std.specs.Result.{IsErrAnd}
 use Rattle.ml_journal.specs.declared.errors.OpenError.TheVariants.{Fault}
-use Rattle.ml_run.proofs.Opening.{at_site, runs_before, early_runs, unopened_said, untouched, opened_said, opened_then, from_rest, open_why, open_at_rest}
+use Rattle.ml_ending.proofs.Said.{at_site, unopened_said, untouched}
+use Rattle.ml_run.proofs.Opening.{runs_before, early_runs, opened_said, opened_then, from_rest, open_why, open_at_rest}
 use Rattle.ml_base.specs.Dir.{Dir}
 use Rattle.ml_journal.specs.Stores.{the_dir}
-use Rattle.ml_run.specs.Stops.{status_of_why}
+use Rattle.ml_ending.specs.Stops.{status_of_why}
 use Rattle.ml_run.specs.Endings.{IsFound, Names}
 use Rattle.ml_run.proofs.Named.{said_named, some_dir}
 use Rattle.ml_run.proofs.Opening.{open_found}
 use Rattle.std.specs.Prelude.{IsSome}
-use Rattle.ml_run.specs.Stream.{End}
+use Rattle.ml_stream.specs.Stream.{End}
 use Rattle.ml_run.proofs.Complete.{answers_all}
 use Rattle.ml_run.proofs.Missing.{said_fails, said_misses, misses_before, open_fails, fails_not}
 use Rattle.ml_base.specs.Bytes.{Text}

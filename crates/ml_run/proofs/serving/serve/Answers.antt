@@ -9,14 +9,15 @@ use Rattle.ml_journal.specs.Kept.{kept_itself}
 use Rattle.ml_journal.specs.Stores.{site_of, the_dir}
 use Rattle.ml_plain.specs.Histories.{fold}
 use Rattle.ml_run.specs.declared.groups.GroupEnd.{GroupEnd}
-use Rattle.ml_run.specs.Stream.{IsStream}
-use Rattle.ml_run.specs.Items.{HasLeft, place_of}
+use Rattle.ml_stream.specs.Stream.{IsStream}
+use Rattle.ml_stream.specs.Items.{HasLeft, place_of}
 use Rattle.ml_run.specs.Groups.{EndsNumbered, IsEnd, IsStop, EndsWithReason, IsFullGroup, TakesSome, IsNumberOf}
 use Rattle.ml_run.specs.Leaving.{dir_of, IsAfterSome}
 use Rattle.ml_run.specs.Endings.{IsServing}
 use Rattle.ml_run.proofs.Leaving.{shown}
 use Rattle.ml_run.proofs.Whole.{some_count, minus_plus, round, first_serving, round_next, round_last_runs, round_stop_runs, round_last_moments, round_stop_moments, round_refused, round_others, round_moments, group_refused}
-use Rattle.ml_run.proofs.Causes.{finished_gate, refused_status, rose_earlier, end_reason, finished_syncs, refused_causes, refused_counts, refused_rest, refused_syncs}
+use Rattle.ml_ending.proofs.Finished.{finished_gate, rose_earlier, finished_syncs}
+use Rattle.ml_run.proofs.Causes.{refused_status, end_reason, refused_causes, refused_counts, refused_rest, refused_syncs}
 use Rattle.ml_run.proofs.Spent.{costs_of, spent_next, spent_none, spent_other, spent_bound}
 use Rattle.ml_list.specs.Damage.{IsDamaged}
 use Rattle.ml_run.proofs.Named.{finished_named, quiet_named, refused_named, end_found, committed_dir}
@@ -249,10 +250,10 @@ returns-in-Err-clause-gate g c one two three told = absurd (refused_status g.S.S
     c.in-Err.ensures.refused c.refused.ensures.refuses one two three)
 
 pub returns-in-Last-clause-gate : goal.returns-in-Last-clause-gate
-returns-in-Last-clause-gate g c one two three told = finished_gate g.S.Site (site_of c.in-Ok.settled) c.finish.result.1 None c.finish.result.0.status c.gather-read.result.1.last c.finish.ensures.finishes c.gather-read.ensures.group.last one two three told
+returns-in-Last-clause-gate g c one two three told = finished_gate g.S.Site (site_of c.in-Ok.settled) c.finish.result.1 None c.finish.result.0.status c.gather-read.result.1.last c.finish.ensures.finishes one two three told
 
 pub returns-in-Stopped-clause-gate : goal.returns-in-Stopped-clause-gate
-returns-in-Stopped-clause-gate g c one two three told = finished_gate g.S.Site (site_of c.in-Ok.settled) c.finish-in-Stopped.result.1 (Some (c.in-Stopped.number, c.in-Stopped.why)) c.finish-in-Stopped.result.0.status c.gather-read.result.1.last c.finish-in-Stopped.ensures.finishes c.gather-read.ensures.group.last one two three told
+returns-in-Stopped-clause-gate g c one two three told = finished_gate g.S.Site (site_of c.in-Ok.settled) c.finish-in-Stopped.result.1 (Some (c.in-Stopped.number, c.in-Stopped.why)) c.finish-in-Stopped.result.0.status c.gather-read.result.1.last c.finish-in-Stopped.ensures.finishes one two three told
 
 pub returns-in-Err-clause-taken : goal.returns-in-Err-clause-taken
 returns-in-Err-clause-taken g c told all ending q b =

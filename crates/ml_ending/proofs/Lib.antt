@@ -1,0 +1,4 @@
+pub mod Written
+pub mod Said
+pub mod Finished
+pub mod Leaving

@@ -1,0 +1,143 @@
+-- How a call on a store ends: what is said, and what that leaves.
+use Rattle.std.specs.Prelude.{◌≡◌, ◌⊎◌, ◌≤◌, ◌+◌, ℕ, Bool, true, false, if◌then◌else◌, IsTrue, ◌++◌, take, Option, Some, None}
+use Rattle.ml_base.specs.Bytes.{Text}
+use Rattle.ml_base.specs.Faults.{Rose}
+use Rattle.ml_site.specs.Disk.{Contents, Disk, Elapses, Giving, IsImage, Now}
+use Rattle.ml_site.specs.Moments.{BeforeFirstSync, FromFirstSync}
+use Rattle.ml_site.specs.declared.site.Site.{Ghosts}
+use Rattle.ml_journal.specs.Calls.{Leaves, IsClean}
+use Rattle.ml_journal.specs.Log.{directory}
+use Rattle.ml_journal.specs.Moments.{IsOld}
+use Rattle.ml_ending.specs.declared.lines.Why.{Why}
+use Rattle.ml_ending.specs.declared.lines.Why.TheVariants as whys
+use Rattle.ml_ending.specs.Lines.{stop_text, HasPath}
+use Rattle.ml_ending.specs.Stops.{status_of_why}
+
+-- what the stop line of a run says: the number of the item in hand, if there is one, and why
+abbrev pub StopLine : Type 0
+StopLine = Option (Option ℕ × Why)
+
+-- a stop line was put out, or the output failed and some front of it was
+pub record Says {S : Type 0} (told : Ghosts S) (old new : S) (status : ℕ) (who : Option ℕ) (why : Why) : Type 0 where
+  pub reads : IsTrue told.tells_reads → (told.disk new).reads ≡ (told.disk old).reads
+  pub disk_is : IsTrue told.tells_all → told.disk new ≡ told.disk old
+  pub line : ((status ≡ status_of_why why) × (IsTrue told.tells_all → told.output new ≡ told.output old ++ stop_text who (status_of_why why) why))
+      ⊎ ((status ≡ 73) × Rose (told.output_faults old) (told.output_faults new)
+      × (IsTrue told.tells_all → (n : ℕ) × (told.output new ≡ told.output old ++ take n (stop_text who (status_of_why why) why))))
+  pub time : IsTrue told.tells_all → Elapses (told.moment old) (told.moment new) (told.left_since old) (told.left_since new)
+      (Giving (told.disk old) (told.output old) (stop_text who (status_of_why why) why))
+  pub syncs : IsTrue told.tells_all → told.syncs new ≡ told.syncs old
+  pub log_bytes : IsTrue told.tells_all → told.log_bytes new ≡ told.log_bytes old
+  pub no_call : told.disk_calls new ≡ told.disk_calls old
+  pub disk_faults : told.disk_faults new ≡ told.disk_faults old
+  pub output_faults : told.output_faults old ≤ told.output_faults new
+
+-- the number that a stop line begins with
+abbrev pub who_of : StopLine → Option ℕ
+who_of None = None
+who_of (Some line) = line.0
+
+-- the line says that memory was wanting
+abbrev pub IsMemory : StopLine → Type 0
+IsMemory None = ⊥
+IsMemory (Some line) = line.1 ≡ whys.Memory
+
+-- What a run says once its store is closed: what it would have said, and the log is clean; or that, where it says that memory
+-- was wanting; or in its place why the close was refused.
+abbrev pub ClosesTo : StopLine → StopLine → Type 0 → Type 0 → Type 0
+ClosesTo old new rest disk =
+    ((new ≡ old) × rest) ⊎ (((new ≡ old) × IsMemory old) ⊎ (((new ≡ Some (who_of old, whys.Memory)) × (¬ IsMemory old)) ⊎ ((new ≡ Some (who_of old, whys.Disk)) × (¬ IsMemory old) × disk)))
+
+-- whether memory was wanting
+abbrev pub is_memory : Why → Bool
+is_memory whys.Memory = true
+is_memory _ = false
+
+-- why a run ends whose close was refused so: a run that wants memory keeps that
+abbrev pub in_place : Why → Why → Why
+in_place old new = if is_memory old then old else new
+
+-- what it says then
+abbrev pub line_in_place : StopLine → Why → StopLine
+line_in_place None why = Some (None, why)
+line_in_place (Some line) why = Some (line.0, in_place line.1 why)
+
+-- a line names a file of the table at most
+abbrev pub HasLinePath : StopLine → Type 0
+HasLinePath None = Unit {0}
+HasLinePath (Some line) = HasPath line.1
+
+-- at most so many syncs more, and no log byte less
+pub record CostsAtMost (most : ℕ) (syncs syncs' bytes bytes' : ℕ) : Type 0 where
+  pub few : syncs' ≤ syncs + most
+  pub stay : syncs ≤ syncs'
+  pub bytes_stay : bytes ≤ bytes'
+
+-- the store of a run was closed, and its stop line put out, if it has one
+pub record Finishes {S : Type 0} (told : Ghosts S) (old new : S) (line : StopLine) (status last : ℕ) : Type 0 where
+  pub mid : S
+  pub final : StopLine
+  pub closes : ClosesTo line final (IsClean told mid) (Rose (told.disk_faults old) (told.disk_faults mid))
+  pub same : IsTrue told.tells_reads → directory (told.disk mid).reads ≡ directory (told.disk old).reads
+  pub output : IsTrue told.tells_all → told.output mid ≡ told.output old
+  pub moments : Leaves told old mid (IsOld (directory (told.disk old).reads) (told.output old))
+  pub faults : told.disk_faults old ≤ told.disk_faults mid
+  pub others : told.output_faults mid ≡ told.output_faults old
+  pub spends : IsTrue told.tells_all → CostsAtMost 3 (told.syncs old) (told.syncs mid) (told.log_bytes old) (told.log_bytes mid)
+  pub said : ((final ≡ None) × (status ≡ last) × (new ≡ mid)) ⊎ ((who : Option ℕ) × (why : Why) × (final ≡ Some (who, why)) × Says told mid new status who why)
+
+-- a group was refused: by the output, and nothing more is put out, or else a stop line says why
+pub record Refuses {S : Type 0} (told : Ghosts S) (old new : S) (first : Option ℕ) (why : Option Why) (status : ℕ) : Type 0 where
+  pub quiet : why ≡ None → (status ≡ 73) × (new ≡ old)
+  pub said : (reason : Why) → why ≡ Some reason → Says told old new status first reason
+
+-- a text was put out, or the output failed and some front of it was
+pub record Tells {S : Type 0} (told : Ghosts S) (old new : S) (status : ℕ) (line : Text) : Type 0 where
+  pub reads : IsTrue told.tells_reads → (told.disk new).reads ≡ (told.disk old).reads
+  pub disk_is : IsTrue told.tells_all → told.disk new ≡ told.disk old
+  pub line_is : ((status ≡ 0) × (IsTrue told.tells_all → told.output new ≡ told.output old ++ line))
+      ⊎ ((status ≡ 73) × Rose (told.output_faults old) (told.output_faults new)
+      × (IsTrue told.tells_all → (n : ℕ) × (told.output new ≡ told.output old ++ take n line)))
+  pub time : IsTrue told.tells_all → Elapses (told.moment old) (told.moment new) (told.left_since old) (told.left_since new)
+      (Giving (told.disk old) (told.output old) line)
+  pub syncs : IsTrue told.tells_all → told.syncs new ≡ told.syncs old
+  pub disk_faults : told.disk_faults new ≡ told.disk_faults old
+  pub output_faults : told.output_faults old ≤ told.output_faults new
+
+-- a store was closed, and a text put out; or the close was refused, and a stop line says why
+pub record TellsClosed {S : Type 0} (told : Ghosts S) (old new : S) (status : ℕ) (line : Text) : Type 0 where
+  pub mid : S
+  pub same : IsTrue told.tells_reads → directory (told.disk mid).reads ≡ directory (told.disk old).reads
+  pub output : IsTrue told.tells_all → told.output mid ≡ told.output old
+  pub moments : Leaves told old mid (IsOld (directory (told.disk old).reads) (told.output old))
+  pub faults : told.disk_faults old ≤ told.disk_faults mid
+  pub others : told.output_faults mid ≡ told.output_faults old
+  pub spends : IsTrue told.tells_all → CostsAtMost 3 (told.syncs old) (told.syncs mid) (told.log_bytes old) (told.log_bytes mid)
+  pub said : (IsClean told mid × Tells told mid new status line)
+      ⊎ ((why : Why) × ((why ≡ whys.Memory) ⊎ ((why ≡ whys.Disk) × Rose (told.disk_faults old) (told.disk_faults mid))) × Says told mid new status None why)
+
+-- some first bytes of one stop line are out at most; it has no number
+abbrev pub SaysAtMost : Text → Text → Type 0
+SaysAtMost before out = (out ≡ before) ⊎ ((why : Why) × (n : ℕ) × (out ≡ before ++ take n (stop_text None (status_of_why why) why)))
+
+-- some first bytes of a text are out
+abbrev pub TellsAtMost : Text → Text → Text → Type 0
+TellsAtMost line before out = (n : ℕ) × (out ≡ before ++ take n line)
+
+-- what a crash at the start may leave, and some first bytes of one stop line at most
+pub record IsUnopened (disk : Disk) (before : Text) (left : Contents) (out : Text) : Type 0 where
+  pub image : IsImage disk left
+  pub put : SaysAtMost before out
+
+-- From the first sync that succeeds on a crash left what has P, and until then what one at the start could leave. Where no
+-- sync succeeded, the disk is as it was, and a crash left what one at the start could leave, with some front of one stop line
+-- at most.
+abbrev pub Opens : {S : Type 0} → Ghosts S → S → S → (Contents → Text → Type 0) → Type 0
+Opens told old new P =
+    BeforeFirstSync told.moment told.left_since told.disk told.output told.syncs old new (IsUnopened (told.disk old) (told.output old))
+    ⊎ FromFirstSync told.moment told.left_since told.disk told.output told.syncs old new (Now (told.disk old) (told.output old)) P
+
+-- Where there is no configuration, a run's stop line says so, or memory was wanting, or the output or the disk failed.
+abbrev pub MissesList : Type 0 → ℕ → Text → Text → Type 0
+MissesList told status before output =
+    ((status ≡ 75) × (told → output ≡ before ++ stop_text None 75 whys.NoList)) ⊎ ((status ≡ 71) ⊎ ((status ≡ 73) ⊎ (status ≡ 111)))

@@ -1,0 +1,12 @@
+//! How a call on a store ends: its store closed, its text or one stop line given.
+#![tactic(auto)]
+
+mod closing;
+mod lines;
+mod refusals;
+mod telling;
+
+pub use closing::{Ending, closed, finish, refused, say, stop};
+pub use lines::{Why, put_status, stop_line};
+pub use refusals::{not_opened, why_of, why_refused};
+pub use telling::told;

@@ -1,5 +1,0 @@
-use Rattle.ml_run.proofs.Streams.{streams, one_stream}
-use Rattle.ml_run.proofs.laws.law_streams.Goals as goal
-
-pub returns : goal.returns
-returns c = record { some = streams; one = one_stream }

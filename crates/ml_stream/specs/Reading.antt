@@ -1,0 +1,58 @@
+-- What a reader has left of its stream, and what it reads.
+use Rattle.std.specs.Prelude.{◌≡◌, ℕ, ◌+◌, ◌^◌, ◌<◌, [], ◌++◌, length, Option, Some, None, Result, Ok, Err}
+use Rattle.std.specs.Option.{option_to_list}
+use Rattle.ml_base.specs.Bytes.{Text}
+use Rattle.ml_stream.specs.Stream.{Read, StreamEnd, IsStream}
+use Rattle.ml_stream.specs.declared.stream.StreamError.{StreamError}
+use Rattle.ml_stream.specs.declared.stream.StreamError.TheVariants.{Bad, Short, Fault, Memory}
+
+-- These bytes are left from a place on, the byte read ahead among them, and their places fit 64 bits.
+pub record Stands (place : ℕ) (ahead : Option ℕ) (left : Option Text) (bs : Text) : Type 0 where
+  pub own : Text
+  pub is_left : left ≡ Some own
+  pub is_all : bs ≡ option_to_list ahead ++ own
+  pub room : place + length bs < 2 ^ 64
+
+-- an error that tells of the stream is the one that reading gives
+abbrev pub Tells : {Y : Type 0} → StreamError → Read Y → Type 0
+Tells (Bad at) read = read ≡ Err (Bad at)
+Tells (Short at) read = read ≡ Err (Short at)
+Tells Fault read = Unit {0}
+Tells Memory read = Unit {0}
+
+-- What a function answered is what reading gives, unless the source failed or memory ran out.
+abbrev pub Reads : {X : Type 0} → Result X StreamError → ℕ → Option ℕ → Option Text → Read X → Type 0
+Reads (Ok x) place ahead left read = (rest : Text) × (read ≡ Ok (record { value = x; place = place; rest = rest })) × Stands place ahead left rest
+Reads (Err e) place ahead left read = Tells e read
+
+-- a byte was taken from the front, or none, and then there is none
+pub record Steps (old place : ℕ) (ahead : Option ℕ) (left : Option Text) (bs : Text) (b : Option ℕ) : Type 0 where
+  pub rest : Text
+  pub is_all : bs ≡ option_to_list b ++ rest
+  pub stands : Stands place ahead left rest
+  pub place_is : place ≡ old + length (option_to_list b)
+  pub end : b ≡ None → rest ≡ []
+
+-- fewer bytes than these were taken from the front
+pub record IsCut (size : ℕ) (bs : Text) (left : Option Text) : Type 0 where
+  pub front : Text
+  pub rest : Text
+  pub few : length front < size
+  pub split : bs ≡ front ++ rest
+  pub left_is : left ≡ Some rest
+
+-- no value is read
+abbrev pub Fails : {X : Type 0} → Read X → Type 0
+Fails read = (e : StreamError) × (read ≡ Err e)
+
+-- no whole item is at the front of these bytes
+abbrev pub IsNoItem : ℕ → Text → Type 0
+IsNoItem place bs = (ending : StreamEnd) × IsStream place bs [] ending
+
+-- An error was answered: some bytes were taken from the front, and where the source failed, this holds of these alone.
+pub record Breaks (e : StreamError) (left : Option Text) (bs : Text) (P : Text → Type 0) : Type 0 where
+  pub front : Text
+  pub rest : Text
+  pub split : bs ≡ front ++ rest
+  pub left_is : left ≡ Some rest
+  pub cut : e ≡ Fault → P front

@@ -1,0 +1,110 @@
+// Items, as a stream spells them.
+ghost use Rattle.std.specs.Prelude.{◌≡◌, ◌++◌, IfOk, OnOk};
+ghost use Rattle.std.specs.Fmt.{decimal};
+ghost use Rattle.hex.specs.Hex.{encode_lower};
+ghost use Rattle.ml_base.specs.Netstrings.{ns};
+ghost use Rattle.ml_stream.specs.Writing.{spelled_act, spelled_item};
+ghost use Rattle.ml_stream.specs.Writing as spec;
+
+use hex::encode_to_slice;
+use ml_base::{Bytes, push_netstring, write_number};
+use ml_plain::{Act, Item};
+use std::alloc::{AllocError, Global};
+
+/// The bytes that stand for an item in a stream. They are read again as that item where it is in its ranges: a number of at
+/// most 12 digits, and a moment in seconds since 1970 that is before the year 10000.
+pub fn write_item(alloc: Global, item: &Item) -> Result<Bytes, AllocError>
+    ensures { IfOk result (λ bytes. bytes ≡ spelled_item item.now) }
+{
+    let mut out = Bytes::new(alloc);
+    out.push(letter(&item.act))?;
+    push_number(&mut out, item.number)?;
+    push_number(&mut out, item.moment)?;
+    push_act(&mut out, &item.act)?;
+    Ok(out)
+}
+
+fn letter(act: &Act) -> u8
+    ensures { result ≡ spec.letter act.now }
+{
+    match act {
+        Act::Deliver { .. } => b'D',
+        Act::Timed => b'T',
+        Act::Add { .. } => b'A',
+        Act::Remove { .. } => b'R',
+        Act::Sent { .. } => b'S',
+        Act::Rekey { .. } => b'K',
+        Act::Floor { .. } => b'F',
+    }
+}
+
+// Adds the netstring of a number's digits at the end. An error changes nothing.
+fn push_number(out: &mut Bytes, number: u64) -> Result<(), AllocError>
+    ensures { OnOk result (out.new ≡ out.old ++ ns (decimal number)) }
+{
+    let mut digits = [0u8; 20];
+    let len = write_number(number, &mut digits);
+    push_netstring(out, &digits[..len])
+}
+
+// Adds what an act is about at the end. An error leaves a part of it there.
+fn push_act(out: &mut Bytes, act: &Act) -> Result<(), AllocError>
+    ensures { OnOk result (out.new ≡ out.old ++ spelled_act act.now) }
+{
+    match act {
+        Act::Deliver {
+            sender,
+            recipient,
+            message,
+        } => {
+            push_netstring(out, sender.as_slice())?;
+            push_netstring(out, recipient.as_slice())?;
+            push_netstring(out, message.as_slice())
+        }
+        Act::Timed => Ok(()),
+        Act::Add { set, who } | Act::Remove { set, who } => {
+            push_netstring(out, set.word())?;
+            push_netstring(out, who.bytes())
+        }
+        Act::Sent { id } => push_number(out, *id),
+        Act::Rekey { key } => push_key(out, key),
+        Act::Floor { at } => push_number(out, *at),
+    }
+}
+
+// Adds the netstring of a key's 64 digits at the end. An error changes nothing.
+fn push_key(out: &mut Bytes, key: &[u8; 32]) -> Result<(), AllocError>
+    ensures { OnOk result (out.new ≡ out.old ++ ns (encode_lower key.now)) }
+{
+    let mut digits = [0u8; 64];
+    match encode_to_slice(key.as_slice(), &mut digits) {
+        Ok(()) => push_netstring(out, &digits),
+        Err(_) => Err(AllocError),
+    }
+}
+
+#[cfg(test)]
+mod tests {
+    use super::*;
+    use ml_base::{Address, Set};
+    use std::test::Fail;
+
+    #[test]
+    fn an_added_address_is_spelled_as_the_stream_has_it(rt: HostRuntime) -> Result<(), Fail> {
+        let alloc = rt.alloc();
+        let item = Item {
+            number: 7,
+            moment: 1_000_000_000,
+            act: Act::Add {
+                set: Set::List,
+                who: Address::parse(alloc, b"a@b")?,
+            },
+        };
+        let bytes = write_item(alloc, &item)?;
+        assert_eq!(rt;
+            bytes.as_slice(),
+            b"A1:7,10:1000000000,4:list,3:a@b,".as_slice()
+        );
+        Ok(())
+    }
+}
