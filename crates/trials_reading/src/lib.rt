@@ -1,0 +1,7 @@
+//! Tests of the commands that read a list.
+#![tactic(auto)]
+
+#[cfg(test)]
+mod listing;
+#[cfg(test)]
+mod lists;
