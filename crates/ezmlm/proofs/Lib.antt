@@ -1,2 +1,5 @@
+mod Families
+mod Given
+mod OneItem
 mod Spelling
 mod Statuses

@@ -3,7 +3,7 @@ use Rattle.std.proofs.Common.{◌≡◌, ◌<◌, ◌≤◌, List, [], ◌∷◌
 use Rattle.std.specs.declared.string.String.{String}
 use Rattle.std.specs.String.{string_bytes}
 use Rattle.ml_base.specs.Bytes.{Text}
-use Rattle.ezmlm.specs.Commands.{texts}
+use Rattle.ezmlm.specs.Words.{texts}
 
 -- one word of these bytes
 pub one_word : {Z : Type 0} (words : List (String Z)) (word : String Z) (bytes : Text) → 1 ≤ length words → length words < 2 → word ≡ get_or words 0 word → string_bytes word ≡ bytes → texts words ≡ bytes ∷ []

@@ -1,10 +1,10 @@
 -- The status of `spool`, from that of its run.
-use Rattle.std.proofs.Common.{◌≡◌, ◌⊎◌, inl, inr, ⊎_elim, ℕ, ◌<◌, true, false, eqb, if◌then◌else◌, IsTrue, ap, refl, ◌∙◌, arith}
+use Rattle.std.proofs.Common.{◌≡◌, inl, inr, ⊎_elim, ℕ, ◌<◌, true, false, eqb, if◌then◌else◌, ap, refl, ◌∙◌, arith}
 use Rattle.std.proofs.lemmas.Bool.Decides.{nat_tests}
 use Rattle.ml_base.specs.Bytes.{Text}
-use Rattle.ml_run.specs.Endings.{MissesList}
+use Rattle.ml_ending.specs.Endings.{MissesList}
 use Rattle.ml_run.specs.Stops.{is_run_status}
-use Rattle.ezmlm.specs.Commands.{spool_status, is_spool_status}
+use Rattle.ezmlm.specs.Spooling.{spool_status, is_spool_status}
 
 -- but for 100 it is the run's
 pub keeps : (run status n : ℕ) → status ≡ spool_status run → eqb n 100 ≡ false → run ≡ n → status ≡ n

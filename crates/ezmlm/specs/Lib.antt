@@ -1,3 +1,9 @@
+pub mod Asking
 pub mod Commands
+pub mod ItemSource
+pub mod Listing
+pub mod Making
+pub mod Single
 pub mod Spooling
 pub mod Untold
+pub mod Words

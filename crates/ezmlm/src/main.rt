@@ -1,8 +1,14 @@
 //! ezmlm: a mailing list manager.
 #![tactic(auto)]
 
+mod asking;
 mod commands;
+mod item_source;
+mod listing;
+mod making;
 mod real;
+mod single;
+mod spooling;
 #[cfg(test)]
 mod tests;
 

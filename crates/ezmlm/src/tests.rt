@@ -1,13 +1,23 @@
 // Whole runs of the program over memory. Each case is run and compared by a function of its own, which a table calls: so
 // little is left to prove of a test.
+mod faults;
+mod listing;
+mod singles;
+mod stops;
+mod words;
+
 use crate::commands::ezmlm_main;
 use ml_base::{Bytes, Numbers};
-use ml_site::{Image, MemClock, MemSite, MemSource};
+use ml_site::{Fill, Image, MemClock, MemSite, MemSource};
 use std::alloc::{AllocError, Global};
 use std::collections::BTreeMap;
 use std::process::Abort;
 
 const KEY: &str = "000102030405060708090a0b0c0d0e0f101112131415161718191a1b1c1d1e1f";
+
+const MAKE: [&str; 6] = ["make", "--key", KEY, "list", "ex.org", "o@own.org"];
+
+const MADE: &[u8] = b"made list@ex.org\n";
 
 // The elements of each item begin at 0, 1, 5, 19 and 26 of its 32 bytes.
 const A_B: &[u8] = b"A1:7,10:1000000000,4:list,3:a@b,";
@@ -20,36 +30,60 @@ fn source(alloc: Global, bytes: &[u8], fail: &[u64]) -> Result<MemSource, AllocE
     Ok(MemSource::new(Bytes::from_slice(alloc, bytes)?, fail))
 }
 
-// A site without files, whose named calls fail.
-fn empty(alloc: Global, fail: &[u64]) -> Result<MemSite, AllocError> {
-    let image = Image {
-        log: Bytes::new(alloc),
-        files: BTreeMap::new(alloc),
-    };
+// A site over an image, whose named calls fail.
+fn site_over(alloc: Global, image: Image, fail: &[u64]) -> Result<MemSite, AllocError> {
     let mut site = MemSite::new(alloc, image, 1000, 1000)?;
     site.fail(alloc, fail)?;
     Ok(site)
 }
 
-// Runs the program with these words on a stream, and answers the status and the site.
+// No log and no files.
+fn nothing(alloc: Global) -> Image {
+    Image {
+        log: Bytes::new(alloc),
+        files: BTreeMap::new(alloc),
+    }
+}
+
+// A site without files, whose named calls fail.
+fn empty(alloc: Global, fail: &[u64]) -> Result<MemSite, AllocError> {
+    site_over(alloc, nothing(alloc), fail)
+}
+
+// What is left for good of the calls on a site.
+fn settled(alloc: Global, site: &MemSite) -> Result<Image, AllocError> {
+    site.crash(alloc, 1000, Fill::Old)
+}
+
+// Runs the program with these words on a stream, by a clock, and answers the status and the site.
+fn command_by(
+    alloc: Global,
+    words: &[&str],
+    input: &mut MemSource,
+    site: MemSite,
+    clock: &mut MemClock,
+) -> Result<(u8, MemSite), AllocError> {
+    let mut owned = Vec::new(alloc);
+    for word in words {
+        owned.push(String::from_str(alloc, word)?)?;
+    }
+    Ok(ezmlm_main(alloc, &owned, input, site, clock))
+}
+
+// The same, by a clock that shows 1,000,000,000.
 fn command(
     alloc: Global,
     words: &[&str],
     input: &mut MemSource,
     site: MemSite,
 ) -> Result<(u8, MemSite), AllocError> {
-    let mut owned = Vec::new(alloc);
-    for word in words {
-        owned.push(String::from_str(alloc, word)?)?;
-    }
     let mut clock = MemClock::new(1_000_000_000, Numbers::new(alloc));
-    Ok(ezmlm_main(alloc, &owned, input, site, &mut clock))
+    command_by(alloc, words, input, site, &mut clock)
 }
 
 // Makes the list `list@ex.org`, and answers the status and the site.
 fn make(alloc: Global, site: MemSite) -> Result<(u8, MemSite), AllocError> {
-    let words = ["make", "--key", KEY, "list", "ex.org", "o@own.org"];
-    command(alloc, &words, &mut source(alloc, b"", &[])?, site)
+    command(alloc, &MAKE, &mut source(alloc, b"", &[])?, site)
 }
 
 // Whether `make` ends so over a site without files, whose named calls fail.
@@ -74,19 +108,6 @@ fn list_ends(
         found == status
             && site.output().strip_prefix(b"made list@ex.org\n".as_slice()) == Some(output),
     )
-}
-
-// Whether the program ends so with these words on the input of one item over a site without files, whose named calls fail.
-fn words_end(
-    alloc: Global,
-    words: &[&str],
-    fail: &[u64],
-    status: u8,
-    output: &[u8],
-) -> Result<bool, AllocError> {
-    let mut input = source(alloc, A_B, &[])?;
-    let (found, site) = command(alloc, words, &mut input, empty(alloc, fail)?)?;
-    Ok(found == status && site.output() == output)
 }
 
 // Fails the test, and names the row of its table, where a case doesn't hold.
@@ -175,33 +196,6 @@ fn a_failing_input_ends_the_run(rt: HostRuntime) -> Result<(), AllocError> {
     for (row, (reads, status, output)) in READS.iter().enumerate() {
         let case = list_ends(rt.alloc(), &["spool"], A_B_TWICE, reads, *status, output)?;
         holds(&rt, row, case);
-    }
-    Ok(())
-}
-
-const TOLD: &[u8] = b"- 64 usage\n";
-
-// The words, the calls that fail, and what is answered where there is no list.
-const WORDS: [(&[&str], &[u64], u8, &[u8]); 9] = [
-    (&[], &[], 64, TOLD),
-    (&["spol"], &[], 64, TOLD),
-    (&["Spool"], &[], 64, TOLD),
-    (&["spool", "x"], &[], 64, TOLD),
-    (&["spool", "-m", "1", "x"], &[], 64, TOLD),
-    (&["make"], &[], 64, TOLD),
-    (&["spool", "-m", "x"], &[], 65, b"- 65 words\n"),
-    (&["spol"], &[1], 73, b""),
-    (&["spool"], &[], 75, b"- 75 nolist\n"),
-];
-
-#[test]
-fn words_that_are_no_command_are_told_so(rt: HostRuntime) -> Result<(), AllocError> {
-    for (row, (words, fail, status, output)) in WORDS.iter().enumerate() {
-        holds(
-            &rt,
-            row,
-            words_end(rt.alloc(), words, fail, *status, output)?,
-        );
     }
     Ok(())
 }

@@ -126,7 +126,7 @@ impl Changes {
         Ok(())
     }
 
-    /// Brings all of it to the disk and forgets it. An error forgets nothing. It takes no memory.
+    /// Brings all of it to the disk and forgets it. An error forgets nothing that isn't on the disk. It takes no memory.
     pub fn sync(
         &mut self,
         rt: &HostRuntime,
@@ -136,12 +136,13 @@ impl Changes {
         if self.is_lost {
             return Err(ErrorKind::Other.into());
         }
+        // The files come first: until they are closed there may be no further descriptor for log and folders.
+        self.sync_kept_files()?;
+        self.sync_closed_files(rt, paths)?;
         self.sync_log(rt, paths, log)?;
-        self.sync_files(rt, paths)?;
         self.sync_folders(rt, paths)?;
         self.log = false;
         self.files.clear();
-        self.kept = 0;
         self.folders.clear();
         self.outside = false;
         Ok(())
@@ -178,14 +179,24 @@ impl Changes {
         Ok(())
     }
 
-    // Without it a crash could leave a file that was written with other bytes.
-    fn sync_files(&mut self, rt: &HostRuntime, paths: &mut Paths<'_>) -> io::Result<()> {
-        for (name, kept) in self.files.iter() {
-            let synced = match kept {
-                Some(file) => file.sync_all(),
-                None => open_to_read(rt, paths.file(*name)?)?.sync_all(),
-            };
-            settled(synced, &mut self.is_lost)?;
+    // Brings the files that are kept open to the disk, closes them and forgets them. Without it a crash could leave a file that
+    // was written with other bytes.
+    fn sync_kept_files(&mut self) -> io::Result<()> {
+        for (_, place) in self.files.iter() {
+            if let Some(file) = place {
+                settled(file.sync_all(), &mut self.is_lost)?;
+            }
+        }
+        self.files.retain(|_, place| place.is_none());
+        self.kept = 0;
+        Ok(())
+    }
+
+    // The same for the files that were closed again, of which each is opened for it.
+    fn sync_closed_files(&mut self, rt: &HostRuntime, paths: &mut Paths<'_>) -> io::Result<()> {
+        for (name, _) in self.files.iter() {
+            let file = open_to_read(rt, paths.file(*name)?)?;
+            settled(file.sync_all(), &mut self.is_lost)?;
         }
         Ok(())
     }

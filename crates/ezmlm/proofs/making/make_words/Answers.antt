@@ -1,8 +1,8 @@
 use Rattle.std.proofs.Common.{inl, sym, subst, Option}
 use Rattle.ml_base.specs.Bytes.{Text}
 use Rattle.ml_config.specs.declared.configuration.Config.{Config}
-use Rattle.ezmlm.specs.Commands.{MakesAsked}
-use Rattle.ezmlm.proofs.commands.make_words.Goals as goal
+use Rattle.ezmlm.specs.Making.{MakesAsked}
+use Rattle.ezmlm.proofs.making.make_words.Goals as goal
 
 pub returns-in-Ok : goal.returns-in-Ok
 returns-in-Ok g c = subst (λ (o : Option (Config × Text)). MakesAsked g.S.Site o c.args.site c.make.result.1 c.make.result.0) (sym c.in-Ok.ensures.made) (inl (record {

@@ -1,6 +1,6 @@
 use Rattle.std.proofs.Common.{refl, IsTrue, arith}
 use Rattle.ezmlm.proofs.Statuses.{keeps, back, known, misses}
-use Rattle.ezmlm.proofs.commands.spool.Goals as goal
+use Rattle.ezmlm.proofs.spooling.spool.Goals as goal
 
 pub returns : goal.returns
 returns g c =

@@ -1,0 +1,38 @@
+-- What `make` does.
+use Rattle.std.specs.Prelude.{◌≡◌, ◌≢◌, ◌⊎◌, ℕ, IsTrue, Option, Some, None}
+use Rattle.ml_base.specs.Bytes.{Text}
+use Rattle.ml_base.specs.Dir.{Dir}
+use Rattle.ml_base.specs.Faults.{Rose}
+use Rattle.ml_base.specs.Name.{is_file}
+use Rattle.ml_base.specs.declared.names.Name.{Name}
+use Rattle.ml_config.specs.ConfigFile.{config_name}
+use Rattle.ml_config.specs.FirstFiles.{first_puts}
+use Rattle.ml_config.specs.declared.configuration.Config.{Config}
+use Rattle.ml_plain.specs.Histories.{fresh}
+use Rattle.ml_plain.specs.Plain.{new_list}
+use Rattle.ml_site.specs.Disk.{IsAtRest}
+use Rattle.ml_site.specs.declared.site.Site.{Ghosts}
+use Rattle.ml_journal.specs.Calls.{Leaves}
+use Rattle.ml_journal.specs.Log.{directory}
+use Rattle.ml_ending.specs.declared.lines.Why.TheVariants as whys
+use Rattle.ml_ending.specs.Endings.{Opens, Says}
+use Rattle.ml_run.specs.Leaving.{HasState}
+use Rattle.ml_run.specs.Making.{IsMaking, Makes, made_text, is_make_status}
+
+-- What `make` does.
+pub record MakesList {S : Type 0} (told : Ghosts S) (config : Config) (key : Text) (old new : S) (status : ℕ) : Type 0 where
+  pub known : IsTrue (is_make_status status)
+  pub makes : IsTrue told.tells_reads → Makes (IsTrue told.tells_all) status (directory (told.disk old).reads) (first_puts config key) (made_text config) (told.output old) (told.disk new).reads (told.output new)
+  pub state : IsTrue told.tells_reads → (files : Dir) → directory (told.disk old).reads ≡ Some files → ((name : Name) → IsTrue (is_file name) → files name ≡ None) → status ≡ 0
+      → HasState (directory (told.disk new).reads) (fresh (new_list config key))
+  pub there : IsTrue told.tells_reads → (files : Dir) → directory (told.disk old).reads ≡ Some files → files config_name ≢ None → (status ≡ 100) ⊎ ((status ≡ 71) ⊎ ((status ≡ 73) ⊎ (status ≡ 111)))
+  pub moments : IsTrue told.tells_all → Opens told old new (IsMaking (directory (told.disk old).reads) (first_puts config key) (made_text config) (told.output old))
+  pub at_rest : IsAtRest (told.disk old) → Leaves told old new (IsMaking (directory (told.disk old).reads) (first_puts config key) (made_text config) (told.output old))
+  pub rest : (Rose (told.disk_faults old) (told.disk_faults new) → ⊥) → (status ≡ 71 → ⊥) → (status ≡ 73 → ⊥) → IsTrue told.tells_all → IsAtRest (told.disk new)
+  pub of_disk : status ≡ 111 → Rose (told.disk_faults old) (told.disk_faults new)
+  pub of_output : status ≡ 73 → Rose (told.output_faults old) (told.output_faults new)
+
+-- A list is made, or the words give none, or memory was wanting before anything was done.
+abbrev pub MakesAsked : {S : Type 0} → Ghosts S → Option (Config × Text) → S → S → ℕ → Type 0
+MakesAsked told None old new status = Says told old new status None whys.Usage ⊎ Says told old new status None whys.Memory
+MakesAsked told (Some made) old new status = MakesList told made.0 made.1 old new status ⊎ Says told old new status None whys.Memory
