@@ -68,7 +68,7 @@ ends_not x (y ∷ ys) e = ends_behind (x ∷ []) (y ∷ ys) (omega arith) ∙ en
 abbrev end_when : Text → Bool → Text
 end_when text is = cond is text (text ++ lf)
 
-ended_line : (x : ℕ) (xs : Text) → has_byte 10 (x ∷ xs) ≡ false → with_line_end (x ∷ xs) ≡ (x ∷ xs) ++ lf
+pub ended_line : (x : ℕ) (xs : Text) → has_byte 10 (x ∷ xs) ≡ false → with_line_end (x ∷ xs) ≡ (x ∷ xs) ++ lf
 ended_line x xs e = ap (end_when (x ∷ xs)) (ends_not x xs e)
 
 ended_already : (t : Text) → with_line_end (t ++ lf) ≡ t ++ lf
@@ -329,7 +329,7 @@ some_last : (t : Text) → 0 < length t → with_last_line_end t ≡ with_line_e
 some_last [] some = absurd (omega (arith, some))
 some_last (x ∷ xs) some = refl
 
-last_behind : (a b : Text) → 0 < length b → with_last_line_end (a ++ b) ≡ a ++ with_last_line_end b
+pub last_behind : (a b : Text) → 0 < length b → with_last_line_end (a ++ b) ≡ a ++ with_last_line_end b
 last_behind a b some = some_last (a ++ b) (omega (arith, some, length-append a b)) ∙ line_end_behind a b some ∙ ap (λ t. a ++ t) (sym (some_last b some))
 
 rows_laid : (ls : List Text) → AreRows ls → Laid (with_last_line_end (flat_map quoted_line ls))
@@ -356,7 +356,7 @@ pub record IsSet (m : Text) : Type 0 where
   pub is : IsMessage rows
   pub whole : message_text m ≡ lines_text rows
 
-at_middle : (xs ys : List Text) (v : Text) → v ≡ slice_index_or (xs ++ v ∷ ys) (length xs) v
+pub at_middle : (xs ys : List Text) (v : Text) → v ≡ slice_index_or (xs ++ v ∷ ys) (length xs) v
 at_middle [] ys v = refl
 at_middle (x ∷ xs) ys v = at_middle xs ys v
 

@@ -14,7 +14,7 @@ use Rattle.ml_rows.specs.Rows.{both_of}
 use Rattle.ml_rows.specs.Values.{line_number, number_line}
 use Rattle.ml_rows.proofs.RowLaws.{one_some, none_some, made_read, both_read, both_there}
 use Rattle.ml_rows.proofs.ValueLaws.{line_read, line_written, decimal_without}
-use Rattle.ml_digest.specs.Due.{IsMark, mark_name, mark_text, mark_in, mark_put}
+use Rattle.ml_digest.specs.Due.{IsMark, IsNoMark, mark_name, mark_text, mark_in, mark_put}
 use Rattle.ml_digest.specs.declared.posts.Mark.{Mark}
 
 abbrev mark_of : ℕ × ℕ → Mark
@@ -71,3 +71,16 @@ mark_set dir mark p q = record { last = p; issue = q; text = refl }
 
 pub mark_elsewhere : (dir : Dir) (mark : Mark) (name : Name) → name ≢ mark_name → with_put dir (mark_put mark) name ≡ dir name
 mark_elsewhere dir mark name other = ap (λ b. cond b (Some (mark_text mark)) (dir name)) (not_true (same_name name mark_name) (λ e. other (one_name name mark_name e)))
+
+-- what a file holds
+pub file_mark : (dir : Dir) (file : Option Text) (mark : Mark) → file ≡ dir mark_name → Some mark ≡ option_and_then mark_in file → IsMark dir mark
+file_mark dir None mark e is = absurd (none_some mark (sym is))
+file_mark dir (Some text) mark e is = (mark_exact dir mark text (sym e)).0 (sym is)
+
+pub file_none : (dir : Dir) (file : Option Text) → file ≡ dir mark_name → None ≡ option_and_then mark_in file → IsNoMark dir
+file_none dir None e is mark held = none_some (mark_text mark) (e ∙ held.text)
+file_none dir (Some text) e is mark held = none_some mark (is ∙ (mark_exact dir mark text (sym e)).1 held)
+
+pub file_ranges : (file : Option Text) (mark : Mark) → Some mark ≡ option_and_then mark_in file → (mark.last ≤ 99_999_999) × (mark.issue ≤ 99_999_999)
+file_ranges None mark is = absurd (none_some mark (sym is))
+file_ranges (Some text) mark is = let read = mark_read text mark (sym is) in (read.last, read.issue)

@@ -36,7 +36,7 @@ lines_one (x ∷ xs) (y ∷ ys) a b e =
     ap₂ (λ (t : Text) (ts : List Text). t ∷ ts) (ap before_at both) (lines_one xs ys a.1 b.1 (ap behind_at both))
 
 -- a row up to its first line of a kind
-abbrev Apart : Text → List Text → Type 0
+abbrev pub Apart : Text → List Text → Type 0
 Apart v xs = AllByRecursion (λ x. x ≢ v) xs
 
 first_of : (x y : Text) (xs ys : List Text) → x ∷ xs ≡ y ∷ ys → (x ≡ y) × (xs ≡ ys)
@@ -58,18 +58,18 @@ last_one (z ∷ zs) [] x y e = absurd (let size = ap length e in omega (arith, s
 last_one (z ∷ zs) (w ∷ ws) x y e = last_one zs ws x y (first_of z w (zs ++ x ∷ []) (ws ++ y ∷ []) e).1
 
 -- the title tells its name and its number
-title_cut : (name : Text) (issue : ℕ) → issue < 2 ^ 64 → split_last 32 (issue_title name issue) ≡ Some (name ++ codes " Digest Issue", decimal issue)
+pub title_cut : (name : Text) (issue : ℕ) → issue < 2 ^ 64 → split_last 32 (issue_title name issue) ≡ Some (name ++ codes " Digest Issue", decimal issue)
 title_cut name issue small =
     ap (split_last 32) (append_assoc name (codes " Digest Issue ") (decimal issue) ∙ sym (append_assoc name (codes " Digest Issue") (32 ∷ decimal issue)))
     ∙ last_written 32 (name ++ codes " Digest Issue") (decimal issue) (decimal_without 32 issue refl small)
 
-title_one : (a b : Text) (i j : ℕ) → i < 2 ^ 64 → j < 2 ^ 64 → issue_title a i ≡ issue_title b j → (a ≡ b) × (i ≡ j)
+pub title_one : (a b : Text) (i j : ℕ) → i < 2 ^ 64 → j < 2 ^ 64 → issue_title a i ≡ issue_title b j → (a ≡ b) × (i ≡ j)
 title_one a b i j p q e =
     let both : two (a ++ codes " Digest Issue") (decimal i) ≡ two (b ++ codes " Digest Issue") (decimal j) = sym (title_cut a i p) ∙ ap (split_last 32) e ∙ title_cut b j q in
     (append_cancel_right a b (codes " Digest Issue") (ap before_at both), decimal_injective i j p q (ap behind_at both))
 
 -- messages, and the last lines behind them
-abbrev last_lines : Text → ℕ → List Text
+abbrev pub last_lines : Text → ℕ → List Text
 last_lines name issue = end_line name issue ∷ asterisks name issue ∷ []
 
 message_row : (m rest : List Text) → message_lines m ++ rest ≡ (m ++ [] ∷ []) ++ message_rule ∷ [] ∷ rest
@@ -104,7 +104,7 @@ stars : (n : ℕ) → has_byte 10 (replicate n 42) ≡ false
 stars zero = refl
 stars (suc n) = stars n
 
-title_line : (p : Parts) → AreParts p → IsLine (issue_title p.name p.issue)
+pub title_line : (p : Parts) → AreParts p → IsLine (issue_title p.name p.issue)
 title_line p are =
     let i = are.readable in
     has_both 10 (p.name ++ codes " Digest Issue ") (decimal p.issue) (has_both 10 p.name (codes " Digest Issue ") are.name refl) (decimal_without 10 p.issue refl (omega (arith, i)))
@@ -114,15 +114,15 @@ message_each [] all = tt
 message_each (m ∷ ms) all =
     all_both IsLine (message_lines m) (flat_map message_lines ms) (all_both IsLine m ([] ∷ message_rule ∷ [] ∷ []) (all.0).each (refl, (refl, (refl, tt)))) (message_each ms all.1)
 
-head_each : (ls : List Text) → AllByRecursion (λ line. IsLine line × (0 < length line)) ls → AllByRecursion IsLine ls
+pub head_each : (ls : List Text) → AllByRecursion (λ line. IsLine line × (0 < length line)) ls → AllByRecursion IsLine ls
 head_each [] all = tt
 head_each (l ∷ ls) all = ((all.0).0, head_each ls all.1)
 
-head_filled : (ls : List Text) → AllByRecursion (λ line. IsLine line × (0 < length line)) ls → Apart [] ls
+pub head_filled : (ls : List Text) → AllByRecursion (λ line. IsLine line × (0 < length line)) ls → Apart [] ls
 head_filled [] all = tt
 head_filled (l ∷ ls) all = (λ e. let size = ap length e in let some = (all.0).1 in omega (arith, size, some), head_filled ls all.1)
 
-abbrev subject_line : Parts → Text
+abbrev pub subject_line : Parts → Text
 subject_line p = codes "Subject: " ++ issue_title p.name p.issue
 
 each_line : (p : Parts) → AreParts p → AllByRecursion IsLine (digest_lines p)
@@ -135,10 +135,10 @@ each_line p are =
     (has_both 10 (codes "End of ") (issue_title p.name p.issue) refl title, (stars (length (end_line p.name p.issue)), tt))
 
 -- the lines in the order in which they are told
-abbrev behind_rule : Parts → List Text
+abbrev pub behind_rule : Parts → List Text
 behind_rule p = [] ∷ (flat_map message_lines p.messages ++ last_lines p.name p.issue)
 
-in_turn : (p : Parts) → digest_lines p ≡ (p.head ++ subject_line p ∷ []) ++ [] ∷ (p.preface ++ preamble_rule ∷ behind_rule p)
+pub in_turn : (p : Parts) → digest_lines p ≡ (p.head ++ subject_line p ∷ []) ++ [] ∷ (p.preface ++ preamble_rule ∷ behind_rule p)
 in_turn p =
     let m = flat_map message_lines p.messages in
     let z = last_lines p.name p.issue in

@@ -1,8 +1,12 @@
 -- The range of a digest that is due.
-use Rattle.std.proofs.Common.{◌≡◌, ◌<◌, ◌+◌, ◌-◌, ℕ, Bool, true, false, cond, not, List, [], ◌∷◌, length, take, Some, None, refl, sym, ap, ◌∙◌, subst, arith}
+use Rattle.std.proofs.Common.{◌≡◌, ◌<◌, ◌+◌, ◌-◌, ℕ, Bool, true, false, cond, not, List, [], ◌∷◌, length, take, sum, Option, Some, None, refl, sym, ap, ap₂, ◌∙◌, subst, arith, ◌≤◌, ◌==◌, ◌&&◌, ◌||◌}
+use Rattle.std.specs.Prelude.{nat_lt, nat_le}
+use Rattle.std.proofs.lemmas.Bool.{leb-true, ne_eqb}
+use Rattle.std.proofs.lemmas.Bool.Decides.{nat_tests}
+use Rattle.std.proofs.lemmas.List.{take_all}
 use Rattle.std.proofs.lemmas.Bool.{and_parts, false≢true}
 use Rattle.ml_base.specs.Bytes.{is_empty}
-use Rattle.ml_base.specs.Cuts.{one_or_within}
+use Rattle.ml_base.specs.Cuts.{within, one_or_within}
 use Rattle.ml_rows.specs.Longest.{IsLongest}
 use Rattle.ml_rows.proofs.CutLaws.{cut_is, cut_some}
 use Rattle.ml_rows.proofs.RowLaws.{one_some, none_some}
@@ -43,3 +47,49 @@ due_range last oldest now sizes range e = go (is_due sizes oldest now) refl
     go true is =
         let same = one_some (range_of last sizes) range (sym (ap (λ t. cond t (Some (range_of last sizes)) None) is) ∙ e) in
         subst (λ r. IsNextRange last sizes r) same (next_range last sizes (filled sizes (and_parts (not (is_empty sizes)) _ is).0))
+
+-- how a loop takes sizes
+abbrev within_count : ℕ → ℕ → List ℕ → ℕ
+within_count count room xs = length (within own_size count room xs)
+
+pub stops_many : (count room : ℕ) (xs : List ℕ) → count ≡ 0 → within_count count room xs ≡ 0
+stops_many count room [] none = refl
+stops_many count room (x ∷ xs) none = ap (λ c. length (cond (nat_lt 0 c && nat_le x room) (x ∷ within own_size (count - 1) (room - x) xs) [])) none
+
+pub stops_large : (count room : ℕ) (ys : List ℕ) (x : ℕ) (xs : List ℕ) → ys ≡ x ∷ xs → room < x → within_count count room ys ≡ 0
+stops_large count room ys x xs e large = ap (within_count count room) e ∙ go (nat_lt 0 count && nat_le x room) refl
+  where
+    go : (t : Bool) → (nat_lt 0 count && nat_le x room) ≡ t → length (cond t (x ∷ within own_size (count - 1) (room - x) xs) []) ≡ 0
+    go false is = refl
+    go true is = absurd (let small = leb-true x room (and_parts (nat_lt 0 count) (nat_le x room) is).1 in omega (arith, small, large))
+
+pub goes_on : (count room : ℕ) (ys : List ℕ) (x : ℕ) (xs : List ℕ) → ys ≡ x ∷ xs → 0 < count → x ≤ room → within_count count room ys ≡ within_count (count - 1) (room - x) xs + 1
+goes_on count room ys x xs e some small = ap (within_count count room) e ∙ go (nat_lt 0 count && nat_le x room) refl
+  where
+    go : (t : Bool) → (nat_lt 0 count && nat_le x room) ≡ t → length (cond t (x ∷ within own_size (count - 1) (room - x) xs) []) ≡ within_count (count - 1) (room - x) xs + 1
+    go true is = omega arith
+    go false is = grind (arith, nat_tests)
+
+-- the test of the code
+empty_by : (xs : List ℕ) → is_empty xs ≡ (length xs == 0)
+empty_by [] = refl
+empty_by (x ∷ xs) = sym (ne_eqb (length (x ∷ xs)) 0 (λ e. omega (arith, e)))
+
+pub is_due_by : (sizes : List ℕ) (oldest now : ℕ) → length sizes ≤ 100
+    → is_due sizes oldest now ≡ (not (length sizes == 0) && (nat_le 30 (length sizes) || nat_le 65_536 (sum sizes) || nat_le 172_800 (now - oldest)))
+is_due_by sizes oldest now few =
+    ap₂ (λ (e : Bool) (s : ℕ). not e && (nat_le 30 (length sizes) || nat_le 65_536 s || nat_le 172_800 (now - oldest))) (empty_by sizes) (ap sum (take_all 100 sizes few))
+
+-- the answer by the code's test
+abbrev range_when : ℕ → List ℕ → Bool → Option Range
+range_when last sizes is = cond is (Some (range_of last sizes)) None
+
+pub due_none : (last oldest now : ℕ) (sizes : List ℕ) (t : Bool) → t ≡ is_due sizes oldest now → t ≡ false → None ≡ due last sizes oldest now
+due_none last oldest now sizes t e none = sym (ap (range_when last sizes) (sym e ∙ none))
+
+abbrev one_range : Range → Option Range
+one_range r = Some r
+
+pub due_some : (last oldest now : ℕ) (sizes : List ℕ) (t : Bool) (count : ℕ) → t ≡ is_due sizes oldest now → t ≡ true → count ≡ length (taken sizes)
+    → Some (record { first = last + 1; last = last + count }) ≡ due last sizes oldest now
+due_some last oldest now sizes t count e some same = ap (λ n. one_range (record { first = last + 1; last = last + n })) same ∙ sym (ap (range_when last sizes) (sym e ∙ some))

@@ -1,0 +1,95 @@
+// When a digest is due, and of which posts.
+ghost use Rattle.std.specs.Prelude.{◌≡◌, ◌==◌, ◌≤◌, ◌<◌, ◌-◌, not, ◌&&◌, ◌||◌, nat_le, length, sum, IfSome, EachIndex, slice_index};
+ghost use Rattle.ml_base.specs.Cuts as cuts;
+ghost use Rattle.ml_digest.specs.Due as words;
+ghost use Rattle.ml_digest.specs.Due.{IsNextRange};
+
+use crate::{Mark, Range};
+use ml_base::age;
+
+// So many posts are due, so many bytes, and a post so many seconds old.
+const POSTS: usize = 30;
+
+const BYTES: u64 = 65_536;
+
+const SECONDS: u64 = 172_800;
+
+// The most posts and bytes of posts in a digest.
+const MAX_POSTS: usize = 100;
+
+const MAX_BYTES: u64 = 4_194_304;
+
+/// The posts of the digest that is due, or None where none is. `sizes` are the bytes of the first 100 posts behind the
+/// mark, or of all where there are fewer, `oldest` is the moment of the first of them, and `now` the current one, both in
+/// seconds since 1970.
+///
+/// One is due where there are 30 posts, or they have 65,536 bytes together, or there is one and it is 172,800 seconds old.
+/// It has as many of them as have at most 4,194,304 bytes together, but the first one always. It takes no memory.
+pub fn due(mark: &Mark, sizes: &[u64], oldest: u64, now: u64) -> Option<Range>
+    requires count { length sizes.now ≤ 100 }
+    requires each { EachIndex sizes.now (λ k. slice_index sizes.now k < 4_294_967_296) }
+    requires last { mark.now.last ≤ 99_999_999 }
+    ensures value { result ≡ words.due mark.now.last sizes.now oldest now }
+    ensures range { IfSome result (IsNextRange mark.now.last sizes.now) }
+{
+    if !is_due(sizes, oldest, now) {
+        return None;
+    }
+    Some(Range {
+        first: mark.last + 1,
+        last: mark.last + one_or_within(sizes) as u64,
+    })
+}
+
+// Whether a digest is due.
+fn is_due(sizes: &[u64], oldest: u64, now: u64) -> bool
+    requires count { length sizes.now ≤ 100 }
+    requires each { EachIndex sizes.now (λ k. slice_index sizes.now k < 4_294_967_296) }
+    ensures { result ≡ (not (length sizes.now == 0) && (nat_le 30 (length sizes.now) || nat_le 65_536 (sum sizes.now) || nat_le 172_800 (now - oldest))) }
+{
+    !sizes.is_empty()
+        && (sizes.len() >= POSTS || total(sizes) >= BYTES || age(now, oldest) >= SECONDS)
+}
+
+// The bytes of all posts.
+fn total(sizes: &[u64]) -> u64
+    requires count { length sizes.now ≤ 100 }
+    requires each { EachIndex sizes.now (λ k. slice_index sizes.now k < 4_294_967_296) }
+    ensures { result ≡ sum sizes.now }
+{
+    let mut total = 0;
+    for size in sizes {
+        total += *size;
+    }
+    total
+}
+
+// How many posts a digest takes: the first one always.
+fn one_or_within(sizes: &[u64]) -> usize
+    ensures value { result ≡ length (cuts.one_or_within (λ size. size) 100 4_194_304 sizes.now) }
+    ensures few { result ≤ 100 }
+{
+    match sizes.split_first() {
+        None => 0,
+        Some((first, rest)) => {
+            if *first > MAX_BYTES {
+                return 1;
+            }
+            1 + within(MAX_POSTS - 1, MAX_BYTES - *first, rest)
+        }
+    }
+}
+
+// How many of the first things there are at most so many of, of at most this size together.
+fn within(count: usize, mut room: u64, sizes: &[u64]) -> usize
+    ensures value { result ≡ length (cuts.within (λ size. size) count room sizes.now) }
+    ensures few { result ≤ count }
+{
+    for (i, size) in sizes.iter().enumerate() {
+        if i >= count || *size > room {
+            return i;
+        }
+        room -= *size;
+    }
+    sizes.len()
+}
