@@ -1,0 +1,3 @@
+mod Recipients
+mod Damages
+mod Rows

@@ -1,0 +1,67 @@
+-- What is found of a post, and the files that tell it.
+use Rattle.std.specs.Prelude.{◌≡◌, ℕ, Bool, not, ◌&&◌, ◌||◌, [], ◌∷◌}
+use Rattle.ml_base.specs.Address.{key}
+use Rattle.ml_base.specs.Bytes.{Text}
+use Rattle.ml_base.specs.Dir.{Dir, same_name}
+use Rattle.ml_base.specs.declared.names.Name.{Name}
+use Rattle.ml_base.specs.declared.names.Set.{Set}
+use Rattle.ml_base.specs.declared.names.Set.TheVariants as sets
+use Rattle.ml_archive.specs.Archive.{number_name}
+use Rattle.ml_archive.specs.Answers.{IsNoNumber}
+use Rattle.ml_config.specs.declared.configuration.Config.{Config}
+use Rattle.ml_subs.specs.Buckets.{bucket_of}
+use Rattle.ml_subs.specs.Subscribers.{IsNoBucket, bucket_name}
+use Rattle.ml_archive.specs.Subjects.{subject}
+use Rattle.ml_base.specs.Bytes.{lower, is_empty}
+use Rattle.ml_plain.specs.Plain.{Plain, is_in, is_archive_full, first_row}
+use Rattle.ml_plain.specs.Verdicts.{is_command, is_addressed, is_user}
+use Rattle.ml_plain.specs.Verdicts.{Verdict, TooBig, BounceSender, Looped, Denied, NoSubject, CommandSubject, NotAddressed, UsersOnly, Held, Full, Posted}
+use Rattle.ml_post.specs.declared.verdicts.Verdict.{Verdict as Found}
+use Rattle.ml_post.specs.declared.verdicts.Verdict.TheVariants as found
+
+-- the row of the table that was found
+abbrev pub row_of : Found → Verdict
+row_of found.TooBig = TooBig
+row_of found.BounceSender = BounceSender
+row_of found.Looped = Looped
+row_of found.Denied = Denied
+row_of found.NoSubject = NoSubject
+row_of found.CommandSubject = CommandSubject
+row_of found.NotAddressed = NotAddressed
+row_of found.UsersOnly = UsersOnly
+row_of found.Held = Held
+row_of found.Full = Full
+row_of found.Posted = Posted
+
+-- what is found of a post that no row before holds of: first of the archive and of moderation, then of the sender as a user, of the
+-- text, and of the sender in the deny list
+abbrev pub of_room : Plain → Verdict
+of_room p = first_row ((p.config.flags.m, Held) ∷ (is_archive_full p, Full) ∷ []) Posted
+
+abbrev pub of_user : Plain → Text → Verdict
+of_user p who = first_row ((p.config.flags.u && not (is_user p who), UsersOnly) ∷ []) (of_room p)
+
+abbrev pub of_text : Plain → Text → Text → Verdict
+of_text p who m =
+    first_row ((is_empty (subject m), NoSubject) ∷ (is_command (lower (subject m)), CommandSubject) ∷ (not (is_addressed p.config m), NotAddressed) ∷ []) (of_user p who)
+
+abbrev pub of_sender : Plain → Text → Text → Verdict
+of_sender p who m = first_row ((p.config.flags.k && is_in p sets.Deny who, Denied) ∷ []) (of_text p who m)
+
+-- the file of a set that has an address, where it has it
+abbrev pub is_bucket_of : Set → Text → Name → Bool
+is_bucket_of set who name = same_name name (bucket_name set (bucket_of (key who)))
+
+-- the files of the four sets whose members are users
+abbrev pub is_of_user : Text → Name → Bool
+is_of_user who name = is_bucket_of sets.List who name || is_bucket_of sets.Digest who name || is_bucket_of sets.Allow who name || is_bucket_of sets.Moderators who name
+
+-- the files that a verdict may read: the sender's in the deny list where there is one, his in the users' sets where only users
+-- may post, and the number of posts
+abbrev pub is_judged_by : Config → Text → Name → Bool
+is_judged_by c sender name = (c.flags.k && is_bucket_of sets.Deny sender name) || (c.flags.u && is_of_user sender name) || same_name name number_name
+
+-- a file of those that posts read that is outside its grammar
+pub data IsDamaged (dir : Dir) (name : Name) : Type 0 where
+  bucket : (set : Set) (n : ℕ) → name ≡ bucket_name set n → IsNoBucket dir set n → IsDamaged dir name
+  number : name ≡ number_name → IsNoNumber dir → IsDamaged dir name

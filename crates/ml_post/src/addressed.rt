@@ -1,0 +1,107 @@
+// Whether a message is addressed to the list.
+ghost use Rattle.std.specs.Prelude.{◌≡◌, true, IfOk, None};
+ghost use Rattle.ml_base.specs.Bytes.{lower};
+ghost use Rattle.ml_base.specs.Texts.{post_address};
+ghost use Rattle.ml_header.specs.Places.{text_of};
+ghost use Rattle.ml_header.specs.Lines.{begins_with};
+ghost use Rattle.ml_plain.specs.Verdicts as spec;
+ghost use Rattle.ml_post.specs.Recipients.{recipients};
+
+use ml_base::Bytes;
+use ml_config::Config;
+use ml_header::{Field, Message};
+use std::alloc::{AllocError, Global};
+
+// Whether a To or Cc field names the list.
+pub(crate) fn is_addressed(
+    alloc: Global,
+    config: &Config,
+    message: &Message<'_>,
+) -> Result<bool, AllocError>
+    ensures { IfOk result (λ is. is ≡ spec.is_addressed config.now message.now) }
+{
+    let address = lower_address(alloc, config)?;
+    let mut fields = message.fields();
+    while let Some(field) = fields.next() {
+        if is_recipient(&field) && has_lowered(alloc, address.as_slice(), field.value)? {
+            return Ok(true);
+        }
+    }
+    Ok(false)
+}
+
+// LOCAL@HOST in lower case.
+fn lower_address(alloc: Global, config: &Config) -> Result<Bytes, AllocError>
+    ensures { IfOk result (λ address. address ≡ lower (post_address config.now.local config.now.host)) }
+{
+    let mut address = Bytes::from_slice(alloc, config.local.as_slice())?;
+    address.push(b'@')?;
+    address.extend(config.host.as_slice())?;
+    let lowered = address.as_slice().to_ascii_lowercase(alloc)?;
+    Ok(Bytes::from_vec(lowered))
+}
+
+// Whether a field is named To or Cc.
+fn is_recipient(field: &Field<'_>) -> bool
+    ensures { result ≡ recipients (text_of field.now) }
+{
+    field.name.eq_ignore_ascii_case(b"to") || field.name.eq_ignore_ascii_case(b"cc")
+}
+
+// Whether a value has an address, which is in lower case, at some place where it goes on to neither side.
+fn has_lowered(alloc: Global, address: &[u8], value: &[u8]) -> Result<bool, AllocError>
+    ensures { IfOk result (λ has. has ≡ spec.has_address address.now None (lower value.now)) }
+{
+    let text = value.to_ascii_lowercase(alloc)?;
+    Ok(has_address(address, &text))
+}
+
+// Whether a text has an address at some place where it goes on to neither side.
+fn has_address(address: &[u8], text: &[u8]) -> bool
+    ensures { result ≡ spec.has_address address.now None text.now }
+{
+    let mut before: Option<u8> = None;
+    let mut rest = text;
+    while let [first, more @ ..] = rest {
+        if is_free_left(before) && begins_with_address(address, rest) {
+            return true;
+        }
+        before = Some(*first);
+        rest = more;
+    }
+    false
+}
+
+// Whether an address may begin behind a byte, or behind none.
+fn is_free_left(before: Option<u8>) -> bool
+    ensures { result ≡ spec.is_free spec.goes_on_left before }
+{
+    match before {
+        None => true,
+        Some(byte) => !(goes_on_right(byte) || byte == b'_' || byte == b'+' || byte == b'='),
+    }
+}
+
+// Whether a byte goes on an address to its right.
+fn goes_on_right(byte: u8) -> bool
+    ensures { result ≡ spec.goes_on_right byte }
+{
+    byte.is_ascii_alphanumeric() || byte == b'-' || byte == b'.'
+}
+
+// Whether a text begins with an address, which doesn't go on behind it.
+fn begins_with_address(address: &[u8], text: &[u8]) -> bool
+    ensures { result ≡ spec.begins_with_address address.now text.now }
+{
+    text.starts_with(address) && is_free_right(text.get(address.len()).copied())
+}
+
+// Whether an address may end before a byte, or at the end.
+fn is_free_right(next: Option<u8>) -> bool
+    ensures { result ≡ spec.is_free spec.goes_on_right next }
+{
+    match next {
+        None => true,
+        Some(byte) => !goes_on_right(byte),
+    }
+}

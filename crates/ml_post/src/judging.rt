@@ -1,0 +1,240 @@
+// What is found of a post: the first row of the table that holds.
+ghost use Rattle.std.specs.Prelude.{◌≡◌, ◌&&◌, ◌||◌, true, false, not, IsTrue, IfOk, IfErr, MatchOption, is_ok, Some, None};
+ghost use Rattle.ml_base.specs.Address.{address_check, address_of, key};
+ghost use Rattle.ml_base.specs.Bytes.{lower};
+ghost use Rattle.ml_base.specs.PartErrors.{OnDamaged};
+ghost use Rattle.ml_base.specs.ReadFiles.{IsReading, NamesDamaged};
+ghost use Rattle.ml_plain.specs.Directory.{IsList};
+ghost use Rattle.ml_plain.specs.Plain.{Plain, is_in};
+ghost use Rattle.ml_plain.specs.Verdicts as spec;
+ghost use Rattle.ml_archive.specs.Archive.{number_name};
+ghost use Rattle.ml_base.specs.Dir.{same_name};
+ghost use Rattle.ml_base.specs.declared.names.Set.TheVariants as sets;
+ghost use Rattle.ml_post.specs.Judging.{row_of, is_judged_by, is_bucket_of, is_of_user, IsDamaged};
+ghost use Rattle.ml_post.specs.Judging as rows;
+
+use crate::Verdict;
+use crate::addressed::is_addressed;
+use ml_archive::{count, subject};
+use ml_base::{Address, AddressError, Files, PartError, Set};
+use ml_config::Config;
+use ml_header::Message;
+use ml_subs::member;
+use std::alloc::{AllocError, Global};
+
+// The archive takes so many posts.
+const MOST_POSTS: u64 = 99_999_999;
+
+/// What is found of a post of an envelope sender: the first row of the table that holds.
+///
+/// Of the files it reads the sender's bucket of the deny list, where the list has one; his buckets of the sets list, digest,
+/// allow and mod, where only users may post; and the number of posts. `Damaged` names one of these that is outside its
+/// grammar. `Fault` comes only where a read failed.
+pub fn verdict<F: Files>(
+    alloc: Global,
+    files: &mut F,
+    config: &Config,
+    sender: &[u8],
+    message: &Message<'_>,
+) -> Result<Verdict, PartError>
+    ensures value { IsTrue F.tells → IfOk result (λ found. (p : Plain) → IsList (F.map files.old) p → p.config ≡ config.now → row_of found ≡ spec.verdict p sender.now message.now) }
+    ensures names { NamesDamaged ⟦<F as Files>⟧ (λ name. is_judged_by config.now sender.now name ≡ true) (IsDamaged (F.map files.old)) result }
+    ensures sound { IsTrue F.tells → (p : Plain) → IsList (F.map files.old) p → IfErr result (λ e. OnDamaged e (λ _. ⊥)) }
+    ensures reads { IsReading ⟦<F as Files>⟧ files.old files.new result }
+{
+    if message.bytes().len() as u64 > config.max {
+        return Ok(Verdict::TooBig);
+    }
+    let Some(who) = usable(alloc, sender)? else {
+        return Ok(Verdict::BounceSender);
+    };
+    if message.field(b"mailing-list").is_some() {
+        return Ok(Verdict::Looped);
+    }
+    of_sender(alloc, files, config, &who, message)
+}
+
+// The address of an envelope sender, or None where it is none.
+fn usable(alloc: Global, sender: &[u8]) -> Result<Option<Address>, AllocError>
+    ensures { IfOk result (λ found. MatchOption found (spec.is_usable sender.now ≡ false) (λ who. (spec.is_usable sender.now ≡ true) × (address_of sender.now ≡ Some who))) }
+{
+    match Address::parse(alloc, sender) {
+        Ok(address) => Ok(Some(address)),
+        Err(AddressError::Fault(_)) => Ok(None),
+        Err(AddressError::Memory) => Err(AllocError),
+    }
+}
+
+// What is found of a post that isn't too long, has a sender and didn't come from the list.
+fn of_sender<F: Files>(
+    alloc: Global,
+    files: &mut F,
+    config: &Config,
+    who: &Address,
+    message: &Message<'_>,
+) -> Result<Verdict, PartError>
+    ensures value { IsTrue F.tells → IfOk result (λ found. (p : Plain) → IsList (F.map files.old) p → p.config ≡ config.now → row_of found ≡ rows.of_sender p who.now message.now) }
+    ensures names { NamesDamaged ⟦<F as Files>⟧ (λ name. is_judged_by config.now who.now name ≡ true) (IsDamaged (F.map files.old)) result }
+    ensures sound { IsTrue F.tells → (p : Plain) → IsList (F.map files.old) p → IfErr result (λ e. OnDamaged e (λ _. ⊥)) }
+    ensures reads { IsReading ⟦<F as Files>⟧ files.old files.new result }
+{
+    if is_denied(alloc, files, config, who)? {
+        return Ok(Verdict::Denied);
+    }
+    of_text(alloc, files, config, who, message)
+}
+
+// Whether there is a deny list, and an address is on it.
+fn is_denied<F: Files>(
+    alloc: Global,
+    files: &mut F,
+    config: &Config,
+    who: &Address,
+) -> Result<bool, PartError>
+    ensures value { IsTrue F.tells → IfOk result (λ is. (p : Plain) → IsList (F.map files.old) p → p.config ≡ config.now → is ≡ (p.config.flags.k && is_in p sets.Deny who.now)) }
+    ensures names { NamesDamaged ⟦<F as Files>⟧ (λ name. is_judged_by config.now who.now name ≡ true) (IsDamaged (F.map files.old)) result }
+    ensures sound { IsTrue F.tells → (p : Plain) → IsList (F.map files.old) p → IfErr result (λ e. OnDamaged e (λ _. ⊥)) }
+    ensures reads { IsReading ⟦<F as Files>⟧ files.old files.new result }
+{
+    if !config.flags.k {
+        return Ok(false);
+    }
+    is_member(alloc, files, Set::Deny, who)
+}
+
+// What is found of a post whose sender isn't denied.
+fn of_text<F: Files>(
+    alloc: Global,
+    files: &mut F,
+    config: &Config,
+    who: &Address,
+    message: &Message<'_>,
+) -> Result<Verdict, PartError>
+    ensures value { IsTrue F.tells → IfOk result (λ found. (p : Plain) → IsList (F.map files.old) p → p.config ≡ config.now → row_of found ≡ rows.of_text p who.now message.now) }
+    ensures names { NamesDamaged ⟦<F as Files>⟧ (λ name. is_judged_by config.now who.now name ≡ true) (IsDamaged (F.map files.old)) result }
+    ensures sound { IsTrue F.tells → (p : Plain) → IsList (F.map files.old) p → IfErr result (λ e. OnDamaged e (λ _. ⊥)) }
+    ensures reads { IsReading ⟦<F as Files>⟧ files.old files.new result }
+{
+    let subject = subject(alloc, message)?;
+    if subject.is_empty() {
+        return Ok(Verdict::NoSubject);
+    }
+    if is_command(subject.as_slice()) {
+        return Ok(Verdict::CommandSubject);
+    }
+    if !is_addressed(alloc, config, message)? {
+        return Ok(Verdict::NotAddressed);
+    }
+    of_user(alloc, files, config, who)
+}
+
+// Whether a subject is a command, in any case of letters.
+fn is_command(subject: &[u8]) -> bool
+    ensures { result ≡ spec.is_command (lower subject.now) }
+{
+    subject.eq_ignore_ascii_case(b"subscribe")
+        || subject.eq_ignore_ascii_case(b"unsubscribe")
+        || subject.eq_ignore_ascii_case(b"help")
+        || subject.eq_ignore_ascii_case(b"remove")
+        || subject.eq_ignore_ascii_case(b"signoff")
+}
+
+// What is found of a post with a text that is taken.
+fn of_user<F: Files>(
+    alloc: Global,
+    files: &mut F,
+    config: &Config,
+    who: &Address,
+) -> Result<Verdict, PartError>
+    ensures value { IsTrue F.tells → IfOk result (λ found. (p : Plain) → IsList (F.map files.old) p → p.config ≡ config.now → row_of found ≡ rows.of_user p who.now) }
+    ensures names { NamesDamaged ⟦<F as Files>⟧ (λ name. is_judged_by config.now who.now name ≡ true) (IsDamaged (F.map files.old)) result }
+    ensures sound { IsTrue F.tells → (p : Plain) → IsList (F.map files.old) p → IfErr result (λ e. OnDamaged e (λ _. ⊥)) }
+    ensures reads { IsReading ⟦<F as Files>⟧ files.old files.new result }
+{
+    if is_stranger(alloc, files, config, who)? {
+        return Ok(Verdict::UsersOnly);
+    }
+    of_room(alloc, files, config)
+}
+
+// Whether only users may post, and an address is none of them.
+fn is_stranger<F: Files>(
+    alloc: Global,
+    files: &mut F,
+    config: &Config,
+    who: &Address,
+) -> Result<bool, PartError>
+    ensures value { IsTrue F.tells → IfOk result (λ is. (p : Plain) → IsList (F.map files.old) p → p.config ≡ config.now → is ≡ (p.config.flags.u && not (spec.is_user p who.now))) }
+    ensures names { NamesDamaged ⟦<F as Files>⟧ (λ name. is_judged_by config.now who.now name ≡ true) (IsDamaged (F.map files.old)) result }
+    ensures sound { IsTrue F.tells → (p : Plain) → IsList (F.map files.old) p → IfErr result (λ e. OnDamaged e (λ _. ⊥)) }
+    ensures reads { IsReading ⟦<F as Files>⟧ files.old files.new result }
+{
+    if !config.flags.u {
+        return Ok(false);
+    }
+    let user = is_user(alloc, files, who)?;
+    Ok(!user)
+}
+
+// Whether an address is in one of the sets whose members are users.
+fn is_user<F: Files>(alloc: Global, files: &mut F, who: &Address) -> Result<bool, PartError>
+    ensures value { IsTrue F.tells → IfOk result (λ is. (p : Plain) → IsList (F.map files.old) p → is ≡ (spec.is_user p who.now)) }
+    ensures names { NamesDamaged ⟦<F as Files>⟧ (λ name. is_of_user who.now name ≡ true) (IsDamaged (F.map files.old)) result }
+    ensures sound { IsTrue F.tells → (p : Plain) → IsList (F.map files.old) p → IfErr result (λ e. OnDamaged e (λ _. ⊥)) }
+    ensures reads { IsReading ⟦<F as Files>⟧ files.old files.new result }
+{
+    if is_in_either(alloc, files, Set::List, Set::Digest, who)? {
+        return Ok(true);
+    }
+    is_in_either(alloc, files, Set::Allow, Set::Moderators, who)
+}
+
+// Whether an address is in one of two sets.
+fn is_in_either<F: Files>(
+    alloc: Global,
+    files: &mut F,
+    first: Set,
+    second: Set,
+    who: &Address,
+) -> Result<bool, PartError>
+    ensures value { IsTrue F.tells → IfOk result (λ is. (p : Plain) → IsList (F.map files.old) p → is ≡ (is_in p first who.now || is_in p second who.now)) }
+    ensures names { NamesDamaged ⟦<F as Files>⟧ (λ name. (is_bucket_of first who.now name || is_bucket_of second who.now name) ≡ true) (IsDamaged (F.map files.old)) result }
+    ensures sound { IsTrue F.tells → (p : Plain) → IsList (F.map files.old) p → IfErr result (λ e. OnDamaged e (λ _. ⊥)) }
+    ensures reads { IsReading ⟦<F as Files>⟧ files.old files.new result }
+{
+    if is_member(alloc, files, first, who)? {
+        return Ok(true);
+    }
+    is_member(alloc, files, second, who)
+}
+
+// Whether an address is in a set of the list.
+fn is_member<F: Files>(
+    alloc: Global,
+    files: &mut F,
+    set: Set,
+    who: &Address,
+) -> Result<bool, PartError>
+    ensures value { IsTrue F.tells → IfOk result (λ is. (p : Plain) → IsList (F.map files.old) p → is ≡ (is_in p set who.now)) }
+    ensures names { NamesDamaged ⟦<F as Files>⟧ (λ name. is_bucket_of set who.now name ≡ true) (IsDamaged (F.map files.old)) result }
+    ensures sound { IsTrue F.tells → (p : Plain) → IsList (F.map files.old) p → IfErr result (λ e. OnDamaged e (λ _. ⊥)) }
+    ensures reads { IsReading ⟦<F as Files>⟧ files.old files.new result }
+{
+    member(alloc, files, set, who)
+}
+
+// What is found of a post that its sender may send: whether it waits, and whether there is room for it.
+fn of_room<F: Files>(alloc: Global, files: &mut F, config: &Config) -> Result<Verdict, PartError>
+    ensures value { IsTrue F.tells → IfOk result (λ found. (p : Plain) → IsList (F.map files.old) p → p.config ≡ config.now → row_of found ≡ rows.of_room p) }
+    ensures names { NamesDamaged ⟦<F as Files>⟧ (λ name. same_name name number_name ≡ true) (IsDamaged (F.map files.old)) result }
+    ensures sound { IsTrue F.tells → (p : Plain) → IsList (F.map files.old) p → IfErr result (λ e. OnDamaged e (λ _. ⊥)) }
+    ensures reads { IsReading ⟦<F as Files>⟧ files.old files.new result }
+{
+    if config.flags.m {
+        return Ok(Verdict::Held);
+    }
+    if count(alloc, files)? >= MOST_POSTS {
+        return Ok(Verdict::Full);
+    }
+    Ok(Verdict::Posted)
+}

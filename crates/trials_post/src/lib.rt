@@ -1,0 +1,5 @@
+//! Tests of the public calls on posts.
+#![tactic(auto)]
+
+#[cfg(test)]
+mod verdicts;
