@@ -11,10 +11,11 @@ use Rattle.ml_plain.specs.Histories.{State}
 use Rattle.ml_plain.specs.declared.Item.{Item}
 use Rattle.ml_ending.specs.declared.lines.Why.{Why}
 use Rattle.ml_ending.specs.declared.lines.Why.TheVariants as whys
-use Rattle.ml_run.specs.Endings.{AnswersAll, Begins, EndsEarly, Runs, Stopped}
+use Rattle.ml_run.specs.Endings.{AnswersAll, Begins, Brings, EndsEarly, HasMore, IsBroken, Runs, Stopped, TellsStream}
 use Rattle.ml_run.specs.Leaving.{HasState}
 use Rattle.ml_run.specs.Stops.{is_run_status}
-use Rattle.ml_stream.specs.Stream.{StreamEnd, End, item_at, got}
+use Rattle.ml_stream.specs.Stream.{StreamEnd, End, Broken, item_at, got}
+use Rattle.ml_stream.specs.declared.stream.StreamError.TheVariants as errors
 use Rattle.ml_stream.specs.Writing.{spelled_item}
 use Rattle.ezmlm.specs.Single.{AnswersIt, is_single_status}
 
@@ -74,12 +75,32 @@ answers_it told status answered held output item q before never a =
     ⊎_elim (λ ended. inl ended)
     (λ b. ⊎_elim (λ memory. inr (inl memory)) (λ c. ⊎_elim (λ out. inr (inr (inl out))) (λ d. ⊎_elim (λ input. absurd (never input)) (λ disk. inr (inr (inr disk))) d) c) b) a
 
-pub status_known : (status : ℕ) → (status ≡ 74 → ⊥) → is_run_status status ≡ true → is_single_status status ≡ true
-status_known status never is = go (eqb status 74) refl
+-- the stream of an item's own bytes is that item
+pub brings_item : (item : Item) (bytes : Text) → bytes ≡ spelled_item item → item_at 0 (spelled_item item ++ []) ≡ got (Some item) (0 + length (spelled_item item)) [] → Brings (Some bytes) (item ∷ []) End
+brings_item item bytes is read =
+    let own = spelled_item item in record {
+      bytes = own;
+      left_is = ap Some is;
+      stream = (0 + length own, [], subst (λ (t : Text). item_at 0 t ≡ got (Some item) (0 + length own) []) (append-nil own) read, refl);
+    }
+
+not_broken : IsBroken End → ⊥
+not_broken b = ⊎_elim (λ (e : End ≡ Broken (errors.Bad b.0)). cc) (λ (e : End ≡ Broken (errors.Short b.0)). cc) b.1
+
+no_more : (item : Item) → HasMore 1 (item ∷ []) End → ⊥
+no_more item m = ⊎_elim (λ lt. omega (arith, lt)) (λ other. other refl) m
+
+pub status_known : (status answered : ℕ) (item : Item) → (status ≡ 74 → ⊥) → TellsStream status 1 answered (item ∷ []) End → is_run_status status ≡ true → is_single_status status ≡ true
+status_known status answered item never tells is =
+    let broken : status ≡ 65 → ⊥ = λ e. not_broken (tells.broken e).0 in
+    let more : status ≡ 72 → ⊥ = λ e. no_more item (tells.more e).1 in
+    go (eqb status 74) (eqb status 65) (eqb status 72) refl refl refl broken more
   where
-    go : (t : Bool) → eqb status 74 ≡ t → is_single_status status ≡ true
-    go true e = absurd (never (eqb-true status 74 e))
-    go false e = grind (arith, nat_tests)
+    go : (a b d : Bool) → eqb status 74 ≡ a → eqb status 65 ≡ b → eqb status 72 ≡ d → (status ≡ 65 → ⊥) → (status ≡ 72 → ⊥) → is_single_status status ≡ true
+    go true b d e f h broken more = absurd (never (eqb-true status 74 e))
+    go false true d e f h broken more = absurd (broken (eqb-true status 65 f))
+    go false false true e f h broken more = absurd (more (eqb-true status 72 h))
+    go false false false e f h broken more = grind (arith, nat_tests)
 
 pub none_rose : Rose 0 0 → ⊥
 none_rose rose = absurd (omega (arith, rose))

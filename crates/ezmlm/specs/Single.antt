@@ -7,6 +7,7 @@ use Rattle.ml_base.specs.Ranges.{IsMoment}
 use Rattle.ml_config.specs.ConfigFile.{config_name}
 use Rattle.ml_plain.specs.Histories.{State}
 use Rattle.ml_plain.specs.Items.{IsAct}
+use Rattle.ml_plain.specs.Replies.{is_status}
 use Rattle.ml_plain.specs.declared.Act.{Act}
 use Rattle.ml_plain.specs.declared.Item.{Item}
 use Rattle.ml_site.specs.Disk.{Contents, IsAtRest}
@@ -30,7 +31,7 @@ pub record IsGiven (number : ℕ) (act : Act) : Type 0 where
 
 -- the statuses of such a command once its item is given
 abbrev pub is_single_status : ℕ → Bool
-is_single_status status = status == 0 || status == 65 || status == 71 || status == 72 || status == 73 || status == 75 || status == 100 || status == 111
+is_single_status status = status == 0 || status == 71 || status == 73 || status == 75 || status == 100 || status == 111
 
 -- The item was done and answered, with the status of its reply; or memory was wanting, or the output or the disk failed.
 abbrev pub AnswersIt : Type 0 → ℕ → ℕ → Contents → Text → Item → State → Text → Type 0
@@ -42,6 +43,7 @@ pub record AnswersItem {S : Type 0} (told : Ghosts S) (item : Item) (old new : S
   pub answered : ℕ
   pub known : IsTrue (is_single_status status)
   pub few : answered ≤ 1
+  pub done : IsTrue (is_status status) → answered ≡ 1
   pub whole : IsTrue told.tells_reads → (q : State) → HasState (directory (told.disk old).reads) q
       → Runs (IsTrue told.tells_all) ⊥ status 1 answered (told.disk new).reads (told.output new) (item ∷ []) End q (told.output old)
   pub complete : IsTrue told.tells_reads → (q : State) → HasState (directory (told.disk old).reads) q

@@ -13,7 +13,7 @@ use Rattle.ml_journal.specs.Log.{directory}
 use Rattle.ml_stream.specs.Stream.{StreamEnd, End}
 use Rattle.ml_ending.specs.declared.lines.Why.TheVariants as whys
 use Rattle.ml_ending.specs.Endings.{Opens, MissesList, Says}
-use Rattle.ml_run.specs.Endings.{AnswersAll, Begins, Runs, Names, FromTaken}
+use Rattle.ml_run.specs.Endings.{AnswersAll, Begins, Brings, Runs, Names, FromTaken, TellsStream}
 use Rattle.ml_run.specs.Leaving.{IsAfterSome}
 use Rattle.ezmlm.specs.Words.{Command, Spool, BadWord, NoCommand}
 use Rattle.ezmlm.specs.declared.spooling.Limit.{Limit}
@@ -49,6 +49,7 @@ pub record Spools {I S : Type 0} (source : SourceGhosts I) (told : Ghosts S) (li
       → Opens told old new (IsAfterSome q (take limit all) (told.output old))
   pub at_rest : IsAtRest (told.disk old) → (all : List Item) (ending : StreamEnd) (q : State) → Begins (source.left input) (told.disk old).reads all ending q
       → Leaves told old new (IsAfterSome q (take limit all) (told.output old))
+  pub streamed : (all : List Item) (ending : StreamEnd) → Brings (source.left input) all ending → TellsStream run limit answered all ending
   pub rest : (all : List Item) (ending : StreamEnd) (q : State) → Begins (source.left input) (told.disk old).reads all ending q
       → (Rose (told.disk_faults old) (told.disk_faults new) → ⊥) → (status ≡ 71 → ⊥) → (status ≡ 73 → ⊥) → IsTrue told.tells_all → IsAtRest (told.disk new)
   pub taken : IsTrue told.tells_reads → (all : List Item) (ending : StreamEnd) (q : State) → Begins (source.left input) (told.disk old).reads all ending q

@@ -15,3 +15,4 @@ pub mod Missing
 pub mod Complete
 pub mod Taking
 pub mod Taken
+pub mod Streamed

@@ -10,6 +10,7 @@ use Rattle.ml_base.specs.Dir.{Dir}
 use Rattle.ml_config.specs.ConfigFile.{config_name}
 use Rattle.ml_list.specs.Damage.{IsDamaged}
 use Rattle.ml_plain.specs.Histories.{State, fold, text, last_from}
+use Rattle.ml_plain.specs.Replies.{is_status}
 use Rattle.ml_ending.specs.declared.lines.Why.{Why}
 use Rattle.ml_ending.specs.declared.lines.Why.TheVariants as whys
 use Rattle.ml_stream.specs.declared.stream.StreamError.TheVariants as errors
@@ -29,6 +30,12 @@ pub record Begins (left : Option Text) (held : Contents) (all : List Item) (endi
   pub stream : IsStream 0 bytes all ending
   pub state : HasState (directory held) q
 
+-- the bytes left are these items and then go on so
+pub record Brings (left : Option Text) (all : List Item) (ending : StreamEnd) : Type 0 where
+  pub bytes : Text
+  pub left_is : left ≡ Some bytes
+  pub stream : IsStream 0 bytes all ending
+
 -- behind the first items there are more, or something that is none
 abbrev pub HasMore : ℕ → List Item → StreamEnd → Type 0
 HasMore limit all ending = (limit < length all) ⊎ (¬ (ending ≡ End))
@@ -47,6 +54,17 @@ EndsEarly whys.Memory who input limit held all ending q done behind = IsNumberOf
 EndsEarly whys.Disk who input limit held all ending q done behind =
     IsNumberOf who behind × (who ≡ None → (done ≡ []) ⊎ ((behind ≡ []) ⊎ input))
 EndsEarly _ who input limit held all ending q done behind = ⊥
+
+-- a stream goes on with a bad element, or ends too early
+abbrev pub IsBroken : StreamEnd → Type 0
+IsBroken ending = (at : ℕ) × ((ending ≡ Broken (errors.Bad at)) ⊎ (ending ≡ Broken (errors.Short at)))
+
+-- What a status tells of the stream, whatever the directory: 0 and 100, that all of it was read and answered; 65, that it is bad or ends too
+-- early behind fewer items than were to be answered, which all are; and 72, that so many are answered and there is more.
+pub record TellsStream (status limit answered : ℕ) (all : List Item) (ending : StreamEnd) : Type 0 where
+  pub whole : IsTrue (is_status status) → (ending ≡ End) × (answered ≡ length all)
+  pub broken : status ≡ 65 → IsBroken ending × (answered ≡ length all) × (length all < limit)
+  pub more : status ≡ 72 → (answered ≡ limit) × HasMore limit all ending
 
 -- all items were read, done and answered
 pub record Ended (told : Type 0) (status limit answered : ℕ) (held : Contents) (output : Text) (all : List Item) (ending : StreamEnd) (q : State) (before : Text) : Type 0 where
@@ -97,6 +115,14 @@ Runs told input status limit answered held output all ending q before =
 abbrev pub AnswersAll : Type 0 → ℕ → ℕ → ℕ → Contents → Text → List Item → State → Text → Type 0
 AnswersAll told status limit answered held output all q before =
     Ended told status limit answered held output all End q before ⊎ ((status ≡ 71) ⊎ ((status ≡ 73) ⊎ ((status ≡ 74) ⊎ (status ≡ 111))))
+
+-- the first items were answered, and the reader stands behind them
+pub record HasRead (answered : ℕ) (reader : Items) (left : Option Text) (all : List Item) (ending : StreamEnd) : Type 0 where
+  pub done : List Item
+  pub ahead : List Item
+  pub split : all ≡ done ++ ahead
+  pub count : answered ≡ length done
+  pub stream : IsAhead reader left ahead ending
 
 -- The first items are done and answered, and the reader stands behind them.
 pub record IsServing {S : Type 0} (told : Ghosts S) (start now : S) (limit answered last : ℕ) (reader : Items) (left : Option Text) (all : List Item) (ending : StreamEnd) (q : State) : Type 0 where

@@ -100,6 +100,32 @@ IsEnd ends.Full more reader left rest ending = IsAhead reader left rest ending
 IsEnd ends.Last more reader left rest ending = (rest ≡ []) × (ending ≡ End)
 IsEnd (ends.Stopped who why) more reader left rest ending = IsStop why who more rest ending
 
+-- Why a group was stopped, as far as the stream tells it: it is bad or ends too early behind these items, where so many more were to be
+-- read; or all that were to be read were, and there is more.
+abbrev pub IsByStream : Why → ℕ → List Item → StreamEnd → Type 0
+IsByStream (whys.Bad at) more rest ending = (0 < more) × (rest ≡ []) × (ending ≡ Broken (errors.Bad at))
+IsByStream (whys.Short at) more rest ending = (0 < more) × (rest ≡ []) × (ending ≡ Broken (errors.Short at))
+IsByStream whys.More more rest ending = (more ≡ 0) × ((rest ≢ []) ⊎ (¬ (ending ≡ End)))
+IsByStream whys.Input more rest ending = Unit {0}
+IsByStream whys.Memory more rest ending = Unit {0}
+IsByStream whys.Disk more rest ending = Unit {0}
+IsByStream (whys.At name) more rest ending = Unit {0}
+IsByStream _ more rest ending = ⊥
+
+-- how a group ended, as far as the stream tells it
+abbrev pub EndsByStream : GroupEnd → ℕ → Items → Option Text → List Item → StreamEnd → Type 0
+EndsByStream ends.Full more reader left rest ending = IsAhead reader left rest ending
+EndsByStream ends.Last more reader left rest ending = (rest ≡ []) × (ending ≡ End)
+EndsByStream (ends.Stopped who why) more reader left rest ending = IsByStream why more rest ending
+
+-- a group took so many of the items that were ahead, where so many more were to be read
+pub record Reads (end : GroupEnd) (count more : ℕ) (reader : Items) (left : Option Text) (ahead : List Item) (ending : StreamEnd) : Type 0 where
+  pub items : List Item
+  pub rest : List Item
+  pub split : ahead ≡ items ++ rest
+  pub count_is : count ≡ length items
+  pub ends : EndsByStream end more reader left rest ending
+
 -- a group of the first items that were ahead, of which at most so many were to be read
 pub record Gathers (dir : Dir) (last : ℕ) (g : Group) (end : GroupEnd) (room : ℕ) (reader : Items) (left : Option Text) (ahead : List Item) (ending : StreamEnd) (q : State) : Type 0 where
   pub items : List Item

@@ -9,7 +9,7 @@ ghost use Rattle.ml_journal.specs.Stores.{site_of};
 ghost use Rattle.ml_list.specs.Damage.{IsDamaged};
 ghost use Rattle.ml_plain.specs.Directory.{IsState};
 ghost use Rattle.ml_plain.specs.Histories.{State};
-ghost use Rattle.ml_run.specs.Groups.{IsGroup, IsEmptyGroup, IsAhead, Gathers, EndsWithReason, EndsNumbered, IsFullGroup, EndsInTime, IsEnd, Takes, TakesSome};
+ghost use Rattle.ml_run.specs.Groups.{IsGroup, IsEmptyGroup, IsAhead, Gathers, EndsWithReason, EndsNumbered, IsFullGroup, EndsInTime, IsEnd, Takes, TakesSome, EndsByStream, Reads};
 ghost use Rattle.ml_stream.specs.Items.{error_of, place_of, ahead_of, HasLeft};
 ghost use Rattle.ml_run.specs.Leaving.{dir_of};
 ghost use Rattle.ml_run.specs.Stops.{why_of_stream};
@@ -46,6 +46,8 @@ pub(crate) fn gather<I: Source, S: Site>(
     ensures gathered { IsTrue S.tells_reads → (ahead : List TheItem) (ending : StreamEnd) (q : State) →
         IsAhead reader.old (I.left input.old) ahead ending → IsState (dir_of store) q →
         Gathers (dir_of store) group.last result.1 result.2 room reader.new (I.left input.new) ahead ending q }
+    ensures streamed { (ahead : List TheItem) (ending : StreamEnd) → IsAhead reader.old (I.left input.old) ahead ending →
+        Reads result.2 result.1.count (room - result.1.count) reader.new (I.left input.new) ahead ending }
     ensures taken { (bs : Text) → ahead_of reader.old ≡ None → HasLeft reader.old (I.left input.old) bs →
         TakesSome result.2 (place_of reader.old) bs result.1.count (room - result.1.count) reader.new (I.left input.new) }
     ensures later { I.faults input.old ≤ I.faults input.new }
@@ -86,6 +88,8 @@ fn behind<I: Source>(input: &mut I, reader: &mut Items) -> GroupEnd
     ensures sound { error_of reader.new ≡ None }
     ensures behind { (ahead : List TheItem) (ending : StreamEnd) → IsAhead reader.old (I.left input.old) ahead ending →
         IsEnd result 0 reader.new (I.left input.new) ahead ending }
+    ensures streamed { (ahead : List TheItem) (ending : StreamEnd) → IsAhead reader.old (I.left input.old) ahead ending →
+        EndsByStream result 0 reader.new (I.left input.new) ahead ending }
     ensures taken { (bs : Text) → HasLeft reader.old (I.left input.old) bs →
         Takes result (place_of reader.old) bs [] 0 reader.new (I.left input.new) }
     ensures more { result ≢ Full }

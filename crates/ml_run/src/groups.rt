@@ -10,7 +10,7 @@ use crate::lines::answer_line;
 use ml_base::{Bytes, Put, Txn};
 use ml_ending::Why;
 use ml_plain::{Reply, status};
-use std::alloc::Global;
+use std::alloc::{AllocError, Global};
 
 // The most items of a group.
 pub(crate) const MAX_ITEMS: u64 = 16;
@@ -82,10 +82,16 @@ pub(crate) fn with_answer(
         first,
         last,
     } = group;
-    let before = lines.len();
-    let mut line = [0u8; 64];
-    let len = answer_line(number, reply, &mut line);
-    match lines.extend(&line[..len]) {
+    let front = txn.as_slice().len();
+    match add_both(&mut txn, &mut lines, number, more, reply) {
+        Ok(()) => {
+            let first = first_of(first, number);
+            let puts = laid(txn, front);
+            (
+                grouped(puts, lines, count + 1, first, status(reply.code)),
+                Ok(()),
+            )
+        }
         Err(_) => (
             Group {
                 txn,
@@ -97,40 +103,51 @@ pub(crate) fn with_answer(
             },
             Err(Why::Memory),
         ),
-        Ok(()) => {
-            let front = txn.as_slice().len();
-            match txn.join(more) {
-                Err(_) => {
-                    lines.truncate(before);
-                    (
-                        Group {
-                            txn,
-                            lines,
-                            count,
-                            size,
-                            first,
-                            last,
-                        },
-                        Err(Why::Memory),
-                    )
-                }
-                Ok(()) => {
-                    let puts = laid(txn, front);
-                    let size = contents_size(puts.as_slice());
-                    (
-                        Group {
-                            txn: puts,
-                            lines,
-                            count: count + 1,
-                            size,
-                            first: first_of(first, number),
-                            last: status(reply.code),
-                        },
-                        Ok(()),
-                    )
-                }
-            }
-        }
+    }
+}
+
+// Adds an item's puts and its answer line. Where memory is wanting both are as they were.
+fn add_both(
+    txn: &mut Txn,
+    lines: &mut Bytes,
+    number: u64,
+    more: Txn,
+    reply: Reply,
+) -> Result<(), AllocError>
+    requires { IsTrue (is_code reply.code) }
+    ensures txn { OnOk result (txn.new ≡ txn.old ++ more) }
+    ensures lines { OnOk result (lines.new ≡ lines.old ++ line number reply) }
+    ensures same_txn { OnErr result (txn.new ≡ txn.old) }
+    ensures same_lines { OnErr result (lines.new ≡ lines.old) }
+{
+    let before = lines.len();
+    let mut line = [0u8; 64];
+    let len = answer_line(number, reply, &mut line);
+    lines.extend(&line[..len])?;
+    if let Err(error) = txn.join(more) {
+        lines.truncate(before);
+        return Err(error);
+    }
+    Ok(())
+}
+
+// The group of these puts, with their size.
+fn grouped(txn: Txn, lines: Bytes, count: u64, first: Option<u64>, last: u8) -> Group
+    ensures txn { result.txn ≡ txn }
+    ensures lines { result.lines ≡ lines }
+    ensures count { result.count ≡ count }
+    ensures size { result.size ≡ min (content_size txn) (2 ^ 64 - 1) }
+    ensures first { result.first ≡ first }
+    ensures last { result.last ≡ last }
+{
+    let size = contents_size(txn.as_slice());
+    Group {
+        txn,
+        lines,
+        count,
+        size,
+        first,
+        last,
     }
 }
 

@@ -9,7 +9,7 @@ ghost use Rattle.ml_journal.specs.Log.{directory};
 ghost use Rattle.ml_journal.specs.Stores.{site_of};
 ghost use Rattle.ml_plain.specs.Histories.{State};
 ghost use Rattle.ml_ending.specs.Endings.{Opens, MissesList};
-ghost use Rattle.ml_run.specs.Endings.{AnswersAll, Begins, Runs, Names, FromTaken};
+ghost use Rattle.ml_run.specs.Endings.{AnswersAll, Begins, Brings, Runs, Names, FromTaken, TellsStream};
 ghost use Rattle.ml_journal.specs.Calls.{Leaves};
 ghost use Rattle.ml_run.specs.Leaving.{IsAfterSome};
 ghost use Rattle.ml_ending.specs.Stops.{why_of_open};
@@ -59,6 +59,9 @@ pub fn run<I: Source, S: Site>(alloc: Global, limit: u64, input: &mut I, site: S
         Begins (I.left input.old) (S.disk site).reads all ending q → FromTaken (I.left input.old) (I.left input.new) (λ items.
         (IsTrue S.tells_all → IsAfterSome q (take limit items) (S.output site) (S.disk result.1).reads (S.output result.1))
         × (result.0.status ≡ 74 → result.0.answered ≡ length items)) }
+
+    // What its status tells of the stream, whatever the directory.
+    ensures streamed { (all : List TheItem) (ending : StreamEnd) → Brings (I.left input.old) all ending → TellsStream result.0.status limit result.0.answered all ending }
 
     // Nothing is pending then, but after a fault or want of memory.
     ensures rest { (all : List TheItem) (ending : StreamEnd) (q : State) → Begins (I.left input.old) (S.disk site).reads all ending q →
@@ -123,6 +126,7 @@ fn opened<I: Source, S: Site>(
         Begins (I.left input.old) (S.disk (site_of store)).reads all ending q → FromTaken (I.left input.old) (I.left input.new) (λ items.
         Leaves ⟦<S as Site>⟧ (site_of store) result.1 (IsAfterSome q (take limit items) (S.output (site_of store)))
         × (result.0.status ≡ 74 → result.0.answered ≡ length items)) }
+    ensures streamed { (all : List TheItem) (ending : StreamEnd) → Brings (I.left input.old) all ending → TellsStream result.0.status limit result.0.answered all ending }
     ensures rest { (Rose (S.disk_faults (site_of store)) (S.disk_faults result.1) → ⊥) → (result.0.status ≡ 71 → ⊥) → (result.0.status ≡ 73 → ⊥)
         → IsTrue S.tells_all → IsAtRest (S.disk result.1) }
     ensures gate { (result.0.status ≡ 71 → ⊥) → (result.0.status ≡ 73 → ⊥) → (result.0.status ≡ 111 → ⊥) → IsTrue S.tells_reads → (S.disk result.1).reads.log ≡ 0 ∷ [] }

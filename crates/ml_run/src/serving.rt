@@ -7,7 +7,7 @@ ghost use Rattle.ml_plain.specs.declared.Item.{Item as TheItem};
 ghost use Rattle.ml_journal.specs.Log.{directory};
 ghost use Rattle.ml_journal.specs.Stores.{site_of};
 ghost use Rattle.ml_plain.specs.Histories.{State};
-ghost use Rattle.ml_run.specs.Endings.{Begins, Runs, Names, FromTaken};
+ghost use Rattle.ml_run.specs.Endings.{Begins, Brings, Runs, Names, FromTaken, TellsStream};
 ghost use Rattle.ml_journal.specs.Calls.{Leaves};
 ghost use Rattle.ml_run.specs.Leaving.{dir_of, IsAfterSome};
 ghost use Rattle.ml_run.specs.Stops.{is_run_status};
@@ -42,6 +42,7 @@ pub(crate) fn serve<I: Source, S: Site>(
         Begins (I.left input.old) (S.disk (site_of store)).reads all ending q → FromTaken (I.left input.old) (I.left input.new) (λ items.
         Leaves ⟦<S as Site>⟧ (site_of store) result.1 (IsAfterSome q (take limit items) (S.output (site_of store)))
         × (result.0.status ≡ 74 → result.0.answered ≡ length items)) }
+    ensures streamed { (all : List TheItem) (ending : StreamEnd) → Brings (I.left input.old) all ending → TellsStream result.0.status limit result.0.answered all ending }
     ensures rest { (Rose (S.disk_faults (site_of store)) (S.disk_faults result.1) → ⊥) → (result.0.status ≡ 71 → ⊥) → (result.0.status ≡ 73 → ⊥)
         → IsTrue S.tells_all → IsAtRest (S.disk result.1) }
     ensures gate { (result.0.status ≡ 71 → ⊥) → (result.0.status ≡ 73 → ⊥) → (result.0.status ≡ 111 → ⊥) → IsTrue S.tells_reads → (S.disk result.1).reads.log ≡ 0 ∷ [] }

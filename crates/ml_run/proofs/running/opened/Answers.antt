@@ -1,4 +1,4 @@
-use Rattle.std.proofs.Common.{◌≡◌, ◌⊎◌, sym, ap, refl, subst, ◌∙◌, arith, [], take, None, Some, IsTrue, List, length}
+use Rattle.std.proofs.Common.{◌≡◌, ◌⊎◌, true, sym, ap, refl, subst, ◌∙◌, arith, [], take, None, Some, IsTrue, List, length}
 use Rattle.ml_base.specs.Faults.{Rose}
 use Rattle.ml_base.specs.PartErrors.{OnDamaged}
 use Rattle.ml_base.specs.declared.part.PartError.{PartError}
@@ -28,6 +28,7 @@ use Rattle.ml_run.proofs.Missing.{none_why, finished_misses, finished_fails, mis
 use Rattle.ml_plain.specs.declared.Item.{Item}
 use Rattle.ml_journal.specs.Calls.{Leaves}
 use Rattle.ml_run.proofs.Taken.{nothing_taken, taken_map}
+use Rattle.ml_run.proofs.Streamed.{is_failing, finished_failing, part_failing, tells_none}
 use Rattle.ml_run.proofs.running.opened.Goals as goal
 
 pub returns-in-Ok-Some-clause-whole : goal.returns-in-Ok-Some-clause-whole
@@ -141,3 +142,14 @@ returns-in-Err-clause-taken g c told all ending q b =
           (first_served g.S.Site now c.args.limit [] q b'.state (kept_itself g.met.S.Site.only_now c.load.new.files).moments) tt c.finish-in-Err.ensures.finishes),
       λ is. c.finish-in-Err.ensures.answered,
     )
+
+pub returns-in-Ok-None-clause-streamed : goal.returns-in-Ok-None-clause-streamed
+returns-in-Ok-None-clause-streamed g c all ending b =
+    tells_none c.finish.result.0.status c.args.limit c.finish.result.0.answered all ending
+    (finished_failing g.S.Site (site_of c.load.new.files) c.finish.result.1 (None, whys.NoList) c.finish.result.0.status 0 c.finish.ensures.finishes refl)
+
+pub returns-in-Err-clause-streamed : goal.returns-in-Err-clause-streamed
+returns-in-Err-clause-streamed g c all ending b =
+    tells_none c.finish-in-Err.result.0.status c.args.limit c.finish-in-Err.result.0.answered all ending
+    (finished_failing g.S.Site (site_of c.load.new.files) c.finish-in-Err.result.1 (None, c.why_of.result) c.finish-in-Err.result.0.status 0 c.finish-in-Err.ensures.finishes
+    (subst (λ (w : Why). is_failing (status_of_why w) ≡ true) (sym c.why_of.ensures) (part_failing c.in-Err.error)))

@@ -1,4 +1,4 @@
-use Rattle.std.proofs.Common.{◌≡◌, ◌⊎◌, inl, inr, ⊎_elim, sym, refl, subst, ◌∙◌, take, Option, None, Some, IsTrue, ℕ, arith, List, [], length}
+use Rattle.std.proofs.Common.{◌≡◌, ◌⊎◌, true, inl, inr, ⊎_elim, sym, refl, subst, ◌∙◌, take, Option, None, Some, IsTrue, ℕ, arith, List, [], length}
 use Rattle.ml_base.specs.Faults.{Rose}
 use Rattle.ml_journal.specs.Log.{directory}
 use Rattle.ml_journal.specs.Stores.{site_of}
@@ -25,6 +25,7 @@ use Rattle.ml_plain.specs.declared.Item.{Item}
 use Rattle.ml_journal.specs.Calls.{Leaves}
 use Rattle.ml_run.specs.Leaving.{IsAfterSome}
 use Rattle.ml_run.proofs.Taken.{nothing_taken, taken_map, said_after}
+use Rattle.ml_run.proofs.Streamed.{is_failing, open_failing, said_failing, tells_none}
 use Rattle.ml_run.proofs.running.run.Goals as goal
 
 pub returns-in_default-clause-whole : goal.returns-in_default-clause-whole
@@ -162,3 +163,13 @@ returns-in-Err-clause-taken g c told all ending q b =
           (λ r. at_site (λ s. directory (g.S.Site.disk s).reads ≡ directory (g.S.Site.disk c.args.site).reads) c.open.result _ c.in-Err.is (c.open.ensures.same r)) (at_site (λ s. g.S.Site.output s ≡ g.S.Site.output c.args.site) c.open.result _ c.in-Err.is (c.open.ensures.keeps.output t)) told t c.say-in-Err.ensures.says,
       λ is. c.say-in-Err.ensures.answered,
     )
+
+pub returns-in_default-clause-streamed : goal.returns-in_default-clause-streamed
+returns-in_default-clause-streamed g c all ending b =
+    tells_none c.say.result.0.status c.args.limit c.say.result.0.answered all ending (said_failing g.S.Site c.args.site c.say.result.1 c.say.result.0.status None whys.Memory c.say.ensures.says refl)
+
+pub returns-in-Err-clause-streamed : goal.returns-in-Err-clause-streamed
+returns-in-Err-clause-streamed g c all ending b =
+    tells_none c.say-in-Err.result.0.status c.args.limit c.say-in-Err.result.0.answered all ending
+    (said_failing g.S.Site c.in-Err.site c.say-in-Err.result.1 c.say-in-Err.result.0.status None c.not_opened.result c.say-in-Err.ensures.says
+    (subst (λ (w : Why). is_failing (status_of_why w) ≡ true) (sym c.not_opened.ensures) (open_failing c.in-Err.error)))

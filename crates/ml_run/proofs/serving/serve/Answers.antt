@@ -11,7 +11,7 @@ use Rattle.ml_plain.specs.Histories.{fold}
 use Rattle.ml_run.specs.declared.groups.GroupEnd.{GroupEnd}
 use Rattle.ml_stream.specs.Stream.{IsStream}
 use Rattle.ml_stream.specs.Items.{HasLeft, place_of}
-use Rattle.ml_run.specs.Groups.{EndsNumbered, IsEnd, IsStop, EndsWithReason, IsFullGroup, TakesSome, IsNumberOf}
+use Rattle.ml_run.specs.Groups.{EndsNumbered, IsEnd, IsStop, EndsWithReason, IsFullGroup, Reads, TakesSome, IsNumberOf}
 use Rattle.ml_run.specs.Leaving.{dir_of, IsAfterSome}
 use Rattle.ml_run.specs.Endings.{IsServing}
 use Rattle.ml_run.proofs.Leaving.{shown}
@@ -27,6 +27,7 @@ use Rattle.ml_journal.specs.Calls.{Leaves}
 use Rattle.ml_run.proofs.Rounds.{cut_split}
 use Rattle.ml_run.proofs.Taking.{takes_none}
 use Rattle.ml_run.proofs.Taken.{takes_joined, from_taken, finished_quiet, finished_other, all_answered}
+use Rattle.ml_run.proofs.Streamed.{all_read, read_next, read_split, tells_none, finished_whole, finished_why, refused_failing}
 use Rattle.ml_run.proofs.serving.serve.Goals as goal
 
 pub groups-init : goal.groups-init
@@ -42,6 +43,14 @@ groups-init g c =
         takes_none 0 bytes c.new-reader.result (g.I.Source.left c.args.input.now) (sym c.new-reader.ensures.place) c.new-reader.ensures.ahead
             (subst (λ (o : Option Text). HasLeft c.new-reader.result o bytes) (sym is) (c.new-reader.ensures.left bytes (g.met.I.Source.room c.args.input.now bytes is))),
       );
+      streamed = λ all ending b.
+          let has : HasLeft c.new-reader.result (g.I.Source.left c.args.input.now) b.bytes = subst (λ (o : Option Text). HasLeft c.new-reader.result o b.bytes) (sym b.left_is) (c.new-reader.ensures.left b.bytes (g.met.I.Source.room c.args.input.now b.bytes b.left_is)) in record {
+            done = [];
+            ahead = all;
+            split = refl;
+            count = refl;
+            stream = record { bytes = b.bytes; has = has; stream = subst (λ (n : ℕ). IsStream n b.bytes all ending) (sym c.new-reader.ensures.place) b.stream };
+          };
       input_later = omega arith;
       disk_later = omega arith;
       output_later = omega arith;
@@ -210,6 +219,10 @@ groups-preserved g c =
           let t = c.groups.invariant.taken bytes is in
           takes_joined bytes c.groups.answered c.gather-read.result.1.count 0 (c.args.limit - c.groups.answered - c.gather-read.result.1.count) 0 c.groups.reader c.gather-read.new.reader (g.I.Source.left c.groups.input) (g.I.Source.left c.gather-read.new.input) t
           (subst (λ (e : GroupEnd). TakesSome e (place_of c.groups.reader) t.2.rest c.gather-read.result.1.count (c.args.limit - c.groups.answered - c.gather-read.result.1.count) c.gather-read.new.reader (g.I.Source.left c.gather-read.new.input)) c.in-Full.is (c.gather-read.ensures.taken t.2.rest t.2.holds.1 t.2.holds.2));
+      streamed = λ all ending b.
+          let h = c.groups.invariant.streamed all ending b in
+          read_next c.groups.answered c.gather-read.result.1.count c.groups.reader c.gather-read.new.reader (g.I.Source.left c.groups.input) (g.I.Source.left c.gather-read.new.input) all ending (c.args.limit - c.groups.answered - c.gather-read.result.1.count) h
+          (subst (λ (e : GroupEnd). Reads e c.gather-read.result.1.count (c.args.limit - c.groups.answered - c.gather-read.result.1.count) c.gather-read.new.reader (g.I.Source.left c.gather-read.new.input) h.ahead ending) c.in-Full.is (c.gather-read.ensures.streamed h.ahead ending h.stream));
       input_later = omega (arith, c.groups.invariant.input_later, c.gather-read.ensures.later);
       disk_later = omega (arith, c.groups.invariant.disk_later, kept.disk_faults_are, c.in-Ok.ensures.faults);
       output_later = omega (arith, c.groups.invariant.output_later, kept.output_faults_are, c.in-Ok.ensures.others);
@@ -305,3 +318,23 @@ returns-in-Stopped-clause-taken g c told all ending q b =
       λ is. all_answered c.finish-in-Stopped.result.0.answered c.groups.answered c.gather-read.result.1.count i.done s.items behind c.finish-in-Stopped.ensures.answered i.count s.holds.count
           (tells.1 (finished_other g.S.Site (site_of c.in-Ok.settled) c.finish-in-Stopped.result.1 c.in-Stopped.number c.in-Stopped.why c.finish-in-Stopped.result.0.status c.gather-read.result.1.last c.finish-in-Stopped.ensures.finishes c.gather-read.ensures.group.last is)),
     ))
+
+pub returns-in-Err-clause-streamed : goal.returns-in-Err-clause-streamed
+returns-in-Err-clause-streamed g c all ending b =
+    tells_none c.refused.result.0.status c.args.limit c.refused.result.0.answered all ending
+    (refused_failing g.S.Site c.in-Err.site c.refused.result.1 c.refused.result.0.status c.gather-read.result.1.first c.in-Err.why (Rose (g.S.Site.disk_faults (site_of c.gather-read.result.0)) (g.S.Site.disk_faults c.in-Err.site)) (Rose (g.S.Site.output_faults (site_of c.gather-read.result.0)) (g.S.Site.output_faults c.in-Err.site))
+    c.in-Err.ensures.refused c.refused.ensures.refuses)
+
+pub returns-in-Last-clause-streamed : goal.returns-in-Last-clause-streamed
+returns-in-Last-clause-streamed g c all ending b =
+    let h = c.groups.invariant.streamed all ending b in
+    let r = subst (λ (e : GroupEnd). Reads e c.gather-read.result.1.count (c.args.limit - c.groups.answered - c.gather-read.result.1.count) c.gather-read.new.reader (g.I.Source.left c.gather-read.new.input) h.ahead ending) c.in-Last.is (c.gather-read.ensures.streamed h.ahead ending h.stream) in
+    finished_whole g.S.Site (site_of c.in-Ok.settled) c.finish.result.1 c.finish.result.0.status c.gather-read.result.1.last c.args.limit c.finish.result.0.answered all ending c.finish.ensures.finishes c.gather-read.ensures.group.last r.ends.1
+    (all_read c.groups.answered c.gather-read.result.1.count c.finish.result.0.answered all h.done r.items r.rest (read_split all h.done h.ahead r.items r.rest h.split r.split) h.count r.count_is r.ends.0 c.finish.ensures.answered)
+
+pub returns-in-Stopped-clause-streamed : goal.returns-in-Stopped-clause-streamed
+returns-in-Stopped-clause-streamed g c all ending b =
+    let h = c.groups.invariant.streamed all ending b in
+    let r = subst (λ (e : GroupEnd). Reads e c.gather-read.result.1.count (c.args.limit - c.groups.answered - c.gather-read.result.1.count) c.gather-read.new.reader (g.I.Source.left c.gather-read.new.input) h.ahead ending) c.in-Stopped.is (c.gather-read.ensures.streamed h.ahead ending h.stream) in
+    finished_why g.S.Site (site_of c.in-Ok.settled) c.finish-in-Stopped.result.1 (c.in-Stopped.number, c.in-Stopped.why) c.finish-in-Stopped.result.0.status c.gather-read.result.1.last c.args.limit c.groups.answered c.gather-read.result.1.count c.finish-in-Stopped.result.0.answered all h.done r.items r.rest ending
+    c.finish-in-Stopped.ensures.finishes (read_split all h.done h.ahead r.items r.rest h.split r.split) h.count r.count_is (omega (arith, c.groups.invariant.few, c.gather-read.ensures.few)) c.finish-in-Stopped.ensures.answered r.ends
