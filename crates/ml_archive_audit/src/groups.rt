@@ -1,0 +1,132 @@
+// The groups of posts, one after the other.
+ghost use Rattle.std.specs.Prelude.{◌≡◌, ◌<◌, ◌≤◌, ◌+◌, ◌*◌, ◌/◌, max, min, ℕ, length, IsTrue, IfOk, OnOk, true, false};
+ghost use Rattle.ml_base.specs.ReadFiles.{IsReading, NamesDamaged};
+ghost use Rattle.ml_archive.specs.Answers.{IsOtherSize};
+ghost use Rattle.ml_archive.specs.Archive as archive;
+ghost use Rattle.ml_archive_audit.specs.Breaks.{HasAll, IsGroupName, IsBadGroup, AreGroupNames, AreBadGroups};
+ghost use Rattle.ml_archive_audit.specs.Counted.{first_of};
+ghost use Rattle.ml_archive_audit.specs.Found as found;
+ghost use Rattle.ml_archive_audit.specs.Found.{AreKeyedBelow, AreOrdered, HasSize, HaveSizes, IsWhole, LacksSize};
+
+use crate::files::{NUMBER, index_name, post_name};
+use crate::keys::{Keys, add_entries};
+use ml_archive::{Entries, Entry, index};
+use ml_base::{Files, PartError};
+use std::alloc::Global;
+
+// The number of a group's first post.
+fn first_number(group: u64) -> u64
+    requires { group < 1_000_000 }
+    ensures { result ≡ first_of group }
+{
+    (100 * group).max(1)
+}
+
+// How many of so many posts a group has, which has its first.
+fn group_len(group: u64, count: u64) -> u64
+    requires group { first_of group ≤ count }
+    requires count { count ≤ 99_999_999 }
+    ensures { result + first_of group ≡ min (count + 1) (100 * group + 100) }
+{
+    (count + 1).min(100 * group + 100) - first_number(group)
+}
+
+// Whether the post of this number, which is in a group, is there with this many bytes.
+fn audit_size<F: Files>(
+    alloc: Global,
+    files: &mut F,
+    group: u64,
+    number: u64,
+    size: u64,
+) -> Result<(), PartError>
+    requires low { 1 ≤ number }
+    requires high { number ≤ 99_999_999 }
+    ensures value { IsTrue F.tells → OnOk result (HasSize (F.map files.old) number size) }
+    ensures names { NamesDamaged ⟦<F as Files>⟧ (λ name. name ≡ archive.index_name group) (λ _. IsOtherSize (F.map files.old) number size) result }
+    ensures reads { IsReading ⟦<F as Files>⟧ files.old files.new result }
+{
+    match files.get(alloc, post_name(number))? {
+        Some(bytes) if bytes.len() as u64 == size => Ok(()),
+        _ => Err(PartError::Damaged(index_name(group))),
+    }
+}
+
+// Whether each post of a group has the size that its entry says.
+fn audit_sizes<F: Files>(
+    alloc: Global,
+    files: &mut F,
+    group: u64,
+    entries: &[Entry],
+) -> Result<(), PartError>
+    requires group { group < 1_000_000 }
+    requires few { length entries.now + first_of group ≤ 100_000_000 }
+    ensures value { IsTrue F.tells → OnOk result (HaveSizes (F.map files.old) (first_of group) entries.now) }
+    ensures names { NamesDamaged ⟦<F as Files>⟧ (λ name. name ≡ archive.index_name group) (λ _. LacksSize (F.map files.old) (first_of group) entries.now) result }
+    ensures reads { IsReading ⟦<F as Files>⟧ files.old files.new result }
+{
+    let mut number = first_number(group);
+    let mut rest = entries;
+    while let [entry, more @ ..] = rest {
+        audit_size(alloc, files, group, number, entry.size)?;
+        number += 1;
+        rest = more;
+    }
+    Ok(())
+}
+
+// The entries of a group, one for each of its posts and with that post's size.
+fn audit_group<F: Files>(
+    alloc: Global,
+    files: &mut F,
+    count: u64,
+    group: u64,
+) -> Result<Entries, PartError>
+    requires group { first_of group ≤ count }
+    requires count { count ≤ 99_999_999 }
+    ensures value { IsTrue F.tells → IfOk result (IsWhole (F.map files.old) count group) }
+    ensures all { IfOk result (HasAll count group) }
+    ensures names { NamesDamaged ⟦<F as Files>⟧ (IsGroupName group) (IsBadGroup (F.map files.old) count group) result }
+    ensures reads { IsReading ⟦<F as Files>⟧ files.old files.new result }
+{
+    let entries = index(alloc, files, group)?;
+    if entries.as_slice().len() as u64 != group_len(group, count) {
+        return Err(PartError::Damaged(NUMBER));
+    }
+    audit_sizes(alloc, files, group, entries.as_slice())?;
+    Ok(entries)
+}
+
+// How many groups so many posts are in.
+fn groups_of(count: u64) -> u64
+    requires { count ≤ 99_999_999 }
+    ensures { result ≡ found.groups_of count }
+{
+    if count == 0 { 0 } else { count / 100 + 1 }
+}
+
+// The numbers of the posts under the keys of their subjects, by the entries of all groups.
+pub(crate) fn audit_groups<F: Files>(
+    alloc: Global,
+    files: &mut F,
+    prefix: &[u8],
+    count: u64,
+) -> Result<Keys, PartError>
+    requires { count ≤ 99_999_999 }
+    ensures value { IsTrue F.tells → IfOk result (AreKeyedBelow (F.map files.old) prefix.now count (found.groups_of count)) }
+    ensures ordered { IfOk result AreOrdered }
+    ensures names { NamesDamaged ⟦<F as Files>⟧ AreGroupNames (AreBadGroups (F.map files.old) count) result }
+    ensures reads { IsReading ⟦<F as Files>⟧ files.old files.new result }
+{
+    let mut keys = Keys::new(alloc);
+    for group in 0..groups_of(count) {
+        let entries = audit_group(alloc, files, count, group)?;
+        add_entries(
+            alloc,
+            &mut keys,
+            prefix,
+            first_number(group),
+            entries.as_slice(),
+        )?;
+    }
+    Ok(keys)
+}
