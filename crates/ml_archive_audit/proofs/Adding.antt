@@ -1,5 +1,5 @@
 -- Numbers that are added under keys.
-use Rattle.std.proofs.Common.{◌≡◌, ◌≤◌, ◌+◌, ℕ, Bool, true, false, cond, List, [], ◌∷◌, ◌++◌, length, Option, Some, None, refl, sym, ap, ap₂, ◌∙◌, arith, append-nil, append_assoc}
+use Rattle.std.proofs.Common.{◌≡◌, ◌≤◌, ◌+◌, ℕ, Bool, true, false, cond, List, [], ◌∷◌, ◌++◌, length, Option, Some, None, refl, sym, ap, ap₂, ◌∙◌, arith, append-nil}
 use Rattle.std.specs.Prelude.{unwrap_or, Vec}
 use Rattle.std.specs.BTreeMap.{insert_entry}
 use Rattle.std.specs.Map.{lookup, remove_entry}
@@ -105,18 +105,6 @@ took_some o ns found is same = same ∙ sym (ap (λ (o : Option (List ℕ)). unw
 
 pub took_none : (o : Option (List ℕ)) (ns new : List ℕ) → o ≡ None → ns ≡ new → new ≡ [] → ns ≡ unwrap_or o []
 took_none o ns new is same none = same ∙ none ∙ sym (ap (λ (o : Option (List ℕ)). unwrap_or o []) is)
-
--- one entry more
-step : (b : Bool) (o : Option (List ℕ)) (n : ℕ) (ms : List ℕ) → joined (cond b (joined o (n ∷ [])) o) ms ≡ joined o (cond b (n ∷ ms) ms)
-step true o n [] = refl
-step true o n (m ∷ ms) = ap Some (append_assoc (unwrap_or o []) (n ∷ []) (m ∷ ms))
-step false o n ms = refl
-
-pub entry_added : (prefix k key text : Text) (n : ℕ) (e : Entry) (rest more : List Entry) (old new begun : Option (List ℕ)) (all : List ℕ) → rest ≡ e ∷ more → text ≡ e.subject → key ≡ subject_key prefix text
-    → new ≡ cond (bytes_eq key k) (joined old (n ∷ [])) old → joined old (key_numbers prefix k n rest) ≡ joined begun all → joined new (key_numbers prefix k (n + 1) more) ≡ joined begun all
-entry_added prefix k key text n e rest more old new begun all is subject named one before =
-    ap (λ (o : Option (List ℕ)). joined o (key_numbers prefix k (n + 1) more)) (one ∙ ap (λ (t : Text). cond (bytes_eq t k) (joined old (n ∷ [])) old) (named ∙ ap (subject_key prefix) subject))
-    ∙ step (bytes_eq (subject_key prefix e.subject) k) old n (key_numbers prefix k (n + 1) more) ∙ sym (ap (λ (es : List Entry). joined old (key_numbers prefix k n es)) is) ∙ before
 
 -- the entries of one group more
 numbers_on : (prefix k : Text) (n m : ℕ) (xs ys : List Entry) → m ≡ n + length xs → key_numbers prefix k n (xs ++ ys) ≡ key_numbers prefix k n xs ++ key_numbers prefix k m ys
