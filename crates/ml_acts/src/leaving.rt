@@ -1,0 +1,70 @@
+// An address leaves a set.
+ghost use Rattle.std.specs.Prelude.{◌≡◌, ◌||◌, true, IsTrue, IfOk};
+ghost use Rattle.ml_base.specs.Address.{key};
+ghost use Rattle.ml_base.specs.Dir.{are_files, touches_only, with_puts};
+ghost use Rattle.ml_base.specs.ReadFiles.{IsReading, NamesDamaged};
+ghost use Rattle.ml_bounce.specs.Answers as ledgers;
+ghost use Rattle.ml_plain.specs.Directory.{IsList};
+ghost use Rattle.ml_plain.specs.Plain.{Plain};
+ghost use Rattle.ml_subs.specs.Answers.{puts_if};
+ghost use Rattle.ml_subs.specs.Subscribers.{is_touched};
+ghost use Rattle.ml_acts.specs.Doing.{Leaves, is_beside_queue, is_entry_of, without_entry};
+ghost use Rattle.ml_acts.specs.Damaged.{IsDamaged};
+
+use ml_base::{Address, Files, PartError, Set, Txn};
+use ml_bounce::forget;
+use ml_subs::remove;
+use std::alloc::Global;
+
+/// Removes an address, in any case of letters, from a set, and its entry from the set's ledger, where the set has one: the puts that
+/// do it, or None where the set doesn't have it. It reads the bucket of the address, and where that has it the set's count and the
+/// file of the ledger.
+pub fn remove_member<F: Files>(
+    alloc: Global,
+    files: &mut F,
+    set: Set,
+    who: &Address,
+) -> Result<Option<Txn>, PartError>
+    ensures value { IsTrue F.tells → IfOk result (λ answer. (p : Plain) → IsList (F.map files.old) p → Leaves (F.map files.old) set who.now p answer) }
+    ensures own { IfOk result (λ answer. touches_only is_beside_queue (puts_if answer) ≡ true) }
+    ensures files { IfOk result (λ answer. IsTrue (are_files (puts_if answer))) }
+    ensures names { NamesDamaged ⟦<F as Files>⟧ (λ name. (is_touched set (key who.now) name || is_entry_of set who.now name) ≡ true) (IsDamaged (F.map files.old)) result }
+    ensures reads { IsReading ⟦<F as Files>⟧ files.old files.new result }
+{
+    let Some(txn) = remove(alloc, files, set, who)? else {
+        return Ok(None);
+    };
+    Ok(Some(forgotten(alloc, files, set, who, txn)?))
+}
+
+// The puts that remove an address from a set, and behind them those by which the set's ledger forgets it, where it has one.
+fn forgotten<F: Files>(
+    alloc: Global,
+    files: &mut F,
+    set: Set,
+    who: &Address,
+    txn: Txn,
+) -> Result<Txn, PartError>
+    requires touched { touches_only (is_touched set (key who.now)) txn ≡ true }
+    requires names { IsTrue (are_files txn) }
+    ensures value { IsTrue F.tells → IfOk result (λ done. (p : Plain) → IsList (with_puts (F.map files.old) txn) p → IsList (with_puts (F.map files.old) done) (without_entry set who.now p)) }
+    ensures own { IfOk result (λ done. touches_only is_beside_queue done ≡ true) }
+    ensures files { IfOk result (λ done. IsTrue (are_files done)) }
+    ensures names { NamesDamaged ⟦<F as Files>⟧ (λ name. is_entry_of set who.now name ≡ true) (IsDamaged (F.map files.old)) result }
+    ensures reads { IsReading ⟦<F as Files>⟧ files.old files.new result }
+{
+    if !has_ledger(set) {
+        return Ok(txn);
+    }
+    let entry = forget(alloc, files, set, who)?;
+    let mut txn = txn;
+    txn.join(entry)?;
+    Ok(txn)
+}
+
+// Whether a set has a ledger.
+fn has_ledger(set: Set) -> bool
+    ensures { result ≡ ledgers.has_ledger set }
+{
+    matches!(set, Set::List | Set::Digest)
+}

@@ -1,0 +1,104 @@
+// Mails: each is one entry of the queue.
+ghost use Rattle.std.specs.Prelude.{◌≡◌, ◌∷◌, [], true, IsTrue, IfOk};
+ghost use Rattle.ml_base.specs.Address.{key};
+ghost use Rattle.ml_base.specs.Dir.{Dir, are_files, same_name, touches_only, with_puts};
+ghost use Rattle.ml_base.specs.Ranges.{IsMoment};
+ghost use Rattle.ml_base.specs.ReadFiles.{IsReading, NamesDamaged};
+ghost use Rattle.ml_base.specs.Sorted.{byte_cmp, is_sorted};
+ghost use Rattle.ml_base.specs.declared.names.Set.TheVariants as sets;
+ghost use Rattle.ml_plain.specs.Directory.{IsList};
+ghost use Rattle.ml_plain.specs.Mailing as spec;
+ghost use Rattle.ml_plain.specs.Plain.{Plain};
+ghost use Rattle.ml_queue.specs.Answers.{ids_name};
+ghost use Rattle.ml_acts.specs.Doing.{Alike, HasIds, is_mailed_by, is_of_queue, is_with_queue};
+ghost use Rattle.ml_acts.specs.Damaged.{IsDamaged};
+
+use crate::{recipients, reply_path};
+use ml_address::Path;
+use ml_base::{Address, AddressList, Bytes, Files, PartError, Row, Set, Txn};
+use ml_config::Config;
+use ml_queue::{Out, put};
+use ml_reply::{Mail, text};
+use std::alloc::{AllocError, Global};
+
+/// Puts a body into the queue, to recipients under a path: the puts that do it. The recipients are in ascending order of key, none
+/// twice; they may be nobody. It reads the counter of ids.
+pub fn send<F: Files>(
+    alloc: Global,
+    files: &mut F,
+    way: Path,
+    body: Bytes,
+    to: AddressList,
+) -> Result<Txn, PartError>
+    requires sorted { is_sorted byte_cmp key to ≡ true }
+    requires room { IsTrue F.tells → HasIds (F.map files.now) }
+    ensures value { IsTrue F.tells → IfOk result (λ txn. (dir : Dir) (p : Plain) → Alike is_of_queue (F.map files.old) dir → IsList dir p → IsList (with_puts dir txn) (spec.send way body to p)) }
+    ensures own { IfOk result (λ txn. touches_only is_of_queue txn ≡ true) }
+    ensures files { IfOk result (λ txn. IsTrue (are_files txn)) }
+    ensures names { NamesDamaged ⟦<F as Files>⟧ (λ name. same_name name ids_name ≡ true) (IsDamaged (F.map files.old)) result }
+    ensures reads { IsReading ⟦<F as Files>⟧ files.old files.new result }
+{
+    let out = Out {
+        path: way,
+        body,
+        to,
+    };
+    let (_, txn) = put(alloc, files, &out)?;
+    Ok(txn)
+}
+
+// The list of one address.
+fn one(alloc: Global, who: &Address) -> Result<AddressList, AllocError>
+    ensures value { IfOk result (λ to. to ≡ who.now ∷ []) }
+    ensures sorted { IfOk result (λ to. is_sorted byte_cmp key to ≡ true) }
+{
+    let mut to = Row::new(alloc);
+    to.push(who.copy(alloc)?)?;
+    Ok(to)
+}
+
+/// A mail of this moment to one address: the puts that queue it. It reads the counter of ids.
+pub fn mail_to<F: Files>(
+    alloc: Global,
+    files: &mut F,
+    config: &Config,
+    to: &Address,
+    now: u64,
+    mail: &Mail,
+) -> Result<Txn, PartError>
+    requires moment { IsMoment now }
+    requires room { IsTrue F.tells → HasIds (F.map files.now) }
+    ensures value { IsTrue F.tells → IfOk result (λ txn. (dir : Dir) (p : Plain) → Alike is_of_queue (F.map files.old) dir → IsList dir p → p.config ≡ config.now → IsList (with_puts dir txn) (spec.mail_to to.now now mail.now p)) }
+    ensures own { IfOk result (λ txn. touches_only is_of_queue txn ≡ true) }
+    ensures files { IfOk result (λ txn. IsTrue (are_files txn)) }
+    ensures names { NamesDamaged ⟦<F as Files>⟧ (λ name. same_name name ids_name ≡ true) (IsDamaged (F.map files.old)) result }
+    ensures reads { IsReading ⟦<F as Files>⟧ files.old files.new result }
+{
+    let way = reply_path(alloc, config)?;
+    let body = text(alloc, config, mail, now)?;
+    let to = one(alloc, to)?;
+    send(alloc, files, way, body, to)
+}
+
+/// A mail of this moment to all moderators, who may be nobody: the puts that queue it. It reads the moderators' set but for its
+/// count, and the counter of ids.
+pub fn mail_moderators<F: Files>(
+    alloc: Global,
+    files: &mut F,
+    config: &Config,
+    now: u64,
+    mail: &Mail,
+) -> Result<Txn, PartError>
+    requires moment { IsMoment now }
+    requires room { IsTrue F.tells → HasIds (F.map files.now) }
+    ensures value { IsTrue F.tells → IfOk result (λ txn. (dir : Dir) (p : Plain) → Alike (is_with_queue sets.Moderators) (F.map files.old) dir → IsList dir p → p.config ≡ config.now → IsList (with_puts dir txn) (spec.mail_moderators now mail.now p)) }
+    ensures own { IfOk result (λ txn. touches_only is_of_queue txn ≡ true) }
+    ensures files { IfOk result (λ txn. IsTrue (are_files txn)) }
+    ensures names { NamesDamaged ⟦<F as Files>⟧ (λ name. is_mailed_by sets.Moderators name ≡ true) (IsDamaged (F.map files.old)) result }
+    ensures reads { IsReading ⟦<F as Files>⟧ files.old files.new result }
+{
+    let way = reply_path(alloc, config)?;
+    let body = text(alloc, config, mail, now)?;
+    let to = recipients(alloc, files, Set::Moderators)?;
+    send(alloc, files, way, body, to)
+}
