@@ -1,8 +1,7 @@
 -- Which files are damaged, from what the calls of the parts say.
-use Rattle.std.proofs.Common.{◌≡◌, Bool, true, IsTrue, IfOk, IfErr, Result, Ok, Err, sym, subst, refl}
+use Rattle.std.proofs.Common.{◌≡◌, true, IsTrue, IfOk, Result, Ok, Err, sym, subst, refl}
 use Rattle.std.proofs.lemmas.Bool.{and_from, eq-eqb}
 use Rattle.ml_base.specs.Dir.{same_name}
-use Rattle.ml_base.specs.PartErrors.{OnDamaged}
 use Rattle.ml_base.specs.ReadFiles.{NamesDamaged}
 use Rattle.ml_base.specs.declared.files.Files.{Ghosts}
 use Rattle.ml_base.specs.declared.names.Name.{Name}

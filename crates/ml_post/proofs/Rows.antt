@@ -1,5 +1,5 @@
 -- The first of three rows that holds.
-use Rattle.std.proofs.Common.{◌≡◌, Bool, true, false, List, [], ◌∷◌, length, ap, ◌∙◌, cond, sym, refl}
+use Rattle.std.proofs.Common.{◌≡◌, Bool, true, false, [], ◌∷◌, length, ap, ◌∙◌, cond, sym, refl}
 use Rattle.std.specs.Prelude.{◌==◌}
 use Rattle.std.specs.Prelude.{not, ◌&&◌, ◌||◌}
 use Rattle.ml_base.specs.Address.{key}

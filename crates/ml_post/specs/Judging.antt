@@ -1,16 +1,15 @@
 -- What is found of a post, and the files that tell it.
-use Rattle.std.specs.Prelude.{◌≡◌, ℕ, Bool, not, ◌&&◌, ◌||◌, [], ◌∷◌}
+use Rattle.std.specs.Prelude.{Bool, not, ◌&&◌, ◌||◌, [], ◌∷◌}
 use Rattle.ml_base.specs.Address.{key}
 use Rattle.ml_base.specs.Bytes.{Text}
-use Rattle.ml_base.specs.Dir.{Dir, same_name}
+use Rattle.ml_base.specs.Dir.{same_name}
 use Rattle.ml_base.specs.declared.names.Name.{Name}
 use Rattle.ml_base.specs.declared.names.Set.{Set}
 use Rattle.ml_base.specs.declared.names.Set.TheVariants as sets
 use Rattle.ml_archive.specs.Archive.{number_name}
-use Rattle.ml_archive.specs.Answers.{IsNoNumber}
 use Rattle.ml_config.specs.declared.configuration.Config.{Config}
 use Rattle.ml_subs.specs.Buckets.{bucket_of}
-use Rattle.ml_subs.specs.Subscribers.{IsNoBucket, bucket_name}
+use Rattle.ml_subs.specs.Subscribers.{bucket_name}
 use Rattle.ml_archive.specs.Subjects.{subject}
 use Rattle.ml_base.specs.Bytes.{lower, is_empty}
 use Rattle.ml_plain.specs.Plain.{Plain, is_in, is_archive_full, first_row}
@@ -60,8 +59,3 @@ is_of_user who name = is_bucket_of sets.List who name || is_bucket_of sets.Diges
 -- may post, and the number of posts
 abbrev pub is_judged_by : Config → Text → Name → Bool
 is_judged_by c sender name = (c.flags.k && is_bucket_of sets.Deny sender name) || (c.flags.u && is_of_user sender name) || same_name name number_name
-
--- a file of those that posts read that is outside its grammar
-pub data IsDamaged (dir : Dir) (name : Name) : Type 0 where
-  bucket : (set : Set) (n : ℕ) → name ≡ bucket_name set n → IsNoBucket dir set n → IsDamaged dir name
-  number : name ≡ number_name → IsNoNumber dir → IsDamaged dir name

@@ -10,7 +10,8 @@ ghost use Rattle.ml_plain.specs.Verdicts as spec;
 ghost use Rattle.ml_archive.specs.Archive.{number_name};
 ghost use Rattle.ml_base.specs.Dir.{same_name};
 ghost use Rattle.ml_base.specs.declared.names.Set.TheVariants as sets;
-ghost use Rattle.ml_post.specs.Judging.{row_of, is_judged_by, is_bucket_of, is_of_user, IsDamaged};
+ghost use Rattle.ml_acts.specs.Damaged.{IsDamaged};
+ghost use Rattle.ml_post.specs.Judging.{row_of, is_judged_by, is_bucket_of, is_of_user};
 ghost use Rattle.ml_post.specs.Judging as rows;
 
 use crate::Verdict;
@@ -55,7 +56,7 @@ pub fn verdict<F: Files>(
 }
 
 // The address of an envelope sender, or None where it is none.
-fn usable(alloc: Global, sender: &[u8]) -> Result<Option<Address>, AllocError>
+pub(crate) fn usable(alloc: Global, sender: &[u8]) -> Result<Option<Address>, AllocError>
     ensures { IfOk result (λ found. MatchOption found (spec.is_usable sender.now ≡ false) (λ who. (spec.is_usable sender.now ≡ true) × (address_of sender.now ≡ Some who))) }
 {
     match Address::parse(alloc, sender) {

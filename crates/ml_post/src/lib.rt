@@ -1,9 +1,16 @@
-//! Posts: what is found of one, and what follows.
+//! Posts: what is found of one, and what follows; and what a moderator answers about one that waits.
 #![tactic(auto)]
 
 mod addressed;
+mod answering;
+mod holding;
 mod judging;
+mod posting;
+mod publishing;
+mod sending;
 mod verdicts;
 
+pub use answering::answer;
 pub use judging::verdict;
+pub use posting::post;
 pub use verdicts::Verdict;

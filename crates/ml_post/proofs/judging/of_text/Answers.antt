@@ -1,4 +1,4 @@
-use Rattle.std.proofs.Common.{◌≡◌, Bool, true, false, sym, ap, ◌∙◌, rules}
+use Rattle.std.proofs.Common.{◌≡◌, true, false, sym, ap, ◌∙◌, rules}
 use Rattle.std.specs.Prelude.{not}
 use Rattle.ml_archive.specs.Subjects.{subject}
 use Rattle.ml_base.specs.Bytes.{lower, is_empty}

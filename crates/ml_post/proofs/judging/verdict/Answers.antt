@@ -1,10 +1,9 @@
-use Rattle.std.proofs.Common.{◌≡◌, ◌<◌, ◌≤◌, Bool, true, false, length, Some, Option, sym, ap, ◌∙◌, rules, subst}
+use Rattle.std.proofs.Common.{◌≡◌, ◌≤◌, true, false, length, Some, Option, sym, ap, ◌∙◌, rules, subst}
 use Rattle.std.specs.Option.{MatchOption}
 use Rattle.std.specs.Prelude.{not, codes, nat_lt}
-use Rattle.std.proofs.lemmas.Bool.{lt-ltb, le-ltb}
-use Rattle.ml_base.specs.Address.{address_of, key}
+use Rattle.std.proofs.lemmas.Bool.{le-ltb}
+use Rattle.ml_base.specs.Address.{address_of}
 use Rattle.ml_base.specs.Bytes.{Text}
-use Rattle.ml_base.specs.declared.names.Name.{Name}
 use Rattle.ml_config.specs.declared.configuration.Config.{Config}
 use Rattle.ml_header.specs.Fields.{has_field}
 use Rattle.ml_header.specs.Places.{text_of}

@@ -1,0 +1,175 @@
+-- What a verdict says of the rows before the one that was found.
+use Rattle.std.proofs.Common.{◌≡◌, ◌≤◌, ◌+◌, ℕ, Bool, true, false, cond, List, [], length, refl, sym, ap, ◌∙◌, subst, arith}
+use Rattle.std.proofs.lemmas.Bool.{le-leb}
+use Rattle.std.specs.Prelude.{codes, nat_lt, not, ◌&&◌, Some, None}
+use Rattle.ml_base.specs.Address.{as_address, address_of}
+use Rattle.ml_base.specs.Bytes.{Text, is_empty, lower}
+use Rattle.ml_base.specs.Dir.{Dir, with_puts}
+use Rattle.ml_base.specs.declared.names.Set.TheVariants as sets
+use Rattle.ml_base.specs.declared.puts.Put.{Put}
+use Rattle.ml_archive.specs.Answers.{puts_of}
+use Rattle.ml_archive.specs.Subjects.{subject}
+use Rattle.ml_archive.specs.declared.posts.Appended.{Appended}
+use Rattle.ml_archive.specs.declared.posts.Appended.TheVariants.{At, Full}
+use Rattle.ml_header.specs.Fields.{has_field}
+use Rattle.ml_plain.specs.declared.Reply.{Reply}
+use Rattle.ml_plain.specs.Answers as answers
+use Rattle.ml_plain.specs.Directory.{IsList}
+use Rattle.ml_plain.specs.KeptFiles.{is_kept}
+use Rattle.ml_plain.specs.Plain.{Plain, is_in, is_archive_full}
+use Rattle.ml_plain.specs.Posting.{by_verdict, held_now, post, posted_now, sent_text, with_text}
+use Rattle.ml_plain.specs.Verdicts.{verdict, is_usable, is_command, is_addressed, is_user}
+use Rattle.ml_plain.specs.Verdicts as verdicts
+use Rattle.ml_acts.specs.Doing.{DoesList}
+use Rattle.ml_post.specs.Judging as rows
+use Rattle.ml_post.specs.Posting.{fate_of, reply_of}
+use Rattle.ml_post.specs.Publishing.{Publishes, number_of}
+use Rattle.ml_post.specs.declared.posting.Fate.TheVariants as fates
+use Rattle.ml_post.specs.declared.verdicts.Verdict.{Verdict as Found}
+use Rattle.ml_post.specs.declared.verdicts.Verdict.TheVariants as found
+
+-- a row before the one that was found doesn't hold
+past : {A : Type 0} (b : Bool) (x rest y : A) → cond b x rest ≡ y → (x ≡ y → ⊥) → (b ≡ false) × (rest ≡ y)
+past true x rest y e apart = absurd (apart e)
+past false x rest y e apart = (refl, e)
+
+not_not : (b : Bool) → not b ≡ false → b ≡ true
+not_not true e = refl
+not_not false e = absurd (let bad : true ≡ false = e in cc)
+
+-- where it is found that a message is held or posted, its sender is an address
+usable_by : (p : Plain) (sender m : Text) (v : verdicts.Verdict) → (verdicts.TooBig ≡ v → ⊥) → (verdicts.BounceSender ≡ v → ⊥) → verdict p sender m ≡ v → is_usable sender ≡ true
+unfolding verdict
+usable_by p sender m v apart apart2 e =
+    let behind = cond (has_field (codes "mailing-list") m) verdicts.Looped (rows.of_sender p sender m) in
+    let first = past (nat_lt p.config.max (length m)) verdicts.TooBig (cond (not (is_usable sender)) verdicts.BounceSender behind) v e apart in
+    not_not (is_usable sender) (past (not (is_usable sender)) verdicts.BounceSender behind v first.1 apart2).0
+
+pub held_usable : (p : Plain) (sender m : Text) → verdict p sender m ≡ verdicts.Held → is_usable sender ≡ true
+held_usable p sender m e = usable_by p sender m verdicts.Held (λ bad. cc) (λ bad. cc) e
+
+pub posted_usable : (p : Plain) (sender m : Text) → verdict p sender m ≡ verdicts.Posted → is_usable sender ≡ true
+posted_usable p sender m e = usable_by p sender m verdicts.Posted (λ bad. cc) (λ bad. cc) e
+
+-- where it is found that it is posted, the archive has room
+room_by : (p : Plain) → rows.of_room p ≡ verdicts.Posted → is_archive_full p ≡ false
+room_by p e =
+    let first = past p.config.flags.m verdicts.Held (cond (is_archive_full p) verdicts.Full verdicts.Posted) verdicts.Posted e (λ bad. cc) in
+    (past (is_archive_full p) verdicts.Full verdicts.Posted verdicts.Posted first.1 (λ bad. cc)).0
+
+user_by : (p : Plain) (who : Text) → rows.of_user p who ≡ verdicts.Posted → is_archive_full p ≡ false
+user_by p who e = room_by p (past (p.config.flags.u && not (is_user p who)) verdicts.UsersOnly (rows.of_room p) verdicts.Posted e (λ bad. cc)).1
+
+text_by : (p : Plain) (who m : Text) → rows.of_text p who m ≡ verdicts.Posted → is_archive_full p ≡ false
+text_by p who m e =
+    let third = cond (not (is_addressed p.config m)) verdicts.NotAddressed (rows.of_user p who) in
+    let second = cond (is_command (lower (subject m))) verdicts.CommandSubject third in
+    let one = past (is_empty (subject m)) verdicts.NoSubject second verdicts.Posted e (λ bad. cc) in
+    let two = past (is_command (lower (subject m))) verdicts.CommandSubject third verdicts.Posted one.1 (λ bad. cc) in
+    user_by p who (past (not (is_addressed p.config m)) verdicts.NotAddressed (rows.of_user p who) verdicts.Posted two.1 (λ bad. cc)).1
+
+pub posted_room : (p : Plain) (sender m : Text) → verdict p sender m ≡ verdicts.Posted → is_archive_full p ≡ false
+unfolding verdict
+posted_room p sender m e =
+    let fourth = rows.of_sender p sender m in
+    let third = cond (has_field (codes "mailing-list") m) verdicts.Looped fourth in
+    let second = cond (not (is_usable sender)) verdicts.BounceSender third in
+    let one = past (nat_lt p.config.max (length m)) verdicts.TooBig second verdicts.Posted e (λ bad. cc) in
+    let two = past (not (is_usable sender)) verdicts.BounceSender third verdicts.Posted one.1 (λ bad. cc) in
+    let three = past (has_field (codes "mailing-list") m) verdicts.Looped fourth verdicts.Posted two.1 (λ bad. cc) in
+    text_by p sender m (past (p.config.flags.k && is_in p sets.Deny sender) verdicts.Denied (rows.of_text p sender m) verdicts.Posted three.1 (λ bad. cc)).1
+
+-- what follows a verdict
+refused_same : (a b : Reply) → fates.Refused a ≡ fates.Refused b → a ≡ b
+refused_same a b e = cc
+
+pub refused_is : (now : ℕ) (sender m : Text) (p : Plain) (v : Found) (reply : Reply) → fate_of v ≡ fates.Refused reply → by_verdict now sender m p (rows.row_of v) ≡ (p, reply)
+refused_is now sender m p found.TooBig reply e = ap (λ (r : Reply). (p, r)) (refused_same _ reply e)
+refused_is now sender m p found.BounceSender reply e = ap (λ (r : Reply). (p, r)) (refused_same _ reply e)
+refused_is now sender m p found.Looped reply e = ap (λ (r : Reply). (p, r)) (refused_same _ reply e)
+refused_is now sender m p found.Denied reply e = ap (λ (r : Reply). (p, r)) (refused_same _ reply e)
+refused_is now sender m p found.NoSubject reply e = ap (λ (r : Reply). (p, r)) (refused_same _ reply e)
+refused_is now sender m p found.CommandSubject reply e = ap (λ (r : Reply). (p, r)) (refused_same _ reply e)
+refused_is now sender m p found.NotAddressed reply e = ap (λ (r : Reply). (p, r)) (refused_same _ reply e)
+refused_is now sender m p found.UsersOnly reply e = ap (λ (r : Reply). (p, r)) (refused_same _ reply e)
+refused_is now sender m p found.Full reply e = ap (λ (r : Reply). (p, r)) (refused_same _ reply e)
+refused_is now sender m p found.Held reply e = absurd (cc)
+refused_is now sender m p found.Posted reply e = absurd (cc)
+
+pub held_is : (v : Found) → fate_of v ≡ fates.Held → rows.row_of v ≡ verdicts.Held
+held_is found.TooBig e = absurd (cc)
+held_is found.BounceSender e = absurd (cc)
+held_is found.Looped e = absurd (cc)
+held_is found.Denied e = absurd (cc)
+held_is found.NoSubject e = absurd (cc)
+held_is found.CommandSubject e = absurd (cc)
+held_is found.NotAddressed e = absurd (cc)
+held_is found.UsersOnly e = absurd (cc)
+held_is found.Full e = absurd (cc)
+held_is found.Held e = refl
+held_is found.Posted e = absurd (cc)
+
+pub posted_is : (v : Found) → fate_of v ≡ fates.Posted → rows.row_of v ≡ verdicts.Posted
+posted_is found.TooBig e = absurd (cc)
+posted_is found.BounceSender e = absurd (cc)
+posted_is found.Looped e = absurd (cc)
+posted_is found.Denied e = absurd (cc)
+posted_is found.NoSubject e = absurd (cc)
+posted_is found.CommandSubject e = absurd (cc)
+posted_is found.NotAddressed e = absurd (cc)
+posted_is found.UsersOnly e = absurd (cc)
+posted_is found.Full e = absurd (cc)
+posted_is found.Held e = absurd (cc)
+posted_is found.Posted e = refl
+
+-- an answer of no puts
+pub does_nothing : (dir : Dir) (done : List Put × Reply) (p : Plain) (reply : Reply) (step : Plain × Reply) → step ≡ (p, reply) → done.0 ≡ [] → done.1 ≡ reply → IsList dir p → DoesList dir done step
+does_nothing dir done p reply step is e f list =
+    subst (λ (s : Plain × Reply). DoesList dir done s) (sym is) (record {
+      reply = f;
+      list = subst (λ (puts : List Put). IsList (with_puts dir puts) p) (sym e) list;
+    })
+
+-- the sender is kept as a checked address
+some_same : (a b : Text) → Some a ≡ Some b → a ≡ b
+some_same a b e = cc
+
+pub sender_is : (sender who : Text) → is_usable sender ≡ true → address_of sender ≡ Some who → who ≡ as_address sender
+sender_is sender who usable e = some_same who (as_address sender) (sym e ∙ ap (λ (t : Bool). cond t (Some (as_address sender)) None) usable)
+
+pub not_usable : (sender : Text) → is_usable sender ≡ false → is_usable sender ≡ true → ⊥
+not_usable sender no_address e = let bad : false ≡ true = sym no_address ∙ e in cc
+
+-- an answer by which a message was posted
+pub posts : (dir : Dir) (p : Plain) (now : ℕ) (sender m : Text) (answer : Appended) (done : List Put × Reply) → Publishes dir now sender m p answer → is_archive_full p ≡ false → done.0 ≡ puts_of answer → done.1 ≡ reply_of answer
+    → DoesList dir done (posted_now now sender m p)
+posts dir p now sender m (At n txn) done is room e f = record {
+  reply = f ∙ ap answers.posted is.1;
+  list = subst (λ (puts : List Put). IsList (with_puts dir puts) (with_text now sender (sent_text p.config m) (length p.posts + 1) p)) (sym e)
+      (subst (λ (k : ℕ). IsList (with_puts dir txn) (with_text now sender (sent_text p.config m) k p)) is.1 is.2);
+}
+posts dir p now sender m Full done is room e f = absurd (let bad : true ≡ false = sym is ∙ room in cc)
+
+-- its reply is one that is kept
+pub kept_reply : (answer : Appended) → number_of answer ≤ 99_999_999 → is_kept (reply_of answer) ≡ true
+kept_reply (At n txn) few = le-leb n 1_000_000_000_000_000 (omega (arith, few))
+kept_reply Full few = refl
+
+pub kept_by : (done : List Put × Reply) (answer : Appended) → done.1 ≡ reply_of answer → number_of answer ≤ 99_999_999 → is_kept done.1 ≡ true
+kept_by done answer e few = ap is_kept e ∙ kept_reply answer few
+
+-- what a post does, by what follows its verdict
+module _ (dir : Dir) (p : Plain) (now : ℕ) (sender m : Text) (v : Found) (done : List Put × Reply) where
+  pub follows_refused : (reply : Reply) → fate_of v ≡ fates.Refused reply → rows.row_of v ≡ verdict p sender m → done.0 ≡ [] → done.1 ≡ reply → IsList dir p → DoesList dir done (post now sender m p)
+  follows_refused reply fate row e f is =
+      does_nothing dir done p reply (post now sender m p) (ap (by_verdict now sender m p) (sym row) ∙ refused_is now sender m p v reply fate) e f is
+
+  pub follows_held : fate_of v ≡ fates.Held → rows.row_of v ≡ verdict p sender m → (is_usable sender ≡ true → DoesList dir done (held_now now (as_address sender) m p)) → DoesList dir done (post now sender m p)
+  follows_held fate row does =
+      let found = sym row ∙ held_is v fate in
+      subst (λ (r : verdicts.Verdict). DoesList dir done (by_verdict now sender m p r)) (sym found) (does (held_usable p sender m found))
+
+  pub follows_posted : fate_of v ≡ fates.Posted → rows.row_of v ≡ verdict p sender m → (is_usable sender ≡ true → is_archive_full p ≡ false → DoesList dir done (posted_now now (as_address sender) m p)) → DoesList dir done (post now sender m p)
+  follows_posted fate row does =
+      let found = sym row ∙ posted_is v fate in
+      subst (λ (r : verdicts.Verdict). DoesList dir done (by_verdict now sender m p r)) (sym found) (does (posted_usable p sender m found) (posted_room p sender m found))

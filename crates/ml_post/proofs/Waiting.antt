@@ -1,0 +1,103 @@
+-- A post that waits, and the mail that asks about it.
+use Rattle.std.proofs.Common.{◌≡◌, ◌⊎◌, inl, inr, ◌≤◌, ℕ, Bool, true, false, eqb, leb, ◌&&◌, ◌||◌, not, List, refl, ap, subst, arith}
+use Rattle.std.proofs.lemmas.Bool.{or_cases, or_left, or_right, and_parts, and_from, eqb-true, le-leb}
+use Rattle.ml_base.specs.Bytes.{Text}
+use Rattle.ml_base.specs.Dir.{Dir, same_name, with_puts, touches_only}
+use Rattle.ml_base.specs.Drawn.{IsCounter}
+use Rattle.ml_base.specs.Ranges.{is_drawn}
+use Rattle.ml_base.specs.declared.names.Name.{Name}
+use Rattle.ml_base.specs.declared.puts.Put.{Put}
+use Rattle.ml_base.proofs.Laid.{left_alone}
+use Rattle.ml_config.specs.declared.configuration.Config.{Config}
+use Rattle.ml_drawn.specs.Names.{is_of_series}
+use Rattle.ml_drawn.specs.declared.series.Series.TheVariants.{Tickets}
+use Rattle.ml_hold.specs.Answers.{tickets_name}
+use Rattle.ml_hold.specs.Held.{Pending, IsPending, hold}
+use Rattle.ml_plain.specs.declared.Reply.{Reply}
+use Rattle.ml_plain.specs.Answers as answers
+use Rattle.ml_plain.specs.Directory.{IsList, held_kinds, is_of_list}
+use Rattle.ml_plain.specs.Mailing.{mail_moderators, moderate_mail}
+use Rattle.ml_plain.specs.Plain.{Plain}
+use Rattle.ml_plain.specs.Posting.{held_now}
+use Rattle.ml_plain.proofs.PartChanges.{held_changed}
+use Rattle.ml_reply.specs.declared.mails.Mail.{Mail}
+use Rattle.ml_config.specs.declared.key_file.Keys.{Keys}
+use Rattle.ml_base.specs.declared.names.Set.TheVariants as sets
+use Rattle.ml_hold.specs.declared.posts.Held.{Held}
+use Rattle.ml_subs.specs.Subscribers.{is_of_set}
+use Rattle.ml_acts.specs.Doing.{Alike, DoesList, HasIds, HasRoom, is_beside_mail, is_beside_queue, is_of_queue, is_with_queue}
+use Rattle.ml_acts.proofs.Queued.{touches_weaker}
+use Rattle.ml_post.specs.Publishing.{is_beside_held}
+use Rattle.ml_post.proofs.Posts.{held_apart}
+
+waits : (name : Name) → is_of_series Tickets name ≡ true → held_kinds name.kind ≡ true
+waits name e = go (or_cases (eqb name.kind 13) (same_name name tickets_name) e)
+  where
+    go : ((eqb name.kind 13 ≡ true) ⊎ (same_name name tickets_name ≡ true)) → held_kinds name.kind ≡ true
+    go (inl k) = or_left (eqb name.kind 13) (eqb name.kind 14) k
+    go (inr c) = or_right (eqb name.kind 13) (eqb name.kind 14) (and_parts (eqb name.kind 14) (eqb name.at 0) c).0
+
+-- puts of the series are of held posts
+pub held_own : (puts : List Put) → touches_only (is_of_series Tickets) puts ≡ true → touches_only (λ name. held_kinds name.kind) puts ≡ true
+held_own puts e = touches_weaker (is_of_series Tickets) (λ name. held_kinds name.kind) puts waits e
+
+not_then : (b : Bool) → not b ≡ true → b ≡ false
+not_then true e = absurd (let bad : false ≡ true = e in cc)
+not_then false e = refl
+
+-- they leave all other files
+pub beside_held : (dir : Dir) (puts : List Put) → touches_only (λ name. held_kinds name.kind) puts ≡ true → Alike is_beside_held dir (with_puts dir puts)
+beside_held dir puts only name e = left_alone (λ name. held_kinds name.kind) dir puts name only (not_then (held_kinds name.kind) e)
+
+pub held_listed : (name : Name) → held_kinds name.kind ≡ true → is_of_list name ≡ true
+held_listed name e = go (or_cases (eqb name.kind 13) (eqb name.kind 14) e)
+  where
+    go : ((eqb name.kind 13 ≡ true) ⊎ (eqb name.kind 14 ≡ true)) → is_of_list name ≡ true
+    go (inl k) = ap (λ kind. (leb 1 kind && leb kind 18) || eqb kind 20) (eqb-true name.kind 13 k)
+    go (inr k) = ap (λ kind. (leb 1 kind && leb kind 18) || eqb kind 20) (eqb-true name.kind 14 k)
+
+-- the next ticket may be drawn, where there is room
+pub next_drawn : (dir : Dir) (p : Plain) (ticket : ℕ) → IsList dir p → ((low next : ℕ) → IsCounter (dir tickets_name) low next → next ≤ 1_000_000_000_000_000) → ticket ≡ p.held.next → is_drawn ticket ≡ true
+next_drawn dir p ticket is room e =
+    let counted = (is.held).counted in
+    let top = room (is.held).low (p.held).next counted in
+    let low = counted.from_one in
+    let up = counted.up_to_next in
+    and_from (leb 1 ticket) (leb ticket 1_000_000_000_000_000) (le-leb 1 ticket (omega (arith, e, low, up))) (le-leb ticket 1_000_000_000_000_000 (omega (arith, e, top)))
+
+-- files that a mail to a set needs are none of the held posts
+pub held_beside_mail : (puts : List Put) → touches_only (is_of_series Tickets) puts ≡ true → touches_only (is_beside_mail sets.Moderators) puts ≡ true
+held_beside_mail puts e =
+    touches_weaker (is_of_series Tickets) (is_beside_mail sets.Moderators) puts
+    (λ name own. let held = waits name own in and_from (is_of_list name) (not (is_with_queue sets.Moderators name)) (held_listed name held) (ap not (held_apart sets.Moderators name held))) e
+
+pub held_beside_queue : (puts : List Put) → touches_only (λ name. held_kinds name.kind) puts ≡ true → touches_only is_beside_queue puts ≡ true
+held_beside_queue puts e =
+    touches_weaker (λ name. held_kinds name.kind) is_beside_queue puts
+    (λ name held. and_from (is_of_list name) (not (is_of_queue name)) (held_listed name held) (ap not (no_queue (is_of_queue name) (is_of_set sets.List name) (held_apart sets.List name held)))) e
+  where
+    no_queue : (a b : Bool) → (a || b) ≡ false → a ≡ false
+    no_queue true b e = e
+    no_queue false b e = refl
+
+-- a post is held, and the moderators are asked
+pub holds : (dir : Dir) (p : Plain) (c : Config) (now ticket : ℕ) (sender m : Text) (txn : List Put) (done : List Put × Reply) → IsList dir p → p.config ≡ c → touches_only (is_of_series Tickets) txn ≡ true
+    → ((pending : Pending) → IsPending dir pending → (ticket ≡ pending.next) × IsPending (with_puts dir txn) (hold (record { moment = now; sender = sender; message = m }) pending))
+    → ((q : Plain) → IsList (with_puts dir txn) q → q.config ≡ c → DoesList dir done (mail_moderators now (moderate_mail q ticket now m) q, answers.held ticket)) → DoesList dir done (held_now now sender m p)
+holds dir p c now ticket sender m txn done is same only held does =
+    let own = held_own txn only in
+    let drawn = held p.held is.held in
+    let post : Held = record { moment = now; sender = sender; message = m } in
+    let after : Plain = record p { held = hold post p.held } in
+    let stands = held_changed dir p txn (hold post p.held) is own drawn.1 in
+    subst (λ (n : ℕ). DoesList dir done (mail_moderators now (moderate_mail after n now m) after, answers.held n)) drawn.0 (does after stands same)
+
+-- the mail is the one that asks about it
+pub asks : (dir : Dir) (p : Plain) (c : Config) (keys : Keys) (now ticket : ℕ) (m : Text) (mail : Mail) (txn : List Put) (done : List Put × Reply) → p.config ≡ c → p.keys ≡ keys
+    → ((q : Plain) → q.config ≡ c → q.keys ≡ keys → mail ≡ moderate_mail q ticket now m) → DoesList dir done (mail_moderators now mail p, answers.held ticket)
+    → DoesList dir done (mail_moderators now (moderate_mail p ticket now m) p, answers.held ticket)
+asks dir p c keys now ticket m mail txn done same own asked does = subst (λ (t : Mail). DoesList dir done (mail_moderators now t p, answers.held ticket)) (asked p same own) does
+
+-- there are ids where an item can draw what it may
+pub has_ids : (dir : Dir) → HasRoom dir → HasIds dir
+has_ids dir room low next counted = let top = room.ids low next counted in omega (arith, top)

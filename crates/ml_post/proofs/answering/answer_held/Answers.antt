@@ -1,0 +1,66 @@
+use Rattle.std.proofs.Common.{◌≡◌, Bool, true, false, IfOk, IfErr, Some, refl, sym, ap, ◌∙◌, subst, codes, rules}
+use Rattle.std.specs.Fmt.{decimal}
+use Rattle.std.proofs.lemmas.Bool.{or_left, or_right}
+use Rattle.ml_base.specs.Dir.{Dir, same_name}
+use Rattle.ml_base.specs.PartErrors.{OnDamaged}
+use Rattle.ml_base.specs.declared.names.Set.TheVariants as sets
+use Rattle.ml_base.proofs.DamagedNames.{err_damaged}
+use Rattle.ml_base.proofs.ReadingLemmas.{kept_read, reading_then}
+use Rattle.ml_config.specs.KeyFile.{key_name}
+use Rattle.ml_hold.specs.Held.{held_post}
+use Rattle.ml_plain.specs.Answers.{badcookie}
+use Rattle.ml_plain.specs.Directory.{IsList}
+use Rattle.ml_plain.specs.Mailing.{is_cookie}
+use Rattle.ml_plain.specs.Managing.{answered, if_signed}
+use Rattle.ml_plain.specs.Plain.{Plain}
+use Rattle.ml_acts.specs.Damaged.{IsDamaged}
+use Rattle.ml_acts.specs.Doing.{DoesList}
+use Rattle.ml_acts.proofs.Damages.{keys_named, same_self}
+use Rattle.ml_post.specs.Answering.{is_answered_by, is_followed_by}
+use Rattle.ml_post.proofs.Damages.{ok_then}
+use Rattle.ml_post.proofs.Fates.{does_nothing}
+use Rattle.ml_post.proofs.answering.answer_held.Goals as goal
+
+pub returns-in_err-keys-clause-names : goal.returns-in_err-keys-clause-names
+returns-in_err-keys-clause-names g c =
+    let names = keys_named g.F.Files (λ name. is_answered_by c.args.ticket c.args.accept name ≡ true) _ (g.F.Files.map c.args.files.now)
+    (or_left (same_name key_name key_name) (is_followed_by c.args.ticket c.args.accept key_name) (same_self key_name)) c.in_err-keys.ensures.names in
+    search rules
+
+pub returns-then-not-is_signed-clause-value : goal.returns-then-not-is_signed-clause-value
+returns-then-not-is_signed-clause-value g c told p is same found =
+    let held = c.args.held.now in
+    let keys = c.in_ok-keys.ensures.value told (g.F.Files.map c.args.files.now) p refl is in
+    let bad : c.is_signed.result ≡ false = search rules in
+    let wrong : is_cookie p (codes "hold") sets.Moderators held.moment (decimal c.args.ticket) c.args.letters.now ≡ false = sym (c.is_signed.ensures p keys) ∙ bad in
+    does_nothing (g.F.Files.map c.args.files.now) (c.new.result, c.plain.result) p badcookie
+    (if_signed c.args.now c.args.ticket held p c.args.accept (is_cookie p (codes "hold") sets.Moderators held.moment (decimal c.args.ticket) c.args.letters.now))
+    (ap (if_signed c.args.now c.args.ticket held p c.args.accept) wrong) c.new.ensures c.plain.ensures is
+
+pub returns-clause-value : goal.returns-clause-value
+returns-clause-value g c told =
+    let dir = g.F.Files.map c.args.files.now in
+    let config = c.args.config.now in
+    let held = c.args.held.now in
+    let kept = g.met.F.Files.kept_map c.args.files.now c.list_keys.new.files told c.list_keys.ensures.reads.kept in
+    let good : c.is_signed.result ≡ true = search rules in
+    let value =
+    subst (λ (d : Dir). IfOk c.follow.result (λ done. (p : Plain) → IsList d p → p.config ≡ config → held_post c.args.ticket p.held ≡ Some held → DoesList d done (answered c.args.now c.args.ticket held p c.args.accept))) kept
+    (c.follow.ensures.value told) in
+    ok_then c.follow.result (λ done does p is same found.
+    let keys = c.in_ok-keys.ensures.value told dir p refl is in
+    let right : is_cookie p (codes "hold") sets.Moderators held.moment (decimal c.args.ticket) c.args.letters.now ≡ true = sym (c.is_signed.ensures p keys) ∙ good in
+    subst (λ (b : Bool). DoesList dir done (if_signed c.args.now c.args.ticket held p c.args.accept b)) (sym right) (does p is same found)) value
+
+pub returns-clause-names : goal.returns-clause-names
+returns-clause-names g c = record {
+  named = err_damaged c.follow.result (λ name. is_followed_by c.args.ticket c.args.accept name ≡ true) (λ name. is_answered_by c.args.ticket c.args.accept name ≡ true)
+      (λ name e. or_right (same_name name key_name) (is_followed_by c.args.ticket c.args.accept name) e) c.follow.ensures.names.named;
+  damaged = λ told.
+      subst (λ (d : Dir). IfErr c.follow.result (λ e. OnDamaged e (IsDamaged d))) (g.met.F.Files.kept_map c.args.files.now c.list_keys.new.files told c.list_keys.ensures.reads.kept) (c.follow.ensures.names.damaged told);
+}
+
+pub returns-clause-reads : goal.returns-clause-reads
+returns-clause-reads g c =
+    reading_then g.F.Files g.met.F.Files.kept_then c.args.files.now c.list_keys.new.files c.follow.new.files c.follow.result
+    (kept_read g.F.Files c.args.files.now c.list_keys.new.files c.list_keys.result c.list_keys.ensures.reads) c.follow.ensures.reads

@@ -1,0 +1,39 @@
+-- What follows a verdict.
+use Rattle.std.specs.Prelude.{Bool, ◌||◌}
+use Rattle.ml_base.specs.Bytes.{Text}
+use Rattle.ml_base.specs.declared.names.Name.{Name}
+use Rattle.ml_archive.specs.declared.posts.Appended.{Appended}
+use Rattle.ml_archive.specs.declared.posts.Appended.TheVariants.{At, Full}
+use Rattle.ml_config.specs.declared.configuration.Config.{Config}
+use Rattle.ml_plain.specs.declared.Reply.{Reply}
+use Rattle.ml_plain.specs.Answers as answers
+use Rattle.ml_post.specs.declared.posting.Fate.{Fate}
+use Rattle.ml_post.specs.declared.posting.Fate.TheVariants as fates
+use Rattle.ml_post.specs.declared.verdicts.Verdict.{Verdict as Found}
+use Rattle.ml_post.specs.declared.verdicts.Verdict.TheVariants as found
+use Rattle.ml_post.specs.Holding.{is_held_by}
+use Rattle.ml_post.specs.Judging.{is_judged_by}
+use Rattle.ml_post.specs.Publishing.{is_published_by}
+
+-- what follows each row of the table
+abbrev pub fate_of : Found → Fate
+fate_of found.TooBig = fates.Refused answers.toobig
+fate_of found.BounceSender = fates.Refused answers.nosender
+fate_of found.Looped = fates.Refused answers.looped
+fate_of found.Denied = fates.Refused answers.denied
+fate_of found.NoSubject = fates.Refused answers.nosubject
+fate_of found.CommandSubject = fates.Refused answers.command
+fate_of found.NotAddressed = fates.Refused answers.notaddressed
+fate_of found.UsersOnly = fates.Refused answers.usersonly
+fate_of found.Held = fates.Held
+fate_of found.Full = fates.Refused answers.full
+fate_of found.Posted = fates.Posted
+
+-- the reply to a message that was to be posted
+abbrev pub reply_of : Appended → Reply
+reply_of (At number txn) = answers.posted number
+reply_of Full = answers.full
+
+-- the files that a post may read: those of its verdict, and those that are read where it is held or taken
+abbrev pub is_posted_by : Config → Text → Name → Bool
+is_posted_by c sender name = is_judged_by c sender name || is_held_by name || is_published_by name

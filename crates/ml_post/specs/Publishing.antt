@@ -1,0 +1,33 @@
+-- Posts that go into the archive and to the set list.
+use Rattle.std.specs.Prelude.{◌≡◌, ◌+◌, ℕ, Bool, true, false, not, ◌||◌, ◌==◌, length}
+use Rattle.ml_base.specs.Bytes.{Text}
+use Rattle.ml_base.specs.Dir.{Dir, same_name, with_puts}
+use Rattle.ml_base.specs.declared.names.Name.{Name}
+use Rattle.ml_base.specs.declared.names.Set.TheVariants as sets
+use Rattle.ml_archive.specs.Archive.{number_name}
+use Rattle.ml_archive.specs.declared.posts.Appended.{Appended}
+use Rattle.ml_archive.specs.declared.posts.Appended.TheVariants.{At, Full}
+use Rattle.ml_plain.specs.Directory.{IsList, held_kinds}
+use Rattle.ml_plain.specs.Plain.{Plain, is_archive_full}
+use Rattle.ml_plain.specs.Posting.{sent_text, with_text}
+use Rattle.ml_acts.specs.Doing.{is_mailed_by}
+
+-- a post that is taken: where the archive has room, it gets the next number, and with these puts laid over the files they stand for the
+-- list with it
+abbrev pub Publishes : Dir → ℕ → Text → Text → Plain → Appended → Type 0
+Publishes dir now sender m p (At number txn) =
+    (is_archive_full p ≡ false) × (number ≡ length p.posts + 1) × IsList (with_puts dir txn) (with_text now sender (sent_text p.config m) number p)
+Publishes dir now sender m p Full = is_archive_full p ≡ true
+
+-- the number of an answer that has one
+abbrev pub number_of : Appended → ℕ
+number_of (At number txn) = number
+number_of Full = 0
+
+-- all files but the held posts
+abbrev pub is_beside_held : Name → Bool
+is_beside_held name = not (held_kinds name.kind)
+
+-- the files that are read where a post is taken: those of the set list, the next id, the number of posts, an index and a file of threads
+abbrev pub is_published_by : Name → Bool
+is_published_by name = is_mailed_by sets.List name || same_name name number_name || name.kind == 10 || name.kind == 20

@@ -1,0 +1,228 @@
+// What a moderator answers about a post that waits.
+ghost use Rattle.std.specs.Prelude.{◌≡◌, true, false, Some, IsTrue, IfOk, IfErr, codes};
+ghost use Rattle.std.specs.Fmt.{decimal};
+ghost use Rattle.ml_base.specs.Dir.{are_files, touches_only, with_puts};
+ghost use Rattle.ml_base.specs.PartErrors.{OnDamaged};
+ghost use Rattle.ml_base.specs.Ranges.{IsMoment};
+ghost use Rattle.ml_base.specs.ReadFiles.{IsReading, NamesDamaged};
+ghost use Rattle.ml_base.specs.declared.names.Set.TheVariants as sets;
+ghost use Rattle.ml_hold.specs.Held.{held_post, without_ticket};
+ghost use Rattle.ml_hold.specs.declared.posts.Held.{Held as TheHeld};
+ghost use Rattle.ml_hold.specs.Answers as waiting;
+ghost use Rattle.ml_reply.specs.declared.mails.Mail.TheVariants as mails;
+ghost use Rattle.ml_plain.specs.Directory.{IsList, is_of_list, held_kinds};
+ghost use Rattle.ml_plain.specs.KeptFiles.{is_kept};
+ghost use Rattle.ml_plain.specs.Mailing as mailing;
+ghost use Rattle.ml_plain.specs.Managing as spec;
+ghost use Rattle.ml_plain.specs.Plain.{Plain, is_archive_full};
+ghost use Rattle.ml_acts.specs.Damaged.{IsDamaged};
+ghost use Rattle.ml_acts.specs.Doing.{DoesList, HasIds};
+ghost use Rattle.ml_post.specs.Answering.{is_accepted_by, is_answered_by, is_followed_by, is_rejected_by, is_taken_by};
+
+use crate::holding::list_keys;
+use crate::posting::{plain, posted};
+use crate::publishing::publish;
+use ml_acts::{is_cookie, with_mail};
+use ml_archive::Appended;
+use ml_base::{Bytes, Files, PartError, Set, Txn, write_number};
+use ml_config::{Config, Keys};
+use ml_hold::{Held, look, take};
+use ml_plain::Reply;
+use ml_reply::Mail;
+use std::alloc::{AllocError, Global};
+
+/// A moderator's answer about the post of a ticket, with the letters of its cookie, whatever its age. `now` is in seconds since 1970.
+///
+/// `gone` where no post waits under the ticket, and `badcookie` where the letters aren't its cookie. A post that is accepted is posted
+/// and waits no longer; `full` where the archive is full, and then it still waits. One that is rejected goes back to its sender.
+pub fn answer<F: Files>(
+    alloc: Global,
+    files: &mut F,
+    config: &Config,
+    now: u64,
+    ticket: u64,
+    letters: &[u8; 20],
+    accept: bool,
+) -> Result<(Txn, Reply), PartError>
+    requires moment { IsMoment now }
+    requires room { IsTrue F.tells → HasIds (F.map files.now) }
+    ensures value { IsTrue F.tells → IfOk result (λ done. (p : Plain) → IsList (F.map files.old) p → p.config ≡ config.now → DoesList (F.map files.old) done (spec.answer now ticket letters.now accept p)) }
+    ensures own { IfOk result (λ done. touches_only is_of_list done.0 ≡ true) }
+    ensures files { IfOk result (λ done. IsTrue (are_files done.0)) }
+    ensures reply { IfOk result (λ done. is_kept done.1 ≡ true) }
+    ensures names { NamesDamaged ⟦<F as Files>⟧ (λ name. is_answered_by ticket accept name ≡ true) (IsDamaged (F.map files.old)) result }
+    ensures sound { IsTrue F.tells → (p : Plain) → IsList (F.map files.old) p → IfErr result (λ e. OnDamaged e (λ _. ⊥)) }
+    ensures reads { IsReading ⟦<F as Files>⟧ files.old files.new result }
+{
+    answer_ticket(alloc, files, config, now, ticket, letters, accept)
+}
+
+// Looks for the post of the ticket first.
+fn answer_ticket<F: Files>(
+    alloc: Global,
+    files: &mut F,
+    config: &Config,
+    now: u64,
+    ticket: u64,
+    letters: &[u8; 20],
+    accept: bool,
+) -> Result<(Txn, Reply), PartError>
+    requires moment { IsMoment now }
+    requires room { IsTrue F.tells → HasIds (F.map files.now) }
+    ensures value { IsTrue F.tells → IfOk result (λ done. (p : Plain) → IsList (F.map files.old) p → p.config ≡ config.now → DoesList (F.map files.old) done (spec.answer now ticket letters.now accept p)) }
+    ensures own { IfOk result (λ done. touches_only is_of_list done.0 ≡ true) }
+    ensures files { IfOk result (λ done. IsTrue (are_files done.0)) }
+    ensures reply { IfOk result (λ done. is_kept done.1 ≡ true) }
+    ensures names { NamesDamaged ⟦<F as Files>⟧ (λ name. is_answered_by ticket accept name ≡ true) (IsDamaged (F.map files.old)) result }
+    ensures reads { IsReading ⟦<F as Files>⟧ files.old files.new result }
+{
+    let Some(held) = look(alloc, files, ticket)? else {
+        return Ok((Txn::new(alloc), plain(Reply::GONE)));
+    };
+    answer_held(alloc, files, config, now, ticket, &held, letters, accept)
+}
+
+// The answer about a post that waits under a ticket: it counts where its letters are the cookie.
+fn answer_held<F: Files>(
+    alloc: Global,
+    files: &mut F,
+    config: &Config,
+    now: u64,
+    ticket: u64,
+    held: &Held,
+    letters: &[u8; 20],
+    accept: bool,
+) -> Result<(Txn, Reply), PartError>
+    requires moment { IsMoment now }
+    requires room { IsTrue F.tells → HasIds (F.map files.now) }
+    ensures value { IsTrue F.tells → IfOk result (λ done. (p : Plain) → IsList (F.map files.old) p → p.config ≡ config.now → held_post ticket p.held ≡ Some held.now → DoesList (F.map files.old) done (spec.answer_held now ticket letters.now p accept (Some held.now))) }
+    ensures own { IfOk result (λ done. touches_only is_of_list done.0 ≡ true) }
+    ensures files { IfOk result (λ done. IsTrue (are_files done.0)) }
+    ensures reply { IfOk result (λ done. is_kept done.1 ≡ true) }
+    ensures names { NamesDamaged ⟦<F as Files>⟧ (λ name. is_answered_by ticket accept name ≡ true) (IsDamaged (F.map files.old)) result }
+    ensures reads { IsReading ⟦<F as Files>⟧ files.old files.new result }
+{
+    let keys = list_keys(alloc, files)?;
+    if !is_signed(&keys, ticket, held.moment, letters) {
+        return Ok((Txn::new(alloc), plain(Reply::BADCOOKIE)));
+    }
+    follow(alloc, files, config, now, ticket, held, accept)
+}
+
+// Whether letters are the cookie of a post that is held under a ticket since a moment.
+fn is_signed(keys: &Keys, ticket: u64, moment: u64, letters: &[u8; 20]) -> bool
+    ensures { (p : Plain) → p.keys ≡ keys.now → result ≡ mailing.is_cookie p (codes "hold") sets.Moderators moment (decimal ticket) letters.now }
+{
+    let mut digits = [0; 20];
+    let len = write_number(ticket, &mut digits);
+    is_cookie(
+        keys,
+        b"hold",
+        Set::Moderators,
+        moment,
+        &digits[..len],
+        letters,
+    )
+}
+
+// Does what a moderator answers, of a post that waits under a ticket.
+fn follow<F: Files>(
+    alloc: Global,
+    files: &mut F,
+    config: &Config,
+    now: u64,
+    ticket: u64,
+    held: &Held,
+    accept: bool,
+) -> Result<(Txn, Reply), PartError>
+    requires moment { IsMoment now }
+    requires room { IsTrue F.tells → HasIds (F.map files.now) }
+    ensures value { IsTrue F.tells → IfOk result (λ done. (p : Plain) → IsList (F.map files.old) p → p.config ≡ config.now → held_post ticket p.held ≡ Some held.now → DoesList (F.map files.old) done (spec.answered now ticket held.now p accept)) }
+    ensures own { IfOk result (λ done. touches_only is_of_list done.0 ≡ true) }
+    ensures files { IfOk result (λ done. IsTrue (are_files done.0)) }
+    ensures reply { IfOk result (λ done. is_kept done.1 ≡ true) }
+    ensures names { NamesDamaged ⟦<F as Files>⟧ (λ name. is_followed_by ticket accept name ≡ true) (IsDamaged (F.map files.old)) result }
+    ensures reads { IsReading ⟦<F as Files>⟧ files.old files.new result }
+{
+    if accept {
+        accepted(alloc, files, config, now, ticket, held)
+    } else {
+        rejected(alloc, files, config, now, ticket, held)
+    }
+}
+
+// The post is posted and waits no longer, unless the archive is full.
+fn accepted<F: Files>(
+    alloc: Global,
+    files: &mut F,
+    config: &Config,
+    now: u64,
+    ticket: u64,
+    held: &Held,
+) -> Result<(Txn, Reply), PartError>
+    requires moment { IsMoment now }
+    requires room { IsTrue F.tells → HasIds (F.map files.now) }
+    ensures value { IsTrue F.tells → IfOk result (λ done. (p : Plain) → IsList (F.map files.old) p → p.config ≡ config.now → held_post ticket p.held ≡ Some held.now → DoesList (F.map files.old) done (spec.accepted now ticket held.now p (is_archive_full p))) }
+    ensures own { IfOk result (λ done. touches_only is_of_list done.0 ≡ true) }
+    ensures files { IfOk result (λ done. IsTrue (are_files done.0)) }
+    ensures reply { IfOk result (λ done. is_kept done.1 ≡ true) }
+    ensures names { NamesDamaged ⟦<F as Files>⟧ (λ name. is_accepted_by ticket name ≡ true) (IsDamaged (F.map files.old)) result }
+    ensures reads { IsReading ⟦<F as Files>⟧ files.old files.new result }
+{
+    let message = held.message.as_slice();
+    match publish(alloc, files, config, now, &held.sender, message)? {
+        Appended::Full => Ok((Txn::new(alloc), plain(Reply::FULL))),
+        Appended::At(number, more) => {
+            let mut txn = taken(alloc, files, ticket)?;
+            txn.join(more)?;
+            Ok((txn, posted(number)))
+        }
+    }
+}
+
+// The post waits no longer, and goes back to its sender.
+fn rejected<F: Files>(
+    alloc: Global,
+    files: &mut F,
+    config: &Config,
+    now: u64,
+    ticket: u64,
+    held: &Held,
+) -> Result<(Txn, Reply), PartError>
+    requires moment { IsMoment now }
+    requires room { IsTrue F.tells → HasIds (F.map files.now) }
+    ensures value { IsTrue F.tells → IfOk result (λ done. (p : Plain) → IsList (F.map files.old) p → p.config ≡ config.now → held_post ticket p.held ≡ Some held.now → DoesList (F.map files.old) done (spec.answered now ticket held.now p false)) }
+    ensures own { IfOk result (λ done. touches_only is_of_list done.0 ≡ true) }
+    ensures files { IfOk result (λ done. IsTrue (are_files done.0)) }
+    ensures reply { IfOk result (λ done. is_kept done.1 ≡ true) }
+    ensures names { NamesDamaged ⟦<F as Files>⟧ (λ name. is_rejected_by ticket name ≡ true) (IsDamaged (F.map files.old)) result }
+    ensures reads { IsReading ⟦<F as Files>⟧ files.old files.new result }
+{
+    let txn = taken(alloc, files, ticket)?;
+    let mail = rejection(alloc, held)?;
+    let reply = plain(Reply::REJECTED);
+    with_mail(alloc, files, config, txn, &held.sender, now, &mail, reply)
+}
+
+// The mail that gives a post back to its sender.
+fn rejection(alloc: Global, held: &Held) -> Result<Mail, AllocError>
+    ensures { IfOk result (λ mail. mail ≡ mails.Rejected held.now.sender held.now.message) }
+{
+    let to = Bytes::from_slice(alloc, held.sender.bytes())?;
+    let message = Bytes::from_slice(alloc, held.message.as_slice())?;
+    Ok(Mail::Rejected { to, message })
+}
+
+// The puts by which the post of a ticket waits no longer.
+fn taken<F: Files>(alloc: Global, files: &mut F, ticket: u64) -> Result<Txn, PartError>
+    ensures value { IsTrue F.tells → IfOk result (λ txn. (p : Plain) (held : TheHeld) → IsList (F.map files.old) p → held_post ticket p.held ≡ Some held → IsList (with_puts (F.map files.old) txn) (record p { held = without_ticket ticket p.held })) }
+    ensures own { IfOk result (λ txn. touches_only (λ name. held_kinds name.kind) txn ≡ true) }
+    ensures files { IfOk result (λ txn. IsTrue (are_files txn)) }
+    ensures names { NamesDamaged ⟦<F as Files>⟧ (λ name. is_taken_by ticket name ≡ true) (waiting.Breaks (F.map files.old)) result }
+    ensures reads { IsReading ⟦<F as Files>⟧ files.old files.new result }
+{
+    match take(alloc, files, ticket)? {
+        Some((_, txn)) => Ok(txn),
+        None => Ok(Txn::new(alloc)),
+    }
+}

@@ -1,0 +1,198 @@
+// A post waits for the moderators, who are asked.
+ghost use Rattle.std.specs.Prelude.{◌≡◌, ◌≤◌, true, IsTrue, IfOk, IfErr, length};
+ghost use Rattle.ml_address.specs.Requests.{Accept, Reject, is_cookie, is_in_range};
+ghost use Rattle.ml_address.specs.Views.{request_view};
+ghost use Rattle.ml_address.specs.Writing.{request_text};
+ghost use Rattle.ml_base.specs.Dir.{Dir, are_files, touches_only, with_puts};
+ghost use Rattle.ml_base.specs.Ranges.{IsMoment, is_drawn};
+ghost use Rattle.ml_base.specs.ReadFiles.{IsReading, NamesDamaged};
+ghost use Rattle.ml_config.specs.Configuration.{IsConfig};
+ghost use Rattle.ml_config.specs.KeyFile.{key_name};
+ghost use Rattle.ml_plain.specs.Answers as answers;
+ghost use Rattle.ml_plain.specs.Directory.{IsList, is_of_list};
+ghost use Rattle.ml_plain.specs.KeptFiles.{is_kept};
+ghost use Rattle.ml_plain.specs.Mailing as mailing;
+ghost use Rattle.ml_plain.specs.Plain.{Plain};
+ghost use Rattle.ml_plain.specs.Posting as spec;
+ghost use Rattle.ml_acts.specs.Damaged.{IsDamaged, IsNoKeys};
+ghost use Rattle.ml_acts.specs.Doing.{DoesList, HasIds, HasRoom};
+ghost use Rattle.ml_drawn.specs.Names.{is_of_series};
+ghost use Rattle.ml_drawn.specs.declared.series.Series.TheVariants.{Tickets};
+ghost use Rattle.ml_post.specs.Holding.{is_asked_by, is_held_by};
+
+use crate::posting::plain;
+use ml_acts::{new_cookie, owner_address, with_mail_to_moderators};
+use ml_address::{Request, write_request};
+use ml_base::{Address, Bytes, Files, PartError, Set, Txn, is_drawn, write_number};
+use ml_config::{Config, Keys, key};
+use ml_hold::{Held, hold};
+use ml_plain::Reply;
+use ml_reply::Mail;
+use std::alloc::{AllocError, Global};
+
+// Holds a message of a sender under the next ticket, and asks the moderators.
+pub(crate) fn hold_post<F: Files>(
+    alloc: Global,
+    files: &mut F,
+    config: &Config,
+    now: u64,
+    sender: Address,
+    message: &[u8],
+) -> Result<(Txn, Reply), PartError>
+    requires moment { IsMoment now }
+    requires config { IsConfig config.now }
+    requires size { length message.now ≤ 33_554_432 }
+    requires room { IsTrue F.tells → HasRoom (F.map files.now) }
+    ensures value { IsTrue F.tells → IfOk result (λ done. (p : Plain) → IsList (F.map files.old) p → p.config ≡ config.now → DoesList (F.map files.old) done (spec.held_now now sender message.now p)) }
+    ensures own { IfOk result (λ done. touches_only is_of_list done.0 ≡ true) }
+    ensures files { IfOk result (λ done. IsTrue (are_files done.0)) }
+    ensures reply { IfOk result (λ done. is_kept done.1 ≡ true) }
+    ensures names { NamesDamaged ⟦<F as Files>⟧ (λ name. is_held_by name ≡ true) (IsDamaged (F.map files.old)) result }
+    ensures reads { IsReading ⟦<F as Files>⟧ files.old files.new result }
+{
+    let held = Held {
+        moment: now,
+        sender,
+        message: Bytes::from_slice(alloc, message)?,
+    };
+    let (ticket, txn) = hold(alloc, files, &held)?;
+    if !is_drawn(ticket) {
+        return Ok((Txn::new(alloc), plain(Reply::FULL)));
+    }
+    ask(alloc, files, config, now, ticket, held.message, txn)
+}
+
+// These puts, by which a post is held now under a ticket, and behind them the mail that asks the moderators.
+fn ask<F: Files>(
+    alloc: Global,
+    files: &mut F,
+    config: &Config,
+    now: u64,
+    ticket: u64,
+    message: Bytes,
+    txn: Txn,
+) -> Result<(Txn, Reply), PartError>
+    requires moment { IsMoment now }
+    requires config { IsConfig config.now }
+    requires ticket { IsTrue (is_drawn ticket) }
+    requires room { IsTrue F.tells → HasIds (F.map files.now) }
+    requires own { touches_only (is_of_series Tickets) txn ≡ true }
+    requires files { IsTrue (are_files txn) }
+    ensures value { IsTrue F.tells → IfOk result (λ done. (p : Plain) → IsList (with_puts (F.map files.old) txn) p → p.config ≡ config.now → DoesList (F.map files.old) done (mailing.mail_moderators now (mailing.moderate_mail p ticket now message) p, answers.held ticket)) }
+    ensures own { IfOk result (λ done. touches_only is_of_list done.0 ≡ true) }
+    ensures files { IfOk result (λ done. IsTrue (are_files done.0)) }
+    ensures reply { IfOk result (λ done. is_kept done.1 ≡ true) }
+    ensures names { NamesDamaged ⟦<F as Files>⟧ (λ name. is_asked_by name ≡ true) (IsDamaged (F.map files.old)) result }
+    ensures reads { IsReading ⟦<F as Files>⟧ files.old files.new result }
+{
+    let keys = list_keys(alloc, files)?;
+    let mail = moderate_mail(alloc, config, &keys, ticket, now, message)?;
+    with_mail_to_moderators(alloc, files, config, txn, now, &mail, waiting(ticket))
+}
+
+// The mail that asks the moderators about a post that is held now.
+fn moderate_mail(
+    alloc: Global,
+    config: &Config,
+    keys: &Keys,
+    ticket: u64,
+    now: u64,
+    message: Bytes,
+) -> Result<Mail, AllocError>
+    requires config { IsConfig config.now }
+    requires ticket { IsTrue (is_drawn ticket) }
+    ensures { IfOk result (λ mail. (p : Plain) → p.config ≡ config.now → p.keys ≡ keys.now → mail ≡ mailing.moderate_mail p ticket now message) }
+{
+    let letters = ticket_cookie(keys, ticket, now);
+    let to = owner_address(alloc, config)?;
+    let reply = accept_address(alloc, config, ticket, &letters)?;
+    let reject = reject_address(alloc, config, ticket, &letters)?;
+    Ok(Mail::Moderate {
+        to,
+        reply,
+        reject,
+        ticket,
+        message,
+    })
+}
+
+// The address to which a moderator writes who accepts a post.
+fn accept_address(
+    alloc: Global,
+    config: &Config,
+    ticket: u64,
+    letters: &[u8; 20],
+) -> Result<Bytes, AllocError>
+    requires config { IsConfig config.now }
+    requires ticket { IsTrue (is_drawn ticket) }
+    requires letters { IsTrue (is_cookie letters.now) }
+    ensures { IfOk result (λ address. address ≡ request_text config.now.local config.now.host (Accept ticket letters.now)) }
+{
+    let request = Request::Accept {
+        ticket,
+        cookie: *letters,
+    };
+    own_request(alloc, config, &request)
+}
+
+// The address to which a moderator writes who rejects it.
+fn reject_address(
+    alloc: Global,
+    config: &Config,
+    ticket: u64,
+    letters: &[u8; 20],
+) -> Result<Bytes, AllocError>
+    requires config { IsConfig config.now }
+    requires ticket { IsTrue (is_drawn ticket) }
+    requires letters { IsTrue (is_cookie letters.now) }
+    ensures { IfOk result (λ address. address ≡ request_text config.now.local config.now.host (Reject ticket letters.now)) }
+{
+    let request = Request::Reject {
+        ticket,
+        cookie: *letters,
+    };
+    own_request(alloc, config, &request)
+}
+
+// The address of a request to the list.
+fn own_request(alloc: Global, config: &Config, request: &Request<'_>) -> Result<Bytes, AllocError>
+    requires config { IsConfig config.now }
+    requires range { IsTrue (is_in_range (request_view request.now)) }
+    ensures { IfOk result (λ address. address ≡ request_text config.now.local config.now.host (request_view request.now)) }
+{
+    write_request(
+        alloc,
+        config.local.as_slice(),
+        config.host.as_slice(),
+        request,
+    )
+}
+
+// The cookie of a post that is held under a ticket since a moment.
+fn ticket_cookie(keys: &Keys, ticket: u64, moment: u64) -> [u8; 20]
+    ensures letters { IsTrue (is_cookie result) }
+    ensures value { (p : Plain) → p.keys ≡ keys.now → result ≡ mailing.ticket_cookie p ticket moment }
+{
+    let mut digits = [0; 20];
+    let len = write_number(ticket, &mut digits);
+    new_cookie(keys, b"hold", Set::Moderators, moment, &digits[..len])
+}
+
+// The keys of the list.
+pub(crate) fn list_keys<F: Files>(alloc: Global, files: &mut F) -> Result<Keys, PartError>
+    ensures value { IsTrue F.tells → IfOk result (λ keys. (dir : Dir) (p : Plain) → dir key_name ≡ F.map files.old key_name → IsList dir p → p.keys ≡ keys) }
+    ensures names { NamesDamaged ⟦<F as Files>⟧ (λ name. name ≡ key_name) (λ _. IsNoKeys (F.map files.old)) result }
+    ensures reads { IsReading ⟦<F as Files>⟧ files.old files.new result }
+{
+    key(alloc, files)
+}
+
+// The reply of a post that waits under a ticket.
+fn waiting(ticket: u64) -> Reply
+    ensures { result ≡ answers.held ticket }
+{
+    Reply {
+        code: Reply::HELD,
+        number: ticket,
+    }
+}

@@ -1,0 +1,192 @@
+// A message that is mailed to the list's own address.
+ghost use Rattle.std.specs.Prelude.{◌≡◌, ◌≤◌, true, false, IsTrue, IfOk, IfErr, length};
+ghost use Rattle.ml_archive.specs.Answers.{puts_of};
+ghost use Rattle.ml_base.specs.Address.{as_address};
+ghost use Rattle.ml_base.specs.Dir.{are_files, touches_only};
+ghost use Rattle.ml_base.specs.PartErrors.{OnDamaged};
+ghost use Rattle.ml_base.specs.Ranges.{IsMoment};
+ghost use Rattle.ml_base.specs.ReadFiles.{IsReading, NamesDamaged};
+ghost use Rattle.ml_config.specs.Configuration.{IsConfig};
+ghost use Rattle.ml_plain.specs.Answers as answers;
+ghost use Rattle.ml_plain.specs.Directory.{IsList, is_of_list};
+ghost use Rattle.ml_plain.specs.KeptFiles.{is_kept};
+ghost use Rattle.ml_plain.specs.Plain.{Plain, is_archive_full};
+ghost use Rattle.ml_plain.specs.Posting as spec;
+ghost use Rattle.ml_plain.specs.Verdicts as verdicts;
+ghost use Rattle.ml_acts.specs.Damaged.{IsDamaged};
+ghost use Rattle.ml_acts.specs.Doing.{DoesList, HasIds, HasRoom};
+ghost use Rattle.ml_post.specs.Holding.{is_held_by};
+ghost use Rattle.ml_post.specs.Posting.{fate_of, is_posted_by, reply_of};
+ghost use Rattle.ml_post.specs.Publishing.{is_published_by};
+
+use crate::holding::hold_post;
+use crate::judging::usable;
+use crate::publishing::publish;
+use crate::{Verdict, verdict};
+use ml_archive::Appended;
+use ml_base::{Files, PartError, Txn};
+use ml_config::Config;
+use ml_header::Message;
+use ml_plain::Reply;
+use std::alloc::Global;
+
+/// What a message does that comes to the list's own address: it is posted, or held for the moderators, who are asked, or refused, by its verdict.
+///
+/// A post goes last into the archive, and the queue gets it for the members of the set list as they are. `now` is in seconds since 1970.
+/// `Memory` comes also where no memory could hold the text that is sent, of 2^32 bytes or more.
+pub fn post<F: Files>(
+    alloc: Global,
+    files: &mut F,
+    config: &Config,
+    now: u64,
+    sender: &[u8],
+    message: &[u8],
+) -> Result<(Txn, Reply), PartError>
+    requires moment { IsMoment now }
+    requires config { IsConfig config.now }
+    requires size { length message.now ≤ 33_554_432 }
+    requires room { IsTrue F.tells → HasRoom (F.map files.now) }
+    ensures value { IsTrue F.tells → IfOk result (λ done. (p : Plain) → IsList (F.map files.old) p → p.config ≡ config.now → DoesList (F.map files.old) done (spec.post now sender.now message.now p)) }
+    ensures own { IfOk result (λ done. touches_only is_of_list done.0 ≡ true) }
+    ensures files { IfOk result (λ done. IsTrue (are_files done.0)) }
+    ensures reply { IfOk result (λ done. is_kept done.1 ≡ true) }
+    ensures names { NamesDamaged ⟦<F as Files>⟧ (λ name. is_posted_by config.now sender.now name ≡ true) (IsDamaged (F.map files.old)) result }
+    ensures sound { IsTrue F.tells → (p : Plain) → IsList (F.map files.old) p → IfErr result (λ e. OnDamaged e (λ _. ⊥)) }
+    ensures reads { IsReading ⟦<F as Files>⟧ files.old files.new result }
+{
+    by_verdict(alloc, files, config, now, sender, message)
+}
+
+// What is found of the message decides.
+fn by_verdict<F: Files>(
+    alloc: Global,
+    files: &mut F,
+    config: &Config,
+    now: u64,
+    sender: &[u8],
+    message: &[u8],
+) -> Result<(Txn, Reply), PartError>
+    requires moment { IsMoment now }
+    requires config { IsConfig config.now }
+    requires size { length message.now ≤ 33_554_432 }
+    requires room { IsTrue F.tells → HasRoom (F.map files.now) }
+    ensures value { IsTrue F.tells → IfOk result (λ done. (p : Plain) → IsList (F.map files.old) p → p.config ≡ config.now → DoesList (F.map files.old) done (spec.post now sender.now message.now p)) }
+    ensures own { IfOk result (λ done. touches_only is_of_list done.0 ≡ true) }
+    ensures files { IfOk result (λ done. IsTrue (are_files done.0)) }
+    ensures reply { IfOk result (λ done. is_kept done.1 ≡ true) }
+    ensures names { NamesDamaged ⟦<F as Files>⟧ (λ name. is_posted_by config.now sender.now name ≡ true) (IsDamaged (F.map files.old)) result }
+    ensures reads { IsReading ⟦<F as Files>⟧ files.old files.new result }
+{
+    let found = verdict(alloc, files, config, sender, &Message::scan(message))?;
+    match follows(found) {
+        Fate::Refused(reply) => Ok((Txn::new(alloc), reply)),
+        Fate::Held => hold_message(alloc, files, config, now, sender, message),
+        Fate::Posted => post_message(alloc, files, config, now, sender, message),
+    }
+}
+
+// What follows a verdict.
+#[derive(Clone, Copy)]
+enum Fate {
+    Refused(Reply),
+    Held,
+    Posted,
+}
+
+// What follows a verdict.
+fn follows(found: Verdict) -> Fate
+    ensures { result ≡ fate_of found }
+{
+    match found {
+        Verdict::TooBig => Fate::Refused(plain(Reply::TOOBIG)),
+        Verdict::BounceSender => Fate::Refused(plain(Reply::NOSENDER)),
+        Verdict::Looped => Fate::Refused(plain(Reply::LOOPED)),
+        Verdict::Denied => Fate::Refused(plain(Reply::DENIED)),
+        Verdict::NoSubject => Fate::Refused(plain(Reply::NOSUBJECT)),
+        Verdict::CommandSubject => Fate::Refused(plain(Reply::COMMAND)),
+        Verdict::NotAddressed => Fate::Refused(plain(Reply::NOTADDRESSED)),
+        Verdict::UsersOnly => Fate::Refused(plain(Reply::USERSONLY)),
+        Verdict::Held => Fate::Held,
+        Verdict::Full => Fate::Refused(plain(Reply::FULL)),
+        Verdict::Posted => Fate::Posted,
+    }
+}
+
+// Holds a message, whose sender is an address.
+fn hold_message<F: Files>(
+    alloc: Global,
+    files: &mut F,
+    config: &Config,
+    now: u64,
+    sender: &[u8],
+    message: &[u8],
+) -> Result<(Txn, Reply), PartError>
+    requires moment { IsMoment now }
+    requires config { IsConfig config.now }
+    requires size { length message.now ≤ 33_554_432 }
+    requires room { IsTrue F.tells → HasRoom (F.map files.now) }
+    ensures value { IsTrue F.tells → IfOk result (λ done. (p : Plain) → IsList (F.map files.old) p → p.config ≡ config.now → verdicts.is_usable sender.now ≡ true → DoesList (F.map files.old) done (spec.held_now now (as_address sender.now) message.now p)) }
+    ensures own { IfOk result (λ done. touches_only is_of_list done.0 ≡ true) }
+    ensures files { IfOk result (λ done. IsTrue (are_files done.0)) }
+    ensures reply { IfOk result (λ done. is_kept done.1 ≡ true) }
+    ensures names { NamesDamaged ⟦<F as Files>⟧ (λ name. is_held_by name ≡ true) (IsDamaged (F.map files.old)) result }
+    ensures reads { IsReading ⟦<F as Files>⟧ files.old files.new result }
+{
+    match usable(alloc, sender)? {
+        Some(who) => hold_post(alloc, files, config, now, who, message),
+        None => Ok((Txn::new(alloc), plain(Reply::NOSENDER))),
+    }
+}
+
+// Posts a message, whose sender is an address.
+fn post_message<F: Files>(
+    alloc: Global,
+    files: &mut F,
+    config: &Config,
+    now: u64,
+    sender: &[u8],
+    message: &[u8],
+) -> Result<(Txn, Reply), PartError>
+    requires moment { IsMoment now }
+    requires room { IsTrue F.tells → HasIds (F.map files.now) }
+    ensures value { IsTrue F.tells → IfOk result (λ done. (p : Plain) → IsList (F.map files.old) p → p.config ≡ config.now → verdicts.is_usable sender.now ≡ true → is_archive_full p ≡ false → DoesList (F.map files.old) done (spec.posted_now now (as_address sender.now) message.now p)) }
+    ensures own { IfOk result (λ done. touches_only is_of_list done.0 ≡ true) }
+    ensures files { IfOk result (λ done. IsTrue (are_files done.0)) }
+    ensures reply { IfOk result (λ done. is_kept done.1 ≡ true) }
+    ensures names { NamesDamaged ⟦<F as Files>⟧ (λ name. is_published_by name ≡ true) (IsDamaged (F.map files.old)) result }
+    ensures reads { IsReading ⟦<F as Files>⟧ files.old files.new result }
+{
+    let Some(who) = usable(alloc, sender)? else {
+        return Ok((Txn::new(alloc), plain(Reply::NOSENDER)));
+    };
+    let answer = publish(alloc, files, config, now, &who, message)?;
+    Ok(done_by(alloc, answer))
+}
+
+// The puts and the reply of a message that was to be posted.
+fn done_by(alloc: Global, answer: Appended) -> (Txn, Reply)
+    ensures puts { result.0 ≡ puts_of answer }
+    ensures reply { result.1 ≡ reply_of answer }
+{
+    match answer {
+        Appended::At(number, txn) => (txn, posted(number)),
+        Appended::Full => (Txn::new(alloc), plain(Reply::FULL)),
+    }
+}
+
+// The reply of a post that got a number.
+pub(crate) fn posted(number: u64) -> Reply
+    ensures { result ≡ answers.posted number }
+{
+    Reply {
+        code: Reply::POSTED,
+        number,
+    }
+}
+
+// The reply of a code that has no number.
+pub(crate) fn plain(code: u8) -> Reply
+    ensures { result ≡ answers.plain code }
+{
+    Reply { code, number: 0 }
+}
