@@ -1,0 +1,89 @@
+-- What acts do, said of the files as they were before the reads.
+use Rattle.std.proofs.Common.{◌≡◌, ℕ, Bool, true, false, List, [], length, Result, Ok, Err, IfOk, IfErr, IsTrue, sym, ap, subst, arith}
+use Rattle.std.proofs.lemmas.Bool.{le-leb, lt-leb}
+use Rattle.ml_base.specs.Address.{key}
+use Rattle.ml_base.specs.Bytes.{Text}
+use Rattle.ml_base.specs.Dir.{Dir, touches_only, with_puts}
+use Rattle.ml_base.specs.PartErrors.{OnDamaged}
+use Rattle.ml_base.specs.ReadFiles.{NamesDamaged}
+use Rattle.ml_base.specs.declared.files.Files.{Ghosts}
+use Rattle.ml_base.specs.declared.names.Name.{Name}
+use Rattle.ml_base.specs.declared.names.Set.{Set}
+use Rattle.ml_base.specs.declared.part.PartError.{PartError}
+use Rattle.ml_base.specs.declared.puts.Put.{Put}
+use Rattle.ml_base.proofs.DamagedNames.{err_damaged}
+use Rattle.ml_bounce.specs.Ledger.{forget}
+use Rattle.ml_config.specs.declared.configuration.Config.{Config}
+use Rattle.ml_subs.specs.Answers.{IsAddition}
+use Rattle.ml_subs.specs.Members.{with_member, without_member}
+use Rattle.ml_subs.specs.Subscribers.{is_touched}
+use Rattle.ml_subs.specs.declared.changing.AddAnswer.TheVariants.{Added, Full}
+use Rattle.ml_plain.specs.declared.Reply.{Reply}
+use Rattle.ml_plain.specs.Directory.{IsList}
+use Rattle.ml_plain.specs.Managing.{Deed, done, joined}
+use Rattle.ml_plain.specs.Plain.{Plain, added, is_full, ledger_of, removed, with_ledger_of, with_members}
+use Rattle.ml_plain.proofs.Changes.{members_changed}
+use Rattle.ml_acts.specs.Doing.{DoesList, HasIds, HasRoom}
+use Rattle.ml_acts.specs.Damaged.{IsDamaged}
+use Rattle.ml_joining.specs.Deeds.{IsSubject}
+use Rattle.ml_joining.specs.declared.subjects.Subject.{Subject}
+
+-- an answer of a call on the files as they were kept, behind no puts
+pub told_by : (old dir : Dir) (txn : List Put) (r : Result (List Put × Reply) PartError) (c : Config) (step other : Plain → Plain × Reply) → dir ≡ old → txn ≡ []
+    → ((p : Plain) → IsList old p → p.config ≡ c → step p ≡ other p)
+    → IfOk r (λ answer. (p : Plain) → IsList (with_puts dir txn) p → p.config ≡ c → DoesList dir answer (step p)) → IfOk r (λ answer. (p : Plain) → IsList old p → p.config ≡ c → DoesList old answer (other p))
+told_by old dir txn (Err e) c step other same none f value = tt
+told_by old dir txn (Ok answer) c step other same none f value = λ p is e.
+    subst (λ (d : Dir). DoesList d answer (other p)) same
+    (subst (λ (s : Plain × Reply). DoesList dir answer s) (f p is e) (value p (subst (λ (t : List Put). IsList (with_puts dir t) p) (sym none) (subst (λ (d : Dir). IsList d p) (sym same) is)) e))
+
+-- nothing is done but a reply
+pub only_reply : (dir : Dir) (p : Plain) (puts : List Put) (reply given : Reply) → puts ≡ [] → reply ≡ given → IsList dir p → DoesList dir (puts, reply) (p, given)
+only_reply dir p puts reply given none e is = record { reply = e; list = subst (λ (t : List Put). IsList (with_puts dir t) p) (sym none) is }
+
+module _ (dir : Dir) (p : Plain) (set : Set) (who : Text) (now : ℕ) (is : IsList dir p) where
+  -- an address that was added, and a full set
+  pub added_list : (txn : List Put) → IsAddition dir set (p.sets set) (record { who = who; since = now }) (Added txn) → touches_only (is_touched set (key who)) txn ≡ true → IsList (with_puts dir txn) (added set who now p)
+  added_list txn a only = members_changed dir p set (key who) txn (with_member (record { who = who; since = now }) (p.sets set)) is only a.2
+
+  pub has_room : (txn : List Put) → IsAddition dir set (p.sets set) (record { who = who; since = now }) (Added txn) → joined now set who (is_full p set) p ≡ joined now set who false p
+  has_room txn a = ap (λ (b : Bool). joined now set who b p) (lt-leb 100_000 (length (p.sets set)) a.1)
+
+  pub has_none : IsAddition dir set (p.sets set) (record { who = who; since = now }) Full → joined now set who (is_full p set) p ≡ joined now set who true p
+  has_none a = ap (λ (b : Bool). joined now set who b p) (let size = a.1 in le-leb 100_000 (length (p.sets set)) (omega (arith, size)))
+
+-- the list that an address leaves, by its key
+abbrev without_key_of : Set → Text → Plain → Plain
+without_key_of set k p = with_ledger_of set (forget k (ledger_of p set)) (record p { sets = with_members set (without_member k (p.sets set)) p.sets })
+
+pub same_removed : (set : Set) (a b : Text) (p : Plain) → key a ≡ key b → removed set a p ≡ removed set b p
+same_removed set a b p e = ap (λ (k : Text). without_key_of set k p) e
+
+-- there is room for an entry, also behind reads
+pub ids_left : (old dir : Dir) → dir ≡ old → HasRoom old → HasIds dir
+ids_left old dir same room = subst (λ (d : Dir). HasIds d) (sym same) (λ low next counted. let le = room.ids low next counted in omega (arith, le))
+
+-- the same about whom a request is about
+pub asked_by : (old dir : Dir) (r : Result (List Put × Reply) PartError) (c : Config) (set : Set) (s : Subject) (step other : Plain → Plain × Reply) → dir ≡ old → ((p : Plain) → IsList old p → IsSubject p set s)
+    → ((p : Plain) → IsList old p → p.config ≡ c → IsSubject p set s → step p ≡ other p)
+    → IfOk r (λ answer. (p : Plain) → IsList dir p → p.config ≡ c → IsSubject p set s → DoesList dir answer (step p)) → IfOk r (λ answer. (p : Plain) → IsList old p → p.config ≡ c → DoesList old answer (other p))
+asked_by old dir (Err e) c set s step other same whom f value = tt
+asked_by old dir (Ok answer) c set s step other same whom f value = λ p is e.
+    let about = whom p is in
+    subst (λ (d : Dir). DoesList d answer (other p)) same
+    (subst (λ (t : Plain × Reply). DoesList dir answer t) (f p is e about) (value p (subst (λ (d : Dir). IsList d p) (sym same) is) e about))
+
+-- the same of a deed that is this one
+pub deed_is : {D : Type 0} (dir : Dir) (r : Result (List Put × Reply) PartError) (c : Config) (now : ℕ) (set : Set) (sender : Text) (s : Subject) (view : D → Deed) (deed arm : D) → deed ≡ arm
+    → IfOk r (λ answer. (p : Plain) → IsList dir p → p.config ≡ c → DoesList dir answer (done now set sender s.who p (view arm)))
+    → IfOk r (λ answer. (p : Plain) → IsList dir p → p.config ≡ c → IsSubject p set s → DoesList dir answer (done now set sender s.who p (view deed)))
+deed_is dir (Err e) c now set sender s view deed arm same value = tt
+deed_is {D = D} dir (Ok answer) c now set sender s view deed arm same value = λ p is e about. subst (λ (d : D). DoesList dir answer (done now set sender s.who p (view d))) (sym same) (value p is e)
+
+-- a call on files that were kept names what it may
+pub fewer_kept : {F T : Type 0} (told : Ghosts F) (old new : F) (May Few : Name → Type 0) (r : Result T PartError) → (IsTrue told.tells → told.map new ≡ told.map old) → ((name : Name) → Few name → May name)
+    → NamesDamaged told Few (IsDamaged (told.map new)) r → NamesDamaged told May (IsDamaged (told.map old)) r
+fewer_kept told old new May Few r same may is = record {
+  named = err_damaged r Few May may is.named;
+  damaged = λ t. subst (λ (d : Dir). IfErr r (λ e. OnDamaged e (IsDamaged d))) (same t) (is.damaged t);
+}

@@ -1,0 +1,183 @@
+// Mails about an address that is to join or leave a set.
+ghost use Rattle.std.specs.Prelude.{◌≡◌, true, ◌||◌, IsTrue, IfOk};
+ghost use Rattle.ml_base.specs.Dir.{are_files, same_name, touches_only, with_puts};
+ghost use Rattle.ml_base.specs.Ranges.{IsMoment};
+ghost use Rattle.ml_base.specs.ReadFiles.{IsReading, NamesDamaged};
+ghost use Rattle.ml_base.specs.declared.names.Set.TheVariants as sets;
+ghost use Rattle.ml_address.specs.Requests.{is_asked};
+ghost use Rattle.ml_config.specs.Configuration.{IsConfig};
+ghost use Rattle.ml_plain.specs.Answers as answers;
+ghost use Rattle.ml_plain.specs.Directory.{IsList, is_of_list};
+ghost use Rattle.ml_plain.specs.KeptFiles.{is_kept};
+ghost use Rattle.ml_plain.specs.Mailing as spec;
+ghost use Rattle.ml_plain.specs.Plain.{Plain};
+ghost use Rattle.ml_queue.specs.Answers.{ids_name};
+ghost use Rattle.ml_reply.specs.declared.mails.Mail.TheVariants.{AskTc};
+ghost use Rattle.ml_acts.specs.Doing.{DoesList, HasIds, is_beside_queue, is_bucket, is_mailed_by};
+ghost use Rattle.ml_acts.specs.Damaged.{IsDamaged};
+ghost use Rattle.ml_joining.specs.Reads.{is_for_mail};
+
+use crate::deeds::plain;
+use ml_acts::{confirm_address, owner_address, with_mail, with_mail_to_moderators};
+use ml_address::Word;
+use ml_base::{Address, Bytes, Files, PartError, Set, Txn};
+use ml_config::{Config, key};
+use ml_plain::Reply;
+use ml_reply::Mail;
+use std::alloc::{AllocError, Global};
+
+// The mail that asks to confirm something of an address.
+fn question(
+    alloc: Global,
+    word: Word,
+    to: &Address,
+    reply: Bytes,
+    set: Set,
+    x: &Address,
+) -> Result<Mail, AllocError>
+    ensures { IfOk result (λ mail. mail ≡ spec.question word to.now reply set x.now) }
+{
+    let to = Bytes::from_slice(alloc, to.bytes())?;
+    let who = Bytes::from_slice(alloc, x.bytes())?;
+    Ok(match word {
+        Word::Sc => Mail::AskSc {
+            to,
+            reply,
+            set,
+            who,
+        },
+        Word::Tc => Mail::AskTc {
+            to,
+            reply,
+            set,
+            who,
+        },
+        Word::Uc => Mail::AskUc {
+            to,
+            reply,
+            set,
+            who,
+        },
+    })
+}
+
+// An address is asked to confirm something of another, or of itself.
+pub(crate) fn ask<F: Files>(
+    alloc: Global,
+    files: &mut F,
+    config: &Config,
+    now: u64,
+    word: Word,
+    set: Set,
+    to: &Address,
+    x: &Address,
+) -> Result<(Txn, Reply), PartError>
+    requires moment { IsMoment now }
+    requires config { IsConfig config.now }
+    requires asked { IsTrue (is_asked set) }
+    requires room { IsTrue F.tells → HasIds (F.map files.now) }
+    ensures value { IsTrue F.tells → IfOk result (λ done. (p : Plain) → IsList (F.map files.old) p → p.config ≡ config.now → DoesList (F.map files.old) done (spec.ask to.now now word set x.now p, answers.asked)) }
+    ensures own { IfOk result (λ done. touches_only is_of_list done.0 ≡ true) }
+    ensures files { IfOk result (λ done. IsTrue (are_files done.0)) }
+    ensures reply { IfOk result (λ done. is_kept done.1 ≡ true) }
+    ensures names { NamesDamaged ⟦<F as Files>⟧ (λ name. is_for_mail name ≡ true) (IsDamaged (F.map files.old)) result }
+    ensures reads { IsReading ⟦<F as Files>⟧ files.old files.new result }
+{
+    let keys = key(alloc, files)?;
+    let reply = confirm_address(alloc, config, &keys, word, set, x, now)?;
+    let mail = question(alloc, word, to, reply, set, x)?;
+    let reply = plain(Reply::ASKED);
+    sent(alloc, files, config, Txn::new(alloc), to, now, mail, reply)
+}
+
+// The mail that asks the moderators to confirm a subscription.
+fn moderators_question(
+    alloc: Global,
+    config: &Config,
+    reply: Bytes,
+    set: Set,
+    x: &Address,
+) -> Result<Mail, AllocError>
+    ensures { IfOk result (λ mail. mail ≡ AskTc (spec.owner_address config.now) reply set x.now) }
+{
+    let to = owner_address(alloc, config)?;
+    let who = Bytes::from_slice(alloc, x.bytes())?;
+    Ok(Mail::AskTc {
+        to,
+        reply,
+        set,
+        who,
+    })
+}
+
+// The moderators are asked to confirm a subscription.
+pub(crate) fn ask_moderators<F: Files>(
+    alloc: Global,
+    files: &mut F,
+    config: &Config,
+    now: u64,
+    set: Set,
+    x: &Address,
+) -> Result<(Txn, Reply), PartError>
+    requires moment { IsMoment now }
+    requires config { IsConfig config.now }
+    requires asked { IsTrue (is_asked set) }
+    requires room { IsTrue F.tells → HasIds (F.map files.now) }
+    ensures value { IsTrue F.tells → IfOk result (λ done. (p : Plain) → IsList (F.map files.old) p → p.config ≡ config.now → DoesList (F.map files.old) done (spec.ask_moderators now set x.now p, answers.asked)) }
+    ensures own { IfOk result (λ done. touches_only is_of_list done.0 ≡ true) }
+    ensures files { IfOk result (λ done. IsTrue (are_files done.0)) }
+    ensures reply { IfOk result (λ done. is_kept done.1 ≡ true) }
+    ensures names { NamesDamaged ⟦<F as Files>⟧ (λ name. (is_for_mail name || is_bucket sets.Moderators name) ≡ true) (IsDamaged (F.map files.old)) result }
+    ensures reads { IsReading ⟦<F as Files>⟧ files.old files.new result }
+{
+    let keys = key(alloc, files)?;
+    let reply = confirm_address(alloc, config, &keys, Word::Tc, set, x, now)?;
+    let mail = moderators_question(alloc, config, reply, set, x)?;
+    sent_to_moderators(alloc, files, config, now, mail)
+}
+
+// These puts, behind them a mail to one address, and a reply.
+pub(crate) fn sent<F: Files>(
+    alloc: Global,
+    files: &mut F,
+    config: &Config,
+    txn: Txn,
+    to: &Address,
+    now: u64,
+    mail: Mail,
+    reply: Reply,
+) -> Result<(Txn, Reply), PartError>
+    requires moment { IsMoment now }
+    requires room { IsTrue F.tells → HasIds (F.map files.now) }
+    requires others { touches_only is_beside_queue txn ≡ true }
+    requires names { IsTrue (are_files txn) }
+    ensures value { IsTrue F.tells → IfOk result (λ done. (p : Plain) → IsList (with_puts (F.map files.old) txn) p → p.config ≡ config.now → DoesList (F.map files.old) done (spec.mail_to to.now now mail p, reply)) }
+    ensures own { IfOk result (λ done. touches_only is_of_list done.0 ≡ true) }
+    ensures files { IfOk result (λ done. IsTrue (are_files done.0)) }
+    ensures reply { IfOk result (λ done. done.1 ≡ reply) }
+    ensures names { NamesDamaged ⟦<F as Files>⟧ (λ name. same_name name ids_name ≡ true) (IsDamaged (F.map files.old)) result }
+    ensures reads { IsReading ⟦<F as Files>⟧ files.old files.new result }
+{
+    with_mail(alloc, files, config, txn, to, now, &mail, reply)
+}
+
+// A mail to all moderators, and that somebody was asked.
+fn sent_to_moderators<F: Files>(
+    alloc: Global,
+    files: &mut F,
+    config: &Config,
+    now: u64,
+    mail: Mail,
+) -> Result<(Txn, Reply), PartError>
+    requires moment { IsMoment now }
+    requires room { IsTrue F.tells → HasIds (F.map files.now) }
+    ensures value { IsTrue F.tells → IfOk result (λ done. (p : Plain) → IsList (F.map files.old) p → p.config ≡ config.now → DoesList (F.map files.old) done (spec.mail_moderators now mail p, answers.asked)) }
+    ensures own { IfOk result (λ done. touches_only is_of_list done.0 ≡ true) }
+    ensures files { IfOk result (λ done. IsTrue (are_files done.0)) }
+    ensures reply { IfOk result (λ done. done.1 ≡ answers.asked) }
+    ensures names { NamesDamaged ⟦<F as Files>⟧ (λ name. is_mailed_by sets.Moderators name ≡ true) (IsDamaged (F.map files.old)) result }
+    ensures reads { IsReading ⟦<F as Files>⟧ files.old files.new result }
+{
+    let reply = plain(Reply::ASKED);
+    with_mail_to_moderators(alloc, files, config, Txn::new(alloc), now, &mail, reply)
+}

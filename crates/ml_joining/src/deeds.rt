@@ -1,0 +1,63 @@
+// What is done about an address that is to join or leave a set.
+ghost use Rattle.std.specs.Prelude.{◌≡◌, true};
+ghost use Rattle.ml_plain.specs.Answers as answers;
+ghost use Rattle.ml_plain.specs.KeptFiles.{is_kept};
+ghost use Rattle.ml_joining.specs.Deeds.{answer_reply};
+
+use ml_plain::Reply;
+
+// What is answered without a mail and without a change.
+#[derive(Clone, Copy, PartialEq, Eq)]
+pub(crate) enum Answer {
+    Private,
+    BadCookie,
+    Already,
+    Absent,
+}
+
+// What is done about an address that is to join a set.
+#[derive(Clone, Copy, PartialEq, Eq)]
+pub(crate) enum Joining {
+    Only(Answer),
+    // The sender is told that the address is a member.
+    TellAlready,
+    // The sender, the address or the moderators are asked to confirm it.
+    AskSender,
+    AskSubject,
+    AskModerators,
+    // The address joins.
+    Join,
+}
+
+// What is done about an address that is to leave a set.
+#[derive(Clone, Copy, PartialEq, Eq)]
+pub(crate) enum Leaving {
+    Only(Answer),
+    // The sender is told that the address is no member.
+    TellAbsent,
+    // The sender or the address is asked to confirm it.
+    AskSender,
+    AskSubject,
+    // The address leaves.
+    Leave,
+}
+
+// The reply of a code that has no number.
+pub(crate) fn plain(code: u8) -> Reply
+    ensures { result ≡ answers.plain code }
+{
+    Reply { code, number: 0 }
+}
+
+// The reply of an answer.
+pub(crate) fn reply_of(answer: Answer) -> Reply
+    ensures value { result ≡ answer_reply answer }
+    ensures kept { is_kept result ≡ true }
+{
+    match answer {
+        Answer::Private => plain(Reply::PRIVATE),
+        Answer::BadCookie => plain(Reply::BADCOOKIE),
+        Answer::Already => plain(Reply::ALREADY),
+        Answer::Absent => plain(Reply::ABSENT),
+    }
+}

@@ -1,0 +1,150 @@
+// An address that is to join a set.
+ghost use Rattle.std.specs.Prelude.{◌≡◌, false, true, IsTrue, IfOk};
+ghost use Rattle.ml_base.specs.Address.{key};
+ghost use Rattle.ml_base.specs.Dir.{are_files, same_name, touches_only, with_puts};
+ghost use Rattle.ml_base.specs.Ranges.{IsMoment};
+ghost use Rattle.ml_base.specs.ReadFiles.{IsReading, NamesDamaged};
+ghost use Rattle.ml_address.specs.Requests.{is_asked};
+ghost use Rattle.ml_config.specs.Configuration.{IsConfig};
+ghost use Rattle.ml_plain.specs.Answers as answers;
+ghost use Rattle.ml_plain.specs.Directory.{IsList, is_of_list};
+ghost use Rattle.ml_plain.specs.KeptFiles.{is_kept};
+ghost use Rattle.ml_plain.specs.Mailing.{mail_to};
+ghost use Rattle.ml_plain.specs.Managing as spec;
+ghost use Rattle.ml_plain.specs.Plain.{Plain, is_full, is_in};
+ghost use Rattle.ml_queue.specs.Answers.{ids_name};
+ghost use Rattle.ml_reply.specs.declared.mails.Mail.TheVariants as mails;
+ghost use Rattle.ml_subs.specs.Subscribers.{is_touched};
+ghost use Rattle.ml_acts.specs.Doing.{DoesList, HasIds};
+ghost use Rattle.ml_acts.specs.Damaged.{IsDamaged};
+ghost use Rattle.ml_joining.specs.Deeds.{IsSubject, MayJoin, joining_deed};
+ghost use Rattle.ml_joining.specs.Reads.{is_read_to_join, is_touched_with_mail};
+
+use crate::asking::{ask, ask_moderators, sent};
+use crate::deeds::{Joining, plain, reply_of};
+use crate::subjects::Subject;
+use ml_address::Word;
+use ml_base::{Address, Bytes, Files, PartError, Set, Txn};
+use ml_config::Config;
+use ml_plain::Reply;
+use ml_reply::Mail;
+use ml_subs::{AddAnswer, add};
+use std::alloc::Global;
+
+// Does what is to be done about an address that is to join a set.
+pub(crate) fn joined<F: Files>(
+    alloc: Global,
+    files: &mut F,
+    config: &Config,
+    now: u64,
+    set: Set,
+    sender: &Address,
+    x: &Subject,
+    deed: Joining,
+) -> Result<(Txn, Reply), PartError>
+    requires moment { IsMoment now }
+    requires config { IsConfig config.now }
+    requires asked { IsTrue (is_asked set) }
+    requires fresh { MayJoin x.now.member deed }
+    requires room { IsTrue F.tells → HasIds (F.map files.now) }
+    ensures value { IsTrue F.tells → IfOk result (λ done. (p : Plain) → IsList (F.map files.old) p → p.config ≡ config.now → IsSubject p set x.now → DoesList (F.map files.old) done (spec.done now set sender.now x.now.who p (joining_deed deed))) }
+    ensures own { IfOk result (λ done. touches_only is_of_list done.0 ≡ true) }
+    ensures files { IfOk result (λ done. IsTrue (are_files done.0)) }
+    ensures reply { IfOk result (λ done. is_kept done.1 ≡ true) }
+    ensures names { NamesDamaged ⟦<F as Files>⟧ (λ name. is_read_to_join set x.now.named name ≡ true) (IsDamaged (F.map files.old)) result }
+    ensures reads { IsReading ⟦<F as Files>⟧ files.old files.new result }
+{
+    let who = &x.who;
+    match deed {
+        Joining::Only(answer) => Ok((Txn::new(alloc), reply_of(answer))),
+        Joining::TellAlready => tell_already(alloc, files, config, now, set, sender, who),
+        Joining::AskSender => ask(alloc, files, config, now, Word::Tc, set, sender, who),
+        Joining::AskSubject => ask(alloc, files, config, now, Word::Sc, set, who, who),
+        Joining::AskModerators => ask_moderators(alloc, files, config, now, set, who),
+        Joining::Join => join(alloc, files, config, now, set, &x.named),
+    }
+}
+
+// The sender is told that an address is a member.
+fn tell_already<F: Files>(
+    alloc: Global,
+    files: &mut F,
+    config: &Config,
+    now: u64,
+    set: Set,
+    sender: &Address,
+    x: &Address,
+) -> Result<(Txn, Reply), PartError>
+    requires moment { IsMoment now }
+    requires room { IsTrue F.tells → HasIds (F.map files.now) }
+    ensures value { IsTrue F.tells → IfOk result (λ done. (p : Plain) → IsList (F.map files.old) p → p.config ≡ config.now → DoesList (F.map files.old) done (mail_to sender.now now (mails.Already sender.now set x.now) p, answers.already)) }
+    ensures own { IfOk result (λ done. touches_only is_of_list done.0 ≡ true) }
+    ensures files { IfOk result (λ done. IsTrue (are_files done.0)) }
+    ensures reply { IfOk result (λ done. is_kept done.1 ≡ true) }
+    ensures names { NamesDamaged ⟦<F as Files>⟧ (λ name. same_name name ids_name ≡ true) (IsDamaged (F.map files.old)) result }
+    ensures reads { IsReading ⟦<F as Files>⟧ files.old files.new result }
+{
+    let mail = Mail::Already {
+        to: Bytes::from_slice(alloc, sender.bytes())?,
+        set,
+        who: Bytes::from_slice(alloc, x.bytes())?,
+    };
+    let txn = Txn::new(alloc);
+    let reply = plain(Reply::ALREADY);
+    sent(alloc, files, config, txn, sender, now, mail, reply)
+}
+
+// An address that a set doesn't have joins it, where there is room, and is welcomed.
+fn join<F: Files>(
+    alloc: Global,
+    files: &mut F,
+    config: &Config,
+    now: u64,
+    set: Set,
+    who: &Address,
+) -> Result<(Txn, Reply), PartError>
+    requires moment { IsMoment now }
+    requires room { IsTrue F.tells → HasIds (F.map files.now) }
+    ensures value { IsTrue F.tells → IfOk result (λ done. (p : Plain) → IsList (F.map files.old) p → p.config ≡ config.now → is_in p set who.now ≡ false → DoesList (F.map files.old) done (spec.joined now set who.now (is_full p set) p)) }
+    ensures own { IfOk result (λ done. touches_only is_of_list done.0 ≡ true) }
+    ensures files { IfOk result (λ done. IsTrue (are_files done.0)) }
+    ensures reply { IfOk result (λ done. is_kept done.1 ≡ true) }
+    ensures names { NamesDamaged ⟦<F as Files>⟧ (λ name. is_touched_with_mail set who.now name ≡ true) (IsDamaged (F.map files.old)) result }
+    ensures reads { IsReading ⟦<F as Files>⟧ files.old files.new result }
+{
+    match add(alloc, files, set, who, now)? {
+        AddAnswer::Added(txn) => welcome(alloc, files, config, now, set, who, txn),
+        AddAnswer::Already => Ok((Txn::new(alloc), plain(Reply::ALREADY))),
+        AddAnswer::Full => Ok((Txn::new(alloc), plain(Reply::FULL))),
+    }
+}
+
+// The puts that add an address to a set, and behind them its welcome.
+fn welcome<F: Files>(
+    alloc: Global,
+    files: &mut F,
+    config: &Config,
+    now: u64,
+    set: Set,
+    who: &Address,
+    txn: Txn,
+) -> Result<(Txn, Reply), PartError>
+    requires moment { IsMoment now }
+    requires room { IsTrue F.tells → HasIds (F.map files.now) }
+    requires touched { touches_only (is_touched set (key who.now)) txn ≡ true }
+    requires names { IsTrue (are_files txn) }
+    ensures value { IsTrue F.tells → IfOk result (λ done. (p : Plain) → IsList (with_puts (F.map files.old) txn) p → p.config ≡ config.now → DoesList (F.map files.old) done (mail_to who.now now (mails.Welcome who.now set who.now) p, answers.subscribed)) }
+    ensures own { IfOk result (λ done. touches_only is_of_list done.0 ≡ true) }
+    ensures files { IfOk result (λ done. IsTrue (are_files done.0)) }
+    ensures reply { IfOk result (λ done. is_kept done.1 ≡ true) }
+    ensures names { NamesDamaged ⟦<F as Files>⟧ (λ name. same_name name ids_name ≡ true) (IsDamaged (F.map files.old)) result }
+    ensures reads { IsReading ⟦<F as Files>⟧ files.old files.new result }
+{
+    let mail = Mail::Welcome {
+        to: Bytes::from_slice(alloc, who.bytes())?,
+        set,
+        who: Bytes::from_slice(alloc, who.bytes())?,
+    };
+    let reply = plain(Reply::SUBSCRIBED);
+    sent(alloc, files, config, txn, who, now, mail, reply)
+}

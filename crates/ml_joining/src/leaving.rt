@@ -1,0 +1,148 @@
+// An address that is to leave a set.
+ghost use Rattle.std.specs.Prelude.{◌≡◌, true, IsTrue, IfOk};
+ghost use Rattle.ml_base.specs.Address.{key};
+ghost use Rattle.ml_base.specs.Dir.{are_files, same_name, touches_only, with_puts};
+ghost use Rattle.ml_base.specs.Ranges.{IsMoment};
+ghost use Rattle.ml_base.specs.ReadFiles.{IsReading, NamesDamaged};
+ghost use Rattle.ml_address.specs.Requests.{is_asked};
+ghost use Rattle.ml_config.specs.Configuration.{IsConfig};
+ghost use Rattle.ml_plain.specs.Answers as answers;
+ghost use Rattle.ml_plain.specs.Directory.{IsList, is_of_list};
+ghost use Rattle.ml_plain.specs.KeptFiles.{is_kept};
+ghost use Rattle.ml_plain.specs.Mailing.{mail_to};
+ghost use Rattle.ml_plain.specs.Managing as spec;
+ghost use Rattle.ml_plain.specs.Plain.{Plain};
+ghost use Rattle.ml_queue.specs.Answers.{ids_name};
+ghost use Rattle.ml_reply.specs.declared.mails.Mail.TheVariants as mails;
+ghost use Rattle.ml_acts.specs.Doing.{DoesList, HasIds, is_beside_queue};
+ghost use Rattle.ml_acts.specs.Damaged.{IsDamaged};
+ghost use Rattle.ml_joining.specs.Deeds.{IsSubject, MayLeave, leaving_deed};
+ghost use Rattle.ml_joining.specs.Reads.{is_read_to_leave};
+
+use crate::asking::{ask, sent};
+use crate::deeds::{Leaving, plain, reply_of};
+use crate::subjects::Subject;
+use ml_acts::remove_member;
+use ml_address::Word;
+use ml_base::{Address, Bytes, Files, PartError, Set, Txn};
+use ml_config::Config;
+use ml_plain::Reply;
+use ml_reply::Mail;
+use std::alloc::Global;
+
+// Does what is to be done about an address that is to leave a set.
+pub(crate) fn left<F: Files>(
+    alloc: Global,
+    files: &mut F,
+    config: &Config,
+    now: u64,
+    set: Set,
+    sender: &Address,
+    x: &Subject,
+    deed: Leaving,
+) -> Result<(Txn, Reply), PartError>
+    requires moment { IsMoment now }
+    requires config { IsConfig config.now }
+    requires asked { IsTrue (is_asked set) }
+    requires member { MayLeave x.now.member deed }
+    requires room { IsTrue F.tells → HasIds (F.map files.now) }
+    ensures value { IsTrue F.tells → IfOk result (λ done. (p : Plain) → IsList (F.map files.old) p → p.config ≡ config.now → IsSubject p set x.now → DoesList (F.map files.old) done (spec.done now set sender.now x.now.who p (leaving_deed deed))) }
+    ensures own { IfOk result (λ done. touches_only is_of_list done.0 ≡ true) }
+    ensures files { IfOk result (λ done. IsTrue (are_files done.0)) }
+    ensures reply { IfOk result (λ done. is_kept done.1 ≡ true) }
+    ensures names { NamesDamaged ⟦<F as Files>⟧ (λ name. is_read_to_leave set x.now.named name ≡ true) (IsDamaged (F.map files.old)) result }
+    ensures reads { IsReading ⟦<F as Files>⟧ files.old files.new result }
+{
+    let who = &x.who;
+    match deed {
+        Leaving::Only(answer) => Ok((Txn::new(alloc), reply_of(answer))),
+        Leaving::TellAbsent => tell_absent(alloc, files, config, now, set, sender, who),
+        Leaving::AskSender => ask(alloc, files, config, now, Word::Uc, set, sender, who),
+        Leaving::AskSubject => ask(alloc, files, config, now, Word::Uc, set, who, who),
+        Leaving::Leave => leave(alloc, files, config, now, set, x),
+    }
+}
+
+// The sender is told that an address is no member.
+fn tell_absent<F: Files>(
+    alloc: Global,
+    files: &mut F,
+    config: &Config,
+    now: u64,
+    set: Set,
+    sender: &Address,
+    x: &Address,
+) -> Result<(Txn, Reply), PartError>
+    requires moment { IsMoment now }
+    requires room { IsTrue F.tells → HasIds (F.map files.now) }
+    ensures value { IsTrue F.tells → IfOk result (λ done. (p : Plain) → IsList (F.map files.old) p → p.config ≡ config.now → DoesList (F.map files.old) done (mail_to sender.now now (mails.Absent sender.now set x.now) p, answers.absent)) }
+    ensures own { IfOk result (λ done. touches_only is_of_list done.0 ≡ true) }
+    ensures files { IfOk result (λ done. IsTrue (are_files done.0)) }
+    ensures reply { IfOk result (λ done. is_kept done.1 ≡ true) }
+    ensures names { NamesDamaged ⟦<F as Files>⟧ (λ name. same_name name ids_name ≡ true) (IsDamaged (F.map files.old)) result }
+    ensures reads { IsReading ⟦<F as Files>⟧ files.old files.new result }
+{
+    let mail = Mail::Absent {
+        to: Bytes::from_slice(alloc, sender.bytes())?,
+        set,
+        who: Bytes::from_slice(alloc, x.bytes())?,
+    };
+    let txn = Txn::new(alloc);
+    let reply = plain(Reply::ABSENT);
+    sent(alloc, files, config, txn, sender, now, mail, reply)
+}
+
+// An address that a set has leaves it, and gets its goodbye.
+fn leave<F: Files>(
+    alloc: Global,
+    files: &mut F,
+    config: &Config,
+    now: u64,
+    set: Set,
+    x: &Subject,
+) -> Result<(Txn, Reply), PartError>
+    requires moment { IsMoment now }
+    requires member { x.now.member ≡ true }
+    requires room { IsTrue F.tells → HasIds (F.map files.now) }
+    ensures value { IsTrue F.tells → IfOk result (λ done. (p : Plain) → IsList (F.map files.old) p → p.config ≡ config.now → IsSubject p set x.now → DoesList (F.map files.old) done (spec.left now set x.now.who p)) }
+    ensures own { IfOk result (λ done. touches_only is_of_list done.0 ≡ true) }
+    ensures files { IfOk result (λ done. IsTrue (are_files done.0)) }
+    ensures reply { IfOk result (λ done. is_kept done.1 ≡ true) }
+    ensures names { NamesDamaged ⟦<F as Files>⟧ (λ name. is_read_to_leave set x.now.named name ≡ true) (IsDamaged (F.map files.old)) result }
+    ensures reads { IsReading ⟦<F as Files>⟧ files.old files.new result }
+{
+    match remove_member(alloc, files, set, &x.named)? {
+        Some(txn) => goodbye(alloc, files, config, now, set, &x.who, txn),
+        None => Ok((Txn::new(alloc), plain(Reply::ABSENT))),
+    }
+}
+
+// The puts that remove an address from a set, and behind them its goodbye.
+fn goodbye<F: Files>(
+    alloc: Global,
+    files: &mut F,
+    config: &Config,
+    now: u64,
+    set: Set,
+    who: &Address,
+    txn: Txn,
+) -> Result<(Txn, Reply), PartError>
+    requires moment { IsMoment now }
+    requires room { IsTrue F.tells → HasIds (F.map files.now) }
+    requires others { touches_only is_beside_queue txn ≡ true }
+    requires names { IsTrue (are_files txn) }
+    ensures value { IsTrue F.tells → IfOk result (λ done. (p : Plain) → IsList (with_puts (F.map files.old) txn) p → p.config ≡ config.now → DoesList (F.map files.old) done (mail_to who.now now (mails.Goodbye who.now set who.now) p, answers.unsubscribed)) }
+    ensures own { IfOk result (λ done. touches_only is_of_list done.0 ≡ true) }
+    ensures files { IfOk result (λ done. IsTrue (are_files done.0)) }
+    ensures reply { IfOk result (λ done. is_kept done.1 ≡ true) }
+    ensures names { NamesDamaged ⟦<F as Files>⟧ (λ name. same_name name ids_name ≡ true) (IsDamaged (F.map files.old)) result }
+    ensures reads { IsReading ⟦<F as Files>⟧ files.old files.new result }
+{
+    let mail = Mail::Goodbye {
+        to: Bytes::from_slice(alloc, who.bytes())?,
+        set,
+        who: Bytes::from_slice(alloc, who.bytes())?,
+    };
+    let reply = plain(Reply::UNSUBSCRIBED);
+    sent(alloc, files, config, txn, who, now, mail, reply)
+}

@@ -1,0 +1,358 @@
+// Requests to join and to leave, and confirmations.
+ghost use Rattle.std.specs.Prelude.{◌≡◌, true, IsTrue, IfOk, IfErr, Some};
+ghost use Rattle.std.specs.Option.{option_map};
+ghost use Rattle.ml_base.specs.Address.{key};
+ghost use Rattle.ml_base.specs.Dir.{are_files, same_name, touches_only};
+ghost use Rattle.ml_base.specs.PartErrors.{OnDamaged};
+ghost use Rattle.ml_base.specs.Ranges.{IsMoment};
+ghost use Rattle.ml_base.specs.ReadFiles.{IsReading, NamesDamaged};
+ghost use Rattle.ml_address.specs.Requests.{if_who, is_asked, is_who, word_text};
+ghost use Rattle.ml_address.specs.Views.{who_view};
+ghost use Rattle.ml_config.specs.Configuration.{IsConfig};
+ghost use Rattle.ml_config.specs.KeyFile.{key_name};
+ghost use Rattle.ml_plain.specs.Bouncing.{address_named};
+ghost use Rattle.ml_plain.specs.Directory.{IsList, is_of_list};
+ghost use Rattle.ml_plain.specs.KeptFiles.{is_kept};
+ghost use Rattle.ml_plain.specs.Mailing.{is_good};
+ghost use Rattle.ml_plain.specs.Managing as spec;
+ghost use Rattle.ml_plain.specs.Plain.{Plain};
+ghost use Rattle.ml_acts.specs.Doing.{DoesList, HasIds, HasRoom};
+ghost use Rattle.ml_acts.specs.Damaged.{IsDamaged};
+ghost use Rattle.ml_joining.specs.Deeds.{IsSubject, asked_of};
+ghost use Rattle.ml_joining.specs.Reads as reads;
+ghost use Rattle.ml_joining.specs.Reads.{is_read_to_confirm, is_read_to_subscribe, is_read_to_unsubscribe};
+
+use crate::deciding::{Facts, confirmed_joining, confirmed_leaving, joining, leaving};
+use crate::joining::joined;
+use crate::leaving::left;
+use crate::subjects::{Subject, find_subject, moderates};
+use ml_acts::{is_good as good_cookie, key_of, word_kind};
+use ml_address::{Who, Word};
+use ml_base::{Address, Files, PartError, Set, Txn};
+use ml_config::{Config, key as load_keys};
+use ml_plain::Reply;
+use std::alloc::Global;
+
+/// A sender asks that an address joins a set: the one that is named, or his own. The set is one that requests name.
+pub fn subscribe<F: Files>(
+    alloc: Global,
+    files: &mut F,
+    config: &Config,
+    now: u64,
+    sender: &Address,
+    set: Set,
+    who: Option<Who<'_>>,
+) -> Result<(Txn, Reply), PartError>
+    requires moment { IsMoment now }
+    requires config { IsConfig config.now }
+    requires asked { IsTrue (is_asked set) }
+    requires range { IsTrue (if_who (option_map who_view who)) }
+    requires room { IsTrue F.tells → HasRoom (F.map files.now) }
+    ensures value { IsTrue F.tells → IfOk result (λ done. (p : Plain) → IsList (F.map files.old) p → p.config ≡ config.now → DoesList (F.map files.old) done (spec.subscribe now sender.now set (spec.subject_of p set sender.now (option_map who_view who.entry)) p)) }
+    ensures own { IfOk result (λ done. touches_only is_of_list done.0 ≡ true) }
+    ensures files { IfOk result (λ done. IsTrue (are_files done.0)) }
+    ensures reply { IfOk result (λ done. is_kept done.1 ≡ true) }
+    ensures names { NamesDamaged ⟦<F as Files>⟧ (λ name. is_read_to_subscribe config.now sender.now set (asked_of sender.now (option_map who_view who.entry)) name ≡ true) (IsDamaged (F.map files.old)) result }
+    ensures sound { IsTrue F.tells → (p : Plain) → IsList (F.map files.old) p → IfErr result (λ e. OnDamaged e (λ _. ⊥)) }
+    ensures reads { IsReading ⟦<F as Files>⟧ files.old files.new result }
+{
+    join_asked(alloc, files, config, now, sender, set, who)
+}
+
+// A sender asks that somebody joins a set, who is looked for there.
+fn join_asked<F: Files>(
+    alloc: Global,
+    files: &mut F,
+    config: &Config,
+    now: u64,
+    sender: &Address,
+    set: Set,
+    who: Option<Who<'_>>,
+) -> Result<(Txn, Reply), PartError>
+    requires moment { IsMoment now }
+    requires config { IsConfig config.now }
+    requires asked { IsTrue (is_asked set) }
+    requires range { IsTrue (if_who (option_map who_view who)) }
+    requires room { IsTrue F.tells → HasIds (F.map files.now) }
+    ensures value { IsTrue F.tells → IfOk result (λ done. (p : Plain) → IsList (F.map files.old) p → p.config ≡ config.now → DoesList (F.map files.old) done (spec.subscribe now sender.now set (spec.subject_of p set sender.now (option_map who_view who.entry)) p)) }
+    ensures own { IfOk result (λ done. touches_only is_of_list done.0 ≡ true) }
+    ensures files { IfOk result (λ done. IsTrue (are_files done.0)) }
+    ensures reply { IfOk result (λ done. is_kept done.1 ≡ true) }
+    ensures names { NamesDamaged ⟦<F as Files>⟧ (λ name. is_read_to_subscribe config.now sender.now set (asked_of sender.now (option_map who_view who.entry)) name ≡ true) (IsDamaged (F.map files.old)) result }
+    ensures reads { IsReading ⟦<F as Files>⟧ files.old files.new result }
+{
+    let x = find_subject(alloc, files, set, sender, who)?;
+    join_found(alloc, files, config, now, sender, set, &x)
+}
+
+// Whether it depends on the sender's rank who joins.
+fn asks_rank(config: &Config) -> bool
+    ensures { result ≡ reads.asks_rank config.now }
+{
+    config.flags.r || !config.flags.p
+}
+
+// A sender asks that somebody joins a set, who was looked for there.
+fn join_found<F: Files>(
+    alloc: Global,
+    files: &mut F,
+    config: &Config,
+    now: u64,
+    sender: &Address,
+    set: Set,
+    x: &Subject,
+) -> Result<(Txn, Reply), PartError>
+    requires moment { IsMoment now }
+    requires config { IsConfig config.now }
+    requires asked { IsTrue (is_asked set) }
+    requires room { IsTrue F.tells → HasIds (F.map files.now) }
+    ensures value { IsTrue F.tells → IfOk result (λ done. (p : Plain) → IsList (F.map files.old) p → p.config ≡ config.now → IsSubject p set x.now → DoesList (F.map files.old) done (spec.subscribe now sender.now set x.now.who p)) }
+    ensures own { IfOk result (λ done. touches_only is_of_list done.0 ≡ true) }
+    ensures files { IfOk result (λ done. IsTrue (are_files done.0)) }
+    ensures reply { IfOk result (λ done. is_kept done.1 ≡ true) }
+    ensures names { NamesDamaged ⟦<F as Files>⟧ (λ name. is_read_to_subscribe config.now sender.now set x.now.named name ≡ true) (IsDamaged (F.map files.old)) result }
+    ensures reads { IsReading ⟦<F as Files>⟧ files.old files.new result }
+{
+    let moderator = moderates(alloc, files, asks_rank(config), sender)?;
+    let facts = Facts {
+        moderator,
+        member: x.member,
+        own: x.who.same(sender),
+    };
+    let deed = joining(config, set, facts);
+    joined(alloc, files, config, now, set, sender, x, deed)
+}
+
+/// A sender asks that an address leaves a set: the one that is named, or his own. The set is one that requests name.
+pub fn unsubscribe<F: Files>(
+    alloc: Global,
+    files: &mut F,
+    config: &Config,
+    now: u64,
+    sender: &Address,
+    set: Set,
+    who: Option<Who<'_>>,
+) -> Result<(Txn, Reply), PartError>
+    requires moment { IsMoment now }
+    requires config { IsConfig config.now }
+    requires asked { IsTrue (is_asked set) }
+    requires range { IsTrue (if_who (option_map who_view who)) }
+    requires room { IsTrue F.tells → HasRoom (F.map files.now) }
+    ensures value { IsTrue F.tells → IfOk result (λ done. (p : Plain) → IsList (F.map files.old) p → p.config ≡ config.now → DoesList (F.map files.old) done (spec.unsubscribe now sender.now set (spec.subject_of p set sender.now (option_map who_view who.entry)) p)) }
+    ensures own { IfOk result (λ done. touches_only is_of_list done.0 ≡ true) }
+    ensures files { IfOk result (λ done. IsTrue (are_files done.0)) }
+    ensures reply { IfOk result (λ done. is_kept done.1 ≡ true) }
+    ensures names { NamesDamaged ⟦<F as Files>⟧ (λ name. is_read_to_unsubscribe config.now sender.now set (asked_of sender.now (option_map who_view who.entry)) name ≡ true) (IsDamaged (F.map files.old)) result }
+    ensures sound { IsTrue F.tells → (p : Plain) → IsList (F.map files.old) p → IfErr result (λ e. OnDamaged e (λ _. ⊥)) }
+    ensures reads { IsReading ⟦<F as Files>⟧ files.old files.new result }
+{
+    leave_asked(alloc, files, config, now, sender, set, who)
+}
+
+// A sender asks that somebody leaves a set, who is looked for there.
+fn leave_asked<F: Files>(
+    alloc: Global,
+    files: &mut F,
+    config: &Config,
+    now: u64,
+    sender: &Address,
+    set: Set,
+    who: Option<Who<'_>>,
+) -> Result<(Txn, Reply), PartError>
+    requires moment { IsMoment now }
+    requires config { IsConfig config.now }
+    requires asked { IsTrue (is_asked set) }
+    requires range { IsTrue (if_who (option_map who_view who)) }
+    requires room { IsTrue F.tells → HasIds (F.map files.now) }
+    ensures value { IsTrue F.tells → IfOk result (λ done. (p : Plain) → IsList (F.map files.old) p → p.config ≡ config.now → DoesList (F.map files.old) done (spec.unsubscribe now sender.now set (spec.subject_of p set sender.now (option_map who_view who.entry)) p)) }
+    ensures own { IfOk result (λ done. touches_only is_of_list done.0 ≡ true) }
+    ensures files { IfOk result (λ done. IsTrue (are_files done.0)) }
+    ensures reply { IfOk result (λ done. is_kept done.1 ≡ true) }
+    ensures names { NamesDamaged ⟦<F as Files>⟧ (λ name. is_read_to_unsubscribe config.now sender.now set (asked_of sender.now (option_map who_view who.entry)) name ≡ true) (IsDamaged (F.map files.old)) result }
+    ensures reads { IsReading ⟦<F as Files>⟧ files.old files.new result }
+{
+    let x = find_subject(alloc, files, set, sender, who)?;
+    leave_found(alloc, files, config, now, sender, set, &x)
+}
+
+// A sender asks that somebody leaves a set, who was looked for there.
+fn leave_found<F: Files>(
+    alloc: Global,
+    files: &mut F,
+    config: &Config,
+    now: u64,
+    sender: &Address,
+    set: Set,
+    x: &Subject,
+) -> Result<(Txn, Reply), PartError>
+    requires moment { IsMoment now }
+    requires config { IsConfig config.now }
+    requires asked { IsTrue (is_asked set) }
+    requires room { IsTrue F.tells → HasIds (F.map files.now) }
+    ensures value { IsTrue F.tells → IfOk result (λ done. (p : Plain) → IsList (F.map files.old) p → p.config ≡ config.now → IsSubject p set x.now → DoesList (F.map files.old) done (spec.unsubscribe now sender.now set x.now.who p)) }
+    ensures own { IfOk result (λ done. touches_only is_of_list done.0 ≡ true) }
+    ensures files { IfOk result (λ done. IsTrue (are_files done.0)) }
+    ensures reply { IfOk result (λ done. is_kept done.1 ≡ true) }
+    ensures names { NamesDamaged ⟦<F as Files>⟧ (λ name. is_read_to_unsubscribe config.now sender.now set x.now.named name ≡ true) (IsDamaged (F.map files.old)) result }
+    ensures reads { IsReading ⟦<F as Files>⟧ files.old files.new result }
+{
+    let moderator = moderates(alloc, files, config.flags.r, sender)?;
+    let facts = Facts {
+        moderator,
+        member: x.member,
+        own: x.who.same(sender),
+    };
+    let deed = leaving(config, set, facts);
+    left(alloc, files, config, now, set, sender, x, deed)
+}
+
+/// A sender confirms that an address joins a set or leaves it, with a cookie for the address. The set is one that requests name.
+pub fn confirm<F: Files>(
+    alloc: Global,
+    files: &mut F,
+    config: &Config,
+    now: u64,
+    sender: &Address,
+    word: Word,
+    set: Set,
+    time: u64,
+    cookie: &[u8; 20],
+    who: Who<'_>,
+) -> Result<(Txn, Reply), PartError>
+    requires moment { IsMoment now }
+    requires config { IsConfig config.now }
+    requires asked { IsTrue (is_asked set) }
+    requires range { IsTrue (is_who (who_view who)) }
+    requires room { IsTrue F.tells → HasRoom (F.map files.now) }
+    ensures value { IsTrue F.tells → IfOk result (λ done. (p : Plain) → IsList (F.map files.old) p → p.config ≡ config.now → DoesList (F.map files.old) done (spec.confirm now sender.now word set (record { time = time; cookie = cookie.now; who = who_view who.entry }) (spec.subject_of p set sender.now (Some (who_view who.entry))) p)) }
+    ensures own { IfOk result (λ done. touches_only is_of_list done.0 ≡ true) }
+    ensures files { IfOk result (λ done. IsTrue (are_files done.0)) }
+    ensures reply { IfOk result (λ done. is_kept done.1 ≡ true) }
+    ensures names { NamesDamaged ⟦<F as Files>⟧ (λ name. is_read_to_confirm word set (address_named (who_view who.entry)) name ≡ true) (IsDamaged (F.map files.old)) result }
+    ensures sound { IsTrue F.tells → (p : Plain) → IsList (F.map files.old) p → IfErr result (λ e. OnDamaged e (λ _. ⊥)) }
+    ensures reads { IsReading ⟦<F as Files>⟧ files.old files.new result }
+{
+    confirm_asked(
+        alloc, files, config, now, sender, word, set, time, cookie, who,
+    )
+}
+
+// A sender confirms something of somebody, who is looked for in the set.
+fn confirm_asked<F: Files>(
+    alloc: Global,
+    files: &mut F,
+    config: &Config,
+    now: u64,
+    sender: &Address,
+    word: Word,
+    set: Set,
+    time: u64,
+    cookie: &[u8; 20],
+    who: Who<'_>,
+) -> Result<(Txn, Reply), PartError>
+    requires moment { IsMoment now }
+    requires config { IsConfig config.now }
+    requires asked { IsTrue (is_asked set) }
+    requires range { IsTrue (is_who (who_view who)) }
+    requires room { IsTrue F.tells → HasIds (F.map files.now) }
+    ensures value { IsTrue F.tells → IfOk result (λ done. (p : Plain) → IsList (F.map files.old) p → p.config ≡ config.now → DoesList (F.map files.old) done (spec.confirm now sender.now word set (record { time = time; cookie = cookie.now; who = who_view who.entry }) (spec.subject_of p set sender.now (Some (who_view who.entry))) p)) }
+    ensures own { IfOk result (λ done. touches_only is_of_list done.0 ≡ true) }
+    ensures files { IfOk result (λ done. IsTrue (are_files done.0)) }
+    ensures reply { IfOk result (λ done. is_kept done.1 ≡ true) }
+    ensures names { NamesDamaged ⟦<F as Files>⟧ (λ name. is_read_to_confirm word set (address_named (who_view who.entry)) name ≡ true) (IsDamaged (F.map files.old)) result }
+    ensures reads { IsReading ⟦<F as Files>⟧ files.old files.new result }
+{
+    let x = find_subject(alloc, files, set, sender, Some(who))?;
+    confirm_found(
+        alloc, files, config, now, sender, word, set, time, cookie, &x,
+    )
+}
+
+// A sender confirms something of somebody, who was looked for in the set.
+fn confirm_found<F: Files>(
+    alloc: Global,
+    files: &mut F,
+    config: &Config,
+    now: u64,
+    sender: &Address,
+    word: Word,
+    set: Set,
+    time: u64,
+    cookie: &[u8; 20],
+    x: &Subject,
+) -> Result<(Txn, Reply), PartError>
+    requires moment { IsMoment now }
+    requires config { IsConfig config.now }
+    requires asked { IsTrue (is_asked set) }
+    requires room { IsTrue F.tells → HasIds (F.map files.now) }
+    ensures value { IsTrue F.tells → IfOk result (λ done. (p : Plain) → IsList (F.map files.old) p → p.config ≡ config.now → IsSubject p set x.now → DoesList (F.map files.old) done (spec.done now set sender.now x.now.who p (spec.confirming p set x.now.who word (is_good p (word_text word) set time (key x.now.who) cookie.now now)))) }
+    ensures own { IfOk result (λ done. touches_only is_of_list done.0 ≡ true) }
+    ensures files { IfOk result (λ done. IsTrue (are_files done.0)) }
+    ensures reply { IfOk result (λ done. is_kept done.1 ≡ true) }
+    ensures names { NamesDamaged ⟦<F as Files>⟧ (λ name. is_read_to_confirm word set x.now.named name ≡ true) (IsDamaged (F.map files.old)) result }
+    ensures reads { IsReading ⟦<F as Files>⟧ files.old files.new result }
+{
+    let good = is_signed(alloc, files, now, word, set, time, cookie, &x.who)?;
+    confirmed(alloc, files, config, now, sender, word, set, good, x)
+}
+
+// Whether letters are a good cookie of a confirmation of an address.
+fn is_signed<F: Files>(
+    alloc: Global,
+    files: &mut F,
+    now: u64,
+    word: Word,
+    set: Set,
+    time: u64,
+    cookie: &[u8; 20],
+    x: &Address,
+) -> Result<bool, PartError>
+    ensures value { IsTrue F.tells → IfOk result (λ good. (p : Plain) → IsList (F.map files.old) p → good ≡ is_good p (word_text word) set time (key x.now) cookie.now now) }
+    ensures names { NamesDamaged ⟦<F as Files>⟧ (λ name. same_name name key_name ≡ true) (IsDamaged (F.map files.old)) result }
+    ensures reads { IsReading ⟦<F as Files>⟧ files.old files.new result }
+{
+    let keys = load_keys(alloc, files)?;
+    let what = key_of(alloc, x)?;
+    let kind = word_kind(word);
+    Ok(good_cookie(&keys, kind, set, time, what.as_slice(), cookie, now))
+}
+
+// Does what follows from a confirmation with letters of this goodness.
+fn confirmed<F: Files>(
+    alloc: Global,
+    files: &mut F,
+    config: &Config,
+    now: u64,
+    sender: &Address,
+    word: Word,
+    set: Set,
+    good: bool,
+    x: &Subject,
+) -> Result<(Txn, Reply), PartError>
+    requires moment { IsMoment now }
+    requires config { IsConfig config.now }
+    requires asked { IsTrue (is_asked set) }
+    requires room { IsTrue F.tells → HasIds (F.map files.now) }
+    ensures value { IsTrue F.tells → IfOk result (λ done. (p : Plain) → IsList (F.map files.old) p → p.config ≡ config.now → IsSubject p set x.now → DoesList (F.map files.old) done (spec.done now set sender.now x.now.who p (spec.confirming p set x.now.who word good))) }
+    ensures own { IfOk result (λ done. touches_only is_of_list done.0 ≡ true) }
+    ensures files { IfOk result (λ done. IsTrue (are_files done.0)) }
+    ensures reply { IfOk result (λ done. is_kept done.1 ≡ true) }
+    ensures names { NamesDamaged ⟦<F as Files>⟧ (λ name. is_read_to_confirm word set x.now.named name ≡ true) (IsDamaged (F.map files.old)) result }
+    ensures reads { IsReading ⟦<F as Files>⟧ files.old files.new result }
+{
+    let member = x.member;
+    match word {
+        Word::Uc => {
+            let deed = confirmed_leaving(member, good);
+            left(alloc, files, config, now, set, sender, x, deed)
+        }
+        Word::Sc => {
+            let deed = confirmed_joining(config.flags.s, member, good);
+            joined(alloc, files, config, now, set, sender, x, deed)
+        }
+        Word::Tc => {
+            let deed = confirmed_joining(false, member, good);
+            joined(alloc, files, config, now, set, sender, x, deed)
+        }
+    }
+}

@@ -1,0 +1,106 @@
+// Whom a request is about.
+ghost use Rattle.std.specs.Prelude.{◌≡◌, true, IsTrue, IfOk};
+ghost use Rattle.std.specs.Option.{option_map};
+ghost use Rattle.ml_base.specs.Address.{IsAddress};
+ghost use Rattle.ml_base.specs.ReadFiles.{IsReading, NamesDamaged};
+ghost use Rattle.ml_base.specs.declared.names.Set.TheVariants as sets;
+ghost use Rattle.ml_address.specs.Requests.{if_who, is_who};
+ghost use Rattle.ml_address.specs.Views.{who_view};
+ghost use Rattle.ml_plain.specs.Bouncing.{address_named};
+ghost use Rattle.ml_plain.specs.Directory.{IsList};
+ghost use Rattle.ml_plain.specs.Plain.{Plain, is_moderator};
+ghost use Rattle.std.specs.Prelude.{◌&&◌};
+ghost use Rattle.ml_acts.specs.Doing.{is_bucket_of};
+ghost use Rattle.ml_acts.specs.Damaged.{IsDamaged};
+ghost use Rattle.ml_joining.specs.Deeds.{IsSubject, asked_of};
+
+use ml_address::Who;
+use ml_base::{Address, Bytes, Files, PartError, Set};
+use ml_subs::{find, member};
+use std::alloc::{AllocError, Global};
+
+// Whom a request is about: the address that is named, how its set spells it, where it has it, and whether it does.
+#[derive(Drop)]
+pub(crate) struct Subject {
+    pub named: Address,
+    pub who: Address,
+    pub member: bool,
+}
+
+// The address of the parts that a request names, its host in lower case.
+fn named(alloc: Global, who: Who<'_>) -> Result<Address, AllocError>
+    requires { IsTrue (is_who (who_view who)) }
+    ensures { IfOk result (λ address. address ≡ address_named (who_view who.entry)) }
+{
+    let mut text = Bytes::from_slice(alloc, who.local)?;
+    text.push(b'@')?;
+    text.extend(who.host)?;
+    match Address::parse(alloc, text.as_slice()) {
+        Ok(address) => Ok(address),
+        Err(_) => Err(AllocError),
+    }
+}
+
+// The address that a request is about: the one that it names, or the sender.
+fn asked_address(
+    alloc: Global,
+    sender: &Address,
+    who: Option<Who<'_>>,
+) -> Result<Address, AllocError>
+    requires { IsTrue (if_who (option_map who_view who)) }
+    ensures { IfOk result (λ address. address ≡ asked_of sender.now (option_map who_view who.entry)) }
+{
+    match who {
+        Some(who) => named(alloc, who),
+        None => sender.copy(alloc),
+    }
+}
+
+// Whom a request about a set is about.
+pub(crate) fn find_subject<F: Files>(
+    alloc: Global,
+    files: &mut F,
+    set: Set,
+    sender: &Address,
+    who: Option<Who<'_>>,
+) -> Result<Subject, PartError>
+    requires { IsTrue (if_who (option_map who_view who)) }
+    ensures value { IsTrue F.tells → IfOk result (λ x. (p : Plain) → IsList (F.map files.old) p → IsSubject p set x) }
+    ensures named { IfOk result (λ x. x.named ≡ asked_of sender.now (option_map who_view who.entry)) }
+    ensures names { NamesDamaged ⟦<F as Files>⟧ (λ name. is_bucket_of set (asked_of sender.now (option_map who_view who.entry)) name ≡ true) (IsDamaged (F.map files.old)) result }
+    ensures reads { IsReading ⟦<F as Files>⟧ files.old files.new result }
+{
+    let named = asked_address(alloc, sender, who)?;
+    match find(alloc, files, set, &named)? {
+        Some(member) => Ok(Subject {
+            named,
+            who: member.who,
+            member: true,
+        }),
+        None => {
+            let who = named.copy(alloc)?;
+            Ok(Subject {
+                named,
+                who,
+                member: false,
+            })
+        }
+    }
+}
+
+// Whether the sender is a moderator, where that is asked, and else false.
+pub(crate) fn moderates<F: Files>(
+    alloc: Global,
+    files: &mut F,
+    asked: bool,
+    sender: &Address,
+) -> Result<bool, PartError>
+    ensures value { IsTrue F.tells → IfOk result (λ is. (p : Plain) → IsList (F.map files.old) p → is ≡ (asked && is_moderator p sender.now)) }
+    ensures names { NamesDamaged ⟦<F as Files>⟧ (λ name. (asked && is_bucket_of sets.Moderators sender.now name) ≡ true) (IsDamaged (F.map files.old)) result }
+    ensures reads { IsReading ⟦<F as Files>⟧ files.old files.new result }
+{
+    if !asked {
+        return Ok(false);
+    }
+    member(alloc, files, Set::Moderators, sender)
+}
