@@ -1,0 +1,129 @@
+-- What bounces do to the list's files.
+use Rattle.std.proofs.Common.{◌≡◌, ◌≤◌, ℕ, Bool, true, false, cond, eqb, leb, ◌&&◌, ◌||◌, List, [], ◌∷◌, Option, Some, None, refl, sym, ap, ◌∙◌, arith, subst}
+use Rattle.std.proofs.lemmas.Bool.{and_parts, and_from, eq-eqb, eqb-true, le-leb}
+use Rattle.ml_base.specs.Bytes.{Text}
+use Rattle.ml_base.specs.Address.{key}
+use Rattle.ml_base.specs.Dir.{Dir, same_name, with_puts, touches_only}
+use Rattle.ml_base.specs.declared.names.Name.{Name}
+use Rattle.ml_base.specs.declared.names.Set.{Set}
+use Rattle.ml_base.specs.declared.names.Set.TheVariants as sets
+use Rattle.ml_base.specs.declared.puts.Put.{Put}
+use Rattle.ml_address.specs.Requests.{is_mailed}
+use Rattle.ml_bounce.specs.Answers.{has_ledger, key_file, ledger_kind, LeadsTo, puts_of}
+use Rattle.ml_bounce.specs.Files.{IsLedger, ledger_place}
+use Rattle.ml_bounce.specs.Ledger.{Ledger}
+use Rattle.ml_plain.specs.declared.Reply.{Reply}
+use Rattle.ml_plain.specs.Answers.{bounce, ignored, dropped}
+use Rattle.ml_plain.specs.Bouncing.{if_changed, if_probed}
+use Rattle.ml_plain.specs.Directory.{IsList, is_of_list, list_ledger_kinds, digest_ledger_kinds}
+use Rattle.ml_plain.specs.KeptFiles.{is_kept}
+use Rattle.ml_plain.specs.Plain.{Plain, ledger_of, removed}
+use Rattle.ml_plain.proofs.PartChanges.{list_ledger_changed, digest_ledger_changed}
+use Rattle.std.specs.Prelude.{not}
+use Rattle.ml_acts.specs.Doing.{DoesList, is_beside_queue, is_of_queue}
+use Rattle.ml_manage.specs.Leaving.{change_reply}
+
+-- the sets that bounce have a ledger
+pub mailed_ledger : (set : Set) → is_mailed set ≡ true → has_ledger set ≡ true
+mailed_ledger sets.List e = refl
+mailed_ledger sets.Digest e = refl
+mailed_ledger sets.Allow e = e
+mailed_ledger sets.Deny e = e
+mailed_ledger sets.Moderators e = e
+
+-- its files stand for it
+pub ledger_is : (dir : Dir) (p : Plain) (set : Set) → is_mailed set ≡ true → IsList dir p → IsLedger dir (ledger_kind set) (ledger_of p set)
+ledger_is dir p sets.List e is = is.list_ledger
+ledger_is dir p sets.Digest e is = is.digest_ledger
+ledger_is dir p sets.Allow e is = absurd (let bad : false ≡ true = e in cc)
+ledger_is dir p sets.Deny e is = absurd (let bad : false ≡ true = e in cc)
+ledger_is dir p sets.Moderators e is = absurd (let bad : false ≡ true = e in cc)
+
+-- an answer that is a step, by its parts
+pub does_by : (dir : Dir) (done : List Put × Reply) (puts : List Put) (reply : Reply) (p : Plain) → done.0 ≡ puts → done.1 ≡ reply → IsList (with_puts dir puts) p → DoesList dir done (p, reply)
+does_by dir done puts reply p e f now = record {
+  reply = f;
+  list = subst (λ (t : List Put). IsList (with_puts dir t) p) (sym e) now;
+}
+
+-- puts of files that pass a test pass a weaker one
+pub touches_weaker : (f g : Name → Bool) (puts : List Put) → ((name : Name) → f name ≡ true → g name ≡ true) → touches_only f puts ≡ true → touches_only g puts ≡ true
+touches_weaker f g [] weak e = refl
+touches_weaker f g (put ∷ puts) weak e =
+    let parts = and_parts (f put.name) (touches_only f puts) e in
+    and_from (g put.name) (touches_only g puts) (weak put.name parts.0) (touches_weaker f g puts weak parts.1)
+
+in_list : (k : ℕ) → 1 ≤ k → k ≤ 18 → ((leb 1 k && leb k 18) || eqb k 20) ≡ true
+in_list k least most = ap (λ (b : Bool). b || eqb k 20) (and_from (leb 1 k) (leb k 18) (le-leb 1 k least) (le-leb k 18 most))
+
+entry_kind : (set : Set) (k : Text) (name : Name) → same_name name (key_file set k) ≡ true → name.kind ≡ ledger_kind set
+entry_kind set k name e = eqb-true name.kind (ledger_kind set) (and_parts (eqb name.kind (ledger_kind set)) (eqb name.at (ledger_place k)) e).0
+
+-- the files of a ledger are the list's
+pub entry_own : (set : Set) (k : Text) → is_mailed set ≡ true → (name : Name) → same_name name (key_file set k) ≡ true → is_of_list name ≡ true
+entry_own set k mailed name e = let kind = entry_kind set k name e in let few = low set mailed in in_list name.kind (omega (arith, kind, few)) (omega (arith, kind, few))
+  where
+    low : (set : Set) → is_mailed set ≡ true → (1 ≤ ledger_kind set) × (ledger_kind set ≤ 18)
+    low sets.List has = (omega arith, omega arith)
+    low sets.Digest has = (omega arith, omega arith)
+    low sets.Allow has = absurd (let bad : false ≡ true = has in cc)
+    low sets.Deny has = absurd (let bad : false ≡ true = has in cc)
+    low sets.Moderators has = absurd (let bad : false ≡ true = has in cc)
+
+-- files beside the queue's are the list's
+pub beside_own : (puts : List Put) → touches_only is_beside_queue puts ≡ true → touches_only is_of_list puts ≡ true
+beside_own puts only = touches_weaker is_beside_queue is_of_list puts (λ name e. (and_parts (is_of_list name) (not (is_of_queue name)) e).0) only
+
+abbrev IsEntryOnly : Set → Text → List Put → Type 0
+IsEntryOnly set x puts = touches_only (λ name. same_name name (key_file set (key x))) puts ≡ true
+
+-- a ledger's change
+pub changed_own : (set : Set) (x : Text) (answer : Option (List Put)) (puts : List Put) → is_mailed set ≡ true → IsEntryOnly set x (puts_of answer) → puts ≡ puts_of answer → touches_only is_of_list puts ≡ true
+changed_own set x answer puts mailed only e =
+    ap (touches_only is_of_list) e ∙ touches_weaker (λ name. same_name name (key_file set (key x))) is_of_list (puts_of answer) (entry_own set (key x) mailed) only
+
+pub change_kept : (answer : Option (List Put)) (reply : Reply) → reply ≡ change_reply answer → is_kept reply ≡ true
+change_kept None reply e = ap is_kept e
+change_kept (Some puts) reply e = ap is_kept e
+
+module _ (dir : Dir) (p : Plain) (x : Text) (done : List Put × Reply) where
+  pub changed_list : (set : Set) (answer : Option (List Put)) (ledger : Option Ledger) → is_mailed set ≡ true → IsList dir p → LeadsTo dir set answer ledger
+      → IsEntryOnly set x (puts_of answer) → done.0 ≡ puts_of answer → done.1 ≡ change_reply answer → DoesList dir done (if_changed p set ledger)
+  changed_list set None None mailed is leads only e f = does_by dir done [] ignored p e f is
+  changed_list set None (Some ledger) mailed is leads only e f = absurd leads
+  changed_list set (Some txn) None mailed is leads only e f = absurd leads
+  changed_list sets.List (Some txn) (Some ledger) mailed is leads only e f =
+      does_by dir done txn bounce (record p { list_ledger = ledger }) e f
+      (list_ledger_changed dir p txn ledger is
+      (touches_weaker (λ name. same_name name (key_file sets.List (key x))) (λ name. list_ledger_kinds name.kind) txn (λ name same. eq-eqb name.kind 15 (entry_kind sets.List (key x) name same)) only) leads)
+  changed_list sets.Digest (Some txn) (Some ledger) mailed is leads only e f =
+      does_by dir done txn bounce (record p { digest_ledger = ledger }) e f
+      (digest_ledger_changed dir p txn ledger is
+      (touches_weaker (λ name. same_name name (key_file sets.Digest (key x))) (λ name. digest_ledger_kinds name.kind) txn (λ name same. eq-eqb name.kind 16 (entry_kind sets.Digest (key x) name same)) only) leads)
+  changed_list sets.Allow (Some txn) (Some ledger) mailed is leads only e f = absurd (let bad : false ≡ true = mailed in cc)
+  changed_list sets.Deny (Some txn) (Some ledger) mailed is leads only e f = absurd (let bad : false ≡ true = mailed in cc)
+  changed_list sets.Moderators (Some txn) (Some ledger) mailed is leads only e f = absurd (let bad : false ≡ true = mailed in cc)
+
+  -- a probe's bounce that changes nothing
+  pub spared : (set : Set) (found : Option Ledger) → IsList dir p → LeadsTo dir set None found → done.0 ≡ [] → done.1 ≡ ignored → DoesList dir done (if_probed p set x found)
+  spared set None is leads e f = does_by dir done [] ignored p e f is
+  spared set (Some ledger) is leads e f = absurd leads
+
+  -- one that drops the member
+  pub dropped_so : (set : Set) (puts : List Put) (found : Option Ledger) → LeadsTo dir set (Some puts) found → DoesList dir done (removed set x p, dropped) → DoesList dir done (if_probed p set x found)
+  dropped_so set puts None leads does = absurd leads
+  dropped_so set puts (Some ledger) leads does = does
+
+-- a bounce that doesn't count, and one that does
+module _ (dir : Dir) (p : Plain) (set : Set) (done : List Put × Reply) (b : Bool) (ledger : Option Ledger) where
+  pub not_noted : IsList dir p → b ≡ false → done.0 ≡ [] → done.1 ≡ ignored → DoesList dir done (if_changed p set (cond b ledger None))
+  not_noted is fails e f = subst (λ (t : Bool). DoesList dir done (if_changed p set (cond t ledger None))) (sym fails) (does_by dir done [] ignored p e f is)
+
+  pub noted : b ≡ true → DoesList dir done (if_changed p set ledger) → DoesList dir done (if_changed p set (cond b ledger None))
+  noted holds does = subst (λ (t : Bool). DoesList dir done (if_changed p set (cond t ledger None))) (sym holds) does
+
+  pub not_dropped : (x : Text) → IsList dir p → b ≡ false → done.0 ≡ [] → done.1 ≡ ignored → DoesList dir done (if_probed p set x (cond b ledger None))
+  not_dropped x is fails e f = subst (λ (t : Bool). DoesList dir done (if_probed p set x (cond t ledger None))) (sym fails) (does_by dir done [] ignored p e f is)
+
+  pub was_dropped : (x : Text) → b ≡ true → DoesList dir done (if_probed p set x ledger) → DoesList dir done (if_probed p set x (cond b ledger None))
+  was_dropped x holds does = subst (λ (t : Bool). DoesList dir done (if_probed p set x (cond t ledger None))) (sym holds) does

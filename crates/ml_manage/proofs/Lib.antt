@@ -1,0 +1,7 @@
+mod NamedParts
+mod Bounced
+mod Posts
+mod Requests
+mod Sending
+mod Senders
+mod Others

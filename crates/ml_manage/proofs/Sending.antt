@@ -1,0 +1,49 @@
+-- Answers that are one mail, or none.
+use Rattle.std.proofs.Common.{◌≡◌, ◌⊎◌, inl, inr, ◌≤◌, ℕ, Bool, true, false, eqb, leb, ◌&&◌, ◌||◌, List, [], sym, ap, arith, subst}
+use Rattle.std.proofs.lemmas.Bool.{and_from, or_cases, eqb-true, le-leb}
+use Rattle.ml_base.specs.Bytes.{Text}
+use Rattle.ml_base.specs.Dir.{Dir, touches_only}
+use Rattle.ml_base.specs.declared.names.Name.{Name}
+use Rattle.ml_base.specs.declared.names.Set.{Set}
+use Rattle.ml_base.specs.declared.puts.Put.{Put}
+use Rattle.ml_plain.specs.declared.Reply.{Reply}
+use Rattle.ml_plain.specs.Answers.{private}
+use Rattle.ml_plain.specs.Directory.{IsList, is_of_list}
+use Rattle.ml_plain.specs.Managing.{from_archive, list_members}
+use Rattle.ml_plain.specs.Plain.{Plain}
+use Rattle.ml_acts.specs.Doing.{DoesList, HasIds, HasRoom, is_of_queue}
+use Rattle.ml_manage.proofs.Bounced.{does_by, touches_weaker}
+
+queue_file : (name : Name) → is_of_queue name ≡ true → is_of_list name ≡ true
+queue_file name e = go (or_cases (eqb name.kind 17) (eqb name.kind 18) e)
+  where
+    low : 1 ≤ name.kind → name.kind ≤ 18 → ((leb 1 name.kind && leb name.kind 18) || eqb name.kind 20) ≡ true
+    low least most = ap (λ (b : Bool). b || eqb name.kind 20) (and_from (leb 1 name.kind) (leb name.kind 18) (le-leb 1 name.kind least) (le-leb name.kind 18 most))
+
+    go : ((eqb name.kind 17 ≡ true) ⊎ (eqb name.kind 18 ≡ true)) → is_of_list name ≡ true
+    go (inl k) = let kind = eqb-true name.kind 17 k in low (omega (arith, kind)) (omega (arith, kind))
+    go (inr k) = let kind = eqb-true name.kind 18 k in low (omega (arith, kind)) (omega (arith, kind))
+
+-- the queue's files are the list's
+pub queue_own : (txn : List Put) → touches_only is_of_queue txn ≡ true → touches_only is_of_list txn ≡ true
+queue_own txn only = touches_weaker is_of_queue is_of_list txn queue_file only
+
+pub room_ids : (dir : Dir) → HasRoom dir → HasIds dir
+room_ids dir room low next is = let most = room.ids low next is in omega (arith, most)
+
+module _ (dir : Dir) (p : Plain) (now : ℕ) (sender : Text) (done : List Put × Reply) (b : Bool) where
+  -- the archive is closed
+  pub closed : (text : Text) → IsList dir p → b ≡ false → done.0 ≡ [] → done.1 ≡ private → DoesList dir done (from_archive now sender p b text)
+  closed text is fails e f = subst (λ (t : Bool). DoesList dir done (from_archive now sender p t text)) (sym fails) (does_by dir done [] private p e f is)
+
+  -- or open
+  pub opened : (text lines : Text) → b ≡ true → lines ≡ text → DoesList dir done (from_archive now sender p true lines) → DoesList dir done (from_archive now sender p b text)
+  opened text lines holds same does =
+      subst (λ (t : Bool). DoesList dir done (from_archive now sender p t text)) (sym holds) (subst (λ (t : Text). DoesList dir done (from_archive now sender p true t)) same does)
+
+  -- a set is shown to nobody
+  pub unlisted : (set : Set) → IsList dir p → b ≡ false → done.0 ≡ [] → done.1 ≡ private → DoesList dir done (list_members now sender set p b)
+  unlisted set is fails e f = subst (λ (t : Bool). DoesList dir done (list_members now sender set p t)) (sym fails) (does_by dir done [] private p e f is)
+
+  pub listed : (set : Set) → b ≡ true → DoesList dir done (list_members now sender set p true) → DoesList dir done (list_members now sender set p b)
+  listed set holds does = subst (λ (t : Bool). DoesList dir done (list_members now sender set p t)) (sym holds) does

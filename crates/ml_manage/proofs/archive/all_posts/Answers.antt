@@ -1,0 +1,18 @@
+use Rattle.std.proofs.Common.{sym, subst, refl, arith}
+use Rattle.ml_base.specs.Dir.{Dir}
+use Rattle.ml_base.proofs.ReadingLemmas.{kept_then, kept_read}
+use Rattle.ml_plain.specs.Directory.{IsList}
+use Rattle.ml_manage.specs.Texts.{post_text}
+use Rattle.ml_manage.proofs.Posts.{one_more}
+use Rattle.ml_manage.proofs.archive.all_posts.Goals as goal
+
+pub loop-number-preserved : goal.loop-number-preserved
+loop-number-preserved g c =
+    let before = c.loop-number.invariant in
+    record {
+      read = kept_then g.F.Files g.met.F.Files.kept_then c.args.files.now c.loop-number.files c.add_one.new.files before.read (kept_read g.F.Files c.loop-number.files c.add_one.new.files c.add_one.result c.add_one.ensures.reads);
+      text = λ told p is conf.
+          let same = g.met.F.Files.kept_map c.args.files.now c.loop-number.files told before.read.kept in
+          one_more (post_text p) c.args.numbers.now c.loop-number.number-index _ c.loop-number.out c.add_one.new.out (omega arith) refl (before.text told p is conf)
+          (c.in_ok-add_one.ensures.value told p (subst (λ (d : Dir). IsList d p) (sym same) is) conf);
+    }

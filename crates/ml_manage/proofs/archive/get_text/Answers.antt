@@ -1,0 +1,35 @@
+use Rattle.std.proofs.Common.{◌≡◌, ◌∙◌, ℕ, true, sym, ap, subst, rules}
+use Rattle.std.specs.Prelude.{unwrap_or}
+use Rattle.std.proofs.lemmas.Result.{IfOk-weaker}
+use Rattle.ml_base.specs.Dir.{Dir}
+use Rattle.ml_archive.specs.Answers.{IsBadForRange, IsRangeName}
+use Rattle.ml_archive.specs.Archive.{ArePosts}
+use Rattle.ml_archive.specs.Posts.{cut, in_range, numbers}
+use Rattle.ml_plain.specs.Directory.{IsList}
+use Rattle.ml_acts.specs.Damaged.{IsDamaged, range}
+use Rattle.ml_acts.proofs.Damages.{named_of}
+use Rattle.ml_manage.specs.Reads.{is_of_range}
+use Rattle.ml_manage.specs.Texts.{posts_text}
+use Rattle.ml_manage.proofs.Posts.{posts_are, range_ones, range_read}
+use Rattle.ml_manage.proofs.archive.get_text.Goals as goal
+
+pub returns-in_err-numbers-clause-names : goal.returns-in_err-numbers-clause-names
+returns-in_err-numbers-clause-names g c =
+    let dir = g.F.Files.map c.args.files.now in
+    let a = c.args.from in
+    let b = c.unwrap_or.result in
+    let names = named_of g.F.Files (λ name. is_of_range name ≡ true) _ (ArePosts dir) IsRangeName (IsBadForRange dir a b) (IsDamaged dir) range_read (λ name bad no. range a b bad no)
+    c.in_err-numbers.ensures.sound c.in_err-numbers.ensures.names in
+    search rules
+
+pub returns-clause-value : goal.returns-clause-value
+returns-clause-value g c told =
+    let a = c.args.from in
+    let b = unwrap_or c.args.to a in
+    let same = g.met.F.Files.kept_map c.args.files.now c.range.new.files told c.range.ensures.reads.kept in
+    IfOk-weaker c.posts_text.result _ _
+    (λ text value p is conf.
+    let found : c.in_ok-numbers.numbers ≡ numbers (cut (in_range a b p.posts)) =
+    c.in_ok-numbers.ensures.value told p.posts (is.archive).filed ∙ ap (λ (n : ℕ). numbers (cut (in_range a n p.posts))) (search rules) in
+    value p (subst (λ (d : Dir). IsList d p) (sym same) is) conf ∙ ap (posts_text p) (c.as_slice.ensures ∙ found) ∙ posts_are p (cut (in_range a b p.posts)) (range_ones p.posts a b))
+    (c.posts_text.ensures.value told)

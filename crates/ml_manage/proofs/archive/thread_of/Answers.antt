@@ -1,0 +1,38 @@
+use Rattle.std.proofs.Common.{◌≡◌, ◌∙◌, true, sym, subst}
+use Rattle.std.proofs.lemmas.Result.{IfOk-weaker}
+use Rattle.ml_base.specs.Dir.{Dir}
+use Rattle.ml_config.specs.ConfigFile.{IsConfigFile, config_name}
+use Rattle.ml_plain.specs.ArchiveText.{thread_text}
+use Rattle.ml_plain.specs.Directory.{IsList}
+use Rattle.ml_plain.specs.Managing.{from_archive, may_read}
+use Rattle.ml_plain.specs.Plain.{Plain}
+use Rattle.ml_acts.specs.Doing.{DoesList, HasIds}
+use Rattle.ml_manage.proofs.Sending.{closed, opened}
+use Rattle.ml_manage.proofs.archive.thread_of.Goals as goal
+
+pub returns-then-not-branch-clause-value : goal.returns-then-not-branch-clause-value
+returns-then-not-branch-clause-value g c told p is same =
+    closed (g.F.Files.map c.args.files.now) p c.args.now c.args.sender.now (c.new.result, c.plain.result) (may_read p c.args.sender.now) (thread_text p c.args.at) is
+    (sym (c.in_ok-may_read.ensures.value told p is same) ∙ c.if-not-branch.true) c.new.ensures c.plain.ensures
+
+pub thread_text-requires : goal.thread_text-requires
+thread_text-requires g c told =
+    let first = g.met.F.Files.kept_map c.args.files.now c.may_read.new.files told c.may_read.ensures.reads.kept in
+    subst (λ (d : Dir). IsConfigFile (d config_name) c.args.config.now) (sym first) (c.requires.loaded told)
+
+pub sent-requires-clause-room : goal.sent-requires-clause-room
+sent-requires-clause-room g c told =
+    let first = g.met.F.Files.kept_map c.args.files.now c.may_read.new.files told c.may_read.ensures.reads.kept in
+    let all = g.met.F.Files.kept_map c.may_read.new.files c.thread_text.new.files told c.thread_text.ensures.reads.kept ∙ first in
+    subst (λ (d : Dir). HasIds d) (sym all) (c.requires.room told)
+
+pub returns-clause-value : goal.returns-clause-value
+returns-clause-value g c told =
+    let sender = c.args.sender.now in
+    let first = g.met.F.Files.kept_map c.args.files.now c.may_read.new.files told c.may_read.ensures.reads.kept in
+    let all = g.met.F.Files.kept_map c.may_read.new.files c.thread_text.new.files told c.thread_text.ensures.reads.kept ∙ first in
+    IfOk-weaker c.sent.result _ _
+    (λ done does p is same. opened (g.F.Files.map c.args.files.now) p c.args.now sender done (may_read p sender) (thread_text p c.args.at) c.in_ok-lines.lines
+    (sym (c.in_ok-may_read.ensures.value told p is same) ∙ c.if-not-branch.false) (c.in_ok-lines.ensures.value told p (subst (λ (d : Dir). IsList d p) (sym first) is) same)
+    (subst (λ (d : Dir). (q : Plain) → IsList d q → q.config ≡ c.args.config.now → DoesList d done (from_archive c.args.now sender q true c.in_ok-lines.lines)) all does p is same))
+    (c.sent.ensures.value told)

@@ -1,0 +1,50 @@
+use Rattle.std.proofs.Common.{◌≡◌, ◌∙◌, true, List, sym, ap, subst, rules}
+use Rattle.std.proofs.lemmas.Result.{IfOk-weaker}
+use Rattle.ml_base.specs.Bytes.{Text}
+use Rattle.ml_base.specs.Dir.{Dir}
+use Rattle.ml_archive.specs.Answers.{IsBadForThread, IsThreadName}
+use Rattle.ml_archive.specs.Posts.{cut, in_thread, numbers}
+use Rattle.ml_archive.specs.Threads.{IsArchive}
+use Rattle.ml_config.specs.declared.configuration.Config.{Config}
+use Rattle.ml_plain.specs.Directory.{IsList}
+use Rattle.ml_acts.specs.Damaged.{IsDamaged, thread}
+use Rattle.ml_acts.proofs.Damages.{on_all}
+use Rattle.ml_base.proofs.DamagedNames.{on_damaged, on_both}
+use Rattle.ml_base.specs.PartErrors.{OnDamaged}
+use Rattle.ml_archive.specs.declared.posts.Post.{Post}
+use Rattle.ml_manage.specs.Reads.{is_of_thread}
+use Rattle.ml_manage.specs.Texts.{posts_text}
+use Rattle.ml_manage.proofs.Posts.{posts_are, thread_ones, thread_read}
+use Rattle.ml_manage.proofs.archive.thread_text.Goals as goal
+
+pub returns-in_err-numbers-clause-names : goal.returns-in_err-numbers-clause-names
+returns-in_err-numbers-clause-names g c =
+    let dir = g.F.Files.map c.args.files.now in
+    let conf = c.args.config.now in
+    let prefix = c.as_slice.ensures in
+    let n = c.args.at in
+    let failed = c.in_err-numbers.ensures.names in
+    let e = c.in_err-numbers.field-0.0 in
+    record {
+      named = let own : OnDamaged e (λ name. is_of_thread name ≡ true) = on_damaged e IsThreadName (λ name. is_of_thread name ≡ true) thread_read failed.named in search rules;
+      damaged = λ told.
+          let bad : OnDamaged e (IsDamaged dir) =
+          on_both e (IsBadForThread dir c.as_slice.result.now n) (λ _. (posts : List Post) → IsArchive dir conf.prefix posts → ⊥) (IsDamaged dir)
+          (λ name bad none. thread conf n (c.requires told) (subst (λ (t : Text). IsBadForThread dir t n name) prefix bad) none) (failed.damaged told)
+          (on_all e (IsArchive dir conf.prefix) (λ posts is. c.in_err-numbers.ensures.sound told posts (subst (λ (t : Text). IsArchive dir t posts) (sym prefix) is))) in
+          search rules;
+    }
+
+pub returns-clause-value : goal.returns-clause-value
+returns-clause-value g c told =
+    let n = c.args.at in
+    let prefix = c.as_slice.ensures in
+    let same = g.met.F.Files.kept_map c.args.files.now c.thread.new.files told c.thread.ensures.reads.kept in
+    IfOk-weaker c.posts_text.result _ _
+    (λ text value p is conf.
+    let own : p.config.prefix ≡ c.as_slice.result.now = ap (λ (k : Config). k.prefix) conf ∙ sym prefix in
+    let found : c.in_ok-numbers.numbers ≡ numbers (cut (in_thread c.as_slice.result.now n p.posts)) =
+    c.in_ok-numbers.ensures.value told p.posts (subst (λ (t : Text). IsArchive (g.F.Files.map c.args.files.now) t p.posts) own is.archive) in
+    value p (subst (λ (d : Dir). IsList d p) (sym same) is) conf ∙ ap (posts_text p) (c.as_slice-2.ensures ∙ found ∙ ap (λ (t : Text). numbers (cut (in_thread t n p.posts))) (sym own))
+    ∙ posts_are p (cut (in_thread p.config.prefix n p.posts)) (thread_ones p.posts p.config.prefix n))
+    (c.posts_text.ensures.value told)

@@ -1,0 +1,32 @@
+use Rattle.std.proofs.Common.{◌∙◌, sym, subst}
+use Rattle.std.specs.Prelude.{◌&&◌}
+use Rattle.ml_base.specs.Address.{key}
+use Rattle.ml_base.specs.Dir.{Dir}
+use Rattle.ml_bounce.specs.Changes.{note}
+use Rattle.ml_plain.specs.Bouncing.{if_changed, is_used}
+use Rattle.ml_plain.specs.Directory.{IsList}
+use Rattle.ml_plain.specs.Plain.{Plain, is_in, ledger_of}
+use Rattle.std.proofs.lemmas.Result.{IfOk-weaker}
+use Rattle.ml_acts.specs.Doing.{DoesList}
+use Rattle.ml_manage.proofs.Bounced.{not_noted, noted}
+use Rattle.ml_manage.proofs.bounces.bounced.Goals as goal
+
+pub returns-then-not-branch-clause-value : goal.returns-then-not-branch-clause-value
+returns-then-not-branch-clause-value g c told p is =
+    let dir = g.F.Files.map c.args.files.now in
+    let set = c.args.set in
+    let x = c.args.x.now in
+    not_noted dir p set (c.new.result, c.plain.result) (is_in p set x && is_used p set c.args.number) (note (key x) c.args.number c.args.now (ledger_of p set)) is
+    (sym (c.in_ok-was_mailed.ensures.value told p is) ∙ c.if-not-branch.true) c.new.ensures c.plain.ensures
+
+pub returns-clause-value : goal.returns-clause-value
+returns-clause-value g c told =
+    let dir = g.F.Files.map c.args.files.now in
+    let set = c.args.set in
+    let x = c.args.x.now in
+    let same = g.met.F.Files.kept_map c.args.files.now c.was_mailed.new.files told c.was_mailed.ensures.reads.kept in
+    IfOk-weaker c.noted.result _ _
+    (λ done does p is. noted dir p set done (is_in p set x && is_used p set c.args.number) (note (key x) c.args.number c.args.now (ledger_of p set))
+    (sym (c.in_ok-was_mailed.ensures.value told p is) ∙ c.if-not-branch.false)
+    (subst (λ (d : Dir). (q : Plain) → IsList d q → DoesList d done (if_changed q set (note (key x) c.args.number c.args.now (ledger_of q set)))) same does p is))
+    (c.noted.ensures.value told)

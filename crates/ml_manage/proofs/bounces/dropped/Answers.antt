@@ -1,0 +1,22 @@
+use Rattle.std.proofs.Common.{◌≡◌, true, false, List, Option, sym, ◌∙◌, subst}
+use Rattle.ml_base.specs.Dir.{touches_only}
+use Rattle.ml_base.specs.declared.puts.Put.{Put}
+use Rattle.ml_subs.specs.Answers.{puts_if}
+use Rattle.ml_acts.specs.Doing.{Leaves, is_beside_queue}
+use Rattle.ml_manage.proofs.Bounced.{beside_own}
+use Rattle.ml_manage.proofs.bounces.dropped.Goals as goal
+
+pub returns-in_default-clause-value : goal.returns-in_default-clause-value
+returns-in_default-clause-value g c told p is member =
+    let dir = g.F.Files.map c.args.files.now in
+    let none = subst (λ (o : Option (List Put)). Leaves dir c.args.set c.args.x.now p o) c.in_default.is (c.in_ok-txn.ensures.value told p is) in
+    absurd (let bad : true ≡ false = sym member ∙ none in cc)
+
+pub returns-clause-value : goal.returns-clause-value
+returns-clause-value g c told p is member =
+    let dir = g.F.Files.map c.args.files.now in
+    let left = subst (λ (o : Option (List Put)). Leaves dir c.args.set c.args.x.now p o) c.in-Some.is (c.in_ok-txn.ensures.value told p is) in
+    record { reply = c.plain-2.ensures; list = left.1 }
+
+pub returns-clause-own : goal.returns-clause-own
+returns-clause-own g c = beside_own c.in-Some.txn (subst (λ (o : Option (List Put)). touches_only is_beside_queue (puts_if o) ≡ true) c.in-Some.is c.in_ok-txn.ensures.own)

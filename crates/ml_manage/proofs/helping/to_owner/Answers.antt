@@ -1,0 +1,26 @@
+use Rattle.std.proofs.Common.{◌∷◌, [], List, refl, sym, subst}
+use Rattle.ml_address.specs.declared.Path.{Path}
+use Rattle.ml_base.specs.Bytes.{Text}
+use Rattle.ml_base.specs.Dir.{with_puts}
+use Rattle.ml_config.specs.declared.configuration.Config.{Config}
+use Rattle.ml_plain.specs.Directory.{IsList}
+use Rattle.ml_plain.specs.Mailing.{reply_path, send}
+use Rattle.ml_manage.proofs.Sending.{queue_own}
+use Rattle.ml_manage.proofs.helping.to_owner.Goals as goal
+
+pub returns-clause-value : goal.returns-clause-value
+returns-clause-value g c told p is same =
+    let dir = g.F.Files.map c.args.files.now in
+    let now = with_puts dir c.in_ok-txn.txn in
+    let conf = c.args.config.now in
+    let sent = c.in_ok-txn.ensures.value told dir p (λ name e. refl) is in
+    let one = subst (λ (w : Path). IsList now (send w c.in_ok-body.body c.in_ok-to.to p)) c.in_ok-way.ensures sent in
+    let two = subst (λ (t : Text). IsList now (send (reply_path conf) t c.in_ok-to.to p)) c.in_ok-body.ensures one in
+    let three = subst (λ (ts : List Text). IsList now (send (reply_path conf) c.args.message.now ts p)) c.in_ok-to.ensures.value two in
+    record {
+      reply = c.plain.ensures;
+      list = subst (λ (k : Config). IsList now (send (reply_path k) c.args.message.now (k.owner ∷ []) p)) (sym same) three;
+    }
+
+pub returns-clause-own : goal.returns-clause-own
+returns-clause-own g c = queue_own c.in_ok-txn.txn c.in_ok-txn.ensures.own

@@ -1,0 +1,29 @@
+use Rattle.std.proofs.Common.{◌≡◌, true, IfOk, subst}
+use Rattle.std.proofs.lemmas.Bool.{and_parts, leb-true}
+use Rattle.ml_base.specs.Bytes.{Text}
+use Rattle.ml_base.specs.ReadFiles.{NamesDamaged}
+use Rattle.ml_plain.specs.Directory.{IsList}
+use Rattle.ml_plain.specs.Plain.{Plain}
+use Rattle.ml_acts.specs.Damaged.{IsDamaged}
+use Rattle.ml_acts.specs.Doing.{DoesList}
+use Rattle.ml_plain.specs.Bouncing.{bounced}
+use Rattle.ml_manage.specs.Reads.{is_of_bounce}
+use Rattle.ml_manage.proofs.managing.of_bounce.Goals as goal
+
+pub named-requires : goal.named-requires
+named-requires g c = (and_parts _ _ c.requires.range).1
+
+pub bounced-requires-clause-mailed : goal.bounced-requires-clause-mailed
+bounced-requires-clause-mailed g c = (and_parts _ _ (and_parts _ _ c.requires.range).0).0
+
+pub bounced-requires-clause-number : goal.bounced-requires-clause-number
+bounced-requires-clause-number g c = leb-true c.args.number 99_999_999 (and_parts _ _ (and_parts _ _ (and_parts _ _ c.requires.range).0).1).1
+
+pub returns-clause-value : goal.returns-clause-value
+returns-clause-value g c told =
+    let dir = g.F.Files.map c.args.files.now in
+    subst (λ (x : Text). IfOk c.bounced.result (λ done. (p : Plain) → IsList dir p → DoesList dir done (bounced c.args.now c.args.set c.args.number x p))) c.in_ok-x.ensures (c.bounced.ensures.value told)
+
+pub returns-clause-names : goal.returns-clause-names
+returns-clause-names g c =
+    subst (λ (x : Text). NamesDamaged g.F.Files (λ name. is_of_bounce c.args.set x name ≡ true) (IsDamaged (g.F.Files.map c.args.files.now)) c.bounced.result) c.in_ok-x.ensures (c.bounced.ensures.names)

@@ -1,0 +1,92 @@
+-- Which files mail to the list's other addresses may read.
+use Rattle.std.specs.Prelude.{◌/◌, ℕ, Bool, true, false, ◌||◌, ◌&&◌, ◌==◌, Option, Some, None}
+use Rattle.ml_base.specs.Address.{key, address_of}
+use Rattle.ml_base.specs.Bytes.{Text}
+use Rattle.ml_base.specs.Dir.{same_name}
+use Rattle.ml_base.specs.declared.names.Name.{Name}
+use Rattle.ml_base.specs.declared.names.Set.{Set}
+use Rattle.ml_base.specs.declared.names.Set.TheVariants as sets
+use Rattle.ml_address.specs.Requests.{PlainRequest, Post, Other, Owner, Subscribe, Unsubscribe, Confirm, Members, Get, Index, Thread, Accept, Reject, Bounce, WarnBounce, ProbeBounce, ReplyBounce, is_in_range}
+use Rattle.ml_archive.specs.Archive.{number_name, index_name}
+use Rattle.ml_config.specs.KeyFile.{key_name}
+use Rattle.ml_config.specs.declared.configuration.Config.{Config}
+use Rattle.ml_digest.specs.Due.{mark_name}
+use Rattle.ml_joining.specs.Deeds.{asked_of}
+use Rattle.ml_joining.specs.Reads.{is_read_to_confirm, is_read_to_subscribe, is_read_to_unsubscribe}
+use Rattle.ml_plain.specs.Bouncing.{address_named}
+use Rattle.ml_subs.specs.Subscribers.{is_touched}
+use Rattle.ml_acts.specs.Doing.{is_bucket, is_bucket_of, is_entry_of}
+use Rattle.ml_queue.specs.Answers.{ids_name}
+
+-- the file that tells which numbers of a set were used: the mark of the digests, or the number of posts
+abbrev pub is_counted_in : Set → Name → Bool
+is_counted_in sets.Digest name = same_name name mark_name
+is_counted_in _ name = same_name name number_name
+
+-- whether letters are a member's cookie
+abbrev pub is_of_signed : Set → Text → Name → Bool
+is_of_signed set x name = is_bucket_of set x name || same_name name key_name
+
+-- a bounce of mail, of a warning and of a probe to an address
+abbrev pub is_of_bounce : Set → Text → Name → Bool
+is_of_bounce set x name = is_bucket_of set x name || is_counted_in set name || is_entry_of set x name
+
+abbrev pub is_of_warning : Set → Text → Name → Bool
+is_of_warning set x name = is_of_signed set x name || is_entry_of set x name
+
+abbrev pub is_of_probe : Set → Text → Name → Bool
+is_of_probe set x name = is_of_signed set x name || is_touched set (key x) name || is_entry_of set x name
+
+-- whether an address may read the archive
+abbrev pub is_of_reader : Config → Text → Name → Bool
+is_of_reader c sender name =
+    is_bucket_of sets.Moderators sender name || (c.flags.g && (is_bucket_of sets.List sender name || is_bucket_of sets.Digest sender name))
+
+-- a range of posts: their number, and the indexes
+abbrev pub is_of_range : Name → Bool
+is_of_range name = name.kind == 10 || same_name name number_name
+
+-- a thread: a thread file beside them
+abbrev pub is_of_thread : Name → Bool
+is_of_thread name = is_of_range name || name.kind == 20
+
+-- the index of a post's group
+abbrev pub is_of_index : ℕ → Name → Bool
+is_of_index at name = same_name name (index_name (at / 100))
+
+-- the members of a set for a sender: the moderators, where `l` is set, and the set
+abbrev pub is_of_members : Config → Text → Set → Name → Bool
+is_of_members c sender set name = (c.flags.l && is_bucket_of sets.Moderators sender name) || is_bucket set name || same_name name ids_name
+
+-- the files that a request of a sender whose address is checked may read
+abbrev pub is_asked_of : Config → Text → PlainRequest → Name → Bool
+is_asked_of c sender (Subscribe set who) name = is_read_to_subscribe c sender set (asked_of sender who) name
+is_asked_of c sender (Unsubscribe set who) name = is_read_to_unsubscribe c sender set (asked_of sender who) name
+is_asked_of c sender (Confirm word set s) name = is_read_to_confirm word set (address_named s.who) name
+is_asked_of c sender (Members set) name = is_of_members c sender set name
+is_asked_of c sender (Get from to) name = is_of_reader c sender name || is_of_range name || same_name name ids_name
+is_asked_of c sender (Index at) name = is_of_reader c sender name || is_of_index at name || same_name name ids_name
+is_asked_of c sender (Thread at) name = is_of_reader c sender name || is_of_thread name || same_name name ids_name
+is_asked_of c sender _ name = same_name name ids_name
+
+-- and of a sender who may be no address
+abbrev pub is_read_for : Config → Option Text → PlainRequest → Name → Bool
+is_read_for c None request name = false
+is_read_for c (Some who) request name = is_asked_of c who request name
+
+-- the files that a sender's mail may read
+abbrev pub may_read : Config → Text → PlainRequest → Name → Bool
+may_read c sender (Bounce set number who) name = is_of_bounce set (address_named who) name
+may_read c sender (WarnBounce set s) name = is_of_warning set (address_named s.who) name
+may_read c sender (ProbeBounce set s) name = is_of_probe set (address_named s.who) name
+may_read c sender (ReplyBounce set) name = false
+may_read c sender Owner name = same_name name ids_name
+may_read c sender request name = is_read_for c (address_of sender) request name
+
+-- what is done here is asked: neither a post nor a moderator's answer, with its parts in their ranges
+abbrev pub is_managed : PlainRequest → Bool
+is_managed Post = false
+is_managed (Accept ticket cookie) = false
+is_managed (Reject ticket cookie) = false
+is_managed Other = true
+is_managed request = is_in_range request

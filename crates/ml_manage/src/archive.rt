@@ -1,0 +1,276 @@
+// Answers from the archive: to whom it is open, and what they are.
+ghost use Rattle.std.specs.Prelude.{◌≡◌, ◌&&◌, ◌||◌, ◌++◌, not, true, IsTrue, IfOk, OnOk};
+ghost use Rattle.std.specs.List.{flat_map};
+ghost use Rattle.ml_base.specs.Dir.{are_files, same_name, touches_only};
+ghost use Rattle.ml_base.specs.Ranges.{IsMoment};
+ghost use Rattle.ml_base.specs.ReadFiles.{IsReading, NamesDamaged};
+ghost use Rattle.ml_base.specs.declared.names.Set.TheVariants as sets;
+ghost use Rattle.ml_config.specs.ConfigFile.{IsConfigFile, config_name};
+ghost use Rattle.ml_plain.specs.ArchiveText as texts;
+ghost use Rattle.ml_plain.specs.Directory.{IsList, is_of_list};
+ghost use Rattle.ml_plain.specs.KeptFiles.{is_kept};
+ghost use Rattle.ml_plain.specs.Managing as spec;
+ghost use Rattle.ml_plain.specs.Plain.{Plain, is_in};
+ghost use Rattle.ml_queue.specs.Answers.{ids_name};
+ghost use Rattle.ml_acts.specs.Damaged.{IsDamaged};
+ghost use Rattle.ml_acts.specs.Doing.{DoesList, HasIds, is_bucket_of};
+ghost use Rattle.ml_manage.specs.Reads.{is_of_index, is_of_range, is_of_reader, is_of_thread};
+ghost use Rattle.ml_manage.specs.Texts as words;
+
+use crate::members::is_member;
+use crate::naming::plain;
+use crate::texts::{add_post, entries_text, no_posts};
+use ml_acts::mail_to;
+use ml_archive::{index, post, range, thread};
+use ml_base::{Address, Bytes, Files, PartError, Set, Txn};
+use ml_config::Config;
+use ml_plain::Reply;
+use ml_reply::Mail;
+use std::alloc::Global;
+
+// The posts from one number to another, or one post, for whom the archive is open to.
+pub(crate) fn get<F: Files>(
+    alloc: Global,
+    files: &mut F,
+    config: &Config,
+    now: u64,
+    sender: &Address,
+    from: u64,
+    to: Option<u64>,
+) -> Result<(Txn, Reply), PartError>
+    requires moment { IsMoment now }
+    requires room { IsTrue F.tells → HasIds (F.map files.now) }
+    ensures value { IsTrue F.tells → IfOk result (λ done. (p : Plain) → IsList (F.map files.old) p → p.config ≡ config.now → DoesList (F.map files.old) done (spec.from_archive now sender.now p (spec.may_read p sender.now) (texts.get_text p from to))) }
+    ensures own { IfOk result (λ done. touches_only is_of_list done.0 ≡ true) }
+    ensures files { IfOk result (λ done. IsTrue (are_files done.0)) }
+    ensures reply { IfOk result (λ done. is_kept done.1 ≡ true) }
+    ensures names { NamesDamaged ⟦<F as Files>⟧ (λ name. (is_of_reader config.now sender.now name || is_of_range name || same_name name ids_name) ≡ true) (IsDamaged (F.map files.old)) result }
+    ensures reads { IsReading ⟦<F as Files>⟧ files.old files.new result }
+{
+    if !may_read(alloc, files, config, sender)? {
+        return Ok((Txn::new(alloc), plain(Reply::PRIVATE)));
+    }
+    let lines = get_text(alloc, files, config, from, to)?;
+    sent(alloc, files, config, now, sender, lines)
+}
+
+// The thread of a post, for whom the archive is open to.
+pub(crate) fn thread_of<F: Files>(
+    alloc: Global,
+    files: &mut F,
+    config: &Config,
+    now: u64,
+    sender: &Address,
+    at: u64,
+) -> Result<(Txn, Reply), PartError>
+    requires moment { IsMoment now }
+    requires room { IsTrue F.tells → HasIds (F.map files.now) }
+    requires loaded { IsTrue F.tells → IsConfigFile (F.map files.now config_name) config.now }
+    ensures value { IsTrue F.tells → IfOk result (λ done. (p : Plain) → IsList (F.map files.old) p → p.config ≡ config.now → DoesList (F.map files.old) done (spec.from_archive now sender.now p (spec.may_read p sender.now) (texts.thread_text p at))) }
+    ensures own { IfOk result (λ done. touches_only is_of_list done.0 ≡ true) }
+    ensures files { IfOk result (λ done. IsTrue (are_files done.0)) }
+    ensures reply { IfOk result (λ done. is_kept done.1 ≡ true) }
+    ensures names { NamesDamaged ⟦<F as Files>⟧ (λ name. (is_of_reader config.now sender.now name || is_of_thread name || same_name name ids_name) ≡ true) (IsDamaged (F.map files.old)) result }
+    ensures reads { IsReading ⟦<F as Files>⟧ files.old files.new result }
+{
+    if !may_read(alloc, files, config, sender)? {
+        return Ok((Txn::new(alloc), plain(Reply::PRIVATE)));
+    }
+    let lines = thread_text(alloc, files, config, at)?;
+    sent(alloc, files, config, now, sender, lines)
+}
+
+// The index of a post's group, for whom the archive is open to.
+pub(crate) fn index_of<F: Files>(
+    alloc: Global,
+    files: &mut F,
+    config: &Config,
+    now: u64,
+    sender: &Address,
+    at: u64,
+) -> Result<(Txn, Reply), PartError>
+    requires moment { IsMoment now }
+    requires room { IsTrue F.tells → HasIds (F.map files.now) }
+    ensures value { IsTrue F.tells → IfOk result (λ done. (p : Plain) → IsList (F.map files.old) p → p.config ≡ config.now → DoesList (F.map files.old) done (spec.from_archive now sender.now p (spec.may_read p sender.now) (texts.index_text p at))) }
+    ensures own { IfOk result (λ done. touches_only is_of_list done.0 ≡ true) }
+    ensures files { IfOk result (λ done. IsTrue (are_files done.0)) }
+    ensures reply { IfOk result (λ done. is_kept done.1 ≡ true) }
+    ensures names { NamesDamaged ⟦<F as Files>⟧ (λ name. (is_of_reader config.now sender.now name || is_of_index at name || same_name name ids_name) ≡ true) (IsDamaged (F.map files.old)) result }
+    ensures reads { IsReading ⟦<F as Files>⟧ files.old files.new result }
+{
+    if !may_read(alloc, files, config, sender)? {
+        return Ok((Txn::new(alloc), plain(Reply::PRIVATE)));
+    }
+    let lines = index_text(alloc, files, at)?;
+    sent(alloc, files, config, now, sender, lines)
+}
+
+// Whether the archive is open to a sender.
+fn may_read<F: Files>(
+    alloc: Global,
+    files: &mut F,
+    config: &Config,
+    sender: &Address,
+) -> Result<bool, PartError>
+    ensures value { IsTrue F.tells → IfOk result (λ is. (p : Plain) → IsList (F.map files.old) p → p.config ≡ config.now → is ≡ spec.may_read p sender.now) }
+    ensures names { NamesDamaged ⟦<F as Files>⟧ (λ name. is_of_reader config.now sender.now name ≡ true) (IsDamaged (F.map files.old)) result }
+    ensures reads { IsReading ⟦<F as Files>⟧ files.old files.new result }
+{
+    if is_member(alloc, files, Set::Moderators, sender)? {
+        return Ok(true);
+    }
+    is_open_to(alloc, files, config, sender)
+}
+
+// Whether it is open to a sender who is no moderator.
+fn is_open_to<F: Files>(
+    alloc: Global,
+    files: &mut F,
+    config: &Config,
+    sender: &Address,
+) -> Result<bool, PartError>
+    ensures value { IsTrue F.tells → IfOk result (λ is. (p : Plain) → IsList (F.map files.old) p → p.config ≡ config.now → is ≡ (not p.config.flags.b && p.config.flags.p && (not p.config.flags.g || is_in p sets.List sender.now || is_in p sets.Digest sender.now))) }
+    ensures names { NamesDamaged ⟦<F as Files>⟧ (λ name. is_of_reader config.now sender.now name ≡ true) (IsDamaged (F.map files.old)) result }
+    ensures reads { IsReading ⟦<F as Files>⟧ files.old files.new result }
+{
+    if config.flags.b || !config.flags.p {
+        return Ok(false);
+    }
+    if !config.flags.g {
+        return Ok(true);
+    }
+    is_subscriber(alloc, files, sender)
+}
+
+// Whether an address is in the list or the digest.
+fn is_subscriber<F: Files>(alloc: Global, files: &mut F, who: &Address) -> Result<bool, PartError>
+    ensures value { IsTrue F.tells → IfOk result (λ is. (p : Plain) → IsList (F.map files.old) p → is ≡ (is_in p sets.List who.now || is_in p sets.Digest who.now)) }
+    ensures names { NamesDamaged ⟦<F as Files>⟧ (λ name. (is_bucket_of sets.List who.now name || is_bucket_of sets.Digest who.now name) ≡ true) (IsDamaged (F.map files.old)) result }
+    ensures reads { IsReading ⟦<F as Files>⟧ files.old files.new result }
+{
+    if is_member(alloc, files, Set::List, who)? {
+        return Ok(true);
+    }
+    is_member(alloc, files, Set::Digest, who)
+}
+
+// A text of the archive goes to a sender.
+fn sent<F: Files>(
+    alloc: Global,
+    files: &mut F,
+    config: &Config,
+    now: u64,
+    sender: &Address,
+    lines: Bytes,
+) -> Result<(Txn, Reply), PartError>
+    requires moment { IsMoment now }
+    requires room { IsTrue F.tells → HasIds (F.map files.now) }
+    ensures value { IsTrue F.tells → IfOk result (λ done. (p : Plain) → IsList (F.map files.old) p → p.config ≡ config.now → DoesList (F.map files.old) done (spec.from_archive now sender.now p true lines)) }
+    ensures own { IfOk result (λ done. touches_only is_of_list done.0 ≡ true) }
+    ensures files { IfOk result (λ done. IsTrue (are_files done.0)) }
+    ensures reply { IfOk result (λ done. is_kept done.1 ≡ true) }
+    ensures names { NamesDamaged ⟦<F as Files>⟧ (λ name. same_name name ids_name ≡ true) (IsDamaged (F.map files.old)) result }
+    ensures reads { IsReading ⟦<F as Files>⟧ files.old files.new result }
+{
+    let mail = Mail::Archive {
+        to: Bytes::from_slice(alloc, sender.bytes())?,
+        lines,
+    };
+    let txn = mail_to(alloc, files, config, sender, now, &mail)?;
+    Ok((txn, plain(Reply::ARCHIVE)))
+}
+
+// The text of a range of posts.
+fn get_text<F: Files>(
+    alloc: Global,
+    files: &mut F,
+    config: &Config,
+    from: u64,
+    to: Option<u64>,
+) -> Result<Bytes, PartError>
+    ensures value { IsTrue F.tells → IfOk result (λ text. (p : Plain) → IsList (F.map files.old) p → p.config ≡ config.now → text ≡ texts.get_text p from to) }
+    ensures names { NamesDamaged ⟦<F as Files>⟧ (λ name. is_of_range name ≡ true) (IsDamaged (F.map files.old)) result }
+    ensures reads { IsReading ⟦<F as Files>⟧ files.old files.new result }
+{
+    let numbers = range(alloc, files, from, to.unwrap_or(from))?;
+    posts_text(alloc, files, config, numbers.as_slice())
+}
+
+// The text of the thread of a post.
+fn thread_text<F: Files>(
+    alloc: Global,
+    files: &mut F,
+    config: &Config,
+    at: u64,
+) -> Result<Bytes, PartError>
+    requires { IsTrue F.tells → IsConfigFile (F.map files.now config_name) config.now }
+    ensures value { IsTrue F.tells → IfOk result (λ text. (p : Plain) → IsList (F.map files.old) p → p.config ≡ config.now → text ≡ texts.thread_text p at) }
+    ensures names { NamesDamaged ⟦<F as Files>⟧ (λ name. is_of_thread name ≡ true) (IsDamaged (F.map files.old)) result }
+    ensures reads { IsReading ⟦<F as Files>⟧ files.old files.new result }
+{
+    let numbers = thread(alloc, files, config.prefix.as_slice(), at)?;
+    posts_text(alloc, files, config, numbers.as_slice())
+}
+
+// The text of the index of a post's group.
+fn index_text<F: Files>(alloc: Global, files: &mut F, at: u64) -> Result<Bytes, PartError>
+    ensures value { IsTrue F.tells → IfOk result (λ text. (p : Plain) → IsList (F.map files.old) p → text ≡ texts.index_text p at) }
+    ensures names { NamesDamaged ⟦<F as Files>⟧ (λ name. is_of_index at name ≡ true) (IsDamaged (F.map files.old)) result }
+    ensures reads { IsReading ⟦<F as Files>⟧ files.old files.new result }
+{
+    let entries = index(alloc, files, at / 100)?;
+    Ok(entries_text(alloc, entries.as_slice())?)
+}
+
+// The text of the posts of some numbers, or a line where there are none.
+fn posts_text<F: Files>(
+    alloc: Global,
+    files: &mut F,
+    config: &Config,
+    numbers: &[u64],
+) -> Result<Bytes, PartError>
+    ensures value { IsTrue F.tells → IfOk result (λ text. (p : Plain) → IsList (F.map files.old) p → p.config ≡ config.now → text ≡ words.posts_text p numbers.now) }
+    ensures names { NamesDamaged ⟦<F as Files>⟧ (λ name. is_of_range name ≡ true) (IsDamaged (F.map files.old)) result }
+    ensures reads { IsReading ⟦<F as Files>⟧ files.old files.new result }
+{
+    if numbers.is_empty() {
+        return Ok(no_posts(alloc)?);
+    }
+    all_posts(alloc, files, config, numbers)
+}
+
+// The posts of some numbers, one behind the other.
+fn all_posts<F: Files>(
+    alloc: Global,
+    files: &mut F,
+    config: &Config,
+    numbers: &[u64],
+) -> Result<Bytes, PartError>
+    ensures value { IsTrue F.tells → IfOk result (λ text. (p : Plain) → IsList (F.map files.old) p → p.config ≡ config.now → text ≡ flat_map (words.post_text p) numbers.now) }
+    ensures names { NamesDamaged ⟦<F as Files>⟧ (λ name. is_of_range name ≡ true) (IsDamaged (F.map files.old)) result }
+    ensures reads { IsReading ⟦<F as Files>⟧ files.old files.new result }
+{
+    let mut out = Bytes::new(alloc);
+    for number in numbers {
+        add_one(alloc, files, config, *number, &mut out)?;
+    }
+    Ok(out)
+}
+
+// Adds the post of a number, where it is there.
+fn add_one<F: Files>(
+    alloc: Global,
+    files: &mut F,
+    config: &Config,
+    number: u64,
+    out: &mut Bytes,
+) -> Result<(), PartError>
+    ensures value { IsTrue F.tells → OnOk result ((p : Plain) → IsList (F.map files.old) p → p.config ≡ config.now → out.new ≡ out.old ++ words.post_text p number) }
+    ensures names { NamesDamaged ⟦<F as Files>⟧ (λ name. is_of_range name ≡ true) (IsDamaged (F.map files.old)) result }
+    ensures reads { IsReading ⟦<F as Files>⟧ files.old files.new result }
+{
+    match post(alloc, files, number)? {
+        Some(post) => Ok(add_post(out, config, number, &post)?),
+        None => Ok(()),
+    }
+}

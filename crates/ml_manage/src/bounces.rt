@@ -1,0 +1,298 @@
+// What bounces do: of mail to a member, of a warning and of a probe.
+ghost use Rattle.std.specs.Prelude.{◌≡◌, ◌≤◌, ◌&&◌, ◌||◌, true, IsTrue, IfOk};
+ghost use Rattle.ml_address.specs.Requests.{is_mailed};
+ghost use Rattle.ml_base.specs.Address.{key};
+ghost use Rattle.ml_base.specs.Dir.{are_files, same_name, touches_only};
+ghost use Rattle.ml_base.specs.declared.names.Set.TheVariants as sets;
+ghost use Rattle.ml_base.specs.Ranges.{IsMoment};
+ghost use Rattle.ml_base.specs.ReadFiles.{IsReading, NamesDamaged};
+ghost use Rattle.ml_bounce.specs.Answers.{puts_of};
+ghost use Rattle.ml_bounce.specs.Changes as changes;
+ghost use Rattle.ml_config.specs.KeyFile.{key_name};
+ghost use Rattle.ml_plain.specs.Bouncing as spec;
+ghost use Rattle.ml_plain.specs.Directory.{IsList, is_of_list};
+ghost use Rattle.ml_plain.specs.KeptFiles.{is_kept};
+ghost use Rattle.ml_plain.specs.Mailing.{is_good as is_good_by};
+ghost use Rattle.ml_plain.specs.Answers as answers;
+ghost use Rattle.ml_plain.specs.Plain.{Plain, is_in, ledger_of, removed};
+ghost use Rattle.ml_archive.specs.Archive.{number_name};
+ghost use Rattle.ml_digest.specs.Due.{mark_name};
+ghost use Rattle.ml_subs.specs.Subscribers.{is_touched};
+ghost use Rattle.ml_acts.specs.Damaged.{IsDamaged};
+ghost use Rattle.ml_acts.specs.Doing.{DoesList, is_bucket_of, is_entry_of};
+ghost use Rattle.ml_manage.specs.Leaving.{change_reply, of_probe, of_warning};
+ghost use Rattle.ml_manage.specs.Reads.{is_counted_in, is_of_bounce, is_of_probe, is_of_signed, is_of_warning};
+
+use crate::members::is_member;
+use crate::naming::plain;
+use ml_acts::{is_good, key_of, remove_member};
+use ml_archive::count;
+use ml_base::{Address, Files, PartError, Set, Txn};
+use ml_bounce::{note, probe_failed, warn_failed};
+use ml_config::key;
+use ml_digest::mark;
+use ml_plain::Reply;
+use std::alloc::Global;
+
+// A bounce of mail of a number to an address: it is noted, where the address is a member and the number was used.
+pub(crate) fn bounced<F: Files>(
+    alloc: Global,
+    files: &mut F,
+    now: u64,
+    set: Set,
+    number: u64,
+    x: &Address,
+) -> Result<(Txn, Reply), PartError>
+    requires moment { IsMoment now }
+    requires mailed { is_mailed set ≡ true }
+    requires number { number ≤ 99_999_999 }
+    ensures value { IsTrue F.tells → IfOk result (λ done. (p : Plain) → IsList (F.map files.old) p → DoesList (F.map files.old) done (spec.bounced now set number x.now p)) }
+    ensures own { IfOk result (λ done. touches_only is_of_list done.0 ≡ true) }
+    ensures files { IfOk result (λ done. IsTrue (are_files done.0)) }
+    ensures reply { IfOk result (λ done. is_kept done.1 ≡ true) }
+    ensures names { NamesDamaged ⟦<F as Files>⟧ (λ name. is_of_bounce set x.now name ≡ true) (IsDamaged (F.map files.old)) result }
+    ensures reads { IsReading ⟦<F as Files>⟧ files.old files.new result }
+{
+    if !was_mailed(alloc, files, set, number, x)? {
+        return Ok((Txn::new(alloc), plain(Reply::IGNORED)));
+    }
+    noted(alloc, files, now, set, number, x)
+}
+
+// Whether mail of a number may have gone to an address: it is a member, and the number was used.
+fn was_mailed<F: Files>(
+    alloc: Global,
+    files: &mut F,
+    set: Set,
+    number: u64,
+    x: &Address,
+) -> Result<bool, PartError>
+    ensures value { IsTrue F.tells → IfOk result (λ is. (p : Plain) → IsList (F.map files.old) p → is ≡ (is_in p set x.now && spec.is_used p set number)) }
+    ensures names { NamesDamaged ⟦<F as Files>⟧ (λ name. is_of_bounce set x.now name ≡ true) (IsDamaged (F.map files.old)) result }
+    ensures reads { IsReading ⟦<F as Files>⟧ files.old files.new result }
+{
+    if !is_member(alloc, files, set, x)? {
+        return Ok(false);
+    }
+    is_used(alloc, files, set, number)
+}
+
+// Whether a number of a set was used.
+fn is_used<F: Files>(alloc: Global, files: &mut F, set: Set, number: u64) -> Result<bool, PartError>
+    ensures value { IsTrue F.tells → IfOk result (λ is. (p : Plain) → IsList (F.map files.old) p → is ≡ spec.is_used p set number) }
+    ensures names { NamesDamaged ⟦<F as Files>⟧ (λ name. is_counted_in set name ≡ true) (IsDamaged (F.map files.old)) result }
+    ensures reads { IsReading ⟦<F as Files>⟧ files.old files.new result }
+{
+    match set {
+        Set::Digest => is_issue(alloc, files, number),
+        _ => is_post(alloc, files, number),
+    }
+}
+
+// Whether a number is one of a digest that was sent.
+fn is_issue<F: Files>(alloc: Global, files: &mut F, number: u64) -> Result<bool, PartError>
+    ensures value { IsTrue F.tells → IfOk result (λ is. (p : Plain) → IsList (F.map files.old) p → is ≡ spec.is_used p sets.Digest number) }
+    ensures names { NamesDamaged ⟦<F as Files>⟧ (λ name. same_name name mark_name ≡ true) (IsDamaged (F.map files.old)) result }
+    ensures reads { IsReading ⟦<F as Files>⟧ files.old files.new result }
+{
+    let mark = mark(alloc, files)?;
+    Ok(1 <= number && number <= mark.issue)
+}
+
+// Whether a number is one of a post that was sent.
+fn is_post<F: Files>(alloc: Global, files: &mut F, number: u64) -> Result<bool, PartError>
+    ensures value { IsTrue F.tells → IfOk result (λ is. (p : Plain) → IsList (F.map files.old) p → is ≡ spec.is_used p sets.List number) }
+    ensures names { NamesDamaged ⟦<F as Files>⟧ (λ name. same_name name number_name ≡ true) (IsDamaged (F.map files.old)) result }
+    ensures reads { IsReading ⟦<F as Files>⟧ files.old files.new result }
+{
+    let count = count(alloc, files)?;
+    Ok(1 <= number && number <= count)
+}
+
+// A number is noted, unless it was before.
+fn noted<F: Files>(
+    alloc: Global,
+    files: &mut F,
+    now: u64,
+    set: Set,
+    number: u64,
+    x: &Address,
+) -> Result<(Txn, Reply), PartError>
+    requires moment { IsMoment now }
+    requires mailed { is_mailed set ≡ true }
+    requires number { number ≤ 99_999_999 }
+    ensures value { IsTrue F.tells → IfOk result (λ done. (p : Plain) → IsList (F.map files.old) p → DoesList (F.map files.old) done (spec.if_changed p set (changes.note (key x.now) number now (ledger_of p set)))) }
+    ensures own { IfOk result (λ done. touches_only is_of_list done.0 ≡ true) }
+    ensures files { IfOk result (λ done. IsTrue (are_files done.0)) }
+    ensures reply { IfOk result (λ done. is_kept done.1 ≡ true) }
+    ensures names { NamesDamaged ⟦<F as Files>⟧ (λ name. is_entry_of set x.now name ≡ true) (IsDamaged (F.map files.old)) result }
+    ensures reads { IsReading ⟦<F as Files>⟧ files.old files.new result }
+{
+    let answer = note(alloc, files, set, x, number, now)?;
+    Ok(changed(alloc, answer))
+}
+
+// The puts of a ledger's change, and what is answered.
+fn changed(alloc: Global, answer: Option<Txn>) -> (Txn, Reply)
+    ensures puts { result.0 ≡ puts_of answer }
+    ensures reply { result.1 ≡ change_reply answer }
+{
+    match answer {
+        Some(txn) => (txn, plain(Reply::BOUNCE)),
+        None => (Txn::new(alloc), plain(Reply::IGNORED)),
+    }
+}
+
+// A bounce of a warning to a member, with a good cookie of the moment at which he was warned.
+pub(crate) fn warning_bounced<F: Files>(
+    alloc: Global,
+    files: &mut F,
+    now: u64,
+    set: Set,
+    time: u64,
+    letters: &[u8; 20],
+    x: &Address,
+) -> Result<(Txn, Reply), PartError>
+    requires moment { IsMoment now }
+    requires mailed { is_mailed set ≡ true }
+    ensures value { IsTrue F.tells → IfOk result (λ done. (p : Plain) → IsList (F.map files.old) p → DoesList (F.map files.old) done (of_warning now set time letters.now x.now p)) }
+    ensures own { IfOk result (λ done. touches_only is_of_list done.0 ≡ true) }
+    ensures files { IfOk result (λ done. IsTrue (are_files done.0)) }
+    ensures reply { IfOk result (λ done. is_kept done.1 ≡ true) }
+    ensures names { NamesDamaged ⟦<F as Files>⟧ (λ name. is_of_warning set x.now name ≡ true) (IsDamaged (F.map files.old)) result }
+    ensures reads { IsReading ⟦<F as Files>⟧ files.old files.new result }
+{
+    if !is_signed(alloc, files, now, b"warn", set, time, letters, x)? {
+        return Ok((Txn::new(alloc), plain(Reply::IGNORED)));
+    }
+    warning_failed(alloc, files, now, set, time, x)
+}
+
+// Whether an address is a member, and letters are a good cookie of a kind for it.
+fn is_signed<F: Files>(
+    alloc: Global,
+    files: &mut F,
+    now: u64,
+    kind: &[u8],
+    set: Set,
+    time: u64,
+    letters: &[u8; 20],
+    x: &Address,
+) -> Result<bool, PartError>
+    ensures value { IsTrue F.tells → IfOk result (λ is. (p : Plain) → IsList (F.map files.old) p → is ≡ (is_in p set x.now && is_good_by p kind.now set time (key x.now) letters.now now)) }
+    ensures names { NamesDamaged ⟦<F as Files>⟧ (λ name. is_of_signed set x.now name ≡ true) (IsDamaged (F.map files.old)) result }
+    ensures reads { IsReading ⟦<F as Files>⟧ files.old files.new result }
+{
+    if !is_member(alloc, files, set, x)? {
+        return Ok(false);
+    }
+    is_cookie(alloc, files, now, kind, set, time, letters, x)
+}
+
+// Whether letters are a good cookie of a kind for an address.
+fn is_cookie<F: Files>(
+    alloc: Global,
+    files: &mut F,
+    now: u64,
+    kind: &[u8],
+    set: Set,
+    time: u64,
+    letters: &[u8; 20],
+    x: &Address,
+) -> Result<bool, PartError>
+    ensures value { IsTrue F.tells → IfOk result (λ is. (p : Plain) → IsList (F.map files.old) p → is ≡ is_good_by p kind.now set time (key x.now) letters.now now) }
+    ensures names { NamesDamaged ⟦<F as Files>⟧ (λ name. same_name name key_name ≡ true) (IsDamaged (F.map files.old)) result }
+    ensures reads { IsReading ⟦<F as Files>⟧ files.old files.new result }
+{
+    let who = key_of(alloc, x)?;
+    let keys = key(alloc, files)?;
+    Ok(is_good(&keys, kind, set, time, who.as_slice(), letters, now))
+}
+
+// The stage of a member who was warned at a moment says from now on that the warning failed.
+fn warning_failed<F: Files>(
+    alloc: Global,
+    files: &mut F,
+    now: u64,
+    set: Set,
+    time: u64,
+    x: &Address,
+) -> Result<(Txn, Reply), PartError>
+    requires moment { IsMoment now }
+    requires mailed { is_mailed set ≡ true }
+    ensures value { IsTrue F.tells → IfOk result (λ done. (p : Plain) → IsList (F.map files.old) p → DoesList (F.map files.old) done (spec.if_changed p set (changes.warn_failed (key x.now) time now (ledger_of p set)))) }
+    ensures own { IfOk result (λ done. touches_only is_of_list done.0 ≡ true) }
+    ensures files { IfOk result (λ done. IsTrue (are_files done.0)) }
+    ensures reply { IfOk result (λ done. is_kept done.1 ≡ true) }
+    ensures names { NamesDamaged ⟦<F as Files>⟧ (λ name. is_entry_of set x.now name ≡ true) (IsDamaged (F.map files.old)) result }
+    ensures reads { IsReading ⟦<F as Files>⟧ files.old files.new result }
+{
+    let answer = warn_failed(alloc, files, set, x, time, now)?;
+    Ok(changed(alloc, answer))
+}
+
+// A bounce of a probe to a member, with a good cookie of the moment at which he was probed: he leaves the set.
+pub(crate) fn probe_bounced<F: Files>(
+    alloc: Global,
+    files: &mut F,
+    now: u64,
+    set: Set,
+    time: u64,
+    letters: &[u8; 20],
+    x: &Address,
+) -> Result<(Txn, Reply), PartError>
+    requires { is_mailed set ≡ true }
+    ensures value { IsTrue F.tells → IfOk result (λ done. (p : Plain) → IsList (F.map files.old) p → DoesList (F.map files.old) done (of_probe now set time letters.now x.now p)) }
+    ensures own { IfOk result (λ done. touches_only is_of_list done.0 ≡ true) }
+    ensures files { IfOk result (λ done. IsTrue (are_files done.0)) }
+    ensures reply { IfOk result (λ done. is_kept done.1 ≡ true) }
+    ensures names { NamesDamaged ⟦<F as Files>⟧ (λ name. is_of_probe set x.now name ≡ true) (IsDamaged (F.map files.old)) result }
+    ensures reads { IsReading ⟦<F as Files>⟧ files.old files.new result }
+{
+    if !is_signed(alloc, files, now, b"probe", set, time, letters, x)? {
+        return Ok((Txn::new(alloc), plain(Reply::IGNORED)));
+    }
+    probed(alloc, files, set, time, x)
+}
+
+// A member who was probed at a moment leaves the set.
+fn probed<F: Files>(
+    alloc: Global,
+    files: &mut F,
+    set: Set,
+    time: u64,
+    x: &Address,
+) -> Result<(Txn, Reply), PartError>
+    requires { is_mailed set ≡ true }
+    ensures value { IsTrue F.tells → IfOk result (λ done. (p : Plain) → IsList (F.map files.old) p → is_in p set x.now ≡ true → DoesList (F.map files.old) done (spec.if_probed p set x.now (changes.probe_failed (key x.now) time (ledger_of p set)))) }
+    ensures own { IfOk result (λ done. touches_only is_of_list done.0 ≡ true) }
+    ensures files { IfOk result (λ done. IsTrue (are_files done.0)) }
+    ensures reply { IfOk result (λ done. is_kept done.1 ≡ true) }
+    ensures names { NamesDamaged ⟦<F as Files>⟧ (λ name. (is_touched set (key x.now) name || is_entry_of set x.now name) ≡ true) (IsDamaged (F.map files.old)) result }
+    ensures reads { IsReading ⟦<F as Files>⟧ files.old files.new result }
+{
+    let Some(_) = probe_failed(alloc, files, set, x, time)? else {
+        return Ok((Txn::new(alloc), plain(Reply::IGNORED)));
+    };
+    dropped(alloc, files, set, x)
+}
+
+// A member leaves a set, and the set's ledger.
+fn dropped<F: Files>(
+    alloc: Global,
+    files: &mut F,
+    set: Set,
+    x: &Address,
+) -> Result<(Txn, Reply), PartError>
+    ensures value { IsTrue F.tells → IfOk result (λ done. (p : Plain) → IsList (F.map files.old) p → is_in p set x.now ≡ true → DoesList (F.map files.old) done (removed set x.now p, answers.dropped)) }
+    ensures own { IfOk result (λ done. touches_only is_of_list done.0 ≡ true) }
+    ensures files { IfOk result (λ done. IsTrue (are_files done.0)) }
+    ensures reply { IfOk result (λ done. is_kept done.1 ≡ true) }
+    ensures names { NamesDamaged ⟦<F as Files>⟧ (λ name. (is_touched set (key x.now) name || is_entry_of set x.now name) ≡ true) (IsDamaged (F.map files.old)) result }
+    ensures reads { IsReading ⟦<F as Files>⟧ files.old files.new result }
+{
+    let Some(txn) = remove_member(alloc, files, set, x)? else {
+        return Ok((Txn::new(alloc), plain(Reply::IGNORED)));
+    };
+    Ok((txn, plain(Reply::DROPPED)))
+}

@@ -1,0 +1,78 @@
+// Help, and mail to the owner.
+ghost use Rattle.std.specs.Prelude.{◌≡◌, ◌∷◌, [], true, IsTrue, IfOk};
+ghost use Rattle.ml_base.specs.Address.{key};
+ghost use Rattle.ml_base.specs.Dir.{are_files, same_name, touches_only};
+ghost use Rattle.ml_base.specs.Ranges.{IsMoment};
+ghost use Rattle.ml_base.specs.ReadFiles.{IsReading, NamesDamaged};
+ghost use Rattle.ml_base.specs.Sorted.{byte_cmp, is_sorted};
+ghost use Rattle.ml_plain.specs.Directory.{IsList, is_of_list};
+ghost use Rattle.ml_plain.specs.KeptFiles.{is_kept};
+ghost use Rattle.ml_plain.specs.Managing as spec;
+ghost use Rattle.ml_plain.specs.Plain.{Plain};
+ghost use Rattle.ml_queue.specs.Answers.{ids_name};
+ghost use Rattle.ml_acts.specs.Damaged.{IsDamaged};
+ghost use Rattle.ml_acts.specs.Doing.{DoesList, HasIds};
+
+use crate::naming::plain;
+use ml_acts::{mail_to, reply_path, send};
+use ml_base::{Address, AddressList, Bytes, Files, PartError, Row, Txn};
+use ml_config::Config;
+use ml_plain::Reply;
+use ml_reply::Mail;
+use std::alloc::{AllocError, Global};
+
+// The help text goes to a sender.
+pub(crate) fn helped<F: Files>(
+    alloc: Global,
+    files: &mut F,
+    config: &Config,
+    now: u64,
+    sender: &Address,
+) -> Result<(Txn, Reply), PartError>
+    requires moment { IsMoment now }
+    requires room { IsTrue F.tells → HasIds (F.map files.now) }
+    ensures value { IsTrue F.tells → IfOk result (λ done. (p : Plain) → IsList (F.map files.old) p → p.config ≡ config.now → DoesList (F.map files.old) done (spec.helped now sender.now p)) }
+    ensures own { IfOk result (λ done. touches_only is_of_list done.0 ≡ true) }
+    ensures files { IfOk result (λ done. IsTrue (are_files done.0)) }
+    ensures reply { IfOk result (λ done. is_kept done.1 ≡ true) }
+    ensures names { NamesDamaged ⟦<F as Files>⟧ (λ name. same_name name ids_name ≡ true) (IsDamaged (F.map files.old)) result }
+    ensures reads { IsReading ⟦<F as Files>⟧ files.old files.new result }
+{
+    let mail = Mail::Help {
+        to: Bytes::from_slice(alloc, sender.bytes())?,
+    };
+    let txn = mail_to(alloc, files, config, sender, now, &mail)?;
+    Ok((txn, plain(Reply::HELP)))
+}
+
+// A message goes on to the owner, unchanged.
+pub(crate) fn to_owner<F: Files>(
+    alloc: Global,
+    files: &mut F,
+    config: &Config,
+    message: &[u8],
+) -> Result<(Txn, Reply), PartError>
+    requires { IsTrue F.tells → HasIds (F.map files.now) }
+    ensures value { IsTrue F.tells → IfOk result (λ done. (p : Plain) → IsList (F.map files.old) p → p.config ≡ config.now → DoesList (F.map files.old) done (spec.to_owner message.now p)) }
+    ensures own { IfOk result (λ done. touches_only is_of_list done.0 ≡ true) }
+    ensures files { IfOk result (λ done. IsTrue (are_files done.0)) }
+    ensures reply { IfOk result (λ done. is_kept done.1 ≡ true) }
+    ensures names { NamesDamaged ⟦<F as Files>⟧ (λ name. same_name name ids_name ≡ true) (IsDamaged (F.map files.old)) result }
+    ensures reads { IsReading ⟦<F as Files>⟧ files.old files.new result }
+{
+    let way = reply_path(alloc, config)?;
+    let body = Bytes::from_slice(alloc, message)?;
+    let to = one(alloc, &config.owner)?;
+    let txn = send(alloc, files, way, body, to)?;
+    Ok((txn, plain(Reply::OWNER)))
+}
+
+// The list of one address.
+fn one(alloc: Global, who: &Address) -> Result<AddressList, AllocError>
+    ensures value { IfOk result (λ to. to ≡ who.now ∷ []) }
+    ensures sorted { IfOk result (λ to. is_sorted byte_cmp key to ≡ true) }
+{
+    let mut to = Row::new(alloc);
+    to.push(who.copy(alloc)?)?;
+    Ok(to)
+}

@@ -1,0 +1,271 @@
+// A request: the first rule that applies decides.
+ghost use Rattle.std.specs.Prelude.{◌≡◌, ◌≤◌, true, length, codes, IsTrue, IfOk, IfErr};
+ghost use Rattle.ml_address.specs.Requests.{Bounce, WarnBounce, ProbeBounce, is_in_range};
+ghost use Rattle.ml_address.specs.Views.{request_view, who_view};
+ghost use Rattle.ml_base.specs.Address.{address_of};
+ghost use Rattle.ml_base.specs.Dir.{are_files, touches_only};
+ghost use Rattle.ml_base.specs.PartErrors.{OnDamaged};
+ghost use Rattle.ml_base.specs.Ranges.{IsMoment};
+ghost use Rattle.ml_base.specs.ReadFiles.{IsReading, NamesDamaged};
+ghost use Rattle.ml_config.specs.ConfigFile.{IsConfigFile, config_name};
+ghost use Rattle.ml_config.specs.Configuration.{IsConfig};
+ghost use Rattle.ml_header.specs.Fields.{has_field};
+ghost use Rattle.ml_plain.specs.Bouncing.{address_named};
+ghost use Rattle.ml_plain.specs.Bouncing as bouncing;
+ghost use Rattle.ml_plain.specs.Directory.{IsList, is_of_list};
+ghost use Rattle.ml_plain.specs.KeptFiles.{is_kept};
+ghost use Rattle.ml_plain.specs.Managing as spec;
+ghost use Rattle.ml_plain.specs.Plain.{Plain};
+ghost use Rattle.ml_acts.specs.Damaged.{IsDamaged};
+ghost use Rattle.ml_acts.specs.Doing.{DoesList, HasRoom};
+ghost use Rattle.ml_manage.specs.Leaving.{signed};
+ghost use Rattle.ml_manage.specs.Reads.{is_asked_of, is_managed, is_of_bounce, is_of_probe, is_of_warning, is_read_for, may_read};
+
+use crate::archive::{get, index_of, thread_of};
+use crate::bounces::{bounced, probe_bounced, warning_bounced};
+use crate::helping::{helped, to_owner};
+use crate::members::members;
+use crate::naming::{named, plain};
+use ml_address::{Request, Who};
+use ml_base::{Address, AddressError, Files, PartError, Set, Txn};
+use ml_config::Config;
+use ml_header::Message;
+use ml_joining::{confirm, subscribe, unsubscribe};
+use ml_plain::Reply;
+use std::alloc::{AllocError, Global};
+
+/// What a request does that mail to one of the list's addresses asks, of an envelope sender with a message: the puts, and the
+/// reply. The request is neither a post nor a moderator's answer, and its parts are in their ranges; the message has at most
+/// 33,554,432 bytes, and `now` is in seconds since 1970.
+///
+/// Bounces are noted and mail to the owner goes on whoever sent it. Of the others a sender who is no address is answered
+/// `nosender`, and a message from a list `looped`. `Damaged` names a file that the request may read and that is outside its grammar,
+/// or names what isn't there. `Fault` comes only where a read failed.
+pub fn manage<F: Files>(
+    alloc: Global,
+    files: &mut F,
+    config: &Config,
+    now: u64,
+    sender: &[u8],
+    request: &Request<'_>,
+    message: &[u8],
+) -> Result<(Txn, Reply), PartError>
+    requires moment { IsMoment now }
+    requires config { IsConfig config.now }
+    requires loaded { IsTrue F.tells → IsConfigFile (F.map files.now config_name) config.now }
+    requires room { IsTrue F.tells → HasRoom (F.map files.now) }
+    requires request { is_managed (request_view request.now) ≡ true }
+    requires length { length message.now ≤ 33_554_432 }
+    ensures value { IsTrue F.tells → IfOk result (λ done. (p : Plain) → IsList (F.map files.old) p → p.config ≡ config.now → DoesList (F.map files.old) done (spec.by_request now sender.now message.now p (request_view request.now))) }
+    ensures own { IfOk result (λ done. touches_only is_of_list done.0 ≡ true) }
+    ensures files { IfOk result (λ done. IsTrue (are_files done.0)) }
+    ensures reply { IfOk result (λ done. is_kept done.1 ≡ true) }
+    ensures names { NamesDamaged ⟦<F as Files>⟧ (λ name. may_read config.now sender.now (request_view request.now) name ≡ true) (IsDamaged (F.map files.old)) result }
+    ensures sound { IsTrue F.tells → (p : Plain) → IsList (F.map files.old) p → IfErr result (λ e. OnDamaged e (λ _. ⊥)) }
+    ensures reads { IsReading ⟦<F as Files>⟧ files.old files.new result }
+{
+    by_request(alloc, files, config, now, sender, request, message)
+}
+
+// A request, whoever sent it.
+fn by_request<F: Files>(
+    alloc: Global,
+    files: &mut F,
+    config: &Config,
+    now: u64,
+    sender: &[u8],
+    request: &Request<'_>,
+    message: &[u8],
+) -> Result<(Txn, Reply), PartError>
+    requires moment { IsMoment now }
+    requires config { IsConfig config.now }
+    requires loaded { IsTrue F.tells → IsConfigFile (F.map files.now config_name) config.now }
+    requires room { IsTrue F.tells → HasRoom (F.map files.now) }
+    requires request { is_managed (request_view request.now) ≡ true }
+    ensures value { IsTrue F.tells → IfOk result (λ done. (p : Plain) → IsList (F.map files.old) p → p.config ≡ config.now → DoesList (F.map files.old) done (spec.by_request now sender.now message.now p (request_view request.now))) }
+    ensures own { IfOk result (λ done. touches_only is_of_list done.0 ≡ true) }
+    ensures files { IfOk result (λ done. IsTrue (are_files done.0)) }
+    ensures reply { IfOk result (λ done. is_kept done.1 ≡ true) }
+    ensures names { NamesDamaged ⟦<F as Files>⟧ (λ name. may_read config.now sender.now (request_view request.now) name ≡ true) (IsDamaged (F.map files.old)) result }
+    ensures reads { IsReading ⟦<F as Files>⟧ files.old files.new result }
+{
+    match request {
+        Request::Bounce { set, number, who } => { of_bounce(alloc, files, now, *set, *number, who) }
+        Request::WarnBounce {
+            set,
+            time,
+            cookie,
+            who,
+        } => of_warning(alloc, files, now, *set, *time, cookie, who),
+        Request::ProbeBounce {
+            set,
+            time,
+            cookie,
+            who,
+        } => of_probe(alloc, files, now, *set, *time, cookie, who),
+        Request::ReplyBounce { .. } => Ok((Txn::new(alloc), plain(Reply::IGNORED))),
+        Request::Owner => to_owner(alloc, files, config, message),
+        _ => by_sender(alloc, files, config, now, sender, request, message),
+    }
+}
+
+// A bounce of mail to an address that it names.
+fn of_bounce<F: Files>(
+    alloc: Global,
+    files: &mut F,
+    now: u64,
+    set: Set,
+    number: u64,
+    who: &Who<'_>,
+) -> Result<(Txn, Reply), PartError>
+    requires moment { IsMoment now }
+    requires range { IsTrue (is_in_range (Bounce set number (who_view who.now))) }
+    ensures value { IsTrue F.tells → IfOk result (λ done. (p : Plain) → IsList (F.map files.old) p → DoesList (F.map files.old) done (bouncing.bounced now set number (address_named (who_view who.now)) p)) }
+    ensures own { IfOk result (λ done. touches_only is_of_list done.0 ≡ true) }
+    ensures files { IfOk result (λ done. IsTrue (are_files done.0)) }
+    ensures reply { IfOk result (λ done. is_kept done.1 ≡ true) }
+    ensures names { NamesDamaged ⟦<F as Files>⟧ (λ name. is_of_bounce set (address_named (who_view who.now)) name ≡ true) (IsDamaged (F.map files.old)) result }
+    ensures reads { IsReading ⟦<F as Files>⟧ files.old files.new result }
+{
+    let x = named(alloc, who)?;
+    bounced(alloc, files, now, set, number, &x)
+}
+
+// A bounce of a warning.
+fn of_warning<F: Files>(
+    alloc: Global,
+    files: &mut F,
+    now: u64,
+    set: Set,
+    time: u64,
+    letters: &[u8; 20],
+    who: &Who<'_>,
+) -> Result<(Txn, Reply), PartError>
+    requires moment { IsMoment now }
+    requires range { IsTrue (is_in_range (WarnBounce set (signed time letters.now (who_view who.now)))) }
+    ensures value { IsTrue F.tells → IfOk result (λ done. (p : Plain) → IsList (F.map files.old) p → DoesList (F.map files.old) done (bouncing.warning_bounced now set (signed time letters.now (who_view who.now)) (address_named (who_view who.now)) p)) }
+    ensures own { IfOk result (λ done. touches_only is_of_list done.0 ≡ true) }
+    ensures files { IfOk result (λ done. IsTrue (are_files done.0)) }
+    ensures reply { IfOk result (λ done. is_kept done.1 ≡ true) }
+    ensures names { NamesDamaged ⟦<F as Files>⟧ (λ name. is_of_warning set (address_named (who_view who.now)) name ≡ true) (IsDamaged (F.map files.old)) result }
+    ensures reads { IsReading ⟦<F as Files>⟧ files.old files.new result }
+{
+    let x = named(alloc, who)?;
+    warning_bounced(alloc, files, now, set, time, letters, &x)
+}
+
+// A bounce of a probe.
+fn of_probe<F: Files>(
+    alloc: Global,
+    files: &mut F,
+    now: u64,
+    set: Set,
+    time: u64,
+    letters: &[u8; 20],
+    who: &Who<'_>,
+) -> Result<(Txn, Reply), PartError>
+    requires { IsTrue (is_in_range (ProbeBounce set (signed time letters.now (who_view who.now)))) }
+    ensures value { IsTrue F.tells → IfOk result (λ done. (p : Plain) → IsList (F.map files.old) p → DoesList (F.map files.old) done (bouncing.probe_bounced now set (signed time letters.now (who_view who.now)) (address_named (who_view who.now)) p)) }
+    ensures own { IfOk result (λ done. touches_only is_of_list done.0 ≡ true) }
+    ensures files { IfOk result (λ done. IsTrue (are_files done.0)) }
+    ensures reply { IfOk result (λ done. is_kept done.1 ≡ true) }
+    ensures names { NamesDamaged ⟦<F as Files>⟧ (λ name. is_of_probe set (address_named (who_view who.now)) name ≡ true) (IsDamaged (F.map files.old)) result }
+    ensures reads { IsReading ⟦<F as Files>⟧ files.old files.new result }
+{
+    let x = named(alloc, who)?;
+    probe_bounced(alloc, files, now, set, time, letters, &x)
+}
+
+// A request of a sender who may be no address, with a message that may be from a list.
+fn by_sender<F: Files>(
+    alloc: Global,
+    files: &mut F,
+    config: &Config,
+    now: u64,
+    sender: &[u8],
+    request: &Request<'_>,
+    message: &[u8],
+) -> Result<(Txn, Reply), PartError>
+    requires moment { IsMoment now }
+    requires config { IsConfig config.now }
+    requires loaded { IsTrue F.tells → IsConfigFile (F.map files.now config_name) config.now }
+    requires room { IsTrue F.tells → HasRoom (F.map files.now) }
+    requires request { is_managed (request_view request.now) ≡ true }
+    ensures value { IsTrue F.tells → IfOk result (λ done. (p : Plain) → IsList (F.map files.old) p → p.config ≡ config.now → DoesList (F.map files.old) done (spec.by_sender now message.now p (request_view request.now) (address_of sender.now))) }
+    ensures own { IfOk result (λ done. touches_only is_of_list done.0 ≡ true) }
+    ensures files { IfOk result (λ done. IsTrue (are_files done.0)) }
+    ensures reply { IfOk result (λ done. is_kept done.1 ≡ true) }
+    ensures names { NamesDamaged ⟦<F as Files>⟧ (λ name. is_read_for config.now (address_of sender.now) (request_view request.now) name ≡ true) (IsDamaged (F.map files.old)) result }
+    ensures reads { IsReading ⟦<F as Files>⟧ files.old files.new result }
+{
+    let Some(who) = usable(alloc, sender)? else {
+        return Ok((Txn::new(alloc), plain(Reply::NOSENDER)));
+    };
+    if is_from_list(message) {
+        return Ok((Txn::new(alloc), plain(Reply::LOOPED)));
+    }
+    managed(alloc, files, config, now, &who, request)
+}
+
+// The address of an envelope sender, or None where it is none.
+fn usable(alloc: Global, sender: &[u8]) -> Result<Option<Address>, AllocError>
+    ensures { IfOk result (λ found. found ≡ address_of sender.now) }
+{
+    match Address::parse(alloc, sender) {
+        Ok(address) => Ok(Some(address)),
+        Err(AddressError::Fault(_)) => Ok(None),
+        Err(AddressError::Memory) => Err(AllocError),
+    }
+}
+
+// Whether a message came from a list.
+fn is_from_list(message: &[u8]) -> bool
+    ensures { result ≡ has_field (codes "mailing-list") message.now }
+{
+    Message::scan(message).field(b"mailing-list").is_some()
+}
+
+// A request of a sender whose address is checked.
+fn managed<F: Files>(
+    alloc: Global,
+    files: &mut F,
+    config: &Config,
+    now: u64,
+    sender: &Address,
+    request: &Request<'_>,
+) -> Result<(Txn, Reply), PartError>
+    requires moment { IsMoment now }
+    requires config { IsConfig config.now }
+    requires loaded { IsTrue F.tells → IsConfigFile (F.map files.now config_name) config.now }
+    requires room { IsTrue F.tells → HasRoom (F.map files.now) }
+    requires request { is_managed (request_view request.now) ≡ true }
+    ensures value { IsTrue F.tells → IfOk result (λ done. (p : Plain) → IsList (F.map files.old) p → p.config ≡ config.now → DoesList (F.map files.old) done (spec.managed now sender.now p (request_view request.now))) }
+    ensures own { IfOk result (λ done. touches_only is_of_list done.0 ≡ true) }
+    ensures files { IfOk result (λ done. IsTrue (are_files done.0)) }
+    ensures reply { IfOk result (λ done. is_kept done.1 ≡ true) }
+    ensures names { NamesDamaged ⟦<F as Files>⟧ (λ name. is_asked_of config.now sender.now (request_view request.now) name ≡ true) (IsDamaged (F.map files.old)) result }
+    ensures reads { IsReading ⟦<F as Files>⟧ files.old files.new result }
+{
+    match request {
+        Request::Subscribe { set, who } => {
+            subscribe(alloc, files, config, now, sender, *set, *who)
+        }
+        Request::Unsubscribe { set, who } => {
+            unsubscribe(alloc, files, config, now, sender, *set, *who)
+        }
+        Request::Confirm {
+            word,
+            set,
+            time,
+            cookie,
+            who,
+        } => confirm(
+            alloc, files, config, now, sender, *word, *set, *time, cookie, *who,
+        ),
+        Request::Members { set } => members(alloc, files, config, now, sender, *set),
+        Request::Get { from, to } => get(alloc, files, config, now, sender, *from, *to),
+        Request::Index { at } => index_of(alloc, files, config, now, sender, *at),
+        Request::Thread { at } => thread_of(alloc, files, config, now, sender, *at),
+        _ => helped(alloc, files, config, now, sender),
+    }
+}

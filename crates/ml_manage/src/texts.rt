@@ -1,0 +1,119 @@
+// The texts that are answered from the archive, each piece added at the end of a buffer.
+ghost use Rattle.std.specs.Prelude.{◌≡◌, ◌++◌, min, codes, OnOk, IfOk};
+ghost use Rattle.std.specs.Fmt.{decimal};
+ghost use Rattle.std.specs.List.{flat_map};
+ghost use Rattle.ml_base.specs.Texts.{lf, post_address, with_line_end};
+ghost use Rattle.ml_plain.specs.ArchiveText.{whole_post};
+ghost use Rattle.ml_reply.specs.Dates.{date_text as date_of};
+ghost use Rattle.ml_manage.specs.Texts as words;
+
+use ml_archive::{Entry, Post};
+use ml_base::{Bytes, LAST_MOMENT, write_number};
+use ml_config::Config;
+use ml_reply::date_text;
+use std::alloc::{AllocError, Global};
+
+// The line of an answer where there are no such posts.
+pub(crate) fn no_posts(alloc: Global) -> Result<Bytes, AllocError>
+    ensures { IfOk result (λ text. text ≡ words.no_posts) }
+{
+    Bytes::from_slice(alloc, b"No such posts.\n")
+}
+
+// The digits of a number.
+fn add_number(out: &mut Bytes, number: u64) -> Result<(), AllocError>
+    ensures { OnOk result (out.new ≡ out.old ++ decimal number) }
+{
+    let mut digits = [0u8; 20];
+    let len = write_number(number, &mut digits);
+    out.extend(&digits[..len])
+}
+
+// LOCAL@HOST.
+fn add_list(out: &mut Bytes, config: &Config) -> Result<(), AllocError>
+    ensures { OnOk result (out.new ≡ out.old ++ post_address config.now.local config.now.host) }
+{
+    out.extend(config.local.as_slice())?;
+    out.push(b'@')?;
+    out.extend(config.host.as_slice())
+}
+
+// A text, and an LF where it doesn't end in one.
+fn add_ended(out: &mut Bytes, text: &[u8]) -> Result<(), AllocError>
+    ensures { OnOk result (out.new ≡ out.old ++ with_line_end text.now) }
+{
+    out.extend(text)?;
+    if text.ends_with(b"\n") {
+        return Ok(());
+    }
+    out.push(b'\n')
+}
+
+// The line before a post.
+fn add_first_line(out: &mut Bytes, config: &Config, number: u64) -> Result<(), AllocError>
+    ensures { OnOk result (out.new ≡ out.old ++ (codes "--- post " ++ decimal number ++ codes " of " ++ post_address config.now.local config.now.host ++ codes " ---" ++ lf)) }
+{
+    out.extend(b"--- post ")?;
+    add_number(out, number)?;
+    out.extend(b" of ")?;
+    add_list(out, config)?;
+    out.extend(b" ---")?;
+    out.push(b'\n')
+}
+
+// A post behind a line with its number, and an empty line.
+pub(crate) fn add_post(
+    out: &mut Bytes,
+    config: &Config,
+    number: u64,
+    post: &Post,
+) -> Result<(), AllocError>
+    ensures { OnOk result (out.new ≡ out.old ++ whole_post config.now (number, post.now)) }
+{
+    add_first_line(out, config, number)?;
+    add_ended(out, post.bytes.as_slice())?;
+    out.push(b'\n')
+}
+
+// The line of an entry with its number, its date and its sender.
+fn add_head(out: &mut Bytes, entry: &Entry) -> Result<(), AllocError>
+    ensures { OnOk result (out.new ≡ out.old ++ (decimal entry.now.number ++ codes ": " ++ date_of (min entry.now.moment 253_402_300_799) ++ codes "; " ++ entry.now.sender ++ lf)) }
+{
+    add_number(out, entry.number)?;
+    out.extend(b": ")?;
+    out.extend(&date_text(entry.moment.min(LAST_MOMENT)))?;
+    out.extend(b"; ")?;
+    out.extend(entry.sender.bytes())?;
+    out.push(b'\n')
+}
+
+// The two lines of an entry.
+fn add_entry(out: &mut Bytes, entry: &Entry) -> Result<(), AllocError>
+    ensures { OnOk result (out.new ≡ out.old ++ words.entry_text entry.now) }
+{
+    add_head(out, entry)?;
+    out.push(b'\t')?;
+    out.extend(entry.subject.as_slice())?;
+    out.push(b'\n')
+}
+
+// The lines of the entries of an index, or one where there are none.
+pub(crate) fn entries_text(alloc: Global, entries: &[Entry]) -> Result<Bytes, AllocError>
+    ensures { IfOk result (λ text. text ≡ words.entries_text entries.now) }
+{
+    if entries.is_empty() {
+        return no_posts(alloc);
+    }
+    all_entries(alloc, entries)
+}
+
+// The lines of the entries of an index.
+fn all_entries(alloc: Global, entries: &[Entry]) -> Result<Bytes, AllocError>
+    ensures { IfOk result (λ text. text ≡ flat_map words.entry_text entries.now) }
+{
+    let mut out = Bytes::new(alloc);
+    for entry in entries {
+        add_entry(&mut out, entry)?;
+    }
+    Ok(out)
+}
