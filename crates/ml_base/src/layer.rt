@@ -1,5 +1,5 @@
 // Puts laid over files.
-ghost use Rattle.std.specs.Prelude.{◌≡◌, ◌≤◌, true, IsTrue, IfOk, IsErrOf};
+ghost use Rattle.std.specs.Prelude.{◌≡◌, ◌≤◌, ◌++◌, true, IsTrue, IfOk, IsErrOf, OnOk, OnErr};
 ghost use Rattle.std.specs.Option.{option_copied};
 ghost use Rattle.ml_base.specs.Dir.{with_puts, newest_put, touches};
 ghost use Rattle.ml_base.specs.Faults.{Rose};
@@ -9,7 +9,7 @@ ghost use Rattle.ml_base.specs.declared.files.FilesError.TheVariants.{Fault};
 ghost use Rattle.std.proofs.Common.{refl, ap, ◌∙◌};
 
 use crate::{Bytes, Files, FilesError, Name, Put, Txn, copied};
-use std::alloc::Global;
+use std::alloc::{AllocError, Global};
 
 /// Files with the puts of a Txn laid over them, which shows what the Txn makes of them before it is committed.
 #[derive(Drop)]
@@ -33,6 +33,15 @@ impl<F: Files> Layer<F> {
         ensures txn { result.1 ≡ puts_over self }
     {
         (self.files, self.txn)
+    }
+
+    /// Lays puts over those that are there. An error changes nothing.
+    pub fn lay(&mut self, more: Txn) -> Result<(), AllocError>
+        ensures files { files_below self.new ≡ files_below self.old }
+        ensures ok { OnOk result (puts_over self.new ≡ puts_over self.old ++ more) }
+        ensures err { OnErr result (puts_over self.new ≡ puts_over self.old) }
+    {
+        self.txn.join(more)
     }
 }
 
