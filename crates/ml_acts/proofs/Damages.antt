@@ -1,5 +1,5 @@
 -- Which files are damaged, from what the calls of the parts say.
-use Rattle.std.proofs.Common.{◌≡◌, Bool, true, false, length, IsTrue, IfErr, IfOk, Result, Ok, Err, sym, subst, refl, arith}
+use Rattle.std.proofs.Common.{◌≡◌, ◌<◌, ⊎_elim, ap, Bool, true, false, length, IsTrue, IfErr, IfOk, Result, Ok, Err, sym, subst, refl, arith}
 use Rattle.std.proofs.lemmas.Bool.{and_from, eq-eqb, lt-ltb}
 use Rattle.std.proofs.lemmas.Nat.{mod_below}
 use Rattle.ml_base.specs.Address.{key}
@@ -16,13 +16,17 @@ use Rattle.ml_base.specs.declared.names.Set.TheVariants as sets
 use Rattle.ml_base.specs.declared.part.PartError.{PartError}
 use Rattle.ml_base.specs.declared.part.PartError.TheVariants.{Fault, Memory, Damaged}
 use Rattle.ml_base.proofs.DamagedNames.{err_damaged, err_both_damaged}
+use Rattle.ml_archive.specs.Archive.{number_name}
 use Rattle.ml_archive.specs.Threads.{IsArchive}
+use Rattle.ml_archive.proofs.Exact.{count_one}
 use Rattle.ml_bounce.specs.Answers.{has_ledger, IsBadFile, IsNoFile, key_file}
 use Rattle.ml_bounce.specs.Files.{ledger_place}
 use Rattle.ml_config.specs.ConfigFile.{config_name}
 use Rattle.ml_config.proofs.OneSpelling.{one_in_file}
 use Rattle.ml_config.specs.KeyFile.{key_name}
 use Rattle.ml_config.specs.declared.configuration.Config.{Config}
+use Rattle.ml_digest.specs.declared.posts.Mark.{Mark}
+use Rattle.ml_digest.proofs.Marks.{mark_one}
 use Rattle.ml_hold.proofs.Alone as held
 use Rattle.ml_queue.proofs.Alone as queues
 use Rattle.ml_queue.specs.Answers.{Breaks, ids_name}
@@ -52,6 +56,11 @@ none_damaged dir p name is (damage.ledger set has bad) = there set has bad
 none_damaged dir p name is (damage.queued bad) = queues.broken dir name p.queue bad is.queue
 none_damaged dir p name is (damage.waiting bad) = held.broken dir name p.held bad is.held
 none_damaged dir p name is (damage.mark e none) = none p.mark is.mark
+none_damaged dir p name is (damage.ahead mark count e file counted over) =
+    let one_mark : mark ≡ p.mark = mark_one dir mark p.mark file is.mark in
+    let one_count : count ≡ length p.posts = count_one (dir number_name) count (length p.posts) counted (is.archive).filed.counted in
+    ⊎_elim (λ (beyond : count < mark.last). let last = ap (λ (m : Mark). m.last) one_mark in let digested = is.digested in omega (arith, beyond, last, one_count, digested))
+    (λ (more : mark.last < mark.issue). let last = ap (λ (m : Mark). m.last) one_mark in let issue = ap (λ (m : Mark). m.issue) one_mark in let issued = is.issued in omega (arith, more, last, issue, issued)) over
 none_damaged dir p name is (damage.number e none) = none (length p.posts) (is.archive).filed.counted
 none_damaged dir p name is (damage.index group e none empty) = empty p.posts (is.archive).filed
 none_damaged dir p name is (damage.post n bad empty) = empty p.posts (is.archive).filed

@@ -3,3 +3,4 @@ pub mod Queued
 pub mod Ordered
 pub mod Letters
 pub mod Left
+pub mod Grown

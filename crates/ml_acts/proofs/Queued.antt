@@ -1,5 +1,5 @@
 -- What puts make of a list, wherever the files that they were made by are the same.
-use Rattle.std.proofs.Common.{◌≡◌, ◌⊎◌, inl, inr, ℕ, Bool, true, false, List, [], ◌∷◌, ◌++◌, eqb, leb, ◌&&◌, ◌||◌, not, refl, sym, ap, ◌∙◌, subst}
+use Rattle.std.proofs.Common.{arith, ◌≡◌, ◌⊎◌, inl, inr, ℕ, Bool, true, false, List, [], ◌∷◌, ◌++◌, ◌≤◌, ◌+◌, Option, Some, eqb, leb, ◌&&◌, ◌||◌, not, refl, sym, ap, ◌∙◌, subst}
 use Rattle.std.proofs.lemmas.Bool.{and_parts, and_from, or_cases, or_left, or_right, eqb-true}
 use Rattle.ml_address.specs.declared.Path.{Path}
 use Rattle.ml_base.specs.Bytes.{Text}
@@ -9,7 +9,10 @@ use Rattle.ml_base.specs.declared.names.Name.{Name}
 use Rattle.ml_base.specs.declared.names.Set.{Set}
 use Rattle.ml_base.specs.declared.puts.Put.{Put}
 use Rattle.ml_base.proofs.Laid.{newest_decides, laid_joined, left_alone}
+use Rattle.ml_base.specs.Drawn.{IsCounter, counter_text}
+use Rattle.ml_drawn.specs.Answers.{IsDrawing}
 use Rattle.ml_drawn.specs.Names.{is_of_series}
+use Rattle.ml_drawn.proofs.Reading.{counter_one}
 use Rattle.ml_drawn.specs.declared.series.Series.TheVariants.{Ids}
 use Rattle.ml_queue.specs.Answers.{ids_name}
 use Rattle.ml_queue.specs.Queue.{Queue, IsQueue, put}
@@ -23,7 +26,7 @@ use Rattle.ml_plain.specs.Directory.{IsList, is_of_list}
 use Rattle.ml_plain.specs.Mailing.{send, reply_path}
 use Rattle.ml_plain.specs.Plain.{Plain}
 use Rattle.ml_plain.proofs.PartChanges.{queue_changed}
-use Rattle.ml_acts.specs.Doing.{Alike, DoesList, is_beside_mail, is_beside_queue, is_of_queue, is_with_queue}
+use Rattle.ml_acts.specs.Doing.{Alike, DoesList, DrawsId, HasIdsUpTo, is_beside_mail, is_beside_queue, is_of_queue, is_with_queue}
 
 -- puts of files that pass a test pass a weaker one
 pub touches_weaker : (f g : Name → Bool) (puts : List Put) → ((name : Name) → f name ≡ true → g name ≡ true) → touches_only f puts ≡ true → touches_only g puts ≡ true
@@ -53,6 +56,20 @@ of_queue name e = go (or_cases (eqb name.kind 17) (same_name name ids_name) e)
 pub queue_own : (txn : List Put) → touches_only (is_of_series Ids) txn ≡ true → touches_only is_of_queue txn ≡ true
 queue_own txn e = touches_weaker (is_of_series Ids) is_of_queue txn of_queue e
 
+-- the counter after one more entry, in whatever directory has the queue's files
+pub drawn_up : (old : Dir) (text : Text) (n : ℕ) (txn : List Put) → ((low next : ℕ) → IsCounter (old ids_name) low next → next ≤ 1_000_000_000_000_000) → IsDrawing old Ids text n txn → DrawsId old txn
+drawn_up old text n txn few d dir most alike up low next is =
+    let file : with_puts dir txn ids_name ≡ Some (counter_text d.low (n + 1)) = ap (λ (puts : List Put). with_puts dir puts ids_name) d.are in
+    let made : IsCounter (Some (counter_text d.low (n + 1))) d.low (n + 1) = record {
+      from_one = d.counted.from_one;
+      up_to_next = let u = d.counted.up_to_next in omega (arith, u);
+      fits = let f = few d.low n d.counted in omega (arith, f);
+      spelled = refl;
+    } in
+    let one = counter_one (Some (counter_text d.low (n + 1))) low next d.low (n + 1) (subst (λ (f : Option Text). IsCounter f low next) file is) made in
+    let most_before : n ≤ most = up d.low n (subst (λ (f : Option Text). IsCounter f d.low n) (sym (alike ids_name refl)) d.counted) in
+    let same = one.1 in omega (arith, same, most_before)
+
 -- one more entry, in whatever directory has the queue's files
 pub sent : (old dir : Dir) (out : Out) (txn : List Put) (p : Plain) → touches_only (is_of_series Ids) txn ≡ true
     → ((queue : Queue) → IsQueue old queue → IsQueue (with_puts old txn) (put out queue)) → Alike is_of_queue old dir → IsList dir p → IsList (with_puts dir txn) (record p { queue = put out p.queue })
@@ -74,7 +91,7 @@ beside dir txn only name e = left_alone is_beside_queue dir txn name only (no_qu
 pub beside_both : (set : Set) (dir : Dir) (txn : List Put) → touches_only (is_beside_mail set) txn ≡ true → Alike (is_with_queue set) dir (with_puts dir txn)
 beside_both set dir txn only name e = left_alone (is_beside_mail set) dir txn name only (no_queue (is_of_list name) (is_with_queue set name) e)
 
-queue_list : (name : Name) → is_of_queue name ≡ true → is_of_list name ≡ true
+pub queue_list : (name : Name) → is_of_queue name ≡ true → is_of_list name ≡ true
 queue_list name e = go (or_cases (eqb name.kind 17) (eqb name.kind 18) e)
   where
     go : ((eqb name.kind 17 ≡ true) ⊎ (eqb name.kind 18 ≡ true)) → is_of_list name ≡ true

@@ -1,11 +1,11 @@
 -- Which files that acts read are outside their grammar, or name what isn't there.
-use Rattle.std.specs.Prelude.{◌≡◌, ℕ, Bool, IsTrue, List}
+use Rattle.std.specs.Prelude.{◌≡◌, ◌<◌, ◌⊎◌, ℕ, Bool, IsTrue, List}
 use Rattle.ml_base.specs.Bytes.{Text}
 use Rattle.ml_base.specs.Dir.{Dir}
 use Rattle.ml_base.specs.declared.names.Name.{Name}
 use Rattle.ml_base.specs.declared.names.Set.{Set}
 use Rattle.ml_archive.specs.Answers.{IsNoNumber, IsNoIndex, IsBadForPost, IsBadForRange, IsBadForThread, IsBadForAppend}
-use Rattle.ml_archive.specs.Archive.{ArePosts, number_name, index_name}
+use Rattle.ml_archive.specs.Archive.{ArePosts, IsNumberFile, number_name, index_name}
 use Rattle.ml_archive.specs.Threads.{IsArchive}
 use Rattle.ml_archive.specs.declared.posts.Post.{Post}
 use Rattle.ml_bounce.specs.Answers.{has_ledger, IsBadFile}
@@ -13,7 +13,8 @@ use Rattle.ml_config.specs.ConfigFile.{IsConfigFile, config_name}
 use Rattle.ml_config.specs.KeyFile.{IsKeyFile, key_name}
 use Rattle.ml_config.specs.declared.configuration.Config.{Config}
 use Rattle.ml_config.specs.declared.key_file.Keys.{Keys}
-use Rattle.ml_digest.specs.Due.{IsNoMark, mark_name}
+use Rattle.ml_digest.specs.Due.{IsMark, IsNoMark, mark_name}
+use Rattle.ml_digest.specs.declared.posts.Mark.{Mark}
 use Rattle.ml_hold.specs.Answers as held
 use Rattle.ml_queue.specs.Answers as queue
 use Rattle.ml_subs.specs.Subscribers.{IsBadBucket, IsNoCount, IsUnread, count_name}
@@ -42,6 +43,8 @@ pub data IsDamaged (dir : Dir) (name : Name) : Type 0 where
   queued : queue.Breaks dir name → IsDamaged dir name
   waiting : held.Breaks dir name → IsDamaged dir name
   mark : name ≡ mark_name → IsNoMark dir → IsDamaged dir name
+  -- a mark behind the last post, or of more digests than posts in them
+  ahead : (mark : Mark) (count : ℕ) → name ≡ mark_name → IsMark dir mark → IsNumberFile (dir number_name) count → (count < mark.last) ⊎ (mark.last < mark.issue) → IsDamaged dir name
   -- the files of the archive, by what was asked of it
   number : name ≡ number_name → IsNoNumber dir → IsDamaged dir name
   index : (group : ℕ) → name ≡ index_name group → IsNoIndex dir group → AreNoPosts dir → IsDamaged dir name

@@ -1,5 +1,5 @@
 -- What an act answers: puts and a reply, by which the files stand for the list after it.
-use Rattle.std.specs.Prelude.{◌≡◌, ◌≤◌, ◌||◌, ◌&&◌, ◌==◌, not, nat_lt, ℕ, Bool, true, false, List, Option, Some, None}
+use Rattle.std.specs.Prelude.{◌≡◌, ◌≤◌, ◌+◌, ◌||◌, ◌&&◌, ◌==◌, not, nat_lt, ℕ, Bool, true, false, List, Option, Some, None}
 use Rattle.ml_base.specs.Dir.{Dir, same_name, with_puts}
 use Rattle.ml_base.specs.Drawn.{IsCounter}
 use Rattle.ml_base.specs.Name.{set_kind}
@@ -27,10 +27,6 @@ pub record DoesList (dir : Dir) (done : List Put × Reply) (step : Plain × Repl
 abbrev pub Alike : (Name → Bool) → Dir → Dir → Type 0
 Alike is old dir = (name : Name) → is name ≡ true → dir name ≡ old name
 
--- an entry can be put into the queue, whose next id is told by its counter
-abbrev pub HasIds : Dir → Type 0
-HasIds dir = (low next : ℕ) → IsCounter (dir ids_name) low next → next ≤ 1_000_000_000_000_000
-
 -- where the counters of ids and of tickets are in their grammar, an item can still draw what it may
 pub record HasRoom (dir : Dir) : Type 0 where
   pub ids : (low next : ℕ) → IsCounter (dir ids_name) low next → next ≤ 999_999_999_997_000
@@ -39,6 +35,18 @@ pub record HasRoom (dir : Dir) : Type 0 where
 -- the files of the queue
 abbrev pub is_of_queue : Name → Bool
 is_of_queue name = queue_kinds name.kind
+
+-- the next id that the queue's counter tells, where it is in its grammar, is at most this
+abbrev pub HasIdsUpTo : Dir → ℕ → Type 0
+HasIdsUpTo dir most = (low next : ℕ) → IsCounter (dir ids_name) low next → next ≤ most
+
+-- an entry can be put into the queue, whose next id is told by its counter
+abbrev pub HasIds : Dir → Type 0
+HasIds dir = HasIdsUpTo dir 1_000_000_000_000_000
+
+-- puts by which the queue's next id is higher by one at most, wherever the queue's files are these
+abbrev pub DrawsId : Dir → List Put → Type 0
+DrawsId old txn = (dir : Dir) (most : ℕ) → Alike is_of_queue old dir → HasIdsUpTo dir most → HasIdsUpTo (with_puts dir txn) (most + 1)
 
 -- the files of the list that are none of the queue's
 abbrev pub is_beside_queue : Name → Bool

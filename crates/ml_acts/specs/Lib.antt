@@ -1,3 +1,4 @@
 pub mod Doing
 pub mod Damaged
 pub mod Cookies
+pub mod Growing

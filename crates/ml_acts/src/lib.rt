@@ -8,6 +8,7 @@ mod leaving;
 mod mailing;
 mod members;
 mod paths;
+mod wearing;
 
 pub use acting::{with_mail, with_mail_to_moderators};
 pub use cookies::{is_cookie, is_good, new_cookie};
@@ -19,3 +20,4 @@ pub use paths::{
     bounce_path, confirm_address, digest_path, key_of, owner_address, post_path, reply_path,
     word_kind,
 };
+pub use wearing::is_worn;

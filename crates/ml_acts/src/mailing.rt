@@ -10,7 +10,7 @@ ghost use Rattle.ml_plain.specs.Directory.{IsList};
 ghost use Rattle.ml_plain.specs.Mailing as spec;
 ghost use Rattle.ml_plain.specs.Plain.{Plain};
 ghost use Rattle.ml_queue.specs.Answers.{ids_name};
-ghost use Rattle.ml_acts.specs.Doing.{Alike, HasIds, is_mailed_by, is_of_queue, is_with_queue};
+ghost use Rattle.ml_acts.specs.Doing.{Alike, DrawsId, HasIds, is_mailed_by, is_of_queue, is_with_queue};
 ghost use Rattle.ml_acts.specs.Damaged.{IsDamaged};
 
 use crate::{recipients, reply_path};
@@ -35,6 +35,7 @@ pub fn send<F: Files>(
     ensures value { IsTrue F.tells → IfOk result (λ txn. (dir : Dir) (p : Plain) → Alike is_of_queue (F.map files.old) dir → IsList dir p → IsList (with_puts dir txn) (spec.send way body to p)) }
     ensures own { IfOk result (λ txn. touches_only is_of_queue txn ≡ true) }
     ensures files { IfOk result (λ txn. IsTrue (are_files txn)) }
+    ensures drawn { IsTrue F.tells → IfOk result (λ txn. DrawsId (F.map files.old) txn) }
     ensures names { NamesDamaged ⟦<F as Files>⟧ (λ name. same_name name ids_name ≡ true) (IsDamaged (F.map files.old)) result }
     ensures reads { IsReading ⟦<F as Files>⟧ files.old files.new result }
 {
@@ -71,6 +72,7 @@ pub fn mail_to<F: Files>(
     ensures value { IsTrue F.tells → IfOk result (λ txn. (dir : Dir) (p : Plain) → Alike is_of_queue (F.map files.old) dir → IsList dir p → p.config ≡ config.now → IsList (with_puts dir txn) (spec.mail_to to.now now mail.now p)) }
     ensures own { IfOk result (λ txn. touches_only is_of_queue txn ≡ true) }
     ensures files { IfOk result (λ txn. IsTrue (are_files txn)) }
+    ensures drawn { IsTrue F.tells → IfOk result (λ txn. DrawsId (F.map files.old) txn) }
     ensures names { NamesDamaged ⟦<F as Files>⟧ (λ name. same_name name ids_name ≡ true) (IsDamaged (F.map files.old)) result }
     ensures reads { IsReading ⟦<F as Files>⟧ files.old files.new result }
 {

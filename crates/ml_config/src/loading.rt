@@ -1,9 +1,10 @@
 // The configuration is read from the list's files.
-ghost use Rattle.std.specs.Prelude.{◌≡◌, ◌≤◌, IsTrue, IfOk, IfErr, IsErrOf, Some, Option};
+ghost use Rattle.std.specs.Prelude.{◌≡◌, ◌≤◌, IsTrue, IfOk, IfErr, IfSome, IsErrOf, Some, Option};
 ghost use Rattle.ml_base.specs.declared.part.PartError.TheVariants.{Fault};
 ghost use Rattle.ml_base.specs.PartErrors.{OnDamaged};
 ghost use Rattle.ml_base.specs.ReadFiles.{IsReading, NamesDamaged};
 ghost use Rattle.ml_config.specs.ConfigFile.{IsConfigFile, IsDamagedConfig, IsLoaded, config_name};
+ghost use Rattle.ml_config.specs.Configuration.{IsConfig};
 ghost use Rattle.ml_config.specs.declared.configuration.Config.{Config};
 
 use crate::{Config, read_config};
@@ -17,6 +18,7 @@ const CONFIG: Name = Name { kind: 1, at: 0 };
 pub fn load<F: Files>(alloc: Global, files: &mut F) -> Result<Option<Config>, PartError>
     ensures read { IsTrue F.tells → (c : Config) → IsConfigFile (F.map files.old config_name) c → IfOk result (λ found. found ≡ Some c) }
     ensures value { IsTrue F.tells → IfOk result (IsLoaded (F.map files.old config_name)) }
+    ensures range { IfOk result (λ found. IfSome found IsConfig) }
     ensures names { NamesDamaged ⟦<F as Files>⟧ (λ name. name ≡ config_name) (λ _. IsDamagedConfig (F.map files.old config_name)) result }
     ensures sound { IsTrue F.tells → (c : Config) → IsConfigFile (F.map files.old config_name) c → IfErr result (λ e. OnDamaged e (λ _. ⊥)) }
     ensures reads { IsReading ⟦<F as Files>⟧ files.old files.new result }
@@ -29,6 +31,7 @@ pub fn load<F: Files>(alloc: Global, files: &mut F) -> Result<Option<Config>, Pa
 fn loaded(alloc: Global, file: Option<Bytes>) -> Result<Option<Config>, PartError>
     ensures read { (c : Config) → IsConfigFile file c → IfOk result (λ found. found ≡ Some c) }
     ensures value { IfOk result (IsLoaded file) }
+    ensures range { IfOk result (λ found. IfSome found IsConfig) }
     ensures named { IfErr result (λ e. OnDamaged e (λ name. name ≡ config_name)) }
     ensures damaged { IfErr result (λ e. OnDamaged e (λ _. IsDamagedConfig file)) }
     ensures sound { (c : Config) → IsConfigFile file c → IfErr result (λ e. OnDamaged e (λ _. ⊥)) }

@@ -1,4 +1,4 @@
-use Rattle.ml_acts.proofs.Queued.{queue_own, sent}
+use Rattle.ml_acts.proofs.Queued.{drawn_up, queue_own, sent}
 use Rattle.ml_acts.proofs.mailing.send.Goals as goal
 
 pub returns-clause-value : goal.returns-clause-value
@@ -7,3 +7,6 @@ returns-clause-value g c told dir p alike is =
 
 pub returns-clause-own : goal.returns-clause-own
 returns-clause-own g c = queue_own c.in_ok-txn.txn c.in_ok-txn.ensures.others
+
+pub returns-clause-drawn : goal.returns-clause-drawn
+returns-clause-drawn g c told = drawn_up (g.F.Files.map c.args.files.now) _ _ c.in_ok-txn.txn (c.requires.room told) (c.in_ok-txn.ensures.read told)
