@@ -1,0 +1,20 @@
+use Rattle.std.proofs.Common.{sym, subst}
+use Rattle.ml_base.specs.Dir.{Dir, with_puts}
+use Rattle.ml_base.specs.Layers.{files_below, puts_over}
+use Rattle.ml_plain.specs.Directory.{IsList}
+use Rattle.ml_plain.specs.Timing.{follow_up}
+use Rattle.ml_following.specs.Ahead.{HasIdsFor}
+use Rattle.ml_following.proofs.Amid.{ids_next, laid_more}
+use Rattle.ml_following.proofs.following.follow_one.Goals as goal
+
+pub returns-clause-value : goal.returns-clause-value
+returns-clause-value g c tells p e is config keys found act =
+    let below = g.F.Files.map (files_below c.args.files.now) in
+    let over = laid_more below (puts_over c.args.files.now) (puts_over c.follow_up.new.files) c.in_ok-txn.txn (puts_over c.lay.new.self) c.follow_up.ensures.reads.kept.1 c.in_ok-lay.ensures.ok in
+    subst (λ (d : Dir). IsList d (follow_up c.args.now p (c.args.set, e))) (sym over) (c.in_ok-txn.ensures.value tells p e is config keys found act)
+
+pub returns-clause-drawn : goal.returns-clause-drawn
+returns-clause-drawn g c tells more has =
+    let below = g.F.Files.map (files_below c.args.files.now) in
+    let over = laid_more below (puts_over c.args.files.now) (puts_over c.follow_up.new.files) c.in_ok-txn.txn (puts_over c.lay.new.self) c.follow_up.ensures.reads.kept.1 c.in_ok-lay.ensures.ok in
+    subst (λ (d : Dir). HasIdsFor d more) (sym over) (ids_next (with_puts below (puts_over c.args.files.now)) c.in_ok-txn.txn more (c.in_ok-txn.ensures.drawn tells) has)

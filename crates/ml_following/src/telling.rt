@@ -1,0 +1,86 @@
+// Members are warned and probed, each by one entry of the queue.
+ghost use Rattle.std.specs.Prelude.{◌≡◌, ◌∷◌, [], true, IsTrue, IfOk};
+ghost use Rattle.ml_base.specs.Address.{key};
+ghost use Rattle.ml_base.specs.Dir.{are_files, same_name, touches_only, with_puts};
+ghost use Rattle.ml_base.specs.Ranges.{IsMoment};
+ghost use Rattle.ml_base.specs.ReadFiles.{IsReading, NamesDamaged};
+ghost use Rattle.ml_base.specs.Sorted.{byte_cmp, is_sorted};
+ghost use Rattle.ml_plain.specs.Directory.{IsList};
+ghost use Rattle.ml_plain.specs.Mailing as spec;
+ghost use Rattle.ml_plain.specs.Plain.{Plain};
+ghost use Rattle.ml_queue.specs.Answers.{ids_name};
+ghost use Rattle.ml_reply.specs.declared.mails.Mail.TheVariants as mails;
+ghost use Rattle.ml_acts.specs.Damaged.{IsDamaged};
+ghost use Rattle.ml_acts.specs.Doing.{DrawsId, HasIds, is_of_queue};
+
+use ml_acts::{bounce_path, key_of, send};
+use ml_base::{Address, AddressList, Bytes, Files, Numbers, PartError, Row, Set, Txn};
+use ml_config::{Config, Keys};
+use ml_reply::{Mail, text};
+use std::alloc::{AllocError, Global};
+
+// The mail that warns a member of the numbers that he missed.
+pub(crate) fn warning(
+    alloc: Global,
+    set: Set,
+    who: &Address,
+    missed: &Numbers,
+) -> Result<Mail, AllocError>
+    ensures { IfOk result (λ mail. mail ≡ mails.Warn who.now set who.now missed.now) }
+{
+    Ok(Mail::Warn {
+        to: Bytes::from_slice(alloc, who.bytes())?,
+        set,
+        who: Bytes::from_slice(alloc, who.bytes())?,
+        numbers: Row::from_vec(Vec::from_slice(alloc, missed.as_slice())?),
+    })
+}
+
+// The mail that probes a member.
+pub(crate) fn probe_mail(alloc: Global, set: Set, who: &Address) -> Result<Mail, AllocError>
+    ensures { IfOk result (λ mail. mail ≡ mails.Probe who.now set who.now) }
+{
+    Ok(Mail::Probe {
+        to: Bytes::from_slice(alloc, who.bytes())?,
+        set,
+        who: Bytes::from_slice(alloc, who.bytes())?,
+    })
+}
+
+// The puts that queue a mail to a member, under a path whose cookie is of this kind, `warn` or `probe`.
+pub(crate) fn tell<F: Files>(
+    alloc: Global,
+    files: &mut F,
+    config: &Config,
+    keys: &Keys,
+    kind: &[u8],
+    set: Set,
+    who: &Address,
+    mail: &Mail,
+    now: u64,
+) -> Result<Txn, PartError>
+    requires moment { IsMoment now }
+    requires room { IsTrue F.tells → HasIds (F.map files.now) }
+    ensures value { IsTrue F.tells → IfOk result (λ txn. (p : Plain) → IsList (F.map files.old) p → p.config ≡ config.now → p.keys ≡ keys.now → IsList (with_puts (F.map files.old) txn) (spec.bounce_mail kind.now set who.now now mail.now p)) }
+    ensures own { IfOk result (λ txn. touches_only is_of_queue txn ≡ true) }
+    ensures files { IfOk result (λ txn. IsTrue (are_files txn)) }
+    ensures drawn { IsTrue F.tells → IfOk result (λ txn. DrawsId (F.map files.old) txn) }
+    ensures names { NamesDamaged ⟦<F as Files>⟧ (λ name. same_name name ids_name ≡ true) (IsDamaged (F.map files.old)) result }
+    ensures reads { IsReading ⟦<F as Files>⟧ files.old files.new result }
+{
+    let key = key_of(alloc, who)?;
+    let way = bounce_path(alloc, config, keys, kind, set, key.as_slice(), now)?;
+    let body = text(alloc, config, mail, now)?;
+    let to = alone(alloc, who)?;
+    send(alloc, files, way, body, to)
+}
+
+// An address as the only recipient.
+fn alone(alloc: Global, who: &Address) -> Result<AddressList, AllocError>
+    ensures value { IfOk result (λ to. to ≡ who.now ∷ []) }
+    ensures sorted { IfOk result (λ to. is_sorted byte_cmp key to ≡ true) }
+{
+    let mut to = Row::new(alloc);
+    to.push(who.copy(alloc)?)?;
+    Ok(to)
+}
