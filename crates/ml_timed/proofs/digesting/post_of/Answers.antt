@@ -1,0 +1,16 @@
+use Rattle.std.proofs.Common.{◌≡◌, true, rules}
+use Rattle.ml_archive.specs.Answers.{IsBadForPost, IsPostName}
+use Rattle.ml_archive.specs.Archive.{ArePosts}
+use Rattle.ml_acts.specs.Damaged.{IsDamaged, post}
+use Rattle.ml_acts.proofs.Damages.{named_of}
+use Rattle.ml_timed.specs.Reads.{is_of_posts_told}
+use Rattle.ml_timed.proofs.Posted.{post_read}
+use Rattle.ml_timed.proofs.digesting.post_of.Goals as goal
+
+pub returns-in_err-post-clause-names : goal.returns-in_err-post-clause-names
+returns-in_err-post-clause-names g c =
+    let dir = g.F.Files.map c.args.files.now in
+    let n = c.args.number in
+    let names = named_of g.F.Files (λ name. is_of_posts_told name ≡ true) _ (ArePosts dir) (IsPostName n) (IsBadForPost dir n) (IsDamaged dir) (post_read n) (λ name bad no. post n bad no)
+    c.in_err-post.ensures.sound c.in_err-post.ensures.names in
+    search rules

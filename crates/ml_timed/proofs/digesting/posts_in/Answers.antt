@@ -1,0 +1,57 @@
+use Rattle.std.proofs.Common.{◌≡◌, ◌+◌, ◌-◌, ℕ, map, take, drop, length, [], ◌∷◌, List, sym, ap, ◌∙◌, subst, arith, rules}
+use Rattle.std.proofs.lemmas.List.{length-append}
+use Rattle.ml_base.specs.Dir.{Dir}
+use Rattle.ml_base.proofs.ReadingLemmas.{kept_read, kept_self, kept_then}
+use Rattle.ml_digest.specs.declared.posts.DigestPost.{DigestPost}
+use Rattle.ml_plain.specs.Directory.{IsList}
+use Rattle.ml_plain.specs.Timing.{digest_post}
+use Rattle.ml_timed.proofs.Posted.{one_more}
+use Rattle.ml_timed.proofs.digesting.posts_in.Goals as goal
+
+pub loop-number-init : goal.loop-number-init
+loop-number-init g c =
+    let some = c.requires.some in
+    let none = c.new-posts.ensures in
+    let zero_is : 0 ≡ c.args.range.first - c.args.range.first = omega arith in
+    record {
+      read = kept_self g.F.Files g.met.F.Files.kept_self c.args.files.now;
+      from = omega arith;
+      up = omega (arith, some);
+      size = let empty : length c.new-posts.result ≡ 0 = ap (λ (t : List DigestPost). length t) none in omega (arith, empty);
+      posts = λ told p is. none ∙ ap (λ (k : ℕ). map digest_post (take k (drop (c.args.range.first - 1) p.posts))) zero_is;
+    }
+
+pub returns-in_err-push-clause-reads : goal.returns-in_err-push-clause-reads
+returns-in_err-push-clause-reads g c =
+    let read =
+    kept_then g.F.Files g.met.F.Files.kept_then c.args.files.now c.loop-number.files c.post_of.new.files c.loop-number.invariant.read
+    (kept_read g.F.Files c.loop-number.files c.post_of.new.files c.post_of.result c.post_of.ensures.reads)
+    in
+    record { kept = read.kept; later = read.later; cause = search rules }
+
+pub loop-number-preserved : goal.loop-number-preserved
+loop-number-preserved g c =
+    let before = c.loop-number.invariant in
+    let low = c.requires.from_one in
+    let from = before.from in
+    let here = c.loop-number-test.true in
+    let size = before.size in
+    let more = c.in_ok-push.ensures.ok in
+    record {
+      read = kept_then g.F.Files g.met.F.Files.kept_then c.args.files.now c.loop-number.files c.post_of.new.files before.read
+          (kept_read g.F.Files c.loop-number.files c.post_of.new.files c.post_of.result c.post_of.ensures.reads);
+      from = omega (arith, from);
+      up = omega (arith, here);
+      size = let one : length c.push.new.self ≡ length c.loop-number.posts + 1 = ap (λ (t : List DigestPost). length t) more ∙ length-append c.loop-number.posts (c.in_ok-post_of.field-0 ∷ []) in omega (arith, one, size);
+      posts = λ told p is.
+          let same = g.met.F.Files.kept_map c.args.files.now c.loop-number.files told before.read.kept in
+          one_more p.posts c.args.range.first c.loop-number.number c.loop-number.posts c.push.new.self c.in_ok-post_of.field-0 low from (before.posts told p is)
+          (c.in_ok-post_of.ensures.value told p (subst (λ (d : Dir). IsList d p) (sym same) is)) more;
+    }
+
+pub returns-clause-value : goal.returns-clause-value
+returns-clause-value g c told p is =
+    let up = c.loop-number.invariant.up in
+    let past = c.loop-number-test.false in
+    let same : c.loop-number.number ≡ c.args.range.last + 1 = omega (arith, up, past) in
+    c.loop-number.invariant.posts told p is ∙ ap (λ (k : ℕ). map digest_post (take (k - c.args.range.first) (drop (c.args.range.first - 1) p.posts))) same

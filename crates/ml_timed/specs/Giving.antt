@@ -1,0 +1,21 @@
+-- A held post goes back.
+use Rattle.std.specs.Prelude.{◌≡◌, ◌<◌, ℕ, length, List, [], Option, Some, None}
+use Rattle.ml_base.specs.Dir.{Dir, with_puts}
+use Rattle.ml_base.specs.declared.puts.Put.{Put}
+use Rattle.ml_hold.specs.Held.{held_post}
+use Rattle.ml_hold.specs.declared.posts.Held.{Held}
+use Rattle.ml_plain.specs.Directory.{IsList}
+use Rattle.ml_plain.specs.Plain.{Plain}
+use Rattle.ml_plain.specs.Timing.{give_back}
+
+-- What giving back the post of a ticket answers where there is room for so many bytes: how many its message has, and puts by which the files
+-- stand for the list that gave it back. None where it has more bytes, or isn't there.
+abbrev pub GivesBack : Dir → ℕ → ℕ → ℕ → Plain → Option (ℕ × List Put) → Type 0
+GivesBack dir now ticket room p None = (held : Held) → held_post ticket p.held ≡ Some held → room < length held.message
+GivesBack dir now ticket room p (Some r) =
+    (held : Held) × (held_post ticket p.held ≡ Some held) × (r.0 ≡ length held.message) × IsList (with_puts dir r.1) (give_back now p (record { number = ticket; thing = held }))
+
+-- the puts of such an answer
+abbrev pub puts_given : Option (ℕ × List Put) → List Put
+puts_given None = []
+puts_given (Some r) = r.1

@@ -1,0 +1,4 @@
+pub mod Reads
+pub mod Since
+pub mod Giving
+pub mod Waiting

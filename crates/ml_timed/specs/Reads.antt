@@ -1,0 +1,39 @@
+-- Which files a timed run may read.
+use Rattle.std.specs.Prelude.{Bool, ◌||◌, ◌==◌}
+use Rattle.ml_base.specs.Dir.{same_name}
+use Rattle.ml_base.specs.declared.names.Name.{Name}
+use Rattle.ml_base.specs.declared.names.Set.TheVariants as sets
+use Rattle.ml_archive.specs.Archive.{number_name}
+use Rattle.ml_digest.specs.Due.{mark_name}
+use Rattle.ml_hold.specs.Answers.{tickets_name}
+use Rattle.ml_queue.specs.Answers.{ids_name}
+use Rattle.ml_acts.specs.Doing.{is_bucket}
+use Rattle.ml_following.specs.Reads.{is_of_following}
+
+-- held posts and their counter
+abbrev pub is_waiting : Name → Bool
+is_waiting name = name.kind == 13 || same_name name tickets_name
+
+-- what giving posts back reads: the counter of ids beside them
+abbrev pub is_of_giving_back : Name → Bool
+is_of_giving_back name = is_waiting name || same_name name ids_name
+
+-- how far the digests have come, and how many posts there are
+abbrev pub is_of_progress : Name → Bool
+is_of_progress name = same_name name mark_name || same_name name number_name
+
+-- the number of posts and their indexes
+abbrev pub is_of_posts_told : Name → Bool
+is_of_posts_told name = same_name name number_name || name.kind == 10
+
+-- a mail to the digest set: its members, and the counter of ids
+abbrev pub is_of_issue : Name → Bool
+is_of_issue name = is_bucket sets.Digest name || same_name name ids_name
+
+-- what making a digest reads
+abbrev pub is_of_digesting : Name → Bool
+is_of_digesting name = is_of_progress name || is_of_posts_told name || is_of_issue name
+
+-- what a timed run reads
+abbrev pub is_of_timed : Name → Bool
+is_of_timed name = is_of_giving_back name || is_of_digesting name || is_of_following name

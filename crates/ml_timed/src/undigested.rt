@@ -1,0 +1,97 @@
+// The posts that are in no digest yet, as the indexes tell of them.
+ghost use Rattle.std.specs.Option.{option_copied};
+ghost use Rattle.std.specs.Prelude.{◌≡◌, find, nat_lt, ◌<◌, ◌≤◌, ◌++◌, true, take, drop, map, length, IsTrue, IfOk, OnOk};
+ghost use Rattle.ml_base.specs.ReadFiles.{IsReading, NamesDamaged};
+ghost use Rattle.ml_archive.specs.Posts as archive;
+ghost use Rattle.ml_plain.specs.Directory.{IsList};
+ghost use Rattle.ml_plain.specs.Plain.{Plain};
+ghost use Rattle.ml_plain.specs.Timing.{moment_of_first};
+ghost use Rattle.ml_acts.specs.Damaged.{IsDamaged};
+ghost use Rattle.ml_timed.specs.Reads.{is_of_posts_told};
+ghost use Rattle.ml_timed.specs.Waiting.{moment_behind, sizes_behind};
+
+use ml_archive::{Entries, Entry, index};
+use ml_base::{Files, Numbers, PartError};
+use std::alloc::{AllocError, Global};
+
+// The posts that are in no digest yet, as far as one may take them.
+#[derive(Drop)]
+pub(crate) struct Undigested {
+    // Their sizes in bytes, of the first 100 at least.
+    pub(crate) sizes: Numbers,
+    // When the first of them was posted, in seconds since 1970.
+    pub(crate) oldest: u64,
+}
+
+// The posts behind the last one that is in a digest, of so many. It reads one index, or two.
+pub(crate) fn posts_behind<F: Files>(
+    alloc: Global,
+    files: &mut F,
+    last: u64,
+    count: u64,
+) -> Result<Undigested, PartError>
+    requires some { last < count }
+    requires few { count ≤ 99_999_999 }
+    ensures sizes { IsTrue F.tells → IfOk result (λ found. (p : Plain) → IsList (F.map files.old) p → count ≡ length p.posts → take 100 found.sizes ≡ take 100 (map (λ post. length post.bytes) (drop last p.posts))) }
+    ensures oldest { IsTrue F.tells → IfOk result (λ found. (p : Plain) → IsList (F.map files.old) p → count ≡ length p.posts → found.oldest ≡ moment_of_first (drop last p.posts)) }
+    ensures names { NamesDamaged ⟦<F as Files>⟧ (λ name. is_of_posts_told name ≡ true) (IsDamaged (F.map files.old)) result }
+    ensures reads { IsReading ⟦<F as Files>⟧ files.old files.new result }
+{
+    let group = (last + 1) / 100;
+    let first = group_of(alloc, files, group, count)?;
+    let second = group_of(alloc, files, group + 1, count)?;
+    let mut sizes = Numbers::new(alloc);
+    add_sizes(&mut sizes, first.as_slice(), last)?;
+    add_sizes(&mut sizes, second.as_slice(), last)?;
+    Ok(Undigested {
+        sizes,
+        oldest: oldest(first.as_slice(), last),
+    })
+}
+
+// The index of a group, of so many posts. It reads none behind the group of the last one.
+fn group_of<F: Files>(
+    alloc: Global,
+    files: &mut F,
+    group: u64,
+    count: u64,
+) -> Result<Entries, PartError>
+    requires { count ≤ 99_999_999 }
+    ensures value { IsTrue F.tells → IfOk result (λ entries. (p : Plain) → IsList (F.map files.old) p → count ≡ length p.posts → entries ≡ archive.index_of group p.posts) }
+    ensures names { NamesDamaged ⟦<F as Files>⟧ (λ name. is_of_posts_told name ≡ true) (IsDamaged (F.map files.old)) result }
+    ensures reads { IsReading ⟦<F as Files>⟧ files.old files.new result }
+{
+    if group > count / 100 {
+        return Ok(Entries::new(alloc));
+    }
+    index(alloc, files, group)
+}
+
+// Adds the sizes of the posts of an index behind a number.
+fn add_sizes(sizes: &mut Numbers, entries: &[Entry], last: u64) -> Result<(), AllocError>
+    ensures { OnOk result (sizes.new ≡ sizes.old ++ sizes_behind last entries.now) }
+{
+    for entry in entries {
+        if entry.number > last {
+            sizes.push(entry.size)?;
+        }
+    }
+    Ok(())
+}
+
+// When the first post of an index behind a number was posted.
+fn oldest(entries: &[Entry], last: u64) -> u64
+    ensures { result ≡ moment_behind last entries.now }
+{
+    match first_behind(entries, last) {
+        Some(entry) => entry.moment,
+        None => 0,
+    }
+}
+
+// The first entry of an index behind a number.
+fn first_behind(entries: &[Entry], last: u64) -> Option<&Entry>
+    ensures { option_copied result ≡ find (λ e. nat_lt last e.number) entries.now }
+{
+    entries.iter().find(|entry| entry.number > last)
+}

@@ -1,0 +1,13 @@
+//! Tests of the public calls of timed runs.
+#![tactic(auto)]
+
+#[cfg(test)]
+mod bounces;
+#[cfg(test)]
+mod digests;
+#[cfg(test)]
+mod given_back;
+#[cfg(test)]
+mod lists;
+#[cfg(test)]
+mod runs;
