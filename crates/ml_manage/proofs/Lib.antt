@@ -1,7 +1,7 @@
 mod NamedParts
 mod Bounced
 mod Posts
-mod Requests
+pub mod Requests
 mod Sending
 mod Senders
-mod Others
+pub mod Others

@@ -145,6 +145,28 @@ fn keeps_what_was_said_of_a_post(rt: HostRuntime) -> Result<(), Fail> {
     Ok(())
 }
 
+// What the index says of three posts: their numbers, how many bytes they have, and their subjects.
+const ENTRIES: [(u64, u64, &[u8]); 3] = [
+    (1, 19, b"hello"),
+    (2, 30, b"Re: [list] Hello"),
+    (3, 19, b"other"),
+];
+
+#[test]
+fn answers_an_index(rt: HostRuntime) -> Result<(), Fail> {
+    let mut archive = three(rt.alloc())?;
+    let entries = index(rt.alloc(), &mut archive, 0)?;
+    assert_eq!(rt; entries.as_slice().len(), 3);
+    for (entry, (number, size, subject)) in entries.as_slice().iter().zip(ENTRIES) {
+        assert_eq!(rt; entry.number, number);
+        assert_eq!(rt; entry.size, size);
+        assert_eq!(rt; entry.moment, 1_000_000_000);
+        assert_eq!(rt; entry.sender.bytes(), b"g@h".as_slice());
+        assert_eq!(rt; entry.subject.as_slice(), subject);
+    }
+    Ok(())
+}
+
 // The archive of so many posts of one thread.
 fn many(alloc: Global, count: u64) -> Result<Layer<MapFiles>, Fail> {
     let mut archive = started(alloc, b"0\n")?;

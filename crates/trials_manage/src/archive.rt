@@ -1,6 +1,6 @@
 // Answers from the archive: to whom it is open, and what they are.
 use crate::lists::{List, NUMBER, after, holds, letter_to, list, mails};
-use ml_base::{Bytes, Name, write_number};
+use ml_base::{Bytes, Name, push_netstring, write_number};
 use std::alloc::Global;
 use std::process::Abort;
 use std::test::Fail;
@@ -233,7 +233,7 @@ fn a_read_that_fails_is_told(rt: HostRuntime) -> Result<(), Fail> {
     Ok(())
 }
 
-// The digits of a number below 1,000.
+// The digits of a number.
 fn digits(alloc: Global, number: u64) -> Result<Bytes, Fail> {
     let mut out = Bytes::new(alloc);
     let mut digits = [0; 20];
@@ -242,62 +242,68 @@ fn digits(alloc: Global, number: u64) -> Result<Bytes, Fail> {
     Ok(out)
 }
 
-// So many posts of one byte `x`.
-fn posts(alloc: Global, count: u64) -> Result<List, Fail> {
+// The entry of a post of so many bytes in an index.
+fn add_entry(alloc: Global, out: &mut Bytes, size: usize) -> Result<(), Fail> {
+    out.extend(b"1:0,3:g@h,")?;
+    push_netstring(out, digits(alloc, size as u64)?.as_slice())?;
+    out.extend(b"1:x,\n")?;
+    Ok(())
+}
+
+// So many posts, all of one size but for the last.
+fn posts(alloc: Global, count: u64, size: usize, last: usize) -> Result<List, Fail> {
     let mut first = Bytes::new(alloc);
     let mut second = Bytes::new(alloc);
-    let mut files: Vec<Name> = Vec::new(alloc);
-    for at in 1..count.saturating_add(1) {
-        let index = if at < 100 { &mut first } else { &mut second };
-        index.extend(b"1:0,3:g@h,1:1,1:x,\n")?;
-        files.push(Name { kind: 9, at })?;
-    }
-    let number = digits(alloc, count)?;
-    let mut line = Bytes::from_slice(alloc, number.as_slice())?;
-    line.push(b'\n')?;
+    let usual = xs(alloc, size)?;
+    let other = xs(alloc, last)?;
+    let mut number = digits(alloc, count)?;
+    number.push(b'\n')?;
     let mut texts: Vec<(Name, &[u8])> = Vec::new(alloc);
-    texts.push((NUMBER, line.as_slice()))?;
+    for at in 1..count {
+        let index = if at < 100 { &mut first } else { &mut second };
+        add_entry(alloc, index, size)?;
+        texts.push((Name { kind: 9, at }, usual.as_slice()))?;
+    }
+    let index = if count < 100 { &mut first } else { &mut second };
+    add_entry(alloc, index, last)?;
+    texts.push((Name { kind: 9, at: count }, other.as_slice()))?;
+    texts.push((NUMBER, number.as_slice()))?;
     texts.push((INDEX, first.as_slice()))?;
     texts.push((Name { kind: 10, at: 1 }, second.as_slice()))?;
-    for name in files.as_slice() {
-        texts.push((*name, b"x"))?;
-    }
     list(alloc, texts.as_slice(), &[])
 }
 
-#[test]
-fn an_answer_has_a_hundred_posts(rt: HostRuntime) -> Result<(), Fail> {
-    let alloc = rt.alloc();
+// How many posts there are, their size, that of the last, how many of them are answered, and the size of the last of these.
+const MANY: [(u64, usize, usize, u64, usize); 4] = [
+    (100, 1, 1, 100, 1),
+    (101, 1, 1, 100, 1),
+    (100, 41_943, 41_947, 100, 41_947),
+    (100, 41_943, 41_948, 99, 41_943),
+];
+
+// Whether of many posts so many are answered, whatever is asked for.
+fn answers(alloc: Global, row: (u64, usize, usize, u64, usize)) -> Result<bool, Fail> {
+    let (count, size, last, answered, end) = row;
     let mut text = Bytes::new(alloc);
-    for at in 1..101 {
-        add_block(&mut text, digits(alloc, at)?.as_slice(), 1)?;
+    for at in 1..answered {
+        add_block(&mut text, digits(alloc, at)?.as_slice(), size)?;
     }
-    let letter = letter_to(b"list-get.1_101@ex.org");
-    check(
-        &rt,
-        0,
-        mails(
-            alloc,
-            posts(alloc, 101)?,
-            b"",
-            letter,
-            9,
-            b"archive of list@ex.org",
-            text.as_slice(),
-        )?,
-    );
-    check(
-        &rt,
-        1,
-        mails(
-            alloc,
-            posts(alloc, 100)?,
-            b"",
-            letter,
-            9,
-            b"archive of list@ex.org",
-            text.as_slice(),
-        )?,
-    );
+    add_block(&mut text, digits(alloc, answered)?.as_slice(), end)?;
+    mails(
+        alloc,
+        posts(alloc, count, size, last)?,
+        b"",
+        letter_to(b"list-get.1_101@ex.org"),
+        9,
+        b"archive of list@ex.org",
+        text.as_slice(),
+    )
+}
+
+#[test]
+fn an_answer_has_a_hundred_posts_of_four_mebibytes(rt: HostRuntime) -> Result<(), Fail> {
+    for (at, row) in MANY.iter().enumerate() {
+        check(&rt, at, answers(rt.alloc(), *row)?);
+    }
     Ok(())
 }

@@ -9,3 +9,5 @@ mod bounces;
 mod lists;
 #[cfg(test)]
 mod rules;
+#[cfg(test)]
+mod worked;

@@ -63,7 +63,7 @@ fn option(letters: &[u8], lower: u8, upper: u8) -> u8 {
     }
 }
 
-/// The configuration of the list `list@ex.org` with these options.
+/// The configuration of the list `list@ex.org` with these options, and the prefix `[list]` where `f` is set.
 pub fn config(alloc: Global, letters: &[u8]) -> Result<Config, Fail>
     ensures { IfOk result IsConfig }
 {
@@ -71,7 +71,11 @@ pub fn config(alloc: Global, letters: &[u8]) -> Result<Config, Fail>
     for (lower, upper) in b"bdfghjklmprstu".iter().zip(b"BDFGHJKLMPRSTU") {
         text.push(option(letters, *lower, *upper))?;
     }
-    text.extend(b"\nlocal list\nhost ex.org\nowner o@own.org\nprefix \nmax 1048576\n")?;
+    text.extend(b"\nlocal list\nhost ex.org\nowner o@own.org\nprefix ")?;
+    if letters.contains(&b'f') {
+        text.extend(b"[list]")?;
+    }
+    text.extend(b"\nmax 1048576\n")?;
     match read_config(alloc, text.as_slice())? {
         Some(config) => Ok(config),
         None => Err(Fail::from("no configuration")),

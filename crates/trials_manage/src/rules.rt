@@ -1,7 +1,8 @@
 // The rules in their order, help, the owner's mail, and the members of a set.
-use crate::lists::{IDS, Letter, NOW, entry, holds, letter_to, list, mails, with_file};
+use crate::lists::{IDS, Letter, List, NOW, entry, holds, letter_to, list, mails, with_file};
 use ml_base::{Bytes, Name, hash_lower};
 use std::alloc::Global;
+use std::collections::BTreeMap;
 use std::process::Abort;
 use std::test::Fail;
 
@@ -199,42 +200,45 @@ fn member(alloc: Global, number: u64) -> Result<Bytes, Fail> {
     Ok(out)
 }
 
-// The bucket of the set list that has of so many members those that belong there.
-fn bucket(alloc: Global, size: u64, at: u64) -> Result<Bytes, Fail> {
-    let mut out = Bytes::new(alloc);
-    for number in 0..size {
+// The list of `g@h`, who is a moderator, with so many members.
+fn with_members(alloc: Global, count: u64) -> Result<List, Fail> {
+    let mut buckets: BTreeMap<u64, Bytes> = BTreeMap::new(alloc);
+    for number in 0..count {
         let who = member(alloc, number)?;
-        if hash_lower(who.as_slice()) as u64 % 53 == at {
-            out.push(b'T')?;
-            out.extend(who.as_slice())?;
-            out.push(0)?;
-        }
+        let at = hash_lower(who.as_slice()) as u64 % 53;
+        let mut bytes = match buckets.remove(&at) {
+            Some(bytes) => bytes,
+            None => Bytes::new(alloc),
+        };
+        bytes.push(b'T')?;
+        bytes.extend(who.as_slice())?;
+        bytes.push(0)?;
+        buckets.insert(at, bytes)?;
     }
-    Ok(out)
+    let mut list = list(alloc, &NOBODY, &[])?;
+    for (at, bytes) in buckets.iter() {
+        let text = Bytes::from_slice(alloc, bytes.as_slice())?;
+        list = with_file(list, Name { kind: 3, at: *at }, text)?;
+    }
+    Ok(list)
 }
 
 #[test]
-fn a_thousand_members_are_told_in_order(rt: HostRuntime) -> Result<(), Fail> {
+fn ten_thousand_members_are_told_in_order(rt: HostRuntime) -> Result<(), Fail> {
     let alloc = rt.alloc();
     let mut lines = Bytes::new(alloc);
-    for number in 0..1000 {
+    for number in 0..10_000 {
         lines.extend(member(alloc, number)?.as_slice())?;
         lines.push(b'\n')?;
     }
-    let mut files = list(alloc, &NOBODY, &[])?;
-    for at in 0..53 {
-        let text = bucket(alloc, 1000, at)?;
-        files = with_file(files, Name { kind: 3, at }, text)?;
-    }
-    let letter = letter_to(b"list-list@ex.org");
     check(
         &rt,
         0,
         mails(
             alloc,
-            files,
+            with_members(alloc, 10_000)?,
             b"l",
-            letter,
+            letter_to(b"list-list@ex.org"),
             12,
             b"members of list",
             lines.as_slice(),

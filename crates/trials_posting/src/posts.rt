@@ -3,7 +3,7 @@ use crate::lists::{
     A_B, Answer, C_D, E_F, IDS, NUMBER, Sent, TICKETS, Texts, config, entry_file, has, held_file,
     lacks, post_failing, post_file, posted, texts,
 };
-use ml_base::{Bytes, Name};
+use ml_base::{Bytes, Name, hash_lower, push_netstring};
 use std::alloc::Global;
 use std::process::Abort;
 use std::test::Fail;
@@ -97,6 +97,52 @@ fn posts_are_numbered_in_order(rt: HostRuntime) -> Result<(), Fail> {
     assert!(rt; has(&texts, NUMBER, b"3\n"));
     let threads = Name { kind: 20, at: 231 };
     assert!(rt; has(&texts, threads, b"5:hello,5:1,2,3,"));
+    Ok(())
+}
+
+// The address of a number below 10,000: `u` and four digits of it, at `h`.
+fn member(alloc: Global, number: u64) -> Result<Bytes, Fail> {
+    let mut out = Bytes::from_slice(alloc, b"u")?;
+    for unit in [1000, 100, 10, 1u64] {
+        out.push(b"0123456789"[(number / unit % 10) as usize])?;
+    }
+    out.extend(b"@h")?;
+    Ok(out)
+}
+
+// The files of a list with so many members.
+fn with_members(alloc: Global, count: u64) -> Result<Texts, Fail> {
+    let mut texts = texts(alloc, &[])?;
+    for number in 0..count {
+        let who = member(alloc, number)?;
+        let bucket = Name {
+            kind: 3,
+            at: hash_lower(who.as_slice()) as u64 % 53,
+        };
+        let mut bytes = match texts.remove(&bucket) {
+            Some(bytes) => bytes,
+            None => Bytes::new(alloc),
+        };
+        bytes.push(b'T')?;
+        bytes.extend(who.as_slice())?;
+        bytes.push(0)?;
+        texts.insert(bucket, bytes)?;
+    }
+    Ok(texts)
+}
+
+#[test]
+fn each_of_ten_thousand_members_gets_a_post(rt: HostRuntime) -> Result<(), Fail> {
+    let alloc = rt.alloc();
+    let config = config(alloc, PLAIN)?;
+    let mut texts = with_members(alloc, 10_000)?;
+    let answer = posted(alloc, &mut texts, &config, (1_000_000_100, b"a@b", M))?;
+    assert!(rt; answer == (POSTED, 1));
+    let mut entry = Bytes::from_slice(alloc, TO_NOBODY)?;
+    for number in 0..10_000 {
+        push_netstring(&mut entry, member(alloc, number)?.as_slice())?;
+    }
+    assert!(rt; has(&texts, entry_file(1), entry.as_slice()));
     Ok(())
 }
 
@@ -228,7 +274,7 @@ fn all_of_ten_thousand_fields_are_kept(rt: HostRuntime) -> Result<(), Fail> {
     Ok(())
 }
 
-// The files of an archive with 99,999,998 posts: their number, and the index of the last group, of 98 entries.
+// The files of an archive with 99,999,998 posts: their number, and the index of the last group, of 99 entries.
 fn almost_full(alloc: Global) -> Result<Texts, Fail> {
     let mut texts = texts(alloc, &[(NUMBER, b"99999998\n")])?;
     let mut index = Bytes::new(alloc);
