@@ -14,7 +14,7 @@ use Rattle.ml_base.proofs.Addresses.{address_read}
 use Rattle.ml_base.proofs.NumberLaws.{number_spelled}
 use Rattle.ml_config.specs.MakeWords.{key_of}
 use Rattle.ml_plain.specs.declared.Act.TheVariants as acts
-use Rattle.ml_stream.specs.Stream.{item_number_of, floor_of, some_floor}
+use Rattle.ml_stream.specs.Stream.{item_number_of, floor_of, some_positive}
 use Rattle.ezmlm.specs.declared.asking.Change.{Change}
 use Rattle.ezmlm.specs.declared.asking.Change.TheVariants as changes
 use Rattle.ezmlm.specs.Single.{IsGiven}
@@ -42,13 +42,13 @@ floor_given : (word : Text) (at : ℕ) → floor_of word ≡ Some at → (1 ≤ 
 floor_given word at e = go (item_number_of word) refl
   where
     go : (o : Option ℕ) → item_number_of word ≡ o → (1 ≤ at) × (at ≤ 999_999_999_999)
-    go None is = let bad : None ≡ Some at = sym (ap some_floor is) ∙ e in cc
+    go None is = let bad : None ≡ Some at = sym (ap some_positive is) ∙ e in cc
     go (Some n) is = tested (eqb n 0) refl
       where
         tested : (t : Bool) → eqb n 0 ≡ t → (1 ≤ at) × (at ≤ 999_999_999_999)
-        tested true z = let bad : None ≡ Some at = sym (ap some_floor is ∙ ap (λ b. if b then None else Some n) z) ∙ e in cc
+        tested true z = let bad : None ≡ Some at = sym (ap some_positive is ∙ ap (λ b. if b then None else Some n) z) ∙ e in cc
         tested false z =
-            let found : Some n ≡ Some at = sym (ap some_floor is ∙ ap (λ b. if b then None else Some n) z) ∙ e in
+            let found : Some n ≡ Some at = sym (ap some_positive is ∙ ap (λ b. if b then None else Some n) z) ∙ e in
             let same : n ≡ at = cc in
             (omega (arith, same, eqb-false n 0 z), omega (arith, same, number_given word n is))
 

@@ -20,14 +20,14 @@ use Rattle.ml_ending.specs.Endings.{Opens, MissesList, Says}
 use Rattle.ml_run.specs.Endings.{Ended, Runs, Names}
 use Rattle.ml_run.specs.Leaving.{HasState, IsAfterSome}
 use Rattle.ml_stream.specs.Stream.{End}
-use Rattle.ml_stream.specs.Writing.{IsRead}
+use Rattle.ml_stream.specs.Writing.{IsTyped}
 use Rattle.ezmlm.specs.Words.{Command, Single, BadWord, NoCommand}
 
 -- a number and an act that an item of a stream may have
 pub record IsGiven (number : ℕ) (act : Act) : Type 0 where
   pub few_digits : number ≤ 999_999_999_999
   pub range : IsAct act
-  pub read : IsRead act
+  pub read : IsTyped act
 
 -- the statuses of such a command once its item is given
 abbrev pub is_single_status : ℕ → Bool

@@ -2,7 +2,7 @@
 ghost use Rattle.std.specs.Prelude.{◌≡◌, ◌⊎◌, ◌≤◌, None};
 ghost use Rattle.ml_plain.specs.Items.{IsItem};
 ghost use Rattle.ml_ending.specs.Endings.{Says};
-ghost use Rattle.ml_stream.specs.Writing.{IsRead, spelled_item};
+ghost use Rattle.ml_stream.specs.Writing.{IsTyped, spelled_item};
 ghost use Rattle.ml_ending.specs.declared.lines.Why.TheVariants as whys;
 ghost use Rattle.ezmlm.specs.Single.{AnswersItem, DoesSingle, IsGiven, SinglesAsked};
 ghost use Rattle.ezmlm.specs.Commands.{ReadsClock};
@@ -63,7 +63,7 @@ fn answer_now<S: Site, K: Clock>(
 // Answers one item.
 fn answer_item<S: Site>(alloc: Global, item: &Item, site: S) -> (u8, S)
     requires ranges { IsItem item.now }
-    requires read { IsRead item.now.act }
+    requires read { IsTyped item.now.act }
     ensures { AnswersItem ⟦<S as Site>⟧ item.now site result.1 result.0 ⊎ Says ⟦<S as Site>⟧ site result.1 result.0 None whys.Memory }
 {
     match write_item(alloc, item) {
@@ -75,7 +75,7 @@ fn answer_item<S: Site>(alloc: Global, item: &Item, site: S) -> (u8, S)
 // Answers one item, of which these are the bytes.
 fn answer_bytes<S: Site>(alloc: Global, item: &Item, bytes: Bytes, site: S) -> (u8, S)
     requires ranges { IsItem item.now }
-    requires read { IsRead item.now.act }
+    requires read { IsTyped item.now.act }
     requires spelled { bytes ≡ spelled_item item.now }
     ensures { AnswersItem ⟦<S as Site>⟧ item.now site result.1 result.0 }
 {

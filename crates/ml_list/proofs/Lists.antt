@@ -25,7 +25,7 @@ use Rattle.ml_config.proofs.KeyLemmas.{one_key_file}
 use Rattle.ml_plain.specs.declared.Reply.{Reply}
 use Rattle.ml_plain.specs.Steps as spec
 use Rattle.ml_plain.specs.Answers.{subscribed, already, full, unsubscribed, absent, rekeyed, toosoon}
-use Rattle.ml_plain.specs.Plain.{Plain, with_members, is_full, added, removed}
+use Rattle.ml_plain.specs.Plain.{Plain, is_full, is_in, added, removed}
 use Rattle.ml_plain.specs.Steps.{is_recent, changed_keys}
 use Rattle.ml_plain.specs.Directory.{IsList, is_of_list, list_ledger_kinds, digest_ledger_kinds}
 use Rattle.ml_plain.specs.KeptFiles.{is_kept}
@@ -34,7 +34,8 @@ use Rattle.ml_plain.proofs.Changes.{members_changed, keys_put_changed}
 use Rattle.ml_plain.proofs.PartChanges.{list_ledger_changed, digest_ledger_changed}
 use Rattle.ml_base.proofs.Laid.{laid_joined, left_alone}
 use Rattle.ml_list.proofs.Risen.{touches_both}
-use Rattle.ml_list.specs.Applying.{DoesList, addition_reply, without_entry}
+use Rattle.ml_acts.specs.Doing.{DoesList}
+use Rattle.ml_list.specs.Applying.{addition_reply}
 
 -- puts of files that pass a test pass a weaker one
 pub touches_weaker : (f g : Name → Bool) (puts : List Put) → ((name : Name) → f name ≡ true → g name ≡ true) → touches_only f puts ≡ true → touches_only g puts ≡ true
@@ -93,84 +94,15 @@ pub removed_nobody : (dir : Dir) (p : Plain) (set : Set) (who : Text) (done : Li
 removed_nobody dir p set who done is none e f =
     does_by dir done [] absent (spec.remove set who p) p e f (ap (λ (b : Bool). cond b (removed set who p, unsubscribed) (p, absent)) none) is
 
--- the list without an address, and then without the entry in the ledger
-abbrev left_by : Set → Text → Plain → Plain
-left_by set who p = record p { sets = with_members set (without_member (key who) (p.sets set)) p.sets }
-
-removed_is : (set : Set) (who : Text) (p : Plain) → without_entry set who (left_by set who p) ≡ removed set who p
-removed_is sets.List who p = refl
-removed_is sets.Digest who p = refl
-removed_is sets.Allow who p = refl
-removed_is sets.Deny who p = refl
-removed_is sets.Moderators who p = refl
-
--- removing, where the set has it: the puts that leave the set without it, and those behind them
-pub removed_list : (dir : Dir) (p : Plain) (set : Set) (who : Text) (txn : List Put) (done : List Put × Reply) → IsList dir p
-    → has_key (key who) (p.sets set) ≡ true → AreSubscribers (with_puts dir txn) set (without_member (key who) (p.sets set))
-    → touches_only (is_touched set (key who)) txn ≡ true → done.1 ≡ unsubscribed
-    → ((r : Plain) → IsList (with_puts dir txn) r → IsList (with_puts dir done.0) (without_entry set who r)) → DoesList dir done (spec.remove set who p)
-removed_list dir p set who txn done is there now only f behind =
-    does_by dir done done.0 unsubscribed (spec.remove set who p) (removed set who p) refl f
-    (ap (λ (b : Bool). cond b (removed set who p, unsubscribed) (p, absent)) there)
-    (subst (λ (q : Plain). IsList (with_puts dir done.0) q) (removed_is set who p) (behind (left_by set who p) (members_changed dir p set (key who) txn (without_member (key who) (p.sets set)) is only now)))
+-- removing, where the set has it
+pub removed_list : (dir : Dir) (p : Plain) (set : Set) (who : Text) (txn : List Put) (done : List Put × Reply) → (is_in p set who ≡ true) × IsList (with_puts dir txn) (removed set who p) → done.0 ≡ txn → done.1 ≡ unsubscribed
+    → DoesList dir done (spec.remove set who p)
+removed_list dir p set who txn done leaves e f =
+    does_by dir done txn unsubscribed (spec.remove set who p) (removed set who p) e f (ap (λ (b : Bool). cond b (removed set who p, unsubscribed) (p, absent)) leaves.0) leaves.1
 
 -- a name is itself
 pub same_self : (name : Name) → same_name name name ≡ true
 same_self name = and_from (eqb name.kind name.kind) (eqb name.at name.at) (eq-eqb name.kind name.kind refl) (eq-eqb name.at name.at refl)
-
--- the files of a set's ledger that are touched are the list's
-entry_kind : (set : Set) (k : Text) (name : Name) → same_name name (key_file set k) ≡ true → name.kind ≡ ledger_kind set
-entry_kind set k name e = eqb-true name.kind (ledger_kind set) (and_parts (eqb name.kind (ledger_kind set)) (eqb name.at (ledger_place k)) e).0
-
-pub entry_own : (set : Set) (k : Text) → has_ledger set ≡ true → (name : Name) → same_name name (key_file set k) ≡ true → is_of_list name ≡ true
-entry_own set k has name e = let kind = entry_kind set k name e in let few = low set has in in_list name.kind (omega (arith, kind, few)) (omega (arith, kind, few))
-  where
-    low : (set : Set) → has_ledger set ≡ true → (1 ≤ ledger_kind set) × (ledger_kind set ≤ 18)
-    low sets.List has = (omega arith, omega arith)
-    low sets.Digest has = (omega arith, omega arith)
-    low sets.Allow has = absurd (let bad : false ≡ true = has in cc)
-    low sets.Deny has = absurd (let bad : false ≡ true = has in cc)
-    low sets.Moderators has = absurd (let bad : false ≡ true = has in cc)
-
-pub touched_own : (set : Set) (k : Text) (puts : List Put) → touches_only (is_touched set k) puts ≡ true → touches_only is_of_list puts ≡ true
-touched_own set k puts only = touches_weaker (is_touched set k) is_of_list puts (touched_plain set k) only
-
--- a set without a ledger
-pub nothing_forgotten : (dir : Dir) (set : Set) (who : Text) (p : Plain) → has_ledger set ≡ false → IsList dir p → IsList dir (without_entry set who p)
-nothing_forgotten dir sets.List who p none is = absurd (let bad : true ≡ false = none in cc)
-nothing_forgotten dir sets.Digest who p none is = absurd (let bad : true ≡ false = none in cc)
-nothing_forgotten dir sets.Allow who p none is = is
-nothing_forgotten dir sets.Deny who p none is = is
-nothing_forgotten dir sets.Moderators who p none is = is
-
--- what the puts by which a ledger forgets a key make of it, wherever its file is as it was
-abbrev Forgets : Dir → Set → Text → List Put → Type 0
-Forgets dir set k more = (now : Dir) (ledger : Ledger) → now (key_file set k) ≡ dir (key_file set k) → IsLedger now (ledger_kind set) ledger → IsLedger (with_puts now more) (ledger_kind set) (forget k ledger)
-
-module _ (dir : Dir) (who : Text) (p : Plain) (txn more done : List Put) where
-  joined : done ≡ txn ++ more → (q : Plain) → IsList (with_puts (with_puts dir txn) more) q → IsList (with_puts dir done) q
-  joined e q is = subst (λ (d : Dir). IsList d q) (sym (ap (λ (t : List Put). with_puts dir t) e ∙ laid_joined dir txn more)) is
-
-  -- a set with one
-  pub entry_forgotten : (set : Set) → has_ledger set ≡ true → IsList (with_puts dir txn) p → touches_only (is_touched set (key who)) txn ≡ true → Forgets dir set (key who) more
-      → touches_only (λ name. same_name name (key_file set (key who))) more ≡ true → done ≡ txn ++ more → IsList (with_puts dir done) (without_entry set who p)
-  entry_forgotten sets.List has is only forgets others e =
-      joined e _ (list_ledger_changed (with_puts dir txn) p more (forget (key who) p.list_ledger) is
-      (touches_weaker (λ name. same_name name (key_file sets.List (key who))) (λ name. list_ledger_kinds name.kind) more (λ name same. eq-eqb name.kind 15 (entry_kind sets.List (key who) name same)) others)
-      (forgets (with_puts dir txn) p.list_ledger (left_alone (is_touched sets.List (key who)) dir txn (key_file sets.List (key who)) only refl) is.list_ledger))
-  entry_forgotten sets.Digest has is only forgets others e =
-      joined e _ (digest_ledger_changed (with_puts dir txn) p more (forget (key who) p.digest_ledger) is
-      (touches_weaker (λ name. same_name name (key_file sets.Digest (key who))) (λ name. digest_ledger_kinds name.kind) more (λ name same. eq-eqb name.kind 16 (entry_kind sets.Digest (key who) name same)) others)
-      (forgets (with_puts dir txn) p.digest_ledger (left_alone (is_touched sets.Digest (key who)) dir txn (key_file sets.Digest (key who)) only refl) is.digest_ledger))
-  entry_forgotten sets.Allow has is only forgets others e = absurd (let bad : false ≡ true = has in cc)
-  entry_forgotten sets.Deny has is only forgets others e = absurd (let bad : false ≡ true = has in cc)
-  entry_forgotten sets.Moderators has is only forgets others e = absurd (let bad : false ≡ true = has in cc)
-
--- all these puts are of the list's files
-pub both_own : (who : Text) (txn more done : List Put) (set : Set) → has_ledger set ≡ true → touches_only (is_touched set (key who)) txn ≡ true
-    → touches_only (λ name. same_name name (key_file set (key who))) more ≡ true → done ≡ txn ++ more → touches_only is_of_list done ≡ true
-both_own who txn more done set has only others e =
-    ap (touches_only is_of_list) e ∙ touches_both is_of_list txn more (touched_own set (key who) txn only) (touches_weaker (λ name. same_name name (key_file set (key who))) is_of_list more (entry_own set (key who) has) others)
 
 pub key_stays : (dir : Dir) (p : Plain) (keys : Keys) (now : ℕ) (new : Text) (done : List Put × Reply) → IsList dir p → IsKeyFile (dir key_name) keys → is_recent now keys.former ≡ true
     → done.0 ≡ [] → done.1 ≡ toosoon → DoesList dir done (spec.rekey now new p)

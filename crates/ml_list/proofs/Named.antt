@@ -22,7 +22,10 @@ use Rattle.ml_plain.specs.declared.Act.TheVariants.{Deliver, Timed, Add, Remove,
 use Rattle.ml_plain.specs.declared.Item.{Item}
 use Rattle.ml_plain.specs.Items.{IsItem, IsAct}
 use Rattle.ml_plain.specs.KeptFiles.{floor_name, replies_name}
-use Rattle.ml_list.specs.Damage.{IsNamed, may_read, is_entry_of, is_looked_up, is_read_by}
+use Rattle.ml_queue.specs.Answers.{ids_name}
+use Rattle.ml_acts.specs.Doing.{is_entry_of}
+use Rattle.ml_deliver.specs.Reads.{is_of_acts}
+use Rattle.ml_list.specs.Damage.{IsNamed, may_read, is_looked_up, is_read_by}
 
 named : (name other : Name) → same_name name other ≡ true → is_in_table other ≡ true → IsNamed name
 named name other e there = record { table = ap is_in_table (one_name name other e) ∙ there }
@@ -63,9 +66,12 @@ entry_in sets.Allow k has = absurd (let bad : false ≡ true = has in cc)
 entry_in sets.Deny k has = absurd (let bad : false ≡ true = has in cc)
 entry_in sets.Moderators k has = absurd (let bad : false ≡ true = has in cc)
 
-entry_named : (set : Set) (k : Text) (name : Name) → is_entry_of set k name ≡ true → IsNamed name
-entry_named set k name e =
-    let parts = and_parts (has_ledger set) (same_name name (key_file set k)) e in named name (key_file set k) parts.1 (entry_in set k parts.0)
+entry_named : (set : Set) (who : Text) (name : Name) → is_entry_of set who name ≡ true → IsNamed name
+entry_named set who name e =
+    let parts = and_parts (has_ledger set) (same_name name (key_file set (key who))) e in named name (key_file set (key who)) parts.1 (entry_in set (key who) parts.0)
+
+acted_named : (name : Name) → is_of_acts name ≡ true → IsNamed name
+acted_named name e = record { table = (and_parts (is_in_table name) ((leb 2 name.kind && leb name.kind 16) || (eqb name.kind 18 || eqb name.kind 20)) e).0 }
 
 floor_or_replies : (n : ℕ) (name : Name) → n ≤ 999_999_999_999 → (same_name name floor_name || same_name name (replies_name (n / 512))) ≡ true → IsNamed name
 floor_or_replies n name most e = go (or_cases (same_name name floor_name) (same_name name (replies_name (n / 512))) e)
@@ -74,21 +80,18 @@ floor_or_replies n name most e = go (or_cases (same_name name floor_name) (same_
     go (inl f) = named name floor_name f refl
     go (inr r) = named name (replies_name (n / 512)) r (replies_in n most)
 
-nothing : (name : Name) → false ≡ true → IsNamed name
-nothing name e = cc
-
 read_named : (act : Act) (name : Name) → IsAct act → is_read_by act name ≡ true → IsNamed name
 read_named (Add set who) name is e = touched_named set (key who) name e
-read_named (Remove set who) name is e = go (or_cases (is_touched set (key who) name) (is_entry_of set (key who) name) e)
+read_named (Remove set who) name is e = go (or_cases (is_touched set (key who) name) (is_entry_of set who name) e)
   where
-    go : ((is_touched set (key who) name ≡ true) ⊎ (is_entry_of set (key who) name ≡ true)) → IsNamed name
+    go : ((is_touched set (key who) name ≡ true) ⊎ (is_entry_of set who name ≡ true)) → IsNamed name
     go (inl t) = touched_named set (key who) name t
-    go (inr l) = entry_named set (key who) name l
+    go (inr l) = entry_named set who name l
 read_named (Rekey new) name is e = named name key_name e refl
 read_named (Floor at) name is e = floor_or_replies at name is.1 e
-read_named (Deliver sender recipient message) name is e = nothing name e
-read_named Timed name is e = nothing name e
-read_named (Sent id) name is e = nothing name e
+read_named (Deliver sender recipient message) name is e = acted_named name e
+read_named Timed name is e = acted_named name e
+read_named (Sent id) name is e = named name ids_name e refl
 
 pub may_read_named : (item : Item) (name : Name) → IsItem item → may_read item name ≡ true → IsNamed name
 may_read_named item name is e = go (or_cases (is_looked_up item.number name) (is_read_by item.act name) e)

@@ -9,6 +9,8 @@ use Rattle.ml_base.proofs.Laid.{laid_joined, left_alone}
 use Rattle.ml_plain.specs.declared.Item.{Item}
 use Rattle.ml_plain.specs.declared.Reply.{Reply}
 use Rattle.ml_plain.specs.Answers.{floored, badfloor, stale}
+use Rattle.ml_plain.specs.Managing.{deliver}
+use Rattle.ml_plain.specs.Plain.{Plain}
 use Rattle.ml_plain.specs.Steps.{step0, act_step}
 use Rattle.ml_plain.specs.Histories.{State, Kept, step, with_reply, keep, effect, effect_by, floor_asked, raise, with_floor, from_floor, may_rise, is_below, kept_for}
 use Rattle.ml_plain.specs.Directory.{IsState, is_of_list}
@@ -16,7 +18,8 @@ use Rattle.ml_plain.specs.KeptFiles.{AreReplies, IsRepliesFile, IsFloorFile, IsR
 use Rattle.ml_plain.proofs.Turns.{raised_by, step_stale, step_kept, step_new, below_not}
 use Rattle.ml_plain.proofs.StateFiles.{own_list, own_replies, floor_one}
 use Rattle.ml_plain.proofs.Changes.{floor_kept, floor_risen}
-use Rattle.ml_list.specs.Applying.{Does, DoesList, Repeats}
+use Rattle.ml_acts.specs.Doing.{DoesList}
+use Rattle.ml_list.specs.Applying.{Does, Repeats}
 use Rattle.ml_list.specs.Rising.{rise_puts}
 use Rattle.ml_list.proofs.Risen.{risen, cut_is, rise_own, touches_both}
 
@@ -49,6 +52,11 @@ plain_does dir q item done is none only does = record {
     replies = own_replies dir (with_puts dir done.0) q.floor q.kept (λ name own. left_alone is_of_list dir done.0 name only (apart name own)) is.replies;
   });
 }
+
+-- a delivery of the same texts
+pub delivered_so : (dir : Dir) (done : List Put × Reply) (now : ℕ) (sender recipient m from to text : Text) (p : Plain) → from ≡ sender → to ≡ recipient → text ≡ m → DoesList dir done (deliver now from to text p) → DoesList dir done (deliver now sender recipient m p)
+delivered_so dir done now sender recipient m from to text p a b c does =
+    subst (λ (s : Text). DoesList dir done (deliver now s recipient m p)) a (subst (λ (s : Text). DoesList dir done (deliver now from s m p)) b (subst (λ (s : Text). DoesList dir done (deliver now from to s p)) c does))
 
 module _ (dir : Dir) (q : State) (number at floor : ℕ) (is : IsState dir q) (file : IsFloorFile (dir floor_name) floor) where
   same_floor : q.floor ≡ floor

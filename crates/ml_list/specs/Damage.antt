@@ -1,23 +1,21 @@
 -- Which files an item may read, and which of them are outside their grammar.
-use Rattle.std.specs.Prelude.{◌≡◌, IsTrue, ◌<◌, ℕ, List, ◌*◌, ◌/◌, Bool, false, not, ◌&&◌, ◌||◌, ◌==◌}
+use Rattle.std.specs.Prelude.{◌≡◌, ◌<◌, ◌*◌, ◌/◌, ℕ, Bool, IsTrue, not, ◌&&◌, ◌||◌, ◌==◌}
 use Rattle.ml_base.specs.Address.{key}
-use Rattle.ml_base.specs.Bytes.{Text}
 use Rattle.ml_base.specs.Dir.{Dir, same_name}
 use Rattle.ml_base.specs.Name.{is_in_table}
 use Rattle.ml_base.specs.declared.names.Name.{Name}
-use Rattle.ml_base.specs.declared.names.Set.{Set}
-use Rattle.ml_bounce.specs.Answers.{has_ledger, key_file, IsNoFile}
-use Rattle.ml_bounce.specs.Files.{ledger_place}
-use Rattle.ml_subs.specs.Subscribers.{AreSubscribers, IsUnread, is_touched}
-use Rattle.ml_subs.specs.declared.member_list.Member.{Member}
 use Rattle.ml_config.specs.ConfigFile.{IsDamagedConfig, config_name}
-use Rattle.ml_config.specs.KeyFile.{IsKeyFile, key_name}
-use Rattle.ml_config.specs.declared.key_file.Keys.{Keys}
+use Rattle.ml_config.specs.KeyFile.{key_name}
+use Rattle.ml_queue.specs.Answers.{ids_name}
+use Rattle.ml_subs.specs.Subscribers.{is_touched}
 use Rattle.ml_plain.specs.declared.Item.{Item}
 use Rattle.ml_plain.specs.declared.Act.{Act}
-use Rattle.ml_plain.specs.declared.Act.TheVariants.{Add, Remove, Rekey, Floor}
+use Rattle.ml_plain.specs.declared.Act.TheVariants.{Deliver, Timed, Add, Remove, Sent, Rekey, Floor}
 use Rattle.ml_plain.specs.Histories.{Kept}
 use Rattle.ml_plain.specs.KeptFiles.{IsFloorFile, IsRepliesFile, floor_name, replies_name}
+use Rattle.ml_acts.specs.Damaged as acts
+use Rattle.ml_acts.specs.Doing.{is_entry_of}
+use Rattle.ml_deliver.specs.Reads.{IsDamagedInRun, is_of_acts}
 
 -- a file that holds no floor
 abbrev pub IsNoFloor : Dir → Type 0
@@ -31,34 +29,25 @@ IsNoReplies dir group = (kept : Kept) → ¬ IsRepliesFile (512 * group) (dir (r
 abbrev pub IsNoConfig : Dir → Type 0
 IsNoConfig dir = IsDamagedConfig (dir config_name)
 
--- a file that holds no keys
-abbrev pub IsNoKeys : Dir → Type 0
-IsNoKeys dir = (keys : Keys) → ¬ IsKeyFile (dir key_name) keys
-
--- files that are no set's
-abbrev pub IsNoSet : Dir → Set → Type 0
-IsNoSet dir set = (ms : List Member) → ¬ AreSubscribers dir set ms
-
--- A file that is outside its grammar. A set's is one that no list of members can have.
+-- A file that is outside its grammar, or names what isn't there.
 pub data IsDamaged (dir : Dir) (name : Name) : Type 0 where
   config : name ≡ config_name → IsNoConfig dir → IsDamaged dir name
   floor : name ≡ floor_name → IsNoFloor dir → IsDamaged dir name
   replies : (group : ℕ) → group < 1_953_125_000 → name ≡ replies_name group → IsNoReplies dir group → IsDamaged dir name
-  keys : name ≡ key_name → IsNoKeys dir → IsDamaged dir name
-  subscribers : (set : Set) (k : Text) (has : Bool) → IsUnread dir set k has name → IsNoSet dir set → IsDamaged dir name
-  ledger : (set : Set) (k : Text) → IsTrue (has_ledger set) → name ≡ key_file set k → IsNoFile dir set (ledger_place k) → IsDamaged dir name
-
--- the file of a set's ledger that has a key, where the set has a ledger
-abbrev pub is_entry_of : Set → Text → Name → Bool
-is_entry_of set k name = has_ledger set && same_name name (key_file set k)
+  -- one that an act on the list reads
+  part : acts.IsDamaged dir name → IsDamaged dir name
+  -- one that a timed run reads, as it is where the run has come some way
+  later : IsDamagedInRun dir name → IsDamaged dir name
 
 -- the files that an act may read
 abbrev pub is_read_by : Act → Name → Bool
+is_read_by (Deliver sender recipient message) name = is_of_acts name
+is_read_by Timed name = is_of_acts name
 is_read_by (Add set who) name = is_touched set (key who) name
-is_read_by (Remove set who) name = is_touched set (key who) name || is_entry_of set (key who) name
+is_read_by (Remove set who) name = is_touched set (key who) name || is_entry_of set who name
+is_read_by (Sent id) name = same_name name ids_name
 is_read_by (Rekey new) name = same_name name key_name
 is_read_by (Floor at) name = same_name name floor_name || same_name name (replies_name (at / 512))
-is_read_by _ name = false
 
 -- the files that an item of this number may read before it counts: the floor's, and that of the number's reply
 abbrev pub is_looked_up : ℕ → Name → Bool

@@ -13,7 +13,6 @@ ghost use Rattle.ml_plain.specs.Histories as steps;
 ghost use Rattle.ml_plain.specs.Directory.{IsState};
 ghost use Rattle.ml_plain.specs.KeptFiles.{is_kept};
 ghost use Rattle.ml_plain.specs.KeptFiles as states;
-ghost use Rattle.ml_list.specs.Acts.{IsApplied};
 ghost use Rattle.ml_list.specs.Applying.{Does, Repeats};
 ghost use Rattle.ml_list.specs.Lookups.{answer_of, IsNew, IsInRange, IsRead};
 ghost use Rattle.ml_list.specs.Damage.{IsDamaged, is_looked_up, is_read_by, may_read};
@@ -23,6 +22,7 @@ use crate::floors::floor;
 use crate::rising::raise;
 use crate::slots::{Found, Known, keep, kept_reply, replies_name};
 use ml_base::{Bytes, Files, Name, PartError, Put, Txn, copied};
+use ml_deliver::{deliver, run_timed, sent_entry};
 use ml_plain::{Act, Item, Reply};
 use std::alloc::{AllocError, Global};
 
@@ -33,10 +33,9 @@ use std::alloc::{AllocError, Global};
 /// with it, and neither changes anything. The reply of any other item is kept for its number, where that isn't 0.
 /// `Damaged` names a file that the item may read and that is outside its grammar. `Fault` comes only where a read failed.
 ///
-/// The item is in its ranges, and so far its act is one that adds, removes, changes the key or raises the floor.
+/// The item is in its ranges. The configuration is there, which `load` tells.
 pub fn apply<F: Files>(alloc: Global, files: F, item: &Item) -> (F, Result<(Txn, Reply), PartError>)
     requires item { IsItem item.now }
-    requires applied { IsApplied item.now.act }
     ensures value { IsTrue F.tells → IfOk result.1 (λ done. (q : State) → IsState (F.map files) q → Does (F.map files) done (step q item.now)) }
     ensures reply { IfOk result.1 (λ done. IsTrue (is_code done.1.code)) }
     ensures files { IfOk result.1 (λ done. IsTrue (are_files done.0)) }
@@ -48,10 +47,7 @@ pub fn apply<F: Files>(alloc: Global, files: F, item: &Item) -> (F, Result<(Txn,
     match look_up(alloc, &mut files, item.number) {
         Err(error) => (files, Err(error)),
         Ok(Lookup::Answered(reply)) => (files, Ok((Txn::new(alloc), reply))),
-        Ok(Lookup::New(known)) => {
-            let answer = count(alloc, &mut files, item, known);
-            (files, answer)
-        }
+        Ok(Lookup::New(known)) => count(alloc, files, item, known),
     }
 }
 
@@ -113,33 +109,63 @@ fn stale() -> Reply
 // Applies an item that counts, with what was read for its number.
 fn count<F: Files>(
     alloc: Global,
-    files: &mut F,
+    files: F,
     item: &Item,
     known: Known,
-) -> Result<(Txn, Reply), PartError>
+) -> (F, Result<(Txn, Reply), PartError>)
     requires item { IsItem item.now }
-    requires applied { IsApplied item.now.act }
-    requires known { IsTrue F.tells → IsRead (F.map files.old) item.now.number known }
+    requires known { IsTrue F.tells → IsRead (F.map files) item.now.number known }
     requires range { IsInRange known.floor }
-    ensures value { IsTrue F.tells → IfOk result (λ done. (q : State) → IsState (F.map files.old) q → Repeats q item.now.number None → Does (F.map files.old) done (with_reply item.now.number (steps.effect q item.now))) }
-    ensures reply { IfOk result (λ done. IsTrue (is_code done.1.code)) }
-    ensures files { IfOk result (λ done. IsTrue (are_files done.0)) }
-    ensures names { NamesDamaged ⟦<F as Files>⟧ (λ name. is_read_by item.now.act name ≡ true) (IsDamaged (F.map files.old)) result }
-    ensures reads { IsReading ⟦<F as Files>⟧ files.old files.new result }
+    ensures value { IsTrue F.tells → IfOk result.1 (λ done. (q : State) → IsState (F.map files) q → Repeats q item.now.number None → Does (F.map files) done (with_reply item.now.number (steps.effect q item.now))) }
+    ensures reply { IfOk result.1 (λ done. IsTrue (is_code done.1.code)) }
+    ensures files { IfOk result.1 (λ done. IsTrue (are_files done.0)) }
+    ensures names { NamesDamaged ⟦<F as Files>⟧ (λ name. is_read_by item.now.act name ≡ true) (IsDamaged (F.map files)) result.1 }
+    ensures reads { IsReading ⟦<F as Files>⟧ files result.0 result.1 }
 {
-    let (txn, reply) = effect(alloc, files, item, &known)?;
-    with_reply_kept(alloc, known.file, item.number, txn, reply)
+    let (files, answer) = effect(alloc, files, item, &known);
+    match answer {
+        Ok((txn, reply)) => {
+            let kept = with_reply_kept(alloc, known.file, item.number, txn, reply);
+            (files, kept)
+        }
+        Err(error) => (files, Err(error)),
+    }
 }
 
-// What an item does that counts, but for its reply that is kept.
+// What an item does that counts, but for its reply that is kept. A timed run lays puts over the files, and so takes them.
 fn effect<F: Files>(
+    alloc: Global,
+    files: F,
+    item: &Item,
+    known: &Known,
+) -> (F, Result<(Txn, Reply), PartError>)
+    requires item { IsItem item.now }
+    requires known { IsTrue F.tells → IsRead (F.map files) item.now.number known.now }
+    requires range { IsInRange known.now.floor }
+    ensures value { IsTrue F.tells → IfOk result.1 (λ done. (q : State) → IsState (F.map files) q → Does (F.map files) done (steps.effect q item.now)) }
+    ensures reply { IfOk result.1 (λ done. is_kept done.1 ≡ true) }
+    ensures files { IfOk result.1 (λ done. IsTrue (are_files done.0)) }
+    ensures names { NamesDamaged ⟦<F as Files>⟧ (λ name. is_read_by item.now.act name ≡ true) (IsDamaged (F.map files)) result.1 }
+    ensures reads { IsReading ⟦<F as Files>⟧ files result.0 result.1 }
+{
+    match &item.act {
+        Act::Timed => run_timed(alloc, files, item.moment),
+        _ => {
+            let mut files = files;
+            let answer = change(alloc, &mut files, item, known);
+            (files, answer)
+        }
+    }
+}
+
+// What an item does that counts and is no timed run.
+fn change<F: Files>(
     alloc: Global,
     files: &mut F,
     item: &Item,
     known: &Known,
 ) -> Result<(Txn, Reply), PartError>
     requires item { IsItem item.now }
-    requires applied { IsApplied item.now.act }
     requires known { IsTrue F.tells → IsRead (F.map files.old) item.now.number known.now }
     requires range { IsInRange known.now.floor }
     ensures value { IsTrue F.tells → IfOk result (λ done. (q : State) → IsState (F.map files.old) q → Does (F.map files.old) done (steps.effect q item.now)) }
@@ -149,12 +175,25 @@ fn effect<F: Files>(
     ensures reads { IsReading ⟦<F as Files>⟧ files.old files.new result }
 {
     match &item.act {
+        Act::Deliver {
+            sender,
+            recipient,
+            message,
+        } => deliver(
+            alloc,
+            files,
+            item.moment,
+            sender.as_slice(),
+            recipient.as_slice(),
+            message.as_slice(),
+        ),
         Act::Add { set, who } => add_member(alloc, files, *set, who, item.moment),
         Act::Remove { set, who } => remove_member(alloc, files, *set, who),
+        Act::Sent { id } => sent_entry(alloc, files, *id),
         Act::Rekey { key } => change_key(alloc, files, key, item.moment),
         Act::Floor { at } => raise(alloc, files, item.number, *at, known),
-        // None of these comes here yet.
-        Act::Deliver { .. } | Act::Timed | Act::Sent { .. } => Err(PartError::Memory),
+        // It takes the files, and doesn't come here.
+        Act::Timed => Err(PartError::Memory),
     }
 }
 

@@ -1,9 +1,6 @@
 // What acts change of the list: its sets and its keys.
 ghost use Rattle.std.specs.Prelude.{◌≡◌, ◌<◌, ◌≤◌, true, IsTrue, IfOk, IfErr, IfSome, IsErrOf};
-ghost use Rattle.ml_base.specs.Address.{key};
-ghost use Rattle.ml_base.specs.Dir.{are_files, touches_only, with_puts};
-ghost use Rattle.ml_bounce.specs.Answers as ledgers;
-ghost use Rattle.ml_subs.specs.Subscribers.{is_touched};
+ghost use Rattle.ml_base.specs.Dir.{are_files, touches_only};
 ghost use Rattle.ml_base.specs.ReadFiles.{IsReading, NamesDamaged};
 ghost use Rattle.ml_subs.specs.Answers.{puts_of};
 ghost use Rattle.ml_base.specs.Ranges.{IsMoment};
@@ -14,14 +11,14 @@ ghost use Rattle.ml_plain.specs.Answers as answers;
 ghost use Rattle.ml_plain.specs.Steps as spec;
 ghost use Rattle.ml_plain.specs.Directory.{IsList, is_of_list};
 ghost use Rattle.ml_plain.specs.KeptFiles.{is_kept};
-ghost use Rattle.ml_list.specs.Applying.{DoesList, addition_reply, without_entry};
-ghost use Rattle.ml_list.specs.Damage.{IsDamaged, is_entry_of, is_read_by};
+ghost use Rattle.ml_acts.specs.Doing.{DoesList};
+ghost use Rattle.ml_list.specs.Applying.{addition_reply};
+ghost use Rattle.ml_list.specs.Damage.{IsDamaged, is_read_by};
 
 use ml_base::{Address, Files, PartError, Set, Txn, age};
-use ml_bounce::forget;
 use ml_config::{Former, Keys, key, set_keys};
 use ml_plain::Reply;
-use ml_subs::{AddAnswer, add, remove};
+use ml_subs::{AddAnswer, add};
 use std::alloc::Global;
 
 // How long a new key stays in force at least, in seconds.
@@ -73,43 +70,10 @@ pub(crate) fn remove_member<F: Files>(
     ensures names { NamesDamaged ⟦<F as Files>⟧ (λ name. is_read_by (acts.Remove set who.now) name ≡ true) (IsDamaged (F.map files.old)) result }
     ensures reads { IsReading ⟦<F as Files>⟧ files.old files.new result }
 {
-    let Some(txn) = remove(alloc, files, set, who)? else {
-        return Ok((Txn::new(alloc), plain(Reply::ABSENT)));
-    };
-    let txn = forgotten(alloc, files, set, who, txn)?;
-    Ok((txn, plain(Reply::UNSUBSCRIBED)))
-}
-
-// The puts that remove an address from a set, and behind them those by which the set's ledger forgets it, where it has one.
-fn forgotten<F: Files>(
-    alloc: Global,
-    files: &mut F,
-    set: Set,
-    who: &Address,
-    txn: Txn,
-) -> Result<Txn, PartError>
-    requires touched { touches_only (is_touched set (key who.now)) txn ≡ true }
-    requires names { IsTrue (are_files txn) }
-    ensures value { IsTrue F.tells → IfOk result (λ done. (p : Plain) → IsList (with_puts (F.map files.old) txn) p → IsList (with_puts (F.map files.old) done) (without_entry set who.now p)) }
-    ensures own { IfOk result (λ done. touches_only is_of_list done ≡ true) }
-    ensures files { IfOk result (λ done. IsTrue (are_files done)) }
-    ensures names { NamesDamaged ⟦<F as Files>⟧ (λ name. is_entry_of set (key who.now) name ≡ true) (IsDamaged (F.map files.old)) result }
-    ensures reads { IsReading ⟦<F as Files>⟧ files.old files.new result }
-{
-    if !has_ledger(set) {
-        return Ok(txn);
+    match ml_acts::remove_member(alloc, files, set, who)? {
+        Some(txn) => Ok((txn, plain(Reply::UNSUBSCRIBED))),
+        None => Ok((Txn::new(alloc), plain(Reply::ABSENT))),
     }
-    let entry = forget(alloc, files, set, who)?;
-    let mut txn = txn;
-    txn.join(entry)?;
-    Ok(txn)
-}
-
-// Whether a set has a ledger.
-fn has_ledger(set: Set) -> bool
-    ensures { result ≡ ledgers.has_ledger set }
-{
-    matches!(set, Set::List | Set::Digest)
 }
 
 // Changes the key.

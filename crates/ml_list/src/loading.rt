@@ -5,7 +5,7 @@ ghost use Rattle.ml_base.specs.ReadFiles.{IsReading, NamesDamaged};
 ghost use Rattle.ml_config.specs.ConfigFile.{config_name};
 ghost use Rattle.ml_plain.specs.Histories.{State};
 ghost use Rattle.ml_plain.specs.Directory.{IsState};
-ghost use Rattle.ml_list.specs.Damage.{IsDamaged};
+ghost use Rattle.ml_list.specs.Damage.{IsNoConfig};
 ghost use Rattle.ml_list.specs.Loading.{IsLoaded};
 
 use ml_base::{Files, PartError};
@@ -15,7 +15,7 @@ use std::alloc::Global;
 /// configuration. `Fault` comes only where a read failed.
 pub fn load<F: Files>(alloc: Global, files: &mut F) -> Result<Option<()>, PartError>
     ensures value { IsTrue F.tells → IfOk result (λ found. IsLoaded found (F.map files.old)) }
-    ensures names { NamesDamaged ⟦<F as Files>⟧ (λ name. name ≡ config_name) (IsDamaged (F.map files.old)) result }
+    ensures names { NamesDamaged ⟦<F as Files>⟧ (λ name. name ≡ config_name) (λ _. IsNoConfig (F.map files.old)) result }
     ensures sound { IsTrue F.tells → (q : State) → IsState (F.map files.old) q → IfErr result (λ e. OnDamaged e (λ _. ⊥)) }
     ensures reads { IsReading ⟦<F as Files>⟧ files.old files.new result }
 {

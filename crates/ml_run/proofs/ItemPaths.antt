@@ -1,4 +1,4 @@
--- No item reads the log or the configuration.
+-- No item names the log or the configuration as damaged.
 use Rattle.std.proofs.Common.{◌≡◌, ⊎_elim, ℕ, true, false, eqb, not, Some, sym, refl, subst, ◌∙◌}
 use Rattle.std.proofs.lemmas.Bool.{or_cases, and_parts}
 use Rattle.ml_base.specs.Bytes.{Text}

@@ -4,18 +4,14 @@ use Rattle.std.specs.Prelude.{IsSome}
 use Rattle.ml_base.specs.Bytes.{Text}
 use Rattle.ml_base.specs.Dir.{Dir}
 use Rattle.ml_base.specs.PartErrors.{OnDamaged}
-use Rattle.ml_base.specs.Name.{set_kind}
 use Rattle.ml_base.specs.declared.names.Name.{Name}
-use Rattle.ml_base.specs.declared.names.Set.{Set}
-use Rattle.ml_base.specs.declared.names.Set.TheVariants as sets
 use Rattle.ml_base.specs.declared.part.PartError.{PartError}
 use Rattle.ml_base.specs.declared.part.PartError.TheVariants as parts
 use Rattle.ml_config.specs.ConfigFile.{config_name}
 use Rattle.ml_site.specs.declared.site.Site.{Ghosts}
 use Rattle.ml_journal.specs.declared.errors.OpenError.{OpenError}
 use Rattle.ml_journal.specs.declared.errors.OpenError.TheVariants as opens
-use Rattle.ml_list.specs.Damage.{IsDamaged}
-use Rattle.ml_list.specs.Damage as damage
+use Rattle.ml_list.specs.Damage.{IsNoConfig}
 use Rattle.ml_ending.specs.declared.lines.Why.{Why}
 use Rattle.ml_ending.specs.declared.lines.Why.TheVariants as whys
 use Rattle.ml_ending.specs.Lines.{stop_text}
@@ -23,27 +19,11 @@ use Rattle.ml_ending.specs.Stops.{status_of_why, why_of_open, why_of_part}
 use Rattle.ml_ending.specs.Endings.{Says, Finishes, MissesList}
 use Rattle.ml_ending.proofs.Said.{some_stays, final_why}
 
--- a configuration that is damaged is there
-config_there : (dir : Dir) (name : Name) → name ≡ config_name → IsDamaged dir name → dir config_name ≢ None
-config_there dir name is (damage.config e none) = none.there
-config_there dir name is (damage.floor e none) = absurd (omega (arith, ap (λ (n : Name). n.kind) (sym e ∙ is)))
-config_there dir name is (damage.replies group low e none) = absurd (omega (arith, ap (λ (n : Name). n.kind) (sym e ∙ is)))
-config_there dir name is (damage.keys e none) = absurd (omega (arith, ap (λ (n : Name). n.kind) (sym e ∙ is)))
-config_there dir name is (damage.subscribers set k has e none) = absurd (⊎_elim (λ b. not_bucket set (ap (λ (n : Name). n.kind) (sym b.0 ∙ is))) (λ c. omega (arith, ap (λ (n : Name). n.kind) (sym c.0 ∙ is))) e)
-  where
-    not_bucket : (set : Set) → set_kind set ≡ 1 → ⊥
-    not_bucket sets.List e = omega (arith, e)
-    not_bucket sets.Digest e = omega (arith, e)
-    not_bucket sets.Allow e = omega (arith, e)
-    not_bucket sets.Deny e = omega (arith, e)
-    not_bucket sets.Moderators e = omega (arith, e)
-config_there dir name is (damage.ledger set k has e none) = absurd (let kind : set_kind set + 12 ≡ 1 = ap (λ (n : Name). n.kind) (sym e ∙ is) in omega (arith, kind))
-
 -- without a configuration none is damaged
-pub none_why : (error : PartError) (dir : Dir) → OnDamaged error (λ name. name ≡ config_name) → OnDamaged error (IsDamaged dir) → dir config_name ≡ None → (why_of_part error ≡ whys.Memory) ⊎ (why_of_part error ≡ whys.Disk)
+pub none_why : (error : PartError) (dir : Dir) → OnDamaged error (λ name. name ≡ config_name) → OnDamaged error (λ _. IsNoConfig dir) → dir config_name ≡ None → (why_of_part error ≡ whys.Memory) ⊎ (why_of_part error ≡ whys.Disk)
 none_why parts.Fault dir named damaged none = inr refl
 none_why parts.Memory dir named damaged none = inl refl
-none_why (parts.Damaged name) dir named damaged none = absurd (config_there dir name named damaged none)
+none_why (parts.Damaged name) dir named damaged none = absurd (damaged.there none)
 
 module _ {S : Type 0} (told : Ghosts S) where
   pub said_fails : (mid new : S) (status : ℕ) (who : Option ℕ) (why : Why) → (why ≡ whys.Memory) ⊎ (why ≡ whys.Disk) → Says told mid new status who why → (status ≡ 71) ⊎ ((status ≡ 73) ⊎ (status ≡ 111))

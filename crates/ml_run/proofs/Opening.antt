@@ -19,7 +19,8 @@ use Rattle.ml_journal.specs.Kept.{IsStill}
 use Rattle.ml_journal.specs.declared.errors.OpenError.{OpenError}
 use Rattle.ml_journal.specs.declared.errors.OpenError.TheVariants as opens
 use Rattle.ml_plain.specs.declared.Item.{Item}
-use Rattle.ml_list.specs.Damage.{IsDamaged, IsNamed}
+use Rattle.ml_list.specs.Damage.{IsNamed, IsNoConfig}
+use Rattle.ml_list.specs.Damage as damage
 use Rattle.ml_plain.specs.Histories.{State, fold, text}
 use Rattle.ml_list.proofs.States.{fold-nil, text-nil}
 use Rattle.ml_ending.specs.declared.lines.Why.{Why}
@@ -239,7 +240,7 @@ open_found opens.Fault found held damaged e = absurd (omega (arith, e))
 open_found opens.Memory found held damaged e = absurd (omega (arith, e))
 open_found opens.Damaged found held damaged e = inl (refl, refl, damaged refl)
 
-pub part_found : (error : PartError) (found held : Option Dir) (files : Dir) → held ≡ Some files → OnDamaged error (λ name. name ≡ config_name) → OnDamaged error (IsDamaged files) → status_of_why (why_of_part error) ≡ 75 → IsFound None (why_of_part error) found held
+pub part_found : (error : PartError) (found held : Option Dir) (files : Dir) → held ≡ Some files → OnDamaged error (λ name. name ≡ config_name) → OnDamaged error (λ _. IsNoConfig files) → status_of_why (why_of_part error) ≡ 75 → IsFound None (why_of_part error) found held
 part_found parts.Fault found held files is named damaged e = absurd (omega (arith, e))
 part_found parts.Memory found held files is named damaged e = absurd (omega (arith, e))
-part_found (parts.Damaged name) found held files is named damaged e = inr (inl (refl, named, (files, is, damaged)))
+part_found (parts.Damaged name) found held files is named damaged e = inr (inl (refl, named, (files, is, damage.config named damaged)))

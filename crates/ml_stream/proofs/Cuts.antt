@@ -8,10 +8,10 @@ use Rattle.ml_plain.specs.declared.Item.{Item}
 use Rattle.ml_stream.specs.declared.reader.Letter.{Letter}
 use Rattle.ml_stream.specs.declared.stream.StreamError.{StreamError}
 use Rattle.ml_stream.specs.declared.stream.StreamError.TheVariants.{Bad, Short, Fault, Memory}
-use Rattle.ml_stream.specs.Stream.{Got, Read, got, and_then, length_at, content_at, comma_at, closed, element_at, item_number_of, moment_of, act_at, elements_at, letter_of, some_item, Broken}
+use Rattle.ml_stream.specs.Stream.{Got, Read, got, and_then, length_at, content_at, comma_at, closed, element_at, item_number_of, moment_of, any_bytes, deliver_at, act_at, elements_at, letter_of, some_item, Broken}
 use Rattle.ml_stream.specs.Reading.{Stands, Breaks, Fails, IsCut, IsNoItem}
 use Rattle.ml_stream.proofs.Locality.{IsLocal, length_local, content_local, element_local}
-use Rattle.ml_stream.proofs.Elements.{own_is, content_short, item_letter}
+use Rattle.ml_stream.proofs.Elements.{own_is, content_short, item_letter, sender_then, recipient_then, message_then}
 
 -- the exits of a `?`
 pub at_exit : {T E : Type 0} (r : Result T E) (Q P : E → Type 0) → IsErrAnd r Q → ((e : E) → Q e → P e) → IfErr r P
@@ -145,3 +145,20 @@ elements_third e left bs rest last letter p q r number moment is next b =
     breaks_then e left bs rest (λ t. element_at 12 item_number_of p t) (number_then letter) number q (element_local 12 item_number_of p) is
     (breaks_then e left rest last (λ t. element_at 12 moment_of q t) (moment_then letter number) moment r (element_local 12 moment_of q) next
     (breaks_first e left last (λ t. act_at letter r t) (λ act. got (record { number = number; moment = moment; act = act.value }) act.place act.rest) b))
+
+-- the parts of a delivery were read in part
+pub deliver_first : (e : StreamError) (left : Option Text) (bs : Text) (p : ℕ) → Breaks e left bs (λ t. Fails (element_at 1000 any_bytes p t)) → Breaks e left bs (λ t. Fails (deliver_at p t))
+deliver_first e left bs p b = breaks_first e left bs (λ t. element_at 1000 any_bytes p t) sender_then b
+
+pub deliver_second : (e : StreamError) (left : Option Text) (bs rest : Text) (p q : ℕ) (sender : Text) → element_at 1000 any_bytes p bs ≡ got sender q rest
+    → Breaks e left rest (λ t. Fails (element_at 1000 any_bytes q t)) → Breaks e left bs (λ t. Fails (deliver_at p t))
+deliver_second e left bs rest p q sender is b =
+    breaks_then e left bs rest (λ t. element_at 1000 any_bytes p t) sender_then sender q (element_local 1000 any_bytes p) is
+    (breaks_first e left rest (λ t. element_at 1000 any_bytes q t) (recipient_then sender) b)
+
+pub deliver_third : (e : StreamError) (left : Option Text) (bs rest last : Text) (p q r : ℕ) (sender recipient : Text) → element_at 1000 any_bytes p bs ≡ got sender q rest → element_at 1000 any_bytes q rest ≡ got recipient r last
+    → Breaks e left last (λ t. Fails (element_at 33_554_432 any_bytes r t)) → Breaks e left bs (λ t. Fails (deliver_at p t))
+deliver_third e left bs rest last p q r sender recipient is next b =
+    breaks_then e left bs rest (λ t. element_at 1000 any_bytes p t) sender_then sender q (element_local 1000 any_bytes p) is
+    (breaks_then e left rest last (λ t. element_at 1000 any_bytes q t) (recipient_then sender) recipient r (element_local 1000 any_bytes q) next
+    (breaks_first e left last (λ t. element_at 33_554_432 any_bytes r t) (message_then sender recipient) b))

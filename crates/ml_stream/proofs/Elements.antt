@@ -7,14 +7,14 @@ use Rattle.std.proofs.Math.Seq.{take-append_seam, drop-append_seam}
 use Rattle.ml_stream.specs.declared.stream.StreamError.{StreamError}
 use Rattle.ml_stream.specs.declared.stream.StreamError.TheVariants.{Bad, Short, Fault, Memory}
 use Rattle.ml_stream.specs.Reading.{Stands, Tells}
-use Rattle.ml_stream.specs.Stream.{Got, Read, got, and_then, length_at, bytes_at, content_at, comma_at, closed, element_at, floor_of, key_of, member_at, floor_at, rekey_at, act_at, elements_at, item_at, item_number_of, moment_of, letter_of, behind_letter, some_item}
+use Rattle.ml_stream.specs.Stream.{Got, Read, got, and_then, length_at, bytes_at, content_at, comma_at, closed, element_at, floor_of, id_of, key_of, any_bytes, member_at, deliver_at, sent_at, floor_at, rekey_at, act_at, elements_at, item_at, item_number_of, moment_of, letter_of, behind_letter, some_item}
 use Rattle.ml_stream.specs.declared.reader.Letter.{Letter}
 use Rattle.ml_base.specs.declared.names.Set.{Set}
 use Rattle.ml_base.specs.Bytes.{Text}
 use Rattle.ml_base.specs.Name.{set_of}
 use Rattle.ml_base.specs.Address.{address_of}
 use Rattle.ml_plain.specs.declared.Act.{Act}
-use Rattle.ml_plain.specs.declared.Act.TheVariants.{Floor, Rekey}
+use Rattle.ml_plain.specs.declared.Act.TheVariants.{Deliver, Floor, Rekey, Sent}
 use Rattle.ml_plain.specs.declared.Item.{Item}
 use Rattle.ml_stream.proofs.Bytewise.{Fills}
 
@@ -104,6 +104,31 @@ floor_ok p p1 bs r1 at a = ap (λ r. and_then r (λ at. got (Floor at.value) at.
 
 pub rekey_ok : (p p1 : ℕ) (bs r1 : List ℕ) (key : List ℕ) → element_at 64 key_of p bs ≡ got key p1 r1 → rekey_at p bs ≡ got (Rekey key) p1 r1
 rekey_ok p p1 bs r1 key a = ap (λ r. and_then r (λ key. got (Rekey key.value) key.place key.rest)) a
+
+pub sent_ok : (p p1 : ℕ) (bs r1 : List ℕ) (id : ℕ) → element_at 16 id_of p bs ≡ got id p1 r1 → sent_at p bs ≡ got (Sent id) p1 r1
+sent_ok p p1 bs r1 id a = ap (λ r. and_then r (λ id. got (Sent id.value) id.place id.rest)) a
+
+-- a delivery, behind its sender, and behind its recipient
+abbrev pub sender_then : Got Text → Read Act
+sender_then sender =
+    and_then (element_at 1000 any_bytes sender.place sender.rest) (λ recipient.
+    and_then (element_at 33_554_432 any_bytes recipient.place recipient.rest) (λ message.
+    got (Deliver sender.value recipient.value message.value) message.place message.rest))
+
+abbrev pub recipient_then : Text → Got Text → Read Act
+recipient_then sender recipient =
+    and_then (element_at 33_554_432 any_bytes recipient.place recipient.rest) (λ message. got (Deliver sender recipient.value message.value) message.place message.rest)
+
+abbrev pub message_then : Text → Text → Got Text → Read Act
+message_then sender recipient message = got (Deliver sender recipient message.value) message.place message.rest
+
+pub deliver_ok : (p p1 p2 p3 : ℕ) (bs r1 r2 r3 : List ℕ) (sender recipient message : Text)
+    → element_at 1000 any_bytes p bs ≡ got sender p1 r1
+    → element_at 1000 any_bytes p1 r1 ≡ got recipient p2 r2
+    → element_at 33_554_432 any_bytes p2 r2 ≡ got message p3 r3
+    → deliver_at p bs ≡ got (Deliver sender recipient message) p3 r3
+deliver_ok p p1 p2 p3 bs r1 r2 r3 sender recipient message a b d =
+    ap (λ r. and_then r sender_then) a ∙ ap (λ r. and_then r (recipient_then sender)) b ∙ ap (λ r. and_then r (message_then sender recipient)) d
 
 pub item_letter : (p place b : ℕ) (letter : Letter) (rest : List ℕ) → letter_of b ≡ Some letter → place ≡ p + 1 → item_at p (b ∷ rest) ≡ and_then (elements_at letter place rest) some_item
 item_letter p place b letter rest e is =

@@ -8,14 +8,14 @@ use Rattle.ml_base.specs.Name.{set_of}
 use Rattle.ml_base.specs.Address.{address_of}
 use Rattle.ml_base.specs.declared.names.Set.{Set}
 use Rattle.ml_plain.specs.declared.Act.{Act}
-use Rattle.ml_plain.specs.declared.Act.TheVariants.{Add, Remove, Floor, Rekey}
+use Rattle.ml_plain.specs.declared.Act.TheVariants.{Deliver, Timed, Add, Remove, Sent, Floor, Rekey}
 use Rattle.ml_plain.specs.declared.Item.{Item}
 use Rattle.ml_stream.specs.declared.reader.Letter.{Letter}
 use Rattle.ml_stream.specs.declared.reader.Letter.TheVariants as letters
 use Rattle.ml_stream.specs.declared.stream.StreamError.{StreamError}
 use Rattle.ml_stream.specs.declared.stream.StreamError.TheVariants.{Bad, Short}
-use Rattle.ml_stream.specs.Stream.{Got, Read, got, and_then, length_at, bytes_at, content_at, comma_at, closed, element_at, item_number_of, moment_of, floor_of, key_of, member_at, act_at, elements_at, item_at, letter_of, behind_letter, some_item}
-use Rattle.ml_stream.proofs.Elements.{content_full}
+use Rattle.ml_stream.specs.Stream.{Got, Read, got, and_then, length_at, bytes_at, content_at, comma_at, closed, element_at, item_number_of, moment_of, floor_of, id_of, key_of, any_bytes, member_at, deliver_at, act_at, elements_at, item_at, letter_of, behind_letter, some_item}
+use Rattle.ml_stream.proofs.Elements.{content_full, sender_then, recipient_then, message_then}
 
 -- the bytes from the front that were read: the same is got whatever is behind them
 pub record ReadsFront {X : Type 0} (f : Text → Read X) (bs : Text) (g : Got X) : Type 0 where
@@ -135,8 +135,17 @@ member_local act place =
     then_local (λ bs. element_at 6 set_of place bs) (λ set. and_then (element_at 400 address_of set.place set.rest) (λ who. got (act set.value who.value) who.place who.rest)) (element_local 6 set_of place)
     (λ set p. then_local (λ bs. element_at 400 address_of p bs) (λ who. got (act set who.value) who.place who.rest) (element_local 400 address_of p) (λ who end. got_local (act set who) end))
 
+pub deliver_local : (place : ℕ) → IsLocal (λ bs. deliver_at place bs)
+deliver_local place =
+    then_local (λ bs. element_at 1000 any_bytes place bs) sender_then (element_local 1000 any_bytes place) (λ sender p.
+    then_local (λ bs. element_at 1000 any_bytes p bs) (recipient_then sender) (element_local 1000 any_bytes p) (λ recipient q.
+    then_local (λ bs. element_at 33_554_432 any_bytes q bs) (message_then sender recipient) (element_local 33_554_432 any_bytes q) (λ message end. got_local (Deliver sender recipient message) end)))
+
 pub act_local : (letter : Letter) (place : ℕ) → IsLocal (λ bs. act_at letter place bs)
 act_local letters.Add place = member_local (λ set who. Add set who) place
+act_local letters.Deliver place = deliver_local place
+act_local letters.Sent place = then_local (λ bs. element_at 16 id_of place bs) (λ id. got (Sent id.value) id.place id.rest) (element_local 16 id_of place) (λ id end. got_local (Sent id) end)
+act_local letters.Timed place = got_local Timed place
 act_local letters.Remove place = member_local (λ set who. Remove set who) place
 act_local letters.Floor place = then_local (λ bs. element_at 12 floor_of place bs) (λ at. got (Floor at.value) at.place at.rest) (element_local 12 floor_of place) (λ at end. got_local (Floor at) end)
 act_local letters.Rekey place = then_local (λ bs. element_at 64 key_of place bs) (λ key. got (Rekey key.value) key.place key.rest) (element_local 64 key_of place) (λ key end. got_local (Rekey key) end)

@@ -23,10 +23,10 @@ use Rattle.ml_plain.specs.declared.Act.{Act}
 use Rattle.ml_plain.specs.declared.Act.TheVariants.{Deliver, Timed, Add, Remove, Sent, Rekey, Floor}
 use Rattle.ml_stream.specs.declared.reader.Letter.{Letter}
 use Rattle.ml_stream.specs.declared.reader.Letter.TheVariants as letters
-use Rattle.ml_stream.specs.Stream.{got, and_then, length_at, element_at, item_number_of, moment_of, floor_of, some_floor, key_of, some_key, member_at, act_at, elements_at, item_at, letter_of, behind_letter, some_item}
-use Rattle.ml_plain.specs.Items.{IsItem, IsAct}
-use Rattle.ml_stream.specs.Writing.{IsRead, letter, spelled_act, spelled_item}
-use Rattle.ml_stream.proofs.Elements.{content_full, element_ok, comma_some, item_ok, member_ok, floor_ok, rekey_ok}
+use Rattle.ml_stream.specs.Stream.{got, and_then, length_at, element_at, item_number_of, moment_of, floor_of, id_of, positive_within, some_positive, key_of, some_key, any_bytes, deliver_at, member_at, act_at, elements_at, item_at, letter_of, behind_letter, some_item}
+use Rattle.ml_plain.specs.Items.{IsItem, IsAct, IsDelivery}
+use Rattle.ml_stream.specs.Writing.{IsTyped, letter, spelled_act, spelled_item}
+use Rattle.ml_stream.proofs.Elements.{content_full, element_ok, comma_some, item_ok, member_ok, deliver_ok, sent_ok, floor_ok, rekey_ok}
 
 -- the digits of a length, and its colon
 lengths : (start limit count n place : ℕ) (ds rest : Text) (m : ℕ) → digits_from limit count n ds ≡ Some m → length_at start limit count n place (ds ++ 58 ∷ rest) ≡ got m (place + (length ds + 1)) rest
@@ -86,9 +86,8 @@ number_short n small = length-decimal-le 12 n (omega arith) (omega arith) (omega
 places : (place : ℕ) (a b : Text) → place + length a + length b ≡ place + length (a ++ b)
 places place a b = omega (arith, length-append a b)
 
-floor_spelled : (at : ℕ) → 1 ≤ at → at ≤ 999_999_999_999 → floor_of (decimal at) ≡ Some at
-floor_spelled at some small =
-    ap some_floor (number_read 999_999_999_999 at (omega arith) small) ∙ ap (λ b. if b then None else Some at) (ne_eqb at 0 (λ z. omega (arith, z, some)))
+positive_spelled : (most n : ℕ) → most < 2 ^ 64 → 1 ≤ n → n ≤ most → positive_within most (decimal n) ≡ Some n
+positive_spelled most n fits some small = ap some_positive (number_read most n fits small) ∙ ap (λ b. if b then None else Some n) (ne_eqb n 0 (λ z. omega (arith, z, some)))
 
 key_spelled : (key : Text) → length key ≡ 32 → IsBytes key → key_of (encode_lower key) ≡ Some key
 key_spelled key size bytes =
@@ -105,57 +104,74 @@ member_written act place set who rest a =
     (element_written 400 (place + length (ns (set_word set))) address_of who who rest (omega arith) (address_short who a) (address_kept who a))
     ∙ ap (λ k. got (act set who) k rest) (places place (ns (set_word set)) (ns who))
 
-act_written : (place : ℕ) (act : Act) (l : Letter) (rest : Text) → letter_of (letter act) ≡ Some l → IsAct act → IsRead act → act_at l place (spelled_act act ++ rest) ≡ got act (place + length (spelled_act act)) rest
-act_written place (Floor at) letters.Floor rest e fits a =
-    floor_ok place (place + length (ns (decimal at))) (ns (decimal at) ++ rest) rest at
-    (element_written 12 place floor_of (decimal at) at rest (omega arith) (number_short at fits.1) (floor_spelled at fits.0 fits.1))
-act_written place (Floor at) letters.Add rest e fits a = cc
-act_written place (Add set who) letters.Floor rest e fits a = cc
-act_written place (Deliver sender recipient message) l rest e fits a = absurd a
-act_written place Timed l rest e fits a = absurd a
-act_written place (Sent id) l rest e fits a = absurd a
-act_written place (Rekey key) letters.Rekey rest e fits a =
+deliver_written : (place : ℕ) (sender recipient message rest : Text) → IsDelivery sender recipient message
+    → deliver_at place ((ns sender ++ ns recipient ++ ns message) ++ rest) ≡ got (Deliver sender recipient message) (place + length (ns sender ++ ns recipient ++ ns message)) rest
+deliver_written place sender recipient message rest fits =
+    let p1 = place + length (ns sender) in
+    let p2 = p1 + length (ns recipient) in
+    let p3 = p2 + length (ns message) in
+    let flat : ((ns sender ++ ns recipient) ++ ns message) ++ rest ≡ ns sender ++ (ns recipient ++ (ns message ++ rest)) = append_assoc (ns sender ++ ns recipient) (ns message) rest ∙ append_assoc (ns sender) (ns recipient) (ns message ++ rest) in
+    let far : p3 ≡ place + length ((ns sender ++ ns recipient) ++ ns message) = omega (arith, length-append (ns sender ++ ns recipient) (ns message), length-append (ns sender) (ns recipient)) in
+    ap (deliver_at place) flat
+    ∙ deliver_ok place p1 p2 p3 (ns sender ++ (ns recipient ++ (ns message ++ rest))) (ns recipient ++ (ns message ++ rest)) (ns message ++ rest) rest sender recipient message
+    (element_written 1000 place any_bytes sender sender (ns recipient ++ (ns message ++ rest)) (omega arith) fits.from refl)
+    (element_written 1000 p1 any_bytes recipient recipient (ns message ++ rest) (omega arith) fits.to refl)
+    (element_written 33_554_432 p2 any_bytes message message rest (omega arith) fits.body refl)
+    ∙ ap (λ k. got (Deliver sender recipient message) k rest) far
+
+-- the kind of an act
+kind : Act → Letter
+kind (Deliver sender recipient message) = letters.Deliver
+kind Timed = letters.Timed
+kind (Add set who) = letters.Add
+kind (Remove set who) = letters.Remove
+kind (Sent id) = letters.Sent
+kind (Rekey key) = letters.Rekey
+kind (Floor at) = letters.Floor
+
+letter_read : (act : Act) → letter_of (letter act) ≡ Some (kind act)
+unfolding kind
+letter_read (Deliver sender recipient message) = refl
+letter_read Timed = refl
+letter_read (Add set who) = refl
+letter_read (Remove set who) = refl
+letter_read (Sent id) = refl
+letter_read (Rekey key) = refl
+letter_read (Floor at) = refl
+
+act_written : (place : ℕ) (act : Act) (rest : Text) → IsAct act → IsTyped act → act_at (kind act) place (spelled_act act ++ rest) ≡ got act (place + length (spelled_act act)) rest
+unfolding kind
+act_written place (Deliver sender recipient message) rest fits a = deliver_written place sender recipient message rest fits
+act_written place Timed rest fits a = ap (λ k. got Timed k rest) (let same : place ≡ place + 0 = omega arith in same)
+act_written place (Add set who) rest fits a = member_written (λ set who. Add set who) place set who rest a
+act_written place (Remove set who) rest fits a = member_written (λ set who. Remove set who) place set who rest a
+act_written place (Sent id) rest fits a =
+    sent_ok place (place + length (ns (decimal id))) (ns (decimal id) ++ rest) rest id
+    (element_written 16 place id_of (decimal id) id rest (omega arith) (length-decimal-le 16 id (omega arith) (omega arith) (omega (arith, fits.to))) (positive_spelled 1_000_000_000_000_000 id (omega arith) fits.from fits.to))
+act_written place (Rekey key) rest fits a =
     rekey_ok place (place + length (ns (encode_lower key))) (ns (encode_lower key) ++ rest) rest key
     (element_written 64 place key_of (encode_lower key) key rest (omega arith) (let size = a.0 in omega (arith, size, length-encode_with lower_digits key)) (key_spelled key a.0 a.1))
-act_written place (Rekey key) letters.Add rest e fits a = cc
-act_written place (Rekey key) letters.Floor rest e fits a = cc
-act_written place (Add set who) letters.Rekey rest e fits a = cc
-act_written place (Floor at) letters.Rekey rest e fits a = cc
-act_written place (Add set who) letters.Add rest e fits a = member_written (λ set who. Add set who) place set who rest a
-act_written place (Remove set who) letters.Remove rest e fits a = member_written (λ set who. Remove set who) place set who rest a
-act_written place (Add set who) letters.Remove rest e fits a = cc
-act_written place (Floor at) letters.Remove rest e fits a = cc
-act_written place (Rekey key) letters.Remove rest e fits a = cc
-act_written place (Remove set who) letters.Add rest e fits a = cc
-act_written place (Remove set who) letters.Floor rest e fits a = cc
-act_written place (Remove set who) letters.Rekey rest e fits a = cc
+act_written place (Floor at) rest fits a =
+    floor_ok place (place + length (ns (decimal at))) (ns (decimal at) ++ rest) rest at
+    (element_written 12 place floor_of (decimal at) at rest (omega arith) (number_short at fits.1) (positive_spelled 999_999_999_999 at (omega arith) fits.0 fits.1))
 
-has_letter : (act : Act) → IsRead act → (l : Letter) × (letter_of (letter act) ≡ Some l)
-has_letter (Add set who) a = (letters.Add, refl)
-has_letter (Floor at) a = (letters.Floor, refl)
-has_letter (Deliver sender recipient message) a = absurd a
-has_letter Timed a = absurd a
-has_letter (Remove set who) a = (letters.Remove, refl)
-has_letter (Sent id) a = absurd a
-has_letter (Rekey key) a = (letters.Rekey, refl)
-
-pub item_written : (place : ℕ) (item : Item) (rest : Text) → IsItem item → IsRead item.act
+pub item_written : (place : ℕ) (item : Item) (rest : Text) → IsItem item → IsTyped item.act
     → item_at place (spelled_item item ++ rest) ≡ got (Some item) (place + length (spelled_item item)) rest
 item_written place item rest k a =
     let number = ns (decimal item.number) in
     let moment = ns (decimal item.moment) in
     let act = spelled_act item.act in
-    let l = has_letter item.act a in
+    let l = kind item.act in
     let flat : ((number ++ moment) ++ act) ++ rest ≡ number ++ (moment ++ (act ++ rest)) = append_assoc (number ++ moment) act rest ∙ append_assoc number moment (act ++ rest) in
     let p1 = place + 1 + length number in
     let p2 = p1 + length moment in
     let p3 = p2 + length act in
     let one = element_written 12 (place + 1) item_number_of (decimal item.number) item.number (moment ++ (act ++ rest)) (omega arith) (number_short item.number k.number) (number_read 999_999_999_999 item.number (omega arith) k.number) in
     let two = element_written 12 p1 moment_of (decimal item.moment) item.moment (act ++ rest) (omega arith) (number_short item.moment (omega (arith, k.moment))) (number_read 253_402_300_799 item.moment (omega arith) (omega (arith, k.moment))) in
-    let three = act_written p2 item.act l.0 rest l.1 k.act a in
-    let all = item_ok l.0 (place + 1) p1 p2 p3 (number ++ (moment ++ (act ++ rest))) (moment ++ (act ++ rest)) (act ++ rest) rest item.number item.moment item.act one two three in
+    let three = act_written p2 item.act rest k.act a in
+    let all = item_ok l (place + 1) p1 p2 p3 (number ++ (moment ++ (act ++ rest))) (moment ++ (act ++ rest)) (act ++ rest) rest item.number item.moment item.act one two three in
     let far : p3 ≡ place + suc (length ((number ++ moment) ++ act)) = omega (arith, length-append (number ++ moment) act, length-append number moment) in
-    ap (λ o. behind_letter place o (((number ++ moment) ++ act) ++ rest)) l.1
-    ∙ ap (λ t. and_then (elements_at l.0 (place + 1) t) some_item) flat
+    ap (λ o. behind_letter place o (((number ++ moment) ++ act) ++ rest)) (letter_read item.act)
+    ∙ ap (λ t. and_then (elements_at l (place + 1) t) some_item) flat
     ∙ ap (λ r. and_then r some_item) all
     ∙ ap (λ q. got (Some item) q rest) far

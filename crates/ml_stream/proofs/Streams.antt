@@ -11,7 +11,7 @@ use Rattle.ml_plain.specs.declared.Item.{Item}
 use Rattle.ml_stream.specs.declared.reader.Letter.{Letter}
 use Rattle.ml_stream.specs.declared.reader.Letter.TheVariants as letters
 use Rattle.ml_stream.specs.declared.stream.StreamError.TheVariants.{Bad, Short}
-use Rattle.ml_stream.specs.Stream.{Got, Read, got, and_then, length_at, content_at, comma_at, closed, element_at, item_number_of, moment_of, floor_of, key_of, member_at, add_at, remove_at, floor_at, rekey_at, act_at, elements_at, item_at, letter_of, behind_letter, some_item, StreamEnd, End, Broken, IsStream}
+use Rattle.ml_stream.specs.Stream.{Got, Read, got, and_then, length_at, content_at, comma_at, closed, element_at, item_number_of, moment_of, floor_of, id_of, key_of, any_bytes, member_at, add_at, remove_at, deliver_at, sent_at, floor_at, rekey_at, act_at, elements_at, item_at, letter_of, behind_letter, some_item, StreamEnd, End, Broken, IsStream}
 use Rattle.ml_stream.proofs.Ahead.{stream_end, stream_err, stream_item}
 
 -- what was got leaves fewer bytes
@@ -89,11 +89,21 @@ member_shorter act place bs =
     less_then bs (element_at 6 set_of place bs) _ (element_shorter 6 set_of place bs) (λ set.
     long_then set.rest (element_at 400 address_of set.place set.rest) _ (shorter_is set.rest (element_at 400 address_of set.place set.rest) (element_shorter 400 address_of set.place set.rest)) (λ who. omega arith))
 
+deliver_shorter : (place : ℕ) (bs : Text) → Shorter bs (deliver_at place bs)
+deliver_shorter place bs =
+    less_then bs (element_at 1000 any_bytes place bs) _ (element_shorter 1000 any_bytes place bs) (λ sender.
+    long_then sender.rest (element_at 1000 any_bytes sender.place sender.rest) _ (shorter_is sender.rest (element_at 1000 any_bytes sender.place sender.rest) (element_shorter 1000 any_bytes sender.place sender.rest)) (λ recipient.
+    long_then recipient.rest (element_at 33_554_432 any_bytes recipient.place recipient.rest) _
+    (shorter_is recipient.rest (element_at 33_554_432 any_bytes recipient.place recipient.rest) (element_shorter 33_554_432 any_bytes recipient.place recipient.rest)) (λ message. omega arith)))
+
 act_longer : (letter : Letter) (place : ℕ) (bs : Text) → NoLonger bs (act_at letter place bs)
 act_longer letters.Add place bs = shorter_is bs (add_at place bs) (member_shorter (λ set who. Add set who) place bs)
 act_longer letters.Remove place bs = shorter_is bs (remove_at place bs) (member_shorter (λ set who. Remove set who) place bs)
 act_longer letters.Rekey place bs = shorter_is bs (rekey_at place bs) (less_then bs (element_at 64 key_of place bs) _ (element_shorter 64 key_of place bs) (λ key. omega arith))
 act_longer letters.Floor place bs = shorter_is bs (floor_at place bs) (less_then bs (element_at 12 floor_of place bs) _ (element_shorter 12 floor_of place bs) (λ at. omega arith))
+act_longer letters.Deliver place bs = shorter_is bs (deliver_at place bs) (deliver_shorter place bs)
+act_longer letters.Sent place bs = shorter_is bs (sent_at place bs) (less_then bs (element_at 16 id_of place bs) _ (element_shorter 16 id_of place bs) (λ id. omega arith))
+act_longer letters.Timed place bs = omega arith
 
 elements_shorter : (letter : Letter) (place : ℕ) (bs : Text) → Shorter bs (elements_at letter place bs)
 unfolding elements_at

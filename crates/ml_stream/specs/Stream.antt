@@ -74,13 +74,26 @@ item_number_of text = number_within 999_999_999_999 text
 abbrev pub moment_of : Text → Option ℕ
 moment_of text = number_within 253_402_300_799 text
 
--- a floor, from 1 on
-abbrev pub some_floor : Option ℕ → Option ℕ
-some_floor None = None
-some_floor (Some at) = if at == 0 then None else Some at
+-- a number that is not 0
+abbrev pub some_positive : Option ℕ → Option ℕ
+some_positive None = None
+some_positive (Some n) = if n == 0 then None else Some n
 
+-- a number from 1 up to a largest one
+abbrev pub positive_within : ℕ → Text → Option ℕ
+positive_within most text = some_positive (number_within most text)
+
+-- a floor: 1 to 999,999,999,999
 abbrev pub floor_of : Text → Option ℕ
-floor_of text = some_floor (item_number_of text)
+floor_of text = positive_within 999_999_999_999 text
+
+-- the id of an entry of the queue: 1 to 10^15
+abbrev pub id_of : Text → Option ℕ
+id_of text = positive_within 1_000_000_000_000_000 text
+
+-- any bytes, as a sender, a recipient or a message has them
+abbrev pub any_bytes : Text → Option Text
+any_bytes text = Some text
 
 -- a key of 32 bytes, whose 64 digits in lower case are the text
 abbrev pub some_key : Text → Result Text FromHexError → Option Text
@@ -92,7 +105,14 @@ key_of text = some_key text (decode_sized text 32)
 
 -- the kind of an item by its first byte
 abbrev pub letter_of : ℕ → Option Letter
-letter_of b = if b == 65 then Some letters.Add else (if b == 70 then Some letters.Floor else (if b == 75 then Some letters.Rekey else (if b == 82 then Some letters.Remove else None)))
+letter_of b =
+    if b == 65 then Some letters.Add else (
+    if b == 68 then Some letters.Deliver else (
+    if b == 70 then Some letters.Floor else (
+    if b == 75 then Some letters.Rekey else (
+    if b == 82 then Some letters.Remove else (
+    if b == 83 then Some letters.Sent else (
+    if b == 84 then Some letters.Timed else None))))))
 
 -- a set and an address, and what is done to them
 abbrev pub member_at : (Set → Text → Act) → ℕ → Text → Read Act
@@ -115,12 +135,27 @@ floor_at place bs = and_then (element_at 12 floor_of place bs) (λ at. got (acts
 abbrev pub rekey_at : ℕ → Text → Read Act
 rekey_at place bs = and_then (element_at 64 key_of place bs) (λ key. got (acts.Rekey key.value) key.place key.rest)
 
+-- a sender and a recipient of at most 1,000 bytes each, and a message of at most 33,554,432
+abbrev pub deliver_at : ℕ → Text → Read Act
+deliver_at place bs =
+    and_then (element_at 1000 any_bytes place bs) (λ sender.
+    and_then (element_at 1000 any_bytes sender.place sender.rest) (λ recipient.
+    and_then (element_at 33_554_432 any_bytes recipient.place recipient.rest) (λ message.
+    got (acts.Deliver sender.value recipient.value message.value) message.place message.rest)))
+
+-- an id
+abbrev pub sent_at : ℕ → Text → Read Act
+sent_at place bs = and_then (element_at 16 id_of place bs) (λ id. got (acts.Sent id.value) id.place id.rest)
+
 -- the elements of an act behind number and moment
 abbrev pub act_at : Letter → ℕ → Text → Read Act
 act_at letters.Add place bs = add_at place bs
+act_at letters.Deliver place bs = deliver_at place bs
 act_at letters.Floor place bs = floor_at place bs
 act_at letters.Rekey place bs = rekey_at place bs
 act_at letters.Remove place bs = remove_at place bs
+act_at letters.Sent place bs = sent_at place bs
+act_at letters.Timed place bs = got acts.Timed place bs
 
 -- the elements of an item behind its letter
 unfoldable pub elements_at : Letter → ℕ → Text → Read Item

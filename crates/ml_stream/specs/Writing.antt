@@ -34,12 +34,12 @@ spelled_act (Floor at) = ns (decimal at)
 abbrev pub spelled_item : Item → Text
 spelled_item item = letter item.act ∷ ns (decimal item.number) ++ ns (decimal item.moment) ++ spelled_act item.act
 
--- the acts that are read so far, and what holds of the address or the key of an act: of a value of the program it does
-abbrev pub IsRead : Act → Type 0
-IsRead (Deliver sender recipient message) = ⊥
-IsRead Timed = ⊥
-IsRead (Add set who) = IsAddress who
-IsRead (Remove set who) = IsAddress who
-IsRead (Sent id) = ⊥
-IsRead (Rekey key) = (length key ≡ 32) × IsBytes key
-IsRead (Floor at) = Unit {0}
+-- what holds of the parts of an act by their types: of an address, and of the 32 bytes of a key
+abbrev pub IsTyped : Act → Type 0
+IsTyped (Deliver sender recipient message) = Unit {0}
+IsTyped Timed = Unit {0}
+IsTyped (Add set who) = IsAddress who
+IsTyped (Remove set who) = IsAddress who
+IsTyped (Sent id) = Unit {0}
+IsTyped (Rekey key) = (length key ≡ 32) × IsBytes key
+IsTyped (Floor at) = Unit {0}

@@ -2,7 +2,7 @@
 ghost use Rattle.std.specs.Prelude.{◌≡◌, ◌↔◌, ◌<◌, ◌≤◌, ◌^◌, ℕ, List, Option, Some, None, Ok, true, not, IsTrue, IsSome, IfSome, IfOk, OnOk, OnErr, IfErr, IsErrOf, length};
 ghost use Rattle.ml_base.specs.Faults.{Rose, HasCause};
 ghost use Rattle.ml_base.specs.Bytes.{Text, is_empty};
-ghost use Rattle.ml_list.specs.Acts.{KeepsLimits};
+ghost use Rattle.ml_plain.specs.Items.{IsItem};
 ghost use Rattle.ml_stream.specs.Stream.{item_at};
 ghost use Rattle.ml_stream.specs.Items.{HasLeft, NextRead, place_of, ahead_of, error_of};
 ghost use Rattle.ml_stream.specs.Reading.{Breaks, IsNoItem};
@@ -38,7 +38,8 @@ impl Items {
         }
     }
 
-    /// The next item, or None at the end of the stream. It takes no byte behind the item from the source.
+    /// The next item, which is in its ranges, or None at the end of the stream. It takes no byte behind the item from the
+    /// source, and memory for each of its parts as large as the part's length says, up to 32 MiB for a message.
     /// After an error it answers that error again and reads no more. `Bad` and `Short` come only where the stream is
     /// so, and `Fault` only where the source's count of faults rose, and
     /// then no whole item was taken. `Memory` is free.
@@ -55,7 +56,7 @@ impl Items {
         ensures no_more { (e : TheError) → error_of self.old ≡ Some e → input.new ≡ input.old }
         ensures ahead { OnOk result (ahead_of self.new ≡ None) }
         ensures sound { OnOk result (error_of self.new ≡ None) }
-        ensures limits { IfOk result (λ found. IfSome found KeepsLimits) }
+        ensures limits { IfOk result (λ found. IfSome found IsItem) }
         ensures failed { IfErr result (λ e. error_of self.new ≡ Some e) }
         ensures later { I.faults input.old ≤ I.faults input.new }
         ensures cause { error_of self.old ≡ None → IsErrOf result StreamError.Fault → Rose (I.faults input.old) (I.faults input.new) }

@@ -4,7 +4,7 @@ ghost use Rattle.ml_base.specs.Bytes.{Text};
 ghost use Rattle.ml_plain.specs.declared.Item.{Item as TheItem};
 ghost use Rattle.ml_stream.specs.Stream.{StreamEnd, IsStream, item_at, got};
 ghost use Rattle.ml_plain.specs.Items.{IsItem};
-ghost use Rattle.ml_stream.specs.Writing.{IsRead, spelled_item};
+ghost use Rattle.ml_stream.specs.Writing.{IsTyped, spelled_item};
 
 /// Every row of bytes is a stream of some items, with some end, and of no others.
 pub fn law_streams()
@@ -15,7 +15,7 @@ pub fn law_streams()
 
 /// What is written of an item is read again as that item, whatever follows it.
 pub fn law_items()
-    ensures { (place : ℕ) (item : TheItem) (rest : Text) → IsItem item → IsRead item.act →
+    ensures { (place : ℕ) (item : TheItem) (rest : Text) → IsItem item → IsTyped item.act →
         item_at place (spelled_item item ++ rest) ≡ got (Some item) (place + length (spelled_item item)) rest }
 {}
 

@@ -4,14 +4,13 @@ ghost use Rattle.ml_base.specs.Faults.{Rose, HasCause};
 ghost use Rattle.ml_base.specs.Bytes.{Text};
 ghost use Rattle.ml_base.specs.Name.{set_of};
 ghost use Rattle.ml_base.specs.Address.{address_of};
-ghost use Rattle.ml_stream.specs.Stream.{length_at, content_at, comma_at, element_at, item_number_of, moment_of, floor_of, key_of, add_at, remove_at, floor_at, rekey_at, act_at, elements_at, item_at, letter_of};
+ghost use Rattle.ml_stream.specs.Stream.{length_at, content_at, comma_at, element_at, item_number_of, moment_of, positive_within, key_of, any_bytes, add_at, remove_at, deliver_at, sent_at, floor_at, rekey_at, act_at, elements_at, item_at, letter_of};
 ghost use Rattle.ml_stream.specs.Reading.{Stands, Reads, Steps, Breaks, Fails, IsCut, IsNoItem};
-ghost use Rattle.ml_plain.specs.Items.{IsAct};
-ghost use Rattle.ml_list.specs.Acts.{KeepsLimits, IsApplied};
+ghost use Rattle.ml_plain.specs.Items.{IsAct, IsItem};
 
 use crate::StreamError;
 use hex::{decode_to_slice, encode_to_slice};
-use ml_base::{Address, AddressError, Bytes, Set, is_next_digit, number_within};
+use ml_base::{Address, AddressError, Bytes, LAST_DRAWN, Set, is_next_digit, number_within};
 use ml_plain::{Act, Item};
 use ml_site::{Failed, Source};
 use std::alloc::{AllocError, Global};
@@ -22,28 +21,36 @@ const MAX_NUMBER: u64 = 999_999_999_999;
 // The last second of the year 9999.
 const MAX_MOMENT: u64 = 253_402_300_799;
 
+// The longest sender or recipient, in bytes.
+const MAX_ADDRESS: u64 = 1000;
+
+// The longest message, in bytes.
+const MAX_MESSAGE: u64 = 33_554_432;
+
 // The kinds of items, each of which begins with a letter of its own.
 #[derive(Clone, Copy)]
 pub(crate) enum Letter {
     Add,
+    Deliver,
     Floor,
     Rekey,
     Remove,
+    Sent,
+    Timed,
 }
 
 fn read_letter(byte: u8) -> Option<Letter>
     ensures { result ≡ letter_of byte }
 {
-    if byte == b'A' {
-        Some(Letter::Add)
-    } else if byte == b'F' {
-        Some(Letter::Floor)
-    } else if byte == b'K' {
-        Some(Letter::Rekey)
-    } else if byte == b'R' {
-        Some(Letter::Remove)
-    } else {
-        None
+    match byte {
+        b'A' => Some(Letter::Add),
+        b'D' => Some(Letter::Deliver),
+        b'F' => Some(Letter::Floor),
+        b'K' => Some(Letter::Rekey),
+        b'R' => Some(Letter::Remove),
+        b'S' => Some(Letter::Sent),
+        b'T' => Some(Letter::Timed),
+        _ => None,
     }
 }
 
@@ -133,7 +140,8 @@ impl Reader {
         }
     }
 
-    // The content of the netstring that begins here, without the comma behind it.
+    // The content of the netstring that begins here, without the comma behind it. Its memory is taken once, as large as
+    // its length says, and the source fills it in pieces as large as it likes.
     fn content<I: Source>(
         &mut self,
         alloc: Global,
@@ -146,6 +154,7 @@ impl Reader {
         ensures stops { (bs : List ℕ) → Stands self.old.place self.old.ahead (I.left input.old) bs →
             IfErr result (λ e. Breaks e (I.left input.new) bs (λ t. Fails (content_at self.old.place limit t))) }
         ensures ahead { OnOk result (self.new.ahead ≡ None) }
+        ensures limit { IfOk result (λ text. length text ≤ limit) }
         ensures later { I.faults input.old ≤ I.faults input.new }
         ensures cause { IsErrOf result StreamError.Fault → Rose (I.faults input.old) (I.faults input.new) }
     {
@@ -265,7 +274,6 @@ impl Reader {
             IfErr result (λ e. Breaks e (I.left input.new) bs (λ t. Fails (add_at self.old.place t))) }
         ensures ahead { OnOk result (self.new.ahead ≡ None) }
         ensures limit { IfOk result IsAct }
-        ensures applied { IfOk result IsApplied }
         ensures later { I.faults input.old ≤ I.faults input.new }
         ensures cause { IsErrOf result StreamError.Fault → Rose (I.faults input.old) (I.faults input.new) }
     {
@@ -282,7 +290,6 @@ impl Reader {
             IfErr result (λ e. Breaks e (I.left input.new) bs (λ t. Fails (remove_at self.old.place t))) }
         ensures ahead { OnOk result (self.new.ahead ≡ None) }
         ensures limit { IfOk result IsAct }
-        ensures applied { IfOk result IsApplied }
         ensures later { I.faults input.old ≤ I.faults input.new }
         ensures cause { IsErrOf result StreamError.Fault → Rose (I.faults input.old) (I.faults input.new) }
     {
@@ -291,24 +298,91 @@ impl Reader {
         Ok(Act::Remove { set, who })
     }
 
-    // An element that holds a floor.
-    fn floor_value<I: Source>(&mut self, alloc: Global, input: &mut I) -> Result<u64, StreamError>
+    // An element that holds a number of so many digits at most, from 1 up to a largest one.
+    fn positive<I: Source>(
+        &mut self,
+        alloc: Global,
+        input: &mut I,
+        digits: u64,
+        most: u64,
+    ) -> Result<u64, StreamError>
+        requires digits { digits < 10 ^ 18 }
+        requires most { most < 10 ^ 18 }
         ensures read { (bs : List ℕ) → Stands self.old.place self.old.ahead (I.left input.old) bs →
-            Reads result self.new.place self.new.ahead (I.left input.new) (element_at 12 floor_of self.old.place bs) }
+            Reads result self.new.place self.new.ahead (I.left input.new) (element_at digits (positive_within most) self.old.place bs) }
         ensures stops { (bs : List ℕ) → Stands self.old.place self.old.ahead (I.left input.old) bs →
-            IfErr result (λ e. Breaks e (I.left input.new) bs (λ t. Fails (element_at 12 floor_of self.old.place t))) }
+            IfErr result (λ e. Breaks e (I.left input.new) bs (λ t. Fails (element_at digits (positive_within most) self.old.place t))) }
         ensures ahead { OnOk result (self.new.ahead ≡ None) }
-        ensures limit { IfOk result (λ at. (1 ≤ at) × (at ≤ 999_999_999_999)) }
+        ensures limit { IfOk result (λ n. (1 ≤ n) × (n ≤ most)) }
         ensures later { I.faults input.old ≤ I.faults input.new }
         ensures cause { IsErrOf result StreamError.Fault → Rose (I.faults input.old) (I.faults input.new) }
     {
         let start = self.place;
-        let text = self.content(alloc, input, 12)?;
-        let Some(value) = read_floor(text.as_slice()) else {
+        let text = self.content(alloc, input, digits)?;
+        let Some(value) = read_positive(most, text.as_slice()) else {
             return Err(StreamError::Bad { at: start });
         };
         self.comma(input, start)?;
         Ok(value)
+    }
+
+    // An element that holds any bytes, up to so many.
+    fn text<I: Source>(
+        &mut self,
+        alloc: Global,
+        input: &mut I,
+        limit: u64,
+    ) -> Result<Bytes, StreamError>
+        requires { limit < 10 ^ 18 }
+        ensures read { (bs : List ℕ) → Stands self.old.place self.old.ahead (I.left input.old) bs →
+            Reads result self.new.place self.new.ahead (I.left input.new) (element_at limit any_bytes self.old.place bs) }
+        ensures stops { (bs : List ℕ) → Stands self.old.place self.old.ahead (I.left input.old) bs →
+            IfErr result (λ e. Breaks e (I.left input.new) bs (λ t. Fails (element_at limit any_bytes self.old.place t))) }
+        ensures ahead { OnOk result (self.new.ahead ≡ None) }
+        ensures limit { IfOk result (λ text. length text ≤ limit) }
+        ensures later { I.faults input.old ≤ I.faults input.new }
+        ensures cause { IsErrOf result StreamError.Fault → Rose (I.faults input.old) (I.faults input.new) }
+    {
+        let start = self.place;
+        let text = self.content(alloc, input, limit)?;
+        self.comma(input, start)?;
+        Ok(text)
+    }
+
+    // A message with its envelope: the sender, the recipient, and then the message.
+    fn deliver<I: Source>(&mut self, alloc: Global, input: &mut I) -> Result<Act, StreamError>
+        ensures read { (bs : List ℕ) → Stands self.old.place self.old.ahead (I.left input.old) bs →
+            Reads result self.new.place self.new.ahead (I.left input.new) (deliver_at self.old.place bs) }
+        ensures stops { (bs : List ℕ) → Stands self.old.place self.old.ahead (I.left input.old) bs →
+            IfErr result (λ e. Breaks e (I.left input.new) bs (λ t. Fails (deliver_at self.old.place t))) }
+        ensures ahead { OnOk result (self.new.ahead ≡ None) }
+        ensures limit { IfOk result IsAct }
+        ensures later { I.faults input.old ≤ I.faults input.new }
+        ensures cause { IsErrOf result StreamError.Fault → Rose (I.faults input.old) (I.faults input.new) }
+    {
+        let sender = self.text(alloc, input, MAX_ADDRESS)?;
+        let recipient = self.text(alloc, input, MAX_ADDRESS)?;
+        let message = self.text(alloc, input, MAX_MESSAGE)?;
+        Ok(Act::Deliver {
+            sender,
+            recipient,
+            message,
+        })
+    }
+
+    // The id of an entry of the queue.
+    fn sent<I: Source>(&mut self, alloc: Global, input: &mut I) -> Result<Act, StreamError>
+        ensures read { (bs : List ℕ) → Stands self.old.place self.old.ahead (I.left input.old) bs →
+            Reads result self.new.place self.new.ahead (I.left input.new) (sent_at self.old.place bs) }
+        ensures stops { (bs : List ℕ) → Stands self.old.place self.old.ahead (I.left input.old) bs →
+            IfErr result (λ e. Breaks e (I.left input.new) bs (λ t. Fails (sent_at self.old.place t))) }
+        ensures ahead { OnOk result (self.new.ahead ≡ None) }
+        ensures limit { IfOk result IsAct }
+        ensures later { I.faults input.old ≤ I.faults input.new }
+        ensures cause { IsErrOf result StreamError.Fault → Rose (I.faults input.old) (I.faults input.new) }
+    {
+        let id = self.positive(alloc, input, 16, LAST_DRAWN)?;
+        Ok(Act::Sent { id })
     }
 
     // A floor.
@@ -319,11 +393,10 @@ impl Reader {
             IfErr result (λ e. Breaks e (I.left input.new) bs (λ t. Fails (floor_at self.old.place t))) }
         ensures ahead { OnOk result (self.new.ahead ≡ None) }
         ensures limit { IfOk result IsAct }
-        ensures applied { IfOk result IsApplied }
         ensures later { I.faults input.old ≤ I.faults input.new }
         ensures cause { IsErrOf result StreamError.Fault → Rose (I.faults input.old) (I.faults input.new) }
     {
-        let at = self.floor_value(alloc, input)?;
+        let at = self.positive(alloc, input, 12, MAX_NUMBER)?;
         Ok(Act::Floor { at })
     }
 
@@ -354,7 +427,6 @@ impl Reader {
             IfErr result (λ e. Breaks e (I.left input.new) bs (λ t. Fails (rekey_at self.old.place t))) }
         ensures ahead { OnOk result (self.new.ahead ≡ None) }
         ensures limit { IfOk result IsAct }
-        ensures applied { IfOk result IsApplied }
         ensures later { I.faults input.old ≤ I.faults input.new }
         ensures cause { IsErrOf result StreamError.Fault → Rose (I.faults input.old) (I.faults input.new) }
     {
@@ -373,17 +445,19 @@ impl Reader {
             Reads result self.new.place self.new.ahead (I.left input.new) (act_at letter self.old.place bs) }
         ensures stops { (bs : List ℕ) → Stands self.old.place self.old.ahead (I.left input.old) bs →
             IfErr result (λ e. Breaks e (I.left input.new) bs (λ t. Fails (act_at letter self.old.place t))) }
-        ensures ahead { OnOk result (self.new.ahead ≡ None) }
+        ensures ahead { self.old.ahead ≡ None → OnOk result (self.new.ahead ≡ None) }
         ensures limit { IfOk result IsAct }
-        ensures applied { IfOk result IsApplied }
         ensures later { I.faults input.old ≤ I.faults input.new }
         ensures cause { IsErrOf result StreamError.Fault → Rose (I.faults input.old) (I.faults input.new) }
     {
         match letter {
             Letter::Add => self.add(alloc, input),
+            Letter::Deliver => self.deliver(alloc, input),
             Letter::Floor => self.floor(alloc, input),
             Letter::Rekey => self.rekey(alloc, input),
             Letter::Remove => self.remove(alloc, input),
+            Letter::Sent => self.sent(alloc, input),
+            Letter::Timed => Ok(Act::Timed),
         }
     }
 
@@ -400,7 +474,7 @@ impl Reader {
         ensures stops { (bs : List ℕ) → Stands self.old.place self.old.ahead (I.left input.old) bs →
             IfErr result (λ e. Breaks e (I.left input.new) bs (λ t. Fails (elements_at letter self.old.place t))) }
         ensures ahead { OnOk result (self.new.ahead ≡ None) }
-        ensures limits { IfOk result KeepsLimits }
+        ensures limits { IfOk result IsItem }
         ensures later { I.faults input.old ≤ I.faults input.new }
         ensures cause { IsErrOf result StreamError.Fault → Rose (I.faults input.old) (I.faults input.new) }
     {
@@ -425,7 +499,7 @@ impl Reader {
         ensures stops { (bs : List ℕ) → Stands self.old.place self.old.ahead (I.left input.old) bs →
             IfErr result (λ e. Breaks e (I.left input.new) bs (IsNoItem self.old.place)) }
         ensures ahead { OnOk result (self.new.ahead ≡ None) }
-        ensures limits { IfOk result (λ found. IfSome found KeepsLimits) }
+        ensures limits { IfOk result (λ found. IfSome found IsItem) }
         ensures later { I.faults input.old ≤ I.faults input.new }
         ensures cause { IsErrOf result StreamError.Fault → Rose (I.faults input.old) (I.faults input.new) }
     {
@@ -459,15 +533,16 @@ fn read_key(text: &[u8]) -> Option<[u8; 32]>
     }
 }
 
-// The floor that a text spells, or None where it spells none.
-fn read_floor(text: &[u8]) -> Option<u64>
-    ensures value { result ≡ floor_of text.now }
-    ensures limit { IfSome result (λ at. (1 ≤ at) × (at ≤ 999_999_999_999)) }
+// The number from 1 up to a largest one that a text spells, or None where it spells none.
+fn read_positive(most: u64, text: &[u8]) -> Option<u64>
+    requires { most < 10 ^ 18 }
+    ensures value { result ≡ positive_within most text.now }
+    ensures limit { IfSome result (λ n. (1 ≤ n) × (n ≤ most)) }
 {
-    let Some(at) = number_within(MAX_NUMBER, text) else {
+    let Some(n) = number_within(most, text) else {
         return None;
     };
-    if at == 0 { None } else { Some(at) }
+    if n == 0 { None } else { Some(n) }
 }
 
 // The address that a text spells, or None where it spells none.

@@ -12,7 +12,8 @@ use ml_plain::{Act, Item};
 use std::alloc::{AllocError, Global};
 
 /// The bytes that stand for an item in a stream. They are read again as that item where it is in its ranges: a number of at
-/// most 12 digits, and a moment in seconds since 1970 that is before the year 10000.
+/// most 12 digits, a moment in seconds since 1970 that is before the year 10000, a sender and a recipient of at most 1,000
+/// bytes each, a message of at most 33,554,432, an id of 1 to 10^15, and a floor of 1 to 999,999,999,999.
 pub fn write_item(alloc: Global, item: &Item) -> Result<Bytes, AllocError>
     ensures { IfOk result (λ bytes. bytes ≡ spelled_item item.now) }
 {

@@ -1,6 +1,5 @@
 // Lists in memory, to whose files items are applied in a row.
 ghost use Rattle.std.specs.Prelude.{IfOk};
-ghost use Rattle.ml_list.specs.Acts.{IsApplied};
 ghost use Rattle.ml_plain.specs.Items.{IsItem, IsAct};
 
 use ml_base::{
@@ -101,7 +100,6 @@ fn failure(error: PartError) -> Answer {
 
 fn act(alloc: Global, ask: Ask) -> Result<Act, Fail>
     ensures act { IfOk result IsAct }
-    ensures applied { IfOk result IsApplied }
 {
     match ask {
         Ask::Add(set, who) => {
@@ -121,7 +119,6 @@ fn act(alloc: Global, ask: Ask) -> Result<Act, Fail>
 
 fn item(alloc: Global, asked: Asked) -> Result<Item, Fail>
     ensures item { IfOk result IsItem }
-    ensures applied { IfOk result (λ item. IsApplied item.act) }
 {
     let (number, moment, ask) = asked;
     let act = act(alloc, ask)?;

@@ -1,5 +1,5 @@
 // The program stopped after each of its calls, and with each of them failing: the next run over the same items makes it good.
-use super::{command, empty, make, source};
+use super::{KEY, MAKE, command, empty, source};
 use ml_base::{Bytes, read_number, split_first};
 use ml_site::{Fill, Image, MemSite};
 use std::alloc::{AllocError, Global};
@@ -58,6 +58,141 @@ const SCRIPT: [Row; 35] = [
     (b"A2:30,10:1000000070,4:list,3:u@v,", b"30 0 unsubscribed\n"),
     (b"F2:31,10:1000000500,2:20,", b"31 0 floored 20\n"),
 ];
+
+// On a moderated list: a post is held and accepted, somebody joins by mail, and the archive is asked. Some items come again under
+// their numbers, with other acts. The cookies were made by hand of their grammar, under the key.
+const REQUESTS: [Row; 20] = [
+    (b"A1:1,10:1000000001,3:mod,3:m@o,", b"1 0 subscribed\n"),
+    (b"A1:2,10:1000000002,4:list,3:a@b,", b"2 0 subscribed\n"),
+    (
+        b"D1:3,10:1000000003,3:a@b,11:list@ex.org,45:From: a@b\nTo: list@ex.org\nSubject: hello\n\nhi\n,",
+        b"3 0 held 1\n",
+    ),
+    (
+        b"D1:4,10:1000000004,3:m@o,41:list-accept-1.cjclnlicifckhechdfbd@ex.org,1:\n,",
+        b"4 0 posted 1\n",
+    ),
+    (
+        b"D1:5,10:1000000005,3:m@o,41:list-accept-1.cjclnlicifckhechdfbd@ex.org,1:\n,",
+        b"5 100 gone\n",
+    ),
+    (
+        b"D1:6,10:1000000006,3:g@h,21:list-subscribe@ex.org,1:\n,",
+        b"6 0 asked\n",
+    ),
+    (
+        b"D1:7,10:1000000007,3:g@h,50:list-sc.1000000006.ambdjognicecmifockjn-g=h@ex.org,1:\n,",
+        b"7 0 subscribed\n",
+    ),
+    (
+        b"D1:8,10:1000000008,3:g@h,50:list-sc.1000000006.ambdjognicecmifockjn-g=h@ex.org,1:\n,",
+        b"8 0 already\n",
+    ),
+    (
+        b"D1:9,10:1000000009,3:g@h,16:list-help@ex.org,1:\n,",
+        b"9 0 help\n",
+    ),
+    (
+        b"D2:10,10:1000000010,3:g@h,17:list-owner@ex.org,1:\n,",
+        b"10 0 owner\n",
+    ),
+    (
+        b"D1:3,10:1000000011,3:c@d,16:list-help@ex.org,1:\n,",
+        b"3 0 held 1\n",
+    ),
+    (
+        b"D1:4,10:1000000012,3:m@o,41:list-accept-1.cjclnlicifckhechdfbd@ex.org,1:\n,",
+        b"4 0 posted 1\n",
+    ),
+    (
+        b"D1:7,10:1000000013,3:g@h,50:list-sc.1000000006.ambdjognicecmifockjn-g=h@ex.org,1:\n,",
+        b"7 0 subscribed\n",
+    ),
+    (
+        b"D1:9,10:1000000014,3:g@h,21:list-subscribe@ex.org,1:\n,",
+        b"9 0 help\n",
+    ),
+    (
+        b"D2:11,10:1000000015,3:g@h,17:list-get.1@ex.org,1:\n,",
+        b"11 0 archive\n",
+    ),
+    (
+        b"D2:12,10:1000000016,3:g@h,19:list-index.1@ex.org,1:\n,",
+        b"12 0 archive\n",
+    ),
+    (
+        b"D2:13,10:1000000017,3:g@h,20:list-thread.1@ex.org,1:\n,",
+        b"13 0 archive\n",
+    ),
+    (
+        b"D2:14,10:1000000018,3:a@b,23:list-unsubscribe@ex.org,1:\n,",
+        b"14 0 asked\n",
+    ),
+    (
+        b"D1:5,10:1000000019,3:m@o,41:list-accept-1.cjclnlicifckhechdfbd@ex.org,1:\n,",
+        b"5 100 gone\n",
+    ),
+    (
+        b"D2:11,10:1000000020,3:g@h,17:list-get.1@ex.org,1:\n,",
+        b"11 0 archive\n",
+    ),
+];
+
+// A post goes out and bounces, somebody leaves by mail, entries leave the queue, and a timed run warns whom the post didn't reach.
+const BOUNCES: [Row; 20] = [
+    (b"A1:1,10:1000000001,4:list,3:a@b,", b"1 0 subscribed\n"),
+    (b"A1:2,10:1000000002,4:list,3:c@d,", b"2 0 subscribed\n"),
+    (
+        b"D1:3,10:1000000003,3:a@b,11:list@ex.org,45:From: a@b\nTo: list@ex.org\nSubject: hello\n\nhi\n,",
+        b"3 0 posted 1\n",
+    ),
+    (
+        b"D1:4,10:1000000004,3:c@d,23:list-unsubscribe@ex.org,1:\n,",
+        b"4 0 asked\n",
+    ),
+    (
+        b"D1:5,10:1000000005,3:c@d,50:list-uc.1000000004.aelpnjlkibonhacaafnf-c=d@ex.org,1:\n,",
+        b"5 0 unsubscribed\n",
+    ),
+    (
+        b"D1:6,10:1000000006,0:,24:list-return-1-a=b@ex.org,1:\n,",
+        b"6 0 bounce\n",
+    ),
+    (
+        b"D1:7,10:1000000007,0:,24:list-return-1-c=d@ex.org,1:\n,",
+        b"7 0 ignored\n",
+    ),
+    (
+        b"D1:8,10:1000000008,0:,24:list-return-1-a=b@ex.org,1:\n,",
+        b"8 0 ignored\n",
+    ),
+    (b"S1:9,10:1000000009,1:1,", b"9 0 dequeued\n"),
+    (b"S2:10,10:1000000010,2:99,", b"10 100 noentry\n"),
+    (
+        b"D2:11,10:1000000011,0:,11:list@ex.org,45:From: a@b\nTo: list@ex.org\nSubject: hello\n\nhi\n,",
+        b"11 100 nosender\n",
+    ),
+    (b"A2:12,10:1000000012,4:list,3:e@f,", b"12 0 subscribed\n"),
+    (
+        b"D1:3,10:1000000013,3:c@d,11:list@ex.org,45:From: a@b\nTo: list@ex.org\nSubject: hello\n\nhi\n,",
+        b"3 0 posted 1\n",
+    ),
+    (
+        b"D1:6,10:1000000014,0:,24:list-return-1-a=b@ex.org,1:\n,",
+        b"6 0 bounce\n",
+    ),
+    (b"S1:9,10:1000000015,1:2,", b"9 0 dequeued\n"),
+    (b"R2:13,10:1000000016,4:list,3:e@f,", b"13 0 unsubscribed\n"),
+    (b"T2:14,10:1001000006,", b"14 0 timed 1\n"),
+    (
+        b"D2:15,10:1001000007,0:,59:list-return-warn-1001000006.cbanjmmjlcfdoeobepkf-a=b@ex.org,1:\n,",
+        b"15 0 bounce\n",
+    ),
+    (b"T2:14,10:1001000008,", b"14 0 timed 1\n"),
+    (b"S2:10,10:1001000009,1:2,", b"10 100 noentry\n"),
+];
+
+const MAKE_MODERATED: [&str; 7] = ["make", "-m", "--key", KEY, "list", "ex.org", "o@own.org"];
 
 // How many items are before the floor, and the floor.
 const WITHOUT_FLOOR: usize = 34;
@@ -168,8 +303,9 @@ struct Trial<'a> {
     end: Image,
 }
 
-fn trial_of(alloc: Global, rows: &[Row]) -> Result<Trial<'_>, AllocError> {
-    let (_, start) = make(alloc, empty(alloc, &[])?)?;
+fn trial_of<'a>(alloc: Global, make: &[&str], rows: &'a [Row]) -> Result<Trial<'a>, AllocError> {
+    let mut nothing = source(alloc, b"", &[])?;
+    let (_, start) = command(alloc, make, &mut nothing, empty(alloc, &[])?)?;
     let (_, site) = run_script(alloc, rows, site(alloc, held(alloc, &start)?)?)?;
     let end = held(alloc, &site)?;
     Ok(Trial { rows, start, end })
@@ -241,8 +377,8 @@ fn calls_of(alloc: Global, trial: &Trial) -> Result<u64, AllocError> {
 }
 
 // The first number of calls after which a stop isn't made good.
-fn bad_stop(alloc: Global, rows: &[Row]) -> Result<Option<u64>, AllocError> {
-    let trial = trial_of(alloc, rows)?;
+fn bad_stop(alloc: Global, make: &[&str], rows: &[Row]) -> Result<Option<u64>, AllocError> {
+    let trial = trial_of(alloc, make, rows)?;
     for calls in 0..=calls_of(alloc, &trial)? {
         if !is_stop_good(alloc, &trial, calls)? {
             return Ok(Some(calls));
@@ -252,8 +388,8 @@ fn bad_stop(alloc: Global, rows: &[Row]) -> Result<Option<u64>, AllocError> {
 }
 
 // The first call whose failure isn't made good.
-fn bad_failure(alloc: Global, rows: &[Row]) -> Result<Option<u64>, AllocError> {
-    let trial = trial_of(alloc, rows)?;
+fn bad_failure(alloc: Global, make: &[&str], rows: &[Row]) -> Result<Option<u64>, AllocError> {
+    let trial = trial_of(alloc, make, rows)?;
     for call in 1..=calls_of(alloc, &trial)? {
         if !is_failure_good(alloc, &trial, call)? {
             return Ok(Some(call));
@@ -271,24 +407,51 @@ fn is_none(rt: &impl Abort, found: Option<u64>) {
 
 #[test]
 fn a_stop_after_each_call_is_made_good(rt: HostRuntime) -> Result<(), AllocError> {
-    is_none(&rt, bad_stop(rt.alloc(), &SCRIPT[..WITHOUT_FLOOR])?);
+    is_none(&rt, bad_stop(rt.alloc(), &MAKE, &SCRIPT[..WITHOUT_FLOOR])?);
     Ok(())
 }
 
 #[test]
 fn a_stop_after_each_call_before_a_floor_is_made_good(rt: HostRuntime) -> Result<(), AllocError> {
-    is_none(&rt, bad_stop(rt.alloc(), &SCRIPT)?);
+    is_none(&rt, bad_stop(rt.alloc(), &MAKE, &SCRIPT)?);
     Ok(())
 }
 
 #[test]
 fn each_call_that_fails_is_made_good(rt: HostRuntime) -> Result<(), AllocError> {
-    is_none(&rt, bad_failure(rt.alloc(), &SCRIPT[..WITHOUT_FLOOR])?);
+    is_none(
+        &rt,
+        bad_failure(rt.alloc(), &MAKE, &SCRIPT[..WITHOUT_FLOOR])?,
+    );
     Ok(())
 }
 
 #[test]
 fn each_call_that_fails_before_a_floor_is_made_good(rt: HostRuntime) -> Result<(), AllocError> {
-    is_none(&rt, bad_failure(rt.alloc(), &SCRIPT)?);
+    is_none(&rt, bad_failure(rt.alloc(), &MAKE, &SCRIPT)?);
+    Ok(())
+}
+
+#[test]
+fn a_stop_after_each_call_of_requests_is_made_good(rt: HostRuntime) -> Result<(), AllocError> {
+    is_none(&rt, bad_stop(rt.alloc(), &MAKE_MODERATED, &REQUESTS)?);
+    Ok(())
+}
+
+#[test]
+fn a_stop_after_each_call_of_bounces_is_made_good(rt: HostRuntime) -> Result<(), AllocError> {
+    is_none(&rt, bad_stop(rt.alloc(), &MAKE, &BOUNCES)?);
+    Ok(())
+}
+
+#[test]
+fn each_call_that_fails_of_requests_is_made_good(rt: HostRuntime) -> Result<(), AllocError> {
+    is_none(&rt, bad_failure(rt.alloc(), &MAKE_MODERATED, &REQUESTS)?);
+    Ok(())
+}
+
+#[test]
+fn each_call_that_fails_of_bounces_is_made_good(rt: HostRuntime) -> Result<(), AllocError> {
+    is_none(&rt, bad_failure(rt.alloc(), &MAKE, &BOUNCES)?);
     Ok(())
 }

@@ -23,10 +23,10 @@ returns-in-Ok-New-clause-value g c told =
     let dir = g.F.Files.map c.args.files in
     let item = c.args.item.now in
     let same = g.met.F.Files.kept_map c.args.files c.look_up.new.files told c.look_up.ensures.reads.kept in
-    IfOk-weaker c.count-answer.result _ _ (λ done h q is.
+    IfOk-weaker c.count.result.1 _ _ (λ done h q is.
     let new = subst (λ (l : Lookup). Repeats q item.number (answer_of l)) c.in-Ok-New.field-0-is (c.in-Ok-New.ensures.value told q is) in
     new_does dir q item done new (subst (λ (d : Dir). (s : State) → IsState d s → Repeats s item.number None → Does d done (with_reply item.number (effect s item))) same h q is new))
-    (c.count-answer.ensures.value told)
+    (c.count.ensures.value told)
 
 pub returns-in-Err-clause-sound : goal.returns-in-Err-clause-sound
 returns-in-Err-clause-sound g c told q is =
@@ -36,5 +36,5 @@ returns-in-Err-clause-sound g c told q is =
 pub returns-in-Ok-New-clause-sound : goal.returns-in-Ok-New-clause-sound
 returns-in-Ok-New-clause-sound g c told q is =
     let same = g.met.F.Files.kept_map c.args.files c.look_up.new.files told c.look_up.ensures.reads.kept in
-    let r = c.count-answer.result in
-    sound_by (g.F.Files.map c.args.files) q r is (subst (λ (d : Dir). IfErr r (λ e. OnDamaged e (IsDamaged d))) same (c.count-answer.ensures.names.damaged told))
+    let r = c.count.result.1 in
+    sound_by (g.F.Files.map c.args.files) q r is (subst (λ (d : Dir). IfErr r (λ e. OnDamaged e (IsDamaged d))) same (c.count.ensures.names.damaged told))

@@ -1,6 +1,7 @@
 use Rattle.std.proofs.Common.{◌≡◌, false, true, rules}
 use Rattle.ml_base.specs.Address.{key}
-use Rattle.ml_list.proofs.Damages.{set_named}
+use Rattle.ml_acts.proofs.Damages.{change_named}
+use Rattle.ml_list.proofs.Damages.{part_named}
 use Rattle.ml_list.proofs.Lists.{added_list, touched_puts}
 use Rattle.ml_list.specs.Damage.{is_read_by}
 use Rattle.ml_plain.specs.declared.Act.TheVariants.{Add}
@@ -10,7 +11,8 @@ pub returns-in_err-answer-clause-names : goal.returns-in_err-answer-clause-names
 returns-in_err-answer-clause-names g c =
     let dir = g.F.Files.map c.args.files.now in
     let k = key c.args.who.now in
-    let names = set_named g.F.Files (λ name. is_read_by (Add c.args.set c.args.who.now) name ≡ true) _ dir c.args.set k false (λ name e. e) c.in_err-answer.ensures.names c.in_err-answer.ensures.sound in
+    let names = part_named g.F.Files (λ name. is_read_by (Add c.args.set c.args.who.now) name ≡ true) _ dir
+    (change_named g.F.Files (λ name. is_read_by (Add c.args.set c.args.who.now) name ≡ true) _ dir c.args.set k false (λ name e. e) c.in_err-answer.ensures.names) in
     search rules
 
 pub returns-clause-value : goal.returns-clause-value

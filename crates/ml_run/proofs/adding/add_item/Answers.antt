@@ -38,7 +38,7 @@ returns-in-Err-clause-reason g c =
     let txn : c.parts-store.result.1 ≡ c.args.group.txn = c.parts-store.ensures.txn ∙ c.apply-layer.ensures.reads.kept.1 ∙ c.new.ensures.txn in
     let now = with_puts (dir_of c.args.store) c.parts-store.result.1 in
     let over : with_puts (dir_of c.new.result.files) c.new.result.txn ≡ with_puts (dir_of c.args.store) c.parts-store.result.1 = λ i. with_puts (dir_of (c.new.ensures.files i)) ((c.new.ensures.txn ∙ sym txn) i) in
-    let named : OnDamaged error IsNamed = on_damaged error _ IsNamed (λ name e. may_read_named item name c.requires.limits.is e)
+    let named : OnDamaged error IsNamed = on_damaged error _ IsNamed (λ name e. may_read_named item name c.requires.limits e)
     (at_err (λ (e : PartError). OnDamaged e (λ name. may_read item name ≡ true)) c.apply-layer.result.1 error c.apply-layer.ensures.names.named c.in-Err.is) in
     let damaged : IsTrue g.S.Site.tells_reads → OnDamaged error (IsDamaged now) =
     λ told. subst (λ (d : Dir). OnDamaged error (IsDamaged d)) over

@@ -18,7 +18,7 @@ use Rattle.ml_run.proofs.Opening.{runs_before, still_then, first_served, first_l
 use Rattle.ml_base.specs.Dir.{Dir}
 use Rattle.ml_journal.specs.Stores.{the_dir}
 use Rattle.ml_config.specs.ConfigFile.{config_name}
-use Rattle.ml_list.specs.Damage.{IsDamaged}
+use Rattle.ml_list.specs.Damage.{IsNoConfig}
 use Rattle.ml_ending.specs.Stops.{status_of_why}
 use Rattle.ml_run.specs.Endings.{IsFound}
 use Rattle.ml_run.proofs.Named.{finished_named}
@@ -85,7 +85,7 @@ returns-in-Err-clause-named g c t files found is =
     finished_named g.S.Site (site_of c.load.new.files) c.finish-in-Err.result.1 c.finish-in-Err.result.0.status 0 None c.why_of.result (Some files) c.finish-in-Err.ensures.finishes refl is t told
     (subst (λ (w : Why). status_of_why w ≡ 75 → IsFound None w (Some files) (directory (g.S.Site.disk (site_of c.load.new.files)).reads)) (sym c.why_of.ensures)
     (part_found c.in-Err.error (Some files) (directory (g.S.Site.disk (site_of c.load.new.files)).reads) files now (at_err (λ (e : PartError). OnDamaged e (λ name. name ≡ config_name)) c.load.result c.in-Err.error c.load.ensures.names.named c.in-Err.is)
-    (subst (λ (d : Dir). OnDamaged c.in-Err.error (IsDamaged d)) (ap the_dir found) (at_err (λ (e : PartError). OnDamaged e (IsDamaged (dir_of c.args.store))) c.load.result c.in-Err.error (c.load.ensures.names.damaged told) c.in-Err.is))))
+    (subst (λ (d : Dir). OnDamaged c.in-Err.error (λ _. IsNoConfig d)) (ap the_dir found) (at_err (λ (e : PartError). OnDamaged e (λ _. IsNoConfig (dir_of c.args.store))) c.load.result c.in-Err.error (c.load.ensures.names.damaged told) c.in-Err.is))))
 
 pub returns-in-Ok-None-clause-gate : goal.returns-in-Ok-None-clause-gate
 returns-in-Ok-None-clause-gate g c one two three told = finished_gate g.S.Site (site_of c.load.new.files) c.finish.result.1 (Some (None, whys.NoList)) c.finish.result.0.status 0 c.finish.ensures.finishes one two three told
@@ -107,7 +107,7 @@ pub returns-in-Err-clause-nolist : goal.returns-in-Err-clause-nolist
 returns-in-Err-clause-nolist g c told files found none =
     let why : (c.why_of.result ≡ whys.Memory) ⊎ (c.why_of.result ≡ whys.Disk) = subst (λ (w : Why). (w ≡ whys.Memory) ⊎ (w ≡ whys.Disk)) (sym c.why_of.ensures)
     (none_why c.in-Err.error (dir_of c.args.store) (at_err (λ (e : PartError). OnDamaged e (λ name. name ≡ config_name)) c.load.result c.in-Err.error c.load.ensures.names.named c.in-Err.is)
-    (at_err (λ (e : PartError). OnDamaged e (IsDamaged (dir_of c.args.store))) c.load.result c.in-Err.error (c.load.ensures.names.damaged told) c.in-Err.is)
+    (at_err (λ (e : PartError). OnDamaged e (λ _. IsNoConfig (dir_of c.args.store))) c.load.result c.in-Err.error (c.load.ensures.names.damaged told) c.in-Err.is)
     (ap (λ (d : Dir). d config_name) (ap the_dir found) ∙ none)) in
     finished_fails g.S.Site (site_of c.load.new.files) c.finish-in-Err.result.1 (g.S.Site.output (site_of c.args.store)) c.finish-in-Err.result.0.status 0 c.why_of.result why c.finish-in-Err.ensures.finishes
 

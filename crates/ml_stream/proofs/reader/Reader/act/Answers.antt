@@ -20,3 +20,11 @@ returns-in-Rekey-clause-stops g c bs s =
 pub returns-in-Remove-clause-stops : goal.returns-in-Remove-clause-stops
 returns-in-Remove-clause-stops g c bs s =
     subst (λ (l : Letter). IfErr c.remove.result (λ (e : StreamError). Breaks e (g.I.Source.left c.remove.new.input) bs (λ t. Fails (act_at l c.args.self.now.place t)))) (sym c.in-Remove.is) (c.remove.ensures.stops bs s)
+
+pub returns-in-Deliver-clause-stops : goal.returns-in-Deliver-clause-stops
+returns-in-Deliver-clause-stops g c bs s =
+    subst (λ (l : Letter). IfErr c.deliver.result (λ (e : StreamError). Breaks e (g.I.Source.left c.deliver.new.input) bs (λ t. Fails (act_at l c.args.self.now.place t)))) (sym c.in-Deliver.is) (c.deliver.ensures.stops bs s)
+
+pub returns-in-Sent-clause-stops : goal.returns-in-Sent-clause-stops
+returns-in-Sent-clause-stops g c bs s =
+    subst (λ (l : Letter). IfErr c.sent.result (λ (e : StreamError). Breaks e (g.I.Source.left c.sent.new.input) bs (λ t. Fails (act_at l c.args.self.now.place t)))) (sym c.in-Sent.is) (c.sent.ensures.stops bs s)

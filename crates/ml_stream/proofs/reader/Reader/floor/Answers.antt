@@ -10,10 +10,10 @@ use Rattle.ml_stream.proofs.reader.Reader.floor.Goals as goal
 pub returns-clause-read : goal.returns-clause-read
 returns-clause-read g c bs s =
     let a = c.in_ok-at.ensures.read bs s in
-    (a.0, floor_ok c.args.self.now.place c.floor_value.new.self.place bs a.0 c.in_ok-at.at a.1, a.2)
+    (a.0, floor_ok c.args.self.now.place c.positive.new.self.place bs a.0 c.in_ok-at.at a.1, a.2)
 
 pub returns-in_err-at-clause-stops : goal.returns-in_err-at-clause-stops
 returns-in_err-at-clause-stops g c bs s =
-    at_exit c.from_residual.result (λ (e : StreamError). e ≡ c.in_err-at.field-0.0) (λ (e : StreamError). Breaks e (g.I.Source.left c.floor_value.new.input) bs (λ t. Fails (floor_at c.args.self.now.place t))) c.from_residual.ensures.1
-    (λ e is. subst (λ (x : StreamError). Breaks x (g.I.Source.left c.floor_value.new.input) bs (λ t. Fails (floor_at c.args.self.now.place t))) (sym is)
-    (breaks_first c.in_err-at.field-0.0 (g.I.Source.left c.floor_value.new.input) bs (λ t. element_at 12 floor_of c.args.self.now.place t) (λ at. got (Floor at.value) at.place at.rest) (c.in_err-at.ensures.stops bs s)))
+    at_exit c.from_residual.result (λ (e : StreamError). e ≡ c.in_err-at.field-0.0) (λ (e : StreamError). Breaks e (g.I.Source.left c.positive.new.input) bs (λ t. Fails (floor_at c.args.self.now.place t))) c.from_residual.ensures.1
+    (λ e is. subst (λ (x : StreamError). Breaks x (g.I.Source.left c.positive.new.input) bs (λ t. Fails (floor_at c.args.self.now.place t))) (sym is)
+    (breaks_first c.in_err-at.field-0.0 (g.I.Source.left c.positive.new.input) bs (λ t. element_at 12 floor_of c.args.self.now.place t) (λ at. got (Floor at.value) at.place at.rest) (c.in_err-at.ensures.stops bs s)))

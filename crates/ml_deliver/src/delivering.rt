@@ -1,0 +1,195 @@
+// A delivery: the first rule that applies decides.
+ghost use Rattle.std.specs.Prelude.{◌≡◌, ◌≤◌, true, length, IsTrue, IfOk, IfErr, Some};
+ghost use Rattle.ml_address.specs.Reading.{request_of};
+ghost use Rattle.ml_address.specs.Views.{request_view};
+ghost use Rattle.ml_base.specs.Dir.{are_files, touches_only};
+ghost use Rattle.ml_base.specs.PartErrors.{OnDamaged};
+ghost use Rattle.ml_base.specs.Ranges.{IsMoment};
+ghost use Rattle.ml_base.specs.ReadFiles.{IsReading, NamesDamaged};
+ghost use Rattle.ml_config.specs.ConfigFile.{IsConfigFile, config_name};
+ghost use Rattle.ml_config.specs.Configuration.{IsConfig};
+ghost use Rattle.ml_plain.specs.Answers as answers;
+ghost use Rattle.ml_plain.specs.Directory.{IsList, is_of_list};
+ghost use Rattle.ml_plain.specs.KeptFiles.{is_kept};
+ghost use Rattle.ml_plain.specs.Managing as spec;
+ghost use Rattle.ml_plain.specs.Plain.{Plain};
+ghost use Rattle.ml_acts.specs.Damaged.{IsDamaged};
+ghost use Rattle.ml_acts.specs.Doing.{DoesList, HasRoom};
+ghost use Rattle.ml_deliver.specs.Reads.{is_of_acts};
+
+use crate::guarding::guarded;
+use crate::moderating::moderated;
+use ml_acts::is_worn;
+use ml_address::{Request, read_request};
+use ml_base::{Files, PartError, Txn};
+use ml_config::{Config, load};
+use ml_manage::manage;
+use ml_plain::Reply;
+use ml_post::post;
+use std::alloc::Global;
+
+/// What a message does that comes for an address, from an envelope sender: the puts, and the reply.
+///
+/// Where ids or tickets are worn out it is `full`. Else the recipient decides: one that isn't the list's is `notours`, the list's own address
+/// takes posts, and its other addresses take requests, bounces and moderators' answers. `Damaged` names a file that was read and is outside its
+/// grammar, or names what isn't there. `Fault` comes only where a read failed. The configuration is there: who asks has looked at it, and
+/// where it isn't, there is no memory.
+///
+/// `now` is in seconds since 1970, and the message has at most 33,554,432 bytes.
+pub fn deliver<F: Files>(
+    alloc: Global,
+    files: &mut F,
+    now: u64,
+    sender: &[u8],
+    recipient: &[u8],
+    message: &[u8],
+) -> Result<(Txn, Reply), PartError>
+    requires moment { IsMoment now }
+    requires length { length message.now ≤ 33_554_432 }
+    ensures value { IsTrue F.tells → IfOk result (λ done. (p : Plain) → IsList (F.map files.old) p → DoesList (F.map files.old) done (spec.deliver now sender.now recipient.now message.now p)) }
+    ensures own { IfOk result (λ done. touches_only is_of_list done.0 ≡ true) }
+    ensures files { IfOk result (λ done. IsTrue (are_files done.0)) }
+    ensures reply { IfOk result (λ done. is_kept done.1 ≡ true) }
+    ensures names { NamesDamaged ⟦<F as Files>⟧ (λ name. is_of_acts name ≡ true) (IsDamaged (F.map files.old)) result }
+    ensures reads { IsReading ⟦<F as Files>⟧ files.old files.new result }
+{
+    guarded(delivered(alloc, files, now, sender, recipient, message))
+}
+
+// Reads the configuration first.
+fn delivered<F: Files>(
+    alloc: Global,
+    files: &mut F,
+    now: u64,
+    sender: &[u8],
+    recipient: &[u8],
+    message: &[u8],
+) -> Result<(Txn, Reply), PartError>
+    requires moment { IsMoment now }
+    requires length { length message.now ≤ 33_554_432 }
+    ensures value { IsTrue F.tells → IfOk result (λ done. (p : Plain) → IsList (F.map files.old) p → DoesList (F.map files.old) done (spec.deliver now sender.now recipient.now message.now p)) }
+    ensures own { IfOk result (λ done. touches_only is_of_list done.0 ≡ true) }
+    ensures files { IfOk result (λ done. IsTrue (are_files done.0)) }
+    ensures reply { IfOk result (λ done. is_kept done.1 ≡ true) }
+    ensures names { NamesDamaged ⟦<F as Files>⟧ (λ _. Unit {0}) (IsDamaged (F.map files.old)) result }
+    ensures reads { IsReading ⟦<F as Files>⟧ files.old files.new result }
+{
+    let config = configuration(alloc, files)?;
+    unless_worn(alloc, files, &config, now, sender, recipient, message)
+}
+
+// Looks whether ids and tickets are left.
+fn unless_worn<F: Files>(
+    alloc: Global,
+    files: &mut F,
+    config: &Config,
+    now: u64,
+    sender: &[u8],
+    recipient: &[u8],
+    message: &[u8],
+) -> Result<(Txn, Reply), PartError>
+    requires moment { IsMoment now }
+    requires config { IsConfig config.now }
+    requires loaded { IsTrue F.tells → IsConfigFile (F.map files.now config_name) config.now }
+    requires length { length message.now ≤ 33_554_432 }
+    ensures value { IsTrue F.tells → IfOk result (λ done. (p : Plain) → IsList (F.map files.old) p → p.config ≡ config.now → DoesList (F.map files.old) done (spec.deliver now sender.now recipient.now message.now p)) }
+    ensures own { IfOk result (λ done. touches_only is_of_list done.0 ≡ true) }
+    ensures files { IfOk result (λ done. IsTrue (are_files done.0)) }
+    ensures reply { IfOk result (λ done. is_kept done.1 ≡ true) }
+    ensures names { NamesDamaged ⟦<F as Files>⟧ (λ _. Unit {0}) (IsDamaged (F.map files.old)) result }
+    ensures reads { IsReading ⟦<F as Files>⟧ files.old files.new result }
+{
+    if is_worn(alloc, files)? {
+        return Ok((Txn::new(alloc), plain(Reply::FULL)));
+    }
+    by_recipient(alloc, files, config, now, sender, recipient, message)
+}
+
+// The configuration. Who asks has looked at its file; where it isn't there, there is no memory.
+pub(crate) fn configuration<F: Files>(alloc: Global, files: &mut F) -> Result<Config, PartError>
+    ensures value { IsTrue F.tells → IfOk result (λ c. IsConfigFile (F.map files.old config_name) c) }
+    ensures range { IfOk result IsConfig }
+    ensures none { IfErr result (λ e. OnDamaged e (λ _. ⊥)) }
+    ensures reads { IsReading ⟦<F as Files>⟧ files.old files.new result }
+{
+    match load(alloc, files) {
+        Ok(Some(config)) => Ok(config),
+        Ok(None) => Err(PartError::Memory),
+        Err(PartError::Damaged(_)) => Err(PartError::Memory),
+        Err(error) => Err(error),
+    }
+}
+
+// What a recipient asks, who may not be the list's.
+fn by_recipient<F: Files>(
+    alloc: Global,
+    files: &mut F,
+    config: &Config,
+    now: u64,
+    sender: &[u8],
+    recipient: &[u8],
+    message: &[u8],
+) -> Result<(Txn, Reply), PartError>
+    requires moment { IsMoment now }
+    requires config { IsConfig config.now }
+    requires loaded { IsTrue F.tells → IsConfigFile (F.map files.now config_name) config.now }
+    requires room { IsTrue F.tells → HasRoom (F.map files.now) }
+    requires length { length message.now ≤ 33_554_432 }
+    ensures value { IsTrue F.tells → IfOk result (λ done. (p : Plain) → IsList (F.map files.old) p → p.config ≡ config.now → DoesList (F.map files.old) done (spec.by_recipient now sender.now message.now p (request_of config.now.local config.now.host recipient.now))) }
+    ensures own { IfOk result (λ done. touches_only is_of_list done.0 ≡ true) }
+    ensures files { IfOk result (λ done. IsTrue (are_files done.0)) }
+    ensures reply { IfOk result (λ done. is_kept done.1 ≡ true) }
+    ensures names { NamesDamaged ⟦<F as Files>⟧ (λ _. Unit {0}) (IsDamaged (F.map files.old)) result }
+    ensures reads { IsReading ⟦<F as Files>⟧ files.old files.new result }
+{
+    let local = config.local.as_slice();
+    let Some(request) = read_request(local, config.host.as_slice(), recipient) else {
+        return Ok((Txn::new(alloc), plain(Reply::NOTOURS)));
+    };
+    by_request(
+        alloc, files, config, now, sender, recipient, &request, message,
+    )
+}
+
+// What a request asks that was read of a recipient: a post, a moderator's answer, or anything else.
+fn by_request<F: Files>(
+    alloc: Global,
+    files: &mut F,
+    config: &Config,
+    now: u64,
+    sender: &[u8],
+    recipient: &[u8],
+    request: &Request<'_>,
+    message: &[u8],
+) -> Result<(Txn, Reply), PartError>
+    requires moment { IsMoment now }
+    requires config { IsConfig config.now }
+    requires loaded { IsTrue F.tells → IsConfigFile (F.map files.now config_name) config.now }
+    requires room { IsTrue F.tells → HasRoom (F.map files.now) }
+    requires read { request_of config.now.local config.now.host recipient.now ≡ Some (request_view request.now) }
+    requires length { length message.now ≤ 33_554_432 }
+    ensures value { IsTrue F.tells → IfOk result (λ done. (p : Plain) → IsList (F.map files.old) p → p.config ≡ config.now → DoesList (F.map files.old) done (spec.by_request now sender.now message.now p (request_view request.now))) }
+    ensures own { IfOk result (λ done. touches_only is_of_list done.0 ≡ true) }
+    ensures files { IfOk result (λ done. IsTrue (are_files done.0)) }
+    ensures reply { IfOk result (λ done. is_kept done.1 ≡ true) }
+    ensures names { NamesDamaged ⟦<F as Files>⟧ (λ _. Unit {0}) (IsDamaged (F.map files.old)) result }
+    ensures reads { IsReading ⟦<F as Files>⟧ files.old files.new result }
+{
+    match request {
+        Request::Post => post(alloc, files, config, now, sender, message),
+        Request::Accept { ticket, cookie } => moderated(
+            alloc, files, config, now, sender, message, *ticket, cookie, true,
+        ),
+        Request::Reject { ticket, cookie } => moderated(
+            alloc, files, config, now, sender, message, *ticket, cookie, false,
+        ),
+        _ => manage(alloc, files, config, now, sender, request, message),
+    }
+}
+
+// The reply of a code that has no number.
+pub(crate) fn plain(code: u8) -> Reply
+    ensures { result ≡ answers.plain code }
+{
+    Reply { code, number: 0 }
+}

@@ -1,0 +1,67 @@
+// Moderators' answers: by a usable sender, and by no list.
+ghost use Rattle.std.specs.Prelude.{◌≡◌, true, codes, is_some, IsTrue, IfOk};
+ghost use Rattle.ml_address.specs.Requests.{Accept, Reject, PlainRequest};
+ghost use Rattle.ml_base.specs.Address.{address_of};
+ghost use Rattle.ml_base.specs.Dir.{are_files, touches_only};
+ghost use Rattle.ml_base.specs.Ranges.{IsMoment};
+ghost use Rattle.ml_base.specs.ReadFiles.{IsReading, NamesDamaged};
+ghost use Rattle.ml_header.specs.Fields.{has_field};
+ghost use Rattle.ml_plain.specs.Directory.{IsList, is_of_list};
+ghost use Rattle.ml_plain.specs.KeptFiles.{is_kept};
+ghost use Rattle.ml_plain.specs.Managing as spec;
+ghost use Rattle.ml_plain.specs.Plain.{Plain};
+ghost use Rattle.ml_acts.specs.Damaged.{IsDamaged};
+ghost use Rattle.ml_acts.specs.Doing.{DoesList, HasIds};
+ghost use Rattle.ml_deliver.specs.Moderating.{answer_to};
+
+use crate::delivering::plain;
+use ml_base::{Address, Files, PartError, Txn};
+use ml_config::Config;
+use ml_header::Message;
+use ml_plain::Reply;
+use ml_post::answer;
+use std::alloc::Global;
+
+// A moderator accepts or rejects the post of a ticket.
+pub(crate) fn moderated<F: Files>(
+    alloc: Global,
+    files: &mut F,
+    config: &Config,
+    now: u64,
+    sender: &[u8],
+    message: &[u8],
+    ticket: u64,
+    letters: &[u8; 20],
+    accept: bool,
+) -> Result<(Txn, Reply), PartError>
+    requires moment { IsMoment now }
+    requires room { IsTrue F.tells → HasIds (F.map files.now) }
+    ensures value { IsTrue F.tells → IfOk result (λ done. (p : Plain) → IsList (F.map files.old) p → p.config ≡ config.now → DoesList (F.map files.old) done (spec.by_sender now message.now p (answer_to ticket letters.now accept) (address_of sender.now))) }
+    ensures own { IfOk result (λ done. touches_only is_of_list done.0 ≡ true) }
+    ensures files { IfOk result (λ done. IsTrue (are_files done.0)) }
+    ensures reply { IfOk result (λ done. is_kept done.1 ≡ true) }
+    ensures names { NamesDamaged ⟦<F as Files>⟧ (λ _. Unit {0}) (IsDamaged (F.map files.old)) result }
+    ensures reads { IsReading ⟦<F as Files>⟧ files.old files.new result }
+{
+    if !is_usable(sender) {
+        return Ok((Txn::new(alloc), plain(Reply::NOSENDER)));
+    }
+    if is_from_list(message) {
+        return Ok((Txn::new(alloc), plain(Reply::LOOPED)));
+    }
+    answer(alloc, files, config, now, ticket, letters, accept)
+}
+
+// Whether an envelope sender is an address.
+fn is_usable(sender: &[u8]) -> bool
+    ensures { result ≡ is_some (address_of sender.now) }
+{
+    Address::check(sender).is_ok()
+}
+
+// Whether a message came from a list.
+fn is_from_list(message: &[u8]) -> bool
+    ensures { result ≡ has_field (codes "mailing-list") message.now }
+{
+    Message::scan(message).field(b"mailing-list").is_some()
+}

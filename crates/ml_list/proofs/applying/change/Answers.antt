@@ -1,0 +1,73 @@
+use Rattle.std.proofs.Common.{◌≡◌, true, sym, ap, subst}
+use Rattle.ml_base.specs.Dir.{same_name}
+use Rattle.ml_base.specs.ReadFiles.{NamesDamaged}
+use Rattle.ml_queue.specs.Answers.{ids_name}
+use Rattle.ml_deliver.specs.Reads.{is_of_acts}
+use Rattle.ml_list.specs.Damage.{IsDamaged, is_read_by}
+use Rattle.ml_list.proofs.Damages.{part_named}
+use Rattle.ml_plain.specs.declared.Act.{Act}
+use Rattle.ml_plain.specs.Steps.{act_step}
+use Rattle.ml_plain.specs.Histories.{effect_by, floor_asked}
+use Rattle.ml_acts.specs.Doing.{DoesList}
+use Rattle.ml_list.specs.Applying.{Does}
+use Rattle.ml_base.proofs.DamagedNames.{ok_both}
+use Rattle.ml_list.proofs.Steps.{delivered_so, plain_does}
+use Rattle.std.proofs.lemmas.Result.{IfOk-weaker}
+use Rattle.ml_list.proofs.applying.change.Goals as goal
+
+pub returns-in-Deliver-clause-value : goal.returns-in-Deliver-clause-value
+returns-in-Deliver-clause-value g c told =
+    let dir = g.F.Files.map c.args.files.now in
+    let item = c.args.item.now in
+    ok_both c.deliver.result _ _ _ (λ done value own q is.
+    plain_does dir q item done is (ap floor_asked c.in-Deliver.is) own (subst (λ (a : Act). DoesList dir done (act_step q.plain item.moment a)) (sym c.in-Deliver.is)
+    (delivered_so dir done item.moment _ _ _ _ _ _ q.plain c.as_slice.ensures c.as_slice-in-Deliver.ensures c.as_slice-in-Deliver-2.ensures (value q.plain is.list))))
+    (c.deliver.ensures.value told) c.deliver.ensures.own
+
+pub returns-in-Deliver-clause-names : goal.returns-in-Deliver-clause-names
+returns-in-Deliver-clause-names g c =
+    let dir = g.F.Files.map c.args.files.now in
+    subst (λ (a : Act). NamesDamaged g.F.Files (λ name. is_read_by a name ≡ true) (IsDamaged dir) c.deliver.result) (sym c.in-Deliver.is) (part_named g.F.Files (λ name. is_of_acts name ≡ true) c.deliver.result dir c.deliver.ensures.names)
+
+pub returns-in-Sent-clause-value : goal.returns-in-Sent-clause-value
+returns-in-Sent-clause-value g c told =
+    let dir = g.F.Files.map c.args.files.now in
+    let item = c.args.item.now in
+    ok_both c.sent_entry.result _ _ _ (λ done value own q is.
+    plain_does dir q item done is (ap floor_asked c.in-Sent.is) own (subst (λ (a : Act). DoesList dir done (act_step q.plain item.moment a)) (sym c.in-Sent.is) (value q.plain is.list)))
+    (c.sent_entry.ensures.value told) c.sent_entry.ensures.own
+
+pub returns-in-Sent-clause-names : goal.returns-in-Sent-clause-names
+returns-in-Sent-clause-names g c =
+    let dir = g.F.Files.map c.args.files.now in
+    subst (λ (a : Act). NamesDamaged g.F.Files (λ name. is_read_by a name ≡ true) (IsDamaged dir) c.sent_entry.result) (sym c.in-Sent.is) (part_named g.F.Files (λ name. same_name name ids_name ≡ true) c.sent_entry.result dir c.sent_entry.ensures.names)
+
+pub returns-in-Add-clause-value : goal.returns-in-Add-clause-value
+returns-in-Add-clause-value g c told =
+    let dir = g.F.Files.map c.args.files.now in
+    let item = c.args.item.now in
+    ok_both c.add_member.result _ _ _ (λ done value own q is.
+    plain_does dir q item done is (ap floor_asked c.in-Add.is) own (subst (λ (a : Act). DoesList dir done (act_step q.plain item.moment a)) (sym c.in-Add.is) (value q.plain is.list)))
+    (c.add_member.ensures.value told) c.add_member.ensures.own
+
+pub returns-in-Remove-clause-value : goal.returns-in-Remove-clause-value
+returns-in-Remove-clause-value g c told =
+    let dir = g.F.Files.map c.args.files.now in
+    let item = c.args.item.now in
+    ok_both c.remove_member.result _ _ _ (λ done value own q is.
+    plain_does dir q item done is (ap floor_asked c.in-Remove.is) own (subst (λ (a : Act). DoesList dir done (act_step q.plain item.moment a)) (sym c.in-Remove.is) (value q.plain is.list)))
+    (c.remove_member.ensures.value told) c.remove_member.ensures.own
+
+pub returns-in-Rekey-clause-value : goal.returns-in-Rekey-clause-value
+returns-in-Rekey-clause-value g c told =
+    let dir = g.F.Files.map c.args.files.now in
+    let item = c.args.item.now in
+    ok_both c.change_key.result _ _ _ (λ done value own q is.
+    plain_does dir q item done is (ap floor_asked c.in-Rekey.is) own (subst (λ (a : Act). DoesList dir done (act_step q.plain item.moment a)) (sym c.in-Rekey.is) (value q.plain is.list)))
+    (c.change_key.ensures.value told) c.change_key.ensures.own
+
+pub returns-in-Floor-clause-value : goal.returns-in-Floor-clause-value
+returns-in-Floor-clause-value g c told =
+    let dir = g.F.Files.map c.args.files.now in
+    let item = c.args.item.now in
+    IfOk-weaker c.raise.result _ _ (λ done h q is. subst (λ (a : Act). Does dir done (effect_by q item (floor_asked a))) (sym c.in-Floor.is) (h q is)) (c.raise.ensures.value told)
