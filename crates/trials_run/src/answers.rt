@@ -21,9 +21,9 @@ const STREAMS: [(&[u8], Told); 7] = [
     ),
     (b"Q", (65, 0, b"- 65 bad 0\n")),
     // Letters of items that are not there.
-    (b"T1:8,10:1000000001,", (65, 0, b"- 65 bad 0\n")),
+    (b"Q1:8,10:1000000001,", (65, 0, b"- 65 bad 0\n")),
     (
-        b"A1:7,10:1000000000,4:list,3:a@b,S1:8,10:1000000001,1:1,",
+        b"A1:7,10:1000000000,4:list,3:a@b,Q1:8,10:1000000001,1:1,",
         (65, 1, b"7 0 subscribed\n- 65 bad 32\n"),
     ),
     // A floor, and repeats below it in the same group.
