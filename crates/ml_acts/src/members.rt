@@ -6,12 +6,11 @@ ghost use Rattle.ml_base.specs.ReadFiles.{IsReading, NamesDamaged};
 ghost use Rattle.ml_base.specs.Sorted.{byte_cmp, is_sorted};
 ghost use Rattle.ml_plain.specs.Directory.{IsList};
 ghost use Rattle.ml_plain.specs.Plain.{Plain, addresses};
-ghost use Rattle.ml_queue.specs.Reading.{rises};
 ghost use Rattle.ml_subs.specs.Subscribers.{is_of_set};
 ghost use Rattle.ml_acts.specs.Doing.{Alike, is_bucket};
 ghost use Rattle.ml_acts.specs.Damaged.{IsDamaged};
 
-use ml_base::{Address, AddressList, Files, PartError, Set, is_below};
+use ml_base::{AddressList, Files, PartError, Set};
 use ml_subs::all;
 use std::alloc::Global;
 
@@ -27,36 +26,5 @@ pub fn recipients<F: Files>(
     ensures names { NamesDamaged ⟦<F as Files>⟧ (λ name. is_bucket set name ≡ true) (IsDamaged (F.map files.old)) result }
     ensures reads { IsReading ⟦<F as Files>⟧ files.old files.new result }
 {
-    let to = all(alloc, files, set)?;
-    // Files that tell their map have them in order.
-    if !are_in_order(to.as_slice()) {
-        return Err(PartError::Memory);
-    }
-    Ok(to)
-}
-
-// Whether addresses are in ascending order of key, none twice.
-fn are_in_order(to: &[Address]) -> bool
-    ensures { result ≡ is_sorted byte_cmp key to.now }
-{
-    match to {
-        [first, more @ ..] => rise(first.bytes(), more),
-        [] => true,
-    }
-}
-
-// Whether the keys of addresses rise, the first of them above an address's.
-fn rise(floor: &[u8], to: &[Address]) -> bool
-    ensures { result ≡ rises floor.now to.now }
-{
-    let mut last = floor;
-    let mut rest = to;
-    while let [who, more @ ..] = rest {
-        if !is_below(last, who.bytes()) {
-            return false;
-        }
-        last = who.bytes();
-        rest = more;
-    }
-    true
+    all(alloc, files, set)
 }

@@ -8,4 +8,5 @@ pub mod Together
 pub mod Standing
 pub mod Answering
 pub mod Gathering
+pub mod Addressed
 mod Examples

@@ -1,12 +1,13 @@
 // All members of a set, in the order of their keys.
 ghost use Rattle.std.specs.Prelude.{◌≡◌, ◌<◌, ◌≤◌, ◌++◌, [], map, true, false, List, ℕ, Bool, Option, Some, None, IsTrue, IfOk, IfErr, OnOk, IsErrOf, length};
 ghost use Rattle.std.specs.List.Sorted.{IsPermutation, IsSortedByKey};
-ghost use Rattle.ml_base.specs.Sorted.{byte_cmp};
+ghost use Rattle.ml_base.specs.Address.{key};
+ghost use Rattle.ml_base.specs.Sorted.{byte_cmp, is_sorted};
 ghost use Rattle.ml_base.specs.PartErrors.{OnDamaged};
 ghost use Rattle.ml_base.specs.declared.part.PartError.TheVariants.{Fault};
 ghost use Rattle.ml_base.specs.ReadFiles.{IsReading, NamesDamaged};
 ghost use Rattle.ml_subs.specs.declared.member_list.Member.{Member};
-ghost use Rattle.ml_subs.specs.Members.{member_key};
+ghost use Rattle.ml_subs.specs.Members.{member_key, IsOrdered};
 ghost use Rattle.ml_subs.specs.Buckets.{IsBucketFile};
 ghost use Rattle.ml_subs.specs.Subscribers.{AreSubscribers, AreJoined, AreBuckets, AreFiles, file_in, IsBucketName, IsBadBucket};
 ghost use Rattle.ml_subs.specs.Reading.{AreRead, gathered, AreAdded};
@@ -139,6 +140,7 @@ fn sorted_members(
 pub fn members<F: Files>(alloc: Global, files: &mut F, set: Set) -> Result<MemberList, PartError>
     ensures value { IsTrue F.tells → IfOk result (λ members. (ms : List Member) → AreSubscribers (F.map files.old) set ms → members ≡ ms) }
     ensures joined { IsTrue F.tells → IfOk result (AreJoined (F.map files.old) set) }
+    ensures ordered { IfOk result IsOrdered }
     ensures names { NamesDamaged ⟦<F as Files>⟧ (IsBucketName set) (IsBadBucket (F.map files.old) set) result }
     ensures sound { IsTrue F.tells → (ms : List Member) → AreSubscribers (F.map files.old) set ms → IfErr result (λ e. OnDamaged e (λ _. ⊥)) }
     ensures reads { IsReading ⟦<F as Files>⟧ files.old files.new result }
@@ -163,6 +165,7 @@ fn addresses_of(alloc: Global, list: MemberList) -> Result<AddressList, AllocErr
 pub fn all<F: Files>(alloc: Global, files: &mut F, set: Set) -> Result<AddressList, PartError>
     ensures value { IsTrue F.tells → IfOk result (λ addresses. (ms : List Member) → AreSubscribers (F.map files.old) set ms → addresses ≡ map (λ m. m.who) ms) }
     ensures joined { IsTrue F.tells → IfOk result (λ addresses. (ms : List Member) × AreJoined (F.map files.old) set ms × (addresses ≡ map (λ m. m.who) ms)) }
+    ensures sorted { IfOk result (λ addresses. is_sorted byte_cmp key addresses ≡ true) }
     ensures names { NamesDamaged ⟦<F as Files>⟧ (IsBucketName set) (IsBadBucket (F.map files.old) set) result }
     ensures sound { IsTrue F.tells → (ms : List Member) → AreSubscribers (F.map files.old) set ms → IfErr result (λ e. OnDamaged e (λ _. ⊥)) }
     ensures reads { IsReading ⟦<F as Files>⟧ files.old files.new result }
