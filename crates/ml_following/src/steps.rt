@@ -102,12 +102,12 @@ fn probe<F: Files>(
     keys: &Keys,
     set: Set,
     action: &Action,
-    to: &Address,
+    who: &Address,
     now: u64,
 ) -> Result<Txn, PartError>
     requires ledger { IsTrue (has_ledger set) }
     requires moment { IsMoment now }
-    requires action { action.now ≡ actions.Probe to.now }
+    requires action { action.now ≡ actions.Probe who.now }
     requires room { IsTrue F.tells → HasIds (F.map files.now) }
     ensures value { IsTrue F.tells → IfOk result (λ txn. (p : Plain) (e : LedgerEntry) → IsList (F.map files.old) p → p.config ≡ config.now → p.keys ≡ keys.now → find_entry e.key (ledger_of p set) ≡ Some e → action_of e ≡ action.now → IsList (with_puts (F.map files.old) txn) (spec.follow_up now p (set, e))) }
     ensures own { IfOk result (λ txn. touches_only is_of_time txn ≡ true) }
@@ -116,8 +116,8 @@ fn probe<F: Files>(
     ensures names { NamesDamaged ⟦<F as Files>⟧ (λ name. is_followed_by set name ≡ true) (IsDamaged (F.map files.old)) result }
     ensures reads { IsReading ⟦<F as Files>⟧ files.old files.new result }
 {
-    let Some(member) = find(alloc, files, set, to)? else {
-        return drop_entry(alloc, files, set, to);
+    let Some(member) = find(alloc, files, set, who)? else {
+        return drop_entry(alloc, files, set, who);
     };
     let mail = probe_mail(alloc, set, &member.who)?;
     let txn = tell(

@@ -37,7 +37,7 @@ type Case<'a> = (
 );
 
 // Requests to join.
-const JOINING: [Case; 20] = [
+const JOINING: [Case; 23] = [
     (
         b"BDFGHJKLMpRSTU",
         &[],
@@ -85,6 +85,18 @@ const JOINING: [Case; 20] = [
             8,
             2,
             b"To add c@d to allow of list@ex.org, write to\nlist-allow-tc.1000000200.iandhegkbllegagjfoli-c=d@ex.org\n,3:m@o,",
+        ),
+    ),
+    (
+        b"BDFGHJKLMprSTU",
+        &[],
+        NOW,
+        b"m@o",
+        Ask::Join(Set::Deny, Some((b"c", b"d"))),
+        (
+            8,
+            2,
+            b"To add c@d to deny of list@ex.org, write to\nlist-deny-tc.1000000200.oocebgeojlbkfkpjmpik-c=d@ex.org\n,3:m@o,",
         ),
     ),
     // A list that isn't public.
@@ -166,6 +178,18 @@ const JOINING: [Case; 20] = [
             b"To add c@d to list of list@ex.org, write to\nlist-sc.1000000200.adidjcaaioofodlfgbfc-c=d@ex.org\n,3:c@d,",
         ),
     ),
+    (
+        b"BDFGhJKLMprSTU",
+        &[],
+        NOW,
+        b"m@o",
+        Ask::Join(Set::List, None),
+        (
+            8,
+            2,
+            b"To add m@o to list of list@ex.org, write to\nlist-tc.1000000200.pkohbanabecldcgmponm-m=o@ex.org\n,3:m@o,",
+        ),
+    ),
     // Whoever joins himself where he need not confirm it.
     (
         b"BDFGhJKLMpRSTU",
@@ -201,6 +225,18 @@ const JOINING: [Case; 20] = [
             8,
             2,
             b"To add g@h to list of list@ex.org, write to\nlist-tc.1000000200.obpncccggeoacmogfpkd-g=h@ex.org\n,3:m@o,",
+        ),
+    ),
+    (
+        b"BDFGHJKLMpRsTU",
+        &[],
+        NOW,
+        b"g@h",
+        Ask::Join(Set::List, None),
+        (
+            8,
+            2,
+            b"To add g@h to list of list@ex.org, write to\nlist-sc.1000000200.gejckjgcpngcagofoonm-g=h@ex.org\n,3:g@h,",
         ),
     ),
     (
@@ -242,7 +278,7 @@ const JOINING: [Case; 20] = [
 ];
 
 // Requests to leave.
-const LEAVING: [Case; 11] = [
+const LEAVING: [Case; 12] = [
     (
         b"BDFGHJKLMprSTU",
         &[],
@@ -275,6 +311,14 @@ const LEAVING: [Case; 11] = [
         b"m@o",
         Ask::Leave(Set::List, Some((b"C", b"D"))),
         (7, 2, b"C@d is not in list of list@ex.org.\n,3:m@o,"),
+    ),
+    (
+        b"BDFGHJKLMPrSTU",
+        &[],
+        NOW,
+        b"m@o",
+        Ask::Leave(Set::Allow, Some((b"a", b"b"))),
+        (7, 2, b"a@b is not in allow of list@ex.org.\n,3:m@o,"),
     ),
     (
         b"BDFGHjKLMPRSTU",
@@ -352,21 +396,24 @@ const LEAVING: [Case; 11] = [
     ),
 ];
 
+// What `g@h` is asked to confirm at the moment of the tests.
+const SIGNED: Ask = Ask::Confirm(
+    Word::Sc,
+    Set::List,
+    1000000200,
+    b"gejckjgcpngcagofoonm",
+    (b"g", b"h"),
+);
+
 // Confirmations.
-const CONFIRMING: [Case; 19] = [
+const CONFIRMING: [Case; 22] = [
     // As long as a cookie is good.
     (
         b"BDFGHJKLMPRSTU",
         &[],
         NOW,
         b"x@y",
-        Ask::Confirm(
-            Word::Sc,
-            Set::List,
-            1000000200,
-            b"gejckjgcpngcagofoonm",
-            (b"g", b"h"),
-        ),
+        SIGNED,
         (4, 4, b"g@h was added to list of list@ex.org.\n,3:g@h,"),
     ),
     (
@@ -388,13 +435,7 @@ const CONFIRMING: [Case; 19] = [
         &[],
         1_001_000_200,
         b"g@h",
-        Ask::Confirm(
-            Word::Sc,
-            Set::List,
-            1000000200,
-            b"gejckjgcpngcagofoonm",
-            (b"g", b"h"),
-        ),
+        SIGNED,
         (4, 4, b"g@h was added to list of list@ex.org.\n,3:g@h,"),
     ),
     (
@@ -402,13 +443,7 @@ const CONFIRMING: [Case; 19] = [
         &[],
         1_001_000_201,
         b"g@h",
-        Ask::Confirm(
-            Word::Sc,
-            Set::List,
-            1000000200,
-            b"gejckjgcpngcagofoonm",
-            (b"g", b"h"),
-        ),
+        SIGNED,
         (30, 0, b""),
     ),
     (
@@ -416,13 +451,7 @@ const CONFIRMING: [Case; 19] = [
         &[],
         1_000_000_199,
         b"g@h",
-        Ask::Confirm(
-            Word::Sc,
-            Set::List,
-            1000000200,
-            b"gejckjgcpngcagofoonm",
-            (b"g", b"h"),
-        ),
+        SIGNED,
         (30, 0, b""),
     ),
     // A letter, the set, the word, the address or the moment is another one.
@@ -502,13 +531,7 @@ const CONFIRMING: [Case; 19] = [
         &REKEYED,
         NOW,
         b"g@h",
-        Ask::Confirm(
-            Word::Sc,
-            Set::List,
-            1000000200,
-            b"gejckjgcpngcagofoonm",
-            (b"g", b"h"),
-        ),
+        SIGNED,
         (4, 4, b"g@h was added to list of list@ex.org.\n,3:g@h,"),
     ),
     (
@@ -516,13 +539,7 @@ const CONFIRMING: [Case; 19] = [
         &EARLIER,
         NOW,
         b"g@h",
-        Ask::Confirm(
-            Word::Sc,
-            Set::List,
-            1000000200,
-            b"gejckjgcpngcagofoonm",
-            (b"g", b"h"),
-        ),
+        SIGNED,
         (30, 0, b""),
     ),
     // Who is a member already, or none.
@@ -536,6 +553,20 @@ const CONFIRMING: [Case; 19] = [
             Set::List,
             1000000200,
             b"iklmpbaancokijchkeoe",
+            (b"a", b"b"),
+        ),
+        (5, 0, b""),
+    ),
+    (
+        b"BDFGHJKLMPRSTU",
+        &[],
+        NOW,
+        b"m@o",
+        Ask::Confirm(
+            Word::Tc,
+            Set::List,
+            1000000200,
+            b"fkbhmgbbbnhkjeccdocm",
             (b"a", b"b"),
         ),
         (5, 0, b""),
@@ -560,13 +591,7 @@ const CONFIRMING: [Case; 19] = [
         &[],
         NOW,
         b"g@h",
-        Ask::Confirm(
-            Word::Sc,
-            Set::List,
-            1000000200,
-            b"gejckjgcpngcagofoonm",
-            (b"g", b"h"),
-        ),
+        SIGNED,
         (
             8,
             2,
@@ -587,20 +612,36 @@ const CONFIRMING: [Case; 19] = [
         ),
         (4, 4, b"g@h was added to list of list@ex.org.\n,3:g@h,"),
     ),
+    // A moderator's confirmation counts, whatever the options are by now.
     (
         b"BDFGHJKLMPRSTU",
-        &FULL,
+        &[],
         NOW,
         b"g@h",
         Ask::Confirm(
-            Word::Sc,
+            Word::Tc,
             Set::List,
             1000000200,
-            b"gejckjgcpngcagofoonm",
+            b"obpncccggeoacmogfpkd",
             (b"g", b"h"),
         ),
-        (20, 0, b""),
+        (4, 4, b"g@h was added to list of list@ex.org.\n,3:g@h,"),
     ),
+    (
+        b"BDFGHJKLMPRSTU",
+        &[],
+        NOW,
+        b"m@o",
+        Ask::Confirm(
+            Word::Tc,
+            Set::Allow,
+            1000000200,
+            b"iandhegkbllegagjfoli",
+            (b"c", b"d"),
+        ),
+        (4, 4, b"c@d was added to allow of list@ex.org.\n,3:c@d,"),
+    ),
+    (b"BDFGHJKLMPRSTU", &FULL, NOW, b"g@h", SIGNED, (20, 0, b"")),
     // Who leaves.
     (
         b"BDFGHJKLMPRSTU",

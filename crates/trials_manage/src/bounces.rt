@@ -1,6 +1,6 @@
 // Bounces: an address's course from its first one to the end, those that change nothing, and those of the digest. The letters
 // of the cookies are those that the key of the bytes 0 to 31 makes.
-use crate::lists::{Letter, List, NUMBER, after, list, text};
+use crate::lists::{Letter, List, NUMBER, after, holds, list, text};
 use ml_base::{Layer, Name, Set, is_moment};
 use ml_bounce::{act, due};
 use std::alloc::Global;
@@ -129,6 +129,26 @@ fn a_member_whose_probe_bounces_leaves(rt: HostRuntime) -> Result<(), Fail> {
     let alloc = rt.alloc();
     let held = rows_held(alloc, list(alloc, &MEMBER, &[])?, &COURSE)?;
     assert_eq!(rt; held, 11);
+    Ok(())
+}
+
+// Senders of a bounce: nobody, one that is no address, a stranger and the member himself.
+const SENDERS: [&[u8]; 4] = [b"", b"#@[]", b"g@h", b"a@b"];
+
+#[test]
+fn a_bounce_is_noted_whoever_sends_it(rt: HostRuntime) -> Result<(), Fail> {
+    let alloc = rt.alloc();
+    let left: [(Name, &[u8]); 1] = [(LEDGER, NOTED)];
+    for (row, sender) in SENDERS.iter().enumerate() {
+        let letter = Letter {
+            now: 1_000_010_000,
+            sender,
+            recipient: b"list-return-1-a=b@ex.org",
+            message: b"Mailing-List: x\n\n",
+        };
+        let list = list(alloc, &MEMBER, &[])?;
+        check(&rt, row, holds(alloc, list, b"", letter, 13, &left)?);
+    }
     Ok(())
 }
 

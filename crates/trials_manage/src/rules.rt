@@ -58,13 +58,28 @@ const fn sent_by<'a>(sender: &'a [u8], recipient: &'a [u8], message: &'a [u8]) -
 
 const LOOPED: &[u8] = b"MAILING-list: x\n\n";
 
+// An address that confirms something.
+const SIGNED: &[u8] = b"list-sc.1000000000.gejckjgcpngcagofoonm-g=h@ex.org";
+
 // Letters that are answered with these codes and change nothing.
-const REFUSED: [(&[u8], &[u8], &[u8], u64); 7] = [
+const REFUSED: [(&[u8], &[u8], &[u8], u64); 19] = [
     (b"", b"list-help@ex.org", b"\nhi\n", 22),
     (b"#@[]", b"list-get.1@ex.org", b"\nhi\n", 22),
     (b"gh", b"list-list@ex.org", LOOPED, 22),
+    (b"", b"list-subscribe@ex.org", b"\nhi\n", 22),
+    (b"#@[]", b"list-unsubscribe@ex.org", b"\nhi\n", 22),
+    (b"gh", SIGNED, b"\nhi\n", 22),
+    (b"", b"list-index.1@ex.org", LOOPED, 22),
+    (b"g@", b"list-thread.1@ex.org", b"\nhi\n", 22),
+    (b"@h", b"list-nothing@ex.org", b"\nhi\n", 22),
     (b"g@h", b"list-help@ex.org", LOOPED, 23),
     (b"g@h", b"list-get.1@ex.org", LOOPED, 23),
+    (b"g@h", b"list-unsubscribe@ex.org", LOOPED, 23),
+    (b"g@h", SIGNED, LOOPED, 23),
+    (b"g@h", b"list-list@ex.org", LOOPED, 23),
+    (b"g@h", b"list-index.1@ex.org", LOOPED, 23),
+    (b"g@h", b"list-thread.1@ex.org", LOOPED, 23),
+    (b"g@h", b"list-nothing@ex.org", LOOPED, 23),
     (b"", b"list-return-@ex.org", LOOPED, 14),
     (b"g@h", b"list-digest-return-@ex.org", b"\n", 14),
 ];

@@ -16,7 +16,7 @@ use Rattle.ml_following.proofs.steps.probe.Goals as goal
 
 pub returns-in_err-member-clause-names : goal.returns-in_err-member-clause-names
 returns-in_err-member-clause-names g c =
-    let names = bucket_named g.F.Files (λ name. is_followed_by c.args.set name ≡ true) _ (g.F.Files.map c.args.files.now) c.args.set c.args.to.now (bucket_followed c.args.set c.args.to.now) c.in_err-member.ensures.names in
+    let names = bucket_named g.F.Files (λ name. is_followed_by c.args.set name ≡ true) _ (g.F.Files.map c.args.files.now) c.args.set c.args.who.now (bucket_followed c.args.set c.args.who.now) c.in_err-member.ensures.names in
     search rules
 
 pub returns-in_default-clause-value : goal.returns-in_default-clause-value
@@ -25,8 +25,8 @@ returns-in_default-clause-value g c tells =
     let same = g.met.F.Files.kept_map c.args.files.now c.find.new.files tells c.find.ensures.reads.kept in
     ok_then c.drop_entry.result
     (λ txn value p e is config keys found act.
-    dropped_by dir _ c.args.set c.args.now c.args.to.now txn same value p e is
-    (probed_none dir p c.args.set e c.requires.ledger is found c.args.now c.args.to.now (act ∙ c.requires.action) (sym c.in_default.is ∙ c.in_ok-member.ensures.value tells (p.sets c.args.set) (is.sets c.args.set))))
+    dropped_by dir _ c.args.set c.args.now c.args.who.now txn same value p e is
+    (probed_none dir p c.args.set e c.requires.ledger is found c.args.now c.args.who.now (act ∙ c.requires.action) (sym c.in_default.is ∙ c.in_ok-member.ensures.value tells (p.sets c.args.set) (is.sets c.args.set))))
     (c.drop_entry.ensures.value tells)
 
 pub returns-in_err-txn-clause-names : goal.returns-in_err-txn-clause-names
@@ -52,7 +52,7 @@ returns-clause-value g c tells =
     (λ done value p e is config keys found act.
     changed_by dir _ set c.args.now c.args.action.now (codes "probe") who c.in_ok-mail.mail c.in_ok-txn.txn done (told_same ∙ found_same) c.requires.ledger value p e is found act
     (subst (λ (d : Dir). IsList d p → IsList (with_puts d c.in_ok-txn.txn) (bounce_mail (codes "probe") set who c.args.now c.in_ok-mail.mail p)) found_same (λ over. c.in_ok-txn.ensures.value tells p over config keys) is)
-    (probed_some dir p set e c.requires.ledger is found c.args.now c.args.to.now c.in-Some.member (act ∙ c.requires.action) (sym c.in-Some.is ∙ c.in_ok-member.ensures.value tells (p.sets set) (is.sets set))
+    (probed_some dir p set e c.requires.ledger is found c.args.now c.args.who.now c.in-Some.member (act ∙ c.requires.action) (sym c.in-Some.is ∙ c.in_ok-member.ensures.value tells (p.sets set) (is.sets set))
     ∙ ap (λ (mail : Mail). change_entry c.args.now set e (bounce_mail (codes "probe") set who c.args.now mail p)) (sym c.in_ok-mail.ensures)))
     (c.change.ensures.value tells)
 
