@@ -21,8 +21,9 @@ use Rattle.ml_ending.specs.Lines.{stop_text}
 use Rattle.ml_ending.specs.Stops.{status_of_why, why_of_open}
 use Rattle.ml_ending.proofs.Said.{some_stays, final_why, opening_then}
 use Rattle.ml_reading.specs.declared.queries.Query.{Query}
+use Rattle.ml_reading.specs.declared.queries.Query.TheVariants as queries
 use Rattle.ml_reading.specs.Queries.{IsAnswer}
-use Rattle.ml_reading.specs.Readings.{Reads, IsReading, IsRefusal, IsUnread, IsFilesReason, is_reading_status}
+use Rattle.ml_reading.specs.Readings.{Reads, IsReading, IsRefusal, IsUnread, IsFilesReason, is_status_of}
 use Rattle.ml_ending.proofs.Leaving.{said_leaves, told_leaves, finished_leaves}
 
 -- memory was wanting, or the disk failed
@@ -44,7 +45,7 @@ unread_refusal whys.Clock query dir files disk is r = absurd r
 unread_refusal whys.More query dir files disk is r = absurd r
 unread_refusal whys.Input query dir files disk is r = absurd r
 unread_refusal whys.There query dir files disk is r = absurd r
-unread_refusal whys.Absent query dir files disk is r = absurd r
+unread_refusal whys.Absent query dir files disk is r = (files, is, r)
 
 -- the log has no directory, or the opening failed
 pub open_refusal : (error : OpenError) (query : Query) (dir : Option Dir) → (error ≡ opens.Damaged → dir ≡ None) → IsRefusal (why_of_open error) query dir
@@ -53,38 +54,59 @@ open_refusal opens.Memory query dir none = tt
 open_refusal opens.Damaged query dir none = inl (refl, none refl)
 
 -- the statuses
-known_status : (why : Why) → IsFilesReason why → is_reading_status (status_of_why why) ≡ true
-known_status whys.NoList r = refl
-known_status (whys.At name) r = refl
-known_status whys.Memory r = refl
-known_status whys.Disk r = refl
-known_status whys.Usage r = absurd r
-known_status (whys.Bad at) r = absurd r
-known_status (whys.Short at) r = absurd r
-known_status whys.Words r = absurd r
-known_status whys.Long r = absurd r
-known_status whys.Clock r = absurd r
-known_status whys.More r = absurd r
-known_status whys.Input r = absurd r
-known_status whys.There r = absurd r
-known_status whys.Absent r = absurd r
+known_status : (why : Why) (query : Query) → IsFilesReason query why → is_status_of query (status_of_why why) ≡ true
+known_status whys.NoList (queries.Members set moments) r = refl
+known_status whys.NoList queries.Queue r = refl
+known_status whys.NoList (queries.Entry id) r = refl
+known_status whys.NoList (queries.Post n) r = refl
+known_status (whys.At name) (queries.Members set moments) r = refl
+known_status (whys.At name) queries.Queue r = refl
+known_status (whys.At name) (queries.Entry id) r = refl
+known_status (whys.At name) (queries.Post n) r = refl
+known_status whys.Memory (queries.Members set moments) r = refl
+known_status whys.Memory queries.Queue r = refl
+known_status whys.Memory (queries.Entry id) r = refl
+known_status whys.Memory (queries.Post n) r = refl
+known_status whys.Disk (queries.Members set moments) r = refl
+known_status whys.Disk queries.Queue r = refl
+known_status whys.Disk (queries.Entry id) r = refl
+known_status whys.Disk (queries.Post n) r = refl
+known_status whys.Usage query r = absurd r
+known_status (whys.Bad at) query r = absurd r
+known_status (whys.Short at) query r = absurd r
+known_status whys.Words query r = absurd r
+known_status whys.Long query r = absurd r
+known_status whys.Clock query r = absurd r
+known_status whys.More query r = absurd r
+known_status whys.Input query r = absurd r
+known_status whys.There query r = absurd r
+known_status whys.Absent (queries.Members set moments) r = absurd (let bad : false ≡ true = r in cc)
+known_status whys.Absent queries.Queue r = absurd (let bad : false ≡ true = r in cc)
+known_status whys.Absent (queries.Entry id) r = refl
+known_status whys.Absent (queries.Post n) r = refl
 
-either_known : (why : Why) → (why ≡ whys.Memory) ⊎ (why ≡ whys.Disk) → IsFilesReason why
-either_known why is = ⊎_elim (λ e. subst IsFilesReason (sym e) tt) (λ e. subst IsFilesReason (sym e) tt) is
+either_known : (why : Why) (query : Query) → (why ≡ whys.Memory) ⊎ (why ≡ whys.Disk) → IsFilesReason query why
+either_known why query is = ⊎_elim (λ e. subst (IsFilesReason query) (sym e) tt) (λ e. subst (IsFilesReason query) (sym e) tt) is
+
+cut_status : (query : Query) → is_status_of query 73 ≡ true
+cut_status (queries.Members set moments) = refl
+cut_status queries.Queue = refl
+cut_status (queries.Entry id) = refl
+cut_status (queries.Post n) = refl
 
 pub some_dir : (d : Option Dir) → IsSome d → d ≡ Some (the_dir d)
 some_dir None some = let h : false ≡ true = some in cc
 some_dir (Some d) some = refl
 
 module _ {S : Type 0} (told : Ghosts S) where
-  pub finished_status : (old new : S) (status : ℕ) (why : Why) → IsFilesReason why → Finishes told old new (Some (None, why)) status 0 → is_reading_status status ≡ true
-  finished_status old new status why known f = ⊎_elim
+  pub finished_status : (old new : S) (status : ℕ) (query : Query) (why : Why) → IsFilesReason query why → Finishes told old new (Some (None, why)) status 0 → is_status_of query status ≡ true
+  finished_status old new status query why known f = ⊎_elim
       (λ quiet. absurd (some_stays (None, why) f.final _ _ f.closes quiet.0))
       (λ said.
-      let reason : IsFilesReason said.1 = ⊎_elim (λ e. subst IsFilesReason (sym e.1) known) (λ m. either_known said.1 m.1) (final_why why f.final said.0 said.1 _ _ f.closes said.2) in
+      let reason : IsFilesReason query said.1 = ⊎_elim (λ e. subst (IsFilesReason query) (sym e.1) known) (λ m. either_known said.1 query m.1) (final_why why f.final said.0 said.1 _ _ f.closes said.2) in
       ⊎_elim
-      (λ whole. ap is_reading_status whole.0 ∙ known_status said.1 reason)
-      (λ cut. ap is_reading_status cut.0)
+      (λ whole. ap (is_status_of query) whole.0 ∙ known_status said.1 query reason)
+      (λ cut. ap (is_status_of query) cut.0 ∙ cut_status query)
       said.3.line)
       f.said
 

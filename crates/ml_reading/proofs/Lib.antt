@@ -1,2 +1,5 @@
 pub mod Given
+pub mod Lines
 pub mod Listed
+pub mod Mailed
+pub mod Paths

@@ -1,5 +1,6 @@
 // A reading command: a store is opened, its files are read, it is closed, and a text is given.
 ghost use Rattle.std.specs.Prelude.{◌≡◌, ◌≢◌, ◌≤◌, ◌+◌, ◌∷◌, [], IsTrue, IsSome, IfOk, IfErr, Some, None};
+ghost use Rattle.std.specs.Option.{option_map};
 ghost use Rattle.ml_base.specs.Dir.{Dir};
 ghost use Rattle.ml_base.specs.Faults.{Rose};
 ghost use Rattle.ml_config.specs.ConfigFile.{config_name};
@@ -11,8 +12,10 @@ ghost use Rattle.ml_plain.specs.Directory.{IsState};
 ghost use Rattle.ml_plain.specs.Histories.{State};
 ghost use Rattle.ml_ending.specs.Endings.{Opens, Finishes, MissesList};
 ghost use Rattle.ml_ending.specs.Lines.{HasPath};
-ghost use Rattle.ml_reading.specs.Queries.{IsTextOf, members_text};
-ghost use Rattle.ml_reading.specs.Readings.{Reads, GivesText, IsReading, IsUnread, IsFilesReason, is_reading_status};
+ghost use Rattle.ml_archive.specs.Posts.{post_at};
+ghost use Rattle.ml_queue.specs.Queue.{entry};
+ghost use Rattle.ml_reading.specs.Queries.{IsTextOf, members_text, outgoing_text, queue_text};
+ghost use Rattle.ml_reading.specs.Readings.{Reads, GivesFound, GivesText, IsReading, IsUnread, IsFilesReason, is_finding_status, is_reading_status, is_status_of};
 ghost use Rattle.ml_base.specs.ReadFiles.{AreKept};
 
 use crate::queries::Query;
@@ -64,6 +67,103 @@ pub fn list_set<S: Site>(alloc: Global, set: Set, moments: bool, site: S) -> (u8
     read_out(alloc, Query::Members { set, moments }, site)
 }
 
+/// Gives the entries of the outgoing queue, one a line in ascending order of id: the id, the number of recipients and the number
+/// of the mail's bytes, with single spaces. It opens what lies on a site and hands it back as `list_set` does, with the same statuses.
+pub fn list_queue<S: Site>(alloc: Global, site: S) -> (u8, S)
+    // What it gives.
+    ensures given { IsTrue S.tells_reads → Reads (IsTrue S.tells_all) result.0 Query.Queue (directory (S.disk site).reads) (S.output site) (S.output result.1) }
+    ensures complete { IsTrue S.tells_reads → (files : Dir) (q : State) → directory (S.disk site).reads ≡ Some files → IsState files q →
+        GivesText (IsTrue S.tells_all) result.0 (queue_text q.plain.queue) (S.output site) (S.output result.1) }
+    ensures nolist { IsTrue S.tells_reads → (files : Dir) → directory (S.disk site).reads ≡ Some files → files config_name ≡ None →
+        MissesList (IsTrue S.tells_all) result.0 (S.output site) (S.output result.1) }
+
+    // What it leaves.
+    ensures same { IsTrue S.tells_reads → directory (S.disk result.1).reads ≡ directory (S.disk site).reads }
+    ensures moments { IsTrue S.tells_all → Opens ⟦<S as Site>⟧ site result.1 (IsReading Query.Queue (directory (S.disk site).reads) (S.output site)) }
+    ensures at_rest { IsAtRest (S.disk site) → Leaves ⟦<S as Site>⟧ site result.1 (IsReading Query.Queue (directory (S.disk site).reads) (S.output site)) }
+    ensures rest { (Rose (S.disk_faults site) (S.disk_faults result.1) → ⊥) → (result.0 ≡ 71 → ⊥) → (result.0 ≡ 73 → ⊥)
+        → IsTrue S.tells_all → IsAtRest (S.disk result.1) }
+    ensures gate { IsSome (directory (S.disk site).reads) → (result.0 ≡ 71 → ⊥) → (result.0 ≡ 73 → ⊥) → (result.0 ≡ 111 → ⊥)
+        → IsTrue S.tells_reads → (S.disk result.1).reads.log ≡ 0 ∷ [] }
+
+    // Its statuses, and where the counts rose.
+    ensures statuses { IsTrue (is_reading_status result.0) }
+    ensures disk { result.0 ≡ 111 → Rose (S.disk_faults site) (S.disk_faults result.1) }
+    ensures output { result.0 ≡ 73 → Rose (S.output_faults site) (S.output_faults result.1) }
+    ensures disk_later { S.disk_faults site ≤ S.disk_faults result.1 }
+    ensures output_later { S.output_faults site ≤ S.output_faults result.1 }
+
+    // How many syncs it makes.
+    ensures syncs { IsTrue S.tells_all → S.syncs result.1 ≤ S.syncs site + 7 }
+{
+    read_out(alloc, Query::Queue, site)
+}
+
+/// Gives what a transfer agent is handed of an entry of the outgoing queue: the netstring of the mail, and behind it for each recipient
+/// the netstring of `F`, the envelope sender of his copy, NUL, `T`, his address, NUL and NUL. It opens what lies on a site and hands it
+/// back as `list_set` does, with the same statuses, and 100 where there is a list and no entry has this id.
+pub fn give_entry<S: Site>(alloc: Global, id: u64, site: S) -> (u8, S)
+    // What it gives.
+    ensures given { IsTrue S.tells_reads → Reads (IsTrue S.tells_all) result.0 (Query.Entry id) (directory (S.disk site).reads) (S.output site) (S.output result.1) }
+    ensures complete { IsTrue S.tells_reads → (files : Dir) (q : State) → directory (S.disk site).reads ≡ Some files → IsState files q →
+        GivesFound (IsTrue S.tells_all) result.0 (option_map outgoing_text (entry id q.plain.queue)) (S.output site) (S.output result.1) }
+    ensures nolist { IsTrue S.tells_reads → (files : Dir) → directory (S.disk site).reads ≡ Some files → files config_name ≡ None →
+        MissesList (IsTrue S.tells_all) result.0 (S.output site) (S.output result.1) }
+
+    // What it leaves.
+    ensures same { IsTrue S.tells_reads → directory (S.disk result.1).reads ≡ directory (S.disk site).reads }
+    ensures moments { IsTrue S.tells_all → Opens ⟦<S as Site>⟧ site result.1 (IsReading (Query.Entry id) (directory (S.disk site).reads) (S.output site)) }
+    ensures at_rest { IsAtRest (S.disk site) → Leaves ⟦<S as Site>⟧ site result.1 (IsReading (Query.Entry id) (directory (S.disk site).reads) (S.output site)) }
+    ensures rest { (Rose (S.disk_faults site) (S.disk_faults result.1) → ⊥) → (result.0 ≡ 71 → ⊥) → (result.0 ≡ 73 → ⊥)
+        → IsTrue S.tells_all → IsAtRest (S.disk result.1) }
+    ensures gate { IsSome (directory (S.disk site).reads) → (result.0 ≡ 71 → ⊥) → (result.0 ≡ 73 → ⊥) → (result.0 ≡ 111 → ⊥)
+        → IsTrue S.tells_reads → (S.disk result.1).reads.log ≡ 0 ∷ [] }
+
+    // Its statuses, and where the counts rose.
+    ensures statuses { IsTrue (is_finding_status result.0) }
+    ensures disk { result.0 ≡ 111 → Rose (S.disk_faults site) (S.disk_faults result.1) }
+    ensures output { result.0 ≡ 73 → Rose (S.output_faults site) (S.output_faults result.1) }
+    ensures disk_later { S.disk_faults site ≤ S.disk_faults result.1 }
+    ensures output_later { S.output_faults site ≤ S.output_faults result.1 }
+
+    // How many syncs it makes.
+    ensures syncs { IsTrue S.tells_all → S.syncs result.1 ≤ S.syncs site + 7 }
+{
+    read_out(alloc, Query::Entry { id }, site)
+}
+
+/// Gives the bytes of post n. It opens what lies on a site and hands it back as `list_set` does, with the same statuses, and 100
+/// where there is a list and no post has this number.
+pub fn give_post<S: Site>(alloc: Global, n: u64, site: S) -> (u8, S)
+    // What it gives.
+    ensures given { IsTrue S.tells_reads → Reads (IsTrue S.tells_all) result.0 (Query.Post n) (directory (S.disk site).reads) (S.output site) (S.output result.1) }
+    ensures complete { IsTrue S.tells_reads → (files : Dir) (q : State) → directory (S.disk site).reads ≡ Some files → IsState files q →
+        GivesFound (IsTrue S.tells_all) result.0 (option_map (λ p. p.bytes) (post_at q.plain.posts n)) (S.output site) (S.output result.1) }
+    ensures nolist { IsTrue S.tells_reads → (files : Dir) → directory (S.disk site).reads ≡ Some files → files config_name ≡ None →
+        MissesList (IsTrue S.tells_all) result.0 (S.output site) (S.output result.1) }
+
+    // What it leaves.
+    ensures same { IsTrue S.tells_reads → directory (S.disk result.1).reads ≡ directory (S.disk site).reads }
+    ensures moments { IsTrue S.tells_all → Opens ⟦<S as Site>⟧ site result.1 (IsReading (Query.Post n) (directory (S.disk site).reads) (S.output site)) }
+    ensures at_rest { IsAtRest (S.disk site) → Leaves ⟦<S as Site>⟧ site result.1 (IsReading (Query.Post n) (directory (S.disk site).reads) (S.output site)) }
+    ensures rest { (Rose (S.disk_faults site) (S.disk_faults result.1) → ⊥) → (result.0 ≡ 71 → ⊥) → (result.0 ≡ 73 → ⊥)
+        → IsTrue S.tells_all → IsAtRest (S.disk result.1) }
+    ensures gate { IsSome (directory (S.disk site).reads) → (result.0 ≡ 71 → ⊥) → (result.0 ≡ 73 → ⊥) → (result.0 ≡ 111 → ⊥)
+        → IsTrue S.tells_reads → (S.disk result.1).reads.log ≡ 0 ∷ [] }
+
+    // Its statuses, and where the counts rose.
+    ensures statuses { IsTrue (is_finding_status result.0) }
+    ensures disk { result.0 ≡ 111 → Rose (S.disk_faults site) (S.disk_faults result.1) }
+    ensures output { result.0 ≡ 73 → Rose (S.output_faults site) (S.output_faults result.1) }
+    ensures disk_later { S.disk_faults site ≤ S.disk_faults result.1 }
+    ensures output_later { S.output_faults site ≤ S.output_faults result.1 }
+
+    // How many syncs it makes.
+    ensures syncs { IsTrue S.tells_all → S.syncs result.1 ≤ S.syncs site + 7 }
+{
+    read_out(alloc, Query::Post { n }, site)
+}
+
 /// Gives the text that answers a query, as the calls for single commands do.
 pub fn read_out<S: Site>(alloc: Global, query: Query, site: S) -> (u8, S)
     ensures given { IsTrue S.tells_reads → Reads (IsTrue S.tells_all) result.0 query (directory (S.disk site).reads) (S.output site) (S.output result.1) }
@@ -74,7 +174,7 @@ pub fn read_out<S: Site>(alloc: Global, query: Query, site: S) -> (u8, S)
         → IsTrue S.tells_all → IsAtRest (S.disk result.1) }
     ensures gate { IsSome (directory (S.disk site).reads) → (result.0 ≡ 71 → ⊥) → (result.0 ≡ 73 → ⊥) → (result.0 ≡ 111 → ⊥)
         → IsTrue S.tells_reads → (S.disk result.1).reads.log ≡ 0 ∷ [] }
-    ensures statuses { IsTrue (is_reading_status result.0) }
+    ensures statuses { IsTrue (is_status_of query result.0) }
     ensures disk { result.0 ≡ 111 → Rose (S.disk_faults site) (S.disk_faults result.1) }
     ensures output { result.0 ≡ 73 → Rose (S.output_faults site) (S.output_faults result.1) }
     ensures disk_later { S.disk_faults site ≤ S.disk_faults result.1 }
@@ -96,7 +196,7 @@ fn opened<S: Site>(alloc: Global, query: Query, store: Store<S>) -> (u8, S)
     ensures rest { (Rose (S.disk_faults (site_of store)) (S.disk_faults result.1) → ⊥) → (result.0 ≡ 71 → ⊥) → (result.0 ≡ 73 → ⊥)
         → IsTrue S.tells_all → IsAtRest (S.disk result.1) }
     ensures gate { (result.0 ≡ 71 → ⊥) → (result.0 ≡ 73 → ⊥) → (result.0 ≡ 111 → ⊥) → IsTrue S.tells_reads → (S.disk result.1).reads.log ≡ 0 ∷ [] }
-    ensures statuses { IsTrue (is_reading_status result.0) }
+    ensures statuses { IsTrue (is_status_of query result.0) }
     ensures disk { result.0 ≡ 111 → Rose (S.disk_faults (site_of store)) (S.disk_faults result.1) }
     ensures output { result.0 ≡ 73 → Rose (S.output_faults (site_of store)) (S.output_faults result.1) }
     ensures disk_later { S.disk_faults (site_of store) ≤ S.disk_faults result.1 }
@@ -115,14 +215,15 @@ fn answer<F: Files>(alloc: Global, query: Query, files: &mut F) -> Result<Bytes,
     ensures config { IsTrue F.tells → IfOk result (λ _. F.map files.old config_name ≢ None) }
     ensures value { IsTrue F.tells → IfOk result (IsTextOf query (F.map files.old)) }
     ensures reason { IsTrue F.tells → IfErr result (λ why. IsUnread why query (F.map files.old) (Rose (F.faults files.old) (F.faults files.new))) }
-    ensures known { IfErr result IsFilesReason }
+    ensures known { IfErr result (IsFilesReason query) }
     ensures path { IfErr result HasPath }
     ensures cause { IfErr result (λ why. why ≡ Why.Disk → Rose (F.faults files.old) (F.faults files.new)) }
     ensures kept { AreKept ⟦<F as Files>⟧ files.old files.new }
 {
     match load(alloc, files) {
         Ok(Some(_)) => match text_of(alloc, query, files) {
-            Ok(text) => Ok(text),
+            Ok(Some(text)) => Ok(text),
+            Ok(None) => Err(Why::Absent),
             Err(error) => Err(why_of(error)),
         },
         Ok(None) => Err(Why::NoList),

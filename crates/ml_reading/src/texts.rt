@@ -1,10 +1,12 @@
 // The texts that answer queries.
-ghost use Rattle.std.specs.Prelude.{◌≡◌, ◌++◌, ◌∷◌, [], IsTrue, IfOk, OnOk};
+ghost use Rattle.std.specs.Prelude.{◌≡◌, ◌++◌, ◌∷◌, [], IsTrue, IfOk, IfNone, OnOk};
 ghost use Rattle.std.specs.Fmt.{decimal};
 ghost use Rattle.ml_base.specs.ReadFiles.{IsReading, NamesDamaged};
-ghost use Rattle.ml_reading.specs.Queries.{IsTextOf, MayRead, IsBadFile, members_text as spec_text, member_line};
+ghost use Rattle.ml_reading.specs.Queries.{IsFound, MayRead, IsBadFile, asks_for_one, members_text as spec_text, member_line};
 
+use crate::posted::post_text;
 use crate::queries::Query;
+use crate::queued::{entry_text, queue_text};
 use ml_base::{Bytes, Files, PartError, write_number};
 use ml_subs::{Member, MemberList, members};
 use std::alloc::{AllocError, Global};
@@ -12,21 +14,25 @@ use std::alloc::{AllocError, Global};
 // The most bytes of a line besides its address: twenty digits, a space and an LF.
 const LINE_ROOM: usize = 22;
 
-// The text that answers a query of files.
+// The text that answers a query of files, or None where what it asks for isn't there.
 pub(crate) fn text_of<F: Files>(
     alloc: Global,
     query: Query,
     files: &mut F,
-) -> Result<Bytes, PartError>
-    ensures value { IsTrue F.tells → IfOk result (IsTextOf query (F.map files.old)) }
+) -> Result<Option<Bytes>, PartError>
+    ensures value { IsTrue F.tells → IfOk result (IsFound query (F.map files.old)) }
+    ensures one { IfOk result (λ found. IfNone found (IsTrue (asks_for_one query))) }
     ensures names { NamesDamaged ⟦<F as Files>⟧ (MayRead query) (IsBadFile query (F.map files.old)) result }
     ensures reads { IsReading ⟦<F as Files>⟧ files.old files.new result }
 {
     match query {
         Query::Members { set, moments } => {
             let list = members(alloc, files, set)?;
-            Ok(members_text(alloc, &list, moments)?)
+            Ok(Some(members_text(alloc, &list, moments)?))
         }
+        Query::Queue => Ok(Some(queue_text(alloc, files)?)),
+        Query::Entry { id } => entry_text(alloc, files, id),
+        Query::Post { n } => post_text(alloc, files, n),
     }
 }
 

@@ -2,6 +2,8 @@
 #![tactic(auto)]
 
 #[cfg(test)]
+mod giving;
+#[cfg(test)]
 mod listing;
 #[cfg(test)]
 mod lists;

@@ -23,8 +23,27 @@ pub(crate) const CONFIG: Name = Name { kind: 1, at: 0 };
 
 pub(crate) const COUNT: Name = Name { kind: 8, at: 0 };
 
+// The number of posts, the next id, and the first entry of the queue.
+pub(crate) const NUMBER: Name = Name { kind: 11, at: 0 };
+
+pub(crate) const IDS: Name = Name { kind: 18, at: 0 };
+
+pub(crate) const ENTRY: Name = Name { kind: 17, at: 1 };
+
 // The bucket of `a@b` alone, who joined at 1,000,000,000.
 pub(crate) const MEMBER: &[u8] = b"layout 2\nTa@b\x001000000000\x00";
+
+// Items that add three members.
+const THREE: &[u8] =
+    b"A1:1,10:1000000000,4:list,3:a@b,A1:2,10:1000000000,4:list,3:c@d,A1:3,10:1000000000,4:list,3:e@f,";
+
+// The delivery of a message of 45 bytes to the list.
+pub(crate) const M_POSTED: &[u8] =
+    b"D2:20,10:1000000100,3:a@b,11:list@ex.org,45:From: a@b\nTo: list@ex.org\nSubject: hello\n\nhi\n,";
+
+// What the list sends of it: 321 bytes.
+pub(crate) const SENT: &[u8] =
+    b"Mailing-List: contact list-help@ex.org; run by ezmlm\nPrecedence: bulk\nList-Post: <mailto:list@ex.org>\nList-Help: <mailto:list-help@ex.org>\nList-Unsubscribe: <mailto:list-unsubscribe@ex.org>\nList-Subscribe: <mailto:list-subscribe@ex.org>\nDelivered-To: mailing list list@ex.org\nFrom: a@b\nTo: list@ex.org\nSubject: hello\n\nhi\n";
 
 // A file, and its bytes if it is there.
 pub(crate) type Left<'a> = (Name, Option<&'a [u8]>);
@@ -75,6 +94,11 @@ pub(crate) fn site(alloc: Global, image: Image, fail: &[u64]) -> Result<MemSite,
     Ok(site)
 }
 
+// A site over an image, whose output has room for so many bytes.
+pub(crate) fn wide_site(alloc: Global, image: Image, room: usize) -> Result<MemSite, AllocError> {
+    MemSite::new(alloc, image, CALLS, room)
+}
+
 // Makes the list over an image, and answers the status and the site.
 fn made_over(alloc: Global, image: Image) -> Result<(u8, MemSite), Fail> {
     let config = config(alloc)?;
@@ -98,6 +122,31 @@ pub(crate) fn list_with(alloc: Global, name: Name, bytes: &[u8]) -> Result<Image
     let mut image = new_list(alloc)?;
     image.files.insert(name, Bytes::from_slice(alloc, bytes)?)?;
     Ok(image)
+}
+
+// An image with these files in place of its own.
+pub(crate) fn with_files(
+    alloc: Global,
+    image: Image,
+    files: &[(Name, &[u8])],
+) -> Result<Image, Fail> {
+    let mut image = image;
+    for (name, bytes) in files {
+        image.files.insert(*name, Bytes::from_slice(alloc, bytes)?)?;
+    }
+    Ok(image)
+}
+
+// What a list with the members `a@b`, `c@d` and `e@f` leaves.
+pub(crate) fn three_members(alloc: Global) -> Result<Image, Fail> {
+    let (_, site) = spool(alloc, 3, THREE, site(alloc, new_list(alloc)?, &[])?)?;
+    Ok(settled(alloc, &site)?)
+}
+
+// The same, once a message was posted to it.
+pub(crate) fn mailing_list(alloc: Global) -> Result<Image, Fail> {
+    let (_, site) = spool(alloc, 1, M_POSTED, site(alloc, three_members(alloc)?, &[])?)?;
+    Ok(settled(alloc, &site)?)
 }
 
 // Runs a stream over a site.

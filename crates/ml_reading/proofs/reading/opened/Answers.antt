@@ -25,4 +25,4 @@ returns-in-Err-clause-moments g c t =
     finished_reading g.S.Site start read c.untold.result.1 c.args.query c.in-Err.why c.untold.result.0 kept.moments (kept.reads told) (kept.output_is t) c.untold.ensures t
 
 pub returns-in-Err-clause-statuses : goal.returns-in-Err-clause-statuses
-returns-in-Err-clause-statuses g c = finished_status g.S.Site (site_of c.answer.new.files) c.untold.result.1 c.untold.result.0 c.in-Err.why c.in-Err.ensures.known c.untold.ensures
+returns-in-Err-clause-statuses g c = finished_status g.S.Site (site_of c.answer.new.files) c.untold.result.1 c.untold.result.0 c.args.query c.in-Err.why c.in-Err.ensures.known c.untold.ensures
