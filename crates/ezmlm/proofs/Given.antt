@@ -1,5 +1,5 @@
 -- What words give is in the ranges of items.
-use Rattle.std.proofs.Common.{◌≡◌, ◌≤◌, ℕ, ◌∙◌, ap, sym, subst, [], ◌∷◌, length, Option, Some, None, Result, Ok, Err, arith, refl, eqb, if◌then◌else◌, true, false, Bool}
+use Rattle.std.proofs.Common.{◌≡◌, ◌≤◌, ◌<◌, ℕ, ◌∙◌, ap, sym, subst, [], ◌∷◌, length, Option, Some, None, Result, Ok, Err, arith, refl, eqb, if◌then◌else◌, true, false, Bool}
 use Rattle.std.specs.Option.{option_map}
 use Rattle.std.specs.Result.{result_ok}
 use Rattle.std.proofs.lemmas.Bool.{eqb-false}
@@ -9,19 +9,20 @@ use Rattle.hex.proofs.HexLemmas.{decode_sized-ok, decode_sized-twice, decode_of-
 use Rattle.ml_base.specs.Address.{address_of}
 use Rattle.ml_base.specs.Bytes.{Text}
 use Rattle.ml_base.specs.Name.{set_of}
+use Rattle.ml_base.specs.Numbers.{number_within}
 use Rattle.ml_base.specs.declared.names.Set.{Set}
 use Rattle.ml_base.proofs.Addresses.{address_read}
 use Rattle.ml_base.proofs.NumberLaws.{number_spelled}
 use Rattle.ml_config.specs.MakeWords.{key_of}
 use Rattle.ml_plain.specs.declared.Act.TheVariants as acts
-use Rattle.ml_stream.specs.Stream.{item_number_of, floor_of, some_positive}
+use Rattle.ml_stream.specs.Stream.{item_number_of, floor_of, id_of, positive_within, some_positive}
 use Rattle.ezmlm.specs.declared.asking.Change.{Change}
 use Rattle.ezmlm.specs.declared.asking.Change.TheVariants as changes
 use Rattle.ezmlm.specs.Single.{IsGiven}
 use Rattle.ezmlm.specs.Asking.{Asks}
-use Rattle.ezmlm.specs.Words.{act_of, member_act, member_of, rekey_of, floor_words, single}
+use Rattle.ezmlm.specs.Words.{act_of, member_act, member_of, rekey_of, floor_words, sent_of, single, timed_of}
 
-number_given : (word : Text) (number : ℕ) → item_number_of word ≡ Some number → number ≤ 999_999_999_999
+pub number_given : (word : Text) (number : ℕ) → item_number_of word ≡ Some number → number ≤ 999_999_999_999
 number_given word number e = (number_spelled 999_999_999_999 word number (omega arith) e).0
 
 -- a key has 32 bytes
@@ -37,20 +38,20 @@ key_given digits key e = go (decode_sized digits 32) refl
         let all = decode_of-ok digits bytes (sym (decode_sized-twice digits 32 long) ∙ is) in
         subst (λ (k : Text). (length k ≡ 32) × IsBytes k) same (omega (arith, long, all.2), all.3)
 
--- a floor is a number of an item from 1 on
-floor_given : (word : Text) (at : ℕ) → floor_of word ≡ Some at → (1 ≤ at) × (at ≤ 999_999_999_999)
-floor_given word at e = go (item_number_of word) refl
+-- a number from 1 up to a largest one
+positive_given : (most : ℕ) (word : Text) (at : ℕ) → most < 1_000_000_000_000_000_000 → positive_within most word ≡ Some at → (1 ≤ at) × (at ≤ most)
+positive_given most word at low e = go (number_within most word) refl
   where
-    go : (o : Option ℕ) → item_number_of word ≡ o → (1 ≤ at) × (at ≤ 999_999_999_999)
+    go : (o : Option ℕ) → number_within most word ≡ o → (1 ≤ at) × (at ≤ most)
     go None is = let bad : None ≡ Some at = sym (ap some_positive is) ∙ e in cc
     go (Some n) is = tested (eqb n 0) refl
       where
-        tested : (t : Bool) → eqb n 0 ≡ t → (1 ≤ at) × (at ≤ 999_999_999_999)
+        tested : (t : Bool) → eqb n 0 ≡ t → (1 ≤ at) × (at ≤ most)
         tested true z = let bad : None ≡ Some at = sym (ap some_positive is ∙ ap (λ b. if b then None else Some n) z) ∙ e in cc
         tested false z =
             let found : Some n ≡ Some at = sym (ap some_positive is ∙ ap (λ b. if b then None else Some n) z) ∙ e in
             let same : n ≡ at = cc in
-            (omega (arith, same, eqb-false n 0 z), omega (arith, same, number_given word n is))
+            (omega (arith, same, eqb-false n 0 z), omega (arith, same, (number_spelled most word n (omega (arith, low)) is).0))
 
 -- what is asked for by a number, a set and an address
 pub member_is_given : (change : Change) (word set_word text who : Text) (number : ℕ) (set : Set) → item_number_of word ≡ Some number → set_of set_word ≡ Some set → address_of text ≡ Some who
@@ -77,5 +78,17 @@ key_is_given word digits key number n k = (
 pub floor_is_given : (word text : Text) (number at : ℕ) → item_number_of word ≡ Some number → floor_of text ≡ Some at → Asks (floor_words (word ∷ text ∷ [])) (Ok (number, acts.Floor at))
 floor_is_given word text number at n f = (
   ap (λ (o : Option ℕ). single o (option_map (λ n. acts.Floor n) (floor_of text))) n ∙ ap (λ (o : Option ℕ). single (Some number) (option_map (λ n. acts.Floor n) o)) f,
-  record { few_digits = number_given word number n; range = floor_given text at f; read = tt },
+  record { few_digits = number_given word number n; range = positive_given 999_999_999_999 text at (omega arith) f; read = tt },
 )
+
+-- what is asked for by a number alone
+pub timed_is_given : (word : Text) (number : ℕ) → item_number_of word ≡ Some number → Asks (timed_of (word ∷ [])) (Ok (number, acts.Timed))
+timed_is_given word number n = (ap (λ (o : Option ℕ). single o (Some acts.Timed)) n, record { few_digits = number_given word number n; range = tt; read = tt })
+
+-- what is asked for by a number and an id
+pub sent_is_given : (word text : Text) (number id : ℕ) → item_number_of word ≡ Some number → id_of text ≡ Some id → Asks (sent_of (word ∷ text ∷ [])) (Ok (number, acts.Sent id))
+sent_is_given word text number id n f =
+    let range = positive_given 1_000_000_000_000_000 text id (omega arith) f in (
+      ap (λ (o : Option ℕ). single o (option_map (λ n. acts.Sent n) (id_of text))) n ∙ ap (λ (o : Option ℕ). single (Some number) (option_map (λ n. acts.Sent n) o)) f,
+      record { few_digits = number_given word number n; range = record { from = range.0; to = range.1 }; read = tt },
+    )

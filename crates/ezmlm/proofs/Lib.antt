@@ -1,5 +1,6 @@
 mod Families
 mod Given
+mod Messages
 mod OneItem
 mod Spelling
 mod Statuses

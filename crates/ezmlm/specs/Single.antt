@@ -21,7 +21,6 @@ use Rattle.ml_run.specs.Endings.{Ended, Runs, Names}
 use Rattle.ml_run.specs.Leaving.{HasState, IsAfterSome}
 use Rattle.ml_stream.specs.Stream.{End}
 use Rattle.ml_stream.specs.Writing.{IsTyped}
-use Rattle.ezmlm.specs.Words.{Command, Single, BadWord, NoCommand}
 
 -- a number and an act that an item of a stream may have
 pub record IsGiven (number : ℕ) (act : Act) : Type 0 where
@@ -73,15 +72,3 @@ abbrev pub DoesSingle : {K S : Type 0} → ClockGhosts K → Ghosts S → ℕ �
 DoesSingle clocks told number act clock after old new status =
     AnswersNow clocks told number act clock old new status
     ⊎ (Says told old new status None whys.Clock × Rose (clocks.faults clock) (clocks.faults after))
-
--- what words do that give one item, or that give none
-abbrev pub DoesSingleOf : {K S : Type 0} → ClockGhosts K → Ghosts S → Command → K → K → S → S → ℕ → Type 0
-DoesSingleOf clocks told (Single number act) clock after old new status = DoesSingle clocks told number act clock after old new status
-DoesSingleOf clocks told BadWord clock after old new status = Says told old new status None whys.Words
-DoesSingleOf clocks told NoCommand clock after old new status = Says told old new status None whys.Usage
-DoesSingleOf clocks told _ clock after old new status = ⊥
-
--- the same, or memory was wanting before anything was done
-abbrev pub SinglesAsked : {K S : Type 0} → ClockGhosts K → Ghosts S → Command → K → K → S → S → ℕ → Type 0
-SinglesAsked clocks told wanted clock after old new status =
-    DoesSingleOf clocks told wanted clock after old new status ⊎ Says told old new status None whys.Memory

@@ -1,13 +1,13 @@
 // The words of the commands that give one item.
 ghost use Rattle.std.specs.Prelude.{◌≡◌, ◌∷◌, []};
 ghost use Rattle.ml_config.specs.MakeWords.{key_of};
-ghost use Rattle.ml_stream.specs.Stream.{item_number_of, floor_of};
+ghost use Rattle.ml_stream.specs.Stream.{item_number_of, floor_of, id_of};
 ghost use Rattle.ezmlm.specs.Asking.{Asks};
-ghost use Rattle.ezmlm.specs.Words.{texts, member_of, rekey_of, floor_words, single_of};
+ghost use Rattle.ezmlm.specs.Words.{texts, member_of, rekey_of, floor_words, timed_of, sent_of, single_of};
 ghost use Rattle.ezmlm.specs.Words as spec;
 
 use hex::decode_to_slice;
-use ml_base::{Address, AddressError, Set, number_within};
+use ml_base::{Address, AddressError, LAST_DRAWN, Set, number_within};
 use ml_plain::Act;
 use ml_run::Why;
 use std::alloc::Global;
@@ -22,8 +22,8 @@ enum Change {
 }
 
 /// The number and the act of the item that words give which begin with this one: `sub` and `unsub` have a number, a set and an
-/// address, `rekey` a number and a key of 64 hexadecimal digits, `floor` a number and a floor. Else it answers why they give
-/// none: `Usage`, `Words` or `Memory`.
+/// address, `rekey` a number and a key of 64 hexadecimal digits, `floor` a number and a floor, `timed` a number, `sent` a number and
+/// the id of an entry of the queue. Else it answers why they give none: `Usage`, `Words` or `Memory`.
 pub(crate) fn item_of_words(alloc: Global, name: &str, rest: &[String]) -> Result<(u64, Act), Why>
     ensures { Asks (single_of name.now (texts rest.now)) result }
 {
@@ -35,6 +35,10 @@ pub(crate) fn item_of_words(alloc: Global, name: &str, rest: &[String]) -> Resul
         rekey_words(rest)
     } else if name == "floor" {
         floor_words(rest)
+    } else if name == "timed" {
+        timed_words(rest)
+    } else if name == "sent" {
+        sent_words(rest)
     } else {
         Err(Why::Usage)
     }
@@ -146,7 +150,59 @@ fn floor_number(word: &str) -> Option<u64>
     }
 }
 
-fn item_number(word: &str) -> Option<u64>
+fn timed_words(words: &[String]) -> Result<(u64, Act), Why>
+    ensures { Asks (timed_of (texts words.now)) result }
+{
+    match words {
+        [number] => timed(number.as_str()),
+        _ => Err(Why::Usage),
+    }
+}
+
+// A number.
+fn timed(number: &str) -> Result<(u64, Act), Why>
+    ensures { Asks (timed_of (number.now ∷ [])) result }
+{
+    match item_number(number) {
+        Some(number) => Ok((number, Act::Timed)),
+        None => Err(Why::Words),
+    }
+}
+
+fn sent_words(words: &[String]) -> Result<(u64, Act), Why>
+    ensures { Asks (sent_of (texts words.now)) result }
+{
+    match words {
+        [number, id] => sent(number.as_str(), id.as_str()),
+        _ => Err(Why::Usage),
+    }
+}
+
+// A number and the id of an entry of the queue.
+fn sent(number: &str, id: &str) -> Result<(u64, Act), Why>
+    ensures { Asks (sent_of (number.now ∷ id.now ∷ [])) result }
+{
+    let Some(number) = item_number(number) else {
+        return Err(Why::Words);
+    };
+    match entry_id(id) {
+        Some(id) => Ok((number, Act::Sent { id })),
+        None => Err(Why::Words),
+    }
+}
+
+// An id is from 1 on.
+fn entry_id(word: &str) -> Option<u64>
+    ensures { result ≡ id_of word.now }
+{
+    match number_within(LAST_DRAWN, word.as_bytes()) {
+        Some(0) | None => None,
+        Some(id) => Some(id),
+    }
+}
+
+/// The number of an item: 0 to 999,999,999,999.
+pub(crate) fn item_number(word: &str) -> Option<u64>
     ensures { result ≡ item_number_of word.now }
 {
     number_within(LAST_NUMBER, word.as_bytes())

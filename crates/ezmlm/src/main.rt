@@ -3,9 +3,11 @@
 
 mod asking;
 mod commands;
+mod delivering;
+mod giving;
 mod item_source;
-mod listing;
 mod making;
+mod message;
 mod real;
 mod single;
 mod spooling;
@@ -46,7 +48,10 @@ fn run_words(rt: &HostRuntime, words: &[String]) -> ExitCode {
         [dir, rest @ ..] => (dir.as_str(), rest),
         [] => ("", words),
     };
-    let site = RealSite::new(rt, dir);
+    let mut site = RealSite::new(rt, dir);
+    if site.take_room().is_err() {
+        return stop_for_memory(rt);
+    }
     let (status, _) = ezmlm_main(rt.alloc(), rest, &mut source, site, &mut clock);
     ExitCode::from(status)
 }

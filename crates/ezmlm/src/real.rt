@@ -19,7 +19,7 @@ use folder::Folder;
 use ml_base::{Bytes, Name};
 use ml_site::{Failed, Site, SiteError};
 pub use source::StdSource;
-use std::alloc::Global;
+use std::alloc::{AllocError, Global};
 use std::io;
 use std::io::ErrorKind;
 
@@ -46,6 +46,15 @@ impl<'a> RealSite<'a> {
             disk_faults: 0,
             output_faults: 0,
         }
+    }
+
+    /// Takes the memory that a first call on the disk needs to begin: where that is a sync, it has no answer for want of it.
+    pub fn take_room(&mut self) -> Result<(), AllocError>
+        ensures calls { self.new.disk_calls ≡ self.old.disk_calls }
+        ensures disk { self.new.disk_faults ≡ self.old.disk_faults }
+        ensures output { self.new.output_faults ≡ self.old.output_faults }
+    {
+        self.folder.take_room()
     }
 }
 

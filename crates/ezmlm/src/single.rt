@@ -4,8 +4,8 @@ ghost use Rattle.ml_plain.specs.Items.{IsItem};
 ghost use Rattle.ml_ending.specs.Endings.{Says};
 ghost use Rattle.ml_stream.specs.Writing.{IsTyped, spelled_item};
 ghost use Rattle.ml_ending.specs.declared.lines.Why.TheVariants as whys;
-ghost use Rattle.ezmlm.specs.Single.{AnswersItem, DoesSingle, IsGiven, SinglesAsked};
-ghost use Rattle.ezmlm.specs.Commands.{ReadsClock};
+ghost use Rattle.ezmlm.specs.Single.{AnswersItem, DoesSingle, IsGiven};
+ghost use Rattle.ezmlm.specs.Commands.{AskedWithoutInput, ReadsClock};
 ghost use Rattle.ezmlm.specs.Words.{texts, single_of};
 
 use crate::asking::item_of_words;
@@ -24,7 +24,7 @@ pub(crate) fn single_words<S: Site, K: Clock>(
     site: S,
     clock: &mut K,
 ) -> (u8, S)
-    ensures does { SinglesAsked ⟦<K as Clock>⟧ ⟦<S as Site>⟧ (single_of name.now (texts rest.now)) clock.old clock.new site result.1 result.0 }
+    ensures does { AskedWithoutInput ⟦<S as Site>⟧ ⟦<K as Clock>⟧ (single_of name.now (texts rest.now)) site result.1 clock.old clock.new result.0 }
     ensures clock { ReadsClock ⟦<K as Clock>⟧ (single_of name.now (texts rest.now)) clock.old clock.new }
 {
     match item_of_words(alloc, name, rest) {
@@ -60,8 +60,8 @@ fn answer_now<S: Site, K: Clock>(
     }
 }
 
-// Answers one item.
-fn answer_item<S: Site>(alloc: Global, item: &Item, site: S) -> (u8, S)
+/// Answers one item.
+pub(crate) fn answer_item<S: Site>(alloc: Global, item: &Item, site: S) -> (u8, S)
     requires ranges { IsItem item.now }
     requires read { IsTyped item.now.act }
     ensures { AnswersItem ⟦<S as Site>⟧ item.now site result.1 result.0 ⊎ Says ⟦<S as Site>⟧ site result.1 result.0 None whys.Memory }

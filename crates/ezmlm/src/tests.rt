@@ -1,7 +1,8 @@
 // Whole runs of the program over memory. Each case is run and compared by a function of its own, which a table calls: so
 // little is left to prove of a test.
+mod delivering;
 mod faults;
-mod listing;
+mod giving;
 mod singles;
 mod stops;
 mod words;

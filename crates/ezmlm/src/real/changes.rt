@@ -1,5 +1,5 @@
 // What has to reach the disk before a sync is good.
-use super::descriptors::{open_folder, open_to_change, open_to_read};
+use super::descriptors::{open_folder, open_to_change, open_to_sync};
 use super::folder::barred_or;
 use super::places::{Paths, Place, path_text};
 use ml_base::Name;
@@ -195,7 +195,7 @@ impl Changes {
     // The same for the files that were closed again, of which each is opened for it.
     fn sync_closed_files(&mut self, rt: &HostRuntime, paths: &mut Paths<'_>) -> io::Result<()> {
         for (name, _) in self.files.iter() {
-            let file = open_to_read(rt, paths.file(*name)?)?;
+            let file = open_to_sync(rt, paths.file(*name)?)?;
             settled(file.sync_all(), &mut self.is_lost)?;
         }
         Ok(())

@@ -10,10 +10,16 @@ const FILE_MODE: u32 = 0o600;
 
 const FOLDER_MODE: u32 = 0o700;
 
-/// Opens a file to read it or to sync it.
-pub(super) fn open_to_read(rt: &HostRuntime, path: &str) -> io::Result<File> {
-    regular(rt, path)?;
-    above_streams(File::open(rt, path)?)
+/// Opens a file to sync it.
+pub(super) fn open_to_sync(rt: &HostRuntime, path: &str) -> io::Result<File> {
+    let (file, _) = open_to_read(rt, path)?;
+    Ok(file)
+}
+
+/// Opens a file to read it, and answers how many bytes it has.
+pub(super) fn open_to_read(rt: &HostRuntime, path: &str) -> io::Result<(File, u64)> {
+    let len = regular(rt, path)?;
+    Ok((above_streams(File::open(rt, path)?)?, len))
 }
 
 /// Opens a file that is there to read and to write it, with its bytes as they are.
@@ -58,10 +64,11 @@ pub(super) fn make_folder(rt: &HostRuntime, path: &str) -> io::Result<bool> {
     Err(ErrorKind::Interrupted.into())
 }
 
-// An error where what is there is no regular file: whoever opens a FIFO waits for another program.
-fn regular(rt: &HostRuntime, path: &str) -> io::Result<()> {
-    if fs::metadata(rt, path)?.is_file() {
-        Ok(())
+// The length of a regular file. It is an error where what is there is none: whoever opens a FIFO waits for another program.
+fn regular(rt: &HostRuntime, path: &str) -> io::Result<u64> {
+    let found = fs::metadata(rt, path)?;
+    if found.is_file() {
+        Ok(found.len())
     } else {
         Err(ErrorKind::InvalidInput.into())
     }

@@ -3,7 +3,7 @@ use super::changes::Changes;
 use super::descriptors::{make_folder, open_folder, open_to_read, open_to_write};
 use super::places::{Paths, path_text};
 use ml_base::{Bytes, Name};
-use std::alloc::Global;
+use std::alloc::{AllocError, Global};
 use std::fs::File;
 use std::io::{ErrorKind, Read, Write};
 use std::os::unix::fs::FileExt;
@@ -35,6 +35,12 @@ impl<'a> Folder<'a> {
         }
     }
 
+    /// Takes the room for paths, and for the entry of the list's own folder. Behind it a first sync takes none of its own.
+    pub fn take_room(&mut self) -> Result<(), AllocError> {
+        self.paths.take_room()?;
+        self.changes.note_list()
+    }
+
     // Makes the folder and takes its lock, where that isn't done. After an error the next call tries again.
     fn ready(&mut self) -> io::Result<()> {
         if self.lock.is_some() {
@@ -43,8 +49,7 @@ impl<'a> Folder<'a> {
         if self.dir.is_empty() {
             return Err(ErrorKind::NotFound.into());
         }
-        self.paths.take_room()?;
-        self.changes.note_list()?;
+        self.take_room()?;
         make_list(self.rt, self.dir)?;
         let lock = open_to_write(self.rt, self.paths.below(b"lock")?)?;
         lock.try_lock()?;
@@ -55,12 +60,11 @@ impl<'a> Folder<'a> {
     /// The bytes of the log. A log that isn't there is empty.
     pub fn read_log(&mut self, alloc: Global) -> io::Result<Bytes> {
         self.ready()?;
-        let file = match open_to_read(self.rt, self.paths.below(b"log")?) {
-            Ok(file) => file,
-            Err(error) if error.kind() == ErrorKind::NotFound => return Ok(Bytes::new(alloc)),
-            Err(error) => return Err(error),
-        };
-        read_all(alloc, file)
+        match open_to_read(self.rt, self.paths.below(b"log")?) {
+            Ok((file, len)) => read_all(alloc, file, len),
+            Err(error) if error.kind() == ErrorKind::NotFound => Ok(Bytes::new(alloc)),
+            Err(error) => Err(error),
+        }
     }
 
     /// Writes a piece into the log from this byte on.
@@ -91,7 +95,7 @@ impl<'a> Folder<'a> {
     pub fn read(&mut self, alloc: Global, name: Name) -> io::Result<Option<Bytes>> {
         self.ready()?;
         match open_to_read(self.rt, self.paths.file(name)?) {
-            Ok(file) => Ok(Some(read_all(alloc, file)?)),
+            Ok((file, len)) => Ok(Some(read_all(alloc, file, len)?)),
             Err(error) if error.kind() == ErrorKind::NotFound => Ok(None),
             Err(error) => Err(error),
         }
@@ -188,10 +192,34 @@ impl<'a> Folder<'a> {
     }
 }
 
-fn read_all(alloc: Global, mut file: File) -> io::Result<Bytes> {
+// The bytes of a file that has so many of them, by one read where the disk gives them at once. The list's lock keeps others from
+// changing it meanwhile.
+fn read_all(alloc: Global, mut file: File, len: u64) -> io::Result<Bytes> {
+    let Ok(len) = usize::try_from(len) else {
+        return Err(ErrorKind::FileTooLarge.into());
+    };
     let mut bytes = Vec::new(alloc);
-    file.read_to_end(&mut bytes)?;
+    bytes.resize(len, 0)?;
+    let filled = fill(&mut file, bytes.as_mut_slice())?;
+    bytes.truncate(filled);
     Ok(Bytes::from_vec(bytes))
+}
+
+// Reads until the buffer is full or the file ends, and answers how many bytes were read.
+fn fill(file: &mut File, buf: &mut [u8]) -> io::Result<usize> {
+    let mut filled = 0;
+    for _ in 0..u64::MAX {
+        if filled >= buf.len() {
+            return Ok(filled);
+        }
+        match file.read(&mut buf[filled..]) {
+            Ok(0) => return Ok(filled),
+            Ok(count) => filled += count,
+            Err(error) if error.kind() == ErrorKind::Interrupted => {}
+            Err(error) => return Err(error),
+        }
+    }
+    Err(ErrorKind::Interrupted.into())
 }
 
 // Gives a file these bytes and no others.

@@ -1,15 +1,38 @@
 // Commands of which each call in turn fails, over memory.
+use super::delivering::MESSAGE;
 use super::{MADE, MAKE, command, empty, holds, make, nothing, settled, site_over, source};
-use ml_base::{Bytes, Name};
+use ml_base::{Bytes, Name, split_first};
 use ml_site::Image;
 use std::alloc::{AllocError, Global};
 
 // More calls than a command makes.
 const CALLS: u64 = 60;
 
+// More than one makes that posts, which reads all members.
+const MAIL_CALLS: u64 = 120;
+
 const SUB: [&str; 4] = ["sub", "7", "list", "a@b"];
 
 const SUBSCRIBED: &[u8] = b"7 0 subscribed\n";
+
+// A command of one item on a list of `a@b`, its input, its answer, and what `queue` gives behind it.
+type Item = (
+    &'static [&'static str],
+    &'static [u8],
+    &'static [u8],
+    &'static [u8],
+);
+
+const DELIVER: Item = (
+    &["deliver", "20", "a@b", "list@ex.org"],
+    MESSAGE,
+    b"20 0 posted 1\n",
+    b"1 1 321\n",
+);
+
+const SENT: Item = (&["sent", "21", "1"], b"", b"21 0 dequeued\n", b"");
+
+const TIMED: Item = (&["timed", "22"], b"", b"22 0 timed 0\n", b"");
 
 // What a command puts out over an image whose named calls fail, with its status, and what it leaves.
 fn told(
@@ -18,8 +41,19 @@ fn told(
     image: Image,
     fail: &[u64],
 ) -> Result<(u8, Bytes, Image), AllocError> {
+    told_of(alloc, words, b"", image, fail)
+}
+
+// The same, by a command with an input.
+fn told_of(
+    alloc: Global,
+    words: &[&str],
+    input: &[u8],
+    image: Image,
+    fail: &[u64],
+) -> Result<(u8, Bytes, Image), AllocError> {
     let site = site_over(alloc, image, fail)?;
-    let (status, site) = command(alloc, words, &mut source(alloc, b"", &[])?, site)?;
+    let (status, site) = command(alloc, words, &mut source(alloc, input, &[])?, site)?;
     let output = Bytes::from_slice(alloc, site.output())?;
     Ok((status, output, settled(alloc, &site)?))
 }
@@ -66,6 +100,69 @@ fn make_holds(alloc: Global, call: u64) -> Result<bool, AllocError> {
     Ok(said && there && status == 0)
 }
 
+// Whether an output of a command that failed is one stop line, alone or behind the answer.
+fn is_stopped(output: &[u8], answer: &[u8]) -> bool {
+    if let Some(rest) = output.strip_prefix(answer) {
+        return rest == b"- 111 disk\n".as_slice();
+    }
+    let deferral = match split_first(b' ', answer) {
+        Some((number, _)) => output.strip_prefix(number),
+        None => None,
+    };
+    output == b"- 111 disk\n".as_slice() || deferral == Some(b" 111 disk\n".as_slice())
+}
+
+// Whether a command of one item over an image whose call of this number fails says so, and is done once, as the same command again and
+// the queue tell.
+fn item_holds(alloc: Global, item: &Item, image: Image, call: u64) -> Result<bool, AllocError> {
+    let (words, input, answer, queue) = *item;
+    let (status, output, image) = told_of(alloc, words, input, image, &[call])?;
+    let said = match status {
+        0 => output.as_slice() == answer,
+        73 => output.is_empty() || output.as_slice() == answer,
+        111 => is_stopped(output.as_slice(), answer),
+        _ => false,
+    };
+    let (again, output, image) = told_of(alloc, words, input, image, &[])?;
+    let (_, lines, _) = told(alloc, &["queue"], image, &[])?;
+    Ok(said && again == 0 && output.as_slice() == answer && lines.as_slice() == queue)
+}
+
+// A list of `a@b`.
+fn subscribed(alloc: Global) -> Result<Image, AllocError> {
+    let (_, site) = make(alloc, empty(alloc, &[])?)?;
+    let (_, _, image) = told(alloc, &SUB, settled(alloc, &site)?, &[])?;
+    Ok(image)
+}
+
+// Whether `deliver`, and `sent` behind it, whose call of this number fails are done once.
+fn mail_holds(alloc: Global, call: u64) -> Result<bool, AllocError> {
+    let delivered = item_holds(alloc, &DELIVER, subscribed(alloc)?, call)?;
+    let (_, _, image) = told_of(alloc, DELIVER.0, DELIVER.1, subscribed(alloc)?, &[])?;
+    Ok(delivered && item_holds(alloc, &SENT, image, call)?)
+}
+
+// Whether `timed` whose call of this number fails is done once.
+fn timed_holds(alloc: Global, call: u64) -> Result<bool, AllocError> {
+    item_holds(alloc, &TIMED, subscribed(alloc)?, call)
+}
+
+#[test]
+fn mail_counts_once_whichever_call_fails(rt: HostRuntime) -> Result<(), AllocError> {
+    for call in 1..MAIL_CALLS {
+        holds(&rt, call as usize, mail_holds(rt.alloc(), call)?);
+    }
+    Ok(())
+}
+
+#[test]
+fn a_timed_run_counts_once_whichever_call_fails(rt: HostRuntime) -> Result<(), AllocError> {
+    for call in 1..MAIL_CALLS {
+        holds(&rt, call as usize, timed_holds(rt.alloc(), call)?);
+    }
+    Ok(())
+}
+
 #[test]
 fn an_item_counts_once_whichever_call_fails(rt: HostRuntime) -> Result<(), AllocError> {
     for call in 1..CALLS {
@@ -87,8 +184,9 @@ fn ends_hold(alloc: Global) -> Result<bool, AllocError> {
     let (first, _, _) = told(alloc, &MAKE, nothing(alloc), &[1])?;
     let (last, _, image) = told(alloc, &MAKE, nothing(alloc), &[CALLS])?;
     let (sub_first, _, image) = told(alloc, &SUB, image, &[1])?;
-    let (sub_last, _, _) = told(alloc, &SUB, image, &[CALLS])?;
-    Ok(first == 111 && last == 0 && sub_first == 111 && sub_last == 0)
+    let (sub_last, _, image) = told(alloc, &SUB, image, &[CALLS])?;
+    let (deliver_last, _, _) = told_of(alloc, DELIVER.0, DELIVER.1, image, &[MAIL_CALLS])?;
+    Ok(first == 111 && last == 0 && sub_first == 111 && sub_last == 0 && deliver_last == 0)
 }
 
 #[test]

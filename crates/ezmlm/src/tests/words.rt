@@ -34,7 +34,7 @@ fn words_end(
 // The words, the calls that fail, and what is answered where there is no list and no time.
 type Row<'a> = (&'a [&'a str], &'a [u64], u8, &'a [u8]);
 
-const COMMANDS: [Row; 20] = [
+const COMMANDS: [Row; 34] = [
     (&[], &[], 64, USAGE),
     (&["spol"], &[], 64, USAGE),
     (&["Spool"], &[], 64, USAGE),
@@ -75,9 +75,28 @@ const COMMANDS: [Row; 20] = [
     (&["list"], &[], 64, USAGE),
     (&["list", "-x", "list"], &[], 64, USAGE),
     (&["list", "list"], &[], 75, b"- 75 nolist\n"),
+    (&["deliver"], &[], 64, USAGE),
+    (&["deliver", "20", "a@b"], &[], 64, USAGE),
+    (
+        &["deliver", "20", "a@b", "list@ex.org", "x"],
+        &[],
+        64,
+        USAGE,
+    ),
+    (&["timed"], &[], 64, USAGE),
+    (&["timed", "7", "x"], &[], 64, USAGE),
+    (&["sent", "7"], &[], 64, USAGE),
+    (&["queue", "x"], &[], 64, USAGE),
+    (&["out"], &[], 64, USAGE),
+    (&["out", "1", "2"], &[], 64, USAGE),
+    (&["show"], &[], 64, USAGE),
+    (&["queue"], &[], 75, b"- 75 nolist\n"),
+    (&["out", "0"], &[], 75, b"- 75 nolist\n"),
+    (&["show", "999999999999999999"], &[], 75, b"- 75 nolist\n"),
+    (&["queue"], &[1], 111, b"- 111 disk\n"),
 ];
 
-const VALUES: [Row; 17] = [
+const VALUES: [Row; 31] = [
     (&["sub", "7", "liste", "a@b"], &[], 65, BAD_WORD),
     (&["sub", "7", "List", "a@b"], &[], 65, BAD_WORD),
     (&["sub", "07", "list", "a@b"], &[], 65, BAD_WORD),
@@ -92,10 +111,29 @@ const VALUES: [Row; 17] = [
     (&["list", "nosuch"], &[], 65, BAD_WORD),
     (&["list", "-t"], &[], 65, BAD_WORD),
     (&["list", "-t", "nosuch"], &[], 65, BAD_WORD),
+    (&["deliver", "x", "a@b", "list@ex.org"], &[], 65, BAD_WORD),
+    (&["timed", "1000000000000"], &[], 65, BAD_WORD),
+    (&["sent", "x", "1"], &[], 65, BAD_WORD),
+    (&["sent", "8", "0"], &[], 65, BAD_WORD),
+    (&["sent", "8", "1000000000000001"], &[], 65, BAD_WORD),
+    (&["out", "01"], &[], 65, BAD_WORD),
+    (&["out", ""], &[], 65, BAD_WORD),
+    (&["show", "-1"], &[], 65, BAD_WORD),
+    (&["show", "1000000000000000000"], &[], 65, BAD_WORD),
     // Right words, but no time. Neither the list is looked at, nor is there a line where the output fails.
     (&["sub", "7", "list", "a@b"], &[], 69, b"- 69 clock\n"),
     (&["rekey", "7", KEY], &[], 69, b"- 69 clock\n"),
     (&["floor", "7", "1"], &[1], 73, b""),
+    (&["timed", "999999999999"], &[], 69, b"- 69 clock\n"),
+    (&["sent", "8", "1000000000000000"], &[], 69, b"- 69 clock\n"),
+    (
+        &["deliver", "20", "a@b", "list@ex.org"],
+        &[],
+        69,
+        b"- 69 clock\n",
+    ),
+    (&["deliver", "0", "", ""], &[], 69, b"- 69 clock\n"),
+    (&["deliver", "20", "a@b", "list@ex.org"], &[1], 73, b""),
 ];
 
 #[test]

@@ -1,0 +1,55 @@
+-- The whole input, as a message, and why there is none.
+use Rattle.std.specs.Prelude.{◌≡◌, ◌≤◌, ◌+◌, ℕ, IfSome, [], ◌++◌, length, Option, Some}
+use Rattle.ml_base.specs.Bytes.{Text}
+use Rattle.ml_base.specs.Faults.{Rose}
+use Rattle.ml_site.specs.declared.source.Source.{Ghosts as SourceGhosts}
+use Rattle.ml_ending.specs.declared.lines.Why.{Why}
+use Rattle.ml_ending.specs.declared.lines.Why.TheVariants as whys
+
+-- the most bytes of a message
+abbrev pub longest_message : ℕ
+longest_message = 33_554_432
+
+-- bytes were taken from the front of what was left of an input, and of their number this holds
+pub record TakesFront (left : Text) (after : Option Text) (P : ℕ → Type 0) : Type 0 where
+  pub front : Text
+  pub rest : Text
+  pub split : left ≡ front ++ rest
+  pub after_is : after ≡ Some rest
+  pub count : P (length front)
+
+-- as far as it is told, the longest message and one byte more were read of the input at most
+abbrev pub ReadsAtMost : {I : Type 0} → SourceGhosts I → I → I → Type 0
+ReadsAtMost source input next = IfSome (source.left input) (λ left. TakesFront left (source.left next) (λ n. n ≤ longest_message + 1))
+
+-- as far as it is told, the longest message and one byte more were read of the input: so it is too long
+abbrev pub IsTooLong : {I : Type 0} → SourceGhosts I → I → I → Type 0
+IsTooLong source input next = IfSome (source.left input) (λ left. TakesFront left (source.left next) (λ n. n ≡ longest_message + 1))
+
+-- a message that isn't too long is, as far as it is told, the whole input
+pub record IsMessage {I : Type 0} (source : SourceGhosts I) (input next : I) (message : Text) : Type 0 where
+  pub fits : length message ≤ longest_message
+  pub whole : IfSome (source.left input) (λ left. (left ≡ message) × (source.left next ≡ Some []))
+
+-- why an input gives no message
+abbrev pub HasNoMessage : {I : Type 0} → SourceGhosts I → I → I → Why → Type 0
+HasNoMessage source input next whys.Input = Rose (source.faults input) (source.faults next) × ReadsAtMost source input next
+HasNoMessage source input next whys.Long = IsTooLong source input next
+HasNoMessage source input next whys.Memory = ReadsAtMost source input next
+HasNoMessage source input next _ = ⊥
+
+-- why no piece of an input is read
+abbrev pub IsPieceFault : {I : Type 0} → SourceGhosts I → I → I → Why → Type 0
+IsPieceFault source input next whys.Input = Rose (source.faults input) (source.faults next)
+IsPieceFault source input next whys.Memory = Unit {0}
+IsPieceFault source input next _ = ⊥
+
+-- so many bytes that an input had left were added to a message, and none only at its end
+pub record Continues (left : Text) (after : Option Text) (old new : Text) (count : ℕ) : Type 0 where
+  pub piece : Text
+  pub rest : Text
+  pub split : left ≡ piece ++ rest
+  pub after_is : after ≡ Some rest
+  pub added : new ≡ old ++ piece
+  pub count_is : count ≡ length piece
+  pub end : count ≡ 0 → rest ≡ []
