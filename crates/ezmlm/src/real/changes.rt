@@ -1,5 +1,8 @@
 // What has to reach the disk before a sync is good.
-use super::descriptors::{open_folder, open_to_change, open_to_sync};
+#[cfg(test)]
+mod tests;
+
+use super::descriptors::{length_of, open_folder, open_to_change, open_to_sync};
 use super::folder::barred_or;
 use super::places::{Paths, Place, path_text};
 use ml_base::Name;
@@ -16,12 +19,21 @@ const MOST_KEPT: usize = 256;
 // How many bytes of a log are written back at once.
 const PIECE: usize = 4096;
 
+// The configuration of a list.
+const CONFIG: Name = Name { kind: 1, at: 0 };
+
 /// The log, files and folders that were changed since the last good sync.
 #[derive(Drop)]
 pub(super) struct Changes {
     log: bool,
     // Whether this run has written the log back as it read.
     is_log_back: bool,
+    // Whether something was changed before the first good sync.
+    is_touched: bool,
+    // Whether the log that was found is one closed gate: nothing was pending.
+    is_closed: bool,
+    // Whether each entry that this run found is on the disk, so that only those that it makes and removes are to be synced.
+    are_names_settled: bool,
     // Each with the descriptor that it was written by, as far as these are kept: on Linux the one that was written is told
     // of a write-back that failed, where another that is opened later may not be.
     files: BTreeMap<Name, Option<File>>,
@@ -42,6 +54,9 @@ impl Changes {
         Changes {
             log: true,
             is_log_back: false,
+            is_touched: false,
+            is_closed: false,
+            are_names_settled: false,
             files: BTreeMap::new(alloc),
             kept: 0,
             folders: BTreeSet::new(alloc),
@@ -53,6 +68,12 @@ impl Changes {
     /// Notes that the log has changed.
     pub fn note_log(&mut self) {
         self.log = true;
+        self.is_touched = true;
+    }
+
+    /// Whether an entry that is there may be missing on the disk: an earlier run that was killed leaves such ones.
+    pub fn may_miss_entries(&self) -> bool {
+        !self.are_names_settled
     }
 
     /// Notes that an entry of the list's own folder may have been made.
@@ -61,18 +82,22 @@ impl Changes {
         Ok(())
     }
 
-    /// Notes the folders on the way to a file, whether or not they and the file are there: an earlier run that was
-    /// killed leaves entries that this one finds and that the disk may not have.
+    /// Notes the folders on the way to a file, whether or not they and the file are there.
     pub fn note_folders(&mut self, name: Name) -> io::Result<()> {
-        self.folders.insert(Place::LIST)?;
-        let mut room = [0u8; 48];
-        let mut depth: u8 = 0;
-        for byte in path_text(name, &mut room)? {
-            if *byte == b'/' {
-                depth = depth.saturating_add(1);
-                self.folders.insert(Place::toward(name, depth))?;
-            }
+        self.is_touched = true;
+        for depth in 0..=depth_of(name)? {
+            self.folders.insert(Place::toward(name, depth))?;
         }
+        Ok(())
+    }
+
+    /// Notes what is to be synced where a file's entry is made or removed: its folder, and those on the way to it where an
+    /// earlier run may have made them.
+    pub fn note_entry(&mut self, name: Name) -> io::Result<()> {
+        if !self.are_names_settled {
+            return self.note_folders(name);
+        }
+        self.folders.insert(Place::toward(name, depth_of(name)?))?;
         Ok(())
     }
 
@@ -119,7 +144,7 @@ impl Changes {
     pub fn close_files(&mut self) -> io::Result<()> {
         for (_, place) in self.files.iter_mut() {
             if let Some(file) = place.take() {
-                settled(file.sync_all(), &mut self.is_lost)?;
+                settled(file.sync_data(), &mut self.is_lost)?;
             }
         }
         self.kept = 0;
@@ -140,12 +165,23 @@ impl Changes {
         self.sync_kept_files()?;
         self.sync_closed_files(rt, paths)?;
         self.sync_log(rt, paths, log)?;
+        if self.is_list_there(rt, paths) {
+            self.folders.clear();
+            self.outside = false;
+        }
         self.sync_folders(rt, paths)?;
+        self.is_touched = true;
+        self.are_names_settled = self.is_closed;
         self.log = false;
         self.files.clear();
         self.folders.clear();
         self.outside = false;
         Ok(())
+    }
+
+    // Whether an earlier run has synced the entries of the log and of the list's folder: else it would have written no file.
+    fn is_list_there(&self, rt: &HostRuntime, paths: &mut Paths<'_>) -> bool {
+        self.is_closed && !self.is_touched && has_config(rt, paths)
     }
 
     // Without it a crash could leave the log without what was written, or with what was cut off.
@@ -171,7 +207,7 @@ impl Changes {
     // At the first sync of a run the log is written back as it reads.
     fn sync_open_log(&mut self, file: &File) -> io::Result<()> {
         if !self.is_log_back {
-            write_back(file)?;
+            self.is_closed = write_back(file)? && !self.is_touched;
         }
         // This brings the length too, and leaves out no more than the times.
         settled(file.sync_data(), &mut self.is_lost)?;
@@ -184,7 +220,7 @@ impl Changes {
     fn sync_kept_files(&mut self) -> io::Result<()> {
         for (_, place) in self.files.iter() {
             if let Some(file) = place {
-                settled(file.sync_all(), &mut self.is_lost)?;
+                settled(file.sync_data(), &mut self.is_lost)?;
             }
         }
         self.files.retain(|_, place| place.is_none());
@@ -196,7 +232,7 @@ impl Changes {
     fn sync_closed_files(&mut self, rt: &HostRuntime, paths: &mut Paths<'_>) -> io::Result<()> {
         for (name, _) in self.files.iter() {
             let file = open_to_sync(rt, paths.file(*name)?)?;
-            settled(file.sync_all(), &mut self.is_lost)?;
+            settled(file.sync_data(), &mut self.is_lost)?;
         }
         Ok(())
     }
@@ -221,15 +257,38 @@ impl Changes {
     }
 }
 
-// Writes the bytes of a log again, as they read and where they stand, piece by piece. After a sync that failed, in an earlier
-// run too, Linux shows bytes that the disk hasn't got, and calls them written; the sync behind this brings them there.
-fn write_back(log: &File) -> io::Result<()> {
+// How many folders below the list's own stand on the way to a file.
+fn depth_of(name: Name) -> io::Result<u8> {
+    let mut room = [0u8; 48];
+    let mut depth: u8 = 0;
+    for byte in path_text(name, &mut room)? {
+        if *byte == b'/' {
+            depth = depth.saturating_add(1);
+        }
+    }
+    Ok(depth)
+}
+
+// Whether there is a configuration, which comes with the first change that a list's log had.
+fn has_config(rt: &HostRuntime, paths: &mut Paths<'_>) -> bool {
+    match paths.file(CONFIG) {
+        Ok(path) => matches!(length_of(rt, path), Ok(Some(_))),
+        Err(_) => false,
+    }
+}
+
+// Writes the bytes of a log again, as they read and where they stand, piece by piece, and answers whether they are one closed gate.
+// After a sync that failed, in an earlier run too, Linux shows bytes that the disk hasn't got, and calls them written; the sync
+// behind this brings them there.
+fn write_back(log: &File) -> io::Result<bool> {
     let mut piece = [0u8; PIECE];
     let mut at: u64 = 0;
+    let mut is_closed = false;
     for _ in 0..u64::MAX {
         match log.read_at(&mut piece, at) {
-            Ok(0) => return Ok(()),
+            Ok(0) => return Ok(is_closed),
             Ok(count) => {
+                is_closed = at == 0 && count == 1 && piece[0] == 0;
                 log.write_all_at(&piece[..count], at)?;
                 at = at.saturating_add(count as u64);
             }

@@ -28,12 +28,9 @@ pub(super) fn open_to_change(rt: &HostRuntime, path: &str) -> io::Result<File> {
     above_streams(OpenOptions::new().read(true).write(true).open(rt, path)?)
 }
 
-/// Opens a file to read and to write it, with its bytes as they are, and makes it where it is missing.
+/// Opens a file to read and to write it, with its bytes as they are, and makes it where it is missing. What stands there is a
+/// regular file, if it is there, as `length_of` finds.
 pub(super) fn open_to_write(rt: &HostRuntime, path: &str) -> io::Result<File> {
-    match regular(rt, path) {
-        Err(error) if error.kind() != ErrorKind::NotFound => return Err(error),
-        _ => {}
-    }
     let file = OpenOptions::new()
         .read(true)
         .write(true)
@@ -62,6 +59,15 @@ pub(super) fn make_folder(rt: &HostRuntime, path: &str) -> io::Result<bool> {
         }
     }
     Err(ErrorKind::Interrupted.into())
+}
+
+/// The length of a regular file, or None where nothing is there.
+pub(super) fn length_of(rt: &HostRuntime, path: &str) -> io::Result<Option<u64>> {
+    match regular(rt, path) {
+        Ok(len) => Ok(Some(len)),
+        Err(error) if error.kind() == ErrorKind::NotFound => Ok(None),
+        Err(error) => Err(error),
+    }
 }
 
 // The length of a regular file. It is an error where what is there is none: whoever opens a FIFO waits for another program.

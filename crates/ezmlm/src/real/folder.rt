@@ -1,6 +1,6 @@
 // The folder of a list: its log and its files.
 use super::changes::Changes;
-use super::descriptors::{make_folder, open_folder, open_to_read, open_to_write};
+use super::descriptors::{length_of, make_folder, open_folder, open_to_read, open_to_write};
 use super::places::{Paths, path_text};
 use ml_base::{Bytes, Name};
 use std::alloc::{AllocError, Global};
@@ -50,10 +50,50 @@ impl<'a> Folder<'a> {
             return Err(ErrorKind::NotFound.into());
         }
         self.take_room()?;
-        make_list(self.rt, self.dir)?;
-        let lock = open_to_write(self.rt, self.paths.below(b"lock")?)?;
+        self.make_list()?;
+        let path = self.paths.below(b"lock")?;
+        length_of(self.rt, path)?;
+        let lock = open_to_write(self.rt, path)?;
         lock.try_lock()?;
         self.lock = Some(lock);
+        Ok(())
+    }
+
+    // Makes the list's folder, and those above it, where they are missing. The list's own entry is for the first sync.
+    fn make_list(&mut self) -> io::Result<()> {
+        match make_folder(self.rt, self.dir) {
+            Err(error) if error.kind() == ErrorKind::NotFound => {
+                self.make_above()?;
+                make_folder(self.rt, self.dir)?;
+            }
+            answer => {
+                answer?;
+            }
+        }
+        Ok(())
+    }
+
+    // Makes the folders above the list's own that are missing, from the top. Each entry reaches the disk before the next folder
+    // is made: else a crash could leave a list to which no path leads. The last one that was there may be one whose entry an
+    // earlier run made and was killed before it had synced it, so its entry is synced too.
+    fn make_above(&mut self) -> io::Result<()> {
+        let dir = self.dir;
+        let mut is_first = true;
+        for (at, byte) in dir.as_bytes().iter().enumerate() {
+            if *byte != b'/' || at == 0 {
+                continue;
+            }
+            let Ok(above) = str::from_utf8(&dir.as_bytes()[..at]) else {
+                return Err(ErrorKind::InvalidFilename.into());
+            };
+            if make_folder(self.rt, above)? {
+                if is_first {
+                    sync_folder(self.rt, self.paths.above(above, "/../..")?)?;
+                    is_first = false;
+                }
+                sync_folder(self.rt, self.paths.above(above, "/..")?)?;
+            }
+        }
         Ok(())
     }
 
@@ -82,8 +122,11 @@ impl<'a> Folder<'a> {
         self.ready()?;
         self.changes.note_log();
         if self.log.is_none() {
-            self.changes.note_list()?;
-            self.log = Some(open_to_write(self.rt, self.paths.below(b"log")?)?);
+            let path = self.paths.below(b"log")?;
+            if length_of(self.rt, path)?.is_none() || self.changes.may_miss_entries() {
+                self.changes.note_list()?;
+            }
+            self.log = Some(open_to_write(self.rt, path)?);
         }
         match &self.log {
             Some(file) => Ok(file),
@@ -104,7 +147,15 @@ impl<'a> Folder<'a> {
     /// Gives a file these bytes. What is to be synced is noted first, so that want of memory writes nothing.
     pub fn write(&mut self, name: Name, bytes: &[u8]) -> io::Result<()> {
         self.ready()?;
-        self.changes.note_folders(name)?;
+        if let Some(file) = self.changes.kept_file(name) {
+            let written = write_whole(&file, u64::MAX, bytes);
+            self.changes.keep_file(name, file);
+            return written;
+        }
+        let found = length_of(self.rt, self.paths.file(name)?)?;
+        if found.is_none() || self.changes.may_miss_entries() {
+            self.changes.note_entry(name)?;
+        }
         let is_new = self.changes.note_file(name)?;
         let file = match self.file_to_write(name) {
             Ok(file) => file,
@@ -115,16 +166,13 @@ impl<'a> Folder<'a> {
                 return Err(error);
             }
         };
-        let written = write_whole(&file, bytes);
+        let written = write_whole(&file, found.unwrap_or(0), bytes);
         self.changes.keep_file(name, file);
         written
     }
 
-    // A file to write it: as it was written since the last sync, or opened.
+    // Opens a file to write it.
     fn file_to_write(&mut self, name: Name) -> io::Result<File> {
-        if let Some(file) = self.changes.kept_file(name) {
-            return Ok(file);
-        }
         match self.open_file(name) {
             // There may be no further descriptor, as long as files are kept open for the next sync.
             Err(_) if self.changes.keeps_files() => {
@@ -139,6 +187,7 @@ impl<'a> Folder<'a> {
     fn open_file(&mut self, name: Name) -> io::Result<File> {
         match open_to_write(self.rt, self.paths.file(name)?) {
             Err(error) if error.kind() == ErrorKind::NotFound => {
+                self.changes.note_folders(name)?;
                 self.make_folders(name)?;
                 open_to_write(self.rt, self.paths.file(name)?)
             }
@@ -160,7 +209,7 @@ impl<'a> Folder<'a> {
     /// Removes a file. It is no error where none is there.
     pub fn remove(&mut self, name: Name) -> io::Result<()> {
         self.ready()?;
-        self.changes.note_folders(name)?;
+        self.changes.note_entry(name)?;
         remove_file(self.rt, self.paths.file(name)?)?;
         self.changes.forget_file(name);
         Ok(())
@@ -222,53 +271,20 @@ fn fill(file: &mut File, buf: &mut [u8]) -> io::Result<usize> {
     Err(ErrorKind::Interrupted.into())
 }
 
-// Gives a file these bytes and no others.
-fn write_whole(file: &File, bytes: &[u8]) -> io::Result<()> {
+// Gives a file that has at most so many bytes these and no others.
+fn write_whole(file: &File, most: u64, bytes: &[u8]) -> io::Result<()> {
     file.write_all_at(bytes, 0)?;
-    file.set_len(bytes.len() as u64)
-}
-
-// Makes the list's folder, and those above it, where they are missing. The list's own entry is for the first sync.
-fn make_list(rt: &HostRuntime, dir: &str) -> io::Result<()> {
-    match make_folder(rt, dir) {
-        Err(error) if error.kind() == ErrorKind::NotFound => {
-            make_above(rt, dir.as_bytes())?;
-            make_folder(rt, dir)?;
-        }
-        answer => {
-            answer?;
-        }
+    let len = bytes.len() as u64;
+    if most > len {
+        file.set_len(len)
+    } else {
+        Ok(())
     }
-    Ok(())
-}
-
-// Makes the folders above the list's own that are missing, from the top. Each entry reaches the disk before the next folder
-// is made: else a crash could leave a list to which no path leads. The last one that was there may be one whose entry an
-// earlier run made and was killed before it had synced it, so its entry is synced too.
-fn make_above(rt: &HostRuntime, dir: &[u8]) -> io::Result<()> {
-    let mut is_first = true;
-    for (at, byte) in dir.iter().enumerate() {
-        if *byte != b'/' || at == 0 {
-            continue;
-        }
-        let Ok(above) = str::from_utf8(&dir[..at]) else {
-            return Err(ErrorKind::InvalidFilename.into());
-        };
-        if make_folder(rt, above)? {
-            if is_first {
-                sync_above(rt, above, "/../..")?;
-                is_first = false;
-            }
-            sync_above(rt, above, "/..")?;
-        }
-    }
-    Ok(())
 }
 
 // Brings the entries of a folder above the list's own to the disk.
-fn sync_above(rt: &HostRuntime, path: &str, up: &str) -> io::Result<()> {
-    let folder = format!(in rt.alloc(); "{path}{up}")?;
-    match open_folder(rt, folder.as_str()) {
+fn sync_folder(rt: &HostRuntime, path: &str) -> io::Result<()> {
+    match open_folder(rt, path) {
         Ok(folder) => folder.sync_all(),
         Err(error) => barred_or(error),
     }

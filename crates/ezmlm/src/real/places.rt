@@ -22,8 +22,11 @@ impl Place {
         file: Name::LOG,
     };
 
-    /// The folder at this depth, above 0, on the way to a file.
+    /// The folder at this depth on the way to a file.
     pub fn toward(name: Name, depth: u8) -> Place {
+        if depth == 0 {
+            return Place::LIST;
+        }
         let file = match name.kind {
             9 | 10 | 20 if depth == 1 => Name { kind: 20, at: 1 },
             4 | 16 if depth == 1 => Name { kind: 4, at: 1 },
@@ -68,6 +71,14 @@ impl<'a> Paths<'a> {
         self.text.clear();
         self.text.push_str(self.dir)?;
         self.text.push_str("/")?;
+        self.text.push_str(rest)?;
+        Ok(self.text.as_str())
+    }
+
+    /// The path of a folder above the list's own, with a text of at most eight bytes behind it. It takes no memory.
+    pub fn above(&mut self, folder: &str, rest: &str) -> io::Result<&str> {
+        self.text.clear();
+        self.text.push_str(folder)?;
         self.text.push_str(rest)?;
         Ok(self.text.as_str())
     }
