@@ -7,6 +7,7 @@ use Rattle.ml_base.specs.Dir.{Dir, same_name, with_puts, touches_only, are_files
 use Rattle.ml_base.specs.Name.{is_file}
 use Rattle.ml_base.specs.declared.names.Name.{Name}
 use Rattle.ml_base.specs.declared.names.Set.{Set}
+use Rattle.ml_base.specs.declared.names.Set.TheVariants as sets
 use Rattle.ml_base.specs.declared.puts.Put.{Put}
 use Rattle.ml_base.proofs.Laid.{newest_decides, laid_joined, left_alone}
 use Rattle.ml_base.specs.Drawn.{IsCounter, counter_text}
@@ -24,9 +25,10 @@ use Rattle.ml_reply.specs.declared.mails.Mail.{Mail}
 use Rattle.ml_plain.specs.declared.Reply.{Reply}
 use Rattle.ml_plain.specs.Directory.{IsList, is_of_list}
 use Rattle.ml_plain.specs.Mailing.{send, reply_path}
-use Rattle.ml_plain.specs.Plain.{Plain}
+use Rattle.ml_plain.specs.Plain.{Plain, addresses}
 use Rattle.ml_plain.proofs.PartChanges.{queue_changed}
-use Rattle.ml_acts.specs.Doing.{Alike, DoesList, DrawsId, HasIdsUpTo, is_beside_mail, is_beside_queue, is_of_queue, is_with_queue}
+use Rattle.ml_subs.specs.Subscribers.{is_of_set}
+use Rattle.ml_acts.specs.Doing.{Alike, DoesList, DrawsId, is_beside_mail, is_beside_queue, is_of_queue, is_with_queue}
 
 -- puts of files that pass a test pass a weaker one
 pub touches_weaker : (f g : Name → Bool) (puts : List Put) → ((name : Name) → f name ≡ true → g name ≡ true) → touches_only f puts ≡ true → touches_only g puts ≡ true
@@ -129,3 +131,12 @@ mailed dir c way body to address p mail now e f g same is =
     subst (λ (q : Plain). IsList dir q)
     (ap (λ (w : Path). send w body to p) e ∙ ap (λ (b : Text). send (reply_path c) b to p) f ∙ ap (λ (t : List Text). send (reply_path c) (mail_text c mail now) t p) g
     ∙ ap (λ (d : Config). send (reply_path d) (mail_text d mail now) address p) (sym same)) is
+
+-- a body that goes to the members of the set list, whose files read the same when it is queued
+pub to_members : (old new dir : Dir) (p : Plain) (text : Text) (way : Path) (to : List Text) (txn : List Put) → new ≡ old
+    → ((dir : Dir) (p : Plain) → Alike (is_of_set sets.List) old dir → IsList dir p → to ≡ addresses p sets.List)
+    → ((dir : Dir) (p : Plain) → Alike is_of_queue new dir → IsList dir p → IsList (with_puts dir txn) (send way text to p))
+    → Alike (is_with_queue sets.List) old dir → IsList dir p → IsList (with_puts dir txn) (send way text (addresses p sets.List) p)
+to_members old new dir p text way to txn kept members puts alike is =
+    subst (λ (t : List Text). IsList (with_puts dir txn) (send way text t p)) (members dir p (λ name e. alike name (or_right (is_of_queue name) (is_of_set sets.List name) e)) is)
+    (puts dir p (λ name e. alike name (or_left (is_of_queue name) (is_of_set sets.List name) e) ∙ sym (ap (λ (d : Dir). d name) kept)) is)

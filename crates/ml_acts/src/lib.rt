@@ -7,6 +7,7 @@ mod laws;
 mod leaving;
 mod mailing;
 mod members;
+mod memo;
 mod paths;
 mod wearing;
 
@@ -16,6 +17,7 @@ pub use laws::law_damaged;
 pub use leaving::remove_member;
 pub use mailing::{mail_moderators, mail_to, send};
 pub use members::recipients;
+pub use memo::{Memo, send_to_list};
 pub use paths::{
     bounce_path, confirm_address, digest_path, key_of, owner_address, post_path, reply_path,
     word_kind,

@@ -44,7 +44,21 @@ pub fn send<F: Files>(
         body,
         to,
     };
-    let (_, txn) = put(alloc, files, &out)?;
+    send_out(alloc, files, &out)
+}
+
+// Puts an entry into the queue.
+pub(crate) fn send_out<F: Files>(alloc: Global, files: &mut F, out: &Out) -> Result<Txn, PartError>
+    requires sorted { is_sorted byte_cmp key out.now.to ≡ true }
+    requires room { IsTrue F.tells → HasIds (F.map files.now) }
+    ensures value { IsTrue F.tells → IfOk result (λ txn. (dir : Dir) (p : Plain) → Alike is_of_queue (F.map files.old) dir → IsList dir p → IsList (with_puts dir txn) (spec.send out.now.path out.now.body out.now.to p)) }
+    ensures own { IfOk result (λ txn. touches_only is_of_queue txn ≡ true) }
+    ensures files { IfOk result (λ txn. IsTrue (are_files txn)) }
+    ensures drawn { IsTrue F.tells → IfOk result (λ txn. DrawsId (F.map files.old) txn) }
+    ensures names { NamesDamaged ⟦<F as Files>⟧ (λ name. same_name name ids_name ≡ true) (IsDamaged (F.map files.old)) result }
+    ensures reads { IsReading ⟦<F as Files>⟧ files.old files.new result }
+{
+    let (_, txn) = put(alloc, files, out)?;
     Ok(txn)
 }
 

@@ -19,13 +19,13 @@ ghost use Rattle.ml_deliver.specs.Reads.{is_of_acts};
 
 use crate::guarding::guarded;
 use crate::moderating::moderated;
-use ml_acts::is_worn;
+use ml_acts::{Memo, is_worn};
 use ml_address::{Request, read_request};
 use ml_base::{Files, PartError, Txn};
 use ml_config::{Config, load};
 use ml_manage::manage;
 use ml_plain::Reply;
-use ml_post::post;
+use ml_post::post_with_memo;
 use std::alloc::Global;
 
 /// What a message does that comes for an address, from an envelope sender: the puts, and the reply.
@@ -35,10 +35,11 @@ use std::alloc::Global;
 /// grammar, or names what isn't there. `Fault` comes only where a read failed. The configuration is there: who asks has looked at it, and
 /// where it isn't, there is no memory.
 ///
-/// `now` is in seconds since 1970, and the message has at most 33,554,432 bytes.
+/// `now` is in seconds since 1970, and the message has at most 33,554,432 bytes. The memo is what an earlier delivery left, or nothing.
 pub fn deliver<F: Files>(
     alloc: Global,
     files: &mut F,
+    memo: &mut Memo,
     now: u64,
     sender: &[u8],
     recipient: &[u8],
@@ -53,13 +54,14 @@ pub fn deliver<F: Files>(
     ensures names { NamesDamaged ⟦<F as Files>⟧ (λ name. is_of_acts name ≡ true) (IsDamaged (F.map files.old)) result }
     ensures reads { IsReading ⟦<F as Files>⟧ files.old files.new result }
 {
-    guarded(delivered(alloc, files, now, sender, recipient, message))
+    guarded(delivered(alloc, files, memo, now, sender, recipient, message))
 }
 
 // Reads the configuration first.
 fn delivered<F: Files>(
     alloc: Global,
     files: &mut F,
+    memo: &mut Memo,
     now: u64,
     sender: &[u8],
     recipient: &[u8],
@@ -75,13 +77,14 @@ fn delivered<F: Files>(
     ensures reads { IsReading ⟦<F as Files>⟧ files.old files.new result }
 {
     let config = configuration(alloc, files)?;
-    unless_worn(alloc, files, &config, now, sender, recipient, message)
+    unless_worn(alloc, files, memo, &config, now, sender, recipient, message)
 }
 
 // Looks whether ids and tickets are left.
 fn unless_worn<F: Files>(
     alloc: Global,
     files: &mut F,
+    memo: &mut Memo,
     config: &Config,
     now: u64,
     sender: &[u8],
@@ -102,7 +105,7 @@ fn unless_worn<F: Files>(
     if is_worn(alloc, files)? {
         return Ok((Txn::new(alloc), plain(Reply::FULL)));
     }
-    by_recipient(alloc, files, config, now, sender, recipient, message)
+    by_recipient(alloc, files, memo, config, now, sender, recipient, message)
 }
 
 // The configuration. Who asks has looked at its file; where it isn't there, there is no memory.
@@ -124,6 +127,7 @@ pub(crate) fn configuration<F: Files>(alloc: Global, files: &mut F) -> Result<Co
 fn by_recipient<F: Files>(
     alloc: Global,
     files: &mut F,
+    memo: &mut Memo,
     config: &Config,
     now: u64,
     sender: &[u8],
@@ -147,7 +151,7 @@ fn by_recipient<F: Files>(
         return Ok((Txn::new(alloc), plain(Reply::NOTOURS)));
     };
     by_request(
-        alloc, files, config, now, sender, recipient, &request, message,
+        alloc, files, memo, config, now, sender, recipient, &request, message,
     )
 }
 
@@ -155,6 +159,7 @@ fn by_recipient<F: Files>(
 fn by_request<F: Files>(
     alloc: Global,
     files: &mut F,
+    memo: &mut Memo,
     config: &Config,
     now: u64,
     sender: &[u8],
@@ -176,7 +181,7 @@ fn by_request<F: Files>(
     ensures reads { IsReading ⟦<F as Files>⟧ files.old files.new result }
 {
     match request {
-        Request::Post => post(alloc, files, config, now, sender, message),
+        Request::Post => post_with_memo(alloc, files, memo, config, now, sender, message),
         Request::Accept { ticket, cookie } => moderated(
             alloc, files, config, now, sender, message, *ticket, cookie, true,
         ),

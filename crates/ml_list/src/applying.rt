@@ -21,6 +21,7 @@ use crate::changing::{add_member, change_key, remove_member};
 use crate::floors::floor;
 use crate::rising::raise;
 use crate::slots::{Found, Known, keep, kept_reply, replies_name};
+use ml_acts::Memo;
 use ml_base::{Bytes, Files, Name, PartError, Put, Txn, copied};
 use ml_deliver::{deliver, run_timed, sent_entry};
 use ml_plain::{Act, Item, Reply};
@@ -43,11 +44,29 @@ pub fn apply<F: Files>(alloc: Global, files: F, item: &Item) -> (F, Result<(Txn,
     ensures sound { IsTrue F.tells → (q : State) → IsState (F.map files) q → IfErr result.1 (λ e. OnDamaged e (λ _. ⊥)) }
     ensures reads { IsReading ⟦<F as Files>⟧ files result.0 result.1 }
 {
+    apply_with_memo(alloc, files, &mut Memo::new(), item)
+}
+
+/// What `apply` does, for one of many items: the memo is what an earlier one left, or nothing.
+pub fn apply_with_memo<F: Files>(
+    alloc: Global,
+    files: F,
+    memo: &mut Memo,
+    item: &Item,
+) -> (F, Result<(Txn, Reply), PartError>)
+    requires item { IsItem item.now }
+    ensures value { IsTrue F.tells → IfOk result.1 (λ done. (q : State) → IsState (F.map files) q → Does (F.map files) done (step q item.now)) }
+    ensures reply { IfOk result.1 (λ done. IsTrue (is_code done.1.code)) }
+    ensures files { IfOk result.1 (λ done. IsTrue (are_files done.0)) }
+    ensures names { NamesDamaged ⟦<F as Files>⟧ (λ name. may_read item.now name ≡ true) (IsDamaged (F.map files)) result.1 }
+    ensures sound { IsTrue F.tells → (q : State) → IsState (F.map files) q → IfErr result.1 (λ e. OnDamaged e (λ _. ⊥)) }
+    ensures reads { IsReading ⟦<F as Files>⟧ files result.0 result.1 }
+{
     let mut files = files;
     match look_up(alloc, &mut files, item.number) {
         Err(error) => (files, Err(error)),
         Ok(Lookup::Answered(reply)) => (files, Ok((Txn::new(alloc), reply))),
-        Ok(Lookup::New(known)) => count(alloc, files, item, known),
+        Ok(Lookup::New(known)) => count(alloc, files, memo, item, known),
     }
 }
 
@@ -110,6 +129,7 @@ fn stale() -> Reply
 fn count<F: Files>(
     alloc: Global,
     files: F,
+    memo: &mut Memo,
     item: &Item,
     known: Known,
 ) -> (F, Result<(Txn, Reply), PartError>)
@@ -122,7 +142,7 @@ fn count<F: Files>(
     ensures names { NamesDamaged ⟦<F as Files>⟧ (λ name. is_read_by item.now.act name ≡ true) (IsDamaged (F.map files)) result.1 }
     ensures reads { IsReading ⟦<F as Files>⟧ files result.0 result.1 }
 {
-    let (files, answer) = effect(alloc, files, item, &known);
+    let (files, answer) = effect(alloc, files, memo, item, &known);
     match answer {
         Ok((txn, reply)) => {
             let kept = with_reply_kept(alloc, known.file, item.number, txn, reply);
@@ -136,6 +156,7 @@ fn count<F: Files>(
 fn effect<F: Files>(
     alloc: Global,
     files: F,
+    memo: &mut Memo,
     item: &Item,
     known: &Known,
 ) -> (F, Result<(Txn, Reply), PartError>)
@@ -152,7 +173,7 @@ fn effect<F: Files>(
         Act::Timed => run_timed(alloc, files, item.moment),
         _ => {
             let mut files = files;
-            let answer = change(alloc, &mut files, item, known);
+            let answer = change(alloc, &mut files, memo, item, known);
             (files, answer)
         }
     }
@@ -162,6 +183,7 @@ fn effect<F: Files>(
 fn change<F: Files>(
     alloc: Global,
     files: &mut F,
+    memo: &mut Memo,
     item: &Item,
     known: &Known,
 ) -> Result<(Txn, Reply), PartError>
@@ -182,6 +204,7 @@ fn change<F: Files>(
         } => deliver(
             alloc,
             files,
+            memo,
             item.moment,
             sender.as_slice(),
             recipient.as_slice(),

@@ -9,7 +9,7 @@ mod loading;
 mod rising;
 mod slots;
 
-pub use applying::apply;
+pub use applying::{apply, apply_with_memo};
 pub use floors::floor;
 pub use laws::law_damage;
 pub use loading::load;

@@ -1,6 +1,6 @@
 -- A post in the archive and in the queue.
 use Rattle.std.proofs.Common.{◌≡◌, ◌⊎◌, inl, inr, ◌<◌, ◌+◌, ◌/◌, ℕ, Bool, true, false, eqb, leb, ◌&&◌, ◌||◌, not, List, [], ◌∷◌, ◌++◌, length, length-append, Option, refl, sym, ap, ◌∙◌, subst, arith}
-use Rattle.std.proofs.lemmas.Bool.{or_cases, or_left, or_right, eqb-true, lt-leb, le-leb}
+use Rattle.std.proofs.lemmas.Bool.{or_cases, eqb-true, lt-leb, le-leb}
 use Rattle.ml_base.specs.Bytes.{Text}
 use Rattle.ml_base.specs.Dir.{Dir, with_puts, touches_only}
 use Rattle.ml_base.specs.declared.names.Name.{Name}
@@ -23,9 +23,7 @@ use Rattle.ml_plain.specs.Mailing.{post_path, send}
 use Rattle.ml_plain.specs.Plain.{Plain, addresses, is_archive_full}
 use Rattle.ml_plain.specs.Posting.{sent_text, with_text}
 use Rattle.ml_plain.proofs.PartChanges.{posts_changed}
-use Rattle.ml_address.specs.declared.Path.{Path}
-use Rattle.ml_subs.specs.Subscribers.{is_of_set}
-use Rattle.ml_acts.specs.Doing.{Alike, is_of_queue, is_with_queue}
+use Rattle.ml_acts.specs.Doing.{Alike, is_with_queue}
 use Rattle.ml_post.specs.Publishing.{Publishes, is_beside_held, is_published_by}
 
 -- a name of a kind is of no file that a mail to a set needs, where no name of that kind is
@@ -159,16 +157,6 @@ mailed_behind old dir p c number text txn mail done alike only same e mails is =
     subst (λ (d : Config). IsList (with_puts dir done) (send (post_path d number) text (addresses p sets.List) p)) (sym same)
     (subst (λ (d : Dir). IsList d (send (post_path c number) text (addresses p sets.List) p)) (sym (ap (λ (t : List Put). with_puts dir t) e ∙ laid_joined dir txn mail))
     (mails (with_puts dir txn) p (λ name needs. left_alone is_of_archive dir txn name only (needs_no_post name needs) ∙ alike name needs) is same))
-
--- a text that goes to the set list
-pub mails : (old new dir : Dir) (p : Plain) (c : Config) (n : ℕ) (text : Text) (way : Path) (to : List Text) (txn : List Put) → new ≡ old → way ≡ post_path c n
-    → ((dir : Dir) (p : Plain) → Alike (is_of_set sets.List) old dir → IsList dir p → to ≡ addresses p sets.List)
-    → ((dir : Dir) (p : Plain) → Alike is_of_queue new dir → IsList dir p → IsList (with_puts dir txn) (send way text to p))
-    → Alike (is_with_queue sets.List) old dir → IsList dir p → IsList (with_puts dir txn) (send (post_path c n) text (addresses p sets.List) p)
-mails old new dir p c n text way to txn kept path members puts alike is =
-    subst (λ (q : Plain). IsList (with_puts dir txn) q)
-    (ap (λ (w : Path). send w text to p) path ∙ ap (λ (t : List Text). send (post_path c n) text t p) (members dir p (λ name e. alike name (or_right (is_of_queue name) (is_of_set sets.List name) e)) is))
-    (puts dir p (λ name e. alike name (or_left (is_of_queue name) (is_of_set sets.List name) e) ∙ sym (ap (λ (d : Dir). d name) kept)) is)
 
 -- what appending says, of the same files, prefix, text and answer in other words
 module _ (now : ℕ) (sender : Text) where

@@ -22,7 +22,7 @@ ghost use Rattle.ml_post.specs.Answering.{is_accepted_by, is_answered_by, is_fol
 use crate::holding::list_keys;
 use crate::posting::{plain, posted};
 use crate::publishing::publish;
-use ml_acts::{is_cookie, with_mail};
+use ml_acts::{Memo, is_cookie, with_mail};
 use ml_archive::Appended;
 use ml_base::{Bytes, Files, PartError, Set, Txn, write_number};
 use ml_config::{Config, Keys};
@@ -170,7 +170,9 @@ fn accepted<F: Files>(
     ensures reads { IsReading ⟦<F as Files>⟧ files.old files.new result }
 {
     let message = held.message.as_slice();
-    match publish(alloc, files, config, now, &held.sender, message)? {
+    let sender = &held.sender;
+    let answer = publish(alloc, files, &mut Memo::new(), config, now, sender, message)?;
+    match answer {
         Appended::Full => Ok((Txn::new(alloc), plain(Reply::FULL))),
         Appended::At(number, more) => {
             let mut txn = taken(alloc, files, ticket)?;

@@ -12,5 +12,5 @@ mod verdicts;
 
 pub use answering::answer;
 pub use judging::verdict;
-pub use posting::post;
+pub use posting::{post, post_with_memo};
 pub use verdicts::Verdict;

@@ -23,6 +23,7 @@ use crate::holding::hold_post;
 use crate::judging::usable;
 use crate::publishing::publish;
 use crate::{Verdict, verdict};
+use ml_acts::Memo;
 use ml_archive::Appended;
 use ml_base::{Files, PartError, Txn};
 use ml_config::Config;
@@ -54,13 +55,15 @@ pub fn post<F: Files>(
     ensures sound { IsTrue F.tells → (p : Plain) → IsList (F.map files.old) p → IfErr result (λ e. OnDamaged e (λ _. ⊥)) }
     ensures reads { IsReading ⟦<F as Files>⟧ files.old files.new result }
 {
-    by_verdict(alloc, files, config, now, sender, message)
+    let mut memo = Memo::new();
+    post_with_memo(alloc, files, &mut memo, config, now, sender, message)
 }
 
-// What is found of the message decides.
-fn by_verdict<F: Files>(
+/// What `post` does, for one of many posts: the memo is what an earlier one left, or nothing.
+pub fn post_with_memo<F: Files>(
     alloc: Global,
     files: &mut F,
+    memo: &mut Memo,
     config: &Config,
     now: u64,
     sender: &[u8],
@@ -81,7 +84,7 @@ fn by_verdict<F: Files>(
     match follows(found) {
         Fate::Refused(reply) => Ok((Txn::new(alloc), reply)),
         Fate::Held => hold_message(alloc, files, config, now, sender, message),
-        Fate::Posted => post_message(alloc, files, config, now, sender, message),
+        Fate::Posted => post_message(alloc, files, memo, config, now, sender, message),
     }
 }
 
@@ -142,6 +145,7 @@ fn hold_message<F: Files>(
 fn post_message<F: Files>(
     alloc: Global,
     files: &mut F,
+    memo: &mut Memo,
     config: &Config,
     now: u64,
     sender: &[u8],
@@ -159,7 +163,7 @@ fn post_message<F: Files>(
     let Some(who) = usable(alloc, sender)? else {
         return Ok((Txn::new(alloc), plain(Reply::NOSENDER)));
     };
-    let answer = publish(alloc, files, config, now, &who, message)?;
+    let answer = publish(alloc, files, memo, config, now, &who, message)?;
     Ok(done_by(alloc, answer))
 }
 

@@ -16,9 +16,9 @@ ghost use Rattle.ml_acts.specs.Doing.{Alike, HasIds, is_mailed_by, is_of_queue, 
 ghost use Rattle.ml_post.specs.Publishing.{Publishes, is_beside_held, is_published_by, number_of};
 
 use crate::sending::sent_text;
-use ml_acts::{post_path, recipients, send};
+use ml_acts::{Memo, post_path, send_to_list};
 use ml_archive::{Appended, append, count};
-use ml_base::{Address, Bytes, Files, LAST_POST_NUMBER, PartError, Set, Txn};
+use ml_base::{Address, Bytes, Files, LAST_POST_NUMBER, PartError, Txn};
 use ml_config::Config;
 use ml_header::Message;
 use std::alloc::{AllocError, Global};
@@ -30,6 +30,7 @@ const TOO_LONG: u64 = 4_294_967_296;
 pub(crate) fn publish<F: Files>(
     alloc: Global,
     files: &mut F,
+    memo: &mut Memo,
     config: &Config,
     now: u64,
     sender: &Address,
@@ -53,7 +54,7 @@ pub(crate) fn publish<F: Files>(
     match append(alloc, files, prefix, sender, now, text.as_slice())? {
         Appended::Full => Ok(Appended::Full),
         Appended::At(_, txn) => {
-            let txn = with_mail(alloc, files, config, count + 1, text, txn)?;
+            let txn = with_mail(alloc, files, memo, config, count + 1, text, txn)?;
             Ok(Appended::At(count + 1, txn))
         }
     }
@@ -63,6 +64,7 @@ pub(crate) fn publish<F: Files>(
 fn with_mail<F: Files>(
     alloc: Global,
     files: &mut F,
+    memo: &mut Memo,
     config: &Config,
     number: u64,
     text: Bytes,
@@ -77,7 +79,7 @@ fn with_mail<F: Files>(
     ensures names { NamesDamaged ⟦<F as Files>⟧ (λ name. is_mailed_by sets.List name ≡ true) (IsDamaged (F.map files.old)) result }
     ensures reads { IsReading ⟦<F as Files>⟧ files.old files.new result }
 {
-    let mail = mail_members(alloc, files, config, number, text)?;
+    let mail = mail_members(alloc, files, memo, config, number, text)?;
     let mut txn = txn;
     txn.join(mail)?;
     Ok(txn)
@@ -99,6 +101,7 @@ fn text_to_send(alloc: Global, config: &Config, message: &[u8]) -> Result<Bytes,
 fn mail_members<F: Files>(
     alloc: Global,
     files: &mut F,
+    memo: &mut Memo,
     config: &Config,
     number: u64,
     text: Bytes,
@@ -110,7 +113,6 @@ fn mail_members<F: Files>(
     ensures names { NamesDamaged ⟦<F as Files>⟧ (λ name. is_mailed_by sets.List name ≡ true) (IsDamaged (F.map files.old)) result }
     ensures reads { IsReading ⟦<F as Files>⟧ files.old files.new result }
 {
-    let to = recipients(alloc, files, Set::List)?;
     let path = post_path(alloc, config, number)?;
-    send(alloc, files, path, text, to)
+    send_to_list(alloc, files, memo, path, text)
 }

@@ -18,6 +18,7 @@ ghost use Rattle.ml_run.specs.declared.groups.GroupEnd.TheVariants.{Full};
 
 use crate::adding::add_item;
 use crate::groups::{Group, GroupEnd, MAX_ITEMS, MAX_SIZE};
+use ml_acts::Memo;
 use ml_ending::Why;
 use ml_journal::Store;
 use ml_site::{Site, Source};
@@ -32,6 +33,7 @@ pub(crate) fn gather<I: Source, S: Site>(
     input: &mut I,
     reader: &mut Items,
     store: Store<S>,
+    memo: &mut Memo,
     group: Group,
 ) -> (Store<S>, Group, GroupEnd)
     requires sound { error_of reader.old ≡ None }
@@ -69,7 +71,7 @@ pub(crate) fn gather<I: Source, S: Site>(
         let Some(item) = found else {
             return (store, group, GroupEnd::Last);
         };
-        let (read, more, added) = add_item(alloc, store, group, &item);
+        let (read, more, added) = add_item(alloc, store, memo, group, &item);
         store = read;
         group = more;
         if let Err(why) = added {

@@ -1,11 +1,12 @@
 -- A set of subscribers, spread over 53 files and a count.
-use Rattle.std.specs.Prelude.{◌≡◌, ◌≢◌, ◌<◌, ◌≤◌, ℕ, Bool, true, false, ◌&&◌, ◌||◌, ◌==◌, nat_lt, List, [], ◌∷◌, ◌++◌, length, Option, Some, None, ◌⊎◌, slice_index_or}
+use Rattle.std.specs.Prelude.{◌≡◌, ◌≢◌, ◌<◌, ◌≤◌, ℕ, Bool, true, false, ◌&&◌, ◌||◌, ◌==◌, nat_lt, List, [], ◌∷◌, ◌++◌, length, map, Option, Some, None, ◌⊎◌, slice_index_or}
 use Rattle.std.specs.Fmt.{decimal}
 use Rattle.ml_base.specs.Bytes.{Text}
 use Rattle.ml_base.specs.Dir.{Dir, same_name}
 use Rattle.ml_base.specs.Name.{set_kind, set_number}
 use Rattle.ml_base.specs.declared.names.Name.{Name}
 use Rattle.ml_base.specs.declared.names.Set.{Set}
+use Rattle.ml_subs.specs.declared.lists.Spelling.{Spelling}
 use Rattle.ml_subs.specs.declared.member_list.Member.{Member}
 use Rattle.ml_subs.specs.Members.{member_of, has_key, IsOrdered}
 use Rattle.ml_subs.specs.Buckets.{bucket_of, IsBucketFile}
@@ -66,6 +67,13 @@ pub record AreFiles (dir : Dir) (set : Set) (count : ℕ) (texts : List (Option 
 -- a count's file that spells no number from a least one to 100,000
 abbrev pub IsNoCount : Dir → Set → ℕ → Type 0
 IsNoCount dir set least = (n : ℕ) → least ≤ n → n ≤ 100_000 → dir (count_name set) ≢ Some (count_text n)
+
+-- a set's 53 files as they read, with the addresses of the members that they spell
+pub record IsSpelled (set : Set) (now : Spelling) : Type 0 where
+  pub count : length now.texts ≡ 53
+  pub members : List Member
+  pub joined : AreJoined (file_in now.texts) set members
+  pub addresses : now.addresses ≡ map (λ m. m.who) members
 
 -- how many a set's members are at least, where it has a key, or where it hasn't
 abbrev pub least_count : Bool → ℕ

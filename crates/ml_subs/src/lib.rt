@@ -19,6 +19,6 @@ pub use audits::audit;
 pub use changing::AddAnswer;
 pub use hashing::bucket;
 pub use laws::{law_changes, law_order, law_sets};
-pub use lists::{all, members};
+pub use lists::{Spelling, all, all_again, members};
 pub use member_list::{Member, MemberList};
 pub use sets::{add, find, member, remove, size};

@@ -1,5 +1,5 @@
 // All members of a set, in the order of their keys.
-ghost use Rattle.std.specs.Prelude.{◌≡◌, ◌<◌, ◌≤◌, ◌++◌, [], map, true, false, List, ℕ, Bool, Option, Some, None, IsTrue, IfOk, IfErr, OnOk, IsErrOf, length};
+ghost use Rattle.std.specs.Prelude.{◌≡◌, ◌<◌, ◌≤◌, ◌++◌, [], map, true, false, List, ℕ, Bool, Option, Some, None, IsTrue, IfOk, IfErr, IfSome, OnOk, IsErrOf, length};
 ghost use Rattle.std.specs.List.Sorted.{IsPermutation, IsSortedByKey};
 ghost use Rattle.ml_base.specs.Address.{key};
 ghost use Rattle.ml_base.specs.Sorted.{byte_cmp, is_sorted};
@@ -9,7 +9,7 @@ ghost use Rattle.ml_base.specs.ReadFiles.{IsReading, NamesDamaged};
 ghost use Rattle.ml_subs.specs.declared.member_list.Member.{Member};
 ghost use Rattle.ml_subs.specs.Members.{member_key, IsOrdered};
 ghost use Rattle.ml_subs.specs.Buckets.{IsBucketFile};
-ghost use Rattle.ml_subs.specs.Subscribers.{AreSubscribers, AreJoined, AreBuckets, AreFiles, file_in, IsBucketName, IsBadBucket};
+ghost use Rattle.ml_subs.specs.Subscribers.{AreSubscribers, AreJoined, AreBuckets, AreFiles, IsSpelled, file_in, IsBucketName, IsBadBucket};
 ghost use Rattle.ml_subs.specs.Reading.{AreRead, gathered, AreAdded};
 
 use crate::keyed::Keyed;
@@ -159,6 +159,84 @@ fn addresses_of(alloc: Global, list: MemberList) -> Result<AddressList, AllocErr
         addresses.push(member.who)?;
     }
     Ok(Row::from_vec(addresses))
+}
+
+// Whether two files have the same bytes, or both aren't there.
+fn is_same(one: &Option<Bytes>, other: &Option<Bytes>) -> bool
+    ensures { IsTrue result → one.now ≡ other.now }
+{
+    match (one, other) {
+        (Some(one), Some(other)) => one.as_slice() == other.as_slice(),
+        (None, None) => true,
+        _ => false,
+    }
+}
+
+// Whether so many files have the same bytes as others.
+fn are_same(one: &[Option<Bytes>], other: &[Option<Bytes>]) -> bool
+    ensures { IsTrue result → one.now ≡ other.now }
+{
+    match (one, other) {
+        ([], []) => true,
+        ([file, rest @ ..], [before, others @ ..]) => {
+            is_same(file, before) && are_same(rest, others)
+        }
+        _ => false,
+    }
+}
+
+/// The files of a set's buckets, and the addresses that they spell.
+#[derive(Drop)]
+pub struct Spelling {
+    /// The bytes of the 53 files, None where one isn't there.
+    pub texts: Row<Option<Bytes>>,
+    /// The addresses, in ascending order of key.
+    pub addresses: AddressList,
+}
+
+// The files of a set's buckets with the addresses that they spell. Where they read as they did before, what they spelled then is taken.
+fn spelled_again<F: Files>(
+    alloc: Global,
+    files: &mut F,
+    set: Set,
+    before: Option<Spelling>,
+) -> Result<Spelling, PartError>
+    requires before { IfSome before (IsSpelled set) }
+    ensures spelled { IfOk result (IsSpelled set) }
+    ensures files { IsTrue F.tells → IfOk result (λ now. AreFiles (F.map files.old) set 53 now.texts) }
+    ensures names { NamesDamaged ⟦<F as Files>⟧ (IsBucketName set) (IsBadBucket (F.map files.old) set) result }
+    ensures sound { IsTrue F.tells → (ms : List Member) → AreSubscribers (F.map files.old) set ms → IfErr result (λ e. OnDamaged e (λ _. ⊥)) }
+    ensures reads { IsReading ⟦<F as Files>⟧ files.old files.new result }
+{
+    let texts = read_files(alloc, files, set)?;
+    if let Some(before) = before {
+        if are_same(texts.as_slice(), before.texts.as_slice()) {
+            return Ok(before);
+        }
+    }
+    let list = sorted_members(alloc, set, &texts)?;
+    let addresses = addresses_of(alloc, list)?;
+    Ok(Spelling { texts, addresses })
+}
+
+/// The addresses of a set's members, in ascending order of key, with the files that spell them. It reads the set's 53 files and not its
+/// count. Where they read as they did before, it takes what they spelled then.
+pub fn all_again<F: Files>(
+    alloc: Global,
+    files: &mut F,
+    set: Set,
+    before: Option<Spelling>,
+) -> Result<Spelling, PartError>
+    requires before { IfSome before (IsSpelled set) }
+    ensures spelled { IfOk result (IsSpelled set) }
+    ensures files { IsTrue F.tells → IfOk result (λ now. AreFiles (F.map files.old) set 53 now.texts) }
+    ensures value { IsTrue F.tells → IfOk result (λ now. (ms : List Member) → AreSubscribers (F.map files.old) set ms → now.addresses ≡ map (λ m. m.who) ms) }
+    ensures sorted { IfOk result (λ now. is_sorted byte_cmp key now.addresses ≡ true) }
+    ensures names { NamesDamaged ⟦<F as Files>⟧ (IsBucketName set) (IsBadBucket (F.map files.old) set) result }
+    ensures sound { IsTrue F.tells → (ms : List Member) → AreSubscribers (F.map files.old) set ms → IfErr result (λ e. OnDamaged e (λ _. ⊥)) }
+    ensures reads { IsReading ⟦<F as Files>⟧ files.old files.new result }
+{
+    spelled_again(alloc, files, set, before)
 }
 
 /// The addresses of a set's members, in ascending order of key. It reads the set's 53 files and not its count.

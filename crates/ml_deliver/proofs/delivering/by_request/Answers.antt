@@ -20,9 +20,9 @@ manage-requires g c = record {
 
 pub returns-in-Post-clause-value : goal.returns-in-Post-clause-value
 returns-in-Post-clause-value g c told =
-    IfOk-weaker c.post.result _ _
+    IfOk-weaker c.post_with_memo.result _ _
     (λ done does p is same. does_so (g.F.Files.map c.args.files.now) done _ _ (ap (λ (r : Request). spec.by_request c.args.now c.args.sender.now c.args.message.now p (request_view r)) c.in-Post.is) (does p is same))
-    (c.post.ensures.value told)
+    (c.post_with_memo.ensures.value told)
 
 pub returns-in-Accept-clause-value : goal.returns-in-Accept-clause-value
 returns-in-Accept-clause-value g c told =

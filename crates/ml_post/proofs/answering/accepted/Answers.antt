@@ -17,7 +17,7 @@ pub returns-in_ok-join-in-At-clause-own : goal.returns-in_ok-join-in-At-clause-o
 returns-in_ok-join-in-At-clause-own g c =
     ap (touches_only is_of_list) c.in_ok-join-in-At.ensures.ok
     ∙ touches_both is_of_list c.in_ok-txn-in-At.txn c.in-At.more (touches_weaker (λ name. held_kinds name.kind) is_of_list c.in_ok-txn-in-At.txn held_listed c.in_ok-txn-in-At.ensures.own)
-    (subst (λ (a : Appended). touches_only is_of_list (puts_of a) ≡ true) c.in-At.is c.in_ok-publish.ensures.own)
+    (subst (λ (a : Appended). touches_only is_of_list (puts_of a) ≡ true) c.in-At.is c.in_ok-answer.ensures.own)
 
 pub returns-in_ok-join-in-At-clause-value : goal.returns-in_ok-join-in-At-clause-value
 returns-in_ok-join-in-At-clause-value g c told p is same found =
@@ -28,7 +28,7 @@ returns-in_ok-join-in-At-clause-value g c told p is same found =
     let after : Plain = record p { held = without_ticket c.args.ticket p.held } in
     let stands =
     subst (λ (d : Dir). IsList (with_puts d txn) after) kept (c.in_ok-txn-in-At.ensures.value told p held (subst (λ (d : Dir). IsList d p) (sym kept) is) found) in
-    let posted = c.in_ok-publish.ensures.value told (with_puts dir txn) after (beside_held dir txn c.in_ok-txn-in-At.ensures.own) stands same in
+    let posted = c.in_ok-answer.ensures.value told (with_puts dir txn) after (beside_held dir txn c.in_ok-txn-in-At.ensures.own) stands same in
     accepts dir p c.args.now c.args.ticket held c.in-At.number txn c.in-At.more (c.join.new.self, c.posted.result)
     (subst (λ (m : Text). Publishes (with_puts dir txn) c.args.now held.sender m after (At c.in-At.number c.in-At.more)) c.as_slice-message.ensures
     (subst (λ (a : Appended). Publishes (with_puts dir txn) c.args.now held.sender c.as_slice-message.result.now after a) c.in-At.is posted))

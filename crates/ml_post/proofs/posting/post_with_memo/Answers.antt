@@ -16,7 +16,7 @@ use Rattle.ml_post.specs.Posting.{is_posted_by}
 use Rattle.ml_post.specs.Publishing.{is_published_by}
 use Rattle.ml_post.proofs.Damages.{ok_then}
 use Rattle.ml_post.proofs.Fates.{follows_held, follows_posted}
-use Rattle.ml_post.proofs.posting.by_verdict.Goals as goal
+use Rattle.ml_post.proofs.posting.post_with_memo.Goals as goal
 
 pub returns-in-Held-clause-value : goal.returns-in-Held-clause-value
 returns-in-Held-clause-value g c told =

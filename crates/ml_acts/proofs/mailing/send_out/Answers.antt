@@ -1,9 +1,9 @@
 use Rattle.ml_acts.proofs.Queued.{drawn_up, queue_own, sent}
-use Rattle.ml_acts.proofs.mailing.send.Goals as goal
+use Rattle.ml_acts.proofs.mailing.send_out.Goals as goal
 
 pub returns-clause-value : goal.returns-clause-value
 returns-clause-value g c told dir p alike is =
-    sent (g.F.Files.map c.args.files.now) dir (record { path = c.args.way; body = c.args.body; to = c.args.to }) c.in_ok-txn.txn p c.in_ok-txn.ensures.others (λ queue stands. (c.in_ok-txn.ensures.value told queue stands).1) alike is
+    sent (g.F.Files.map c.args.files.now) dir c.args.out.now c.in_ok-txn.txn p c.in_ok-txn.ensures.others (λ queue stands. (c.in_ok-txn.ensures.value told queue stands).1) alike is
 
 pub returns-clause-own : goal.returns-clause-own
 returns-clause-own g c = queue_own c.in_ok-txn.txn c.in_ok-txn.ensures.others

@@ -1,0 +1,93 @@
+// Mail to the members of the set list, who are seldom others than they were at the mail before.
+ghost use Rattle.std.specs.Prelude.{◌≡◌, true, IsTrue, IfOk, IfSome};
+ghost use Rattle.ml_base.specs.Address.{key};
+ghost use Rattle.ml_base.specs.Dir.{Dir, are_files, touches_only, with_puts};
+ghost use Rattle.ml_base.specs.ReadFiles.{IsReading, NamesDamaged};
+ghost use Rattle.ml_base.specs.Sorted.{byte_cmp, is_sorted};
+ghost use Rattle.ml_base.specs.declared.names.Set.TheVariants as sets;
+ghost use Rattle.ml_plain.specs.Directory.{IsList};
+ghost use Rattle.ml_plain.specs.Mailing as spec;
+ghost use Rattle.ml_plain.specs.Plain.{Plain, addresses};
+ghost use Rattle.ml_subs.specs.Subscribers.{IsSpelled, is_of_set};
+ghost use Rattle.ml_acts.specs.Damaged.{IsDamaged};
+ghost use Rattle.ml_acts.specs.Doing.{Alike, HasIds, is_bucket, is_mailed_by, is_of_queue, is_with_queue};
+
+use crate::mailing::send_out;
+use ml_address::Path;
+use ml_base::{Bytes, Files, PartError, Set, Txn};
+use ml_queue::Out;
+use ml_subs::{Spelling, all_again};
+use std::alloc::Global;
+use std::marker::Model;
+
+/// The files of the set list as they read when a mail last went to its members, and the addresses that they spell: while they read so, these
+/// are neither checked nor sorted again. No answer shows what it holds.
+#[derive(Drop)]
+pub struct Memo {
+    last: Option<Spelling>,
+}
+
+impl Model for Memo {
+    ghost use Rattle.std.specs.Prelude.{IfSome};
+    ghost use Rattle.ml_base.specs.declared.names.Set.TheVariants as sets;
+    ghost use Rattle.ml_subs.specs.Subscribers.{IsSpelled};
+
+    ghost Value = { Unit {0} };
+
+    ghost view = { λ _. tt {0} };
+
+    ghost invariant = { λ m. IfSome m.last (IsSpelled sets.List) };
+}
+
+impl Memo {
+    /// Nothing yet. It takes no memory.
+    pub fn new() -> Memo {
+        Memo { last: None }
+    }
+}
+
+// The members of the set list, as they are or as they were before, where the files read the same.
+fn members_again<F: Files>(
+    alloc: Global,
+    files: &mut F,
+    before: Option<Spelling>,
+) -> Result<Spelling, PartError>
+    requires before { IfSome before (IsSpelled sets.List) }
+    ensures spelled { IfOk result (IsSpelled sets.List) }
+    ensures value { IsTrue F.tells → IfOk result (λ now. (dir : Dir) (p : Plain) → Alike (is_of_set sets.List) (F.map files.old) dir → IsList dir p → now.addresses ≡ addresses p sets.List) }
+    ensures sorted { IfOk result (λ now. is_sorted byte_cmp key now.addresses ≡ true) }
+    ensures names { NamesDamaged ⟦<F as Files>⟧ (λ name. is_bucket sets.List name ≡ true) (IsDamaged (F.map files.old)) result }
+    ensures reads { IsReading ⟦<F as Files>⟧ files.old files.new result }
+{
+    all_again(alloc, files, Set::List, before)
+}
+
+/// Puts a body into the queue, to the members of the set list under a path: the puts that do it. It reads the set's files but for its count,
+/// and the counter of ids.
+pub fn send_to_list<F: Files>(
+    alloc: Global,
+    files: &mut F,
+    memo: &mut Memo,
+    way: Path,
+    body: Bytes,
+) -> Result<Txn, PartError>
+    requires room { IsTrue F.tells → HasIds (F.map files.now) }
+    ensures value { IsTrue F.tells → IfOk result (λ txn. (dir : Dir) (p : Plain) → Alike (is_with_queue sets.List) (F.map files.old) dir → IsList dir p → IsList (with_puts dir txn) (spec.send way body (addresses p sets.List) p)) }
+    ensures own { IfOk result (λ txn. touches_only is_of_queue txn ≡ true) }
+    ensures files { IfOk result (λ txn. IsTrue (are_files txn)) }
+    ensures names { NamesDamaged ⟦<F as Files>⟧ (λ name. is_mailed_by sets.List name ≡ true) (IsDamaged (F.map files.old)) result }
+    ensures reads { IsReading ⟦<F as Files>⟧ files.old files.new result }
+{
+    let Spelling { texts, addresses } = members_again(alloc, files, memo.last.take())?;
+    let out = Out {
+        path: way,
+        body,
+        to: addresses,
+    };
+    let sent = send_out(alloc, files, &out);
+    memo.last = Some(Spelling {
+        texts,
+        addresses: out.to,
+    });
+    sent
+}
