@@ -3,6 +3,7 @@ pub mod Orders
 pub mod Options
 pub mod Spelled
 pub mod Placed
+pub mod Known
 pub mod Rewritten
 pub mod Together
 pub mod Standing

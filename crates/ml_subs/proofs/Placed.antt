@@ -119,15 +119,15 @@ module _ (layout : Layout) (n : ℕ) (who text : Text) (size : ℕ) (skip : AreS
         all,
       )
 
-  -- and where they aren't read, nor is the whole
-  pub place_nowhere : (behind : Text) (here : Option Member) → IsSameKey layout n who (drop size text) here behind → ((ms : List Member) → AreRead layout n who behind ms → ⊥) → (all : List Member) → AreRead layout n [] text all → ⊥
-  place_nowhere behind (Some m) same none all is =
+  -- where the whole is read, so is what is behind the place
+  pub place_rest : (behind : Text) (here : Option Member) → IsSameKey layout n who (drop size text) here behind → (all : List Member) → AreRead layout n [] text all → (above : List Member) × AreRead layout n who behind above
+  place_rest behind (Some m) same all is =
       let rest = skip.leads.only all is in
       let others = read_behind layout n skip.last (drop size text) m behind rest.0 same.0 rest.2 in
-      none others.0 (same_floor layout n m.who who behind others.0 same.2 others.2)
-  place_nowhere behind None same none all is =
+      (others.0, same_floor layout n m.who who behind others.0 same.2 others.2)
+  place_rest behind None same all is =
       let rest = skip.leads.only all is in
-      none rest.0 (subst (λ t. AreRead layout n who t rest.0) (sym same.0) (go rest.0 rest.2))
+      (rest.0, subst (λ t. AreRead layout n who t rest.0) (sym same.0) (go rest.0 rest.2))
     where
       go : (ms : List Member) → AreRead layout n skip.last (drop size text) ms → AreRead layout n who (drop size text) ms
       go [] read = record { each = tt; rising = refl; spelled = read.spelled }
@@ -136,6 +136,10 @@ module _ (layout : Layout) (n : ℕ) (who text : Text) (size : ℕ) (skip : AreS
           let above = above_else m.who who (skip.stops m ms read) apart in
           let first = read_first layout n skip.last (drop size text) m ms read in
           read_more layout n who (drop size text) m (records layout ms) ms first.begins first.member above first.more
+
+  -- and where that isn't, nor is the whole
+  pub place_nowhere : (behind : Text) (here : Option Member) → IsSameKey layout n who (drop size text) here behind → ((ms : List Member) → AreRead layout n who behind ms → ⊥) → (all : List Member) → AreRead layout n [] text all → ⊥
+  place_nowhere behind here same none all is = let rest = place_rest behind here same all is in none rest.0 rest.1
 
 -- the text of a bucket by its layout
 pub layout_only : (text : Text) (layout : Layout) (body : Text) → IsFront text layout body → (n : ℕ) (ms : List Member) → IsBucket n text ms → AreRead layout n [] body ms

@@ -217,6 +217,29 @@ no_moment layout text who rest cut none m more is =
     let same : two who rest ≡ two m.who (moment_text layout m.since ++ more) = cut ∙ cut_is layout text m more is in
     none m.since more is.is.since (ap behind_at same)
 
+-- nor those of layout 2 with no NUL behind the address's
+pub no_second : (layout : Layout) (text who rest : Text) → layout ≡ Dated → two who rest ≡ split_first 0 (body text) → None ≡ split_first 0 rest → (m : Member) (more : Text) → BeginsWith layout text m more → ⊥
+no_second layout text who rest dated cut none m more is =
+    let same : two who rest ≡ two m.who (moment_text layout m.since ++ more) = cut ∙ cut_is layout text m more is in
+    no_digits layout rest dated none m.since more is.is.since (ap behind_at same)
+
+-- the address of a record, and what is behind it, by its NULs
+pub split_undated : (layout : Layout) (text who rest : Text) → layout ≡ Undated → two who rest ≡ split_first 0 (body text) → (m : Member) (more : Text) → BeginsWith layout text m more → (who ≡ m.who) × (rest ≡ more)
+split_undated Dated text who rest is cut m more begins = cc
+split_undated Undated text who rest is cut m more begins =
+    let same : two who rest ≡ two m.who more = cut ∙ cut_is Undated text m more begins in
+    (ap before_at same, ap behind_at same)
+
+pub split_dated : (layout : Layout) (text who rest digits left : Text) → layout ≡ Dated → two who rest ≡ split_first 0 (body text) → two digits left ≡ split_first 0 rest
+    → (m : Member) (more : Text) → BeginsWith layout text m more → (who ≡ m.who) × (left ≡ more)
+split_dated Undated text who rest digits left is cut second m more begins = cc
+split_dated Dated text who rest digits left is cut second m more begins =
+    let same : two who rest ≡ two m.who ((decimal m.since ++ 0 ∷ []) ++ more) = cut ∙ cut_is Dated text m more begins in
+    let moment = begins.is.since in
+    let behind : two digits left ≡ two (decimal m.since) more =
+    second ∙ ap (split_first 0) (ap behind_at same ∙ append_assoc (decimal m.since) (0 ∷ []) more) ∙ first_written 0 (decimal m.since) more (decimal_clean m.since (omega (arith, moment))) in
+    (ap before_at same, ap behind_at behind)
+
 -- what was read in turn is a record
 pub record_read : (layout : Layout) (text who rest : Text) (since : ℕ) (more : Text) → 1 ≤ length text → get_or text 0 0 ≡ 84 → two who rest ≡ split_first 0 (body text) → IsAddress who
     → IsMomentIn layout since → rest ≡ moment_text layout since ++ more → BeginsWith layout text (member_by who since) more

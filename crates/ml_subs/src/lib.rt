@@ -1,8 +1,10 @@
 //! Sets of subscribers, each spread over 53 files by a hash of the address, and kept as a list in order of key.
 #![tactic(auto)]
 
+mod again;
 mod audits;
 mod changing;
+mod checked;
 mod counts;
 mod hashing;
 mod keyed;
@@ -17,8 +19,9 @@ mod sets;
 
 pub use audits::audit;
 pub use changing::AddAnswer;
+pub use checked::Checked;
 pub use hashing::bucket;
 pub use laws::{law_changes, law_order, law_sets};
 pub use lists::{Spelling, all, all_again, members};
 pub use member_list::{Member, MemberList};
-pub use sets::{add, find, member, remove, size};
+pub use sets::{add, add_with_memo, find, member, remove, remove_with_memo, size};

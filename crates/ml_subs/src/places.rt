@@ -65,7 +65,7 @@ fn skip_lower(layout: Layout, n: u8, who: &Address, text: &[u8]) -> Option<usize
 }
 
 // The record of an address's key with which bytes begin, and what is behind it, or none and all of them.
-fn same_key<'a>(
+pub(crate) fn same_key<'a>(
     layout: Layout,
     n: u8,
     who: &Address,

@@ -6,7 +6,10 @@ use ml_base::{
     Address, Bytes, Files, Layer, MapFiles, Name, Numbers, PartError, Set, Txn, is_below,
     write_number,
 };
-use ml_subs::{AddAnswer, Member, add, all, audit, bucket, find, member, members, remove, size};
+use ml_subs::{
+    AddAnswer, Checked, Member, add, add_with_memo, all, audit, bucket, find, member, members,
+    remove, remove_with_memo, size,
+};
 use std::alloc::{AllocError, Global};
 use std::collections::BTreeMap;
 use std::process::Abort;
@@ -46,7 +49,24 @@ fn text<F: Files>(alloc: Global, files: &mut F, name: Name) -> Result<Bytes, Fai
     }
 }
 
-// What adding an address to the set list answers, or removing it: the puts, or a word.
+// The puts of an answer to a removal, or a word.
+fn removed(answer: Option<Txn>) -> Result<Txn, &'static [u8]> {
+    match answer {
+        Some(txn) => Ok(txn),
+        None => Err(b"absent"),
+    }
+}
+
+// The puts of an answer to an addition, or a word.
+fn added(answer: AddAnswer) -> Result<Txn, &'static [u8]> {
+    match answer {
+        AddAnswer::Added(txn) => Ok(txn),
+        AddAnswer::Already => Err(b"already"),
+        AddAnswer::Full => Err(b"full"),
+    }
+}
+
+// What adding an address to the set list answers, or removing it.
 fn change(
     alloc: Global,
     files: &mut MapFiles,
@@ -54,28 +74,36 @@ fn change(
     text: &[u8],
 ) -> Result<Result<Txn, &'static [u8]>, Fail> {
     let who = Address::parse(alloc, text)?;
-    if !adds {
-        return match remove(alloc, files, Set::List, &who)? {
-            Some(txn) => Ok(Ok(txn)),
-            None => Ok(Err(b"absent")),
-        };
+    if adds {
+        return Ok(added(add(alloc, files, Set::List, &who, NOW)?));
     }
-    match add(alloc, files, Set::List, &who, NOW)? {
-        AddAnswer::Added(txn) => Ok(Ok(txn)),
-        AddAnswer::Already => Ok(Err(b"already")),
-        AddAnswer::Full => Ok(Err(b"full")),
+    Ok(removed(remove(alloc, files, Set::List, &who)?))
+}
+
+// What it answers with what earlier changes left.
+fn change_with_memo(
+    alloc: Global,
+    files: &mut MapFiles,
+    memo: &mut Checked,
+    adds: bool,
+    text: &[u8],
+) -> Result<Result<Txn, &'static [u8]>, Fail> {
+    let who = Address::parse(alloc, text)?;
+    if adds {
+        let answer = add_with_memo(alloc, files, memo, Set::List, &who, NOW)?;
+        return Ok(added(answer));
     }
+    let answer = remove_with_memo(alloc, files, memo, Set::List, &who)?;
+    Ok(removed(answer))
 }
 
 // The bucket and the count after a change, by which the files stand for a list, or the word that it answers.
 fn changed(
     alloc: Global,
-    before: [&[u8]; 3],
-    adds: bool,
-    who: &[u8],
+    files: MapFiles,
+    answer: Result<Txn, &'static [u8]>,
 ) -> Result<(Bytes, Bytes), Fail> {
-    let mut files = files(alloc, before, &[])?;
-    match change(alloc, &mut files, adds, who)? {
+    match answer {
         Ok(txn) => {
             let mut laid = Layer::new(files, txn);
             audit(alloc, &mut laid)?;
@@ -132,10 +160,54 @@ fn changes_sets(rt: HostRuntime) -> Result<(), Fail> {
             [b"layout 2\nTa@b\x000\x00", b"1\n"],
         ),
     ];
+    let mut memo = Checked::new(alloc);
     for (before, adds, who, after) in rows {
-        let (bucket, count) = changed(alloc, before, adds, who)?;
+        let mut plain = files(alloc, before, &[])?;
+        let answer = change(alloc, &mut plain, adds, who)?;
+        let (bucket, count) = changed(alloc, plain, answer)?;
         assert_eq!(rt; bucket.as_slice(), after[0], "{who:?}");
         assert_eq!(rt; count.as_slice(), after[1], "{who:?}");
+        for _ in 0..2 {
+            let mut again = files(alloc, before, &[])?;
+            let answer = change_with_memo(alloc, &mut again, &mut memo, adds, who)?;
+            let (bucket, count) = changed(alloc, again, answer)?;
+            assert_eq!(rt; bucket.as_slice(), after[0], "{who:?}");
+            assert_eq!(rt; count.as_slice(), after[1], "{who:?}");
+        }
+    }
+    Ok(())
+}
+
+// What adding `a@5` answers with a memo, where the bucket is this: a word, or `damaged`.
+fn word_with_memo(alloc: Global, memo: &mut Checked, bucket: &[u8]) -> Result<&'static [u8], Fail> {
+    let mut files = files(alloc, [bucket, b"-", b"2\n"], &[])?;
+    let who = Address::parse(alloc, b"a@5")?;
+    match add_with_memo(alloc, &mut files, memo, Set::List, &who, NOW) {
+        Ok(answer) => Ok(added(answer).err().unwrap_or(b"added")),
+        Err(PartError::Damaged(name)) if name == BUCKET => Ok(b"damaged"),
+        Err(error) => Err(error.into()),
+    }
+}
+
+#[test]
+fn checks_a_bucket_that_a_memo_has_not(rt: HostRuntime) -> Result<(), Fail> {
+    let alloc = rt.alloc();
+    let mut memo = Checked::new(alloc);
+    let rows: [(&[u8], &[u8]); 7] = [
+        (b"Ta@5\x00Ta@b\x00", b"already"),
+        (b"Ta@5\x00Ta@B\x00", b"damaged"),
+        (b"Ta@5\x00Ta@b\x00", b"already"),
+        (b"Ta@b\x00Ta@5\x00", b"damaged"),
+        (b"Ta@5\x00Ta@b\x01", b"damaged"),
+        (b"layout 2\nTa@5\x00x\x00", b"damaged"),
+        (b"layout 2\nTa@5\x007\x00", b"already"),
+    ];
+    for (bucket, word) in rows {
+        assert_eq!(rt;
+            word_with_memo(alloc, &mut memo, bucket)?,
+            word,
+            "{bucket:?}"
+        );
     }
     Ok(())
 }

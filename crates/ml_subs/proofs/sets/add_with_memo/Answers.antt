@@ -1,17 +1,19 @@
-use Rattle.std.proofs.Common.{◌≡◌, ◌∙◌, ◌+◌, ap, ap₂, sym, subst, rules, arith, true, false, Some, Option}
+use Rattle.std.proofs.Common.{◌≡◌, ◌∙◌, ◌+◌, ap, ap₂, sym, subst, rules, arith, true, false, ℕ, Some, Option}
 use Rattle.std.proofs.lemmas.Result.{IfErr-weaker}
 use Rattle.ml_base.specs.Bytes.{Text}
 use Rattle.ml_base.specs.Address.{key}
 use Rattle.ml_base.specs.Dir.{Dir}
 use Rattle.ml_subs.specs.declared.changing.AddAnswer.TheVariants.{Added}
-use Rattle.ml_subs.specs.Buckets.{bucket_file}
+use Rattle.ml_subs.specs.Buckets.{bucket_file, bucket_of, IsBucketFile}
 use Rattle.ml_subs.specs.Subscribers.{IsNoCount, IsUnread, count_name, count_text, is_touched}
 use Rattle.ml_base.specs.PartErrors.{OnDamaged}
 use Rattle.ml_subs.specs.Answers.{changes}
 use Rattle.ml_subs.specs.Reading.{joined, member_by}
 use Rattle.ml_base.proofs.DamagedNames.{on_damaged, on_both}
+use Rattle.ml_subs.specs.Members.{with_member}
+use Rattle.ml_subs.proofs.Standing.{bucket_with}
 use Rattle.ml_subs.proofs.Answering.{sides_has, sides_with, file_with, bucket_there, addition, has_of_set, count_of_set, count_touched, unread_count, unread}
-use Rattle.ml_subs.proofs.sets.add.Goals as goal
+use Rattle.ml_subs.proofs.sets.add_with_memo.Goals as goal
 
 pub returns-then-is_some-clause-read : goal.returns-then-is_some-clause-read
 returns-then-is_some-clause-read g c told =
@@ -45,6 +47,16 @@ returns-then-count-eq-MAX_MEMBERS-clause-value g c told ms is =
       has_of_set (g.F.Files.map c.args.files.now) c.args.set ms read.0 (key c.args.a.now) is read.1 ∙ (read.2).0,
       count_of_set (g.F.Files.map c.args.files.now) c.args.set ms 100_000 is (omega arith) (read.2).1,
     )
+
+pub note-requires : goal.note-requires
+note-requires g c =
+    let place = c.in-Some.ensures.some in
+    let m = member_by c.args.a.now c.args.now in
+    let all = with_member m (joined place.0) in
+    let text : Some c.as_slice.result.now ≡ bucket_file all = ap Some (c.as_slice.ensures ∙ c.in_ok-text.ensures.text (place.0).below (place.0).above (place.0).around) ∙ sym (file_with (place.0).below (place.0).above m) ∙ sym (ap bucket_file (sides_with m c.in-Some.place.here place.0 (sym c.is_some.ensures ∙ c.if-is_some.false))) in
+    let there = subst (λ (n : ℕ). IsBucketFile n c.in_ok-file.file (joined place.0)) c.bucket-n.ensures.value place.1 in
+    let made : IsBucketFile (bucket_of (key c.args.a.now)) (Some c.as_slice.result.now) all = subst (λ (f : Option Text). IsBucketFile (bucket_of (key c.args.a.now)) f all) (sym text) (bucket_with m c.in_ok-file.file (joined place.0) c.in_ok-text.ensures.address c.requires there) in
+    (all, subst (λ (n : ℕ). IsBucketFile n (Some c.as_slice.result.now) all) (sym c.bucket-n.ensures.value) made)
 
 pub returns-clause-read : goal.returns-clause-read
 returns-clause-read g c told =

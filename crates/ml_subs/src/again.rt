@@ -1,0 +1,87 @@
+// Where a key stands in a bucket whose text was checked before.
+ghost use Rattle.std.specs.Prelude.{◌≡◌, ◌<◌, ◌≤◌, ℕ, List, [], Some, None, IfSome, IfNone, length};
+ghost use Rattle.std.specs.Option.{option_map};
+ghost use Rattle.ml_base.specs.Bytes.{Text};
+ghost use Rattle.ml_subs.specs.declared.member_list.Member.{Member};
+ghost use Rattle.ml_subs.specs.Buckets.{IsBucketFile};
+ghost use Rattle.ml_subs.specs.Reading.{AreRead, AreSkipped, BeginsWith, Sides, as_member, joined};
+
+use crate::checked::Checked;
+use crate::places::{Place, find_place, same_key, split_layout};
+use crate::records::Layout;
+use ml_base::{Address, Bytes, is_below, split_first};
+use std::alloc::Global;
+
+// The address of the record that bytes begin with, where they begin with one, and what is behind the record. Nothing is
+// checked that such bytes have.
+fn split_record(layout: Layout, text: &[u8]) -> Option<(&[u8], &[u8])>
+    ensures some { IfSome result (λ r. (m : Member) (more : Text) → BeginsWith layout text.now m more → (r.0.now ≡ m.who) × (r.1.now ≡ more)) }
+    ensures none { IfNone result ((m : Member) (more : Text) → ¬ BeginsWith layout text.now m more) }
+    ensures shorter { IfSome result (λ r. length r.1.now < length text.now) }
+{
+    let [_, rest @ ..] = text else {
+        return None;
+    };
+    let (who, rest) = split_first(0, rest)?;
+    match layout {
+        Layout::Undated => Some((who, rest)),
+        Layout::Dated => {
+            let (_, more) = split_first(0, rest)?;
+            Some((who, more))
+        }
+    }
+}
+
+// The length of the records whose keys are below that of an address, where members of a bucket are spelled in order.
+fn skip_known(layout: Layout, who: &Address, text: &[u8]) -> usize
+    ensures within { result ≤ length text.now }
+    ensures skipped { (n : ℕ) (ms : List Member) → AreRead layout n [] text.now ms → AreSkipped layout n who.now text.now result }
+{
+    let address = who.bytes();
+    let mut rest = text;
+    while let Some((next, more)) = split_record(layout, rest) {
+        if !is_below(next, address) {
+            return text.len() - rest.len();
+        }
+        rest = more;
+    }
+    text.len() - rest.len()
+}
+
+// Where an address stands in the records of a bucket, where members are spelled in order.
+fn place_known<'a>(layout: Layout, n: u8, who: &Address, text: &'a [u8]) -> Place<'a>
+    ensures { (ms : List Member) → AreRead layout n [] text.now ms → (s : Sides result.layout who.now result.before.now (option_map as_member result.here) result.behind.now) × AreRead layout n [] text.now (joined s) }
+{
+    let (before, rest) = text.split_at(skip_known(layout, who, text));
+    let (here, behind) = same_key(layout, n, who, rest);
+    Place {
+        layout,
+        before,
+        here,
+        behind,
+    }
+}
+
+// Where an address stands in a bucket's file, or None where the file is outside its grammar. A text that is remembered isn't
+// checked again, and another is remembered.
+pub(crate) fn find_again<'a>(
+    alloc: Global,
+    checked: &mut Checked,
+    n: u8,
+    file: &'a Option<Bytes>,
+    who: &Address,
+) -> Option<Place<'a>>
+    ensures some { IfSome result (λ p. (s : Sides p.layout who.now p.before.now (option_map as_member p.here) p.behind.now) × IsBucketFile n file.now (joined s)) }
+    ensures none { IfNone result ((ms : List Member) → ¬ IsBucketFile n file.now ms) }
+{
+    let Some(text) = file else {
+        return find_place(n, file, who);
+    };
+    if checked.has(n, text.as_slice()) {
+        let (layout, body) = split_layout(text.as_slice())?;
+        return Some(place_known(layout, n, who, body));
+    }
+    let place = find_place(n, file, who)?;
+    checked.note(alloc, n, text.as_slice());
+    Some(place)
+}
