@@ -13,7 +13,7 @@ ghost use Rattle.ml_acts.specs.Damaged.{IsDamaged};
 
 use ml_base::{Address, Files, PartError, Set, Txn};
 use ml_bounce::forget;
-use ml_subs::remove;
+use ml_subs::{Checked, remove_with_memo};
 use std::alloc::Global;
 
 /// Removes an address, in any case of letters, from a set, and its entry from the set's ledger, where the set has one: the puts that
@@ -31,7 +31,24 @@ pub fn remove_member<F: Files>(
     ensures names { NamesDamaged ⟦<F as Files>⟧ (λ name. (is_touched set (key who.now) name || is_entry_of set who.now name) ≡ true) (IsDamaged (F.map files.old)) result }
     ensures reads { IsReading ⟦<F as Files>⟧ files.old files.new result }
 {
-    let Some(txn) = remove(alloc, files, set, who)? else {
+    remove_member_with_memo(alloc, files, &mut Checked::new(alloc), set, who)
+}
+
+/// What `remove_member` does, for one of many changes: the memo is what an earlier one left, or nothing.
+pub fn remove_member_with_memo<F: Files>(
+    alloc: Global,
+    files: &mut F,
+    memo: &mut Checked,
+    set: Set,
+    who: &Address,
+) -> Result<Option<Txn>, PartError>
+    ensures value { IsTrue F.tells → IfOk result (λ answer. (p : Plain) → IsList (F.map files.old) p → Leaves (F.map files.old) set who.now p answer) }
+    ensures own { IfOk result (λ answer. touches_only is_beside_queue (puts_if answer) ≡ true) }
+    ensures files { IfOk result (λ answer. IsTrue (are_files (puts_if answer))) }
+    ensures names { NamesDamaged ⟦<F as Files>⟧ (λ name. (is_touched set (key who.now) name || is_entry_of set who.now name) ≡ true) (IsDamaged (F.map files.old)) result }
+    ensures reads { IsReading ⟦<F as Files>⟧ files.old files.new result }
+{
+    let Some(txn) = remove_with_memo(alloc, files, memo, set, who)? else {
         return Ok(None);
     };
     Ok(Some(forgotten(alloc, files, set, who, txn)?))

@@ -14,7 +14,7 @@ mod wearing;
 pub use acting::{with_mail, with_mail_to_moderators};
 pub use cookies::{is_cookie, is_good, new_cookie};
 pub use laws::law_damaged;
-pub use leaving::remove_member;
+pub use leaving::{remove_member, remove_member_with_memo};
 pub use mailing::{mail_moderators, mail_to, send};
 pub use members::recipients;
 pub use memo::{Memo, send_to_list};

@@ -19,9 +19,9 @@ ghost use Rattle.ml_list.specs.Damage.{IsDamaged, is_looked_up, is_read_by, may_
 
 use crate::changing::{add_member, change_key, remove_member};
 use crate::floors::floor;
+use crate::memo::Memo;
 use crate::rising::raise;
 use crate::slots::{Found, Known, keep, kept_reply, replies_name};
-use ml_acts::Memo;
 use ml_base::{Bytes, Files, Name, PartError, Put, Txn, copied};
 use ml_deliver::{deliver, run_timed, sent_entry};
 use ml_plain::{Act, Item, Reply};
@@ -44,7 +44,7 @@ pub fn apply<F: Files>(alloc: Global, files: F, item: &Item) -> (F, Result<(Txn,
     ensures sound { IsTrue F.tells → (q : State) → IsState (F.map files) q → IfErr result.1 (λ e. OnDamaged e (λ _. ⊥)) }
     ensures reads { IsReading ⟦<F as Files>⟧ files result.0 result.1 }
 {
-    apply_with_memo(alloc, files, &mut Memo::new(), item)
+    apply_with_memo(alloc, files, &mut Memo::new(alloc), item)
 }
 
 /// What `apply` does, for one of many items: the memo is what an earlier one left, or nothing.
@@ -204,14 +204,14 @@ fn change<F: Files>(
         } => deliver(
             alloc,
             files,
-            memo,
+            &mut memo.mail,
             item.moment,
             sender.as_slice(),
             recipient.as_slice(),
             message.as_slice(),
         ),
-        Act::Add { set, who } => add_member(alloc, files, *set, who, item.moment),
-        Act::Remove { set, who } => remove_member(alloc, files, *set, who),
+        Act::Add { set, who } => add_member(alloc, files, &mut memo.sets, *set, who, item.moment),
+        Act::Remove { set, who } => remove_member(alloc, files, &mut memo.sets, *set, who),
         Act::Sent { id } => sent_entry(alloc, files, *id),
         Act::Rekey { key } => change_key(alloc, files, key, item.moment),
         Act::Floor { at } => raise(alloc, files, item.number, *at, known),

@@ -15,10 +15,11 @@ ghost use Rattle.ml_acts.specs.Doing.{DoesList};
 ghost use Rattle.ml_list.specs.Applying.{addition_reply};
 ghost use Rattle.ml_list.specs.Damage.{IsDamaged, is_read_by};
 
+use ml_acts::remove_member_with_memo;
 use ml_base::{Address, Files, PartError, Set, Txn, age};
 use ml_config::{Former, Keys, key, set_keys};
 use ml_plain::Reply;
-use ml_subs::{AddAnswer, add};
+use ml_subs::{AddAnswer, Checked, add_with_memo};
 use std::alloc::Global;
 
 // How long a new key stays in force at least, in seconds.
@@ -28,6 +29,7 @@ const SHORTEST_USE: u64 = 1_000_000;
 pub(crate) fn add_member<F: Files>(
     alloc: Global,
     files: &mut F,
+    memo: &mut Checked,
     set: Set,
     who: &Address,
     now: u64,
@@ -40,7 +42,7 @@ pub(crate) fn add_member<F: Files>(
     ensures names { NamesDamaged ⟦<F as Files>⟧ (λ name. is_read_by (acts.Add set who.now) name ≡ true) (IsDamaged (F.map files.old)) result }
     ensures reads { IsReading ⟦<F as Files>⟧ files.old files.new result }
 {
-    let answer = add(alloc, files, set, who, now)?;
+    let answer = add_with_memo(alloc, files, memo, set, who, now)?;
     Ok(addition(alloc, answer))
 }
 
@@ -60,6 +62,7 @@ fn addition(alloc: Global, answer: AddAnswer) -> (Txn, Reply)
 pub(crate) fn remove_member<F: Files>(
     alloc: Global,
     files: &mut F,
+    memo: &mut Checked,
     set: Set,
     who: &Address,
 ) -> Result<(Txn, Reply), PartError>
@@ -70,7 +73,7 @@ pub(crate) fn remove_member<F: Files>(
     ensures names { NamesDamaged ⟦<F as Files>⟧ (λ name. is_read_by (acts.Remove set who.now) name ≡ true) (IsDamaged (F.map files.old)) result }
     ensures reads { IsReading ⟦<F as Files>⟧ files.old files.new result }
 {
-    match ml_acts::remove_member(alloc, files, set, who)? {
+    match remove_member_with_memo(alloc, files, memo, set, who)? {
         Some(txn) => Ok((txn, plain(Reply::UNSUBSCRIBED))),
         None => Ok((Txn::new(alloc), plain(Reply::ABSENT))),
     }

@@ -6,6 +6,7 @@ mod changing;
 mod floors;
 mod laws;
 mod loading;
+mod memo;
 mod rising;
 mod slots;
 
@@ -13,3 +14,4 @@ pub use applying::{apply, apply_with_memo};
 pub use floors::floor;
 pub use laws::law_damage;
 pub use loading::load;
+pub use memo::Memo;

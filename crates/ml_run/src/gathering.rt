@@ -18,9 +18,9 @@ ghost use Rattle.ml_run.specs.declared.groups.GroupEnd.TheVariants.{Full};
 
 use crate::adding::add_item;
 use crate::groups::{Group, GroupEnd, MAX_ITEMS, MAX_SIZE};
-use ml_acts::Memo;
 use ml_ending::Why;
 use ml_journal::Store;
+use ml_list::Memo;
 use ml_site::{Site, Source};
 use ml_stream::{Items, StreamError};
 use std::alloc::Global;

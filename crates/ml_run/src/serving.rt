@@ -16,10 +16,10 @@ ghost use Rattle.ml_stream.specs.Stream.{StreamEnd};
 use crate::gathering::gather;
 use crate::groups::{GroupEnd, empty_group};
 use crate::settling::settle;
-use ml_acts::Memo;
 use ml_base::Bytes;
 use ml_ending::{Ending, finish, refused};
 use ml_journal::Store;
+use ml_list::Memo;
 use ml_site::{Site, Source};
 use ml_stream::Items;
 use std::alloc::Global;
@@ -60,7 +60,7 @@ pub(crate) fn serve<I: Source, S: Site>(
         S.syncs result.1 ≤ S.syncs (site_of store) + 8 + 2 * (result.0.answered / 16) + (S.log_bytes result.1 - S.log_bytes (site_of store)) / 1_048_576 }
 {
     let mut reader = Items::new();
-    let mut memo = Memo::new();
+    let mut memo = Memo::new(alloc);
     let mut now = store;
     let mut group = empty_group(alloc, buffer, 0);
     let mut answered: u64 = 0;
