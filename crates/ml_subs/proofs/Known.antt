@@ -1,26 +1,27 @@
 -- Where a key stands among members that are known to be spelled in order.
-use Rattle.std.proofs.Common.{◌≡◌, ℕ, ◌+◌, ◌<◌, true, false, List, [], ◌∷◌, ◌++◌, length, sym, ap, ◌∙◌, subst, arith}
-use Rattle.std.specs.List.{list_all}
+use Rattle.std.proofs.Common.{◌≡◌, ℕ, ◌+◌, ◌<◌, true, false, List, [], ◌∷◌, ◌++◌, length, take, drop, ◌-◌, refl, sym, ap, ◌∙◌, subst, arith}
+use Rattle.std.proofs.lemmas.List.{length-drop, take_all}
 use Rattle.ml_base.specs.Bytes.{Text}
+use Rattle.ml_base.specs.Address.{IsAddress}
 use Rattle.ml_base.specs.Keys.{is_below}
 use Rattle.ml_subs.specs.declared.member_list.Member.{Member}
 use Rattle.ml_subs.specs.declared.records.Layout.{Layout}
 use Rattle.ml_subs.specs.Buckets.{records}
-use Rattle.ml_subs.specs.Reading.{AreRead, AreSkipped, BeginsWith, Leads}
-use Rattle.ml_subs.proofs.Spelled.{leads_more, read_first}
-use Rattle.ml_subs.proofs.Placed.{all_push, skipped}
+use Rattle.ml_subs.specs.Reading.{AreRead, AreSkipped, BeginsWith, Leads, Passed}
+use Rattle.ml_subs.proofs.Spelled.{leads_more, leads_start, read_first}
+use Rattle.ml_subs.proofs.Placed.{all_push, floor_below, skipped}
 
 -- the address of the record that bytes begin with, and what is behind it
 abbrev pub IsSplit : Layout → Text → Text → Text → Type 0
 IsSplit layout text who more = (m : Member) (rest : Text) → BeginsWith layout text m rest → (who ≡ m.who) × (more ≡ rest)
 
--- members were read from the front of bytes, all below an address
-pub record Passed (layout : Layout) (n : ℕ) (who text left : Text) : Type 0 where
-  pub done : List Member
-  pub last : Text
-  pub leads : Leads layout n [] text done last left
-  pub lower : list_all (λ m. is_below m.who who) done ≡ true
-  pub under : is_below last who ≡ true
+-- what is left from a place on
+pub rest_at : (at : ℕ) (text : Text) → take (length text - at) (drop at text) ≡ drop at text
+rest_at at text = take_all (length text - at) (drop at text) (let left = length-drop at text in omega (arith, left))
+
+-- nobody was read yet
+pub passed_none : (layout : Layout) (n : ℕ) (who text : Text) → IsAddress who → Passed layout n who text text
+passed_none layout n who text is = record { done = []; last = []; leads = leads_start layout n [] text; lower = refl; under = floor_below who is }
 
 module _ (layout : Layout) (n : ℕ) (who text left : Text) (before : Passed layout n who text left) where
   -- who else was read

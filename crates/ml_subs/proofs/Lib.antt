@@ -4,6 +4,7 @@ pub mod Options
 pub mod Spelled
 pub mod Placed
 pub mod Known
+pub mod Starts
 pub mod Rewritten
 pub mod Together
 pub mod Standing

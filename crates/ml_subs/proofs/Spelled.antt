@@ -31,7 +31,8 @@ digits_clean (x ∷ xs) h = let parts = and_parts (is_ascii_digit x) (all_ascii_
     go false e is = e
     go true e is = let bad : false ≡ true = sym (ap is_ascii_digit (eqb-true x 0 e)) ∙ is in cc
 
-decimal_clean : (n : ℕ) → n < 2 ^ 64 → has_byte 0 (decimal n) ≡ false
+-- a number has no NUL
+pub decimal_clean : (n : ℕ) → n < 2 ^ 64 → has_byte 0 (decimal n) ≡ false
 decimal_clean n small = digits_clean (decimal n) (all_digits n small)
 
 -- a number is written in one way

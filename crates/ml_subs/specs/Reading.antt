@@ -59,6 +59,14 @@ pub record AreSkipped (layout : Layout) (n : ℕ) (who : Text) (text : Text) (si
   pub under : is_below last who ≡ true
   pub stops : (m : Member) (ms : List Member) → AreRead layout n last (drop size text) (m ∷ ms) → is_below m.who who ≡ false
 
+-- members were read from the front of a bucket's records, all with keys below an address's
+pub record Passed (layout : Layout) (n : ℕ) (who text left : Text) : Type 0 where
+  pub done : List Member
+  pub last : Text
+  pub leads : Leads layout n [] text done last left
+  pub lower : list_all (λ m. is_below m.who who) done ≡ true
+  pub under : is_below last who ≡ true
+
 -- the layout of a text, and what stands behind its line
 abbrev pub IsFront : Text → Layout → Text → Type 0
 IsFront text Dated body = text ≡ layout_line Dated ++ body

@@ -1,16 +1,21 @@
 // Where a key stands in a bucket whose text was checked before.
-ghost use Rattle.std.specs.Prelude.{◌≡◌, ◌<◌, ◌≤◌, ℕ, List, [], Some, None, IfSome, IfNone, length};
+ghost use Rattle.std.specs.Prelude.{◌≡◌, ◌<◌, ◌≤◌, ◌+◌, ◌∷◌, ◌++◌, ℕ, List, [], Some, None, IsTrue, IfSome, IfNone, drop, length};
 ghost use Rattle.std.specs.Option.{option_map};
+ghost use Rattle.ml_base.specs.Address.{IsAddress};
 ghost use Rattle.ml_base.specs.Bytes.{Text};
 ghost use Rattle.ml_subs.specs.declared.member_list.Member.{Member};
 ghost use Rattle.ml_subs.specs.Buckets.{IsBucketFile};
-ghost use Rattle.ml_subs.specs.Reading.{AreRead, AreSkipped, BeginsWith, Sides, as_member, joined};
+ghost use Rattle.ml_subs.specs.Reading.{AreRead, AreSkipped, BeginsWith, Passed, Sides, as_member, joined};
+ghost use Rattle.ml_subs.specs.declared.records.Layout.TheVariants.{Dated};
 
 use crate::checked::Checked;
 use crate::places::{Place, find_place, same_key, split_layout};
 use crate::records::Layout;
 use ml_base::{Address, Bytes, is_below, split_first};
 use std::alloc::Global;
+
+// How many bytes are gone through record by record, at the end of a search by halves.
+const NEAR: usize = 128;
 
 // The address of the record that bytes begin with, where they begin with one, and what is behind the record. Nothing is
 // checked that such bytes have.
@@ -32,13 +37,75 @@ fn split_record(layout: Layout, text: &[u8]) -> Option<(&[u8], &[u8])>
     }
 }
 
+// Whether bytes begin with the letter of a record.
+fn has_letter(text: &[u8]) -> bool
+    ensures { IsTrue result → (b : Text) × (text.now ≡ 84 ∷ b) }
+{
+    match text {
+        [first, ..] => *first == b'T',
+        [] => false,
+    }
+}
+
+// The place behind one of the first two NULs of bytes, where the letter of a record stands.
+fn next_start(text: &[u8]) -> Option<usize>
+    ensures { IfSome result (λ at. (a b : Text) × (text.now ≡ a ++ 0 ∷ 84 ∷ b) × (at ≡ length a + 1)) }
+{
+    let (_, rest) = split_first(0, text)?;
+    if has_letter(rest) {
+        return Some(text.len() - rest.len());
+    }
+    let (_, rest) = split_first(0, rest)?;
+    if has_letter(rest) {
+        return Some(text.len() - rest.len());
+    }
+    None
+}
+
+// The place of a record of layout 2 that begins between two places and has a key below that of an address.
+fn lower_start(address: &[u8], text: &[u8], from: usize, to: usize) -> Option<usize>
+    requires within { (from ≤ to) × (to ≤ length text.now) }
+    ensures within { IfSome result (λ at. (from < at) × (at ≤ to)) }
+    ensures passed { IfSome result (λ at. (n : ℕ) (ms : List Member) → AreRead Dated n [] text.now ms → Passed Dated n address.now text.now (drop at text.now)) }
+{
+    let at = from + next_start(&text[from..to])?;
+    let (other, _) = split_record(Layout::Dated, &text[at..])?;
+    if is_below(other, address) {
+        Some(at)
+    } else {
+        None
+    }
+}
+
+// The length of a front of records whose keys are below that of an address, which is found by halves: where members of a bucket
+// are spelled in order. It is none in layout 1.
+fn skip_far(layout: Layout, address: &[u8], text: &[u8]) -> usize
+    requires { IsAddress address.now }
+    ensures within { result ≤ length text.now }
+    ensures passed { (n : ℕ) (ms : List Member) → AreRead layout n [] text.now ms → Passed layout n address.now text.now (drop result text.now) }
+{
+    let Layout::Dated = layout else {
+        return 0;
+    };
+    let mut low = 0;
+    let mut high = text.len();
+    while high - low > NEAR {
+        let middle = low + (high - low) / 2;
+        match lower_start(address, text, middle, high) {
+            Some(at) => low = at,
+            None => high = middle,
+        }
+    }
+    low
+}
+
 // The length of the records whose keys are below that of an address, where members of a bucket are spelled in order.
 fn skip_known(layout: Layout, who: &Address, text: &[u8]) -> usize
     ensures within { result ≤ length text.now }
     ensures skipped { (n : ℕ) (ms : List Member) → AreRead layout n [] text.now ms → AreSkipped layout n who.now text.now result }
 {
     let address = who.bytes();
-    let mut rest = text;
+    let mut rest = &text[skip_far(layout, address, text)..];
     while let Some((next, more)) = split_record(layout, rest) {
         if !is_below(next, address) {
             return text.len() - rest.len();

@@ -30,6 +30,17 @@ impl Model for Known {
 }
 
 impl Known {
+    // A text of the bucket with a number, or None where it is too long or memory is wanting.
+    fn new(alloc: Global, n: u8, text: &[u8]) -> Option<Known>
+        requires { (ms : List Member) × IsBucket n text.now ms }
+    {
+        if text.len() > LONGEST {
+            return None;
+        }
+        let text = Bytes::from_slice(alloc, text).ok()?;
+        Some(Known { n, text })
+    }
+
     // Whether a text is this one, and so one of the bucket with a number.
     fn is(&self, n: u8, text: &[u8]) -> bool
         ensures { IsTrue result → (ms : List Member) × IsBucket n text.now ms }
@@ -63,22 +74,16 @@ impl Checked {
         }
     }
 
-    // Remembers a text of the bucket with a number, where there is memory for it.
+    // Remembers a text of the bucket with a number in place of the one before, where it is short and there is memory for it.
     pub(crate) fn note(&mut self, alloc: Global, n: u8, text: &[u8])
         requires { (ms : List Member) × IsBucket n text.now ms }
     {
-        if text.len() > LONGEST {
-            return;
-        }
-        let Ok(text) = Bytes::from_slice(alloc, text) else {
-            return;
-        };
         while self.last.as_slice().len() <= n as usize {
             if self.last.push(None).is_err() {
                 return;
             }
         }
-        self.last.replace(n as usize, Some(Known { n, text }));
+        self.last.replace(n as usize, Known::new(alloc, n, text));
     }
 
     // Remembers what a change leaves of a bucket's file.

@@ -19,6 +19,9 @@ pub(super) struct Folder<'a> {
     lock: Option<File>,
     // The log, from its first change on.
     log: Option<File>,
+    // The file that was last looked for and not there: each item of a stream asks for the floor, which most lists haven't. The
+    // lock keeps others from making it.
+    absent: Option<Name>,
     changes: Changes,
 }
 
@@ -31,6 +34,7 @@ impl<'a> Folder<'a> {
             paths: Paths::new(rt.alloc(), dir),
             lock: None,
             log: None,
+            absent: None,
             changes: Changes::new(rt.alloc()),
         }
     }
@@ -137,9 +141,15 @@ impl<'a> Folder<'a> {
     /// The bytes of a file, or None where it isn't there.
     pub fn read(&mut self, alloc: Global, name: Name) -> io::Result<Option<Bytes>> {
         self.ready()?;
+        if self.absent == Some(name) {
+            return Ok(None);
+        }
         match open_to_read(self.rt, self.paths.file(name)?) {
             Ok((file, len)) => Ok(Some(read_all(alloc, file, len)?)),
-            Err(error) if error.kind() == ErrorKind::NotFound => Ok(None),
+            Err(error) if error.kind() == ErrorKind::NotFound => {
+                self.absent = Some(name);
+                Ok(None)
+            }
             Err(error) => Err(error),
         }
     }
@@ -147,6 +157,7 @@ impl<'a> Folder<'a> {
     /// Gives a file these bytes. What is to be synced is noted first, so that want of memory writes nothing.
     pub fn write(&mut self, name: Name, bytes: &[u8]) -> io::Result<()> {
         self.ready()?;
+        self.absent = None;
         if let Some(file) = self.changes.kept_file(name) {
             let written = write_whole(&file, u64::MAX, bytes);
             self.changes.keep_file(name, file);

@@ -1,21 +1,17 @@
-use Rattle.std.proofs.Common.{◌≡◌, ◌∙◌, [], refl, sym, ap, arith, true, false}
+use Rattle.std.proofs.Common.{◌≡◌, ◌∙◌, drop, sym, ap, subst, arith, true, false}
+use Rattle.ml_base.specs.Bytes.{Text}
+use Rattle.ml_subs.specs.Reading.{Passed}
 use Rattle.ml_base.specs.Keys.{is_below}
-use Rattle.ml_subs.proofs.Known.{passed_more, passed_here, passed_all}
-use Rattle.ml_subs.proofs.Placed.{floor_below}
-use Rattle.ml_subs.proofs.Spelled.{leads_start}
+use Rattle.ml_subs.proofs.Known.{passed_more, passed_here, passed_all, rest_at}
 use Rattle.ml_subs.proofs.again.skip_known.Goals as goal
 
 pub loop-next-init : goal.loop-next-init
-loop-next-init c = (
-  omega arith,
-  λ n ms is. record {
-    done = [];
-    last = [];
-    leads = leads_start c.args.layout n [] c.args.text.now;
-    lower = refl;
-    under = floor_below c.args.who.now c.bytes-address.ensures.address;
-  },
-)
+loop-next-init c =
+    let far = c.skip_far.ensures.passed in
+    let same = c.bytes-address.ensures.value in (
+      omega arith,
+      λ n ms is. subst (λ (l : Text). Passed c.args.layout n c.args.who.now c.args.text.now l) (sym (rest_at c.skip_far.result c.args.text.now)) (subst (λ (t : Text). Passed c.args.layout n t c.args.text.now (drop c.skip_far.result c.args.text.now)) same (far n ms is)),
+    )
 
 pub loop-next-preserved : goal.loop-next-preserved
 loop-next-preserved c =

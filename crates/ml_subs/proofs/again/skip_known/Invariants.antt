@@ -1,7 +1,6 @@
 use Rattle.std.proofs.Common.{◌≤◌, List, ℕ, [], length}
 use Rattle.ml_subs.specs.declared.member_list.Member.{Member}
-use Rattle.ml_subs.specs.Reading.{AreRead}
-use Rattle.ml_subs.proofs.Known.{Passed}
+use Rattle.ml_subs.specs.Reading.{AreRead, Passed}
 use Rattle.ml_subs.proofs.again.skip_known.Given as goal
 
 abbrev pub invariant-loop-next : goal.invariant-loop-next
