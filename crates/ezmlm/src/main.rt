@@ -1,21 +1,8 @@
 //! ezmlm: a mailing list manager.
 #![tactic(auto)]
 
-mod asking;
-mod commands;
-mod delivering;
-mod giving;
-mod item_source;
-mod making;
-mod message;
-mod real;
-mod single;
-mod spooling;
-#[cfg(test)]
-mod tests;
-
-use crate::commands::ezmlm_main;
-use crate::real::{RealClock, RealSite, StdSource};
+use ml_command::ezmlm_main;
+use ml_real::{RealClock, RealSite, StdSource};
 use ml_run::{Why, stop};
 use std::env;
 use std::io::{self, ErrorKind};

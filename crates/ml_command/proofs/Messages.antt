@@ -1,0 +1,45 @@
+-- A message that goes on with what was read.
+use Rattle.std.proofs.Common.{[], arith, refl, ◌≡◌, ℕ, ◌+◌, ◌≤◌, ◌<◌, ◌++◌, length, take, Option, Some, None, IfSome, ap, sym, subst, ◌∙◌, append_assoc}
+use Rattle.std.proofs.lemmas.List.{length-take-le, take-append-le, take-take}
+use Rattle.std.proofs.Math.Seq.{take-append-add, take-append_seam}
+use Rattle.ml_base.specs.Bytes.{Text}
+use Rattle.ml_site.specs.Source.{Takes}
+use Rattle.ml_site.specs.declared.source.Source.{Ghosts as SourceGhosts}
+use Rattle.ml_command.specs.Message.{Continues, ReadsAtMost, TakesFront, longest_message}
+
+-- a message to which zeros were added, and some first bytes of a piece written over these
+written : (old zeros piece behind rest : Text) (room count : ℕ) → length old + count ≤ room → count ≤ length piece
+    → take (length old + count) (take room ((take (length old) (old ++ zeros) ++ (piece ++ behind)) ++ rest)) ≡ old ++ take count piece
+written old zeros piece behind rest room count fits low =
+    take-take (length old + count) room ((take (length old) (old ++ zeros) ++ (piece ++ behind)) ++ rest) fits
+    ∙ ap (λ t. take (length old + count) ((t ++ (piece ++ behind)) ++ rest)) (take-append_seam old zeros)
+    ∙ ap (λ t. take (length old + count) t) (append_assoc old (piece ++ behind) rest)
+    ∙ take-append-add old ((piece ++ behind) ++ rest) count
+    ∙ ap (λ t. old ++ take count t) (append_assoc piece behind rest)
+    ∙ ap (λ t. old ++ t) (take-append-le count piece (behind ++ rest) low)
+
+-- one more read
+pub continues : (before after : Option Text) (old new grown zeros piece behind rest : Text) (len room count : ℕ) → len ≡ length old → len + count ≤ room → count ≤ length piece → 0 < length piece
+    → grown ≡ old ++ zeros → new ≡ take (len + count) (take room ((take len grown ++ (piece ++ behind)) ++ rest))
+    → IfSome before (λ left. Takes left after piece count) → IfSome before (λ left. Continues left after old new count)
+continues None after old new grown zeros piece behind rest len room count own fits low some is cut t = t
+continues (Some left) after old new grown zeros piece behind rest len room count own fits low some is cut t = record {
+  piece = take count piece;
+  rest = t.0;
+  split = t.1;
+  after_is = t.2;
+  added = cut ∙ ap (λ g. take (len + count) (take room ((take len g ++ (piece ++ behind)) ++ rest))) is
+      ∙ ap (λ n. take (n + count) (take room ((take n (old ++ zeros) ++ (piece ++ behind)) ++ rest))) own
+      ∙ written old zeros piece behind rest room count (subst (λ n. n + count ≤ room) own fits) low;
+  count_is = sym (length-take-le count piece low);
+  end = λ none. t.3 none some;
+}
+
+-- where nothing is read
+pub nothing_read : {I : Type 0} (source : SourceGhosts I) (input : I) → ReadsAtMost source input input
+nothing_read source input = of (source.left input) refl
+  where
+    of : (left : Option Text) → source.left input ≡ left → ReadsAtMost source input input
+    of None is = subst (λ (o : Option Text). IfSome o (λ left. TakesFront left (source.left input) (λ n. n ≤ longest_message + 1))) (sym is) tt
+    of (Some bytes) is = subst (λ (o : Option Text). IfSome o (λ left. TakesFront left (source.left input) (λ n. n ≤ longest_message + 1))) (sym is)
+        (record { front = []; rest = bytes; split = refl; after_is = is; count = omega arith })

@@ -1,0 +1,92 @@
+// Files and folders of one user's own, whose numbers are no standard stream's.
+use std::fs::{DirBuilder, File, OpenOptions};
+use std::io::ErrorKind;
+use std::os::fd::AsRawFd;
+use std::os::unix::fs::{DirBuilderExt, OpenOptionsExt};
+use std::{fs, io};
+
+// The list's files and folders are for the user that the program runs as: the keys' file authorises whoever can read it.
+const FILE_MODE: u32 = 0o600;
+
+const FOLDER_MODE: u32 = 0o700;
+
+/// Opens a file to sync it.
+pub(crate) fn open_to_sync(rt: &HostRuntime, path: &str) -> io::Result<File> {
+    let (file, _) = open_to_read(rt, path)?;
+    Ok(file)
+}
+
+/// Opens a file to read it, and answers how many bytes it has.
+pub(crate) fn open_to_read(rt: &HostRuntime, path: &str) -> io::Result<(File, u64)> {
+    let len = regular(rt, path)?;
+    Ok((above_streams(File::open(rt, path)?)?, len))
+}
+
+/// Opens a file that is there to read and to write it, with its bytes as they are.
+pub(crate) fn open_to_change(rt: &HostRuntime, path: &str) -> io::Result<File> {
+    regular(rt, path)?;
+    above_streams(OpenOptions::new().read(true).write(true).open(rt, path)?)
+}
+
+/// Opens a file to read and to write it, with its bytes as they are, and makes it where it is missing. What stands there is a
+/// regular file, if it is there, as `length_of` finds.
+pub(crate) fn open_to_write(rt: &HostRuntime, path: &str) -> io::Result<File> {
+    let file = OpenOptions::new()
+        .read(true)
+        .write(true)
+        .create(true)
+        .mode(FILE_MODE)
+        .open(rt, path)?;
+    above_streams(file)
+}
+
+/// Opens a folder to sync it.
+pub(crate) fn open_folder(rt: &HostRuntime, path: &str) -> io::Result<File> {
+    if !fs::metadata(rt, path)?.is_dir() {
+        return Err(ErrorKind::NotADirectory.into());
+    }
+    above_streams(File::open(rt, path)?)
+}
+
+/// Makes a folder, and answers whether it wasn't there.
+pub(crate) fn make_folder(rt: &HostRuntime, path: &str) -> io::Result<bool> {
+    for _ in 0..u64::MAX {
+        match DirBuilder::new().mode(FOLDER_MODE).create(rt, path) {
+            Ok(()) => return Ok(true),
+            Err(error) if error.kind() == ErrorKind::Interrupted => {}
+            Err(error) if error.kind() == ErrorKind::AlreadyExists => return Ok(false),
+            Err(error) => return Err(error),
+        }
+    }
+    Err(ErrorKind::Interrupted.into())
+}
+
+/// The length of a regular file, or None where nothing is there.
+pub(crate) fn length_of(rt: &HostRuntime, path: &str) -> io::Result<Option<u64>> {
+    match regular(rt, path) {
+        Ok(len) => Ok(Some(len)),
+        Err(error) if error.kind() == ErrorKind::NotFound => Ok(None),
+        Err(error) => Err(error),
+    }
+}
+
+// The length of a regular file. It is an error where what is there is none: whoever opens a FIFO waits for another program.
+fn regular(rt: &HostRuntime, path: &str) -> io::Result<u64> {
+    let found = fs::metadata(rt, path)?;
+    if found.is_file() {
+        Ok(found.len())
+    } else {
+        Err(ErrorKind::InvalidInput.into())
+    }
+}
+
+// A standard stream that was closed leaves its number to the next file that is opened, and what is
+// meant for standard output would land in that file. So no file keeps a number below 3: the clone
+// has a higher one, and the number is free again, so that a call on the stream fails.
+fn above_streams(file: File) -> io::Result<File> {
+    if file.as_raw_fd() <= 2 {
+        file.try_clone()
+    } else {
+        Ok(file)
+    }
+}

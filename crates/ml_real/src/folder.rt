@@ -1,0 +1,323 @@
+// The folder of a list: its log and its files.
+use crate::changes::Changes;
+use crate::descriptors::{length_of, make_folder, open_folder, open_to_read, open_to_write};
+use crate::places::{Paths, path_text};
+use ml_base::{Bytes, Name};
+use std::alloc::{AllocError, Global};
+use std::fs::File;
+use std::io::{ErrorKind, Read, Write};
+use std::os::unix::fs::FileExt;
+use std::{fs, io, str};
+
+/// The folder of a list, which is made and locked at its first use. It counts no faults.
+#[derive(Drop)]
+pub(crate) struct Folder<'a> {
+    rt: &'a HostRuntime,
+    dir: &'a str,
+    paths: Paths<'a>,
+    // The lock ends when this file is closed.
+    lock: Option<File>,
+    // The log, from its first change on.
+    log: Option<File>,
+    // The file that was last looked for and not there: each item of a stream asks for the floor, which most lists haven't. The
+    // lock keeps others from making it.
+    absent: Option<Name>,
+    changes: Changes,
+}
+
+impl<'a> Folder<'a> {
+    /// Does nothing yet, and takes no memory.
+    pub fn new(rt: &'a HostRuntime, dir: &'a str) -> Self {
+        Folder {
+            rt,
+            dir,
+            paths: Paths::new(rt.alloc(), dir),
+            lock: None,
+            log: None,
+            absent: None,
+            changes: Changes::new(rt.alloc()),
+        }
+    }
+
+    /// Takes the room for paths, and for the entry of the list's own folder. Behind it a first sync takes none of its own.
+    pub fn take_room(&mut self) -> Result<(), AllocError> {
+        self.paths.take_room()?;
+        self.changes.note_list()
+    }
+
+    // Makes the folder and takes its lock, where that isn't done. After an error the next call tries again.
+    fn ready(&mut self) -> io::Result<()> {
+        if self.lock.is_some() {
+            return Ok(());
+        }
+        if self.dir.is_empty() {
+            return Err(ErrorKind::NotFound.into());
+        }
+        self.take_room()?;
+        self.make_list()?;
+        let path = self.paths.below(b"lock")?;
+        length_of(self.rt, path)?;
+        let lock = open_to_write(self.rt, path)?;
+        lock.try_lock()?;
+        self.lock = Some(lock);
+        Ok(())
+    }
+
+    // Makes the list's folder, and those above it, where they are missing. The list's own entry is for the first sync.
+    fn make_list(&mut self) -> io::Result<()> {
+        match make_folder(self.rt, self.dir) {
+            Err(error) if error.kind() == ErrorKind::NotFound => {
+                self.make_above()?;
+                make_folder(self.rt, self.dir)?;
+            }
+            answer => {
+                answer?;
+            }
+        }
+        Ok(())
+    }
+
+    // Makes the folders above the list's own that are missing, from the top. Each entry reaches the disk before the next folder
+    // is made: else a crash could leave a list to which no path leads. The last one that was there may be one whose entry an
+    // earlier run made and was killed before it had synced it, so its entry is synced too.
+    fn make_above(&mut self) -> io::Result<()> {
+        let dir = self.dir;
+        let mut is_first = true;
+        for (at, byte) in dir.as_bytes().iter().enumerate() {
+            if *byte != b'/' || at == 0 {
+                continue;
+            }
+            let Ok(above) = str::from_utf8(&dir.as_bytes()[..at]) else {
+                return Err(ErrorKind::InvalidFilename.into());
+            };
+            if make_folder(self.rt, above)? {
+                if is_first {
+                    sync_folder(self.rt, self.paths.above(above, "/../..")?)?;
+                    is_first = false;
+                }
+                sync_folder(self.rt, self.paths.above(above, "/..")?)?;
+            }
+        }
+        Ok(())
+    }
+
+    /// The bytes of the log. A log that isn't there is empty.
+    pub fn read_log(&mut self, alloc: Global) -> io::Result<Bytes> {
+        self.ready()?;
+        match open_to_read(self.rt, self.paths.below(b"log")?) {
+            Ok((file, len)) => read_all(alloc, file, len),
+            Err(error) if error.kind() == ErrorKind::NotFound => Ok(Bytes::new(alloc)),
+            Err(error) => Err(error),
+        }
+    }
+
+    /// Writes a piece into the log from this byte on.
+    pub fn write_log(&mut self, at: u64, bytes: &[u8]) -> io::Result<()> {
+        self.log()?.write_all_at(bytes, at)
+    }
+
+    /// Cuts the log to this many bytes.
+    pub fn cut_log(&mut self, len: u64) -> io::Result<()> {
+        self.log()?.set_len(len)
+    }
+
+    // The log, to change it. It is made where it is missing.
+    fn log(&mut self) -> io::Result<&File> {
+        self.ready()?;
+        self.changes.note_log();
+        if self.log.is_none() {
+            let path = self.paths.below(b"log")?;
+            if length_of(self.rt, path)?.is_none() || self.changes.may_miss_entries() {
+                self.changes.note_list()?;
+            }
+            self.log = Some(open_to_write(self.rt, path)?);
+        }
+        match &self.log {
+            Some(file) => Ok(file),
+            None => Err(ErrorKind::NotFound.into()),
+        }
+    }
+
+    /// The bytes of a file, or None where it isn't there.
+    pub fn read(&mut self, alloc: Global, name: Name) -> io::Result<Option<Bytes>> {
+        self.ready()?;
+        if self.absent == Some(name) {
+            return Ok(None);
+        }
+        match open_to_read(self.rt, self.paths.file(name)?) {
+            Ok((file, len)) => Ok(Some(read_all(alloc, file, len)?)),
+            Err(error) if error.kind() == ErrorKind::NotFound => {
+                self.absent = Some(name);
+                Ok(None)
+            }
+            Err(error) => Err(error),
+        }
+    }
+
+    /// Gives a file these bytes. What is to be synced is noted first, so that want of memory writes nothing.
+    pub fn write(&mut self, name: Name, bytes: &[u8]) -> io::Result<()> {
+        self.ready()?;
+        self.absent = None;
+        if let Some(file) = self.changes.kept_file(name) {
+            let written = write_whole(&file, u64::MAX, bytes);
+            self.changes.keep_file(name, file);
+            return written;
+        }
+        let found = length_of(self.rt, self.paths.file(name)?)?;
+        if found.is_none() || self.changes.may_miss_entries() {
+            self.changes.note_entry(name)?;
+        }
+        let is_new = self.changes.note_file(name)?;
+        let file = match self.file_to_write(name) {
+            Ok(file) => file,
+            Err(error) => {
+                if is_new {
+                    self.changes.forget_file(name);
+                }
+                return Err(error);
+            }
+        };
+        let written = write_whole(&file, found.unwrap_or(0), bytes);
+        self.changes.keep_file(name, file);
+        written
+    }
+
+    // Opens a file to write it.
+    fn file_to_write(&mut self, name: Name) -> io::Result<File> {
+        match self.open_file(name) {
+            // There may be no further descriptor, as long as files are kept open for the next sync.
+            Err(_) if self.changes.keeps_files() => {
+                self.changes.close_files()?;
+                self.open_file(name)
+            }
+            answer => answer,
+        }
+    }
+
+    // Opens a file to write it, and makes it and the folders on the way to it where they are missing.
+    fn open_file(&mut self, name: Name) -> io::Result<File> {
+        match open_to_write(self.rt, self.paths.file(name)?) {
+            Err(error) if error.kind() == ErrorKind::NotFound => {
+                self.changes.note_folders(name)?;
+                self.make_folders(name)?;
+                open_to_write(self.rt, self.paths.file(name)?)
+            }
+            answer => answer,
+        }
+    }
+
+    fn make_folders(&mut self, name: Name) -> io::Result<()> {
+        let mut room = [0u8; 48];
+        let rest = path_text(name, &mut room)?;
+        for (at, byte) in rest.iter().enumerate() {
+            if *byte == b'/' {
+                make_folder(self.rt, self.paths.below(&rest[..at])?)?;
+            }
+        }
+        Ok(())
+    }
+
+    /// Removes a file. It is no error where none is there.
+    pub fn remove(&mut self, name: Name) -> io::Result<()> {
+        self.ready()?;
+        self.changes.note_entry(name)?;
+        remove_file(self.rt, self.paths.file(name)?)?;
+        self.changes.forget_file(name);
+        Ok(())
+    }
+
+    /// Brings what has changed since the last good sync to the disk. It takes memory at the first use alone.
+    pub fn sync(&mut self) -> io::Result<()> {
+        self.ready()?;
+        self.changes
+            .sync(self.rt, &mut self.paths, self.log.as_ref())
+    }
+
+    /// Writes bytes to standard output. No byte is kept back.
+    pub fn give(&self, bytes: &[u8]) -> io::Result<()> {
+        let mut output = self.rt.stdout();
+        let mut rest = bytes;
+        for _ in 0..u64::MAX {
+            if rest.is_empty() {
+                return output.flush();
+            }
+            match output.write(rest) {
+                Ok(0) => return Err(ErrorKind::WriteZero.into()),
+                Ok(count) => rest = &rest[count..],
+                Err(error) if error.kind() == ErrorKind::Interrupted => {}
+                Err(error) => return Err(error),
+            }
+        }
+        Err(ErrorKind::Interrupted.into())
+    }
+}
+
+// The bytes of a file that has so many of them, by one read where the disk gives them at once. The list's lock keeps others from
+// changing it meanwhile.
+fn read_all(alloc: Global, mut file: File, len: u64) -> io::Result<Bytes> {
+    let Ok(len) = usize::try_from(len) else {
+        return Err(ErrorKind::FileTooLarge.into());
+    };
+    let mut bytes = Vec::new(alloc);
+    bytes.resize(len, 0)?;
+    let filled = fill(&mut file, bytes.as_mut_slice())?;
+    bytes.truncate(filled);
+    Ok(Bytes::from_vec(bytes))
+}
+
+// Reads until the buffer is full or the file ends, and answers how many bytes were read.
+fn fill(file: &mut File, buf: &mut [u8]) -> io::Result<usize> {
+    let mut filled = 0;
+    for _ in 0..u64::MAX {
+        if filled >= buf.len() {
+            return Ok(filled);
+        }
+        match file.read(&mut buf[filled..]) {
+            Ok(0) => return Ok(filled),
+            Ok(count) => filled += count,
+            Err(error) if error.kind() == ErrorKind::Interrupted => {}
+            Err(error) => return Err(error),
+        }
+    }
+    Err(ErrorKind::Interrupted.into())
+}
+
+// Gives a file that has at most so many bytes these and no others.
+fn write_whole(file: &File, most: u64, bytes: &[u8]) -> io::Result<()> {
+    file.write_all_at(bytes, 0)?;
+    let len = bytes.len() as u64;
+    if most > len {
+        file.set_len(len)
+    } else {
+        Ok(())
+    }
+}
+
+// Brings the entries of a folder above the list's own to the disk.
+fn sync_folder(rt: &HostRuntime, path: &str) -> io::Result<()> {
+    match open_folder(rt, path) {
+        Ok(folder) => folder.sync_all(),
+        Err(error) => barred_or(error),
+    }
+}
+
+/// No error where a folder may not be opened: it isn't this user's, so an earlier one has made it.
+pub(crate) fn barred_or(error: io::Error) -> io::Result<()> {
+    if error.kind() == ErrorKind::PermissionDenied {
+        Ok(())
+    } else {
+        Err(error)
+    }
+}
+
+// Removes a file, where it is there.
+fn remove_file(rt: &HostRuntime, path: &str) -> io::Result<()> {
+    for _ in 0..u64::MAX {
+        match fs::remove_file(rt, path) {
+            Err(error) if error.kind() == ErrorKind::Interrupted => {}
+            Err(error) if error.kind() == ErrorKind::NotFound => return Ok(()),
+            answer => return answer,
+        }
+    }
+    Err(ErrorKind::Interrupted.into())
+}

@@ -1,0 +1,125 @@
+// The folders of a list, and the paths of its files.
+use ml_base::{Name, path};
+use std::alloc::{AllocError, Global};
+use std::io::ErrorKind;
+use std::{io, str};
+
+// A slash, and the longest path of a file.
+const ROOM: usize = 49;
+
+/// A folder of a list: its own at depth 0, and below that those on the way to its files.
+#[derive(Clone, Copy, Debug, PartialEq, Eq, PartialOrd, Ord)]
+pub(crate) struct Place {
+    depth: u8,
+    // A file below the folder, the same one for all that stand there: so a folder is one value.
+    file: Name,
+}
+
+impl Place {
+    /// The list's own folder.
+    pub const LIST: Place = Place {
+        depth: 0,
+        file: Name::LOG,
+    };
+
+    /// The folder at this depth on the way to a file.
+    pub fn toward(name: Name, depth: u8) -> Place {
+        if depth == 0 {
+            return Place::LIST;
+        }
+        let file = match name.kind {
+            9 | 10 | 20 if depth == 1 => Name { kind: 20, at: 1 },
+            4 | 16 if depth == 1 => Name { kind: 4, at: 1 },
+            9 => Name {
+                kind: 10,
+                at: name.at / 100,
+            },
+            10 => name,
+            kind => Name { kind, at: 1 },
+        };
+        Place { depth, file }
+    }
+}
+
+/// Paths below a list's folder, each in the place of the one before.
+#[derive(Drop)]
+pub(crate) struct Paths<'a> {
+    dir: &'a str,
+    text: String,
+}
+
+impl<'a> Paths<'a> {
+    /// No path yet. It takes no memory.
+    pub fn new(alloc: Global, dir: &'a str) -> Self {
+        Paths {
+            dir,
+            text: String::new(alloc),
+        }
+    }
+
+    /// Takes room for each path to come, so that a sync takes no memory.
+    pub fn take_room(&mut self) -> Result<(), AllocError> {
+        self.text.clear();
+        self.text.reserve(self.dir.len().saturating_add(ROOM))
+    }
+
+    /// The path of what stands at these bytes below the folder.
+    pub fn below(&mut self, rest: &[u8]) -> io::Result<&str> {
+        let Ok(rest) = str::from_utf8(rest) else {
+            return Err(ErrorKind::InvalidFilename.into());
+        };
+        self.text.clear();
+        self.text.push_str(self.dir)?;
+        self.text.push_str("/")?;
+        self.text.push_str(rest)?;
+        Ok(self.text.as_str())
+    }
+
+    /// The path of a folder above the list's own, with a text of at most eight bytes behind it. It takes no memory.
+    pub fn above(&mut self, folder: &str, rest: &str) -> io::Result<&str> {
+        self.text.clear();
+        self.text.push_str(folder)?;
+        self.text.push_str(rest)?;
+        Ok(self.text.as_str())
+    }
+
+    /// The path of a file.
+    pub fn file(&mut self, name: Name) -> io::Result<&str> {
+        let mut room = [0u8; 48];
+        let rest = path_text(name, &mut room)?;
+        self.below(rest)
+    }
+
+    /// The path of a folder.
+    pub fn folder(&mut self, place: Place) -> io::Result<&str> {
+        let mut room = [0u8; 48];
+        let rest = path_text(place.file, &mut room)?;
+        self.below(front(rest, place.depth))
+    }
+}
+
+/// The path of a file below the list's folder. A name outside the table has none.
+pub(crate) fn path_text(name: Name, room: &mut [u8; 48]) -> io::Result<&[u8]> {
+    if !name.is_in_table() {
+        return Err(ErrorKind::InvalidInput.into());
+    }
+    let len = path(name, room);
+    Ok(&room[..len])
+}
+
+// What stands before the slash at this depth, counted from 1, and a dot at depth 0.
+fn front(rest: &[u8], depth: u8) -> &[u8] {
+    if depth == 0 {
+        return b".";
+    }
+    let mut left = depth;
+    for (at, byte) in rest.iter().enumerate() {
+        if *byte == b'/' {
+            if left <= 1 {
+                return &rest[..at];
+            }
+            left -= 1;
+        }
+    }
+    rest
+}

@@ -1,0 +1,173 @@
+// The folder of a list and the standard output, as a site.
+ghost use Rattle.std.specs.Prelude.{◌≡◌, ◌≤◌, [], false};
+ghost use Rattle.ml_site.specs.Disk.{nothing, untold};
+ghost use Rattle.ml_base.specs.Faults.{Rose, next_call};
+ghost use Rattle.ml_site.specs.declared.site.SiteError.TheVariants.{Failed as FailedCall};
+
+#[cfg(test)]
+mod tests;
+
+use crate::folder::Folder;
+use ml_base::{Bytes, Name};
+use ml_site::{Failed, Site, SiteError};
+use std::alloc::{AllocError, Global};
+use std::io;
+use std::io::ErrorKind;
+
+/// The folder of a list, and the standard output.
+#[derive(Drop)]
+pub struct RealSite<'a> {
+    folder: Folder<'a>,
+    disk_calls: u64,
+    disk_faults: u64,
+    output_faults: u64,
+}
+
+impl<'a> RealSite<'a> {
+    /// The site of the list in this folder. Its first call on the disk makes the folder, with those above it, and takes
+    /// the lock; where it can't, that call fails, and the next one tries again. Nothing is done yet, and no memory taken.
+    pub fn new(rt: &'a HostRuntime, dir: &'a str) -> Self
+        ensures calls { result.disk_calls ≡ 0 }
+        ensures disk { result.disk_faults ≡ 0 }
+        ensures output { result.output_faults ≡ 0 }
+    {
+        RealSite {
+            folder: Folder::new(rt, dir),
+            disk_calls: 0,
+            disk_faults: 0,
+            output_faults: 0,
+        }
+    }
+
+    /// Takes the memory that a first call on the disk needs to begin: where that is a sync, it has no answer for want of it.
+    pub fn take_room(&mut self) -> Result<(), AllocError>
+        ensures calls { self.new.disk_calls ≡ self.old.disk_calls }
+        ensures disk { self.new.disk_faults ≡ self.old.disk_faults }
+        ensures output { self.new.output_faults ≡ self.old.output_faults }
+    {
+        self.folder.take_room()
+    }
+}
+
+// Counts a call on the disk.
+fn count_call(calls: &mut u64)
+    ensures { calls.new ≡ next_call calls.old }
+{
+    *calls = calls.saturating_add(1);
+}
+
+// Counts a fault, and is its answer.
+fn failed(faults: &mut u64) -> Failed
+    ensures later { faults.old ≤ faults.new }
+    ensures counted { Rose faults.old faults.new }
+{
+    *faults = faults.saturating_add(1);
+    Failed
+}
+
+// What a failed call on the disk answers. It counts a fault, unless memory alone was wanting.
+fn site_error(error: io::Error, faults: &mut u64) -> SiteError
+    ensures later { faults.old ≤ faults.new }
+    ensures cause { result ≡ FailedCall → Rose faults.old faults.new }
+{
+    if error.kind() == ErrorKind::OutOfMemory {
+        return SiteError::Memory;
+    }
+    failed(faults);
+    SiteError::Failed
+}
+
+impl<'a> Site for RealSite<'a> {
+    ghost tells_reads = { false };
+
+    ghost tells_all = { false };
+
+    ghost disk = { λ _. nothing };
+
+    ghost output = { λ _. [] };
+
+    ghost moment = { λ _. 0 };
+
+    ghost left_since = { λ _ _ _ _. Unit {0} };
+
+    ghost syncs = { λ _. 0 };
+
+    ghost log_bytes = { λ _. 0 };
+
+    ghost disk_calls = { λ s. s.disk_calls };
+
+    ghost disk_faults = { λ s. s.disk_faults };
+
+    ghost output_faults = { λ s. s.output_faults };
+
+    fn read_log(&mut self, alloc: Global) -> Result<Bytes, SiteError> {
+        count_call(&mut self.disk_calls);
+        match self.folder.read_log(alloc) {
+            Ok(bytes) => Ok(bytes),
+            Err(error) => Err(site_error(error, &mut self.disk_faults)),
+        }
+    }
+
+    fn write_log(&mut self, _alloc: Global, at: u64, bytes: &[u8]) -> Result<(), SiteError> {
+        count_call(&mut self.disk_calls);
+        match self.folder.write_log(at, bytes) {
+            Ok(()) => Ok(()),
+            Err(error) => Err(site_error(error, &mut self.disk_faults)),
+        }
+    }
+
+    fn cut_log(&mut self, len: u64) -> Result<(), Failed> {
+        count_call(&mut self.disk_calls);
+        match self.folder.cut_log(len) {
+            Ok(()) => Ok(()),
+            Err(_) => Err(failed(&mut self.disk_faults)),
+        }
+    }
+
+    fn read_file(&mut self, alloc: Global, name: Name) -> Result<Option<Bytes>, SiteError> {
+        count_call(&mut self.disk_calls);
+        match self.folder.read(alloc, name) {
+            Ok(found) => Ok(found),
+            Err(error) => Err(site_error(error, &mut self.disk_faults)),
+        }
+    }
+
+    fn write_file(&mut self, _alloc: Global, name: Name, bytes: &[u8]) -> Result<(), SiteError> {
+        count_call(&mut self.disk_calls);
+        match self.folder.write(name, bytes) {
+            Ok(()) => Ok(()),
+            Err(error) => Err(site_error(error, &mut self.disk_faults)),
+        }
+    }
+
+    fn remove_file(&mut self, _alloc: Global, name: Name) -> Result<(), SiteError> {
+        count_call(&mut self.disk_calls);
+        match self.folder.remove(name) {
+            Ok(()) => Ok(()),
+            Err(error) => Err(site_error(error, &mut self.disk_faults)),
+        }
+    }
+
+    fn sync(&mut self) -> Result<(), Failed> {
+        count_call(&mut self.disk_calls);
+        match self.folder.sync() {
+            Ok(()) => Ok(()),
+            Err(_) => Err(failed(&mut self.disk_faults)),
+        }
+    }
+
+    fn give(&mut self, bytes: &[u8]) -> Result<(), Failed> {
+        match self.folder.give(bytes) {
+            Ok(()) => Ok(()),
+            Err(_) => Err(failed(&mut self.output_faults)),
+        }
+    }
+
+    ghost all_has_reads = { λ t. t };
+
+    ghost reads_as_image = { λ s t. untold t };
+
+    ghost is_a_moment = { λ s t told le. untold told };
+
+    ghost only_now = { λ s c o told left. untold told };
+}
