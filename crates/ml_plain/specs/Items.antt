@@ -1,5 +1,5 @@
--- The ranges of items.
-use Rattle.std.specs.Prelude.{◌≤◌, ℕ, length}
+-- The ranges of items, and acts as items of one moment.
+use Rattle.std.specs.Prelude.{◌≤◌, ◌+◌, ℕ, List, [], ◌∷◌, length}
 use Rattle.ml_base.specs.Bytes.{Text}
 use Rattle.ml_base.specs.Ranges.{IsMoment}
 use Rattle.ml_plain.specs.declared.Item.{Item}
@@ -29,3 +29,12 @@ pub record IsItem (item : Item) : Type 0 where
   pub number : item.number ≤ 999_999_999_999
   pub moment : IsMoment item.moment
   pub act : IsAct item.act
+
+-- acts as items of one moment, numbered from this number on
+abbrev pub numbered : ℕ → ℕ → List Act → List Item
+numbered first now [] = []
+numbered first now (act ∷ more) = record { number = first; moment = now; act = act } ∷ numbered (first + 1) now more
+
+-- the numbers of so many items from a first one on have at most twelve digits
+abbrev pub AreNumbers : ℕ → ℕ → Type 0
+AreNumbers first count = first + count ≤ 1_000_000_000_000

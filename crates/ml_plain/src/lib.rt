@@ -9,7 +9,7 @@ pub use laws::{
     law_chain, law_changes, law_digests, law_joined, law_kept_files, law_leaving, law_mails,
     law_new_list, law_once, law_parts, law_posts, law_states,
 };
-use ml_base::{Address, Bytes, Set};
+use ml_base::{Address, Bytes, Row, Set};
 
 /// One thing that is asked of a list.
 #[derive(Drop)]
@@ -55,6 +55,9 @@ pub enum Act {
         at: u64,
     },
 }
+
+/// Acts in a row, as a stream of items of one moment has them.
+pub type ActList = Row<Act>;
 
 /// What an item is answered: a code, and a number where the code has one (`has_number`), else 0.
 #[derive(Clone, Copy, Debug, PartialEq, Eq)]

@@ -6,3 +6,4 @@ pub mod Streams
 pub mod Spelled
 pub mod Locality
 pub mod Cuts
+pub mod Numbered

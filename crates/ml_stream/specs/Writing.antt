@@ -1,11 +1,13 @@
 -- An item as a stream spells it.
-use Rattle.std.specs.Prelude.{◌≡◌, ℕ, ◌∷◌, [], ◌++◌, length}
+use Rattle.std.specs.Prelude.{◌≡◌, ℕ, List, ◌∷◌, [], ◌++◌, length}
+use Rattle.std.specs.List.{flat_map}
 use Rattle.std.specs.Fmt.{decimal}
 use Rattle.hex.specs.Hex.{encode_lower, IsBytes}
 use Rattle.ml_base.specs.Bytes.{Text}
 use Rattle.ml_base.specs.Name.{set_word}
 use Rattle.ml_base.specs.Address.{IsAddress}
 use Rattle.ml_base.specs.Netstrings.{ns}
+use Rattle.ml_plain.specs.Items.{IsAct}
 use Rattle.ml_plain.specs.declared.Item.{Item}
 use Rattle.ml_plain.specs.declared.Act.{Act}
 use Rattle.ml_plain.specs.declared.Act.TheVariants.{Deliver, Timed, Add, Remove, Sent, Rekey, Floor}
@@ -34,6 +36,10 @@ spelled_act (Floor at) = ns (decimal at)
 abbrev pub spelled_item : Item → Text
 spelled_item item = letter item.act ∷ ns (decimal item.number) ++ ns (decimal item.moment) ++ spelled_act item.act
 
+-- items in a row
+abbrev pub stream_text : List Item → Text
+stream_text items = flat_map spelled_item items
+
 -- what holds of the parts of an act by their types: of an address, and of the 32 bytes of a key
 abbrev pub IsTyped : Act → Type 0
 IsTyped (Deliver sender recipient message) = Unit {0}
@@ -43,3 +49,7 @@ IsTyped (Remove set who) = IsAddress who
 IsTyped (Sent id) = Unit {0}
 IsTyped (Rekey key) = (length key ≡ 32) × IsBytes key
 IsTyped (Floor at) = Unit {0}
+
+-- an act that an item of a stream can have
+abbrev pub IsGood : Act → Type 0
+IsGood act = IsAct act × IsTyped act

@@ -1,10 +1,13 @@
 // What holds of every stream.
 ghost use Rattle.std.specs.Prelude.{◌≡◌, ℕ, List, ◌+◌, ◌++◌, Some, length};
+ghost use Rattle.std.specs.List.{AllByRecursion};
 ghost use Rattle.ml_base.specs.Bytes.{Text};
+ghost use Rattle.ml_base.specs.Ranges.{IsMoment};
+ghost use Rattle.ml_plain.specs.declared.Act.{Act as TheAct};
 ghost use Rattle.ml_plain.specs.declared.Item.{Item as TheItem};
-ghost use Rattle.ml_stream.specs.Stream.{StreamEnd, IsStream, item_at, got};
-ghost use Rattle.ml_plain.specs.Items.{IsItem};
-ghost use Rattle.ml_stream.specs.Writing.{IsTyped, spelled_item};
+ghost use Rattle.ml_stream.specs.Stream.{StreamEnd, IsStream, End, item_at, got};
+ghost use Rattle.ml_plain.specs.Items.{IsItem, AreNumbers, numbered};
+ghost use Rattle.ml_stream.specs.Writing.{IsTyped, IsGood, spelled_item, stream_text};
 
 /// Every row of bytes is a stream of some items, with some end, and of no others.
 pub fn law_streams()
@@ -23,4 +26,11 @@ pub fn law_items()
 pub fn law_fronts()
     ensures { (place next : ℕ) (bytes rest : Text) (item : TheItem) → item_at place bytes ≡ got (Some item) next rest →
         (front : Text) × (bytes ≡ front ++ rest) × ((more : Text) → item_at place (front ++ more) ≡ got (Some item) next more) }
+{}
+
+/// What is written of acts as items of one moment, numbered from a first number on, is a stream of exactly these items, and
+/// then ends.
+pub fn law_numbered()
+    ensures { (place first now : ℕ) (acts : List TheAct) → IsMoment now → AreNumbers first (length acts) → AllByRecursion IsGood acts →
+        IsStream place (stream_text (numbered first now acts)) (numbered first now acts) End }
 {}

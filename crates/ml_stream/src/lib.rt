@@ -8,6 +8,6 @@ mod stream;
 mod writing;
 
 pub use items::Items;
-pub use laws::{law_fronts, law_items, law_streams};
+pub use laws::{law_fronts, law_items, law_numbered, law_streams};
 pub use stream::StreamError;
 pub use writing::write_item;
