@@ -47,7 +47,7 @@ impl<'a> RealSite<'a> {
 
     /// How many calls on the disk have failed, as far as that can be counted in 64 bits.
     pub fn failures(&self) -> u64
-        ensures { result ≡ self.disk_faults }
+        ensures { result ≡ self.now.disk_faults }
     {
         self.disk_faults
     }
