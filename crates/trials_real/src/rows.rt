@@ -5,7 +5,7 @@ use ml_site::{Clock, Source};
 use std::str;
 use std::test::Fail;
 
-const STEPS: [(Step, &str); 391] = [
+static STEPS: [(Step, &str); 391] = [
     (Step::Row("files are found by the next run"), "ok"),
     (Step::Run("real/list"), "ok"),
     (Step::Read(1, 0), "none"),
