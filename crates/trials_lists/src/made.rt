@@ -12,8 +12,8 @@ pub enum Made<'a> {
     Text(u8, u64, &'a [u8]),
     /// A file gets so many times this text at its end.
     Times(u8, u64, u64, &'a [u8]),
-    /// A file gets a text at its end for each number from one to another.
-    Count(u8, u64, (u64, u64), &'a [u8]),
+    /// A file gets texts at its end, each so many times, for each number from one to another.
+    Count(u8, u64, (u64, u64), &'a [(u64, &'a [u8])]),
     /// The file at each place from one to another has this text.
     Each(u8, (u64, u64), &'a [u8]),
     /// For each number from one to another, a text at the end of the bucket of an address: the address, and the text.
@@ -41,12 +41,11 @@ fn with_number(alloc: Global, text: &[u8], number: u64) -> Result<Bytes, AllocEr
     let mut digits = [0; 20];
     let len = write_number(number, &mut digits);
     let mut out = Bytes::new(alloc);
-    for byte in text {
-        if *byte == b'%' {
+    for (at, piece) in text.split(|byte| *byte == b'%').enumerate() {
+        if at > 0 {
             out.extend(&digits[..len])?;
-        } else {
-            out.push(*byte)?;
         }
+        out.extend(piece)?;
     }
     Ok(out)
 }
@@ -59,10 +58,28 @@ fn repeated(alloc: Global, times: u64, text: &[u8]) -> Result<Bytes, AllocError>
     Ok(out)
 }
 
-fn counted(alloc: Global, range: (u64, u64), text: &[u8]) -> Result<Bytes, AllocError> {
+// Adds texts with the number in them, each so many times.
+fn add_pieces(
+    alloc: Global,
+    out: &mut Bytes,
+    pieces: &[(u64, &[u8])],
+    number: u64,
+) -> Result<(), AllocError> {
+    for (times, text) in pieces {
+        let text = with_number(alloc, text, number)?;
+        out.extend(repeated(alloc, *times, text.as_slice())?.as_slice())?;
+    }
+    Ok(())
+}
+
+fn counted(
+    alloc: Global,
+    range: (u64, u64),
+    pieces: &[(u64, &[u8])],
+) -> Result<Bytes, AllocError> {
     let mut out = Bytes::new(alloc);
     for number in range.0..=range.1 {
-        out.extend(with_number(alloc, text, number)?.as_slice())?;
+        add_pieces(alloc, &mut out, pieces, number)?;
     }
     Ok(out)
 }
@@ -206,8 +223,8 @@ fn make_one(alloc: Global, texts: &mut Texts, made: &Made<'_>) -> Result<(), All
                 text.as_slice(),
             )
         }
-        Made::Count(kind, at, range, text) => {
-            let text = counted(alloc, *range, text)?;
+        Made::Count(kind, at, range, pieces) => {
+            let text = counted(alloc, *range, pieces)?;
             add(
                 alloc,
                 texts,
