@@ -72,11 +72,7 @@ fn add_pieces(
     Ok(())
 }
 
-fn counted(
-    alloc: Global,
-    range: (u64, u64),
-    pieces: &[(u64, &[u8])],
-) -> Result<Bytes, AllocError> {
+fn counted(alloc: Global, range: (u64, u64), pieces: &[(u64, &[u8])]) -> Result<Bytes, AllocError> {
     let mut out = Bytes::new(alloc);
     for number in range.0..=range.1 {
         add_pieces(alloc, &mut out, pieces, number)?;

@@ -38,7 +38,7 @@ fn shown(alloc: Global, text: &[u8], from: usize) -> Result<String, AllocError> 
 }
 
 /// Fails where what came is not what was to come, and tells which row of which table it was, the place of the first byte that differs, and
-/// up to 100 bytes of both from there on.
+/// up to 100 bytes of both from 20 bytes before it on.
 pub fn same(
     alloc: Global,
     table: &str,
@@ -50,8 +50,9 @@ pub fn same(
         return Ok(());
     }
     let at = common(came, wanted);
-    let came = shown(alloc, came, at)?;
-    let wanted = shown(alloc, wanted, at)?;
+    let from = at.saturating_sub(20);
+    let came = shown(alloc, came, from)?;
+    let wanted = shown(alloc, wanted, from)?;
     Err(Fail::new(format_args!(
         "{table}, row {row}, byte {at}: came \"{came}\", wanted \"{wanted}\""
     )))
