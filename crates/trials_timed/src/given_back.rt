@@ -1,11 +1,9 @@
 // Held posts that no moderator answered.
-use crate::lists::{
-    ABSENT, IDS, PLAIN, TICKETS, Texts, config, entry, entry_file, held_file, makes, texts,
-};
-use ml_base::{Bytes, push_netstring};
-use std::alloc::Global;
-use std::process::Abort;
+use crate::lines::Line::{self, List, Run};
+use crate::lines::{SAME, hold};
 use std::test::Fail;
+use trials_lists::Left::{Among, Only};
+use trials_lists::Made::{Each, Entry, Text, Times};
 
 // A message of 45 bytes of `g@h`, held at 1,000,000,000.
 const WAITING: &[u8] =
@@ -27,99 +25,88 @@ Subject: hello
 hi
 ";
 
-// 432,000 seconds later.
-const OLD: u64 = 1_000_432_000;
-
-#[test]
-fn a_post_goes_back_at_432_000_seconds(rt: HostRuntime) -> Result<(), Fail> {
-    let alloc = rt.alloc();
-    let config = config(alloc, PLAIN)?;
-    let mut texts = texts(
-        alloc,
-        &[
-            (held_file(1), WAITING),
-            (TICKETS, b"1:2\n"),
-            (IDS, b"2:2\n"),
-        ],
-    )?;
-    let waits = [
-        (held_file(1), WAITING),
-        (TICKETS, b"1:2\n".as_slice()),
-        (IDS, b"2:2\n".as_slice()),
-    ];
-    assert!(rt; makes(alloc, &mut texts, &config, OLD - 1, 0, &waits)?);
-    let mail = entry(alloc, b"list-return-", b"p", EXPIRED, b"g@h")?;
-    let gone = [
-        (held_file(1), ABSENT),
-        (TICKETS, b"2:2\n".as_slice()),
-        (entry_file(2), mail.as_slice()),
-        (IDS, b"2:3\n".as_slice()),
-    ];
-    assert!(rt; makes(alloc, &mut texts, &config, OLD, 1, &gone)?);
-    assert!(rt; makes(alloc, &mut texts, &config, OLD, 0, &gone)?);
-    Ok(())
-}
-
-// The files of a list with 1,001 held posts.
-fn many_waiting(alloc: Global) -> Result<Texts, Fail> {
-    let mut texts = texts(alloc, &[(TICKETS, b"1:1002\n")])?;
-    for ticket in 1..=1001 {
-        texts.insert(held_file(ticket), Bytes::from_slice(alloc, WAITING)?)?;
-    }
-    Ok(texts)
-}
-
-#[test]
-fn a_thousand_go_back_at_once(rt: HostRuntime) -> Result<(), Fail> {
-    let alloc = rt.alloc();
-    let config = config(alloc, PLAIN)?;
-    let mut texts = many_waiting(alloc)?;
-    let one_left = [
-        (held_file(1), ABSENT),
-        (held_file(1000), ABSENT),
-        (held_file(1001), WAITING),
-        (TICKETS, b"1001:1002\n".as_slice()),
-        (IDS, b"1:1001\n".as_slice()),
-    ];
-    assert!(rt; makes(alloc, &mut texts, &config, OLD, 1000, &one_left)?);
-    let none_left = [
-        (held_file(1001), ABSENT),
-        (TICKETS, b"1002:1002\n".as_slice()),
-        (IDS, b"1:1002\n".as_slice()),
-    ];
-    assert!(rt; makes(alloc, &mut texts, &config, OLD, 1, &none_left)?);
-    Ok(())
-}
-
-// A held post with a message of so many bytes.
-fn large(alloc: Global, bytes: usize) -> Result<Bytes, Fail> {
-    let message = vec![in alloc; b'x'; bytes]?;
-    let mut out = Bytes::from_slice(alloc, b"10:1000000000,3:g@h,")?;
-    push_netstring(&mut out, message.as_slice())?;
-    Ok(out)
-}
-
 // A held post with a message of a byte.
 const SMALL: &[u8] = b"10:1000000000,3:g@h,1:x,";
 
+const XS: [u8; 1024] = [b'x'; 1024];
+
+// 432,000 seconds later.
+const OLD: u64 = 1_000_432_000;
+
+const TABLE: &[Line] = &[
+    // A post goes back at 432,000 seconds.
+    List(
+        b"",
+        &[
+            Text(13, 1, WAITING),
+            Text(14, 0, b"1:2\n"),
+            Text(18, 0, b"2:2\n"),
+        ],
+    ),
+    Run(OLD - 1, b"3 0", SAME),
+    Run(
+        OLD,
+        b"3 1",
+        Only(&[
+            Text(13, 1, b"-"),
+            Text(14, 0, b"2:2\n"),
+            Text(17, 2, EXPIRED),
+            Entry(2, b"list-return-", b"p", &[b"g@h"]),
+            Text(18, 0, b"2:3\n"),
+        ]),
+    ),
+    Run(OLD, b"3 0", SAME),
+    // A thousand go back at once.
+    List(
+        b"",
+        &[Each(13, (1, 1001), WAITING), Text(14, 0, b"1:1002\n")],
+    ),
+    Run(
+        OLD,
+        b"3 1000",
+        Among(&[
+            Text(13, 1, b"-"),
+            Text(13, 1000, b"-"),
+            Text(13, 1001, WAITING),
+            Text(14, 0, b"1001:1002\n"),
+            Text(18, 0, b"1:1001\n"),
+        ]),
+    ),
+    Run(
+        OLD,
+        b"3 1",
+        Among(&[
+            Text(13, 1001, b"-"),
+            Text(14, 0, b"1002:1002\n"),
+            Text(18, 0, b"1:1002\n"),
+        ]),
+    ),
+    // Messages of 33,554,432 bytes go back at once: one of a byte less, and one of a byte.
+    List(
+        b"",
+        &[
+            Text(13, 1, b"10:1000000000,3:g@h,33554431:"),
+            Times(13, 1, 32_767, &XS),
+            Times(13, 1, 1, &[b'x'; 1023]),
+            Times(13, 1, 1, b","),
+            Text(13, 2, SMALL),
+            Text(13, 3, SMALL),
+            Text(14, 0, b"1:4\n"),
+        ],
+    ),
+    Run(
+        OLD,
+        b"3 2",
+        Among(&[Text(13, 2, b"-"), Text(13, 3, SMALL), Text(14, 0, b"3:4\n")]),
+    ),
+    Run(
+        OLD,
+        b"3 1",
+        Among(&[Text(13, 3, b"-"), Text(14, 0, b"4:4\n")]),
+    ),
+];
+
 #[test]
-fn messages_of_33_554_432_bytes_go_back_at_once(rt: HostRuntime) -> Result<(), Fail> {
-    let alloc = rt.alloc();
-    let config = config(alloc, PLAIN)?;
-    let small = [
-        (held_file(2), SMALL),
-        (held_file(3), SMALL),
-        (TICKETS, b"1:4\n".as_slice()),
-    ];
-    let mut texts = texts(alloc, &small)?;
-    texts.insert(held_file(1), large(alloc, 33_554_431)?)?;
-    let one_left = [
-        (held_file(2), ABSENT),
-        (held_file(3), SMALL),
-        (TICKETS, b"3:4\n".as_slice()),
-    ];
-    assert!(rt; makes(alloc, &mut texts, &config, OLD, 2, &one_left)?);
-    let none_left = [(held_file(3), ABSENT), (TICKETS, b"4:4\n".as_slice())];
-    assert!(rt; makes(alloc, &mut texts, &config, OLD, 1, &none_left)?);
-    Ok(())
+fn held_posts(rt: HostRuntime) -> Result<(), Fail> {
+    hold(rt.alloc(), "held posts", TABLE)
 }

@@ -8,6 +8,6 @@ mod digests;
 #[cfg(test)]
 mod given_back;
 #[cfg(test)]
-mod lists;
+mod lines;
 #[cfg(test)]
 mod runs;

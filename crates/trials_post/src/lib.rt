@@ -1,5 +1,0 @@
-//! Tests of the public calls on posts.
-#![tactic(auto)]
-
-#[cfg(test)]
-mod verdicts;

@@ -1,0 +1,27 @@
+//! Tests of what posts, moderators' answers and mail to a list's other addresses do.
+#![tactic(auto)]
+
+#[cfg(test)]
+mod archive;
+#[cfg(test)]
+mod asking;
+#[cfg(test)]
+mod bounces;
+#[cfg(test)]
+mod confirming;
+#[cfg(test)]
+mod joining;
+#[cfg(test)]
+mod lines;
+#[cfg(test)]
+mod mails;
+#[cfg(test)]
+mod moderated;
+#[cfg(test)]
+mod posts;
+#[cfg(test)]
+mod rules;
+#[cfg(test)]
+mod verdicts;
+#[cfg(test)]
+mod worked;
