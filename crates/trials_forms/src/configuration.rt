@@ -1,0 +1,748 @@
+// The configuration's file, the keys' file and the words of `make` by hand, each call that takes memory once, and failing
+// reads handed on.
+use ml_base::{Bytes, Files, Layer, MapFiles, Name, Numbers};
+use ml_config::{
+    Config, ConfigError, Former, Keys, config_from_words, initial, key, load, read_config,
+    set_keys, write_config,
+};
+use std::alloc::{AllocError, Global};
+use std::collections::BTreeMap;
+use std::test::Fail;
+
+const CONFIG: Name = Name { kind: 1, at: 0 };
+
+const KEY: Name = Name { kind: 2, at: 0 };
+
+type Text = &'static [u8];
+
+// Words of a command line.
+type Words = &'static [Text];
+
+#[derive(Clone, Copy)]
+enum Call {
+    // The configuration of a file of this text, and the file that is written of it.
+    Load(Text),
+    // The first byte of a file of this text that may be 0 with the file not damaged.
+    Zeroed(Text),
+    // Whether a text is read as a configuration.
+    IsRead(Text),
+    // The configuration and the keys, twice, where there are no files and the reads of these numbers fail.
+    Absent(&'static [u64]),
+    // The keys of a file of this text.
+    Key(Text),
+    // The keys that are read of those that were set.
+    SetKeys,
+    // The configuration's file by these words of `make`.
+    Make(Words, Words),
+    // Whether these are words of `make`.
+    IsTaken(Words, Words),
+    // The files of a new list by these words of `make`.
+    Files(Words),
+    // The words of errors.
+    Errors,
+}
+
+fn told(alloc: Global, call: Call) -> Result<String, Fail> {
+    match call {
+        Call::Load(text) => loaded(alloc, &mut with_file(alloc, CONFIG, text)?),
+        Call::Zeroed(text) => zeroed(alloc, text),
+        Call::IsRead(text) => Ok(format!(in alloc; "{}", read_config(alloc, text)?.is_some())?),
+        Call::Absent(failing) => absent(alloc, failing),
+        Call::Key(text) => keys(alloc, &mut with_file(alloc, KEY, text)?),
+        Call::SetKeys => keys_set(alloc),
+        Call::Make(words, more) => made(alloc, words, more),
+        Call::IsTaken(words, more) => is_taken(alloc, words, more),
+        Call::Files(words) => files(alloc, words),
+        Call::Errors => Ok(format!(in alloc; "{}; {}", ConfigError::Usage, ConfigError::Memory)?),
+    }
+}
+
+// The files with this one alone, whose reads don't fail.
+fn with_file(alloc: Global, name: Name, bytes: &[u8]) -> Result<MapFiles, AllocError> {
+    let mut files = BTreeMap::new(alloc);
+    files.insert(name, Bytes::from_slice(alloc, bytes)?)?;
+    Ok(MapFiles::new(files, Numbers::new(alloc)))
+}
+
+fn loaded(alloc: Global, files: &mut MapFiles) -> Result<String, Fail> {
+    match load(alloc, files) {
+        Ok(Some(config)) => config_text(alloc, &config),
+        Ok(None) => Ok(String::from_str(alloc, "none")?),
+        Err(error) => Ok(format!(in alloc; "{error:?}")?),
+    }
+}
+
+fn config_text(alloc: Global, config: &Config) -> Result<String, Fail> {
+    let local = str::from_utf8(config.local.as_slice())?;
+    let host = str::from_utf8(config.host.as_slice())?;
+    let owner = str::from_utf8(config.owner.bytes())?;
+    let prefix = str::from_utf8(config.prefix.as_slice())?;
+    let file = write_config(alloc, config)?;
+    let file = str::from_utf8(file.as_slice())?;
+    let flags = config.flags;
+    let max = config.max;
+    Ok(format!(in alloc; "{flags:?} {local} {host} {owner} {prefix} {max}\n{file}")?)
+}
+
+fn zeroed(alloc: Global, text: &[u8]) -> Result<String, Fail> {
+    for at in 0..text.len() {
+        let mut bytes = Vec::from_slice(alloc, text)?;
+        bytes[at] = 0;
+        let found = loaded(alloc, &mut with_file(alloc, CONFIG, &bytes)?)?;
+        if found.as_str() != "Damaged(Name { kind: 1, at: 0 })" {
+            return Ok(format!(in alloc; "byte {at}: {found}")?);
+        }
+    }
+    Ok(String::from_str(alloc, "none")?)
+}
+
+fn absent(alloc: Global, failing: &[u64]) -> Result<String, Fail> {
+    let fail = Numbers::from_vec(Vec::from_slice(alloc, failing)?);
+    let mut files = MapFiles::new(BTreeMap::new(alloc), fail);
+    let mut out = String::new(alloc);
+    for _ in 0..2 {
+        let config = loaded(alloc, &mut files)?;
+        let keys = keys(alloc, &mut files)?;
+        out.push_str(format!(in alloc; "{config}; {keys}; ")?.as_str())?;
+    }
+    Ok(out)
+}
+
+fn keys<F: Files>(alloc: Global, files: &mut F) -> Result<String, Fail> {
+    match key(alloc, files) {
+        Ok(Keys { key, former: None }) => Ok(format!(in alloc; "{key:?}")?),
+        Ok(
+            Keys {
+                key,
+                former: Some(former),
+            },
+        ) => Ok(format!(in alloc; "{key:?} {:?} {}", former.key, former.changed)?),
+        Err(error) => Ok(format!(in alloc; "{error:?}")?),
+    }
+}
+
+fn keys_set(alloc: Global) -> Result<String, Fail> {
+    let former = Former {
+        key: [1; 32],
+        changed: 1_000_000_300,
+    };
+    let set = Keys {
+        key: [2; 32],
+        former: Some(former),
+    };
+    let files = MapFiles::new(BTreeMap::new(alloc), Numbers::new(alloc));
+    keys(alloc, &mut Layer::new(files, set_keys(alloc, &set)?))
+}
+
+// Words with more words behind them.
+fn words_of(alloc: Global, words: &[&[u8]], more: &[&[u8]]) -> Result<Vec<String>, Fail> {
+    let mut out = Vec::new(alloc);
+    for word in words.iter().chain(more) {
+        out.push(String::from_str(alloc, str::from_utf8(word)?)?)?;
+    }
+    Ok(out)
+}
+
+fn made(alloc: Global, words: &[&[u8]], more: &[&[u8]]) -> Result<String, Fail> {
+    match config_from_words(alloc, &words_of(alloc, words, more)?) {
+        Ok((config, _)) => Ok(String::from_utf8(write_config(alloc, &config)?.into_vec())?),
+        Err(error) => Ok(format!(in alloc; "{error:?}")?),
+    }
+}
+
+fn is_taken(alloc: Global, words: &[&[u8]], more: &[&[u8]]) -> Result<String, Fail> {
+    match config_from_words(alloc, &words_of(alloc, words, more)?) {
+        Ok(_) => Ok(String::from_str(alloc, "taken")?),
+        Err(error) => Ok(format!(in alloc; "{error:?}")?),
+    }
+}
+
+// The kind, place and text of each file.
+fn files(alloc: Global, words: &[&[u8]]) -> Result<String, Fail> {
+    let (config, key) = config_from_words(alloc, &words_of(alloc, words, &[])?)?;
+    let mut out = String::new(alloc);
+    for put in initial(alloc, &config, &key)?.as_slice() {
+        let Name { kind, at } = put.name;
+        let bytes = put.bytes.as_ref().ok_or("a file is removed")?;
+        let text = str::from_utf8(bytes.as_slice())?;
+        out.push_str(format!(in alloc; "{kind} {at} {text}|")?.as_str())?;
+    }
+    Ok(out)
+}
+
+const HEX: Text = b"000102030405060708090a0b0c0d0e0f101112131415161718191a1b1c1d1e1f";
+
+// The last words of a plain list.
+const PLAIN: Words = &[b"--key", HEX, b"list", b"ex.org", b"o@own.org"];
+
+const NO_MORE: Words = &[];
+
+const USAGE: &str = "Usage";
+
+const TAKEN: &str = "taken";
+
+const DAMAGED: &str = "Damaged(Name { kind: 2, at: 0 })";
+
+// The key's 32 bytes.
+const SEVENS: &str =
+    "[7, 7, 7, 7, 7, 7, 7, 7, 7, 7, 7, 7, 7, 7, 7, 7, 7, 7, 7, 7, 7, 7, 7, 7, 7, 7, 7, 7, 7, 7, 7, 7]";
+
+// The same with a former key, whose moment is the last.
+const LAST: &str =
+    "[7, 7, 7, 7, 7, 7, 7, 7, 7, 7, 7, 7, 7, 7, 7, 7, 7, 7, 7, 7, 7, 7, 7, 7, 7, 7, 7, 7, 7, 7, 7, 7] [7, 7, 7, 7, 7, 7, 7, 7, 7, 7, 7, 7, 7, 7, 7, 7, 7, 7, 7, 7, 7, 7, 7, 7, 7, 7, 7, 7, 7, 7, 7, 7] 253402300799";
+
+const ROWS: [(Call, &str); 116] = [
+    (
+        Call::Load(
+            b"flags bDfGHJKLMpRSTU\nlocal list\nhost ex.org\nowner o@own.org\nprefix [list]\nmax 1048576\n",
+        ),
+        "Flags { b: true, d: false, f: true, g: false, h: false, j: false, k: false, l: false, m: false, p: true, r: false, s: false, t: false, u: false } list ex.org o@own.org [list] 1048576\nflags bDfGHJKLMpRSTU\nlocal list\nhost ex.org\nowner o@own.org\nprefix [list]\nmax 1048576\n",
+    ),
+    (
+        Call::Zeroed(
+            b"flags bDfGHJKLMpRSTU\nlocal list\nhost ex.org\nowner o@own.org\nprefix [list]\nmax 1048576\n",
+        ),
+        "none",
+    ),
+    (
+        Call::IsRead(
+            b"flags BDFGHJKLMpRSTU\nlocal list\nhost ex.org\nowner o@own.org\nprefix \nmax 1048576\n",
+        ),
+        "true",
+    ),
+    (
+        Call::IsRead(
+            b"flags BDFGHJKLMpRSTU\nlocal list\nhost ex.org\nowner o@own.org\nprefix \nmax 1048576",
+        ),
+        "false",
+    ),
+    (
+        Call::IsRead(
+            b"flags BDFGHJKLMpRSTU\nlocal list\nhost ex.org\nowner o@own.org\nmax 1048576\n",
+        ),
+        "false",
+    ),
+    (
+        Call::IsRead(
+            b"flags BDFGHJKLMpRSTU\nlocal list\nhost ex.org\nowner o@own.org\nprefix \nmax 1048576\nmax 1048576\n",
+        ),
+        "false",
+    ),
+    (
+        Call::IsRead(
+            b"local list\nflags BDFGHJKLMpRSTU\nhost ex.org\nowner o@own.org\nprefix \nmax 1048576\n",
+        ),
+        "false",
+    ),
+    (
+        Call::IsRead(
+            b"flags BDFGHJKLMpRSTU\nlocal list\nhost EX.org\nowner o@own.org\nprefix \nmax 1048576\n",
+        ),
+        "false",
+    ),
+    (
+        Call::IsRead(
+            b"flags BDFGHJKLMpRSTU\nlocal list\nhost ex.org\nowner o@OWN.org\nprefix \nmax 1048576\n",
+        ),
+        "false",
+    ),
+    (
+        Call::IsRead(
+            b"flags BDFGHJKLMpRSTU\nlocal list\nhost ex.org\nowner list-x@ex.org\nprefix \nmax 1048576\n",
+        ),
+        "false",
+    ),
+    (
+        Call::IsRead(
+            b"flags BDfGHJKLMpRSTU\nlocal list\nhost ex.org\nowner o@own.org\nprefix \nmax 1048576\n",
+        ),
+        "false",
+    ),
+    (
+        Call::IsRead(
+            b"flags BDFGHJKLMpRSTU\nlocal list\nhost ex.org\nowner o@own.org\nprefix \nmax 01\n",
+        ),
+        "false",
+    ),
+    (
+        Call::IsRead(
+            b"flags BDFGHJKLMpRSTU\nlocal list\nhost ex.org\nowner o@own.org\nprefix\nmax 1\n",
+        ),
+        "false",
+    ),
+    (
+        Call::IsRead(
+            b"flags BDFGHJKLMpRST\nlocal list\nhost ex.org\nowner o@own.org\nprefix \nmax 1\n",
+        ),
+        "false",
+    ),
+    (Call::IsRead(b""), "false"),
+    (
+        Call::Absent(&[3, 4]),
+        "none; Damaged(Name { kind: 2, at: 0 }); Fault; Fault; ",
+    ),
+    (Call::Key(&[7; 0]), DAMAGED),
+    (Call::Key(&[7; 31]), DAMAGED),
+    (Call::Key(&[7; 32]), SEVENS),
+    (Call::Key(&[7; 33]), DAMAGED),
+    (
+        Call::Key(
+            b"\x07\x07\x07\x07\x07\x07\x07\x07\x07\x07\x07\x07\x07\x07\x07\x07\x07\x07\x07\x07\x07\x07\x07\x07\x07\x07\x07\x07\x07\x07\x07\x07\x07\x07\x07\x07\x07\x07\x07\x07\x07\x07\x07\x07\x07\x07\x07\x07\x07\x07\x07\x07\x07\x07\x07\x07\x07\x07\x07\x07\x07\x07\x07\x07\x00\x00\x00\x3A\xFF\xF4\x41",
+        ),
+        DAMAGED,
+    ),
+    (
+        Call::Key(
+            b"\x07\x07\x07\x07\x07\x07\x07\x07\x07\x07\x07\x07\x07\x07\x07\x07\x07\x07\x07\x07\x07\x07\x07\x07\x07\x07\x07\x07\x07\x07\x07\x07\x07\x07\x07\x07\x07\x07\x07\x07\x07\x07\x07\x07\x07\x07\x07\x07\x07\x07\x07\x07\x07\x07\x07\x07\x07\x07\x07\x07\x07\x07\x07\x07\x00\x00\x00\x3A\xFF\xF4\x41\x80",
+        ),
+        DAMAGED,
+    ),
+    (
+        Call::Key(
+            b"\x07\x07\x07\x07\x07\x07\x07\x07\x07\x07\x07\x07\x07\x07\x07\x07\x07\x07\x07\x07\x07\x07\x07\x07\x07\x07\x07\x07\x07\x07\x07\x07\x07\x07\x07\x07\x07\x07\x07\x07\x07\x07\x07\x07\x07\x07\x07\x07\x07\x07\x07\x07\x07\x07\x07\x07\x07\x07\x07\x07\x07\x07\x07\x07\x00\x00\x00\x3A\xFF\xF4\x41\x80\x07",
+        ),
+        DAMAGED,
+    ),
+    (
+        Call::Key(
+            b"\x07\x07\x07\x07\x07\x07\x07\x07\x07\x07\x07\x07\x07\x07\x07\x07\x07\x07\x07\x07\x07\x07\x07\x07\x07\x07\x07\x07\x07\x07\x07\x07\x07\x07\x07\x07\x07\x07\x07\x07\x07\x07\x07\x07\x07\x07\x07\x07\x07\x07\x07\x07\x07\x07\x07\x07\x07\x07\x07\x07\x07\x07\x07\x07\x00\x00\x00\x3A\xFF\xF4\x41\x7F",
+        ),
+        LAST,
+    ),
+    (
+        Call::SetKeys,
+        "[2, 2, 2, 2, 2, 2, 2, 2, 2, 2, 2, 2, 2, 2, 2, 2, 2, 2, 2, 2, 2, 2, 2, 2, 2, 2, 2, 2, 2, 2, 2, 2] [1, 1, 1, 1, 1, 1, 1, 1, 1, 1, 1, 1, 1, 1, 1, 1, 1, 1, 1, 1, 1, 1, 1, 1, 1, 1, 1, 1, 1, 1, 1, 1] 1000000300",
+    ),
+    (
+        Call::Files(PLAIN),
+        "1 0 flags BDFGHJKLMpRSTU\nlocal list\nhost ex.org\nowner o@own.org\nprefix \nmax 1048576\n|2 0 \x00\x01\x02\x03\x04\x05\x06\x07\x08\x09\x0a\x0b\x0c\x0d\x0e\x0f\x10\x11\x12\x13\x14\x15\x16\x17\x18\x19\x1a\x1b\x1c\x1d\x1e\x1f|8 0 0\n|8 1 0\n|8 2 0\n|8 3 0\n|8 4 0\n|11 0 0\n|12 0 0:0\n|14 0 1:1\n|18 0 1:1\n|",
+    ),
+    (Call::Errors, "not the words of `make`; out of memory"),
+    (
+        Call::Make(&[b"-b"], PLAIN),
+        "flags bDFGHJKLMpRSTU\nlocal list\nhost ex.org\nowner o@own.org\nprefix \nmax 1048576\n",
+    ),
+    (
+        Call::Make(&[b"-B"], PLAIN),
+        "flags BDFGHJKLMpRSTU\nlocal list\nhost ex.org\nowner o@own.org\nprefix \nmax 1048576\n",
+    ),
+    (Call::Make(&[b"-b", b"-B"], PLAIN), USAGE),
+    (
+        Call::Make(&[b"-d"], PLAIN),
+        "flags BdFGHJKLMpRSTU\nlocal list\nhost ex.org\nowner o@own.org\nprefix \nmax 1048576\n",
+    ),
+    (
+        Call::Make(&[b"-D"], PLAIN),
+        "flags BDFGHJKLMpRSTU\nlocal list\nhost ex.org\nowner o@own.org\nprefix \nmax 1048576\n",
+    ),
+    (Call::Make(&[b"-d", b"-D"], PLAIN), USAGE),
+    (
+        Call::Make(&[b"-f"], PLAIN),
+        "flags BDfGHJKLMpRSTU\nlocal list\nhost ex.org\nowner o@own.org\nprefix [list]\nmax 1048576\n",
+    ),
+    (
+        Call::Make(&[b"-F"], PLAIN),
+        "flags BDFGHJKLMpRSTU\nlocal list\nhost ex.org\nowner o@own.org\nprefix \nmax 1048576\n",
+    ),
+    (Call::Make(&[b"-f", b"-F"], PLAIN), USAGE),
+    (
+        Call::Make(&[b"-g"], PLAIN),
+        "flags BDFgHJKLMpRSTU\nlocal list\nhost ex.org\nowner o@own.org\nprefix \nmax 1048576\n",
+    ),
+    (
+        Call::Make(&[b"-G"], PLAIN),
+        "flags BDFGHJKLMpRSTU\nlocal list\nhost ex.org\nowner o@own.org\nprefix \nmax 1048576\n",
+    ),
+    (Call::Make(&[b"-g", b"-G"], PLAIN), USAGE),
+    (
+        Call::Make(&[b"-h"], PLAIN),
+        "flags BDFGhJKLMpRSTU\nlocal list\nhost ex.org\nowner o@own.org\nprefix \nmax 1048576\n",
+    ),
+    (
+        Call::Make(&[b"-H"], PLAIN),
+        "flags BDFGHJKLMpRSTU\nlocal list\nhost ex.org\nowner o@own.org\nprefix \nmax 1048576\n",
+    ),
+    (Call::Make(&[b"-h", b"-H"], PLAIN), USAGE),
+    (
+        Call::Make(&[b"-j"], PLAIN),
+        "flags BDFGHjKLMpRSTU\nlocal list\nhost ex.org\nowner o@own.org\nprefix \nmax 1048576\n",
+    ),
+    (
+        Call::Make(&[b"-J"], PLAIN),
+        "flags BDFGHJKLMpRSTU\nlocal list\nhost ex.org\nowner o@own.org\nprefix \nmax 1048576\n",
+    ),
+    (Call::Make(&[b"-j", b"-J"], PLAIN), USAGE),
+    (
+        Call::Make(&[b"-k"], PLAIN),
+        "flags BDFGHJkLMpRSTU\nlocal list\nhost ex.org\nowner o@own.org\nprefix \nmax 1048576\n",
+    ),
+    (
+        Call::Make(&[b"-K"], PLAIN),
+        "flags BDFGHJKLMpRSTU\nlocal list\nhost ex.org\nowner o@own.org\nprefix \nmax 1048576\n",
+    ),
+    (Call::Make(&[b"-k", b"-K"], PLAIN), USAGE),
+    (
+        Call::Make(&[b"-l"], PLAIN),
+        "flags BDFGHJKlMpRSTU\nlocal list\nhost ex.org\nowner o@own.org\nprefix \nmax 1048576\n",
+    ),
+    (
+        Call::Make(&[b"-L"], PLAIN),
+        "flags BDFGHJKLMpRSTU\nlocal list\nhost ex.org\nowner o@own.org\nprefix \nmax 1048576\n",
+    ),
+    (Call::Make(&[b"-l", b"-L"], PLAIN), USAGE),
+    (
+        Call::Make(&[b"-m"], PLAIN),
+        "flags BDFGHJKLmpRSTU\nlocal list\nhost ex.org\nowner o@own.org\nprefix \nmax 1048576\n",
+    ),
+    (
+        Call::Make(&[b"-M"], PLAIN),
+        "flags BDFGHJKLMpRSTU\nlocal list\nhost ex.org\nowner o@own.org\nprefix \nmax 1048576\n",
+    ),
+    (Call::Make(&[b"-m", b"-M"], PLAIN), USAGE),
+    (
+        Call::Make(&[b"-p"], PLAIN),
+        "flags BDFGHJKLMpRSTU\nlocal list\nhost ex.org\nowner o@own.org\nprefix \nmax 1048576\n",
+    ),
+    (
+        Call::Make(&[b"-P"], PLAIN),
+        "flags BDFGHJKLMPRSTU\nlocal list\nhost ex.org\nowner o@own.org\nprefix \nmax 1048576\n",
+    ),
+    (Call::Make(&[b"-p", b"-P"], PLAIN), USAGE),
+    (
+        Call::Make(&[b"-r"], PLAIN),
+        "flags BDFGHJKLMprSTU\nlocal list\nhost ex.org\nowner o@own.org\nprefix \nmax 1048576\n",
+    ),
+    (
+        Call::Make(&[b"-R"], PLAIN),
+        "flags BDFGHJKLMpRSTU\nlocal list\nhost ex.org\nowner o@own.org\nprefix \nmax 1048576\n",
+    ),
+    (Call::Make(&[b"-r", b"-R"], PLAIN), USAGE),
+    (
+        Call::Make(&[b"-s"], PLAIN),
+        "flags BDFGHJKLMpRsTU\nlocal list\nhost ex.org\nowner o@own.org\nprefix \nmax 1048576\n",
+    ),
+    (
+        Call::Make(&[b"-S"], PLAIN),
+        "flags BDFGHJKLMpRSTU\nlocal list\nhost ex.org\nowner o@own.org\nprefix \nmax 1048576\n",
+    ),
+    (Call::Make(&[b"-s", b"-S"], PLAIN), USAGE),
+    (
+        Call::Make(&[b"-t"], PLAIN),
+        "flags BDFGHJKLMpRStU\nlocal list\nhost ex.org\nowner o@own.org\nprefix \nmax 1048576\n",
+    ),
+    (
+        Call::Make(&[b"-T"], PLAIN),
+        "flags BDFGHJKLMpRSTU\nlocal list\nhost ex.org\nowner o@own.org\nprefix \nmax 1048576\n",
+    ),
+    (Call::Make(&[b"-t", b"-T"], PLAIN), USAGE),
+    (
+        Call::Make(&[b"-u"], PLAIN),
+        "flags BDFGHJKLMpRSTu\nlocal list\nhost ex.org\nowner o@own.org\nprefix \nmax 1048576\n",
+    ),
+    (
+        Call::Make(&[b"-U"], PLAIN),
+        "flags BDFGHJKLMpRSTU\nlocal list\nhost ex.org\nowner o@own.org\nprefix \nmax 1048576\n",
+    ),
+    (Call::Make(&[b"-u", b"-U"], PLAIN), USAGE),
+    (
+        Call::Make(
+            &[
+                b"-fm",
+                b"--prefix=a b",
+                b"list",
+                b"EX.org",
+                b"o@OWN.org",
+                b"--key",
+                HEX,
+            ],
+            NO_MORE,
+        ),
+        "flags BDfGHJKLmpRSTU\nlocal list\nhost ex.org\nowner o@own.org\nprefix a b\nmax 1048576\n",
+    ),
+    (
+        Call::Make(
+            &[
+                b"--key",
+                HEX,
+                b"-f",
+                b"--max",
+                b"7",
+                b"--",
+                b"-d",
+                b"ex.org",
+                b"o@own.org",
+            ],
+            NO_MORE,
+        ),
+        "flags BDfGHJKLMpRSTU\nlocal -d\nhost ex.org\nowner o@own.org\nprefix [-d]\nmax 7\n",
+    ),
+    (
+        Call::Make(
+            &[
+                b"--prefix",
+                b"-",
+                b"--key",
+                HEX,
+                b"list",
+                b"ex.org",
+                b"o@own.org",
+            ],
+            NO_MORE,
+        ),
+        "flags BDFGHJKLMpRSTU\nlocal list\nhost ex.org\nowner o@own.org\nprefix -\nmax 1048576\n",
+    ),
+    (
+        Call::Make(
+            &[
+                b"--key=000102030405060708090A0B0C0D0E0F101112131415161718191A1B1C1D1E1F",
+                b"list",
+                b"ex.org",
+                b"o@own.org",
+            ],
+            NO_MORE,
+        ),
+        "flags BDFGHJKLMpRSTU\nlocal list\nhost ex.org\nowner o@own.org\nprefix \nmax 1048576\n",
+    ),
+    (
+        Call::IsTaken(&[b"list", b"ex.org", b"o@own.org"], NO_MORE),
+        USAGE,
+    ),
+    (
+        Call::IsTaken(&[b"--key", HEX, b"list", b"ex.org"], NO_MORE),
+        USAGE,
+    ),
+    (
+        Call::IsTaken(
+            &[b"--key", HEX, b"list", b"ex.org", b"o@own.org", b"more"],
+            NO_MORE,
+        ),
+        USAGE,
+    ),
+    (
+        Call::IsTaken(
+            &[
+                b"-d",
+                b"-d",
+                b"--key",
+                HEX,
+                b"list",
+                b"ex.org",
+                b"o@own.org",
+            ],
+            NO_MORE,
+        ),
+        USAGE,
+    ),
+    (
+        Call::IsTaken(
+            &[b"-mM", b"--key", HEX, b"list", b"ex.org", b"o@own.org"],
+            NO_MORE,
+        ),
+        USAGE,
+    ),
+    (
+        Call::IsTaken(
+            &[b"-a", b"--key", HEX, b"list", b"ex.org", b"o@own.org"],
+            NO_MORE,
+        ),
+        USAGE,
+    ),
+    (
+        Call::IsTaken(
+            &[b"--help", b"--key", HEX, b"list", b"ex.org", b"o@own.org"],
+            NO_MORE,
+        ),
+        USAGE,
+    ),
+    (
+        Call::IsTaken(
+            &[
+                b"--pre",
+                b"x",
+                b"--key",
+                HEX,
+                b"list",
+                b"ex.org",
+                b"o@own.org",
+            ],
+            NO_MORE,
+        ),
+        USAGE,
+    ),
+    (
+        Call::IsTaken(
+            &[
+                b"--prefix",
+                b"-x",
+                b"--key",
+                HEX,
+                b"list",
+                b"ex.org",
+                b"o@own.org",
+            ],
+            NO_MORE,
+        ),
+        USAGE,
+    ),
+    (
+        Call::IsTaken(
+            &[
+                b"--prefix",
+                b"",
+                b"--key",
+                HEX,
+                b"list",
+                b"ex.org",
+                b"o@own.org",
+            ],
+            NO_MORE,
+        ),
+        USAGE,
+    ),
+    (
+        Call::IsTaken(
+            &[
+                b"--key",
+                HEX,
+                b"--key",
+                HEX,
+                b"list",
+                b"ex.org",
+                b"o@own.org",
+            ],
+            NO_MORE,
+        ),
+        USAGE,
+    ),
+    (Call::IsTaken(NO_MORE, NO_MORE), USAGE),
+    (Call::IsTaken(&[b"--prefix", b"!"], PLAIN), TAKEN),
+    (Call::IsTaken(&[b"--prefix", b"a  ~"], PLAIN), TAKEN),
+    (Call::IsTaken(&[b"--prefix", b" a"], PLAIN), USAGE),
+    (Call::IsTaken(&[b"--prefix", b"a "], PLAIN), USAGE),
+    (Call::IsTaken(&[b"--prefix", b"a\tb"], PLAIN), USAGE),
+    (Call::IsTaken(&[b"--prefix", b"\xC3\xA9"], PLAIN), USAGE),
+    (Call::IsTaken(&[b"--prefix", &[b'p'; 62]], PLAIN), TAKEN),
+    (Call::IsTaken(&[b"--prefix", &[b'p'; 63]], PLAIN), USAGE),
+    (Call::IsTaken(&[b"--max", b"0"], PLAIN), USAGE),
+    (Call::IsTaken(&[b"--max", b"1"], PLAIN), TAKEN),
+    (Call::IsTaken(&[b"--max", b"16777216"], PLAIN), TAKEN),
+    (Call::IsTaken(&[b"--max", b"16777217"], PLAIN), USAGE),
+    (Call::IsTaken(&[b"--max", b"01"], PLAIN), USAGE),
+    (Call::IsTaken(&[b"--max", b"1k"], PLAIN), USAGE),
+    (
+        Call::IsTaken(
+            &[b"--key", &[b'f'; 64], b"list", b"ex.org", b"o@own.org"],
+            NO_MORE,
+        ),
+        TAKEN,
+    ),
+    (
+        Call::IsTaken(
+            &[b"--key", &[b'F'; 64], b"list", b"ex.org", b"o@own.org"],
+            NO_MORE,
+        ),
+        TAKEN,
+    ),
+    (
+        Call::IsTaken(
+            &[b"--key", &[b'g'; 64], b"list", b"ex.org", b"o@own.org"],
+            NO_MORE,
+        ),
+        USAGE,
+    ),
+    (
+        Call::IsTaken(
+            &[b"--key", &[b'0'; 63], b"list", b"ex.org", b"o@own.org"],
+            NO_MORE,
+        ),
+        USAGE,
+    ),
+    (
+        Call::IsTaken(
+            &[b"--key", &[b'0'; 65], b"list", b"ex.org", b"o@own.org"],
+            NO_MORE,
+        ),
+        USAGE,
+    ),
+    (
+        Call::IsTaken(
+            &[b"--key", &[b'0'; 66], b"list", b"ex.org", b"o@own.org"],
+            NO_MORE,
+        ),
+        USAGE,
+    ),
+    (
+        Call::IsTaken(
+            &[b"--key", HEX, &[b'l'; 60], b"ex.org", b"o@own.org"],
+            NO_MORE,
+        ),
+        TAKEN,
+    ),
+    (
+        Call::IsTaken(
+            &[b"--key", HEX, &[b'l'; 61], b"ex.org", b"o@own.org"],
+            NO_MORE,
+        ),
+        USAGE,
+    ),
+    (
+        Call::IsTaken(
+            &[b"--key", HEX, b"list", &[b'h'; 255], b"o@own.org"],
+            NO_MORE,
+        ),
+        TAKEN,
+    ),
+    (
+        Call::IsTaken(
+            &[b"--key", HEX, b"list", &[b'h'; 256], b"o@own.org"],
+            NO_MORE,
+        ),
+        USAGE,
+    ),
+    (
+        Call::IsTaken(&[b"--key", HEX, b"l@st", b"ex.org", b"o@own.org"], NO_MORE),
+        USAGE,
+    ),
+    (
+        Call::IsTaken(&[b"--key", HEX, b"list", b"ex@org", b"o@own.org"], NO_MORE),
+        USAGE,
+    ),
+    (
+        Call::IsTaken(&[b"--key", HEX, b"", b"ex.org", b"o@own.org"], NO_MORE),
+        USAGE,
+    ),
+    (
+        Call::IsTaken(&[b"--key", HEX, b"list", b"ex.org", b"own.org"], NO_MORE),
+        USAGE,
+    ),
+    (
+        Call::IsTaken(
+            &[b"--key", HEX, b"list", b"ex.org", b"list-owner@ex.org"],
+            NO_MORE,
+        ),
+        USAGE,
+    ),
+    (
+        Call::IsTaken(
+            &[b"--key", HEX, b"list", b"ex.org", b"LIST@EX.ORG"],
+            NO_MORE,
+        ),
+        USAGE,
+    ),
+    (
+        Call::IsTaken(
+            &[b"--key", HEX, b"list", b"ex.org", b"lists@ex.org"],
+            NO_MORE,
+        ),
+        TAKEN,
+    ),
+];
+
+#[test]
+fn rows_are_answered(rt: HostRuntime) -> Result<(), Fail> {
+    for (row, (call, expected)) in ROWS.iter().enumerate() {
+        let found = told(rt.alloc(), *call)?;
+        assert_eq!(rt; found.as_str(), *expected, "row {row}");
+    }
+    Ok(())
+}
