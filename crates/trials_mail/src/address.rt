@@ -5,6 +5,7 @@ use ml_address::{
 };
 use ml_base::{Address, Bytes, Set};
 use std::alloc::Global;
+use std::process::Abort;
 use std::test::Fail;
 
 type Text = &'static [u8];
@@ -392,17 +393,22 @@ const REQUESTS: [(&[Text], Option<Request<'static>>); 33] = [
     ),
 ];
 
+// Each of a row's texts asks this.
+fn all_ask(rt: &impl Abort, row: usize, texts: &[Text], expected: Option<Request<'_>>) {
+    for text in texts {
+        assert_eq!(rt;
+            ask(text),
+            expected,
+            "row {row}, {:?}",
+            str::from_utf8(text)
+        );
+    }
+}
+
 #[test]
 fn requests_are_read(rt: HostRuntime) {
     for (row, (texts, expected)) in REQUESTS.iter().enumerate() {
-        for text in texts.iter() {
-            assert_eq!(rt;
-                ask(text),
-                *expected,
-                "row {row}, {:?}",
-                str::from_utf8(text)
-            );
-        }
+        all_ask(&rt, row, texts, *expected);
     }
 }
 
