@@ -170,6 +170,13 @@ fn files(alloc: Global, words: &[&[u8]]) -> Result<String, Fail> {
     Ok(out)
 }
 
+const TEXT: Text =
+    b"flags bDfGHJKLMpRSTU\nlocal list\nhost ex.org\nowner o@own.org\nprefix [list]\nmax 1048576\n";
+
+// The configuration of a plain list.
+const PLAIN_FILE: &str =
+    "flags BDFGHJKLMpRSTU\nlocal list\nhost ex.org\nowner o@own.org\nprefix \nmax 1048576\n";
+
 const HEX: Text = b"000102030405060708090a0b0c0d0e0f101112131415161718191a1b1c1d1e1f";
 
 // The last words of a plain list.
@@ -193,17 +200,10 @@ const LAST: &str =
 
 const ROWS: [(Call, &str); 116] = [
     (
-        Call::Load(
-            b"flags bDfGHJKLMpRSTU\nlocal list\nhost ex.org\nowner o@own.org\nprefix [list]\nmax 1048576\n",
-        ),
+        Call::Load(TEXT),
         "Flags { b: true, d: false, f: true, g: false, h: false, j: false, k: false, l: false, m: false, p: true, r: false, s: false, t: false, u: false } list ex.org o@own.org [list] 1048576\nflags bDfGHJKLMpRSTU\nlocal list\nhost ex.org\nowner o@own.org\nprefix [list]\nmax 1048576\n",
     ),
-    (
-        Call::Zeroed(
-            b"flags bDfGHJKLMpRSTU\nlocal list\nhost ex.org\nowner o@own.org\nprefix [list]\nmax 1048576\n",
-        ),
-        "none",
-    ),
+    (Call::Zeroed(TEXT), "none"),
     (
         Call::IsRead(
             b"flags BDFGHJKLMpRSTU\nlocal list\nhost ex.org\nowner o@own.org\nprefix \nmax 1048576\n",
@@ -322,87 +322,57 @@ const ROWS: [(Call, &str); 116] = [
         Call::Make(&[b"-b"], PLAIN),
         "flags bDFGHJKLMpRSTU\nlocal list\nhost ex.org\nowner o@own.org\nprefix \nmax 1048576\n",
     ),
-    (
-        Call::Make(&[b"-B"], PLAIN),
-        "flags BDFGHJKLMpRSTU\nlocal list\nhost ex.org\nowner o@own.org\nprefix \nmax 1048576\n",
-    ),
+    (Call::Make(&[b"-B"], PLAIN), PLAIN_FILE),
     (Call::Make(&[b"-b", b"-B"], PLAIN), USAGE),
     (
         Call::Make(&[b"-d"], PLAIN),
         "flags BdFGHJKLMpRSTU\nlocal list\nhost ex.org\nowner o@own.org\nprefix \nmax 1048576\n",
     ),
-    (
-        Call::Make(&[b"-D"], PLAIN),
-        "flags BDFGHJKLMpRSTU\nlocal list\nhost ex.org\nowner o@own.org\nprefix \nmax 1048576\n",
-    ),
+    (Call::Make(&[b"-D"], PLAIN), PLAIN_FILE),
     (Call::Make(&[b"-d", b"-D"], PLAIN), USAGE),
     (
         Call::Make(&[b"-f"], PLAIN),
         "flags BDfGHJKLMpRSTU\nlocal list\nhost ex.org\nowner o@own.org\nprefix [list]\nmax 1048576\n",
     ),
-    (
-        Call::Make(&[b"-F"], PLAIN),
-        "flags BDFGHJKLMpRSTU\nlocal list\nhost ex.org\nowner o@own.org\nprefix \nmax 1048576\n",
-    ),
+    (Call::Make(&[b"-F"], PLAIN), PLAIN_FILE),
     (Call::Make(&[b"-f", b"-F"], PLAIN), USAGE),
     (
         Call::Make(&[b"-g"], PLAIN),
         "flags BDFgHJKLMpRSTU\nlocal list\nhost ex.org\nowner o@own.org\nprefix \nmax 1048576\n",
     ),
-    (
-        Call::Make(&[b"-G"], PLAIN),
-        "flags BDFGHJKLMpRSTU\nlocal list\nhost ex.org\nowner o@own.org\nprefix \nmax 1048576\n",
-    ),
+    (Call::Make(&[b"-G"], PLAIN), PLAIN_FILE),
     (Call::Make(&[b"-g", b"-G"], PLAIN), USAGE),
     (
         Call::Make(&[b"-h"], PLAIN),
         "flags BDFGhJKLMpRSTU\nlocal list\nhost ex.org\nowner o@own.org\nprefix \nmax 1048576\n",
     ),
-    (
-        Call::Make(&[b"-H"], PLAIN),
-        "flags BDFGHJKLMpRSTU\nlocal list\nhost ex.org\nowner o@own.org\nprefix \nmax 1048576\n",
-    ),
+    (Call::Make(&[b"-H"], PLAIN), PLAIN_FILE),
     (Call::Make(&[b"-h", b"-H"], PLAIN), USAGE),
     (
         Call::Make(&[b"-j"], PLAIN),
         "flags BDFGHjKLMpRSTU\nlocal list\nhost ex.org\nowner o@own.org\nprefix \nmax 1048576\n",
     ),
-    (
-        Call::Make(&[b"-J"], PLAIN),
-        "flags BDFGHJKLMpRSTU\nlocal list\nhost ex.org\nowner o@own.org\nprefix \nmax 1048576\n",
-    ),
+    (Call::Make(&[b"-J"], PLAIN), PLAIN_FILE),
     (Call::Make(&[b"-j", b"-J"], PLAIN), USAGE),
     (
         Call::Make(&[b"-k"], PLAIN),
         "flags BDFGHJkLMpRSTU\nlocal list\nhost ex.org\nowner o@own.org\nprefix \nmax 1048576\n",
     ),
-    (
-        Call::Make(&[b"-K"], PLAIN),
-        "flags BDFGHJKLMpRSTU\nlocal list\nhost ex.org\nowner o@own.org\nprefix \nmax 1048576\n",
-    ),
+    (Call::Make(&[b"-K"], PLAIN), PLAIN_FILE),
     (Call::Make(&[b"-k", b"-K"], PLAIN), USAGE),
     (
         Call::Make(&[b"-l"], PLAIN),
         "flags BDFGHJKlMpRSTU\nlocal list\nhost ex.org\nowner o@own.org\nprefix \nmax 1048576\n",
     ),
-    (
-        Call::Make(&[b"-L"], PLAIN),
-        "flags BDFGHJKLMpRSTU\nlocal list\nhost ex.org\nowner o@own.org\nprefix \nmax 1048576\n",
-    ),
+    (Call::Make(&[b"-L"], PLAIN), PLAIN_FILE),
     (Call::Make(&[b"-l", b"-L"], PLAIN), USAGE),
     (
         Call::Make(&[b"-m"], PLAIN),
         "flags BDFGHJKLmpRSTU\nlocal list\nhost ex.org\nowner o@own.org\nprefix \nmax 1048576\n",
     ),
-    (
-        Call::Make(&[b"-M"], PLAIN),
-        "flags BDFGHJKLMpRSTU\nlocal list\nhost ex.org\nowner o@own.org\nprefix \nmax 1048576\n",
-    ),
+    (Call::Make(&[b"-M"], PLAIN), PLAIN_FILE),
     (Call::Make(&[b"-m", b"-M"], PLAIN), USAGE),
-    (
-        Call::Make(&[b"-p"], PLAIN),
-        "flags BDFGHJKLMpRSTU\nlocal list\nhost ex.org\nowner o@own.org\nprefix \nmax 1048576\n",
-    ),
+    (Call::Make(&[b"-p"], PLAIN), PLAIN_FILE),
     (
         Call::Make(&[b"-P"], PLAIN),
         "flags BDFGHJKLMPRSTU\nlocal list\nhost ex.org\nowner o@own.org\nprefix \nmax 1048576\n",
@@ -412,37 +382,25 @@ const ROWS: [(Call, &str); 116] = [
         Call::Make(&[b"-r"], PLAIN),
         "flags BDFGHJKLMprSTU\nlocal list\nhost ex.org\nowner o@own.org\nprefix \nmax 1048576\n",
     ),
-    (
-        Call::Make(&[b"-R"], PLAIN),
-        "flags BDFGHJKLMpRSTU\nlocal list\nhost ex.org\nowner o@own.org\nprefix \nmax 1048576\n",
-    ),
+    (Call::Make(&[b"-R"], PLAIN), PLAIN_FILE),
     (Call::Make(&[b"-r", b"-R"], PLAIN), USAGE),
     (
         Call::Make(&[b"-s"], PLAIN),
         "flags BDFGHJKLMpRsTU\nlocal list\nhost ex.org\nowner o@own.org\nprefix \nmax 1048576\n",
     ),
-    (
-        Call::Make(&[b"-S"], PLAIN),
-        "flags BDFGHJKLMpRSTU\nlocal list\nhost ex.org\nowner o@own.org\nprefix \nmax 1048576\n",
-    ),
+    (Call::Make(&[b"-S"], PLAIN), PLAIN_FILE),
     (Call::Make(&[b"-s", b"-S"], PLAIN), USAGE),
     (
         Call::Make(&[b"-t"], PLAIN),
         "flags BDFGHJKLMpRStU\nlocal list\nhost ex.org\nowner o@own.org\nprefix \nmax 1048576\n",
     ),
-    (
-        Call::Make(&[b"-T"], PLAIN),
-        "flags BDFGHJKLMpRSTU\nlocal list\nhost ex.org\nowner o@own.org\nprefix \nmax 1048576\n",
-    ),
+    (Call::Make(&[b"-T"], PLAIN), PLAIN_FILE),
     (Call::Make(&[b"-t", b"-T"], PLAIN), USAGE),
     (
         Call::Make(&[b"-u"], PLAIN),
         "flags BDFGHJKLMpRSTu\nlocal list\nhost ex.org\nowner o@own.org\nprefix \nmax 1048576\n",
     ),
-    (
-        Call::Make(&[b"-U"], PLAIN),
-        "flags BDFGHJKLMpRSTU\nlocal list\nhost ex.org\nowner o@own.org\nprefix \nmax 1048576\n",
-    ),
+    (Call::Make(&[b"-U"], PLAIN), PLAIN_FILE),
     (Call::Make(&[b"-u", b"-U"], PLAIN), USAGE),
     (
         Call::Make(
@@ -501,7 +459,7 @@ const ROWS: [(Call, &str); 116] = [
             ],
             NO_MORE,
         ),
-        "flags BDFGHJKLMpRSTU\nlocal list\nhost ex.org\nowner o@own.org\nprefix \nmax 1048576\n",
+        PLAIN_FILE,
     ),
     (
         Call::IsTaken(&[b"list", b"ex.org", b"o@own.org"], NO_MORE),
