@@ -6,7 +6,7 @@ use ml_plain::{
 use std::test::Fail;
 
 // Each code's word, its status and whether a number follows, from code 1 on.
-const TABLE: [(&str, u8, bool); 36] = [
+static TABLE: [(&str, u8, bool); 36] = [
     ("posted", 0, true),
     ("held", 0, true),
     ("timed", 0, true),

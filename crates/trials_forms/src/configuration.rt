@@ -109,15 +109,17 @@ fn absent(alloc: Global, failing: &[u64]) -> Result<String, Fail> {
 }
 
 fn keys<F: Files>(alloc: Global, files: &mut F) -> Result<String, Fail> {
-    match key(alloc, files) {
-        Ok(Keys { key, former: None }) => Ok(format!(in alloc; "{key:?}")?),
-        Ok(
-            Keys {
-                key,
-                former: Some(former),
-            },
-        ) => Ok(format!(in alloc; "{key:?} {:?} {}", former.key, former.changed)?),
-        Err(error) => Ok(format!(in alloc; "{error:?}")?),
+    let found = match key(alloc, files) {
+        Ok(found) => found,
+        Err(error) => return Ok(format!(in alloc; "{error:?}")?),
+    };
+    let now = found.key;
+    match found.former {
+        None => Ok(format!(in alloc; "{now:?}")?),
+        Some(former) => {
+            let before = former.key;
+            Ok(format!(in alloc; "{now:?} {before:?} {}", former.changed)?)
+        }
     }
 }
 
@@ -198,7 +200,7 @@ const SEVENS: &str =
 const LAST: &str =
     "[7, 7, 7, 7, 7, 7, 7, 7, 7, 7, 7, 7, 7, 7, 7, 7, 7, 7, 7, 7, 7, 7, 7, 7, 7, 7, 7, 7, 7, 7, 7, 7] [7, 7, 7, 7, 7, 7, 7, 7, 7, 7, 7, 7, 7, 7, 7, 7, 7, 7, 7, 7, 7, 7, 7, 7, 7, 7, 7, 7, 7, 7, 7, 7] 253402300799";
 
-const ROWS: [(Call, &str); 116] = [
+static ROWS: [(Call, &str); 116] = [
     (
         Call::Load(TEXT),
         "Flags { b: true, d: false, f: true, g: false, h: false, j: false, k: false, l: false, m: false, p: true, r: false, s: false, t: false, u: false } list ex.org o@own.org [list] 1048576\nflags bDfGHJKLMpRSTU\nlocal list\nhost ex.org\nowner o@own.org\nprefix [list]\nmax 1048576\n",

@@ -38,7 +38,7 @@ fn answer(alloc: Global, question: Question) -> Result<bool, AddressError> {
     }
 }
 
-const QUESTIONS: [(Question, bool); 28] = [
+static QUESTIONS: [(Question, bool); 28] = [
     (Question::IsOwn(b"list@ex.org"), true),
     (Question::IsOwn(b"LIST@EX.ORG"), true),
     (Question::IsOwn(b"list-@ex.org"), true),
@@ -241,7 +241,7 @@ fn part_errors(alloc: Global) -> Result<String, Fail> {
     Ok(format!(in alloc; "{damaged}; {}; {}", PartError::Fault, FilesError::Memory)?)
 }
 
-const CALLS: [(Call, &str); 83] = [
+static CALLS: [(Call, &str); 83] = [
     (Call::Path(0, 0), "log"),
     (Call::Path(1, 0), "config"),
     (Call::Path(2, 0), "key"),

@@ -34,7 +34,7 @@ fn ask(recipient: &[u8]) -> Option<Request<'_>> {
 
 // Recipients, and what each of them asks: each row of the grammar with its words in mixed, lower and upper case, more
 // requests in lower case, what no row has, and what is not the list's.
-const REQUESTS: [(&[Text], Option<Request<'static>>); 33] = [
+static REQUESTS: [(&[Text], Option<Request<'static>>); 33] = [
     (
         &[b"LIST@EX.org", b"list@ex.org", b"LIST@EX.ORG"],
         Some(Request::Post),
@@ -507,7 +507,7 @@ fn is_good(former: Option<&[u8]>, changed: u64, moment: u64, letters: &[u8; 20],
     )
 }
 
-const CALLS: [(Call, &str); 45] = [
+static CALLS: [(Call, &str); 45] = [
     (Call::Written(b"list@ex.org"), "list@ex.org"),
     (Call::Written(b"list-help@ex.org"), "list-help@ex.org"),
     (

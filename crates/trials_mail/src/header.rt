@@ -216,7 +216,7 @@ fn kept(alloc: Global, long: &Long) -> Result<String, Fail> {
     Ok(format!(in alloc; "{count} {is_same}")?)
 }
 
-const CALLS: [(Call, &str); 73] = [
+static CALLS: [(Call, &str); 73] = [
     (Call::Fields(b""), "()"),
     (Call::Fields(b"\n"), "()"),
     (Call::Fields(b"\r"), "()"),
@@ -378,7 +378,7 @@ const CALLS: [(Call, &str); 73] = [
 
 // Nothing is to be left out of these, and their empty line is an LF, so each is sent as it is: 10,000 lines, a field of
 // 1 MiB in one line and in 65,536, a line of 998 and one of 100,000 bytes, and a body of 1 MiB in one line.
-const LONG: [(Call, &str); 6] = [
+static LONG: [(Call, &str); 6] = [
     (
         Call::Long(Long {
             before: b"",

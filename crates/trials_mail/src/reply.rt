@@ -339,7 +339,7 @@ fn expected(alloc: Global, row: &Row) -> Result<String, Fail> {
     Ok(format!(in alloc; "{}{}", row.front, str::from_utf8(end.as_slice())?)?)
 }
 
-const MAILS: [Row; 20] = [
+static MAILS: [Row; 20] = [
     Row {
         kind: Kind::AskSc,
         to: b"ann@a.org",
@@ -535,7 +535,7 @@ fn mails_are_made(rt: HostRuntime) -> Result<(), Fail> {
 }
 
 // Seconds since 1970, and their dates.
-const DATES: [(u64, &str); 7] = [
+static DATES: [(u64, &str); 7] = [
     (0, "Thu, 01 Jan 1970 00:00:00 -0000"),
     (951_782_399, "Mon, 28 Feb 2000 23:59:59 -0000"),
     (951_782_400, "Tue, 29 Feb 2000 00:00:00 -0000"),

@@ -7,9 +7,9 @@ const ONE: &[u8] = b"layout 2\nTa@b\x001000000400\x00";
 const TWO: &[u8] = b"layout 2\nTa@5\x001000000400\x00Ta@b\x000\x00";
 
 // Each change is made without a memo, with one, and with the same once more.
-const CHANGES: [Row; 9] = [
+static CHANGES: [Row; 9] = [
     Row {
-        start: Start::Files([b"-", b"-", b"0\n"]),
+        start: Start::Files(b"-", b"-", b"0\n"),
         failing: &[],
         asks: &[
             (
@@ -27,7 +27,7 @@ const CHANGES: [Row; 9] = [
         ],
     },
     Row {
-        start: Start::Files([ONE, b"-", b"1\n"]),
+        start: Start::Files(ONE, b"-", b"1\n"),
         failing: &[],
         asks: &[
             (Ask::Change(Change::Add, b"A@B"), "already"),
@@ -36,7 +36,7 @@ const CHANGES: [Row; 9] = [
         ],
     },
     Row {
-        start: Start::Files([b"Ta@b\x00", b"-", b"1\n"]),
+        start: Start::Files(b"Ta@b\x00", b"-", b"1\n"),
         failing: &[],
         asks: &[
             (
@@ -54,7 +54,7 @@ const CHANGES: [Row; 9] = [
         ],
     },
     Row {
-        start: Start::Files([TWO, b"-", b"2\n"]),
+        start: Start::Files(TWO, b"-", b"2\n"),
         failing: &[],
         asks: &[
             (Ask::Change(Change::Add, b"A@5"), "already"),
@@ -63,7 +63,7 @@ const CHANGES: [Row; 9] = [
         ],
     },
     Row {
-        start: Start::Files([b"-", b"-", b"100000\n"]),
+        start: Start::Files(b"-", b"-", b"100000\n"),
         failing: &[],
         asks: &[
             (Ask::Change(Change::Add, b"a@b"), "full"),
@@ -72,7 +72,7 @@ const CHANGES: [Row; 9] = [
         ],
     },
     Row {
-        start: Start::Files([ONE, b"Tc@d\x00", b"2\n"]),
+        start: Start::Files(ONE, b"Tc@d\x00", b"2\n"),
         failing: &[],
         asks: &[
             (Ask::Change(Change::Remove, b"A@B"), "-|1\n|"),
@@ -81,7 +81,7 @@ const CHANGES: [Row; 9] = [
         ],
     },
     Row {
-        start: Start::Files([ONE, b"-", b"1\n"]),
+        start: Start::Files(ONE, b"-", b"1\n"),
         failing: &[],
         asks: &[
             (Ask::Change(Change::Remove, b"a@5"), "absent"),
@@ -90,7 +90,7 @@ const CHANGES: [Row; 9] = [
         ],
     },
     Row {
-        start: Start::Files([TWO, b"-", b"2\n"]),
+        start: Start::Files(TWO, b"-", b"2\n"),
         failing: &[],
         asks: &[
             (
@@ -108,7 +108,7 @@ const CHANGES: [Row; 9] = [
         ],
     },
     Row {
-        start: Start::Files([b"Ta@5\x00Ta@b\x00", b"-", b"2\n"]),
+        start: Start::Files(b"Ta@5\x00Ta@b\x00", b"-", b"2\n"),
         failing: &[],
         asks: &[
             (
@@ -128,14 +128,14 @@ const CHANGES: [Row; 9] = [
 ];
 
 // Buckets that a memo has not checked.
-const CHECKED: [Row; 7] = [
+static CHECKED: [Row; 7] = [
     Row {
-        start: Start::Files([b"Ta@5\x00Ta@b\x00", b"-", b"2\n"]),
+        start: Start::Files(b"Ta@5\x00Ta@b\x00", b"-", b"2\n"),
         failing: &[],
         asks: &[(Ask::Change(Change::AddWithMemo, b"a@5"), "already")],
     },
     Row {
-        start: Start::Files([b"Ta@5\x00Ta@B\x00", b"-", b"2\n"]),
+        start: Start::Files(b"Ta@5\x00Ta@B\x00", b"-", b"2\n"),
         failing: &[],
         asks: &[(
             Ask::Change(Change::AddWithMemo, b"a@5"),
@@ -143,12 +143,12 @@ const CHECKED: [Row; 7] = [
         )],
     },
     Row {
-        start: Start::Files([b"Ta@5\x00Ta@b\x00", b"-", b"2\n"]),
+        start: Start::Files(b"Ta@5\x00Ta@b\x00", b"-", b"2\n"),
         failing: &[],
         asks: &[(Ask::Change(Change::AddWithMemo, b"a@5"), "already")],
     },
     Row {
-        start: Start::Files([b"Ta@b\x00Ta@5\x00", b"-", b"2\n"]),
+        start: Start::Files(b"Ta@b\x00Ta@5\x00", b"-", b"2\n"),
         failing: &[],
         asks: &[(
             Ask::Change(Change::AddWithMemo, b"a@5"),
@@ -156,7 +156,7 @@ const CHECKED: [Row; 7] = [
         )],
     },
     Row {
-        start: Start::Files([b"Ta@5\x00Ta@b\x01", b"-", b"2\n"]),
+        start: Start::Files(b"Ta@5\x00Ta@b\x01", b"-", b"2\n"),
         failing: &[],
         asks: &[(
             Ask::Change(Change::AddWithMemo, b"a@5"),
@@ -164,7 +164,7 @@ const CHECKED: [Row; 7] = [
         )],
     },
     Row {
-        start: Start::Files([b"layout 2\nTa@5\x00x\x00", b"-", b"2\n"]),
+        start: Start::Files(b"layout 2\nTa@5\x00x\x00", b"-", b"2\n"),
         failing: &[],
         asks: &[(
             Ask::Change(Change::AddWithMemo, b"a@5"),
@@ -172,15 +172,15 @@ const CHECKED: [Row; 7] = [
         )],
     },
     Row {
-        start: Start::Files([b"layout 2\nTa@5\x007\x00", b"-", b"2\n"]),
+        start: Start::Files(b"layout 2\nTa@5\x007\x00", b"-", b"2\n"),
         failing: &[],
         asks: &[(Ask::Change(Change::AddWithMemo, b"a@5"), "already")],
     },
 ];
 
-const READS: [Row; 29] = [
+static READS: [Row; 29] = [
     Row {
-        start: Start::Files([b"-", b"-", b"-"]),
+        start: Start::Files(b"-", b"-", b"-"),
         failing: &[],
         asks: &[
             (Ask::Read(Read::Bucket(b"a@b")), "29"),
@@ -191,7 +191,7 @@ const READS: [Row; 29] = [
         ],
     },
     Row {
-        start: Start::Files([b"Ta@5\x00TA@b\x00", b"layout 2\nTC@d\x007\x00", b"3\n"]),
+        start: Start::Files(b"Ta@5\x00TA@b\x00", b"layout 2\nTC@d\x007\x00", b"3\n"),
         failing: &[],
         asks: &[
             (Ask::Read(Read::Find(b"a@B")), "0 A@b\n"),
@@ -203,7 +203,7 @@ const READS: [Row; 29] = [
         ],
     },
     Row {
-        start: Start::Files([b"Ta@5\x00TA@b\x00", b"layout 2\nTc@d\x007\x00", b"3\n"]),
+        start: Start::Files(b"Ta@5\x00TA@b\x00", b"layout 2\nTc@d\x007\x00", b"3\n"),
         failing: &[],
         asks: &[
             (Ask::Read(Read::Members), "0 a@5\n0 A@b\n7 c@d\n"),
@@ -211,17 +211,17 @@ const READS: [Row; 29] = [
         ],
     },
     Row {
-        start: Start::Files([b"-", b"-", b"0\n"]),
+        start: Start::Files(b"-", b"-", b"0\n"),
         failing: &[],
         asks: &[(Ask::Read(Read::Size), "Ok(0)")],
     },
     Row {
-        start: Start::Files([b"-", b"-", b"100000\n"]),
+        start: Start::Files(b"-", b"-", b"100000\n"),
         failing: &[],
         asks: &[(Ask::Read(Read::Size), "Ok(100000)")],
     },
     Row {
-        start: Start::Files([b"-", b"-", b"100001\n"]),
+        start: Start::Files(b"-", b"-", b"100001\n"),
         failing: &[],
         asks: &[(
             Ask::Read(Read::Size),
@@ -229,7 +229,7 @@ const READS: [Row; 29] = [
         )],
     },
     Row {
-        start: Start::Files([b"-", b"-", b"07\n"]),
+        start: Start::Files(b"-", b"-", b"07\n"),
         failing: &[],
         asks: &[(
             Ask::Read(Read::Size),
@@ -237,7 +237,7 @@ const READS: [Row; 29] = [
         )],
     },
     Row {
-        start: Start::Files([b"-", b"-", b"-"]),
+        start: Start::Files(b"-", b"-", b"-"),
         failing: &[],
         asks: &[(
             Ask::Read(Read::Size),
@@ -245,7 +245,7 @@ const READS: [Row; 29] = [
         )],
     },
     Row {
-        start: Start::Files([b"", b"-", b"0\n"]),
+        start: Start::Files(b"", b"-", b"0\n"),
         failing: &[],
         asks: &[(
             Ask::Read(Read::Audit),
@@ -253,7 +253,7 @@ const READS: [Row; 29] = [
         )],
     },
     Row {
-        start: Start::Files([b"T", b"-", b"1\n"]),
+        start: Start::Files(b"T", b"-", b"1\n"),
         failing: &[],
         asks: &[(
             Ask::Read(Read::Audit),
@@ -261,7 +261,7 @@ const READS: [Row; 29] = [
         )],
     },
     Row {
-        start: Start::Files([b"Ta@b", b"-", b"1\n"]),
+        start: Start::Files(b"Ta@b", b"-", b"1\n"),
         failing: &[],
         asks: &[(
             Ask::Read(Read::Audit),
@@ -269,7 +269,7 @@ const READS: [Row; 29] = [
         )],
     },
     Row {
-        start: Start::Files([b"a@b\x00", b"-", b"1\n"]),
+        start: Start::Files(b"a@b\x00", b"-", b"1\n"),
         failing: &[],
         asks: &[(
             Ask::Read(Read::Audit),
@@ -277,7 +277,7 @@ const READS: [Row; 29] = [
         )],
     },
     Row {
-        start: Start::Files([b"Tc@d\x00", b"-", b"1\n"]),
+        start: Start::Files(b"Tc@d\x00", b"-", b"1\n"),
         failing: &[],
         asks: &[(
             Ask::Read(Read::Audit),
@@ -285,7 +285,7 @@ const READS: [Row; 29] = [
         )],
     },
     Row {
-        start: Start::Files([b"Ta@b\x00Ta@5\x00", b"-", b"2\n"]),
+        start: Start::Files(b"Ta@b\x00Ta@5\x00", b"-", b"2\n"),
         failing: &[],
         asks: &[(
             Ask::Read(Read::Audit),
@@ -293,7 +293,7 @@ const READS: [Row; 29] = [
         )],
     },
     Row {
-        start: Start::Files([b"Ta@b\x00TA@b\x00", b"-", b"2\n"]),
+        start: Start::Files(b"Ta@b\x00TA@b\x00", b"-", b"2\n"),
         failing: &[],
         asks: &[(
             Ask::Read(Read::Audit),
@@ -301,7 +301,7 @@ const READS: [Row; 29] = [
         )],
     },
     Row {
-        start: Start::Files([b"Ta@B\x00", b"-", b"1\n"]),
+        start: Start::Files(b"Ta@B\x00", b"-", b"1\n"),
         failing: &[],
         asks: &[(
             Ask::Read(Read::Audit),
@@ -309,7 +309,7 @@ const READS: [Row; 29] = [
         )],
     },
     Row {
-        start: Start::Files([b"Tab\x00", b"-", b"1\n"]),
+        start: Start::Files(b"Tab\x00", b"-", b"1\n"),
         failing: &[],
         asks: &[(
             Ask::Read(Read::Audit),
@@ -317,7 +317,7 @@ const READS: [Row; 29] = [
         )],
     },
     Row {
-        start: Start::Files([b"layout 2\n", b"-", b"0\n"]),
+        start: Start::Files(b"layout 2\n", b"-", b"0\n"),
         failing: &[],
         asks: &[(
             Ask::Read(Read::Audit),
@@ -325,7 +325,7 @@ const READS: [Row; 29] = [
         )],
     },
     Row {
-        start: Start::Files([b"layout 2\nTa@b\x0007\x00", b"-", b"1\n"]),
+        start: Start::Files(b"layout 2\nTa@b\x0007\x00", b"-", b"1\n"),
         failing: &[],
         asks: &[(
             Ask::Read(Read::Audit),
@@ -333,7 +333,7 @@ const READS: [Row; 29] = [
         )],
     },
     Row {
-        start: Start::Files([b"layout 2\nTa@b\x00253402300800\x00", b"-", b"1\n"]),
+        start: Start::Files(b"layout 2\nTa@b\x00253402300800\x00", b"-", b"1\n"),
         failing: &[],
         asks: &[(
             Ask::Read(Read::Audit),
@@ -341,7 +341,7 @@ const READS: [Row; 29] = [
         )],
     },
     Row {
-        start: Start::Files([b"layout 1\nTa@b\x00", b"-", b"1\n"]),
+        start: Start::Files(b"layout 1\nTa@b\x00", b"-", b"1\n"),
         failing: &[],
         asks: &[(
             Ask::Read(Read::Audit),
@@ -349,7 +349,7 @@ const READS: [Row; 29] = [
         )],
     },
     Row {
-        start: Start::Files([b"Ta@b\x00", b"-", b"-"]),
+        start: Start::Files(b"Ta@b\x00", b"-", b"-"),
         failing: &[],
         asks: &[(
             Ask::Read(Read::Audit),
@@ -357,7 +357,7 @@ const READS: [Row; 29] = [
         )],
     },
     Row {
-        start: Start::Files([b"Ta@b\x00", b"-", b"1"]),
+        start: Start::Files(b"Ta@b\x00", b"-", b"1"),
         failing: &[],
         asks: &[(
             Ask::Read(Read::Audit),
@@ -365,7 +365,7 @@ const READS: [Row; 29] = [
         )],
     },
     Row {
-        start: Start::Files([b"Ta@b\x00", b"-", b"01\n"]),
+        start: Start::Files(b"Ta@b\x00", b"-", b"01\n"),
         failing: &[],
         asks: &[(
             Ask::Read(Read::Audit),
@@ -373,7 +373,7 @@ const READS: [Row; 29] = [
         )],
     },
     Row {
-        start: Start::Files([b"Ta@b\x00", b"-", b"100001\n"]),
+        start: Start::Files(b"Ta@b\x00", b"-", b"100001\n"),
         failing: &[],
         asks: &[(
             Ask::Read(Read::Audit),
@@ -381,7 +381,7 @@ const READS: [Row; 29] = [
         )],
     },
     Row {
-        start: Start::Files([b"Ta@b\x00", b"-", b"2\n"]),
+        start: Start::Files(b"Ta@b\x00", b"-", b"2\n"),
         failing: &[],
         asks: &[(
             Ask::Read(Read::Audit),
@@ -389,7 +389,7 @@ const READS: [Row; 29] = [
         )],
     },
     Row {
-        start: Start::Files([b"Ta@b\x00", b"-", b"0\n"]),
+        start: Start::Files(b"Ta@b\x00", b"-", b"0\n"),
         failing: &[],
         asks: &[(
             Ask::Read(Read::Audit),
@@ -397,7 +397,7 @@ const READS: [Row; 29] = [
         )],
     },
     Row {
-        start: Start::Files([b"TA@b\x00", b"-", b"1\n"]),
+        start: Start::Files(b"TA@b\x00", b"-", b"1\n"),
         failing: &[2, 4],
         asks: &[
             (Ask::Read(Read::Has(b"a@b")), "Ok(true)"),
@@ -416,7 +416,7 @@ const READS: [Row; 29] = [
     },
 ];
 
-const FULL: [Row; 1] = [Row {
+static FULL: [Row; 1] = [Row {
     start: Start::Counted(100_000),
     failing: &[],
     asks: &[

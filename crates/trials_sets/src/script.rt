@@ -32,7 +32,7 @@ pub(crate) struct Row {
 #[derive(Clone, Copy)]
 pub(crate) enum Start {
     // The bucket of `a@b`, that of `c@d` and the count, each with its text, or absent where that is `-`. The other sets have nobody.
-    Files([Text; 3]),
+    Files(Text, Text, Text),
     // Members with these addresses, and no count.
     Members(&'static [Text]),
     // The members `1@b` to `N@b`.
@@ -117,7 +117,9 @@ fn put_counted(alloc: Global, files: &mut BTreeMap<Name, Bytes>, most: u64) -> R
 fn started(alloc: Global, start: Start, failing: &[u64]) -> Result<MapFiles, Fail> {
     let mut files = BTreeMap::new(alloc);
     match start {
-        Start::Files(texts) => put_files(alloc, &mut files, texts)?,
+        Start::Files(bucket, other, count) => {
+            put_files(alloc, &mut files, [bucket, other, count])?;
+        }
         Start::Members(texts) => {
             for text in texts {
                 put_record(alloc, &mut files, text)?;
