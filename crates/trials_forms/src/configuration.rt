@@ -7,6 +7,7 @@ use ml_config::{
 };
 use std::alloc::{AllocError, Global};
 use std::collections::BTreeMap;
+use std::process::Abort;
 use std::test::Fail;
 
 const CONFIG: Name = Name { kind: 1, at: 0 };
@@ -32,10 +33,14 @@ enum Call {
     Key(Text),
     // The keys that are read of those that were set.
     SetKeys,
-    // The configuration's file by these words of `make`.
-    Make(Words, Words),
+    // The configuration's file by these words of `make`, in which HEX stands for the digits of the key.
+    Make(Words),
+    // The same by these words and those of a plain list.
+    MakeWith(Words),
     // Whether these are words of `make`.
-    IsTaken(Words, Words),
+    IsTaken(Words),
+    // The same of these words and those of a plain list.
+    IsTakenWith(Words),
     // The files of a new list by these words of `make`.
     Files(Words),
     // The words of errors.
@@ -50,8 +55,10 @@ fn told(alloc: Global, call: Call) -> Result<String, Fail> {
         Call::Absent(failing) => absent(alloc, failing),
         Call::Key(text) => keys(alloc, &mut with_file(alloc, KEY, text)?),
         Call::SetKeys => keys_set(alloc),
-        Call::Make(words, more) => made(alloc, words, more),
-        Call::IsTaken(words, more) => is_taken(alloc, words, more),
+        Call::Make(words) => made(alloc, words, &[]),
+        Call::MakeWith(words) => made(alloc, words, PLAIN),
+        Call::IsTaken(words) => is_taken(alloc, words, &[]),
+        Call::IsTakenWith(words) => is_taken(alloc, words, PLAIN),
         Call::Files(words) => files(alloc, words),
         Call::Errors => Ok(format!(in alloc; "{}; {}", ConfigError::Usage, ConfigError::Memory)?),
     }
@@ -108,18 +115,26 @@ fn absent(alloc: Global, failing: &[u64]) -> Result<String, Fail> {
     Ok(out)
 }
 
+fn numbers(alloc: Global, bytes: &[u8]) -> Result<String, AllocError> {
+    format!(in alloc; "{bytes:?}")
+}
+
 fn keys<F: Files>(alloc: Global, files: &mut F) -> Result<String, Fail> {
-    let found = match key(alloc, files) {
-        Ok(found) => found,
-        Err(error) => return Ok(format!(in alloc; "{error:?}")?),
-    };
-    let now = found.key;
-    match found.former {
-        None => Ok(format!(in alloc; "{now:?}")?),
+    match key(alloc, files) {
+        Ok(keys) => keys_text(alloc, &keys),
+        Err(error) => Ok(format!(in alloc; "{error:?}")?),
+    }
+}
+
+// The bytes of the key, and those of the former one with its moment.
+fn keys_text(alloc: Global, keys: &Keys) -> Result<String, Fail> {
+    let now = numbers(alloc, keys.key.as_slice())?;
+    match &keys.former {
         Some(former) => {
-            let before = former.key;
-            Ok(format!(in alloc; "{now:?} {before:?} {}", former.changed)?)
+            let before = numbers(alloc, former.key.as_slice())?;
+            Ok(format!(in alloc; "{now} {before} {}", former.changed)?)
         }
+        None => Ok(now),
     }
 }
 
@@ -140,7 +155,11 @@ fn keys_set(alloc: Global) -> Result<String, Fail> {
 fn words_of(alloc: Global, words: &[&[u8]], more: &[&[u8]]) -> Result<Vec<String>, Fail> {
     let mut out = Vec::new(alloc);
     for word in words.iter().chain(more) {
-        out.push(String::from_str(alloc, str::from_utf8(word)?)?)?;
+        let text = match str::from_utf8(word)? {
+            "HEX" => HEX,
+            text => text,
+        };
+        out.push(String::from_str(alloc, text)?)?;
     }
     Ok(out)
 }
@@ -179,12 +198,10 @@ const TEXT: Text =
 const PLAIN_FILE: &str =
     "flags BDFGHJKLMpRSTU\nlocal list\nhost ex.org\nowner o@own.org\nprefix \nmax 1048576\n";
 
-const HEX: Text = b"000102030405060708090a0b0c0d0e0f101112131415161718191a1b1c1d1e1f";
+const HEX: &str = "000102030405060708090a0b0c0d0e0f101112131415161718191a1b1c1d1e1f";
 
 // The last words of a plain list.
-const PLAIN: Words = &[b"--key", HEX, b"list", b"ex.org", b"o@own.org"];
-
-const NO_MORE: Words = &[];
+const PLAIN: Words = &[b"--key", b"HEX", b"list", b"ex.org", b"o@own.org"];
 
 const USAGE: &str = "Usage";
 
@@ -200,7 +217,8 @@ const SEVENS: &str =
 const LAST: &str =
     "[7, 7, 7, 7, 7, 7, 7, 7, 7, 7, 7, 7, 7, 7, 7, 7, 7, 7, 7, 7, 7, 7, 7, 7, 7, 7, 7, 7, 7, 7, 7, 7] [7, 7, 7, 7, 7, 7, 7, 7, 7, 7, 7, 7, 7, 7, 7, 7, 7, 7, 7, 7, 7, 7, 7, 7, 7, 7, 7, 7, 7, 7, 7, 7] 253402300799";
 
-static ROWS: [(Call, &str); 116] = [
+// Files, and keys.
+static FILES: [(Call, &str); 27] = [
     (
         Call::Load(TEXT),
         "Flags { b: true, d: false, f: true, g: false, h: false, j: false, k: false, l: false, m: false, p: true, r: false, s: false, t: false, u: false } list ex.org o@own.org [list] 1048576\nflags bDfGHJKLMpRSTU\nlocal list\nhost ex.org\nowner o@own.org\nprefix [list]\nmax 1048576\n",
@@ -316,393 +334,341 @@ static ROWS: [(Call, &str); 116] = [
         "[2, 2, 2, 2, 2, 2, 2, 2, 2, 2, 2, 2, 2, 2, 2, 2, 2, 2, 2, 2, 2, 2, 2, 2, 2, 2, 2, 2, 2, 2, 2, 2] [1, 1, 1, 1, 1, 1, 1, 1, 1, 1, 1, 1, 1, 1, 1, 1, 1, 1, 1, 1, 1, 1, 1, 1, 1, 1, 1, 1, 1, 1, 1, 1] 1000000300",
     ),
     (
-        Call::Files(PLAIN),
+        Call::Files(&[b"--key", b"HEX", b"list", b"ex.org", b"o@own.org"]),
         "1 0 flags BDFGHJKLMpRSTU\nlocal list\nhost ex.org\nowner o@own.org\nprefix \nmax 1048576\n|2 0 \x00\x01\x02\x03\x04\x05\x06\x07\x08\x09\x0a\x0b\x0c\x0d\x0e\x0f\x10\x11\x12\x13\x14\x15\x16\x17\x18\x19\x1a\x1b\x1c\x1d\x1e\x1f|8 0 0\n|8 1 0\n|8 2 0\n|8 3 0\n|8 4 0\n|11 0 0\n|12 0 0:0\n|14 0 1:1\n|18 0 1:1\n|",
     ),
     (Call::Errors, "not the words of `make`; out of memory"),
+];
+
+// Each letter in lower case, in upper case and in both.
+static LETTERS: [(Call, &str); 42] = [
     (
-        Call::Make(&[b"-b"], PLAIN),
+        Call::MakeWith(&[b"-b"]),
         "flags bDFGHJKLMpRSTU\nlocal list\nhost ex.org\nowner o@own.org\nprefix \nmax 1048576\n",
     ),
-    (Call::Make(&[b"-B"], PLAIN), PLAIN_FILE),
-    (Call::Make(&[b"-b", b"-B"], PLAIN), USAGE),
+    (Call::MakeWith(&[b"-B"]), PLAIN_FILE),
+    (Call::MakeWith(&[b"-b", b"-B"]), USAGE),
     (
-        Call::Make(&[b"-d"], PLAIN),
+        Call::MakeWith(&[b"-d"]),
         "flags BdFGHJKLMpRSTU\nlocal list\nhost ex.org\nowner o@own.org\nprefix \nmax 1048576\n",
     ),
-    (Call::Make(&[b"-D"], PLAIN), PLAIN_FILE),
-    (Call::Make(&[b"-d", b"-D"], PLAIN), USAGE),
+    (Call::MakeWith(&[b"-D"]), PLAIN_FILE),
+    (Call::MakeWith(&[b"-d", b"-D"]), USAGE),
     (
-        Call::Make(&[b"-f"], PLAIN),
+        Call::MakeWith(&[b"-f"]),
         "flags BDfGHJKLMpRSTU\nlocal list\nhost ex.org\nowner o@own.org\nprefix [list]\nmax 1048576\n",
     ),
-    (Call::Make(&[b"-F"], PLAIN), PLAIN_FILE),
-    (Call::Make(&[b"-f", b"-F"], PLAIN), USAGE),
+    (Call::MakeWith(&[b"-F"]), PLAIN_FILE),
+    (Call::MakeWith(&[b"-f", b"-F"]), USAGE),
     (
-        Call::Make(&[b"-g"], PLAIN),
+        Call::MakeWith(&[b"-g"]),
         "flags BDFgHJKLMpRSTU\nlocal list\nhost ex.org\nowner o@own.org\nprefix \nmax 1048576\n",
     ),
-    (Call::Make(&[b"-G"], PLAIN), PLAIN_FILE),
-    (Call::Make(&[b"-g", b"-G"], PLAIN), USAGE),
+    (Call::MakeWith(&[b"-G"]), PLAIN_FILE),
+    (Call::MakeWith(&[b"-g", b"-G"]), USAGE),
     (
-        Call::Make(&[b"-h"], PLAIN),
+        Call::MakeWith(&[b"-h"]),
         "flags BDFGhJKLMpRSTU\nlocal list\nhost ex.org\nowner o@own.org\nprefix \nmax 1048576\n",
     ),
-    (Call::Make(&[b"-H"], PLAIN), PLAIN_FILE),
-    (Call::Make(&[b"-h", b"-H"], PLAIN), USAGE),
+    (Call::MakeWith(&[b"-H"]), PLAIN_FILE),
+    (Call::MakeWith(&[b"-h", b"-H"]), USAGE),
     (
-        Call::Make(&[b"-j"], PLAIN),
+        Call::MakeWith(&[b"-j"]),
         "flags BDFGHjKLMpRSTU\nlocal list\nhost ex.org\nowner o@own.org\nprefix \nmax 1048576\n",
     ),
-    (Call::Make(&[b"-J"], PLAIN), PLAIN_FILE),
-    (Call::Make(&[b"-j", b"-J"], PLAIN), USAGE),
+    (Call::MakeWith(&[b"-J"]), PLAIN_FILE),
+    (Call::MakeWith(&[b"-j", b"-J"]), USAGE),
     (
-        Call::Make(&[b"-k"], PLAIN),
+        Call::MakeWith(&[b"-k"]),
         "flags BDFGHJkLMpRSTU\nlocal list\nhost ex.org\nowner o@own.org\nprefix \nmax 1048576\n",
     ),
-    (Call::Make(&[b"-K"], PLAIN), PLAIN_FILE),
-    (Call::Make(&[b"-k", b"-K"], PLAIN), USAGE),
+    (Call::MakeWith(&[b"-K"]), PLAIN_FILE),
+    (Call::MakeWith(&[b"-k", b"-K"]), USAGE),
     (
-        Call::Make(&[b"-l"], PLAIN),
+        Call::MakeWith(&[b"-l"]),
         "flags BDFGHJKlMpRSTU\nlocal list\nhost ex.org\nowner o@own.org\nprefix \nmax 1048576\n",
     ),
-    (Call::Make(&[b"-L"], PLAIN), PLAIN_FILE),
-    (Call::Make(&[b"-l", b"-L"], PLAIN), USAGE),
+    (Call::MakeWith(&[b"-L"]), PLAIN_FILE),
+    (Call::MakeWith(&[b"-l", b"-L"]), USAGE),
     (
-        Call::Make(&[b"-m"], PLAIN),
+        Call::MakeWith(&[b"-m"]),
         "flags BDFGHJKLmpRSTU\nlocal list\nhost ex.org\nowner o@own.org\nprefix \nmax 1048576\n",
     ),
-    (Call::Make(&[b"-M"], PLAIN), PLAIN_FILE),
-    (Call::Make(&[b"-m", b"-M"], PLAIN), USAGE),
-    (Call::Make(&[b"-p"], PLAIN), PLAIN_FILE),
+    (Call::MakeWith(&[b"-M"]), PLAIN_FILE),
+    (Call::MakeWith(&[b"-m", b"-M"]), USAGE),
+    (Call::MakeWith(&[b"-p"]), PLAIN_FILE),
     (
-        Call::Make(&[b"-P"], PLAIN),
+        Call::MakeWith(&[b"-P"]),
         "flags BDFGHJKLMPRSTU\nlocal list\nhost ex.org\nowner o@own.org\nprefix \nmax 1048576\n",
     ),
-    (Call::Make(&[b"-p", b"-P"], PLAIN), USAGE),
+    (Call::MakeWith(&[b"-p", b"-P"]), USAGE),
     (
-        Call::Make(&[b"-r"], PLAIN),
+        Call::MakeWith(&[b"-r"]),
         "flags BDFGHJKLMprSTU\nlocal list\nhost ex.org\nowner o@own.org\nprefix \nmax 1048576\n",
     ),
-    (Call::Make(&[b"-R"], PLAIN), PLAIN_FILE),
-    (Call::Make(&[b"-r", b"-R"], PLAIN), USAGE),
+    (Call::MakeWith(&[b"-R"]), PLAIN_FILE),
+    (Call::MakeWith(&[b"-r", b"-R"]), USAGE),
     (
-        Call::Make(&[b"-s"], PLAIN),
+        Call::MakeWith(&[b"-s"]),
         "flags BDFGHJKLMpRsTU\nlocal list\nhost ex.org\nowner o@own.org\nprefix \nmax 1048576\n",
     ),
-    (Call::Make(&[b"-S"], PLAIN), PLAIN_FILE),
-    (Call::Make(&[b"-s", b"-S"], PLAIN), USAGE),
+    (Call::MakeWith(&[b"-S"]), PLAIN_FILE),
+    (Call::MakeWith(&[b"-s", b"-S"]), USAGE),
     (
-        Call::Make(&[b"-t"], PLAIN),
+        Call::MakeWith(&[b"-t"]),
         "flags BDFGHJKLMpRStU\nlocal list\nhost ex.org\nowner o@own.org\nprefix \nmax 1048576\n",
     ),
-    (Call::Make(&[b"-T"], PLAIN), PLAIN_FILE),
-    (Call::Make(&[b"-t", b"-T"], PLAIN), USAGE),
+    (Call::MakeWith(&[b"-T"]), PLAIN_FILE),
+    (Call::MakeWith(&[b"-t", b"-T"]), USAGE),
     (
-        Call::Make(&[b"-u"], PLAIN),
+        Call::MakeWith(&[b"-u"]),
         "flags BDFGHJKLMpRSTu\nlocal list\nhost ex.org\nowner o@own.org\nprefix \nmax 1048576\n",
     ),
-    (Call::Make(&[b"-U"], PLAIN), PLAIN_FILE),
-    (Call::Make(&[b"-u", b"-U"], PLAIN), USAGE),
+    (Call::MakeWith(&[b"-U"]), PLAIN_FILE),
+    (Call::MakeWith(&[b"-u", b"-U"]), USAGE),
+];
+
+// Other words.
+static WORDS: [(Call, &str); 47] = [
     (
-        Call::Make(
-            &[
-                b"-fm",
-                b"--prefix=a b",
-                b"list",
-                b"EX.org",
-                b"o@OWN.org",
-                b"--key",
-                HEX,
-            ],
-            NO_MORE,
-        ),
+        Call::Make(&[
+            b"-fm",
+            b"--prefix=a b",
+            b"list",
+            b"EX.org",
+            b"o@OWN.org",
+            b"--key",
+            b"HEX",
+        ]),
         "flags BDfGHJKLmpRSTU\nlocal list\nhost ex.org\nowner o@own.org\nprefix a b\nmax 1048576\n",
     ),
     (
-        Call::Make(
-            &[
-                b"--key",
-                HEX,
-                b"-f",
-                b"--max",
-                b"7",
-                b"--",
-                b"-d",
-                b"ex.org",
-                b"o@own.org",
-            ],
-            NO_MORE,
-        ),
+        Call::Make(&[
+            b"--key",
+            b"HEX",
+            b"-f",
+            b"--max",
+            b"7",
+            b"--",
+            b"-d",
+            b"ex.org",
+            b"o@own.org",
+        ]),
         "flags BDfGHJKLMpRSTU\nlocal -d\nhost ex.org\nowner o@own.org\nprefix [-d]\nmax 7\n",
     ),
     (
-        Call::Make(
-            &[
-                b"--prefix",
-                b"-",
-                b"--key",
-                HEX,
-                b"list",
-                b"ex.org",
-                b"o@own.org",
-            ],
-            NO_MORE,
-        ),
+        Call::Make(&[
+            b"--prefix",
+            b"-",
+            b"--key",
+            b"HEX",
+            b"list",
+            b"ex.org",
+            b"o@own.org",
+        ]),
         "flags BDFGHJKLMpRSTU\nlocal list\nhost ex.org\nowner o@own.org\nprefix -\nmax 1048576\n",
     ),
     (
-        Call::Make(
-            &[
-                b"--key=000102030405060708090A0B0C0D0E0F101112131415161718191A1B1C1D1E1F",
-                b"list",
-                b"ex.org",
-                b"o@own.org",
-            ],
-            NO_MORE,
-        ),
+        Call::Make(&[
+            b"--key=000102030405060708090A0B0C0D0E0F101112131415161718191A1B1C1D1E1F",
+            b"list",
+            b"ex.org",
+            b"o@own.org",
+        ]),
         PLAIN_FILE,
     ),
+    (Call::IsTaken(&[b"list", b"ex.org", b"o@own.org"]), USAGE),
     (
-        Call::IsTaken(&[b"list", b"ex.org", b"o@own.org"], NO_MORE),
+        Call::IsTaken(&[b"--key", b"HEX", b"list", b"ex.org"]),
         USAGE,
     ),
     (
-        Call::IsTaken(&[b"--key", HEX, b"list", b"ex.org"], NO_MORE),
+        Call::IsTaken(&[b"--key", b"HEX", b"list", b"ex.org", b"o@own.org", b"more"]),
         USAGE,
     ),
     (
-        Call::IsTaken(
-            &[b"--key", HEX, b"list", b"ex.org", b"o@own.org", b"more"],
-            NO_MORE,
-        ),
+        Call::IsTaken(&[
+            b"-d",
+            b"-d",
+            b"--key",
+            b"HEX",
+            b"list",
+            b"ex.org",
+            b"o@own.org",
+        ]),
         USAGE,
     ),
     (
-        Call::IsTaken(
-            &[
-                b"-d",
-                b"-d",
-                b"--key",
-                HEX,
-                b"list",
-                b"ex.org",
-                b"o@own.org",
-            ],
-            NO_MORE,
-        ),
+        Call::IsTaken(&[b"-mM", b"--key", b"HEX", b"list", b"ex.org", b"o@own.org"]),
         USAGE,
     ),
     (
-        Call::IsTaken(
-            &[b"-mM", b"--key", HEX, b"list", b"ex.org", b"o@own.org"],
-            NO_MORE,
-        ),
+        Call::IsTaken(&[b"-a", b"--key", b"HEX", b"list", b"ex.org", b"o@own.org"]),
         USAGE,
     ),
     (
-        Call::IsTaken(
-            &[b"-a", b"--key", HEX, b"list", b"ex.org", b"o@own.org"],
-            NO_MORE,
-        ),
+        Call::IsTaken(&[
+            b"--help",
+            b"--key",
+            b"HEX",
+            b"list",
+            b"ex.org",
+            b"o@own.org",
+        ]),
         USAGE,
     ),
     (
-        Call::IsTaken(
-            &[b"--help", b"--key", HEX, b"list", b"ex.org", b"o@own.org"],
-            NO_MORE,
-        ),
+        Call::IsTaken(&[
+            b"--pre",
+            b"x",
+            b"--key",
+            b"HEX",
+            b"list",
+            b"ex.org",
+            b"o@own.org",
+        ]),
         USAGE,
     ),
     (
-        Call::IsTaken(
-            &[
-                b"--pre",
-                b"x",
-                b"--key",
-                HEX,
-                b"list",
-                b"ex.org",
-                b"o@own.org",
-            ],
-            NO_MORE,
-        ),
+        Call::IsTaken(&[
+            b"--prefix",
+            b"-x",
+            b"--key",
+            b"HEX",
+            b"list",
+            b"ex.org",
+            b"o@own.org",
+        ]),
         USAGE,
     ),
     (
-        Call::IsTaken(
-            &[
-                b"--prefix",
-                b"-x",
-                b"--key",
-                HEX,
-                b"list",
-                b"ex.org",
-                b"o@own.org",
-            ],
-            NO_MORE,
-        ),
+        Call::IsTaken(&[
+            b"--prefix",
+            b"",
+            b"--key",
+            b"HEX",
+            b"list",
+            b"ex.org",
+            b"o@own.org",
+        ]),
         USAGE,
     ),
     (
-        Call::IsTaken(
-            &[
-                b"--prefix",
-                b"",
-                b"--key",
-                HEX,
-                b"list",
-                b"ex.org",
-                b"o@own.org",
-            ],
-            NO_MORE,
-        ),
+        Call::IsTaken(&[
+            b"--key",
+            b"HEX",
+            b"--key",
+            b"HEX",
+            b"list",
+            b"ex.org",
+            b"o@own.org",
+        ]),
         USAGE,
     ),
+    (Call::IsTaken(&[]), USAGE),
+    (Call::IsTakenWith(&[b"--prefix", b"!"]), TAKEN),
+    (Call::IsTakenWith(&[b"--prefix", b"a  ~"]), TAKEN),
+    (Call::IsTakenWith(&[b"--prefix", b" a"]), USAGE),
+    (Call::IsTakenWith(&[b"--prefix", b"a "]), USAGE),
+    (Call::IsTakenWith(&[b"--prefix", b"a\tb"]), USAGE),
+    (Call::IsTakenWith(&[b"--prefix", b"\xC3\xA9"]), USAGE),
+    (Call::IsTakenWith(&[b"--prefix", &[b'p'; 62]]), TAKEN),
+    (Call::IsTakenWith(&[b"--prefix", &[b'p'; 63]]), USAGE),
+    (Call::IsTakenWith(&[b"--max", b"0"]), USAGE),
+    (Call::IsTakenWith(&[b"--max", b"1"]), TAKEN),
+    (Call::IsTakenWith(&[b"--max", b"16777216"]), TAKEN),
+    (Call::IsTakenWith(&[b"--max", b"16777217"]), USAGE),
+    (Call::IsTakenWith(&[b"--max", b"01"]), USAGE),
+    (Call::IsTakenWith(&[b"--max", b"1k"]), USAGE),
     (
-        Call::IsTaken(
-            &[
-                b"--key",
-                HEX,
-                b"--key",
-                HEX,
-                b"list",
-                b"ex.org",
-                b"o@own.org",
-            ],
-            NO_MORE,
-        ),
-        USAGE,
-    ),
-    (Call::IsTaken(NO_MORE, NO_MORE), USAGE),
-    (Call::IsTaken(&[b"--prefix", b"!"], PLAIN), TAKEN),
-    (Call::IsTaken(&[b"--prefix", b"a  ~"], PLAIN), TAKEN),
-    (Call::IsTaken(&[b"--prefix", b" a"], PLAIN), USAGE),
-    (Call::IsTaken(&[b"--prefix", b"a "], PLAIN), USAGE),
-    (Call::IsTaken(&[b"--prefix", b"a\tb"], PLAIN), USAGE),
-    (Call::IsTaken(&[b"--prefix", b"\xC3\xA9"], PLAIN), USAGE),
-    (Call::IsTaken(&[b"--prefix", &[b'p'; 62]], PLAIN), TAKEN),
-    (Call::IsTaken(&[b"--prefix", &[b'p'; 63]], PLAIN), USAGE),
-    (Call::IsTaken(&[b"--max", b"0"], PLAIN), USAGE),
-    (Call::IsTaken(&[b"--max", b"1"], PLAIN), TAKEN),
-    (Call::IsTaken(&[b"--max", b"16777216"], PLAIN), TAKEN),
-    (Call::IsTaken(&[b"--max", b"16777217"], PLAIN), USAGE),
-    (Call::IsTaken(&[b"--max", b"01"], PLAIN), USAGE),
-    (Call::IsTaken(&[b"--max", b"1k"], PLAIN), USAGE),
-    (
-        Call::IsTaken(
-            &[b"--key", &[b'f'; 64], b"list", b"ex.org", b"o@own.org"],
-            NO_MORE,
-        ),
+        Call::IsTaken(&[b"--key", &[b'f'; 64], b"list", b"ex.org", b"o@own.org"]),
         TAKEN,
     ),
     (
-        Call::IsTaken(
-            &[b"--key", &[b'F'; 64], b"list", b"ex.org", b"o@own.org"],
-            NO_MORE,
-        ),
+        Call::IsTaken(&[b"--key", &[b'F'; 64], b"list", b"ex.org", b"o@own.org"]),
         TAKEN,
     ),
     (
-        Call::IsTaken(
-            &[b"--key", &[b'g'; 64], b"list", b"ex.org", b"o@own.org"],
-            NO_MORE,
-        ),
+        Call::IsTaken(&[b"--key", &[b'g'; 64], b"list", b"ex.org", b"o@own.org"]),
         USAGE,
     ),
     (
-        Call::IsTaken(
-            &[b"--key", &[b'0'; 63], b"list", b"ex.org", b"o@own.org"],
-            NO_MORE,
-        ),
+        Call::IsTaken(&[b"--key", &[b'0'; 63], b"list", b"ex.org", b"o@own.org"]),
         USAGE,
     ),
     (
-        Call::IsTaken(
-            &[b"--key", &[b'0'; 65], b"list", b"ex.org", b"o@own.org"],
-            NO_MORE,
-        ),
+        Call::IsTaken(&[b"--key", &[b'0'; 65], b"list", b"ex.org", b"o@own.org"]),
         USAGE,
     ),
     (
-        Call::IsTaken(
-            &[b"--key", &[b'0'; 66], b"list", b"ex.org", b"o@own.org"],
-            NO_MORE,
-        ),
+        Call::IsTaken(&[b"--key", &[b'0'; 66], b"list", b"ex.org", b"o@own.org"]),
         USAGE,
     ),
     (
-        Call::IsTaken(
-            &[b"--key", HEX, &[b'l'; 60], b"ex.org", b"o@own.org"],
-            NO_MORE,
-        ),
+        Call::IsTaken(&[b"--key", b"HEX", &[b'l'; 60], b"ex.org", b"o@own.org"]),
         TAKEN,
     ),
     (
-        Call::IsTaken(
-            &[b"--key", HEX, &[b'l'; 61], b"ex.org", b"o@own.org"],
-            NO_MORE,
-        ),
+        Call::IsTaken(&[b"--key", b"HEX", &[b'l'; 61], b"ex.org", b"o@own.org"]),
         USAGE,
     ),
     (
-        Call::IsTaken(
-            &[b"--key", HEX, b"list", &[b'h'; 255], b"o@own.org"],
-            NO_MORE,
-        ),
+        Call::IsTaken(&[b"--key", b"HEX", b"list", &[b'h'; 255], b"o@own.org"]),
         TAKEN,
     ),
     (
-        Call::IsTaken(
-            &[b"--key", HEX, b"list", &[b'h'; 256], b"o@own.org"],
-            NO_MORE,
-        ),
+        Call::IsTaken(&[b"--key", b"HEX", b"list", &[b'h'; 256], b"o@own.org"]),
         USAGE,
     ),
     (
-        Call::IsTaken(&[b"--key", HEX, b"l@st", b"ex.org", b"o@own.org"], NO_MORE),
+        Call::IsTaken(&[b"--key", b"HEX", b"l@st", b"ex.org", b"o@own.org"]),
         USAGE,
     ),
     (
-        Call::IsTaken(&[b"--key", HEX, b"list", b"ex@org", b"o@own.org"], NO_MORE),
+        Call::IsTaken(&[b"--key", b"HEX", b"list", b"ex@org", b"o@own.org"]),
         USAGE,
     ),
     (
-        Call::IsTaken(&[b"--key", HEX, b"", b"ex.org", b"o@own.org"], NO_MORE),
+        Call::IsTaken(&[b"--key", b"HEX", b"", b"ex.org", b"o@own.org"]),
         USAGE,
     ),
     (
-        Call::IsTaken(&[b"--key", HEX, b"list", b"ex.org", b"own.org"], NO_MORE),
+        Call::IsTaken(&[b"--key", b"HEX", b"list", b"ex.org", b"own.org"]),
         USAGE,
     ),
     (
-        Call::IsTaken(
-            &[b"--key", HEX, b"list", b"ex.org", b"list-owner@ex.org"],
-            NO_MORE,
-        ),
+        Call::IsTaken(&[b"--key", b"HEX", b"list", b"ex.org", b"list-owner@ex.org"]),
         USAGE,
     ),
     (
-        Call::IsTaken(
-            &[b"--key", HEX, b"list", b"ex.org", b"LIST@EX.ORG"],
-            NO_MORE,
-        ),
+        Call::IsTaken(&[b"--key", b"HEX", b"list", b"ex.org", b"LIST@EX.ORG"]),
         USAGE,
     ),
     (
-        Call::IsTaken(
-            &[b"--key", HEX, b"list", b"ex.org", b"lists@ex.org"],
-            NO_MORE,
-        ),
+        Call::IsTaken(&[b"--key", b"HEX", b"list", b"ex.org", b"lists@ex.org"]),
         TAKEN,
     ),
 ];
 
-#[test]
-fn rows_are_answered(rt: HostRuntime) -> Result<(), Fail> {
-    for (row, (call, expected)) in ROWS.iter().enumerate() {
-        let found = told(rt.alloc(), *call)?;
-        assert_eq!(rt; found.as_str(), *expected, "row {row}");
+fn check(rt: &impl Abort, alloc: Global, table: &str, rows: &[(Call, &str)]) -> Result<(), Fail> {
+    for (row, (call, expected)) in rows.iter().enumerate() {
+        let found = told(alloc, *call)?;
+        assert_eq!(rt; found.as_str(), *expected, "{table}, row {row}");
     }
     Ok(())
+}
+
+#[test]
+fn files_are_read(rt: HostRuntime) -> Result<(), Fail> {
+    check(&rt, rt.alloc(), "files", FILES.as_slice())
+}
+
+#[test]
+fn letters_are_read(rt: HostRuntime) -> Result<(), Fail> {
+    check(&rt, rt.alloc(), "letters", LETTERS.as_slice())
+}
+
+#[test]
+fn words_are_read(rt: HostRuntime) -> Result<(), Fail> {
+    check(&rt, rt.alloc(), "words", WORDS.as_slice())
 }
