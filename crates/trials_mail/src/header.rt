@@ -1,8 +1,10 @@
-// What no clause says: messages written by hand, with their fields, bodies, unfolded values and sent texts, and that each
-// call answers with ample memory.
+// Messages by hand, with their fields, bodies, unfolded values and sent texts, and that each call answers with ample memory.
+use ml_base::Bytes;
 use ml_header::{Message, law_messages, law_names, law_parts, law_sent, law_unfolded};
 use std::alloc::{AllocError, Global};
 use std::test::Fail;
+
+type Text = &'static [u8];
 
 // A message of three fields and one line, of 45 bytes.
 const HELLO: &[u8] = b"From: a@b\nTo: list@ex.org\nSubject: hello\n\nhi\n";
@@ -28,113 +30,6 @@ list-unsubscribe
 list-subscribe
 ";
 
-#[test]
-fn the_laws_can_be_called() {
-    law_messages();
-    law_names();
-    law_parts();
-    law_sent();
-    law_unfolded();
-}
-
-// The fields of a message and its body, printed: each name, value and lines in brackets.
-fn printed(alloc: Global, text: &[u8]) -> Result<Vec<u8>, AllocError> {
-    let message = Message::scan(text);
-    let mut out = Vec::new(alloc);
-    for field in message.fields() {
-        out.extend_from_slice(b"[")?;
-        out.extend_from_slice(field.name)?;
-        out.extend_from_slice(b"|")?;
-        out.extend_from_slice(field.value)?;
-        out.extend_from_slice(b"|")?;
-        out.extend_from_slice(field.lines)?;
-        out.extend_from_slice(b"]")?;
-    }
-    out.extend_from_slice(b"(")?;
-    out.extend_from_slice(message.body())?;
-    out.extend_from_slice(b")")?;
-    Ok(out)
-}
-
-#[test]
-fn reads_fields_and_bodies(rt: HostRuntime) -> Result<(), Fail> {
-    let rows: [(&[u8], &[u8]); 19] = [
-        (b"", b"()"),
-        (b"\n", b"()"),
-        (b"\r", b"()"),
-        (b"\r\nx", b"(x)"),
-        (b"\rx", b"(\rx)"),
-        (b"\nA:b\n", b"(A:b\n)"),
-        (b"A:b\n\nc", b"[A|b\n|A:b\n](c)"),
-        (
-            b"A: b\r\nC:d\r\n\r\ne\r\n",
-            b"[A| b\r\n|A: b\r\n][C|d\r\n|C:d\r\n](e\r\n)",
-        ),
-        (
-            b"A: b\r\nC:d\n\r\ne\n\r\n",
-            b"[A| b\r\n|A: b\r\n][C|d\n|C:d\n](e\n\r\n)",
-        ),
-        (
-            b"A: b\n c\n\td\nE:\n\n",
-            b"[A| b\n c\n\td\n|A: b\n c\n\td\n][E|\n|E:\n]()",
-        ),
-        (b"Subject: x", b"[Subject| x|Subject: x]()"),
-        (b"A:b\n ", b"[A|b\n |A:b\n ]()"),
-        (b"A:b\nno field\n\nc", b"[A|b\n|A:b\n](no field\n\nc)"),
-        (b" A:b\nC:d\n\ne", b"( A:b\nC:d\n\ne)"),
-        (b"\tA:b\nC:d\n\ne", b"(\tA:b\nC:d\n\ne)"),
-        (b"A\x00:b\nC:d\n", b"(A\x00:b\nC:d\n)"),
-        (b":b\n", b"(:b\n)"),
-        (b"A :b\n", b"(A :b\n)"),
-        (b"!~:b:c\n", b"[!~|b:c\n|!~:b:c\n]()"),
-    ];
-    for (text, want) in rows {
-        let found = printed(rt.alloc(), text)?;
-        assert_eq!(rt; found.as_slice(), want, "{text:?}");
-    }
-    Ok(())
-}
-
-#[test]
-fn finds_the_first_field(rt: HostRuntime) {
-    let message = Message::scan(b"To: a\nTO: b\n\nto: c");
-    assert_eq!(rt; message.bytes().len(), 18);
-    assert_eq!(rt;
-        message.field(b"tO").map(|field| field.value),
-        Some(b" a\n".as_slice())
-    );
-    assert!(rt; message.field(b"T").is_none());
-    assert!(rt; message.field(b"To ").is_none());
-}
-
-#[test]
-fn unfolds_values(rt: HostRuntime) -> Result<(), Fail> {
-    let rows: [(&[u8], Option<&[u8]>); 10] = [
-        (b"subject: a\n", Some(b"a")),
-        (b"SUBJECT:a\nSubject: b\n", Some(b"a")),
-        (b"To: a\n", None),
-        (b"Subject:\n", Some(b"")),
-        (b"Subject: \t\n \n\t\n", Some(b"")),
-        (
-            b"Subject:\n one\r\n\ttwo \r\n three\n four\t \n",
-            Some(b"one\ttwo  three four"),
-        ),
-        (
-            b"Subject: one\n\ttwo\n three\r\n \tfour\n",
-            Some(b"one\ttwo three \tfour"),
-        ),
-        (b"Subject: a\rb\r\r\n c", Some(b"a\rb\r c")),
-        (b"Subject: a\r", Some(b"a\r")),
-        (b" \nSubject: a\n", None),
-    ];
-    for (text, want) in rows {
-        let found = Message::scan(text).unfolded(rt.alloc(), b"Subject")?;
-        let found = found.as_ref().map(|value| value.as_slice());
-        assert_eq!(rt; found, want, "{text:?}");
-    }
-    Ok(())
-}
-
 // A message with folded fields and parts (RFC 822 and 2045).
 const POST: &[u8] = b"Return-Path: <a@b>
 Received: from mx.b (mx.b [192.0.2.1])
@@ -156,7 +51,7 @@ hi
 --x--
 ";
 
-const POST_SENT: &[u8] = b"Mailing-List: contact list-help@ex.org; run by ezmlm
+const POST_SENT: &str = "Mailing-List: contact list-help@ex.org; run by ezmlm
 Precedence: bulk
 List-Post: <mailto:list@ex.org>
 List-Help: <mailto:list-help@ex.org>
@@ -182,7 +77,7 @@ hi
 --x--
 ";
 
-const HELLO_SENT: &[u8] = b"Mailing-List: contact list-help@ex.org; run by ezmlm
+const HELLO_SENT: &str = "Mailing-List: contact list-help@ex.org; run by ezmlm
 Precedence: bulk
 List-Post: <mailto:list@ex.org>
 List-Help: <mailto:list-help@ex.org>
@@ -196,182 +91,362 @@ Subject: hello
 hi
 ";
 
-#[test]
-fn sends_the_whole_text(rt: HostRuntime) -> Result<(), Fail> {
-    assert_eq!(rt; ADDED.len(), 276);
-    assert_eq!(rt; HELLO_SENT.len(), 321);
-    for (text, want) in [(POST, POST_SENT), (HELLO, HELLO_SENT)] {
-        let sent = Message::scan(text).rewritten(rt.alloc(), LEFT_OUT, ADDED, None, None)?;
-        assert_eq!(rt; sent.as_slice(), want);
-    }
-    let trailed = Message::scan(POST).rewritten(rt.alloc(), LEFT_OUT, ADDED, None, Some(b"--\n"))?;
-    assert_eq!(rt; trailed.as_slice(), POST_SENT);
-    Ok(())
-}
-
-#[test]
-fn leaves_fields_out(rt: HostRuntime) -> Result<(), Fail> {
-    let rows: [(&[u8], &[u8], &[u8]); 11] = [
-        (b"", b"a\n", b"\n"),
-        (b"Subject: x", b"", b"Subject: x\n\n"),
-        (b"A:b\nC:d", b"", b"A:b\nC:d\n\n"),
-        (b"A:b\n c\nC:d\n\ne", b"a\n", b"C:d\n\ne"),
-        (b"A:b\nC:d\na:e\n\n", b"c\nA\n", b"\n"),
-        (b"A:b\r\nC:d\r\n\r\ne\r\n", b"x\nc\n", b"A:b\r\n\ne\r\n"),
-        (
-            b"From: a@b\r\nSubject: hello\r\n\r\nhi\r\n",
-            b"",
-            b"From: a@b\r\nSubject: hello\r\n\nhi\r\n",
-        ),
-        (b"A:b\nC:d\n", b"a\nc", b"C:d\n\n"),
-        (b"A:b\nA-B:d\n", b"\nA-\n", b"A:b\nA-B:d\n\n"),
-        (b"a\x00b: c\nA:b\n\nd", b"a\n", b"\na\x00b: c\nA:b\n\nd"),
-        (b" A:b\nC:d\n", b"c\n", b"\n A:b\nC:d\n"),
-    ];
-    for (text, remove, want) in rows {
-        let sent = Message::scan(text).rewritten(rt.alloc(), remove, b"", None, None)?;
-        assert_eq!(rt; sent.as_slice(), want, "{text:?}");
-    }
-    Ok(())
-}
-
-#[test]
-fn puts_a_prefix_in(rt: HostRuntime) -> Result<(), Fail> {
-    let rows: [(&[u8], &[u8], &[u8]); 13] = [
-        (b"[l]", b"Subject: x\n\n", b"Subject: [l] x\n\n"),
-        (b"[l]", b"Subject:x\n\n", b"Subject: [l] x\n\n"),
-        (b"[l]", b"Subject:\tx\n\n", b"Subject: [l]\tx\n\n"),
-        (b"[l]", b"Subject:\n x\n\n", b"Subject: [l] \n x\n\n"),
-        (b"[l]", b"Subject:", b"Subject: [l] \n\n"),
-        (b"[l]", b"Subject:\n\n", b"Subject: [l] \n\n"),
-        (b"[l]", b"To: x\n\nSubject: y", b"To: x\n\nSubject: y"),
-        (
-            b"[l]",
-            b"SUBJECT: x\nSubject: y\n\n",
-            b"SUBJECT: [l] x\nSubject: y\n\n",
-        ),
-        (
-            b"[l]",
-            b"Subject: x\nSubject: [l]\n\n",
-            b"Subject: [l] x\nSubject: [l]\n\n",
-        ),
-        (b"[l]", b"Subject: Re: [L] x\n\n", b"Subject: Re: [L] x\n\n"),
-        (b"[L]", b"Subject: [l]x\n\n", b"Subject: [l]x\n\n"),
-        (
-            b"[l]",
-            b"Subject: [\n l] x\n\n",
-            b"Subject: [l] [\n l] x\n\n",
-        ),
-        (
-            b"THE LIST",
-            b"Subject: the\r\n List x\n\n",
-            b"Subject: the\r\n List x\n\n",
-        ),
-    ];
-    for (prefix, text, want) in rows {
-        let sent = Message::scan(text).rewritten(rt.alloc(), b"", b"", Some(prefix), None)?;
-        assert_eq!(rt; sent.as_slice(), want, "{text:?}");
-    }
-    Ok(())
-}
-
-#[test]
-fn puts_a_trailer_behind_plain_text(rt: HostRuntime) -> Result<(), Fail> {
-    let rows: [(&[u8], &[u8]); 13] = [
-        (b"A:b\n\nhi\n", b"A:b\n\nhi\n--\n"),
-        (b"A:b\n\nhi", b"A:b\n\nhi\n--\n"),
-        (b"A:b\n\n", b"A:b\n\n--\n"),
-        (b"A:b\n", b"A:b\n\n--\n"),
-        (b"hi there\n", b"\nhi there\n--\n"),
-        (b"A:b\n\nhi\r", b"A:b\n\nhi\r\n--\n"),
-        (
-            b"Content-Type: Text/Plain; charset=x\n\nhi\n",
-            b"Content-Type: Text/Plain; charset=x\n\nhi\n--\n",
-        ),
-        (
-            b"Content-Type:\n\ttext/plain\n\nhi\n",
-            b"Content-Type:\n\ttext/plain\n\nhi\n--\n",
-        ),
-        (
-            b"content-type: text/html\n\nhi\n",
-            b"content-type: text/html\n\nhi\n",
-        ),
-        (b"Content-Type:\n\nhi\n", b"Content-Type:\n\nhi\n"),
-        (
-            b"Content-Transfer-Encoding: BASE64\n\naGk=\n",
-            b"Content-Transfer-Encoding: BASE64\n\naGk=\n",
-        ),
-        (
-            b"Content-Transfer-Encoding: 8bit\n\nhi\n",
-            b"Content-Transfer-Encoding: 8bit\n\nhi\n--\n",
-        ),
-        (
-            b"Content-Type: text/plain\nContent-Transfer-Encoding:\n base64 \n\naGk=\n",
-            b"Content-Type: text/plain\nContent-Transfer-Encoding:\n base64 \n\naGk=\n",
-        ),
-    ];
-    for (text, want) in rows {
-        let sent = Message::scan(text).rewritten(rt.alloc(), b"", b"", None, Some(b"--\n"))?;
-        assert_eq!(rt; sent.as_slice(), want, "{text:?}");
-    }
-    Ok(())
+#[derive(Clone, Copy)]
+enum Call {
+    // The name, value and lines of each field in brackets, and the body.
+    Fields(Text),
+    // The message itself.
+    Whole(Text),
+    // The value of the first field of a name.
+    Field(Text, Text),
+    // The unfolded subject.
+    Subject(Text),
+    // What the list list@ex.org sends of a post.
+    Sent(Text),
+    // The same with a trailer.
+    SentTrailed(Text),
+    // What is sent without these fields.
+    Without(Text, Text),
+    // What is sent with this prefix.
+    Prefixed(Text, Text),
+    // What is sent with a trailer.
+    Trailed(Text),
+    // How many fields a long message has, and whether it is sent as it is.
+    Long(Long),
 }
 
 // A text of many pieces: what stands before them, the piece, how many of it, and what stands behind.
 #[derive(Clone, Copy)]
 struct Long {
-    before: &'static [u8],
-    piece: &'static [u8],
+    before: Text,
+    piece: Text,
     count: usize,
-    behind: &'static [u8],
+    behind: Text,
 }
 
-fn long_text(alloc: Global, long: &Long) -> Result<Vec<u8>, AllocError> {
-    let mut out = Vec::new(alloc);
-    out.extend_from_slice(long.before)?;
-    for _ in 0..long.count {
-        out.extend_from_slice(long.piece)?;
+fn told(alloc: Global, call: Call) -> Result<String, Fail> {
+    match call {
+        Call::Fields(text) => printed(alloc, text),
+        Call::Whole(text) => Ok(String::from_str(
+            alloc,
+            str::from_utf8(Message::scan(text).bytes())?,
+        )?),
+        Call::Field(text, name) => field(alloc, text, name),
+        Call::Subject(text) => subject(alloc, text),
+        Call::Sent(text) => sent(alloc, text, LEFT_OUT, ADDED, None, None),
+        Call::SentTrailed(text) => sent(alloc, text, LEFT_OUT, ADDED, None, Some(b"--\n")),
+        Call::Without(text, remove) => sent(alloc, text, remove, b"", None, None),
+        Call::Prefixed(prefix, text) => sent(alloc, text, b"", b"", Some(prefix), None),
+        Call::Trailed(text) => sent(alloc, text, b"", b"", None, Some(b"--\n")),
+        Call::Long(long) => kept(alloc, &long),
     }
-    out.extend_from_slice(long.behind)?;
-    out.extend_from_slice(b"From: a@b\nSubject: hello\n\nhi\n")?;
-    Ok(out)
 }
 
-fn count_fields(message: &Message<'_>) -> usize {
-    let mut count: usize = 0;
-    for _ in message.fields() {
-        count = count.saturating_add(1);
-    }
-    count
-}
-
-// Nothing is to be left out of these, and their empty line is an LF, so each is sent as it is: 10,000 lines, a field of
-// 1 MiB in one line and in 65,536, a line of 998 and one of 100,000 bytes, and a body of 1 MiB in one line.
-#[test]
-fn keeps_long_messages_byte_for_byte(rt: HostRuntime) -> Result<(), Fail> {
-    let rows = [
-        (10_002, many(b"", b"X: y\n", 10_000, b"")),
-        (3, many(b"Long: ", b"0123456789abcdef", 65_536, b"\n")),
-        (3, many(b"Long: x", b"\n a fold of 15 b", 65_536, b"\n")),
-        (3, many(b"L: ", b"x", 995, b"\n")),
-        (3, many(b"L: ", b"x", 99_997, b"\n")),
-        (1, many(b"L: x\n\n", b"0123456789abcdef", 65_536, b"")),
-    ];
-    for (count, row) in rows {
-        let text = long_text(rt.alloc(), &row)?;
-        let message = Message::scan(&text);
-        assert_eq!(rt; count_fields(&message), count);
-        let sent = message.rewritten(rt.alloc(), b"y\n", b"", Some(b"hell"), None)?;
-        assert!(rt; sent.as_slice() == text.as_slice(), "{count}");
+fn extend_all(out: &mut Bytes, pieces: &[&[u8]]) -> Result<(), AllocError> {
+    for piece in pieces {
+        out.extend(piece)?;
     }
     Ok(())
 }
 
-fn many(before: &'static [u8], piece: &'static [u8], count: usize, behind: &'static [u8]) -> Long {
-    Long {
-        before,
-        piece,
-        count,
-        behind,
+fn printed(alloc: Global, text: &[u8]) -> Result<String, Fail> {
+    let message = Message::scan(text);
+    let mut out = Bytes::new(alloc);
+    for field in message.fields() {
+        let pieces = [
+            b"[".as_slice(),
+            field.name,
+            b"|",
+            field.value,
+            b"|",
+            field.lines,
+            b"]",
+        ];
+        extend_all(&mut out, &pieces)?;
     }
+    extend_all(&mut out, &[b"(".as_slice(), message.body(), b")"])?;
+    Ok(String::from_utf8(out.into_vec())?)
+}
+
+fn field(alloc: Global, text: &[u8], name: &[u8]) -> Result<String, Fail> {
+    match Message::scan(text).field(name) {
+        Some(field) => Ok(String::from_str(alloc, str::from_utf8(field.value)?)?),
+        None => Ok(String::from_str(alloc, "none")?),
+    }
+}
+
+fn subject(alloc: Global, text: &[u8]) -> Result<String, Fail> {
+    match Message::scan(text).unfolded(alloc, b"Subject")? {
+        Some(value) => Ok(String::from_utf8(value.into_vec())?),
+        None => Ok(String::from_str(alloc, "none")?),
+    }
+}
+
+fn sent(
+    alloc: Global,
+    text: &[u8],
+    remove: &[u8],
+    added: &[u8],
+    prefix: Option<&[u8]>,
+    trailer: Option<&[u8]>,
+) -> Result<String, Fail> {
+    let sent = Message::scan(text).rewritten(alloc, remove, added, prefix, trailer)?;
+    Ok(String::from_utf8(sent.into_vec())?)
+}
+
+fn long_text(alloc: Global, long: &Long) -> Result<Bytes, AllocError> {
+    let mut out = Bytes::from_slice(alloc, long.before)?;
+    for _ in 0..long.count {
+        out.extend(long.piece)?;
+    }
+    out.extend(long.behind)?;
+    out.extend(b"From: a@b\nSubject: hello\n\nhi\n")?;
+    Ok(out)
+}
+
+fn kept(alloc: Global, long: &Long) -> Result<String, Fail> {
+    let text = long_text(alloc, long)?;
+    let message = Message::scan(text.as_slice());
+    let mut count: usize = 0;
+    for _ in message.fields() {
+        count = count.saturating_add(1);
+    }
+    let sent = message.rewritten(alloc, b"y\n", b"", Some(b"hell"), None)?;
+    let is_same = sent.as_slice() == text.as_slice();
+    Ok(format!(in alloc; "{count} {is_same}")?)
+}
+
+static CALLS: [(Call, &str); 73] = [
+    (Call::Fields(b""), "()"),
+    (Call::Fields(b"\n"), "()"),
+    (Call::Fields(b"\r"), "()"),
+    (Call::Fields(b"\r\nx"), "(x)"),
+    (Call::Fields(b"\rx"), "(\rx)"),
+    (Call::Fields(b"\nA:b\n"), "(A:b\n)"),
+    (Call::Fields(b"A:b\n\nc"), "[A|b\n|A:b\n](c)"),
+    (
+        Call::Fields(b"A: b\r\nC:d\r\n\r\ne\r\n"),
+        "[A| b\r\n|A: b\r\n][C|d\r\n|C:d\r\n](e\r\n)",
+    ),
+    (
+        Call::Fields(b"A: b\r\nC:d\n\r\ne\n\r\n"),
+        "[A| b\r\n|A: b\r\n][C|d\n|C:d\n](e\n\r\n)",
+    ),
+    (
+        Call::Fields(b"A: b\n c\n\td\nE:\n\n"),
+        "[A| b\n c\n\td\n|A: b\n c\n\td\n][E|\n|E:\n]()",
+    ),
+    (Call::Fields(b"Subject: x"), "[Subject| x|Subject: x]()"),
+    (Call::Fields(b"A:b\n "), "[A|b\n |A:b\n ]()"),
+    (
+        Call::Fields(b"A:b\nno field\n\nc"),
+        "[A|b\n|A:b\n](no field\n\nc)",
+    ),
+    (Call::Fields(b" A:b\nC:d\n\ne"), "( A:b\nC:d\n\ne)"),
+    (Call::Fields(b"\tA:b\nC:d\n\ne"), "(\tA:b\nC:d\n\ne)"),
+    (Call::Fields(b"A\x00:b\nC:d\n"), "(A\x00:b\nC:d\n)"),
+    (Call::Fields(b":b\n"), "(:b\n)"),
+    (Call::Fields(b"A :b\n"), "(A :b\n)"),
+    (Call::Fields(b"!~:b:c\n"), "[!~|b:c\n|!~:b:c\n]()"),
+    (
+        Call::Whole(b"To: a\nTO: b\n\nto: c"),
+        "To: a\nTO: b\n\nto: c",
+    ),
+    (Call::Field(b"To: a\nTO: b\n\nto: c", b"tO"), " a\n"),
+    (Call::Field(b"To: a\nTO: b\n\nto: c", b"T"), "none"),
+    (Call::Field(b"To: a\nTO: b\n\nto: c", b"To "), "none"),
+    (Call::Subject(b"subject: a\n"), "a"),
+    (Call::Subject(b"SUBJECT:a\nSubject: b\n"), "a"),
+    (Call::Subject(b"To: a\n"), "none"),
+    (Call::Subject(b"Subject:\n"), ""),
+    (Call::Subject(b"Subject: \t\n \n\t\n"), ""),
+    (
+        Call::Subject(b"Subject:\n one\r\n\ttwo \r\n three\n four\t \n"),
+        "one\ttwo  three four",
+    ),
+    (
+        Call::Subject(b"Subject: one\n\ttwo\n three\r\n \tfour\n"),
+        "one\ttwo three \tfour",
+    ),
+    (Call::Subject(b"Subject: a\rb\r\r\n c"), "a\rb\r c"),
+    (Call::Subject(b"Subject: a\r"), "a\r"),
+    (Call::Subject(b" \nSubject: a\n"), "none"),
+    (Call::Sent(POST), POST_SENT),
+    (Call::Sent(HELLO), HELLO_SENT),
+    (Call::SentTrailed(POST), POST_SENT),
+    (Call::Without(b"", b"a\n"), "\n"),
+    (Call::Without(b"Subject: x", b""), "Subject: x\n\n"),
+    (Call::Without(b"A:b\nC:d", b""), "A:b\nC:d\n\n"),
+    (Call::Without(b"A:b\n c\nC:d\n\ne", b"a\n"), "C:d\n\ne"),
+    (Call::Without(b"A:b\nC:d\na:e\n\n", b"c\nA\n"), "\n"),
+    (
+        Call::Without(b"A:b\r\nC:d\r\n\r\ne\r\n", b"x\nc\n"),
+        "A:b\r\n\ne\r\n",
+    ),
+    (
+        Call::Without(b"From: a@b\r\nSubject: hello\r\n\r\nhi\r\n", b""),
+        "From: a@b\r\nSubject: hello\r\n\nhi\r\n",
+    ),
+    (Call::Without(b"A:b\nC:d\n", b"a\nc"), "C:d\n\n"),
+    (Call::Without(b"A:b\nA-B:d\n", b"\nA-\n"), "A:b\nA-B:d\n\n"),
+    (
+        Call::Without(b"a\x00b: c\nA:b\n\nd", b"a\n"),
+        "\na\x00b: c\nA:b\n\nd",
+    ),
+    (Call::Without(b" A:b\nC:d\n", b"c\n"), "\n A:b\nC:d\n"),
+    (
+        Call::Prefixed(b"[l]", b"Subject: x\n\n"),
+        "Subject: [l] x\n\n",
+    ),
+    (
+        Call::Prefixed(b"[l]", b"Subject:x\n\n"),
+        "Subject: [l] x\n\n",
+    ),
+    (
+        Call::Prefixed(b"[l]", b"Subject:\tx\n\n"),
+        "Subject: [l]\tx\n\n",
+    ),
+    (
+        Call::Prefixed(b"[l]", b"Subject:\n x\n\n"),
+        "Subject: [l] \n x\n\n",
+    ),
+    (Call::Prefixed(b"[l]", b"Subject:"), "Subject: [l] \n\n"),
+    (Call::Prefixed(b"[l]", b"Subject:\n\n"), "Subject: [l] \n\n"),
+    (
+        Call::Prefixed(b"[l]", b"To: x\n\nSubject: y"),
+        "To: x\n\nSubject: y",
+    ),
+    (
+        Call::Prefixed(b"[l]", b"SUBJECT: x\nSubject: y\n\n"),
+        "SUBJECT: [l] x\nSubject: y\n\n",
+    ),
+    (
+        Call::Prefixed(b"[l]", b"Subject: x\nSubject: [l]\n\n"),
+        "Subject: [l] x\nSubject: [l]\n\n",
+    ),
+    (
+        Call::Prefixed(b"[l]", b"Subject: Re: [L] x\n\n"),
+        "Subject: Re: [L] x\n\n",
+    ),
+    (
+        Call::Prefixed(b"[L]", b"Subject: [l]x\n\n"),
+        "Subject: [l]x\n\n",
+    ),
+    (
+        Call::Prefixed(b"[l]", b"Subject: [\n l] x\n\n"),
+        "Subject: [l] [\n l] x\n\n",
+    ),
+    (
+        Call::Prefixed(b"THE LIST", b"Subject: the\r\n List x\n\n"),
+        "Subject: the\r\n List x\n\n",
+    ),
+    (Call::Trailed(b"A:b\n\nhi\n"), "A:b\n\nhi\n--\n"),
+    (Call::Trailed(b"A:b\n\nhi"), "A:b\n\nhi\n--\n"),
+    (Call::Trailed(b"A:b\n\n"), "A:b\n\n--\n"),
+    (Call::Trailed(b"A:b\n"), "A:b\n\n--\n"),
+    (Call::Trailed(b"hi there\n"), "\nhi there\n--\n"),
+    (Call::Trailed(b"A:b\n\nhi\r"), "A:b\n\nhi\r\n--\n"),
+    (
+        Call::Trailed(b"Content-Type: Text/Plain; charset=x\n\nhi\n"),
+        "Content-Type: Text/Plain; charset=x\n\nhi\n--\n",
+    ),
+    (
+        Call::Trailed(b"Content-Type:\n\ttext/plain\n\nhi\n"),
+        "Content-Type:\n\ttext/plain\n\nhi\n--\n",
+    ),
+    (
+        Call::Trailed(b"content-type: text/html\n\nhi\n"),
+        "content-type: text/html\n\nhi\n",
+    ),
+    (
+        Call::Trailed(b"Content-Type:\n\nhi\n"),
+        "Content-Type:\n\nhi\n",
+    ),
+    (
+        Call::Trailed(b"Content-Transfer-Encoding: BASE64\n\naGk=\n"),
+        "Content-Transfer-Encoding: BASE64\n\naGk=\n",
+    ),
+    (
+        Call::Trailed(b"Content-Transfer-Encoding: 8bit\n\nhi\n"),
+        "Content-Transfer-Encoding: 8bit\n\nhi\n--\n",
+    ),
+    (
+        Call::Trailed(b"Content-Type: text/plain\nContent-Transfer-Encoding:\n base64 \n\naGk=\n"),
+        "Content-Type: text/plain\nContent-Transfer-Encoding:\n base64 \n\naGk=\n",
+    ),
+];
+
+// Nothing is to be left out of these, and their empty line is an LF, so each is sent as it is: 10,000 lines, a field of
+// 1 MiB in one line and in 65,536, a line of 998 and one of 100,000 bytes, and a body of 1 MiB in one line.
+static LONG: [(Call, &str); 6] = [
+    (
+        Call::Long(Long {
+            before: b"",
+            piece: b"X: y\n",
+            count: 10_000,
+            behind: b"",
+        }),
+        "10002 true",
+    ),
+    (
+        Call::Long(Long {
+            before: b"Long: ",
+            piece: b"0123456789abcdef",
+            count: 65_536,
+            behind: b"\n",
+        }),
+        "3 true",
+    ),
+    (
+        Call::Long(Long {
+            before: b"Long: x",
+            piece: b"\n a fold of 15 b",
+            count: 65_536,
+            behind: b"\n",
+        }),
+        "3 true",
+    ),
+    (
+        Call::Long(Long {
+            before: b"L: ",
+            piece: b"x",
+            count: 995,
+            behind: b"\n",
+        }),
+        "3 true",
+    ),
+    (
+        Call::Long(Long {
+            before: b"L: ",
+            piece: b"x",
+            count: 99_997,
+            behind: b"\n",
+        }),
+        "3 true",
+    ),
+    (
+        Call::Long(Long {
+            before: b"L: x\n\n",
+            piece: b"0123456789abcdef",
+            count: 65_536,
+            behind: b"",
+        }),
+        "1 true",
+    ),
+];
+
+#[test]
+fn calls_are_answered(rt: HostRuntime) -> Result<(), Fail> {
+    assert_eq!(rt; ADDED.len(), 276);
+    assert_eq!(rt; HELLO_SENT.len(), 321);
+    for (row, (call, expected)) in CALLS.iter().chain(&LONG).enumerate() {
+        let found = told(rt.alloc(), *call)?;
+        assert_eq!(rt; found.as_str(), *expected, "row {row}");
+    }
+    law_messages();
+    law_names();
+    law_parts();
+    law_sent();
+    law_unfolded();
+    Ok(())
 }

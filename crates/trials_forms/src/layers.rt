@@ -1,0 +1,157 @@
+// Puts laid over files, and a failing read handed on.
+ghost use Rattle.std.specs.Prelude.{◌≡◌, ◌≤◌, ◌&&◌, IsTrue, IfOk, IsErrOf, is_some};
+ghost use Rattle.ml_base.specs.Name.{is_file};
+ghost use Rattle.ml_base.specs.Dir.{with_puts};
+ghost use Rattle.ml_base.specs.ReadFiles.{IsReading};
+ghost use Rattle.ml_base.specs.Faults.{Rose};
+ghost use Rattle.ml_base.specs.declared.part.PartError.TheVariants.{Fault};
+
+use ml_base::{Bytes, Files, Layer, MapFiles, Name, Numbers, PartError, Put, Txn};
+use std::alloc::{AllocError, Global};
+use std::collections::BTreeMap;
+use std::test::Fail;
+
+const KEY: Name = Name { kind: 2, at: 0 };
+
+const LIST: Name = Name { kind: 3, at: 1 };
+
+const COUNT: Name = Name { kind: 11, at: 0 };
+
+// A file, and its text from now on, or None where it is removed.
+type Change = (Name, Option<&'static [u8]>);
+
+// The bucket is written twice.
+const TWICE: [Change; 2] = [(LIST, Some(b"one")), (LIST, Some(b"two"))];
+
+const REMOVED: [Change; 1] = [(KEY, None)];
+
+const WRITTEN: [Change; 1] = [(KEY, Some(b"new"))];
+
+const IN_PLACE: [Change; 3] = [
+    (LIST, Some(b"one")),
+    (KEY, Some(b"new")),
+    (LIST, Some(b"two")),
+];
+
+// Files with a key and a count, of which the reads of these numbers fail.
+fn files(alloc: Global, failing: &[u64]) -> Result<MapFiles, AllocError> {
+    let mut files = BTreeMap::new(alloc);
+    files.insert(KEY, Bytes::from_slice(alloc, b"key")?)?;
+    files.insert(COUNT, Bytes::from_slice(alloc, b"7")?)?;
+    let fail = Numbers::from_vec(Vec::from_slice(alloc, failing)?);
+    Ok(MapFiles::new(files, fail))
+}
+
+fn put(alloc: Global, change: Change) -> Result<Put, AllocError> {
+    let bytes = match change.1 {
+        Some(text) => Some(Bytes::from_slice(alloc, text)?),
+        None => None,
+    };
+    Ok(Put {
+        name: change.0,
+        bytes,
+    })
+}
+
+// The changes, each pushed behind those before it or laid over them.
+fn txn(alloc: Global, changes: &[Change], lays: bool) -> Result<Txn, AllocError> {
+    let mut txn = Txn::new(alloc);
+    for change in changes {
+        let put = put(alloc, *change)?;
+        if lays {
+            txn.lay(put)?;
+        } else {
+            txn.push(put)?;
+        }
+    }
+    Ok(txn)
+}
+
+// The bucket is written twice, and then the key is removed.
+fn changes(alloc: Global) -> Result<Txn, AllocError> {
+    let mut changes = txn(alloc, &TWICE, false)?;
+    changes.join(txn(alloc, &REMOVED, false)?)?;
+    Ok(changes)
+}
+
+// The texts of the bucket, the key and the count, with `-` for an absent one.
+fn shown<F: Files>(alloc: Global, files: &mut F) -> Result<String, Fail> {
+    let mut out = Bytes::new(alloc);
+    for found in [
+        files.get(alloc, LIST)?,
+        files.get(alloc, KEY)?,
+        files.get(alloc, COUNT)?,
+    ] {
+        match found {
+            Some(bytes) => out.extend(bytes.as_slice())?,
+            None => out.push(b'-')?,
+        }
+        out.push(b' ')?;
+    }
+    Ok(String::from_utf8(out.into_vec())?)
+}
+
+// Whether both of two files are there.
+fn both_there<F: Files>(alloc: Global, files: &mut F, a: Name, b: Name) -> Result<bool, PartError>
+    requires a { IsTrue (is_file a) }
+    requires b { IsTrue (is_file b) }
+    ensures value { IsTrue F.tells → IfOk result (λ both. both ≡ (is_some (F.map files.old a) && is_some (F.map files.old b))) }
+    ensures reads { IsReading ⟦<F as Files>⟧ files.old files.new result }
+{
+    let first = files.get(alloc, a)?;
+    let second = files.get(alloc, b)?;
+    Ok(first.is_some() && second.is_some())
+}
+
+// Whether both of two files are there once a Txn is laid, and the files and the Txn again.
+fn both_there_laid<F: Files>(
+    alloc: Global,
+    files: F,
+    txn: Txn,
+    a: Name,
+    b: Name,
+) -> (F, Txn, Result<bool, PartError>)
+    requires a { IsTrue (is_file a) }
+    requires b { IsTrue (is_file b) }
+    ensures files { F.kept files result.0 }
+    ensures txn { result.1 ≡ txn }
+    ensures value { IsTrue F.tells → IfOk result.2 (λ both. both ≡ (is_some (with_puts (F.map files) txn a) && is_some (with_puts (F.map files) txn b))) }
+    ensures cause { IsErrOf result.2 Fault → Rose (F.faults files) (F.faults result.0) }
+{
+    let mut layer = Layer::new(files, txn);
+    let found = both_there(alloc, &mut layer, a, b);
+    let (files, txn) = layer.parts();
+    (files, txn, found)
+}
+
+// What a layer shows, one above it, how many puts that one had, and what the first shows again.
+pub(crate) fn layered(alloc: Global) -> Result<String, Fail> {
+    let mut below = Layer::new(files(alloc, &[])?, changes(alloc)?);
+    let first = shown(alloc, &mut below)?;
+    let mut above = Layer::new(below, txn(alloc, &WRITTEN, false)?);
+    let second = shown(alloc, &mut above)?;
+    let (mut below, puts) = above.parts();
+    let third = shown(alloc, &mut below)?;
+    let count = puts.as_slice().len();
+    Ok(format!(in alloc; "{first}; {second}; {count}; {third}")?)
+}
+
+// Whether the count and the bucket are there, the same where the second read fails, whether the count and the key are
+// there, and how many puts there are then.
+pub(crate) fn failing(alloc: Global) -> Result<String, Fail> {
+    let mut layer = Layer::new(files(alloc, &[2])?, changes(alloc)?);
+    let first = both_there(alloc, &mut layer, COUNT, LIST);
+    let second = both_there(alloc, &mut layer, LIST, COUNT);
+    let (files, puts) = layer.parts();
+    let (_, puts, third) = both_there_laid(alloc, files, puts, COUNT, KEY);
+    let count = puts.as_slice().len();
+    Ok(format!(in alloc; "{first:?}; {second:?}; {third:?}; {count}")?)
+}
+
+// How many puts are left of those that are laid in place, and what they show.
+pub(crate) fn in_place(alloc: Global) -> Result<String, Fail> {
+    let puts = txn(alloc, &IN_PLACE, true)?;
+    let count = puts.as_slice().len();
+    let texts = shown(alloc, &mut Layer::new(files(alloc, &[])?, puts))?;
+    Ok(format!(in alloc; "{count}; {texts}")?)
+}
