@@ -34,12 +34,11 @@ pub fn push_lines(out: &mut Bytes, first: u64, last: u64, line: &[u8]) -> Result
 
 // Adds a line in which these digits stand for each `#`.
 fn push_line(out: &mut Bytes, line: &[u8], digits: &[u8]) -> Result<(), AllocError> {
-    for byte in line {
-        if *byte == b'#' {
+    for (at, piece) in line.split(|byte| *byte == b'#').enumerate() {
+        if at > 0 {
             out.extend(digits)?;
-        } else {
-            out.push(*byte)?;
         }
+        out.extend(piece)?;
     }
     Ok(())
 }
