@@ -20,12 +20,17 @@ const THIRD_INDEX: Name = Name { kind: 10, at: 2 };
 const FOUR: Start = Start {
     files: &[
         (Name { kind: 9, at: 1 }, Of(b"Subject: hello\n\nhi\n")),
-        (Name { kind: 9, at: 2 }, Of(b"Subject: Re: [list] Hello\n\nhi\n")),
+        (
+            Name { kind: 9, at: 2 },
+            Of(b"Subject: Re: [list] Hello\n\nhi\n"),
+        ),
         (THIRD, Of(b"Subject: other\n\nhi\n")),
         (Name { kind: 9, at: 4 }, Of(b"Subject: world\n\nhi\n")),
         (
             INDEX,
-            Of(b"10:1000000000,3:g@h,2:19,5:hello,\n10:1000000000,3:g@h,2:30,16:Re: [list] Hello,\n10:1000000000,3:g@h,2:19,5:other,\n10:1000000000,3:g@h,2:19,5:world,\n"),
+            Of(
+                b"10:1000000000,3:g@h,2:19,5:hello,\n10:1000000000,3:g@h,2:30,16:Re: [list] Hello,\n10:1000000000,3:g@h,2:19,5:other,\n10:1000000000,3:g@h,2:19,5:world,\n",
+            ),
         ),
         (NUMBER, Of(b"4\n")),
         (HELLO_THREAD, Of(b"5:hello,3:1,2,5:world,1:4,")),
@@ -58,7 +63,10 @@ const OTHER_COUNTS: &[(Name, &[u8])] = &[
     (NUMBER, b"100\n"),
     (INDEX, b"-"),
     (INDEX, b""),
-    (INDEX, b"10:1000000000,3:g@h,2:19,5:hello,\n10:1000000000,3:g@h,2:30,16:Re: [list] Hello,\n10:1000000000,3:g@h,2:19,5:other,\n"),
+    (
+        INDEX,
+        b"10:1000000000,3:g@h,2:19,5:hello,\n10:1000000000,3:g@h,2:30,16:Re: [list] Hello,\n10:1000000000,3:g@h,2:19,5:other,\n",
+    ),
 ];
 
 // Indexes outside their grammar, one with a size that isn't its post's, and a post that is absent or has another size.
@@ -70,7 +78,10 @@ const OTHER_INDEXES: &[(Name, &[u8])] = &[
     (INDEX, b"10:1000000000,3:g@H,2:19,5:hello,\n"),
     (INDEX, b"11:01000000000,3:g@h,2:19,5:hello,\n"),
     (INDEX, b"10:1000000000,3:g@h,10:4294967296,5:hello,\n"),
-    (INDEX, b"10:1000000000,3:g@h,2:19,5:hello,\n10:1000000000,3:g@h,2:30,16:Re: [list] Hello,\n10:1000000000,3:g@h,2:20,5:other,\n10:1000000000,3:g@h,2:19,5:world,\n"),
+    (
+        INDEX,
+        b"10:1000000000,3:g@h,2:19,5:hello,\n10:1000000000,3:g@h,2:30,16:Re: [list] Hello,\n10:1000000000,3:g@h,2:20,5:other,\n10:1000000000,3:g@h,2:19,5:world,\n",
+    ),
     (THIRD, b"-"),
     (THIRD, b""),
     (THIRD, b"Subject: other\n\nhi"),

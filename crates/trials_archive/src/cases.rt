@@ -104,6 +104,8 @@ fn report(
     let text = String::from_utf8_lossy(alloc, trial.text)?;
     let found = String::from_utf8_lossy(alloc, found)?;
     let expected = String::from_utf8_lossy(alloc, expected)?;
-    let line = format!(in alloc; "{title}, changed to {text:?}, failing read {failing}, call {at}: {found:?} came in place of {expected:?}\n")?;
+    let line = format!(in alloc;
+        "{title}, changed to {text:?}, failing read {failing}, call {at}: {found:?} came in place of {expected:?}\n"
+    )?;
     out.push_str(line.as_str())
 }

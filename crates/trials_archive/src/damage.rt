@@ -189,10 +189,22 @@ const CASES: &[Case] = &[
         title: "one post that is too large, or that leaves no room",
         start: &FOUR,
         changes: &[
-            (INDEX, b"1:0,3:g@h,7:4194305,0:,\n1:0,3:g@h,1:0,0:,\n1:0,3:g@h,1:0,0:,\n1:0,3:g@h,1:0,0:,\n"),
-            (INDEX, b"1:0,3:g@h,10:4294967295,0:,\n1:0,3:g@h,1:0,0:,\n1:0,3:g@h,1:0,0:,\n1:0,3:g@h,1:0,0:,\n"),
-            (INDEX, b"1:0,3:g@h,1:0,0:,\n1:0,3:g@h,7:4194305,0:,\n1:0,3:g@h,1:0,0:,\n1:0,3:g@h,1:0,0:,\n"),
-            (INDEX, b"1:0,3:g@h,1:1,0:,\n1:0,3:g@h,7:4194304,0:,\n1:0,3:g@h,1:0,0:,\n1:0,3:g@h,1:0,0:,\n"),
+            (
+                INDEX,
+                b"1:0,3:g@h,7:4194305,0:,\n1:0,3:g@h,1:0,0:,\n1:0,3:g@h,1:0,0:,\n1:0,3:g@h,1:0,0:,\n",
+            ),
+            (
+                INDEX,
+                b"1:0,3:g@h,10:4294967295,0:,\n1:0,3:g@h,1:0,0:,\n1:0,3:g@h,1:0,0:,\n1:0,3:g@h,1:0,0:,\n",
+            ),
+            (
+                INDEX,
+                b"1:0,3:g@h,1:0,0:,\n1:0,3:g@h,7:4194305,0:,\n1:0,3:g@h,1:0,0:,\n1:0,3:g@h,1:0,0:,\n",
+            ),
+            (
+                INDEX,
+                b"1:0,3:g@h,1:1,0:,\n1:0,3:g@h,7:4194304,0:,\n1:0,3:g@h,1:0,0:,\n1:0,3:g@h,1:0,0:,\n",
+            ),
         ],
         failing: NONE,
         calls: ONE_OF_FOUR,
@@ -200,18 +212,20 @@ const CASES: &[Case] = &[
     Case {
         title: "two posts have room",
         start: &FOUR,
-        changes: &[
-            (INDEX, b"1:0,3:g@h,7:4194303,0:,\n1:0,3:g@h,1:1,0:,\n1:0,3:g@h,1:1,0:,\n1:0,3:g@h,1:0,0:,\n"),
-        ],
+        changes: &[(
+            INDEX,
+            b"1:0,3:g@h,7:4194303,0:,\n1:0,3:g@h,1:1,0:,\n1:0,3:g@h,1:1,0:,\n1:0,3:g@h,1:0,0:,\n",
+        )],
         failing: NONE,
         calls: TWO_OF_FOUR,
     },
     Case {
         title: "three posts have room",
         start: &FOUR,
-        changes: &[
-            (INDEX, b"1:0,3:g@h,7:4194304,0:,\n1:0,3:g@h,1:0,0:,\n1:0,3:g@h,1:0,0:,\n1:0,3:g@h,1:1,0:,\n"),
-        ],
+        changes: &[(
+            INDEX,
+            b"1:0,3:g@h,7:4194304,0:,\n1:0,3:g@h,1:0,0:,\n1:0,3:g@h,1:0,0:,\n1:0,3:g@h,1:1,0:,\n",
+        )],
         failing: NONE,
         calls: THREE_OF_FOUR,
     },
@@ -219,8 +233,14 @@ const CASES: &[Case] = &[
         title: "four posts have room",
         start: &FOUR,
         changes: &[
-            (INDEX, b"1:0,3:g@h,1:1,0:,\n1:0,3:g@h,1:1,0:,\n1:0,3:g@h,1:1,0:,\n1:0,3:g@h,1:1,0:,\n"),
-            (INDEX, b"1:0,3:g@h,7:2000000,0:,\n1:0,3:g@h,7:2194304,0:,\n1:0,3:g@h,1:0,0:,\n1:0,3:g@h,1:0,0:,\n"),
+            (
+                INDEX,
+                b"1:0,3:g@h,1:1,0:,\n1:0,3:g@h,1:1,0:,\n1:0,3:g@h,1:1,0:,\n1:0,3:g@h,1:1,0:,\n",
+            ),
+            (
+                INDEX,
+                b"1:0,3:g@h,7:2000000,0:,\n1:0,3:g@h,7:2194304,0:,\n1:0,3:g@h,1:0,0:,\n1:0,3:g@h,1:0,0:,\n",
+            ),
         ],
         failing: NONE,
         calls: ALL_OF_FOUR,

@@ -26,11 +26,16 @@ const SEVEN: Start = Start {
         (NUMBER, Of(b"7\n")),
         (
             INDEX,
-            Of(b"10:1001894400,3:a@b,1:3,9:a<b & \"c\",\n10:1001894399,3:a@b,1:3,17:Re: [l] A<B & \"c\",\n1:0,3:a@b,1:3,5:first,\n12:253402300799,3:a@b,1:3,13:last \xc3\xa4\t&amp;,\n10:1001894399,3:a@b,1:3,9:re: first,\n9:951782400,3:a@b,1:3,0:,\n10:1001894401,3:a@b,1:3,17:re: last \xc3\xa4 &amp;,\n"),
+            Of(
+                b"10:1001894400,3:a@b,1:3,9:a<b & \"c\",\n10:1001894399,3:a@b,1:3,17:Re: [l] A<B & \"c\",\n1:0,3:a@b,1:3,5:first,\n12:253402300799,3:a@b,1:3,13:last \xc3\xa4\t&amp;,\n10:1001894399,3:a@b,1:3,9:re: first,\n9:951782400,3:a@b,1:3,0:,\n10:1001894401,3:a@b,1:3,17:re: last \xc3\xa4 &amp;,\n",
+            ),
         ),
         (Name { kind: 20, at: 255 }, Of(b"9:a<b & \"c\",3:1,2,")),
         (Name { kind: 20, at: 159 }, Of(b"5:first,3:3,5,")),
-        (Name { kind: 20, at: 137 }, Of(b"13:last \xc3\xa4 &amp;,3:4,7,")),
+        (
+            Name { kind: 20, at: 137 },
+            Of(b"13:last \xc3\xa4 &amp;,3:4,7,"),
+        ),
         (Name { kind: 20, at: 5 }, Of(b"0:,1:6,")),
     ],
     posts: Posts::None,
@@ -56,7 +61,10 @@ const MONTHS: &[(Call, Text)] = &[
     (Call::MonthPage(9999, 12, 1), Of(DECEMBER)),
     (Call::MonthPage(2001, 9, 0), Of(b"-")),
     (Call::MonthPage(2001, 9, 2), Of(b"-")),
-    (Call::MonthPage(2001, 9, 18_446_744_073_709_551_615), Of(b"-")),
+    (
+        Call::MonthPage(2001, 9, 18_446_744_073_709_551_615),
+        Of(b"-"),
+    ),
     (Call::MonthPage(2001, 8, 1), Of(b"-")),
     (Call::MonthPage(2001, 0, 1), Of(b"-")),
     (Call::MonthPage(2001, 13, 1), Of(b"-")),
@@ -92,20 +100,37 @@ const MONTH_HEAD: &[u8] =
 const THREAD_HEAD: &[u8] =
     b"<!DOCTYPE html>\n<html><head><meta charset=\"utf-8\"><title>list@ex.org thread 1</title></head><body>\n<h1>list@ex.org thread 1</h1>\n<ul>\n";
 
-const LINE: &[u8] =
-    b"<li><a href=\"#\">#</a> Sun, 09 Sep 2001 01:48:20 -0000, a@b: hello</li>\n";
+const LINE: &[u8] = b"<li><a href=\"#\">#</a> Sun, 09 Sep 2001 01:48:20 -0000, a@b: hello</li>\n";
 
 const TAIL: &[u8] = b"</ul></body></html>\n";
 
 const MANY_PAGES: &[(Call, Text)] = &[
     (Call::Listing, Of(b"month 2001-09 2001\nthread 1 2001\n")),
-    (Call::MonthPage(2001, 9, 1), Each(MONTH_HEAD, 1, 1000, LINE, TAIL)),
-    (Call::MonthPage(2001, 9, 2), Each(MONTH_HEAD, 1001, 2000, LINE, TAIL)),
-    (Call::MonthPage(2001, 9, 3), Each(MONTH_HEAD, 2001, 2001, LINE, TAIL)),
+    (
+        Call::MonthPage(2001, 9, 1),
+        Each(MONTH_HEAD, 1, 1000, LINE, TAIL),
+    ),
+    (
+        Call::MonthPage(2001, 9, 2),
+        Each(MONTH_HEAD, 1001, 2000, LINE, TAIL),
+    ),
+    (
+        Call::MonthPage(2001, 9, 3),
+        Each(MONTH_HEAD, 2001, 2001, LINE, TAIL),
+    ),
     (Call::MonthPage(2001, 9, 4), Of(b"-")),
-    (Call::ThreadPage(1, 1), Each(THREAD_HEAD, 1, 1000, LINE, TAIL)),
-    (Call::ThreadPage(1, 2), Each(THREAD_HEAD, 1001, 2000, LINE, TAIL)),
-    (Call::ThreadPage(1, 3), Each(THREAD_HEAD, 2001, 2001, LINE, TAIL)),
+    (
+        Call::ThreadPage(1, 1),
+        Each(THREAD_HEAD, 1, 1000, LINE, TAIL),
+    ),
+    (
+        Call::ThreadPage(1, 2),
+        Each(THREAD_HEAD, 1001, 2000, LINE, TAIL),
+    ),
+    (
+        Call::ThreadPage(1, 3),
+        Each(THREAD_HEAD, 2001, 2001, LINE, TAIL),
+    ),
     (Call::ThreadPage(1, 4), Of(b"-")),
 ];
 
@@ -134,7 +159,9 @@ const CASES: &[Case] = &[
         failing: NONE,
         calls: &[(
             Call::Listing,
-            Of(b"month 1970-01 1\nmonth 2000-02 1\nmonth 2001-09 2\nmonth 2001-10 2\nmonth 9999-12 1\nthread 1 2\nthread 3 2\nthread 4 2\nthread 6 1\n"),
+            Of(
+                b"month 1970-01 1\nmonth 2000-02 1\nmonth 2001-09 2\nmonth 2001-10 2\nmonth 9999-12 1\nthread 1 2\nthread 3 2\nthread 4 2\nthread 6 1\n",
+            ),
         )],
     },
     Case {

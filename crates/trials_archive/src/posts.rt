@@ -1,5 +1,5 @@
 // Posts that are appended, the files that stand for them, and what is answered of them.
-use crate::archives::{INDEX, HELLO_THREAD, NUMBER, Posts, Start};
+use crate::archives::{HELLO_THREAD, INDEX, NUMBER, Posts, Start};
 use crate::calls::Call;
 use crate::cases::{Case, NONE, UNCHANGED, differences};
 use crate::texts::Text::{self, Each, Of};
@@ -25,7 +25,9 @@ const THREE_FILES: &[(Call, Text)] = &[
     (Call::File(Name { kind: 9, at: 4 }), Of(b"-")),
     (
         Call::File(INDEX),
-        Of(b"10:1000000000,3:g@h,2:19,5:hello,\n10:1000000000,3:g@h,2:30,16:Re: [list] Hello,\n10:1000000000,3:g@h,2:19,5:other,\n"),
+        Of(
+            b"10:1000000000,3:g@h,2:19,5:hello,\n10:1000000000,3:g@h,2:30,16:Re: [list] Hello,\n10:1000000000,3:g@h,2:19,5:other,\n",
+        ),
     ),
     (Call::File(Name { kind: 10, at: 1 }), Of(b"-")),
     (Call::File(NUMBER), Of(b"3\n")),
@@ -41,18 +43,26 @@ const THREE_ANSWERS: &[(Call, Text)] = &[
     (Call::Thread(b"[list]", 4), Of(b"")),
     (Call::Thread(b"[list]", 100_000_000), Of(b"")),
     (Call::Post(0), Of(b"-")),
-    (Call::Post(1), Of(b"1000000000 g@h hello\nSubject: hello\n\nhi\n")),
+    (
+        Call::Post(1),
+        Of(b"1000000000 g@h hello\nSubject: hello\n\nhi\n"),
+    ),
     (
         Call::Post(2),
         Of(b"1000000000 g@h Re: [list] Hello\nSubject: Re: [list] Hello\n\nhi\n"),
     ),
-    (Call::Post(3), Of(b"1000000000 g@h other\nSubject: other\n\nhi\n")),
+    (
+        Call::Post(3),
+        Of(b"1000000000 g@h other\nSubject: other\n\nhi\n"),
+    ),
     (Call::Post(4), Of(b"-")),
     (Call::Post(u64::MAX), Of(b"-")),
     (Call::Count, Of(b"3\n")),
     (
         Call::Index(0),
-        Of(b"1 19 1000000000 g@h hello\n2 30 1000000000 g@h Re: [list] Hello\n3 19 1000000000 g@h other\n"),
+        Of(
+            b"1 19 1000000000 g@h hello\n2 30 1000000000 g@h Re: [list] Hello\n3 19 1000000000 g@h other\n",
+        ),
     ),
 ];
 
@@ -63,9 +73,18 @@ const MANY: Start = Start {
 };
 
 const GROUPS: &[(Call, Text)] = &[
-    (Call::Index(0), Each(b"", 1, 99, b"# 19 1000000000 g@h hello\n", b"")),
-    (Call::Index(1), Each(b"", 100, 199, b"# 19 1000000000 g@h hello\n", b"")),
-    (Call::Index(2), Each(b"", 200, 201, b"# 19 1000000000 g@h hello\n", b"")),
+    (
+        Call::Index(0),
+        Each(b"", 1, 99, b"# 19 1000000000 g@h hello\n", b""),
+    ),
+    (
+        Call::Index(1),
+        Each(b"", 100, 199, b"# 19 1000000000 g@h hello\n", b""),
+    ),
+    (
+        Call::Index(2),
+        Each(b"", 200, 201, b"# 19 1000000000 g@h hello\n", b""),
+    ),
     (Call::Index(3), Of(b"")),
     (Call::Index(999_999), Of(b"")),
     (Call::Index(u64::MAX), Of(b"")),
@@ -156,7 +175,13 @@ const CASES: &[Case] = &[
         calls: &[
             (Call::Append(b"", 0, HELLO), Of(b"99999900\n")),
             (Call::File(NUMBER), Of(b"99999900\n")),
-            (Call::File(Name { kind: 10, at: 999_999 }), Of(b"1:0,3:g@h,2:19,5:hello,\n")),
+            (
+                Call::File(Name {
+                    kind: 10,
+                    at: 999_999,
+                }),
+                Of(b"1:0,3:g@h,2:19,5:hello,\n"),
+            ),
         ],
     },
     Case {

@@ -25,7 +25,10 @@ const KEYS: &[(Call, Text)] = &[
     (Call::Key(b"", b"Re[2]x: x"), Of(b"re[2]x: x")),
     (Call::Key(b"", b"Re[10]:x"), Of(b"x")),
     (Call::Key(b"", b"Re["), Of(b"re[")),
-    (Call::Key(b"", b" \t\r\nhello \t world\n "), Of(b"hello world")),
+    (
+        Call::Key(b"", b" \t\r\nhello \t world\n "),
+        Of(b"hello world"),
+    ),
     (Call::Key(b"", b"hello Re: world"), Of(b"hello re: world")),
     (Call::Key(b"[list]", b"a [list] b"), Of(b"a [list] b")),
     (Call::Key(b"a  b", b"A  b c"), Of(b"a b c")),
@@ -38,26 +41,50 @@ const KEYS: &[(Call, Text)] = &[
 ];
 
 const SUBJECTS: &[(Call, Text)] = &[
-    (Call::Subject(Each(b"subject: ", 1, 0, b"x", b"\n\nbody\n")), Of(b"")),
-    (Call::Subject(Each(b"subject: ", 1, 999, b"x", b"\n\nbody\n")), Each(b"", 1, 999, b"x", b"")),
-    (Call::Subject(Each(b"subject: ", 1, 1000, b"x", b"\n\nbody\n")), Each(b"", 1, 1000, b"x", b"")),
-    (Call::Subject(Each(b"subject: ", 1, 1001, b"x", b"\n\nbody\n")), Each(b"", 1, 1000, b"x", b"")),
-    (Call::Subject(Each(b"subject: ", 1, 1500, b"x", b"\n\nbody\n")), Each(b"", 1, 1000, b"x", b"")),
+    (
+        Call::Subject(Each(b"subject: ", 1, 0, b"x", b"\n\nbody\n")),
+        Of(b""),
+    ),
+    (
+        Call::Subject(Each(b"subject: ", 1, 999, b"x", b"\n\nbody\n")),
+        Each(b"", 1, 999, b"x", b""),
+    ),
+    (
+        Call::Subject(Each(b"subject: ", 1, 1000, b"x", b"\n\nbody\n")),
+        Each(b"", 1, 1000, b"x", b""),
+    ),
+    (
+        Call::Subject(Each(b"subject: ", 1, 1001, b"x", b"\n\nbody\n")),
+        Each(b"", 1, 1000, b"x", b""),
+    ),
+    (
+        Call::Subject(Each(b"subject: ", 1, 1500, b"x", b"\n\nbody\n")),
+        Each(b"", 1, 1000, b"x", b""),
+    ),
     (Call::Subject(Of(b"From: a@b\n\nSubject: x\n")), Of(b"")),
-    (Call::Subject(Of(b"SUBJECT: a\n  b\nSubject: c\n\n")), Of(b"a  b")),
+    (
+        Call::Subject(Of(b"SUBJECT: a\n  b\nSubject: c\n\n")),
+        Of(b"a  b"),
+    ),
 ];
 
 const ESCAPES: &[(Call, Text)] = &[
     (Call::Escape(b""), Of(b"")),
     (Call::Escape(b"hello"), Of(b"hello")),
-    (Call::Escape(b"a<b & \"c\""), Of(b"a&lt;b &amp; &quot;c&quot;")),
+    (
+        Call::Escape(b"a<b & \"c\""),
+        Of(b"a&lt;b &amp; &quot;c&quot;"),
+    ),
     (Call::Escape(b"&amp;"), Of(b"&amp;amp;")),
     (Call::Escape(b"&&<>\"'"), Of(b"&amp;&amp;&lt;&gt;&quot;'")),
     (
         Call::Escape(b"<script>alert(1)</script>"),
         Of(b"&lt;script&gt;alert(1)&lt;/script&gt;"),
     ),
-    (Call::Escape(b"\xc3\xa4\t\r\n\x00\xff"), Of(b"\xc3\xa4\t\r\n\x00\xff")),
+    (
+        Call::Escape(b"\xc3\xa4\t\r\n\x00\xff"),
+        Of(b"\xc3\xa4\t\r\n\x00\xff"),
+    ),
     (Call::Escape(b"a&lt"), Of(b"a&amp;lt")),
 ];
 

@@ -86,7 +86,11 @@ const POST: &[u8] = b"10:1000000000,3:g@h,3:hi\n,";
 
 const LATER: &[u8] = b"10:1000000100,3:a@b,0:,";
 
-const BOTH: &[(Name, Text)] = &[(TICKETS, Of(b"1:4\n")), (FIRST, Of(POST)), (THIRD, Of(LATER))];
+const BOTH: &[(Name, Text)] = &[
+    (TICKETS, Of(b"1:4\n")),
+    (FIRST, Of(POST)),
+    (THIRD, Of(LATER)),
+];
 
 const ONE: &[(Name, Text)] = &[(TICKETS, Of(b"1:2\n")), (FIRST, Of(POST))];
 
@@ -124,7 +128,9 @@ const CASES: &[Case] = &[
         calls: &[
             (
                 Call::Hold(1_000_000_000, Of(b"hi\n")),
-                Of(b"1000000000000000\n13/1000000000000000 10:1000000000,3:g@h,3:hi\n,\n14/0 5:1000000000000001\n\n"),
+                Of(
+                    b"1000000000000000\n13/1000000000000000 10:1000000000,3:g@h,3:hi\n,\n14/0 5:1000000000000001\n\n",
+                ),
             ),
             (Call::Hold(0, Of(b"")), Of(b"damaged 14/0")),
         ],
@@ -145,7 +151,10 @@ const CASES: &[Case] = &[
                     b",\n14/0 1:2\n\n",
                 ),
             ),
-            (Call::Look(1), Each(b"1000000000 g@h\n", 1, LINES, LINE, b"")),
+            (
+                Call::Look(1),
+                Each(b"1000000000 g@h\n", 1, LINES, LINE, b""),
+            ),
         ],
     },
     Case {

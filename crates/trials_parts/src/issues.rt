@@ -37,7 +37,14 @@ pub fn written(alloc: Global, issue: &Issue) -> Result<Bytes, PartError> {
     if posts.is_empty() || issue.first == 0 || issue.first > 99_999_999 || posts.len() > 1000 {
         return Ok(Bytes::new(alloc));
     }
-    Ok(digest_text(alloc, &config, issue.number, issue.first, posts.as_slice(), DATE)?)
+    Ok(digest_text(
+        alloc,
+        &config,
+        issue.number,
+        issue.first,
+        posts.as_slice(),
+        DATE,
+    )?)
 }
 
 pub fn taken_apart(alloc: Global, issue: &Issue, short: usize) -> Result<Bytes, PartError> {
@@ -196,42 +203,425 @@ const WRITTEN: Issue = Issue {
 
 // Posts, and what an issue has of them.
 const MESSAGES: &[(Call, Text)] = &[
-    (Call::Burst(Issue { number: 99_999_999, first: 99_999_999, count: 1, posts: &[(b"s", b"")] }, 0), Of(b"99999999\n|\n")),
-    (Call::Burst(Issue { number: 99_999_999, first: 99_999_999, count: 1, posts: &[(b"s", b"\n")] }, 0), Of(b"99999999\n|\n")),
-    (Call::Burst(Issue { number: 99_999_999, first: 99_999_999, count: 1, posts: &[(b"s", b"\n\n")] }, 0), Of(b"99999999\n|\n\n")),
-    (Call::Burst(Issue { number: 99_999_999, first: 99_999_999, count: 1, posts: &[(b"s", b"To: d")] }, 0), Of(b"99999999\n|To: d\n\n")),
-    (Call::Burst(Issue { number: 99_999_999, first: 99_999_999, count: 1, posts: &[(b"s", b"To: d\n")] }, 0), Of(b"99999999\n|To: d\n\n")),
-    (Call::Burst(Issue { number: 99_999_999, first: 99_999_999, count: 1, posts: &[(b"s", b"To: d\n\n")] }, 0), Of(b"99999999\n|To: d\n\n")),
-    (Call::Burst(Issue { number: 99_999_999, first: 99_999_999, count: 1, posts: &[(b"s", b"To: d\n\nhi")] }, 0), Of(b"99999999\n|To: d\n\nhi\n")),
-    (Call::Burst(Issue { number: 99_999_999, first: 99_999_999, count: 1, posts: &[(b"s", b"To: d\n\nhi\n\n\n")] }, 0), Of(b"99999999\n|To: d\n\nhi\n\n\n")),
-    (Call::Burst(Issue { number: 99_999_999, first: 99_999_999, count: 1, posts: &[(b"s", b"X: y\n\nhi\n")] }, 0), Of(b"99999999\n|\nhi\n")),
-    (Call::Burst(Issue { number: 99_999_999, first: 99_999_999, count: 1, posts: &[(b"s", b"To: d\r\n\r\nhi\r\n")] }, 0), Of(b"99999999\n|To: d\r\n\nhi\r\n")),
-    (Call::Burst(Issue { number: 99_999_999, first: 99_999_999, count: 1, posts: &[(b"s", b"To: d\n e\n\tf\nX: y\n g\n\nhi\n")] }, 0), Of(b"99999999\n|To: d\n e\n\tf\n\nhi\n")),
-    (Call::Burst(Issue { number: 99_999_999, first: 99_999_999, count: 1, posts: &[(b"s", b"X: y\nTo: d")] }, 0), Of(b"99999999\n|To: d\n\n")),
-    (Call::Burst(Issue { number: 99_999_999, first: 99_999_999, count: 1, posts: &[(b"s", b"no header\n\nhi\n")] }, 0), Of(b"99999999\n|\nno header\n\nhi\n")),
-    (Call::Burst(Issue { number: 99_999_999, first: 99_999_999, count: 1, posts: &[(b"s", b" To: d\n\nhi\n")] }, 0), Of(b"99999999\n|\n To: d\n\nhi\n")),
-    (Call::Burst(Issue { number: 99_999_999, first: 99_999_999, count: 1, posts: &[(b"s", b"\n-----------------------------\n")] }, 0), Of(b"99999999\n|\n-----------------------------\n")),
-    (Call::Burst(Issue { number: 99_999_999, first: 99_999_999, count: 1, posts: &[(b"s", b"\n------------------------------\n")] }, 0), Of(b"99999999\n|\n -----------------------------\n")),
-    (Call::Burst(Issue { number: 99_999_999, first: 99_999_999, count: 1, posts: &[(b"s", b"\n------------------------------")] }, 0), Of(b"99999999\n|\n -----------------------------\n")),
-    (Call::Burst(Issue { number: 99_999_999, first: 99_999_999, count: 1, posts: &[(b"s", b"\n-------------------------------\n")] }, 0), Of(b"99999999\n|\n-------------------------------\n")),
-    (Call::Burst(Issue { number: 99_999_999, first: 99_999_999, count: 1, posts: &[(b"s", b"\n----------------------------------------------------------------------\n")] }, 0), Of(b"99999999\n|\n----------------------------------------------------------------------\n")),
-    (Call::Burst(Issue { number: 99_999_999, first: 99_999_999, count: 1, posts: &[(b"s", b"\n------------------------------\r\n")] }, 0), Of(b"99999999\n|\n------------------------------\r\n")),
-    (Call::Burst(Issue { number: 99_999_999, first: 99_999_999, count: 1, posts: &[(b"s", b"\n ------------------------------\n")] }, 0), Of(b"99999999\n|\n ------------------------------\n")),
-    (Call::Burst(Issue { number: 99_999_999, first: 99_999_999, count: 1, posts: &[(b"s", b"\n\n------------------------------\n\n------------------------------\n\nx")] }, 0), Of(b"99999999\n|\n\n -----------------------------\n\n -----------------------------\n\nx\n")),
-    (Call::Burst(Issue { number: 99_999_999, first: 99_999_999, count: 1, posts: &[(b"s", b"\nEnd of list Digest Issue 99999999\n*********************************\n")] }, 0), Of(b"99999999\n|\nEnd of list Digest Issue 99999999\n*********************************\n")),
-    (Call::Burst(Issue { number: 99_999_999, first: 99_999_999, count: 1, posts: &[(b"s", b"End of list: x\n\nhi\n")] }, 0), Of(b"99999999\n|\nEnd of list: x\n\nhi\n")),
-    (Call::Burst(Issue { number: 99_999_999, first: 99_999_999, count: 1, posts: &[(b"s", b"To: a\nTO: b\ntO: c\n\n")] }, 0), Of(b"99999999\n|To: a\nTO: b\ntO: c\n\n")),
-    (Call::Burst(Issue { number: 99_999_999, first: 99_999_999, count: 1, posts: &[(b"s", b"To: a\nFrom: b\nDate: c\n\n")] }, 0), Of(b"99999999\n|Date: c\nFrom: b\nTo: a\n\n")),
+    (
+        Call::Burst(
+            Issue {
+                number: 99_999_999,
+                first: 99_999_999,
+                count: 1,
+                posts: &[(b"s", b"")],
+            },
+            0,
+        ),
+        Of(b"99999999\n|\n"),
+    ),
+    (
+        Call::Burst(
+            Issue {
+                number: 99_999_999,
+                first: 99_999_999,
+                count: 1,
+                posts: &[(b"s", b"\n")],
+            },
+            0,
+        ),
+        Of(b"99999999\n|\n"),
+    ),
+    (
+        Call::Burst(
+            Issue {
+                number: 99_999_999,
+                first: 99_999_999,
+                count: 1,
+                posts: &[(b"s", b"\n\n")],
+            },
+            0,
+        ),
+        Of(b"99999999\n|\n\n"),
+    ),
+    (
+        Call::Burst(
+            Issue {
+                number: 99_999_999,
+                first: 99_999_999,
+                count: 1,
+                posts: &[(b"s", b"To: d")],
+            },
+            0,
+        ),
+        Of(b"99999999\n|To: d\n\n"),
+    ),
+    (
+        Call::Burst(
+            Issue {
+                number: 99_999_999,
+                first: 99_999_999,
+                count: 1,
+                posts: &[(b"s", b"To: d\n")],
+            },
+            0,
+        ),
+        Of(b"99999999\n|To: d\n\n"),
+    ),
+    (
+        Call::Burst(
+            Issue {
+                number: 99_999_999,
+                first: 99_999_999,
+                count: 1,
+                posts: &[(b"s", b"To: d\n\n")],
+            },
+            0,
+        ),
+        Of(b"99999999\n|To: d\n\n"),
+    ),
+    (
+        Call::Burst(
+            Issue {
+                number: 99_999_999,
+                first: 99_999_999,
+                count: 1,
+                posts: &[(b"s", b"To: d\n\nhi")],
+            },
+            0,
+        ),
+        Of(b"99999999\n|To: d\n\nhi\n"),
+    ),
+    (
+        Call::Burst(
+            Issue {
+                number: 99_999_999,
+                first: 99_999_999,
+                count: 1,
+                posts: &[(b"s", b"To: d\n\nhi\n\n\n")],
+            },
+            0,
+        ),
+        Of(b"99999999\n|To: d\n\nhi\n\n\n"),
+    ),
+    (
+        Call::Burst(
+            Issue {
+                number: 99_999_999,
+                first: 99_999_999,
+                count: 1,
+                posts: &[(b"s", b"X: y\n\nhi\n")],
+            },
+            0,
+        ),
+        Of(b"99999999\n|\nhi\n"),
+    ),
+    (
+        Call::Burst(
+            Issue {
+                number: 99_999_999,
+                first: 99_999_999,
+                count: 1,
+                posts: &[(b"s", b"To: d\r\n\r\nhi\r\n")],
+            },
+            0,
+        ),
+        Of(b"99999999\n|To: d\r\n\nhi\r\n"),
+    ),
+    (
+        Call::Burst(
+            Issue {
+                number: 99_999_999,
+                first: 99_999_999,
+                count: 1,
+                posts: &[(b"s", b"To: d\n e\n\tf\nX: y\n g\n\nhi\n")],
+            },
+            0,
+        ),
+        Of(b"99999999\n|To: d\n e\n\tf\n\nhi\n"),
+    ),
+    (
+        Call::Burst(
+            Issue {
+                number: 99_999_999,
+                first: 99_999_999,
+                count: 1,
+                posts: &[(b"s", b"X: y\nTo: d")],
+            },
+            0,
+        ),
+        Of(b"99999999\n|To: d\n\n"),
+    ),
+    (
+        Call::Burst(
+            Issue {
+                number: 99_999_999,
+                first: 99_999_999,
+                count: 1,
+                posts: &[(b"s", b"no header\n\nhi\n")],
+            },
+            0,
+        ),
+        Of(b"99999999\n|\nno header\n\nhi\n"),
+    ),
+    (
+        Call::Burst(
+            Issue {
+                number: 99_999_999,
+                first: 99_999_999,
+                count: 1,
+                posts: &[(b"s", b" To: d\n\nhi\n")],
+            },
+            0,
+        ),
+        Of(b"99999999\n|\n To: d\n\nhi\n"),
+    ),
+    (
+        Call::Burst(
+            Issue {
+                number: 99_999_999,
+                first: 99_999_999,
+                count: 1,
+                posts: &[(b"s", b"\n-----------------------------\n")],
+            },
+            0,
+        ),
+        Of(b"99999999\n|\n-----------------------------\n"),
+    ),
+    (
+        Call::Burst(
+            Issue {
+                number: 99_999_999,
+                first: 99_999_999,
+                count: 1,
+                posts: &[(b"s", b"\n------------------------------\n")],
+            },
+            0,
+        ),
+        Of(b"99999999\n|\n -----------------------------\n"),
+    ),
+    (
+        Call::Burst(
+            Issue {
+                number: 99_999_999,
+                first: 99_999_999,
+                count: 1,
+                posts: &[(b"s", b"\n------------------------------")],
+            },
+            0,
+        ),
+        Of(b"99999999\n|\n -----------------------------\n"),
+    ),
+    (
+        Call::Burst(
+            Issue {
+                number: 99_999_999,
+                first: 99_999_999,
+                count: 1,
+                posts: &[(b"s", b"\n-------------------------------\n")],
+            },
+            0,
+        ),
+        Of(b"99999999\n|\n-------------------------------\n"),
+    ),
+    (
+        Call::Burst(
+            Issue {
+                number: 99_999_999,
+                first: 99_999_999,
+                count: 1,
+                posts: &[(
+                    b"s",
+                    b"\n----------------------------------------------------------------------\n",
+                )],
+            },
+            0,
+        ),
+        Of(
+            b"99999999\n|\n----------------------------------------------------------------------\n",
+        ),
+    ),
+    (
+        Call::Burst(
+            Issue {
+                number: 99_999_999,
+                first: 99_999_999,
+                count: 1,
+                posts: &[(b"s", b"\n------------------------------\r\n")],
+            },
+            0,
+        ),
+        Of(b"99999999\n|\n------------------------------\r\n"),
+    ),
+    (
+        Call::Burst(
+            Issue {
+                number: 99_999_999,
+                first: 99_999_999,
+                count: 1,
+                posts: &[(b"s", b"\n ------------------------------\n")],
+            },
+            0,
+        ),
+        Of(b"99999999\n|\n ------------------------------\n"),
+    ),
+    (
+        Call::Burst(
+            Issue {
+                number: 99_999_999,
+                first: 99_999_999,
+                count: 1,
+                posts: &[(
+                    b"s",
+                    b"\n\n------------------------------\n\n------------------------------\n\nx",
+                )],
+            },
+            0,
+        ),
+        Of(
+            b"99999999\n|\n\n -----------------------------\n\n -----------------------------\n\nx\n",
+        ),
+    ),
+    (
+        Call::Burst(
+            Issue {
+                number: 99_999_999,
+                first: 99_999_999,
+                count: 1,
+                posts: &[(
+                    b"s",
+                    b"\nEnd of list Digest Issue 99999999\n*********************************\n",
+                )],
+            },
+            0,
+        ),
+        Of(b"99999999\n|\nEnd of list Digest Issue 99999999\n*********************************\n"),
+    ),
+    (
+        Call::Burst(
+            Issue {
+                number: 99_999_999,
+                first: 99_999_999,
+                count: 1,
+                posts: &[(b"s", b"End of list: x\n\nhi\n")],
+            },
+            0,
+        ),
+        Of(b"99999999\n|\nEnd of list: x\n\nhi\n"),
+    ),
+    (
+        Call::Burst(
+            Issue {
+                number: 99_999_999,
+                first: 99_999_999,
+                count: 1,
+                posts: &[(b"s", b"To: a\nTO: b\ntO: c\n\n")],
+            },
+            0,
+        ),
+        Of(b"99999999\n|To: a\nTO: b\ntO: c\n\n"),
+    ),
+    (
+        Call::Burst(
+            Issue {
+                number: 99_999_999,
+                first: 99_999_999,
+                count: 1,
+                posts: &[(b"s", b"To: a\nFrom: b\nDate: c\n\n")],
+            },
+            0,
+        ),
+        Of(b"99999999\n|Date: c\nFrom: b\nTo: a\n\n"),
+    ),
 ];
 
 // Issues of the post of 321 bytes, and the same without their last byte.
 const ISSUES: &[(Call, Text)] = &[
-    (Call::Burst(Issue { number: 1, first: 1, count: 100, posts: &[(b"hello", POST)] }, 0), Each(b"1\n", 1, 100, b"|From: a@b\nTo: list@ex.org\nSubject: hello\n\nhi\n", b"")),
-    (Call::Burst(Issue { number: 1, first: 1, count: 100, posts: &[(b"hello", POST)] }, 1), Of(b"none")),
-    (Call::Burst(Issue { number: 2, first: 101, count: 1, posts: &[(b"hello", POST)] }, 0), Each(b"2\n", 1, 1, b"|From: a@b\nTo: list@ex.org\nSubject: hello\n\nhi\n", b"")),
-    (Call::Burst(Issue { number: 2, first: 101, count: 1, posts: &[(b"hello", POST)] }, 1), Of(b"none")),
-    (Call::Burst(Issue { number: 1, first: 1, count: 101, posts: &[(b"hello", POST)] }, 0), Each(b"1\n", 1, 101, b"|From: a@b\nTo: list@ex.org\nSubject: hello\n\nhi\n", b"")),
-    (Call::Burst(Issue { number: 1, first: 1, count: 101, posts: &[(b"hello", POST)] }, 1), Of(b"none")),
+    (
+        Call::Burst(
+            Issue {
+                number: 1,
+                first: 1,
+                count: 100,
+                posts: &[(b"hello", POST)],
+            },
+            0,
+        ),
+        Each(
+            b"1\n",
+            1,
+            100,
+            b"|From: a@b\nTo: list@ex.org\nSubject: hello\n\nhi\n",
+            b"",
+        ),
+    ),
+    (
+        Call::Burst(
+            Issue {
+                number: 1,
+                first: 1,
+                count: 100,
+                posts: &[(b"hello", POST)],
+            },
+            1,
+        ),
+        Of(b"none"),
+    ),
+    (
+        Call::Burst(
+            Issue {
+                number: 2,
+                first: 101,
+                count: 1,
+                posts: &[(b"hello", POST)],
+            },
+            0,
+        ),
+        Each(
+            b"2\n",
+            1,
+            1,
+            b"|From: a@b\nTo: list@ex.org\nSubject: hello\n\nhi\n",
+            b"",
+        ),
+    ),
+    (
+        Call::Burst(
+            Issue {
+                number: 2,
+                first: 101,
+                count: 1,
+                posts: &[(b"hello", POST)],
+            },
+            1,
+        ),
+        Of(b"none"),
+    ),
+    (
+        Call::Burst(
+            Issue {
+                number: 1,
+                first: 1,
+                count: 101,
+                posts: &[(b"hello", POST)],
+            },
+            0,
+        ),
+        Each(
+            b"1\n",
+            1,
+            101,
+            b"|From: a@b\nTo: list@ex.org\nSubject: hello\n\nhi\n",
+            b"",
+        ),
+    ),
+    (
+        Call::Burst(
+            Issue {
+                number: 1,
+                first: 1,
+                count: 101,
+                posts: &[(b"hello", POST)],
+            },
+            1,
+        ),
+        Of(b"none"),
+    ),
 ];
 
 // The lines of a digest. The last is no line of it: what is spoiled there stands behind the end.
@@ -269,49 +659,130 @@ const END_OF_LINES: usize = 26;
 
 // The digest, and for each line in turn the digest without it, and with a byte more in it.
 const LINE_BY_LINE: &[(Call, Text)] = &[
-    (Call::ReadLines(27, 27), Of(b"1\n|From: a@b\n\none\n|From: c@d\n\ntwo\n")),
-    (Call::ReadLines(0, 27), Of(b"1\n|From: a@b\n\none\n|From: c@d\n\ntwo\n")),
-    (Call::ReadLines(27, 0), Of(b"1\n|From: a@b\n\none\n|From: c@d\n\ntwo\n")),
-    (Call::ReadLines(1, 27), Of(b"1\n|From: a@b\n\none\n|From: c@d\n\ntwo\n")),
-    (Call::ReadLines(27, 1), Of(b"1\n|From: a@b\n\none\n|From: c@d\n\ntwo\n")),
+    (
+        Call::ReadLines(27, 27),
+        Of(b"1\n|From: a@b\n\none\n|From: c@d\n\ntwo\n"),
+    ),
+    (
+        Call::ReadLines(0, 27),
+        Of(b"1\n|From: a@b\n\none\n|From: c@d\n\ntwo\n"),
+    ),
+    (
+        Call::ReadLines(27, 0),
+        Of(b"1\n|From: a@b\n\none\n|From: c@d\n\ntwo\n"),
+    ),
+    (
+        Call::ReadLines(1, 27),
+        Of(b"1\n|From: a@b\n\none\n|From: c@d\n\ntwo\n"),
+    ),
+    (
+        Call::ReadLines(27, 1),
+        Of(b"1\n|From: a@b\n\none\n|From: c@d\n\ntwo\n"),
+    ),
     (Call::ReadLines(2, 27), Of(b"none")),
     (Call::ReadLines(27, 2), Of(b"none")),
     (Call::ReadLines(3, 27), Of(b"none")),
     (Call::ReadLines(27, 3), Of(b"none")),
-    (Call::ReadLines(4, 27), Of(b"1\n|From: a@b\n\none\n|From: c@d\n\ntwo\n")),
-    (Call::ReadLines(27, 4), Of(b"1\n|From: a@b\n\none\n|From: c@d\n\ntwo\n")),
-    (Call::ReadLines(5, 27), Of(b"1\n|From: a@b\n\none\n|From: c@d\n\ntwo\n")),
-    (Call::ReadLines(27, 5), Of(b"1\n|From: a@b\n\none\n|From: c@d\n\ntwo\n")),
-    (Call::ReadLines(6, 27), Of(b"1\n|From: a@b\n\none\n|From: c@d\n\ntwo\n")),
-    (Call::ReadLines(27, 6), Of(b"1\n|From: a@b\n\none\n|From: c@d\n\ntwo\n")),
-    (Call::ReadLines(7, 27), Of(b"1\n|From: a@b\n\none\n|From: c@d\n\ntwo\n")),
-    (Call::ReadLines(27, 7), Of(b"1\n|From: a@b\n\none\n|From: c@d\n\ntwo\n")),
-    (Call::ReadLines(8, 27), Of(b"1\n|From: a@b\n\none\n|From: c@d\n\ntwo\n")),
-    (Call::ReadLines(27, 8), Of(b"1\n|From: a@b\n\none\n|From: c@d\n\ntwo\n")),
-    (Call::ReadLines(9, 27), Of(b"1\n|From: a@b\n\none\n|From: c@d\n\ntwo\n")),
-    (Call::ReadLines(27, 9), Of(b"1\n|From: a@b\n\none\n|From: c@d\n\ntwo\n")),
+    (
+        Call::ReadLines(4, 27),
+        Of(b"1\n|From: a@b\n\none\n|From: c@d\n\ntwo\n"),
+    ),
+    (
+        Call::ReadLines(27, 4),
+        Of(b"1\n|From: a@b\n\none\n|From: c@d\n\ntwo\n"),
+    ),
+    (
+        Call::ReadLines(5, 27),
+        Of(b"1\n|From: a@b\n\none\n|From: c@d\n\ntwo\n"),
+    ),
+    (
+        Call::ReadLines(27, 5),
+        Of(b"1\n|From: a@b\n\none\n|From: c@d\n\ntwo\n"),
+    ),
+    (
+        Call::ReadLines(6, 27),
+        Of(b"1\n|From: a@b\n\none\n|From: c@d\n\ntwo\n"),
+    ),
+    (
+        Call::ReadLines(27, 6),
+        Of(b"1\n|From: a@b\n\none\n|From: c@d\n\ntwo\n"),
+    ),
+    (
+        Call::ReadLines(7, 27),
+        Of(b"1\n|From: a@b\n\none\n|From: c@d\n\ntwo\n"),
+    ),
+    (
+        Call::ReadLines(27, 7),
+        Of(b"1\n|From: a@b\n\none\n|From: c@d\n\ntwo\n"),
+    ),
+    (
+        Call::ReadLines(8, 27),
+        Of(b"1\n|From: a@b\n\none\n|From: c@d\n\ntwo\n"),
+    ),
+    (
+        Call::ReadLines(27, 8),
+        Of(b"1\n|From: a@b\n\none\n|From: c@d\n\ntwo\n"),
+    ),
+    (
+        Call::ReadLines(9, 27),
+        Of(b"1\n|From: a@b\n\none\n|From: c@d\n\ntwo\n"),
+    ),
+    (
+        Call::ReadLines(27, 9),
+        Of(b"1\n|From: a@b\n\none\n|From: c@d\n\ntwo\n"),
+    ),
     (Call::ReadLines(10, 27), Of(b"none")),
     (Call::ReadLines(27, 10), Of(b"none")),
     (Call::ReadLines(11, 27), Of(b"none")),
     (Call::ReadLines(27, 11), Of(b"none")),
-    (Call::ReadLines(12, 27), Of(b"1\n|\none\n|From: c@d\n\ntwo\n")),
-    (Call::ReadLines(27, 12), Of(b"1\n|From: a@bx\n\none\n|From: c@d\n\ntwo\n")),
+    (
+        Call::ReadLines(12, 27),
+        Of(b"1\n|\none\n|From: c@d\n\ntwo\n"),
+    ),
+    (
+        Call::ReadLines(27, 12),
+        Of(b"1\n|From: a@bx\n\none\n|From: c@d\n\ntwo\n"),
+    ),
     (Call::ReadLines(13, 27), Of(b"none")),
     (Call::ReadLines(27, 13), Of(b"none")),
-    (Call::ReadLines(14, 27), Of(b"1\n|From: a@b\n\n|From: c@d\n\ntwo\n")),
-    (Call::ReadLines(27, 14), Of(b"1\n|From: a@b\n\nonex\n|From: c@d\n\ntwo\n")),
+    (
+        Call::ReadLines(14, 27),
+        Of(b"1\n|From: a@b\n\n|From: c@d\n\ntwo\n"),
+    ),
+    (
+        Call::ReadLines(27, 14),
+        Of(b"1\n|From: a@b\n\nonex\n|From: c@d\n\ntwo\n"),
+    ),
     (Call::ReadLines(15, 27), Of(b"none")),
     (Call::ReadLines(27, 15), Of(b"none")),
-    (Call::ReadLines(16, 27), Of(b"1\n|From: a@b\n\none\n\n\nFrom: c@d\n\ntwo\n")),
-    (Call::ReadLines(27, 16), Of(b"1\n|From: a@b\n\none\n\n------------------------------x\n\nFrom: c@d\n\ntwo\n")),
+    (
+        Call::ReadLines(16, 27),
+        Of(b"1\n|From: a@b\n\none\n\n\nFrom: c@d\n\ntwo\n"),
+    ),
+    (
+        Call::ReadLines(27, 16),
+        Of(b"1\n|From: a@b\n\none\n\n------------------------------x\n\nFrom: c@d\n\ntwo\n"),
+    ),
     (Call::ReadLines(17, 27), Of(b"none")),
     (Call::ReadLines(27, 17), Of(b"none")),
-    (Call::ReadLines(18, 27), Of(b"1\n|From: a@b\n\none\n|\ntwo\n")),
-    (Call::ReadLines(27, 18), Of(b"1\n|From: a@b\n\none\n|From: c@dx\n\ntwo\n")),
+    (
+        Call::ReadLines(18, 27),
+        Of(b"1\n|From: a@b\n\none\n|\ntwo\n"),
+    ),
+    (
+        Call::ReadLines(27, 18),
+        Of(b"1\n|From: a@b\n\none\n|From: c@dx\n\ntwo\n"),
+    ),
     (Call::ReadLines(19, 27), Of(b"none")),
     (Call::ReadLines(27, 19), Of(b"none")),
-    (Call::ReadLines(20, 27), Of(b"1\n|From: a@b\n\none\n|From: c@d\n\n")),
-    (Call::ReadLines(27, 20), Of(b"1\n|From: a@b\n\none\n|From: c@d\n\ntwox\n")),
+    (
+        Call::ReadLines(20, 27),
+        Of(b"1\n|From: a@b\n\none\n|From: c@d\n\n"),
+    ),
+    (
+        Call::ReadLines(27, 20),
+        Of(b"1\n|From: a@b\n\none\n|From: c@d\n\ntwox\n"),
+    ),
     (Call::ReadLines(21, 27), Of(b"none")),
     (Call::ReadLines(27, 21), Of(b"none")),
     (Call::ReadLines(22, 27), Of(b"none")),
@@ -335,48 +806,329 @@ const END: &[u8] = b"End of a Digest Issue 1\n***********************\n";
 
 // Subjects and ends.
 const NUMBERS: &[(Call, Text)] = &[
-    (Call::ReadFramed(b"Subject: a Digest Issue 1", RULE, ONE, b"End of a Digest Issue 1\n***********************\n"), Of(b"1\n|\none\n")),
-    (Call::ReadFramed(b"Subject: a Digest Issue 999999999999999999", RULE, ONE, b"End of a Digest Issue 999999999999999999\n****************************************\n"), Of(b"999999999999999999\n|\none\n")),
-    (Call::ReadFramed(b"Subject: a Digest Issue 1000000000000000000", RULE, ONE, b"End of a Digest Issue 1000000000000000000\n*****************************************\n"), Of(b"none")),
-    (Call::ReadFramed(b"Subject: a Digest Issue 0", RULE, ONE, b"End of a Digest Issue 0\n***********************\n"), Of(b"none")),
-    (Call::ReadFramed(b"Subject: a Digest Issue 01", RULE, ONE, b"End of a Digest Issue 01\n************************\n"), Of(b"none")),
-    (Call::ReadFramed(b"Subject: a Digest Issue ", RULE, ONE, b"End of a Digest Issue \n**********************\n"), Of(b"none")),
-    (Call::ReadFramed(b"Subject:  Digest Issue 1", RULE, ONE, b"End of  Digest Issue 1\n**********************\n"), Of(b"none")),
-    (Call::ReadFramed(b"subject: a Digest Issue 1", RULE, ONE, b"End of a Digest Issue 1\n***********************\n"), Of(b"none")),
-    (Call::ReadFramed(b"Subject:a Digest Issue 1", RULE, ONE, b"End of a Digest Issue 1\n***********************\n"), Of(b"none")),
-    (Call::ReadFramed(b"Subject: a Digest Issue 5 Digest Issue 7", RULE, ONE, b"End of a Digest Issue 5 Digest Issue 7\n**************************************\n"), Of(b"7\n|\none\n")),
-    (Call::ReadFramed(b"Subject:  Digest Issue  Digest Issue 7", RULE, ONE, b"End of  Digest Issue  Digest Issue 7\n************************************\n"), Of(b"7\n|\none\n")),
-    (Call::ReadFramed(b"Subject: a Digest Issue 1", RULE, ONE, b"End of a Digest Issue 2\n***********************\n"), Of(b"none")),
-    (Call::ReadFramed(b"Subject: a Digest Issue 1", RULE, ONE, b"End of b Digest Issue 1\n***********************\n"), Of(b"none")),
-    (Call::ReadFramed(b"Subject: a Digest Issue 1", RULE, ONE, b"End of a Digest Issue 1\n**********************\n"), Of(b"none")),
-    (Call::ReadFramed(b"Subject: a Digest Issue 1", RULE, ONE, b"End of a Digest Issue 1\n************************\n"), Of(b"none")),
-    (Call::ReadFramed(b"Subject: a Digest Issue 1", RULE, ONE, b"End of a Digest Issue 1\n***********************"), Of(b"none")),
-    (Call::ReadFramed(b"Subject: a Digest Issue 1", RULE, ONE, b"End of a Digest Issue 1\n***********************\n\n"), Of(b"none")),
-    (Call::ReadFramed(b"Subject: a Digest Issue 1\r", RULE, ONE, b"End of a Digest Issue 1\n***********************\n"), Of(b"none")),
+    (
+        Call::ReadFramed(
+            b"Subject: a Digest Issue 1",
+            RULE,
+            ONE,
+            b"End of a Digest Issue 1\n***********************\n",
+        ),
+        Of(b"1\n|\none\n"),
+    ),
+    (
+        Call::ReadFramed(
+            b"Subject: a Digest Issue 999999999999999999",
+            RULE,
+            ONE,
+            b"End of a Digest Issue 999999999999999999\n****************************************\n",
+        ),
+        Of(b"999999999999999999\n|\none\n"),
+    ),
+    (
+        Call::ReadFramed(
+            b"Subject: a Digest Issue 1000000000000000000",
+            RULE,
+            ONE,
+            b"End of a Digest Issue 1000000000000000000\n*****************************************\n",
+        ),
+        Of(b"none"),
+    ),
+    (
+        Call::ReadFramed(
+            b"Subject: a Digest Issue 0",
+            RULE,
+            ONE,
+            b"End of a Digest Issue 0\n***********************\n",
+        ),
+        Of(b"none"),
+    ),
+    (
+        Call::ReadFramed(
+            b"Subject: a Digest Issue 01",
+            RULE,
+            ONE,
+            b"End of a Digest Issue 01\n************************\n",
+        ),
+        Of(b"none"),
+    ),
+    (
+        Call::ReadFramed(
+            b"Subject: a Digest Issue ",
+            RULE,
+            ONE,
+            b"End of a Digest Issue \n**********************\n",
+        ),
+        Of(b"none"),
+    ),
+    (
+        Call::ReadFramed(
+            b"Subject:  Digest Issue 1",
+            RULE,
+            ONE,
+            b"End of  Digest Issue 1\n**********************\n",
+        ),
+        Of(b"none"),
+    ),
+    (
+        Call::ReadFramed(
+            b"subject: a Digest Issue 1",
+            RULE,
+            ONE,
+            b"End of a Digest Issue 1\n***********************\n",
+        ),
+        Of(b"none"),
+    ),
+    (
+        Call::ReadFramed(
+            b"Subject:a Digest Issue 1",
+            RULE,
+            ONE,
+            b"End of a Digest Issue 1\n***********************\n",
+        ),
+        Of(b"none"),
+    ),
+    (
+        Call::ReadFramed(
+            b"Subject: a Digest Issue 5 Digest Issue 7",
+            RULE,
+            ONE,
+            b"End of a Digest Issue 5 Digest Issue 7\n**************************************\n",
+        ),
+        Of(b"7\n|\none\n"),
+    ),
+    (
+        Call::ReadFramed(
+            b"Subject:  Digest Issue  Digest Issue 7",
+            RULE,
+            ONE,
+            b"End of  Digest Issue  Digest Issue 7\n************************************\n",
+        ),
+        Of(b"7\n|\none\n"),
+    ),
+    (
+        Call::ReadFramed(
+            b"Subject: a Digest Issue 1",
+            RULE,
+            ONE,
+            b"End of a Digest Issue 2\n***********************\n",
+        ),
+        Of(b"none"),
+    ),
+    (
+        Call::ReadFramed(
+            b"Subject: a Digest Issue 1",
+            RULE,
+            ONE,
+            b"End of b Digest Issue 1\n***********************\n",
+        ),
+        Of(b"none"),
+    ),
+    (
+        Call::ReadFramed(
+            b"Subject: a Digest Issue 1",
+            RULE,
+            ONE,
+            b"End of a Digest Issue 1\n**********************\n",
+        ),
+        Of(b"none"),
+    ),
+    (
+        Call::ReadFramed(
+            b"Subject: a Digest Issue 1",
+            RULE,
+            ONE,
+            b"End of a Digest Issue 1\n************************\n",
+        ),
+        Of(b"none"),
+    ),
+    (
+        Call::ReadFramed(
+            b"Subject: a Digest Issue 1",
+            RULE,
+            ONE,
+            b"End of a Digest Issue 1\n***********************",
+        ),
+        Of(b"none"),
+    ),
+    (
+        Call::ReadFramed(
+            b"Subject: a Digest Issue 1",
+            RULE,
+            ONE,
+            b"End of a Digest Issue 1\n***********************\n\n",
+        ),
+        Of(b"none"),
+    ),
+    (
+        Call::ReadFramed(
+            b"Subject: a Digest Issue 1\r",
+            RULE,
+            ONE,
+            b"End of a Digest Issue 1\n***********************\n",
+        ),
+        Of(b"none"),
+    ),
 ];
 
 // Rules behind the preface, and messages.
 const BLOCKS: &[(Call, Text)] = &[
     (Call::ReadFramed(SUBJECT, RULE, b"", END), Of(b"none")),
-    (Call::ReadFramed(SUBJECT, RULE, ONE, END), Of(b"1\n|\none\n")),
-    (Call::ReadFramed(SUBJECT, b"---------------------------------------------------------------------", ONE, END), Of(b"none")),
-    (Call::ReadFramed(SUBJECT, b"-----------------------------------------------------------------------", ONE, END), Of(b"none")),
-    (Call::ReadFramed(SUBJECT, RULE, b"\n\n------------------------------\n\n", END), Of(b"1\n|\n")),
-    (Call::ReadFramed(SUBJECT, RULE, b"\n------------------------------\n\n", END), Of(b"none")),
-    (Call::ReadFramed(SUBJECT, RULE, b"------------------------------\n\n", END), Of(b"none")),
-    (Call::ReadFramed(SUBJECT, RULE, b"one\n\n------------------------------\n\n", END), Of(b"none")),
-    (Call::ReadFramed(SUBJECT, RULE, b"one\n\n\n------------------------------\n\n", END), Of(b"1\n|one\n\n")),
-    (Call::ReadFramed(SUBJECT, RULE, b"\none\n------------------------------\n\n", END), Of(b"none")),
-    (Call::ReadFramed(SUBJECT, RULE, b"\none\n\n------------------------------\n", END), Of(b"none")),
-    (Call::ReadFramed(SUBJECT, RULE, b"\none\n\n-----------------------------\n\n", END), Of(b"none")),
-    (Call::ReadFramed(SUBJECT, RULE, b"\none\n\n-------------------------------\n\n", END), Of(b"none")),
-    (Call::ReadFramed(SUBJECT, RULE, b"\none\n\n------------------------------\r\n\n", END), Of(b"none")),
-    (Call::ReadFramed(SUBJECT, RULE, b"End of x\n\none\n\n------------------------------\n\n", END), Of(b"none")),
-    (Call::ReadFramed(SUBJECT, RULE, b"End of\n\none\n\n------------------------------\n\n", END), Of(b"1\n|End of\n\none\n")),
-    (Call::ReadFramed(SUBJECT, RULE, b"end of x\n\none\n\n------------------------------\n\n", END), Of(b"1\n|end of x\n\none\n")),
-    (Call::ReadFramed(SUBJECT, RULE, b"\nEnd of x\n\n------------------------------\n\n", END), Of(b"1\n|\nEnd of x\n")),
-    (Call::ReadFramed(SUBJECT, RULE, b"a\n------------------------------\n\nb\n\n------------------------------\n\n", END), Of(b"none")),
-    (Call::ReadFramed(SUBJECT, RULE, b"\na\n\n------------------------------\n\n\nb\n\n------------------------------\n\n", END), Of(b"1\n|\na\n|\nb\n")),
+    (
+        Call::ReadFramed(SUBJECT, RULE, ONE, END),
+        Of(b"1\n|\none\n"),
+    ),
+    (
+        Call::ReadFramed(
+            SUBJECT,
+            b"---------------------------------------------------------------------",
+            ONE,
+            END,
+        ),
+        Of(b"none"),
+    ),
+    (
+        Call::ReadFramed(
+            SUBJECT,
+            b"-----------------------------------------------------------------------",
+            ONE,
+            END,
+        ),
+        Of(b"none"),
+    ),
+    (
+        Call::ReadFramed(
+            SUBJECT,
+            RULE,
+            b"\n\n------------------------------\n\n",
+            END,
+        ),
+        Of(b"1\n|\n"),
+    ),
+    (
+        Call::ReadFramed(SUBJECT, RULE, b"\n------------------------------\n\n", END),
+        Of(b"none"),
+    ),
+    (
+        Call::ReadFramed(SUBJECT, RULE, b"------------------------------\n\n", END),
+        Of(b"none"),
+    ),
+    (
+        Call::ReadFramed(
+            SUBJECT,
+            RULE,
+            b"one\n\n------------------------------\n\n",
+            END,
+        ),
+        Of(b"none"),
+    ),
+    (
+        Call::ReadFramed(
+            SUBJECT,
+            RULE,
+            b"one\n\n\n------------------------------\n\n",
+            END,
+        ),
+        Of(b"1\n|one\n\n"),
+    ),
+    (
+        Call::ReadFramed(
+            SUBJECT,
+            RULE,
+            b"\none\n------------------------------\n\n",
+            END,
+        ),
+        Of(b"none"),
+    ),
+    (
+        Call::ReadFramed(
+            SUBJECT,
+            RULE,
+            b"\none\n\n------------------------------\n",
+            END,
+        ),
+        Of(b"none"),
+    ),
+    (
+        Call::ReadFramed(
+            SUBJECT,
+            RULE,
+            b"\none\n\n-----------------------------\n\n",
+            END,
+        ),
+        Of(b"none"),
+    ),
+    (
+        Call::ReadFramed(
+            SUBJECT,
+            RULE,
+            b"\none\n\n-------------------------------\n\n",
+            END,
+        ),
+        Of(b"none"),
+    ),
+    (
+        Call::ReadFramed(
+            SUBJECT,
+            RULE,
+            b"\none\n\n------------------------------\r\n\n",
+            END,
+        ),
+        Of(b"none"),
+    ),
+    (
+        Call::ReadFramed(
+            SUBJECT,
+            RULE,
+            b"End of x\n\none\n\n------------------------------\n\n",
+            END,
+        ),
+        Of(b"none"),
+    ),
+    (
+        Call::ReadFramed(
+            SUBJECT,
+            RULE,
+            b"End of\n\none\n\n------------------------------\n\n",
+            END,
+        ),
+        Of(b"1\n|End of\n\none\n"),
+    ),
+    (
+        Call::ReadFramed(
+            SUBJECT,
+            RULE,
+            b"end of x\n\none\n\n------------------------------\n\n",
+            END,
+        ),
+        Of(b"1\n|end of x\n\none\n"),
+    ),
+    (
+        Call::ReadFramed(
+            SUBJECT,
+            RULE,
+            b"\nEnd of x\n\n------------------------------\n\n",
+            END,
+        ),
+        Of(b"1\n|\nEnd of x\n"),
+    ),
+    (
+        Call::ReadFramed(
+            SUBJECT,
+            RULE,
+            b"a\n------------------------------\n\nb\n\n------------------------------\n\n",
+            END,
+        ),
+        Of(b"none"),
+    ),
+    (
+        Call::ReadFramed(
+            SUBJECT,
+            RULE,
+            b"\na\n\n------------------------------\n\n\nb\n\n------------------------------\n\n",
+            END,
+        ),
+        Of(b"1\n|\na\n|\nb\n"),
+    ),
     (Call::Read(Of(b"")), Of(b"none")),
 ];
 

@@ -159,7 +159,10 @@ const DAMAGED: &[(Name, &[u8])] = &[
     (LEDGER, b"31:3:a@b,1:5,13:w253402300800,1:1,,"),
     (LEDGER, b"30:3:a@b,12:253402300800,1:n,1:1,,"),
     (LEDGER, b"20:3:a@b,1:5,1:n,3:1,1,,"),
-    (LEDGER, b"314:3:a@b,1:5,1:n,295:1,2,3,4,5,6,7,8,9,10,11,12,13,14,15,16,17,18,19,20,21,22,23,24,25,26,27,28,29,30,31,32,33,34,35,36,37,38,39,40,41,42,43,44,45,46,47,48,49,50,51,52,53,54,55,56,57,58,59,60,61,62,63,64,65,66,67,68,69,70,71,72,73,74,75,76,77,78,79,80,81,82,83,84,85,86,87,88,89,90,91,92,93,94,95,96,97,98,99,100,101,,"),
+    (
+        LEDGER,
+        b"314:3:a@b,1:5,1:n,295:1,2,3,4,5,6,7,8,9,10,11,12,13,14,15,16,17,18,19,20,21,22,23,24,25,26,27,28,29,30,31,32,33,34,35,36,37,38,39,40,41,42,43,44,45,46,47,48,49,50,51,52,53,54,55,56,57,58,59,60,61,62,63,64,65,66,67,68,69,70,71,72,73,74,75,76,77,78,79,80,81,82,83,84,85,86,87,88,89,90,91,92,93,94,95,96,97,98,99,100,101,,",
+    ),
     (LEDGER, b"17:3:a@b,1:0,1:n,0:,,"),
     (LEDGER, b"18:3:a@b,1:5,2:p7,0:,,"),
     (LEDGER, b"19:4:et@b,1:5,1:n,1:1,,18:3:a@b,1:5,1:n,1:1,,"),
@@ -182,7 +185,11 @@ const CASES: &[Case] = &[
         files: &[],
         changes: &[(LEDGER, b"-")],
         failing: NONE,
-        calls: &[(Call::Warning(0, 7), Of(b"none")), (Call::Served(1_003_020_000), Of(b"none")), (Call::File(LEDGER), Of(b"-"))],
+        calls: &[
+            (Call::Warning(0, 7), Of(b"none")),
+            (Call::Served(1_003_020_000), Of(b"none")),
+            (Call::File(LEDGER), Of(b"-")),
+        ],
     },
     Case {
         title: "no entry: mail bounces",
@@ -196,7 +203,14 @@ const CASES: &[Case] = &[
         files: &[],
         changes: &[(LEDGER, NOTED)],
         failing: NONE,
-        calls: &[(Call::Bounced(1, 1_000_020_000), Of(b"none")), (Call::Served(1_001_009_999), Of(b"none")), (Call::Served(5), Of(b"none")), (Call::Warning(0, 1_001_020_000), Of(b"none")), (Call::Probe(0), Of(b"none")), (Call::File(LEDGER), Of(NOTED))],
+        calls: &[
+            (Call::Bounced(1, 1_000_020_000), Of(b"none")),
+            (Call::Served(1_001_009_999), Of(b"none")),
+            (Call::Served(5), Of(b"none")),
+            (Call::Warning(0, 1_001_020_000), Of(b"none")),
+            (Call::Probe(0), Of(b"none")),
+            (Call::File(LEDGER), Of(NOTED)),
+        ],
     },
     Case {
         title: "a number is noted: mail bounces",
@@ -217,7 +231,13 @@ const CASES: &[Case] = &[
         files: &[],
         changes: &[(LEDGER, WARNED)],
         failing: NONE,
-        calls: &[(Call::Warning(1_001_009_999, 1_001_020_000), Of(b"none")), (Call::Warning(1_001_010_001, 1_001_020_000), Of(b"none")), (Call::Probe(1_001_010_000), Of(b"none")), (Call::Served(1_002_009_999), Of(b"none")), (Call::File(LEDGER), Of(WARNED))],
+        calls: &[
+            (Call::Warning(1_001_009_999, 1_001_020_000), Of(b"none")),
+            (Call::Warning(1_001_010_001, 1_001_020_000), Of(b"none")),
+            (Call::Probe(1_001_010_000), Of(b"none")),
+            (Call::Served(1_002_009_999), Of(b"none")),
+            (Call::File(LEDGER), Of(WARNED)),
+        ],
     },
     Case {
         title: "a warning was sent: mail bounces",
@@ -252,7 +272,12 @@ const CASES: &[Case] = &[
         files: &[],
         changes: &[(LEDGER, FAILED)],
         failing: NONE,
-        calls: &[(Call::Warning(1_001_010_000, 1_001_020_001), Of(b"none")), (Call::Probe(1_001_020_000), Of(b"none")), (Call::Served(1_002_019_999), Of(b"none")), (Call::File(LEDGER), Of(FAILED))],
+        calls: &[
+            (Call::Warning(1_001_010_000, 1_001_020_001), Of(b"none")),
+            (Call::Probe(1_001_020_000), Of(b"none")),
+            (Call::Served(1_002_019_999), Of(b"none")),
+            (Call::File(LEDGER), Of(FAILED)),
+        ],
     },
     Case {
         title: "the warning bounced: mail bounces",
@@ -273,7 +298,12 @@ const CASES: &[Case] = &[
         files: &[],
         changes: &[(LEDGER, PROBED)],
         failing: NONE,
-        calls: &[(Call::Warning(1_002_020_000, 1_002_020_001), Of(b"none")), (Call::Probe(1_002_019_999), Of(b"none")), (Call::Served(1_003_019_999), Of(b"none")), (Call::File(LEDGER), Of(PROBED))],
+        calls: &[
+            (Call::Warning(1_002_020_000, 1_002_020_001), Of(b"none")),
+            (Call::Probe(1_002_019_999), Of(b"none")),
+            (Call::Served(1_003_019_999), Of(b"none")),
+            (Call::File(LEDGER), Of(PROBED)),
+        ],
     },
     Case {
         title: "a probe was sent: mail bounces",
@@ -308,14 +338,20 @@ const CASES: &[Case] = &[
         files: &[],
         changes: &[(LEDGER, BESIDE)],
         failing: NONE,
-        calls: &[(Call::Probe(0), Of(b"none")), (Call::File(LEDGER), Of(BESIDE))],
+        calls: &[
+            (Call::Probe(0), Of(b"none")),
+            (Call::File(LEDGER), Of(BESIDE)),
+        ],
     },
     Case {
         title: "the entry of another: nothing is changed",
         files: &[],
         changes: &[(LEDGER, OTHER)],
         failing: NONE,
-        calls: &[(Call::Probe(0), Of(b"none")), (Call::File(LEDGER), Of(OTHER))],
+        calls: &[
+            (Call::Probe(0), Of(b"none")),
+            (Call::File(LEDGER), Of(OTHER)),
+        ],
     },
     Case {
         title: "the entry of another: mail bounces",
@@ -327,7 +363,15 @@ const CASES: &[Case] = &[
     Case {
         title: "one who is forgotten at every stage",
         files: &[],
-        changes: &[(LEDGER, b"-"), (LEDGER, NOTED), (LEDGER, WARNED), (LEDGER, WARNED_MISSED), (LEDGER, FAILED), (LEDGER, PROBED), (LEDGER, PROBED_MISSED)],
+        changes: &[
+            (LEDGER, b"-"),
+            (LEDGER, NOTED),
+            (LEDGER, WARNED),
+            (LEDGER, WARNED_MISSED),
+            (LEDGER, FAILED),
+            (LEDGER, PROBED),
+            (LEDGER, PROBED_MISSED),
+        ],
         failing: NONE,
         calls: &[(Call::Forgotten, Of(b"-"))],
     },
@@ -343,35 +387,78 @@ const CASES: &[Case] = &[
         files: &[],
         changes: DAMAGED,
         failing: NONE,
-        calls: &[(Call::AuditLedgers, Of(b"damaged 15/29")), (Call::Bounced(2, 7), Of(b"damaged 15/29")), (Call::Due(7, 1), Of(b"damaged 15/29"))],
+        calls: &[
+            (Call::AuditLedgers, Of(b"damaged 15/29")),
+            (Call::Bounced(2, 7), Of(b"damaged 15/29")),
+            (Call::Due(7, 1), Of(b"damaged 15/29")),
+        ],
     },
     Case {
         title: "the ledgers are apart",
         files: &[(LEDGER, Of(NOTED)), (DIGESTS, Of(WARNED))],
         changes: UNCHANGED,
         failing: NONE,
-        calls: &[(Call::DigestBounced(7, 1_001_010_005), Of(WARNED_MISSED)), (Call::File(LEDGER), Of(NOTED))],
+        calls: &[
+            (Call::DigestBounced(7, 1_001_010_005), Of(WARNED_MISSED)),
+            (Call::File(LEDGER), Of(NOTED)),
+        ],
     },
     Case {
         title: "a hundred numbers and no more",
-        files: &[(LEDGER, Each(b"306:3:a@b,1:5,1:n,287:1", 2, 99, b",#", b",,"))],
+        files: &[(
+            LEDGER,
+            Each(b"306:3:a@b,1:5,1:n,287:1", 2, 99, b",#", b",,"),
+        )],
         changes: UNCHANGED,
         failing: NONE,
-        calls: &[(Call::Bounced(100, 7), Each(b"310:3:a@b,1:5,1:n,291:1", 2, 100, b",#", b",,")), (Call::Bounced(101, 7), Of(b"none"))],
+        calls: &[
+            (
+                Call::Bounced(100, 7),
+                Each(b"310:3:a@b,1:5,1:n,291:1", 2, 100, b",#", b",,"),
+            ),
+            (Call::Bounced(101, 7), Of(b"none")),
+        ],
     },
     Case {
         title: "a thousand due entries, from the first on",
         files: &[],
         changes: UNCHANGED,
         failing: NONE,
-        calls: &[(Call::Enter(1001, 2000), Of(b"")), (Call::Due(1_000_004, 1000), Of(b"")), (Call::Due(1_000_005, 0), Of(b"")), (Call::Due(1_000_005, 1), Of(b"warn 1001@b 1\n")), (Call::Due(1_000_005, 999), Each(b"", 1001, 1999, b"warn #@b 1\n", b"")), (Call::Due(1_000_005, 1000), Each(b"", 1001, 2000, b"warn #@b 1\n", b"")), (Call::Due(1_000_005, 1001), Each(b"", 1001, 2000, b"warn #@b 1\n", b""))],
+        calls: &[
+            (Call::Enter(1001, 2000), Of(b"")),
+            (Call::Due(1_000_004, 1000), Of(b"")),
+            (Call::Due(1_000_005, 0), Of(b"")),
+            (Call::Due(1_000_005, 1), Of(b"warn 1001@b 1\n")),
+            (
+                Call::Due(1_000_005, 999),
+                Each(b"", 1001, 1999, b"warn #@b 1\n", b""),
+            ),
+            (
+                Call::Due(1_000_005, 1000),
+                Each(b"", 1001, 2000, b"warn #@b 1\n", b""),
+            ),
+            (
+                Call::Due(1_000_005, 1001),
+                Each(b"", 1001, 2000, b"warn #@b 1\n", b""),
+            ),
+        ],
     },
     Case {
         title: "due entries in order of key",
-        files: &[(Name { kind: 15, at: 30 }, Of(b"18:3:1@b,1:5,1:n,1:1,,")), (Name { kind: 15, at: 20 }, Of(b"19:4:10@b,1:5,1:n,1:1,,")), (Name { kind: 15, at: 43 }, Of(b"20:5:100@b,1:5,1:n,1:1,,"))],
+        files: &[
+            (Name { kind: 15, at: 30 }, Of(b"18:3:1@b,1:5,1:n,1:1,,")),
+            (Name { kind: 15, at: 20 }, Of(b"19:4:10@b,1:5,1:n,1:1,,")),
+            (Name { kind: 15, at: 43 }, Of(b"20:5:100@b,1:5,1:n,1:1,,")),
+        ],
         changes: UNCHANGED,
         failing: NONE,
-        calls: &[(Call::Due(1_000_005, 2), Of(b"warn 100@b 1\nwarn 10@b 1\n")), (Call::Due(1_000_005, 9), Of(b"warn 100@b 1\nwarn 10@b 1\nwarn 1@b 1\n"))],
+        calls: &[
+            (Call::Due(1_000_005, 2), Of(b"warn 100@b 1\nwarn 10@b 1\n")),
+            (
+                Call::Due(1_000_005, 9),
+                Of(b"warn 100@b 1\nwarn 10@b 1\nwarn 1@b 1\n"),
+            ),
+        ],
     },
     Case {
         title: "mail bounces over a failing read",
@@ -385,7 +472,10 @@ const CASES: &[Case] = &[
         files: &[(LEDGER, Of(NOTED))],
         changes: UNCHANGED,
         failing: &[107],
-        calls: &[(Call::Bounced(2, 7), Of(TWO)), (Call::Due(7, 1), Of(b"fault"))],
+        calls: &[
+            (Call::Bounced(2, 7), Of(TWO)),
+            (Call::Due(7, 1), Of(b"fault")),
+        ],
     },
     Case {
         title: "the 28th read of the entries that are due fails",

@@ -165,7 +165,9 @@ const CASES: &[Case] = &[
         calls: &[
             (
                 Call::Put(true, Of(MAIL), Of(b"a@b\nc@d\ne@f\n")),
-                Of(b"1\n17/1 14:list-return-1-,6:ex.org,1:v,321:Mailing-List: contact list-help@ex.org; run by ezmlm\nPrecedence: bulk\nList-Post: <mailto:list@ex.org>\nList-Help: <mailto:list-help@ex.org>\nList-Unsubscribe: <mailto:list-unsubscribe@ex.org>\nList-Subscribe: <mailto:list-subscribe@ex.org>\nDelivered-To: mailing list list@ex.org\nFrom: a@b\nTo: list@ex.org\nSubject: hello\n\nhi\n,3:a@b,3:c@d,3:e@f,\n18/0 1:2\n\n"),
+                Of(
+                    b"1\n17/1 14:list-return-1-,6:ex.org,1:v,321:Mailing-List: contact list-help@ex.org; run by ezmlm\nPrecedence: bulk\nList-Post: <mailto:list@ex.org>\nList-Help: <mailto:list-help@ex.org>\nList-Unsubscribe: <mailto:list-unsubscribe@ex.org>\nList-Subscribe: <mailto:list-subscribe@ex.org>\nDelivered-To: mailing list list@ex.org\nFrom: a@b\nTo: list@ex.org\nSubject: hello\n\nhi\n,3:a@b,3:c@d,3:e@f,\n18/0 1:2\n\n",
+                ),
             ),
             (Call::File(FIRST), Of(MAILED)),
         ],
@@ -188,7 +190,9 @@ const CASES: &[Case] = &[
         calls: &[
             (
                 Call::Put(false, Of(b""), Of(b"")),
-                Of(b"1000000000000000\n17/1000000000000000 12:list-return-,6:ex.org,1:p,0:,\n18/0 5:1000000000000001\n\n"),
+                Of(
+                    b"1000000000000000\n17/1000000000000000 12:list-return-,6:ex.org,1:p,0:,\n18/0 5:1000000000000001\n\n",
+                ),
             ),
             (Call::Put(false, Of(b""), Of(b"")), Of(b"damaged 18/0")),
         ],
@@ -200,7 +204,11 @@ const CASES: &[Case] = &[
         failing: NONE,
         calls: &[
             (
-                Call::Put(false, Of(b""), Each(b"", 1_000_000, 1_099_999, b"#@b\n", b"")),
+                Call::Put(
+                    false,
+                    Of(b""),
+                    Each(b"", 1_000_000, 1_099_999, b"#@b\n", b""),
+                ),
                 Each(
                     b"1\n17/1 12:list-return-,6:ex.org,1:p,0:,",
                     1_000_000,
@@ -341,7 +349,11 @@ const CASES: &[Case] = &[
     },
     Case {
         title: "two entries",
-        files: &[(IDS, Of(b"1:3\n")), (FIRST, Of(MAILED)), (SECOND, Of(REPLY))],
+        files: &[
+            (IDS, Of(b"1:3\n")),
+            (FIRST, Of(MAILED)),
+            (SECOND, Of(REPLY)),
+        ],
         changes: UNCHANGED,
         failing: NONE,
         calls: &[
@@ -349,7 +361,9 @@ const CASES: &[Case] = &[
             (Call::NextId, Of(b"3\n")),
             (
                 Call::Entry(1),
-                Of(b"a@b list-return-1-a=b@ex.org\nc@d list-return-1-c=d@ex.org\ne@f list-return-1-e=f@ex.org\nMailing-List: contact list-help@ex.org; run by ezmlm\nPrecedence: bulk\nList-Post: <mailto:list@ex.org>\nList-Help: <mailto:list-help@ex.org>\nList-Unsubscribe: <mailto:list-unsubscribe@ex.org>\nList-Subscribe: <mailto:list-subscribe@ex.org>\nDelivered-To: mailing list list@ex.org\nFrom: a@b\nTo: list@ex.org\nSubject: hello\n\nhi\n"),
+                Of(
+                    b"a@b list-return-1-a=b@ex.org\nc@d list-return-1-c=d@ex.org\ne@f list-return-1-e=f@ex.org\nMailing-List: contact list-help@ex.org; run by ezmlm\nPrecedence: bulk\nList-Post: <mailto:list@ex.org>\nList-Help: <mailto:list-help@ex.org>\nList-Unsubscribe: <mailto:list-unsubscribe@ex.org>\nList-Subscribe: <mailto:list-subscribe@ex.org>\nDelivered-To: mailing list list@ex.org\nFrom: a@b\nTo: list@ex.org\nSubject: hello\n\nhi\n",
+                ),
             ),
         ],
     },
