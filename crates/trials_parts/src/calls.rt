@@ -1,8 +1,7 @@
 // What rows call.
-use crate::issues::Issue;
 use crate::parts::{Parts, file, or_absent};
 use crate::texts::Text;
-use crate::{digests, held, issues, ledgers, queue};
+use crate::{digests, held, issues, ledgers, queue, reading};
 use ml_base::{Bytes, Name, PartError};
 use std::alloc::Global;
 
@@ -49,10 +48,11 @@ pub enum Call {
     /// For the last post of a digest, the sizes of those behind it with how many have each, when the first came, and a
     /// moment: the first and the last of the digest that is due, or `none`.
     Choose(u64, &'static [(u64, usize)], u64, u64),
-    /// The text of an issue.
-    Write(&'static Issue),
-    /// What an issue is read as, so many bytes short of its end: its number, and each message behind `|`; or `none`.
-    Burst(Issue, usize),
+    /// For the number of an issue, that of its first post, and its posts with their subjects: its text.
+    Write(u64, u64, &'static [(&'static [u8], &'static [u8])]),
+    /// What an issue is read as, so many bytes short of its end: its number, and each message behind `|`; or `none`. It has a
+    /// number, that of its first post, and so many times this post.
+    Burst(u64, u64, usize, &'static [u8], usize),
     /// The same of a text.
     Read(Text),
     /// The same of a digest that is made of a subject, a rule, messages and an end.
@@ -88,13 +88,17 @@ pub fn answer(alloc: Global, parts: &mut Parts, call: &Call) -> Result<Bytes, Pa
         Call::Choose(last, sizes, oldest, now) => {
             digests::chosen(alloc, *last, sizes, *oldest, *now)
         }
-        Call::Write(issue) => issues::written(alloc, issue),
-        Call::Burst(issue, short) => issues::taken_apart(alloc, issue, *short),
-        Call::Read(text) => issues::read(alloc, text),
-        Call::ReadFramed(subject, rule, messages, end) => {
-            issues::read_framed(alloc, subject, rule, messages, end)
+        Call::Write(issue, first, posts) => {
+            issues::written(alloc, *issue, *first, posts, posts.len())
         }
-        Call::ReadLines(left_out, spoiled) => issues::read_lines(alloc, *left_out, *spoiled),
+        Call::Burst(issue, first, count, bytes, short) => {
+            issues::taken_apart(alloc, *issue, *first, *count, bytes, *short)
+        }
+        Call::Read(text) => reading::read(alloc, text),
+        Call::ReadFramed(subject, rule, messages, end) => {
+            reading::read_framed(alloc, subject, rule, messages, end)
+        }
+        Call::ReadLines(left_out, spoiled) => reading::read_lines(alloc, *left_out, *spoiled),
         _ => ledgers::after(alloc, parts, call),
     }
 }

@@ -1,104 +1,57 @@
-// Issues: their text, written by hand, what an issue has of each post, and the reader, over a digest with each line in turn left
-// out or spoiled and over texts at the ends of the grammar.
+// Issues: their text, written by hand, and what an issue has of each post.
 use crate::calls::Call;
 use crate::cases::{Case, NONE, UNCHANGED, differences};
+use crate::reading::told;
 use crate::texts::Text::{self, Each, Of};
-use crate::texts::{made, push_number};
 use ml_base::{Bytes, PartError};
 use ml_config::read_config;
-use ml_digest::{DigestPost, digest_text, read_digest};
+use ml_digest::{DigestPost, digest_text};
 use std::alloc::{AllocError, Global};
 use std::test::Fail;
 
-/// An issue: its number, that of its first post, and so many posts, these in turn, with their subjects.
-pub struct Issue {
-    pub number: u64,
-    pub first: u64,
-    pub count: usize,
-    pub posts: &'static [(&'static [u8], &'static [u8])],
-}
-
-fn posts_of(alloc: Global, issue: &Issue) -> Result<Vec<DigestPost>, AllocError> {
-    let mut posts = Vec::new(alloc);
-    for (subject, bytes) in issue.posts.iter().cycle().take(issue.count) {
-        posts.push(DigestPost {
+// So many posts, these in turn, with their subjects.
+fn posts_of(
+    alloc: Global,
+    posts: &[(&[u8], &[u8])],
+    count: usize,
+) -> Result<Vec<DigestPost>, AllocError> {
+    let mut all = Vec::new(alloc);
+    for (subject, bytes) in posts.iter().cycle().take(count) {
+        all.push(DigestPost {
             subject: Bytes::from_slice(alloc, subject)?,
             bytes: Bytes::from_slice(alloc, bytes)?,
         })?;
     }
-    Ok(posts)
+    Ok(all)
 }
 
-pub fn written(alloc: Global, issue: &Issue) -> Result<Bytes, PartError> {
-    let posts = posts_of(alloc, issue)?;
+pub fn written(
+    alloc: Global,
+    issue: u64,
+    first: u64,
+    posts: &[(&[u8], &[u8])],
+    count: usize,
+) -> Result<Bytes, PartError> {
+    let posts = posts_of(alloc, posts, count)?;
     let Some(config) = read_config(alloc, CONFIG)? else {
         return Ok(Bytes::new(alloc));
     };
-    if posts.is_empty() || issue.first == 0 || issue.first > 99_999_999 || posts.len() > 1000 {
+    if posts.is_empty() || first == 0 || first > 99_999_999 || posts.len() > 1000 {
         return Ok(Bytes::new(alloc));
     }
-    Ok(digest_text(
-        alloc,
-        &config,
-        issue.number,
-        issue.first,
-        posts.as_slice(),
-        DATE,
-    )?)
+    Ok(digest_text(alloc, &config, issue, first, posts.as_slice(), DATE)?)
 }
 
-pub fn taken_apart(alloc: Global, issue: &Issue, short: usize) -> Result<Bytes, PartError> {
-    let mut text = written(alloc, issue)?;
-    text.truncate(text.len().saturating_sub(short));
-    told(alloc, text.as_slice())
-}
-
-// What a text is as a digest.
-fn told(alloc: Global, text: &[u8]) -> Result<Bytes, PartError> {
-    let Some(burst) = read_digest(alloc, text)? else {
-        return Ok(Bytes::from_slice(alloc, b"none")?);
-    };
-    let mut out = Bytes::new(alloc);
-    push_number(&mut out, burst.issue, b'\n')?;
-    for message in burst.messages.as_slice() {
-        out.push(b'|')?;
-        out.extend(message.as_slice())?;
-    }
-    Ok(out)
-}
-
-pub fn read(alloc: Global, text: &Text) -> Result<Bytes, PartError> {
-    let text = made(alloc, text)?;
-    told(alloc, text.as_slice())
-}
-
-pub fn read_framed(
+pub fn taken_apart(
     alloc: Global,
-    subject: &[u8],
-    rule: &[u8],
-    messages: &[u8],
-    end: &[u8],
+    issue: u64,
+    first: u64,
+    count: usize,
+    bytes: &[u8],
+    short: usize,
 ) -> Result<Bytes, PartError> {
-    let mut text = Bytes::new(alloc);
-    for piece in [subject, b"\n\n", rule, b"\n\n", messages, end] {
-        text.extend(piece)?;
-    }
-    told(alloc, text.as_slice())
-}
-
-pub fn read_lines(alloc: Global, left_out: usize, spoiled: usize) -> Result<Bytes, PartError> {
-    let mut text = Bytes::new(alloc);
-    for (at, line) in LINES.iter().enumerate() {
-        if at != left_out {
-            text.extend(line)?;
-        }
-        if at == spoiled {
-            text.push(b'x')?;
-        }
-        if at != left_out && at != END_OF_LINES {
-            text.push(b'\n')?;
-        }
-    }
+    let mut text = written(alloc, issue, first, &[(b"s", bytes)], count)?;
+    text.truncate(text.len().saturating_sub(short));
     told(alloc, text.as_slice())
 }
 
@@ -191,245 +144,121 @@ Subject: hello
 hi
 ";
 
-const WRITTEN: Issue = Issue {
-    number: 3,
-    first: 41,
-    count: 2,
-    posts: &[
-        (b"a Digest Issue 7", FIRST),
-        (b"End of list Digest Issue 3", SECOND),
-    ],
-};
+const WRITTEN: &[(&[u8], &[u8])] = &[
+    (b"a Digest Issue 7", FIRST),
+    (b"End of list Digest Issue 3", SECOND),
+];
 
 // Posts, and what an issue has of them.
 const MESSAGES: &[(Call, Text)] = &[
     (
-        Call::Burst(
-            Issue {
-                number: 99_999_999,
-                first: 99_999_999,
-                count: 1,
-                posts: &[(b"s", b"")],
-            },
-            0,
-        ),
+        Call::Burst(99_999_999, 99_999_999, 1, b"", 0),
         Of(b"99999999\n|\n"),
     ),
     (
-        Call::Burst(
-            Issue {
-                number: 99_999_999,
-                first: 99_999_999,
-                count: 1,
-                posts: &[(b"s", b"\n")],
-            },
-            0,
-        ),
+        Call::Burst(99_999_999, 99_999_999, 1, b"\n", 0),
         Of(b"99999999\n|\n"),
     ),
     (
-        Call::Burst(
-            Issue {
-                number: 99_999_999,
-                first: 99_999_999,
-                count: 1,
-                posts: &[(b"s", b"\n\n")],
-            },
-            0,
-        ),
+        Call::Burst(99_999_999, 99_999_999, 1, b"\n\n", 0),
         Of(b"99999999\n|\n\n"),
     ),
     (
-        Call::Burst(
-            Issue {
-                number: 99_999_999,
-                first: 99_999_999,
-                count: 1,
-                posts: &[(b"s", b"To: d")],
-            },
-            0,
-        ),
+        Call::Burst(99_999_999, 99_999_999, 1, b"To: d", 0),
         Of(b"99999999\n|To: d\n\n"),
     ),
     (
-        Call::Burst(
-            Issue {
-                number: 99_999_999,
-                first: 99_999_999,
-                count: 1,
-                posts: &[(b"s", b"To: d\n")],
-            },
-            0,
-        ),
+        Call::Burst(99_999_999, 99_999_999, 1, b"To: d\n", 0),
         Of(b"99999999\n|To: d\n\n"),
     ),
     (
-        Call::Burst(
-            Issue {
-                number: 99_999_999,
-                first: 99_999_999,
-                count: 1,
-                posts: &[(b"s", b"To: d\n\n")],
-            },
-            0,
-        ),
+        Call::Burst(99_999_999, 99_999_999, 1, b"To: d\n\n", 0),
         Of(b"99999999\n|To: d\n\n"),
     ),
     (
-        Call::Burst(
-            Issue {
-                number: 99_999_999,
-                first: 99_999_999,
-                count: 1,
-                posts: &[(b"s", b"To: d\n\nhi")],
-            },
-            0,
-        ),
+        Call::Burst(99_999_999, 99_999_999, 1, b"To: d\n\nhi", 0),
         Of(b"99999999\n|To: d\n\nhi\n"),
     ),
     (
-        Call::Burst(
-            Issue {
-                number: 99_999_999,
-                first: 99_999_999,
-                count: 1,
-                posts: &[(b"s", b"To: d\n\nhi\n\n\n")],
-            },
-            0,
-        ),
+        Call::Burst(99_999_999, 99_999_999, 1, b"To: d\n\nhi\n\n\n", 0),
         Of(b"99999999\n|To: d\n\nhi\n\n\n"),
     ),
     (
-        Call::Burst(
-            Issue {
-                number: 99_999_999,
-                first: 99_999_999,
-                count: 1,
-                posts: &[(b"s", b"X: y\n\nhi\n")],
-            },
-            0,
-        ),
+        Call::Burst(99_999_999, 99_999_999, 1, b"X: y\n\nhi\n", 0),
         Of(b"99999999\n|\nhi\n"),
     ),
     (
-        Call::Burst(
-            Issue {
-                number: 99_999_999,
-                first: 99_999_999,
-                count: 1,
-                posts: &[(b"s", b"To: d\r\n\r\nhi\r\n")],
-            },
-            0,
-        ),
+        Call::Burst(99_999_999, 99_999_999, 1, b"To: d\r\n\r\nhi\r\n", 0),
         Of(b"99999999\n|To: d\r\n\nhi\r\n"),
     ),
     (
         Call::Burst(
-            Issue {
-                number: 99_999_999,
-                first: 99_999_999,
-                count: 1,
-                posts: &[(b"s", b"To: d\n e\n\tf\nX: y\n g\n\nhi\n")],
-            },
+            99_999_999,
+            99_999_999,
+            1,
+            b"To: d\n e\n\tf\nX: y\n g\n\nhi\n",
             0,
         ),
         Of(b"99999999\n|To: d\n e\n\tf\n\nhi\n"),
     ),
     (
-        Call::Burst(
-            Issue {
-                number: 99_999_999,
-                first: 99_999_999,
-                count: 1,
-                posts: &[(b"s", b"X: y\nTo: d")],
-            },
-            0,
-        ),
+        Call::Burst(99_999_999, 99_999_999, 1, b"X: y\nTo: d", 0),
         Of(b"99999999\n|To: d\n\n"),
     ),
     (
-        Call::Burst(
-            Issue {
-                number: 99_999_999,
-                first: 99_999_999,
-                count: 1,
-                posts: &[(b"s", b"no header\n\nhi\n")],
-            },
-            0,
-        ),
+        Call::Burst(99_999_999, 99_999_999, 1, b"no header\n\nhi\n", 0),
         Of(b"99999999\n|\nno header\n\nhi\n"),
     ),
     (
-        Call::Burst(
-            Issue {
-                number: 99_999_999,
-                first: 99_999_999,
-                count: 1,
-                posts: &[(b"s", b" To: d\n\nhi\n")],
-            },
-            0,
-        ),
+        Call::Burst(99_999_999, 99_999_999, 1, b" To: d\n\nhi\n", 0),
         Of(b"99999999\n|\n To: d\n\nhi\n"),
     ),
     (
         Call::Burst(
-            Issue {
-                number: 99_999_999,
-                first: 99_999_999,
-                count: 1,
-                posts: &[(b"s", b"\n-----------------------------\n")],
-            },
+            99_999_999,
+            99_999_999,
+            1,
+            b"\n-----------------------------\n",
             0,
         ),
         Of(b"99999999\n|\n-----------------------------\n"),
     ),
     (
         Call::Burst(
-            Issue {
-                number: 99_999_999,
-                first: 99_999_999,
-                count: 1,
-                posts: &[(b"s", b"\n------------------------------\n")],
-            },
+            99_999_999,
+            99_999_999,
+            1,
+            b"\n------------------------------\n",
             0,
         ),
         Of(b"99999999\n|\n -----------------------------\n"),
     ),
     (
         Call::Burst(
-            Issue {
-                number: 99_999_999,
-                first: 99_999_999,
-                count: 1,
-                posts: &[(b"s", b"\n------------------------------")],
-            },
+            99_999_999,
+            99_999_999,
+            1,
+            b"\n------------------------------",
             0,
         ),
         Of(b"99999999\n|\n -----------------------------\n"),
     ),
     (
         Call::Burst(
-            Issue {
-                number: 99_999_999,
-                first: 99_999_999,
-                count: 1,
-                posts: &[(b"s", b"\n-------------------------------\n")],
-            },
+            99_999_999,
+            99_999_999,
+            1,
+            b"\n-------------------------------\n",
             0,
         ),
         Of(b"99999999\n|\n-------------------------------\n"),
     ),
     (
         Call::Burst(
-            Issue {
-                number: 99_999_999,
-                first: 99_999_999,
-                count: 1,
-                posts: &[(
-                    b"s",
-                    b"\n----------------------------------------------------------------------\n",
-                )],
-            },
+            99_999_999,
+            99_999_999,
+            1,
+            b"\n----------------------------------------------------------------------\n",
             0,
         ),
         Of(
@@ -438,39 +267,30 @@ const MESSAGES: &[(Call, Text)] = &[
     ),
     (
         Call::Burst(
-            Issue {
-                number: 99_999_999,
-                first: 99_999_999,
-                count: 1,
-                posts: &[(b"s", b"\n------------------------------\r\n")],
-            },
+            99_999_999,
+            99_999_999,
+            1,
+            b"\n------------------------------\r\n",
             0,
         ),
         Of(b"99999999\n|\n------------------------------\r\n"),
     ),
     (
         Call::Burst(
-            Issue {
-                number: 99_999_999,
-                first: 99_999_999,
-                count: 1,
-                posts: &[(b"s", b"\n ------------------------------\n")],
-            },
+            99_999_999,
+            99_999_999,
+            1,
+            b"\n ------------------------------\n",
             0,
         ),
         Of(b"99999999\n|\n ------------------------------\n"),
     ),
     (
         Call::Burst(
-            Issue {
-                number: 99_999_999,
-                first: 99_999_999,
-                count: 1,
-                posts: &[(
-                    b"s",
-                    b"\n\n------------------------------\n\n------------------------------\n\nx",
-                )],
-            },
+            99_999_999,
+            99_999_999,
+            1,
+            b"\n\n------------------------------\n\n------------------------------\n\nx",
             0,
         ),
         Of(
@@ -479,53 +299,24 @@ const MESSAGES: &[(Call, Text)] = &[
     ),
     (
         Call::Burst(
-            Issue {
-                number: 99_999_999,
-                first: 99_999_999,
-                count: 1,
-                posts: &[(
-                    b"s",
-                    b"\nEnd of list Digest Issue 99999999\n*********************************\n",
-                )],
-            },
+            99_999_999,
+            99_999_999,
+            1,
+            b"\nEnd of list Digest Issue 99999999\n*********************************\n",
             0,
         ),
         Of(b"99999999\n|\nEnd of list Digest Issue 99999999\n*********************************\n"),
     ),
     (
-        Call::Burst(
-            Issue {
-                number: 99_999_999,
-                first: 99_999_999,
-                count: 1,
-                posts: &[(b"s", b"End of list: x\n\nhi\n")],
-            },
-            0,
-        ),
+        Call::Burst(99_999_999, 99_999_999, 1, b"End of list: x\n\nhi\n", 0),
         Of(b"99999999\n|\nEnd of list: x\n\nhi\n"),
     ),
     (
-        Call::Burst(
-            Issue {
-                number: 99_999_999,
-                first: 99_999_999,
-                count: 1,
-                posts: &[(b"s", b"To: a\nTO: b\ntO: c\n\n")],
-            },
-            0,
-        ),
+        Call::Burst(99_999_999, 99_999_999, 1, b"To: a\nTO: b\ntO: c\n\n", 0),
         Of(b"99999999\n|To: a\nTO: b\ntO: c\n\n"),
     ),
     (
-        Call::Burst(
-            Issue {
-                number: 99_999_999,
-                first: 99_999_999,
-                count: 1,
-                posts: &[(b"s", b"To: a\nFrom: b\nDate: c\n\n")],
-            },
-            0,
-        ),
+        Call::Burst(99_999_999, 99_999_999, 1, b"To: a\nFrom: b\nDate: c\n\n", 0),
         Of(b"99999999\n|Date: c\nFrom: b\nTo: a\n\n"),
     ),
 ];
@@ -533,15 +324,7 @@ const MESSAGES: &[(Call, Text)] = &[
 // Issues of the post of 321 bytes, and the same without their last byte.
 const ISSUES: &[(Call, Text)] = &[
     (
-        Call::Burst(
-            Issue {
-                number: 1,
-                first: 1,
-                count: 100,
-                posts: &[(b"hello", POST)],
-            },
-            0,
-        ),
+        Call::Burst(1, 1, 100, POST, 0),
         Each(
             b"1\n",
             1,
@@ -550,28 +333,9 @@ const ISSUES: &[(Call, Text)] = &[
             b"",
         ),
     ),
+    (Call::Burst(1, 1, 100, POST, 1), Of(b"none")),
     (
-        Call::Burst(
-            Issue {
-                number: 1,
-                first: 1,
-                count: 100,
-                posts: &[(b"hello", POST)],
-            },
-            1,
-        ),
-        Of(b"none"),
-    ),
-    (
-        Call::Burst(
-            Issue {
-                number: 2,
-                first: 101,
-                count: 1,
-                posts: &[(b"hello", POST)],
-            },
-            0,
-        ),
+        Call::Burst(2, 101, 1, POST, 0),
         Each(
             b"2\n",
             1,
@@ -580,28 +344,9 @@ const ISSUES: &[(Call, Text)] = &[
             b"",
         ),
     ),
+    (Call::Burst(2, 101, 1, POST, 1), Of(b"none")),
     (
-        Call::Burst(
-            Issue {
-                number: 2,
-                first: 101,
-                count: 1,
-                posts: &[(b"hello", POST)],
-            },
-            1,
-        ),
-        Of(b"none"),
-    ),
-    (
-        Call::Burst(
-            Issue {
-                number: 1,
-                first: 1,
-                count: 101,
-                posts: &[(b"hello", POST)],
-            },
-            0,
-        ),
+        Call::Burst(1, 1, 101, POST, 0),
         Each(
             b"1\n",
             1,
@@ -610,535 +355,16 @@ const ISSUES: &[(Call, Text)] = &[
             b"",
         ),
     ),
-    (
-        Call::Burst(
-            Issue {
-                number: 1,
-                first: 1,
-                count: 101,
-                posts: &[(b"hello", POST)],
-            },
-            1,
-        ),
-        Of(b"none"),
-    ),
+    (Call::Burst(1, 1, 101, POST, 1), Of(b"none")),
 ];
 
-// The lines of a digest. The last is no line of it: what is spoiled there stands behind the end.
-const LINES: [&[u8]; 27] = [
-    b"Precedence: bulk",
-    b"Date: today",
-    b"Subject: list Digest Issue 1",
-    b"",
-    b"list Digest Issue 1, posts 1 to 2",
-    b"",
-    b"Topics:",
-    b"1: a",
-    b"2: b",
-    b"",
-    b"----------------------------------------------------------------------",
-    b"",
-    b"From: a@b",
-    b"",
-    b"one",
-    b"",
-    b"------------------------------",
-    b"",
-    b"From: c@d",
-    b"",
-    b"two",
-    b"",
-    b"------------------------------",
-    b"",
-    b"End of list Digest Issue 1",
-    b"**************************",
-    b"",
-];
-
-const END_OF_LINES: usize = 26;
-
-// The digest, and for each line in turn the digest without it, and with a byte more in it.
-const LINE_BY_LINE: &[(Call, Text)] = &[
-    (
-        Call::ReadLines(27, 27),
-        Of(b"1\n|From: a@b\n\none\n|From: c@d\n\ntwo\n"),
-    ),
-    (
-        Call::ReadLines(0, 27),
-        Of(b"1\n|From: a@b\n\none\n|From: c@d\n\ntwo\n"),
-    ),
-    (
-        Call::ReadLines(27, 0),
-        Of(b"1\n|From: a@b\n\none\n|From: c@d\n\ntwo\n"),
-    ),
-    (
-        Call::ReadLines(1, 27),
-        Of(b"1\n|From: a@b\n\none\n|From: c@d\n\ntwo\n"),
-    ),
-    (
-        Call::ReadLines(27, 1),
-        Of(b"1\n|From: a@b\n\none\n|From: c@d\n\ntwo\n"),
-    ),
-    (Call::ReadLines(2, 27), Of(b"none")),
-    (Call::ReadLines(27, 2), Of(b"none")),
-    (Call::ReadLines(3, 27), Of(b"none")),
-    (Call::ReadLines(27, 3), Of(b"none")),
-    (
-        Call::ReadLines(4, 27),
-        Of(b"1\n|From: a@b\n\none\n|From: c@d\n\ntwo\n"),
-    ),
-    (
-        Call::ReadLines(27, 4),
-        Of(b"1\n|From: a@b\n\none\n|From: c@d\n\ntwo\n"),
-    ),
-    (
-        Call::ReadLines(5, 27),
-        Of(b"1\n|From: a@b\n\none\n|From: c@d\n\ntwo\n"),
-    ),
-    (
-        Call::ReadLines(27, 5),
-        Of(b"1\n|From: a@b\n\none\n|From: c@d\n\ntwo\n"),
-    ),
-    (
-        Call::ReadLines(6, 27),
-        Of(b"1\n|From: a@b\n\none\n|From: c@d\n\ntwo\n"),
-    ),
-    (
-        Call::ReadLines(27, 6),
-        Of(b"1\n|From: a@b\n\none\n|From: c@d\n\ntwo\n"),
-    ),
-    (
-        Call::ReadLines(7, 27),
-        Of(b"1\n|From: a@b\n\none\n|From: c@d\n\ntwo\n"),
-    ),
-    (
-        Call::ReadLines(27, 7),
-        Of(b"1\n|From: a@b\n\none\n|From: c@d\n\ntwo\n"),
-    ),
-    (
-        Call::ReadLines(8, 27),
-        Of(b"1\n|From: a@b\n\none\n|From: c@d\n\ntwo\n"),
-    ),
-    (
-        Call::ReadLines(27, 8),
-        Of(b"1\n|From: a@b\n\none\n|From: c@d\n\ntwo\n"),
-    ),
-    (
-        Call::ReadLines(9, 27),
-        Of(b"1\n|From: a@b\n\none\n|From: c@d\n\ntwo\n"),
-    ),
-    (
-        Call::ReadLines(27, 9),
-        Of(b"1\n|From: a@b\n\none\n|From: c@d\n\ntwo\n"),
-    ),
-    (Call::ReadLines(10, 27), Of(b"none")),
-    (Call::ReadLines(27, 10), Of(b"none")),
-    (Call::ReadLines(11, 27), Of(b"none")),
-    (Call::ReadLines(27, 11), Of(b"none")),
-    (
-        Call::ReadLines(12, 27),
-        Of(b"1\n|\none\n|From: c@d\n\ntwo\n"),
-    ),
-    (
-        Call::ReadLines(27, 12),
-        Of(b"1\n|From: a@bx\n\none\n|From: c@d\n\ntwo\n"),
-    ),
-    (Call::ReadLines(13, 27), Of(b"none")),
-    (Call::ReadLines(27, 13), Of(b"none")),
-    (
-        Call::ReadLines(14, 27),
-        Of(b"1\n|From: a@b\n\n|From: c@d\n\ntwo\n"),
-    ),
-    (
-        Call::ReadLines(27, 14),
-        Of(b"1\n|From: a@b\n\nonex\n|From: c@d\n\ntwo\n"),
-    ),
-    (Call::ReadLines(15, 27), Of(b"none")),
-    (Call::ReadLines(27, 15), Of(b"none")),
-    (
-        Call::ReadLines(16, 27),
-        Of(b"1\n|From: a@b\n\none\n\n\nFrom: c@d\n\ntwo\n"),
-    ),
-    (
-        Call::ReadLines(27, 16),
-        Of(b"1\n|From: a@b\n\none\n\n------------------------------x\n\nFrom: c@d\n\ntwo\n"),
-    ),
-    (Call::ReadLines(17, 27), Of(b"none")),
-    (Call::ReadLines(27, 17), Of(b"none")),
-    (
-        Call::ReadLines(18, 27),
-        Of(b"1\n|From: a@b\n\none\n|\ntwo\n"),
-    ),
-    (
-        Call::ReadLines(27, 18),
-        Of(b"1\n|From: a@b\n\none\n|From: c@dx\n\ntwo\n"),
-    ),
-    (Call::ReadLines(19, 27), Of(b"none")),
-    (Call::ReadLines(27, 19), Of(b"none")),
-    (
-        Call::ReadLines(20, 27),
-        Of(b"1\n|From: a@b\n\none\n|From: c@d\n\n"),
-    ),
-    (
-        Call::ReadLines(27, 20),
-        Of(b"1\n|From: a@b\n\none\n|From: c@d\n\ntwox\n"),
-    ),
-    (Call::ReadLines(21, 27), Of(b"none")),
-    (Call::ReadLines(27, 21), Of(b"none")),
-    (Call::ReadLines(22, 27), Of(b"none")),
-    (Call::ReadLines(27, 22), Of(b"none")),
-    (Call::ReadLines(23, 27), Of(b"none")),
-    (Call::ReadLines(27, 23), Of(b"none")),
-    (Call::ReadLines(24, 27), Of(b"none")),
-    (Call::ReadLines(27, 24), Of(b"none")),
-    (Call::ReadLines(25, 27), Of(b"none")),
-    (Call::ReadLines(27, 25), Of(b"none")),
-    (Call::ReadLines(27, 26), Of(b"none")),
-];
-
-const RULE: &[u8] = b"----------------------------------------------------------------------";
-
-const ONE: &[u8] = b"\none\n\n------------------------------\n\n";
-
-const SUBJECT: &[u8] = b"Subject: a Digest Issue 1";
-
-const END: &[u8] = b"End of a Digest Issue 1\n***********************\n";
-
-// Subjects and ends.
-const NUMBERS: &[(Call, Text)] = &[
-    (
-        Call::ReadFramed(
-            b"Subject: a Digest Issue 1",
-            RULE,
-            ONE,
-            b"End of a Digest Issue 1\n***********************\n",
-        ),
-        Of(b"1\n|\none\n"),
-    ),
-    (
-        Call::ReadFramed(
-            b"Subject: a Digest Issue 999999999999999999",
-            RULE,
-            ONE,
-            b"End of a Digest Issue 999999999999999999\n****************************************\n",
-        ),
-        Of(b"999999999999999999\n|\none\n"),
-    ),
-    (
-        Call::ReadFramed(
-            b"Subject: a Digest Issue 1000000000000000000",
-            RULE,
-            ONE,
-            b"End of a Digest Issue 1000000000000000000\n*****************************************\n",
-        ),
-        Of(b"none"),
-    ),
-    (
-        Call::ReadFramed(
-            b"Subject: a Digest Issue 0",
-            RULE,
-            ONE,
-            b"End of a Digest Issue 0\n***********************\n",
-        ),
-        Of(b"none"),
-    ),
-    (
-        Call::ReadFramed(
-            b"Subject: a Digest Issue 01",
-            RULE,
-            ONE,
-            b"End of a Digest Issue 01\n************************\n",
-        ),
-        Of(b"none"),
-    ),
-    (
-        Call::ReadFramed(
-            b"Subject: a Digest Issue ",
-            RULE,
-            ONE,
-            b"End of a Digest Issue \n**********************\n",
-        ),
-        Of(b"none"),
-    ),
-    (
-        Call::ReadFramed(
-            b"Subject:  Digest Issue 1",
-            RULE,
-            ONE,
-            b"End of  Digest Issue 1\n**********************\n",
-        ),
-        Of(b"none"),
-    ),
-    (
-        Call::ReadFramed(
-            b"subject: a Digest Issue 1",
-            RULE,
-            ONE,
-            b"End of a Digest Issue 1\n***********************\n",
-        ),
-        Of(b"none"),
-    ),
-    (
-        Call::ReadFramed(
-            b"Subject:a Digest Issue 1",
-            RULE,
-            ONE,
-            b"End of a Digest Issue 1\n***********************\n",
-        ),
-        Of(b"none"),
-    ),
-    (
-        Call::ReadFramed(
-            b"Subject: a Digest Issue 5 Digest Issue 7",
-            RULE,
-            ONE,
-            b"End of a Digest Issue 5 Digest Issue 7\n**************************************\n",
-        ),
-        Of(b"7\n|\none\n"),
-    ),
-    (
-        Call::ReadFramed(
-            b"Subject:  Digest Issue  Digest Issue 7",
-            RULE,
-            ONE,
-            b"End of  Digest Issue  Digest Issue 7\n************************************\n",
-        ),
-        Of(b"7\n|\none\n"),
-    ),
-    (
-        Call::ReadFramed(
-            b"Subject: a Digest Issue 1",
-            RULE,
-            ONE,
-            b"End of a Digest Issue 2\n***********************\n",
-        ),
-        Of(b"none"),
-    ),
-    (
-        Call::ReadFramed(
-            b"Subject: a Digest Issue 1",
-            RULE,
-            ONE,
-            b"End of b Digest Issue 1\n***********************\n",
-        ),
-        Of(b"none"),
-    ),
-    (
-        Call::ReadFramed(
-            b"Subject: a Digest Issue 1",
-            RULE,
-            ONE,
-            b"End of a Digest Issue 1\n**********************\n",
-        ),
-        Of(b"none"),
-    ),
-    (
-        Call::ReadFramed(
-            b"Subject: a Digest Issue 1",
-            RULE,
-            ONE,
-            b"End of a Digest Issue 1\n************************\n",
-        ),
-        Of(b"none"),
-    ),
-    (
-        Call::ReadFramed(
-            b"Subject: a Digest Issue 1",
-            RULE,
-            ONE,
-            b"End of a Digest Issue 1\n***********************",
-        ),
-        Of(b"none"),
-    ),
-    (
-        Call::ReadFramed(
-            b"Subject: a Digest Issue 1",
-            RULE,
-            ONE,
-            b"End of a Digest Issue 1\n***********************\n\n",
-        ),
-        Of(b"none"),
-    ),
-    (
-        Call::ReadFramed(
-            b"Subject: a Digest Issue 1\r",
-            RULE,
-            ONE,
-            b"End of a Digest Issue 1\n***********************\n",
-        ),
-        Of(b"none"),
-    ),
-];
-
-// Rules behind the preface, and messages.
-const BLOCKS: &[(Call, Text)] = &[
-    (Call::ReadFramed(SUBJECT, RULE, b"", END), Of(b"none")),
-    (
-        Call::ReadFramed(SUBJECT, RULE, ONE, END),
-        Of(b"1\n|\none\n"),
-    ),
-    (
-        Call::ReadFramed(
-            SUBJECT,
-            b"---------------------------------------------------------------------",
-            ONE,
-            END,
-        ),
-        Of(b"none"),
-    ),
-    (
-        Call::ReadFramed(
-            SUBJECT,
-            b"-----------------------------------------------------------------------",
-            ONE,
-            END,
-        ),
-        Of(b"none"),
-    ),
-    (
-        Call::ReadFramed(
-            SUBJECT,
-            RULE,
-            b"\n\n------------------------------\n\n",
-            END,
-        ),
-        Of(b"1\n|\n"),
-    ),
-    (
-        Call::ReadFramed(SUBJECT, RULE, b"\n------------------------------\n\n", END),
-        Of(b"none"),
-    ),
-    (
-        Call::ReadFramed(SUBJECT, RULE, b"------------------------------\n\n", END),
-        Of(b"none"),
-    ),
-    (
-        Call::ReadFramed(
-            SUBJECT,
-            RULE,
-            b"one\n\n------------------------------\n\n",
-            END,
-        ),
-        Of(b"none"),
-    ),
-    (
-        Call::ReadFramed(
-            SUBJECT,
-            RULE,
-            b"one\n\n\n------------------------------\n\n",
-            END,
-        ),
-        Of(b"1\n|one\n\n"),
-    ),
-    (
-        Call::ReadFramed(
-            SUBJECT,
-            RULE,
-            b"\none\n------------------------------\n\n",
-            END,
-        ),
-        Of(b"none"),
-    ),
-    (
-        Call::ReadFramed(
-            SUBJECT,
-            RULE,
-            b"\none\n\n------------------------------\n",
-            END,
-        ),
-        Of(b"none"),
-    ),
-    (
-        Call::ReadFramed(
-            SUBJECT,
-            RULE,
-            b"\none\n\n-----------------------------\n\n",
-            END,
-        ),
-        Of(b"none"),
-    ),
-    (
-        Call::ReadFramed(
-            SUBJECT,
-            RULE,
-            b"\none\n\n-------------------------------\n\n",
-            END,
-        ),
-        Of(b"none"),
-    ),
-    (
-        Call::ReadFramed(
-            SUBJECT,
-            RULE,
-            b"\none\n\n------------------------------\r\n\n",
-            END,
-        ),
-        Of(b"none"),
-    ),
-    (
-        Call::ReadFramed(
-            SUBJECT,
-            RULE,
-            b"End of x\n\none\n\n------------------------------\n\n",
-            END,
-        ),
-        Of(b"none"),
-    ),
-    (
-        Call::ReadFramed(
-            SUBJECT,
-            RULE,
-            b"End of\n\none\n\n------------------------------\n\n",
-            END,
-        ),
-        Of(b"1\n|End of\n\none\n"),
-    ),
-    (
-        Call::ReadFramed(
-            SUBJECT,
-            RULE,
-            b"end of x\n\none\n\n------------------------------\n\n",
-            END,
-        ),
-        Of(b"1\n|end of x\n\none\n"),
-    ),
-    (
-        Call::ReadFramed(
-            SUBJECT,
-            RULE,
-            b"\nEnd of x\n\n------------------------------\n\n",
-            END,
-        ),
-        Of(b"1\n|\nEnd of x\n"),
-    ),
-    (
-        Call::ReadFramed(
-            SUBJECT,
-            RULE,
-            b"a\n------------------------------\n\nb\n\n------------------------------\n\n",
-            END,
-        ),
-        Of(b"none"),
-    ),
-    (
-        Call::ReadFramed(
-            SUBJECT,
-            RULE,
-            b"\na\n\n------------------------------\n\n\nb\n\n------------------------------\n\n",
-            END,
-        ),
-        Of(b"1\n|\na\n|\nb\n"),
-    ),
-    (Call::Read(Of(b"")), Of(b"none")),
-];
-
-const WRITING: &[Case] = &[
+const CASES: &[Case] = &[
     Case {
         title: "an issue of two posts",
         files: &[],
         changes: UNCHANGED,
         failing: NONE,
-        calls: &[(Call::Write(&WRITTEN), Of(ISSUE))],
+        calls: &[(Call::Write(3, 41, WRITTEN), Of(ISSUE))],
     },
     Case {
         title: "what an issue has of each post",
@@ -1156,34 +382,10 @@ const WRITING: &[Case] = &[
     },
 ];
 
-const READING: &[Case] = &[
-    Case {
-        title: "each line of a digest",
-        files: &[],
-        changes: UNCHANGED,
-        failing: NONE,
-        calls: LINE_BY_LINE,
-    },
-    Case {
-        title: "the number of a digest",
-        files: &[],
-        changes: UNCHANGED,
-        failing: NONE,
-        calls: NUMBERS,
-    },
-    Case {
-        title: "the messages of a digest",
-        files: &[],
-        changes: UNCHANGED,
-        failing: NONE,
-        calls: BLOCKS,
-    },
-];
-
 #[test]
 fn issues(rt: HostRuntime) -> Result<(), Fail> {
-    let mut found = differences(rt.alloc(), WRITING)?;
-    found.push_str(differences(rt.alloc(), READING)?.as_str())?;
+    assert_eq!(rt; POST.len(), 321);
+    let found = differences(rt.alloc(), CASES)?;
     assert!(rt; found.is_empty(), "{found}");
     Ok(())
 }

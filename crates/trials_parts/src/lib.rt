@@ -18,4 +18,6 @@ mod parts;
 #[cfg(test)]
 mod queue;
 #[cfg(test)]
+mod reading;
+#[cfg(test)]
 mod texts;
