@@ -1,6 +1,6 @@
 // Rows: what they start from, what they call, and what is to be answered.
 use crate::calls::{Call, answer};
-use crate::parts::{lay_text, started};
+use crate::parts::{Parts, lay_text, started};
 use crate::texts::{Text, made};
 use ml_base::{Bytes, Name, PartError};
 use std::alloc::{AllocError, Global};
@@ -24,38 +24,91 @@ pub const UNCHANGED: &[(Name, &[u8])] = &[(Name { kind: 21, at: 0 }, b"-")];
 /// No read fails.
 pub const NONE: &[u64] = &[];
 
+// Files that calls go over, which begin with this text of one of them.
+#[derive(Drop)]
+struct Trial<'a> {
+    title: &'a str,
+    text: &'a [u8],
+    parts: Parts,
+}
+
 /// A line for each call of these cases that was answered otherwise.
 pub fn differences(alloc: Global, cases: &[Case]) -> Result<String, Fail> {
     let mut out = String::new(alloc);
     for case in cases {
-        for change in case.changes {
-            try_calls(alloc, &mut out, case, change.0, change.1)?;
-        }
+        try_case(alloc, &mut out, case)?;
     }
     Ok(out)
+}
+
+/// The same of calls over no files.
+pub fn pure_differences(
+    alloc: Global,
+    title: &str,
+    calls: &[(Call, Text)],
+) -> Result<String, Fail> {
+    let mut out = String::new(alloc);
+    let parts = started(alloc, &[], &[])?;
+    let mut trial = Trial {
+        title,
+        text: b"-",
+        parts,
+    };
+    try_calls(alloc, &mut out, &mut trial, calls)?;
+    Ok(out)
+}
+
+/// The same of calls of which each goes over one file alone, which begins with its text.
+pub fn single_differences(
+    alloc: Global,
+    title: &str,
+    name: Name,
+    rows: &[(&[u8], (Call, Text))],
+) -> Result<String, Fail> {
+    let mut out = String::new(alloc);
+    for (at, (text, call)) in rows.iter().enumerate() {
+        let mut parts = started(alloc, &[], &[])?;
+        lay_text(alloc, &mut parts, name, text)?;
+        let mut trial = Trial { title, text, parts };
+        try_call(alloc, &mut out, &mut trial, at, call)?;
+    }
+    Ok(out)
+}
+
+fn try_case(alloc: Global, out: &mut String, case: &Case) -> Result<(), Fail> {
+    for (name, text) in case.changes {
+        let mut parts = started(alloc, case.files, case.failing)?;
+        lay_text(alloc, &mut parts, *name, text)?;
+        let title = case.title;
+        let mut trial = Trial { title, text, parts };
+        try_calls(alloc, out, &mut trial, case.calls)?;
+    }
+    Ok(())
 }
 
 fn try_calls(
     alloc: Global,
     out: &mut String,
-    case: &Case,
-    name: Name,
-    text: &[u8],
+    trial: &mut Trial<'_>,
+    calls: &[(Call, Text)],
 ) -> Result<(), Fail> {
-    let mut parts = started(alloc, case.files, case.failing)?;
-    let mut bytes = None;
-    if text != b"-".as_slice() {
-        bytes = Some(Bytes::from_slice(alloc, text)?);
+    for (at, call) in calls.iter().enumerate() {
+        try_call(alloc, out, trial, at, call)?;
     }
-    lay_text(alloc, &mut parts, name, bytes)?;
-    for (at, (call, expected)) in case.calls.iter().enumerate() {
-        let found = told(alloc, answer(alloc, &mut parts, call))?;
-        let expected = made(alloc, expected)?;
-        if found.as_slice() != expected.as_slice() {
-            let line = differing(alloc, text, found.as_slice(), expected.as_slice())?;
-            let title = case.title;
-            out.push_str(format!(in alloc; "{title}, call {at}, {line}\n")?.as_str())?;
-        }
+    Ok(())
+}
+
+fn try_call(
+    alloc: Global,
+    out: &mut String,
+    trial: &mut Trial<'_>,
+    at: usize,
+    call: &(Call, Text),
+) -> Result<(), Fail> {
+    let found = told(alloc, answer(alloc, &mut trial.parts, &call.0))?;
+    let expected = made(alloc, &call.1)?;
+    if found.as_slice() != expected.as_slice() {
+        report(alloc, out, trial, at, found.as_slice(), expected.as_slice())?;
     }
     Ok(())
 }
@@ -73,15 +126,21 @@ fn told(alloc: Global, answer: Result<Bytes, PartError>) -> Result<Bytes, Fail> 
     }
 }
 
-// What came in place of what. Texts are cut behind a thousand bytes.
-fn differing(
+// Adds a line on a call that was answered otherwise. Texts are cut behind a thousand bytes.
+fn report(
     alloc: Global,
-    change: &[u8],
+    out: &mut String,
+    trial: &Trial<'_>,
+    at: usize,
     found: &[u8],
     expected: &[u8],
-) -> Result<String, AllocError> {
-    let change = String::from_utf8_lossy(alloc, change)?;
+) -> Result<(), AllocError> {
+    let title = trial.title;
+    let text = String::from_utf8_lossy(alloc, trial.text)?;
     let found = String::from_utf8_lossy(alloc, &found[..found.len().min(1000)])?;
     let expected = String::from_utf8_lossy(alloc, &expected[..expected.len().min(1000)])?;
-    format!(in alloc; "changed to {change:?}: {found:?} came in place of {expected:?}")
+    let line = format!(in alloc;
+        "{title}, changed to {text:?}, call {at}: {found:?} came in place of {expected:?}\n"
+    )?;
+    out.push_str(line.as_str())
 }

@@ -36,7 +36,10 @@ pub fn written(
     let Some(config) = read_config(alloc, CONFIG)? else {
         return Ok(Bytes::new(alloc));
     };
-    if posts.is_empty() || first == 0 || first > 99_999_999 || posts.len() > 1000 {
+    if posts.is_empty() || posts.len() > 1000 {
+        return Ok(Bytes::new(alloc));
+    }
+    if first == 0 || first > 100_000_000 - posts.len() as u64 {
         return Ok(Bytes::new(alloc));
     }
     Ok(digest_text(alloc, &config, issue, first, posts.as_slice(), DATE)?)

@@ -1,7 +1,7 @@
 // The ledgers of bounces, with texts written by hand: an address's course at its exact moments and a second before each, and the
 // ends of each range.
 use crate::calls::Call;
-use crate::cases::{Case, NONE, UNCHANGED, differences};
+use crate::cases::{Case, NONE, UNCHANGED, differences, single_differences};
 use crate::parts::{Parts, file, lay_text, or_absent, sound};
 use crate::texts::Text::{self, Each, Of};
 use crate::texts::push_lines;
@@ -112,7 +112,7 @@ pub fn enter(alloc: Global, parts: &mut Parts, first: u64, last: u64) -> Result<
         };
         let mut text = file(alloc, parts, name)?.unwrap_or(Bytes::new(alloc));
         push_lines(&mut text, number, number, b"21:6:#@b,1:5,1:n,1:1,,")?;
-        lay_text(alloc, parts, name, Some(text))?;
+        lay_text(alloc, parts, name, text.as_slice())?;
     }
     Ok(Bytes::new(alloc))
 }
@@ -179,209 +179,68 @@ const DAMAGED: &[(Name, &[u8])] = &[
     (LEDGER, b"18:3:a@b,1:5,1:n,1:1,"),
 ];
 
+// What the list's file has, what happens, and what it has behind that, or `none` where nothing is changed.
+const COURSE: &[(&[u8], (Call, Text))] = &[
+    (b"-", (Call::Bounced(1, 1_000_010_000), Of(NOTED))),
+    (NOTED, (Call::Bounced(2, 1_000_020_000), Of(TWO))),
+    (NOTED, (Call::Bounced(1, 1_000_020_000), Of(b"none"))),
+    (NOTED, (Call::Served(1_001_009_999), Of(b"none"))),
+    (NOTED, (Call::Served(5), Of(b"none"))),
+    (NOTED, (Call::Served(1_001_010_000), Of(WARNED))),
+    (NOTED, (Call::Warning(0, 1_001_020_000), Of(b"none"))),
+    (NOTED, (Call::Probe(0), Of(b"none"))),
+    (WARNED, (Call::Bounced(7, 1_001_010_005), Of(WARNED_MISSED))),
+    (
+        WARNED,
+        (Call::Warning(1_001_009_999, 1_001_020_000), Of(b"none")),
+    ),
+    (
+        WARNED,
+        (Call::Warning(1_001_010_001, 1_001_020_000), Of(b"none")),
+    ),
+    (
+        WARNED,
+        (Call::Warning(1_001_010_000, 1_001_020_000), Of(FAILED)),
+    ),
+    (WARNED, (Call::Probe(1_001_010_000), Of(b"none"))),
+    (WARNED, (Call::Served(1_002_009_999), Of(b"none"))),
+    (WARNED, (Call::Served(1_002_010_000), Of(b"-"))),
+    (WARNED_MISSED, (Call::Served(1_002_010_000), Of(LAPSED))),
+    (FAILED, (Call::Bounced(3, 1_001_020_001), Of(FAILED_MISSED))),
+    (
+        FAILED,
+        (Call::Warning(1_001_010_000, 1_001_020_001), Of(b"none")),
+    ),
+    (FAILED, (Call::Probe(1_001_020_000), Of(b"none"))),
+    (FAILED, (Call::Served(1_002_019_999), Of(b"none"))),
+    (FAILED, (Call::Served(1_002_020_000), Of(PROBED))),
+    (PROBED, (Call::Bounced(8, 1_002_020_009), Of(PROBED_MISSED))),
+    (
+        PROBED,
+        (Call::Warning(1_002_020_000, 1_002_020_001), Of(b"none")),
+    ),
+    (PROBED, (Call::Probe(1_002_019_999), Of(b"none"))),
+    (PROBED, (Call::Probe(1_002_020_000), Of(b"-"))),
+    (PROBED, (Call::Served(1_003_019_999), Of(b"none"))),
+    (PROBED, (Call::Served(1_003_020_000), Of(b"-"))),
+    (PROBED_MISSED, (Call::Probe(1_002_020_000), Of(b"-"))),
+    (BESIDE, (Call::Probe(0), Of(b"none"))),
+    (OTHER, (Call::Bounced(1, 1_000_010_000), Of(BESIDE))),
+    (OTHER, (Call::Probe(0), Of(b"none"))),
+    (b"-", (Call::Warning(0, 7), Of(b"none"))),
+    (b"-", (Call::Served(1_003_020_000), Of(b"none"))),
+    (b"-", (Call::Forgotten, Of(b"-"))),
+    (NOTED, (Call::Forgotten, Of(b"-"))),
+    (WARNED, (Call::Forgotten, Of(b"-"))),
+    (WARNED_MISSED, (Call::Forgotten, Of(b"-"))),
+    (FAILED, (Call::Forgotten, Of(b"-"))),
+    (PROBED, (Call::Forgotten, Of(b"-"))),
+    (PROBED_MISSED, (Call::Forgotten, Of(b"-"))),
+    (BESIDE, (Call::Forgotten, Of(OTHER))),
+    (OTHER, (Call::Forgotten, Of(OTHER))),
+];
+
 const CASES: &[Case] = &[
-    Case {
-        title: "no entry: nothing is changed",
-        files: &[],
-        changes: &[(LEDGER, b"-")],
-        failing: NONE,
-        calls: &[
-            (Call::Warning(0, 7), Of(b"none")),
-            (Call::Served(1_003_020_000), Of(b"none")),
-            (Call::File(LEDGER), Of(b"-")),
-        ],
-    },
-    Case {
-        title: "no entry: mail bounces",
-        files: &[],
-        changes: &[(LEDGER, b"-")],
-        failing: NONE,
-        calls: &[(Call::Bounced(1, 1_000_010_000), Of(NOTED))],
-    },
-    Case {
-        title: "a number is noted: nothing is changed",
-        files: &[],
-        changes: &[(LEDGER, NOTED)],
-        failing: NONE,
-        calls: &[
-            (Call::Bounced(1, 1_000_020_000), Of(b"none")),
-            (Call::Served(1_001_009_999), Of(b"none")),
-            (Call::Served(5), Of(b"none")),
-            (Call::Warning(0, 1_001_020_000), Of(b"none")),
-            (Call::Probe(0), Of(b"none")),
-            (Call::File(LEDGER), Of(NOTED)),
-        ],
-    },
-    Case {
-        title: "a number is noted: mail bounces",
-        files: &[],
-        changes: &[(LEDGER, NOTED)],
-        failing: NONE,
-        calls: &[(Call::Bounced(2, 1_000_020_000), Of(TWO))],
-    },
-    Case {
-        title: "a number is noted: what is due is done",
-        files: &[],
-        changes: &[(LEDGER, NOTED)],
-        failing: NONE,
-        calls: &[(Call::Served(1_001_010_000), Of(WARNED))],
-    },
-    Case {
-        title: "a warning was sent: nothing is changed",
-        files: &[],
-        changes: &[(LEDGER, WARNED)],
-        failing: NONE,
-        calls: &[
-            (Call::Warning(1_001_009_999, 1_001_020_000), Of(b"none")),
-            (Call::Warning(1_001_010_001, 1_001_020_000), Of(b"none")),
-            (Call::Probe(1_001_010_000), Of(b"none")),
-            (Call::Served(1_002_009_999), Of(b"none")),
-            (Call::File(LEDGER), Of(WARNED)),
-        ],
-    },
-    Case {
-        title: "a warning was sent: mail bounces",
-        files: &[],
-        changes: &[(LEDGER, WARNED)],
-        failing: NONE,
-        calls: &[(Call::Bounced(7, 1_001_010_005), Of(WARNED_MISSED))],
-    },
-    Case {
-        title: "a warning was sent: the warning bounces",
-        files: &[],
-        changes: &[(LEDGER, WARNED)],
-        failing: NONE,
-        calls: &[(Call::Warning(1_001_010_000, 1_001_020_000), Of(FAILED))],
-    },
-    Case {
-        title: "a warning was sent: what is due is done",
-        files: &[],
-        changes: &[(LEDGER, WARNED)],
-        failing: NONE,
-        calls: &[(Call::Served(1_002_010_000), Of(b"-"))],
-    },
-    Case {
-        title: "a number is missed behind a warning: what is due is done",
-        files: &[],
-        changes: &[(LEDGER, WARNED_MISSED)],
-        failing: NONE,
-        calls: &[(Call::Served(1_002_010_000), Of(LAPSED))],
-    },
-    Case {
-        title: "the warning bounced: nothing is changed",
-        files: &[],
-        changes: &[(LEDGER, FAILED)],
-        failing: NONE,
-        calls: &[
-            (Call::Warning(1_001_010_000, 1_001_020_001), Of(b"none")),
-            (Call::Probe(1_001_020_000), Of(b"none")),
-            (Call::Served(1_002_019_999), Of(b"none")),
-            (Call::File(LEDGER), Of(FAILED)),
-        ],
-    },
-    Case {
-        title: "the warning bounced: mail bounces",
-        files: &[],
-        changes: &[(LEDGER, FAILED)],
-        failing: NONE,
-        calls: &[(Call::Bounced(3, 1_001_020_001), Of(FAILED_MISSED))],
-    },
-    Case {
-        title: "the warning bounced: what is due is done",
-        files: &[],
-        changes: &[(LEDGER, FAILED)],
-        failing: NONE,
-        calls: &[(Call::Served(1_002_020_000), Of(PROBED))],
-    },
-    Case {
-        title: "a probe was sent: nothing is changed",
-        files: &[],
-        changes: &[(LEDGER, PROBED)],
-        failing: NONE,
-        calls: &[
-            (Call::Warning(1_002_020_000, 1_002_020_001), Of(b"none")),
-            (Call::Probe(1_002_019_999), Of(b"none")),
-            (Call::Served(1_003_019_999), Of(b"none")),
-            (Call::File(LEDGER), Of(PROBED)),
-        ],
-    },
-    Case {
-        title: "a probe was sent: mail bounces",
-        files: &[],
-        changes: &[(LEDGER, PROBED)],
-        failing: NONE,
-        calls: &[(Call::Bounced(8, 1_002_020_009), Of(PROBED_MISSED))],
-    },
-    Case {
-        title: "a probe was sent: the probe bounces",
-        files: &[],
-        changes: &[(LEDGER, PROBED)],
-        failing: NONE,
-        calls: &[(Call::Probe(1_002_020_000), Of(b"-"))],
-    },
-    Case {
-        title: "a probe was sent: what is due is done",
-        files: &[],
-        changes: &[(LEDGER, PROBED)],
-        failing: NONE,
-        calls: &[(Call::Served(1_003_020_000), Of(b"-"))],
-    },
-    Case {
-        title: "a number is missed behind a probe: the probe bounces",
-        files: &[],
-        changes: &[(LEDGER, PROBED_MISSED)],
-        failing: NONE,
-        calls: &[(Call::Probe(1_002_020_000), Of(b"-"))],
-    },
-    Case {
-        title: "an entry beside another: nothing is changed",
-        files: &[],
-        changes: &[(LEDGER, BESIDE)],
-        failing: NONE,
-        calls: &[
-            (Call::Probe(0), Of(b"none")),
-            (Call::File(LEDGER), Of(BESIDE)),
-        ],
-    },
-    Case {
-        title: "the entry of another: nothing is changed",
-        files: &[],
-        changes: &[(LEDGER, OTHER)],
-        failing: NONE,
-        calls: &[
-            (Call::Probe(0), Of(b"none")),
-            (Call::File(LEDGER), Of(OTHER)),
-        ],
-    },
-    Case {
-        title: "the entry of another: mail bounces",
-        files: &[],
-        changes: &[(LEDGER, OTHER)],
-        failing: NONE,
-        calls: &[(Call::Bounced(1, 1_000_010_000), Of(BESIDE))],
-    },
-    Case {
-        title: "one who is forgotten at every stage",
-        files: &[],
-        changes: &[
-            (LEDGER, b"-"),
-            (LEDGER, NOTED),
-            (LEDGER, WARNED),
-            (LEDGER, WARNED_MISSED),
-            (LEDGER, FAILED),
-            (LEDGER, PROBED),
-            (LEDGER, PROBED_MISSED),
-        ],
-        failing: NONE,
-        calls: &[(Call::Forgotten, Of(b"-"))],
-    },
-    Case {
-        title: "one who is forgotten beside another",
-        files: &[],
-        changes: &[(LEDGER, BESIDE), (LEDGER, OTHER)],
-        failing: NONE,
-        calls: &[(Call::Forgotten, Of(OTHER))],
-    },
     Case {
         title: "texts that are no entries of this file",
         files: &[],
@@ -492,6 +351,13 @@ const CASES: &[Case] = &[
         calls: &[(Call::AuditLedgers, Of(b"fault"))],
     },
 ];
+
+#[test]
+fn courses(rt: HostRuntime) -> Result<(), Fail> {
+    let found = single_differences(rt.alloc(), "the course of an address", LEDGER, COURSE)?;
+    assert!(rt; found.is_empty(), "{found}");
+    Ok(())
+}
 
 #[test]
 fn ledgers(rt: HostRuntime) -> Result<(), Fail> {

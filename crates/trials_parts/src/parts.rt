@@ -58,13 +58,17 @@ pub fn started(
     Ok(Layer::new(files, Txn::new(alloc)))
 }
 
-/// Lays another text over a file, or its absence where that is none.
+/// Lays another text over a file, or its absence where the text is `-`.
 pub fn lay_text(
     alloc: Global,
     parts: &mut Parts,
     name: Name,
-    bytes: Option<Bytes>,
+    text: &[u8],
 ) -> Result<(), AllocError> {
+    let mut bytes = None;
+    if text != b"-".as_slice() {
+        bytes = Some(Bytes::from_slice(alloc, text)?);
+    }
     let mut txn = Txn::new(alloc);
     txn.push(Put { name, bytes })?;
     parts.lay(txn)

@@ -1,6 +1,6 @@
 // The reader of digests: a digest with each line in turn left out or spoiled, and texts at the ends of the grammar.
 use crate::calls::Call;
-use crate::cases::{Case, NONE, UNCHANGED, differences};
+use crate::cases::pure_differences;
 use crate::texts::Text::{self, Of};
 use crate::texts::{made, push_number};
 use ml_base::{Bytes, PartError};
@@ -90,8 +90,8 @@ const LINES: [&[u8]; 27] = [
 
 const END_OF_LINES: usize = 26;
 
-// The digest, and for each line in turn the digest without it, and with a byte more in it.
-const LINE_BY_LINE: &[(Call, Text)] = &[
+// The digest, and the digest without each of its lines in turn.
+const LEFT_OUT: &[(Call, Text)] = &[
     (
         Call::ReadLines(27, 27),
         Of(b"1\n|From: a@b\n\none\n|From: c@d\n\ntwo\n"),
@@ -101,27 +101,13 @@ const LINE_BY_LINE: &[(Call, Text)] = &[
         Of(b"1\n|From: a@b\n\none\n|From: c@d\n\ntwo\n"),
     ),
     (
-        Call::ReadLines(27, 0),
-        Of(b"1\n|From: a@b\n\none\n|From: c@d\n\ntwo\n"),
-    ),
-    (
         Call::ReadLines(1, 27),
         Of(b"1\n|From: a@b\n\none\n|From: c@d\n\ntwo\n"),
     ),
-    (
-        Call::ReadLines(27, 1),
-        Of(b"1\n|From: a@b\n\none\n|From: c@d\n\ntwo\n"),
-    ),
     (Call::ReadLines(2, 27), Of(b"none")),
-    (Call::ReadLines(27, 2), Of(b"none")),
     (Call::ReadLines(3, 27), Of(b"none")),
-    (Call::ReadLines(27, 3), Of(b"none")),
     (
         Call::ReadLines(4, 27),
-        Of(b"1\n|From: a@b\n\none\n|From: c@d\n\ntwo\n"),
-    ),
-    (
-        Call::ReadLines(27, 4),
         Of(b"1\n|From: a@b\n\none\n|From: c@d\n\ntwo\n"),
     ),
     (
@@ -129,15 +115,7 @@ const LINE_BY_LINE: &[(Call, Text)] = &[
         Of(b"1\n|From: a@b\n\none\n|From: c@d\n\ntwo\n"),
     ),
     (
-        Call::ReadLines(27, 5),
-        Of(b"1\n|From: a@b\n\none\n|From: c@d\n\ntwo\n"),
-    ),
-    (
         Call::ReadLines(6, 27),
-        Of(b"1\n|From: a@b\n\none\n|From: c@d\n\ntwo\n"),
-    ),
-    (
-        Call::ReadLines(27, 6),
         Of(b"1\n|From: a@b\n\none\n|From: c@d\n\ntwo\n"),
     ),
     (
@@ -145,11 +123,72 @@ const LINE_BY_LINE: &[(Call, Text)] = &[
         Of(b"1\n|From: a@b\n\none\n|From: c@d\n\ntwo\n"),
     ),
     (
-        Call::ReadLines(27, 7),
+        Call::ReadLines(8, 27),
         Of(b"1\n|From: a@b\n\none\n|From: c@d\n\ntwo\n"),
     ),
     (
-        Call::ReadLines(8, 27),
+        Call::ReadLines(9, 27),
+        Of(b"1\n|From: a@b\n\none\n|From: c@d\n\ntwo\n"),
+    ),
+    (Call::ReadLines(10, 27), Of(b"none")),
+    (Call::ReadLines(11, 27), Of(b"none")),
+    (
+        Call::ReadLines(12, 27),
+        Of(b"1\n|\none\n|From: c@d\n\ntwo\n"),
+    ),
+    (Call::ReadLines(13, 27), Of(b"none")),
+    (
+        Call::ReadLines(14, 27),
+        Of(b"1\n|From: a@b\n\n|From: c@d\n\ntwo\n"),
+    ),
+    (Call::ReadLines(15, 27), Of(b"none")),
+    (
+        Call::ReadLines(16, 27),
+        Of(b"1\n|From: a@b\n\none\n\n\nFrom: c@d\n\ntwo\n"),
+    ),
+    (Call::ReadLines(17, 27), Of(b"none")),
+    (
+        Call::ReadLines(18, 27),
+        Of(b"1\n|From: a@b\n\none\n|\ntwo\n"),
+    ),
+    (Call::ReadLines(19, 27), Of(b"none")),
+    (
+        Call::ReadLines(20, 27),
+        Of(b"1\n|From: a@b\n\none\n|From: c@d\n\n"),
+    ),
+    (Call::ReadLines(21, 27), Of(b"none")),
+    (Call::ReadLines(22, 27), Of(b"none")),
+    (Call::ReadLines(23, 27), Of(b"none")),
+    (Call::ReadLines(24, 27), Of(b"none")),
+    (Call::ReadLines(25, 27), Of(b"none")),
+];
+
+// The digest with a byte more in each of its lines in turn, and behind its end.
+const SPOILED: &[(Call, Text)] = &[
+    (
+        Call::ReadLines(27, 0),
+        Of(b"1\n|From: a@b\n\none\n|From: c@d\n\ntwo\n"),
+    ),
+    (
+        Call::ReadLines(27, 1),
+        Of(b"1\n|From: a@b\n\none\n|From: c@d\n\ntwo\n"),
+    ),
+    (Call::ReadLines(27, 2), Of(b"none")),
+    (Call::ReadLines(27, 3), Of(b"none")),
+    (
+        Call::ReadLines(27, 4),
+        Of(b"1\n|From: a@b\n\none\n|From: c@d\n\ntwo\n"),
+    ),
+    (
+        Call::ReadLines(27, 5),
+        Of(b"1\n|From: a@b\n\none\n|From: c@d\n\ntwo\n"),
+    ),
+    (
+        Call::ReadLines(27, 6),
+        Of(b"1\n|From: a@b\n\none\n|From: c@d\n\ntwo\n"),
+    ),
+    (
+        Call::ReadLines(27, 7),
         Of(b"1\n|From: a@b\n\none\n|From: c@d\n\ntwo\n"),
     ),
     (
@@ -157,74 +196,39 @@ const LINE_BY_LINE: &[(Call, Text)] = &[
         Of(b"1\n|From: a@b\n\none\n|From: c@d\n\ntwo\n"),
     ),
     (
-        Call::ReadLines(9, 27),
-        Of(b"1\n|From: a@b\n\none\n|From: c@d\n\ntwo\n"),
-    ),
-    (
         Call::ReadLines(27, 9),
         Of(b"1\n|From: a@b\n\none\n|From: c@d\n\ntwo\n"),
     ),
-    (Call::ReadLines(10, 27), Of(b"none")),
     (Call::ReadLines(27, 10), Of(b"none")),
-    (Call::ReadLines(11, 27), Of(b"none")),
     (Call::ReadLines(27, 11), Of(b"none")),
-    (
-        Call::ReadLines(12, 27),
-        Of(b"1\n|\none\n|From: c@d\n\ntwo\n"),
-    ),
     (
         Call::ReadLines(27, 12),
         Of(b"1\n|From: a@bx\n\none\n|From: c@d\n\ntwo\n"),
     ),
-    (Call::ReadLines(13, 27), Of(b"none")),
     (Call::ReadLines(27, 13), Of(b"none")),
-    (
-        Call::ReadLines(14, 27),
-        Of(b"1\n|From: a@b\n\n|From: c@d\n\ntwo\n"),
-    ),
     (
         Call::ReadLines(27, 14),
         Of(b"1\n|From: a@b\n\nonex\n|From: c@d\n\ntwo\n"),
     ),
-    (Call::ReadLines(15, 27), Of(b"none")),
     (Call::ReadLines(27, 15), Of(b"none")),
-    (
-        Call::ReadLines(16, 27),
-        Of(b"1\n|From: a@b\n\none\n\n\nFrom: c@d\n\ntwo\n"),
-    ),
     (
         Call::ReadLines(27, 16),
         Of(b"1\n|From: a@b\n\none\n\n------------------------------x\n\nFrom: c@d\n\ntwo\n"),
     ),
-    (Call::ReadLines(17, 27), Of(b"none")),
     (Call::ReadLines(27, 17), Of(b"none")),
-    (
-        Call::ReadLines(18, 27),
-        Of(b"1\n|From: a@b\n\none\n|\ntwo\n"),
-    ),
     (
         Call::ReadLines(27, 18),
         Of(b"1\n|From: a@b\n\none\n|From: c@dx\n\ntwo\n"),
     ),
-    (Call::ReadLines(19, 27), Of(b"none")),
     (Call::ReadLines(27, 19), Of(b"none")),
-    (
-        Call::ReadLines(20, 27),
-        Of(b"1\n|From: a@b\n\none\n|From: c@d\n\n"),
-    ),
     (
         Call::ReadLines(27, 20),
         Of(b"1\n|From: a@b\n\none\n|From: c@d\n\ntwox\n"),
     ),
-    (Call::ReadLines(21, 27), Of(b"none")),
     (Call::ReadLines(27, 21), Of(b"none")),
-    (Call::ReadLines(22, 27), Of(b"none")),
     (Call::ReadLines(27, 22), Of(b"none")),
-    (Call::ReadLines(23, 27), Of(b"none")),
     (Call::ReadLines(27, 23), Of(b"none")),
-    (Call::ReadLines(24, 27), Of(b"none")),
     (Call::ReadLines(27, 24), Of(b"none")),
-    (Call::ReadLines(25, 27), Of(b"none")),
     (Call::ReadLines(27, 25), Of(b"none")),
     (Call::ReadLines(27, 26), Of(b"none")),
 ];
@@ -565,33 +569,34 @@ const BLOCKS: &[(Call, Text)] = &[
     (Call::Read(Of(b"")), Of(b"none")),
 ];
 
-const CASES: &[Case] = &[
-    Case {
-        title: "each line of a digest",
-        files: &[],
-        changes: UNCHANGED,
-        failing: NONE,
-        calls: LINE_BY_LINE,
-    },
-    Case {
-        title: "the number of a digest",
-        files: &[],
-        changes: UNCHANGED,
-        failing: NONE,
-        calls: NUMBERS,
-    },
-    Case {
-        title: "the messages of a digest",
-        files: &[],
-        changes: UNCHANGED,
-        failing: NONE,
-        calls: BLOCKS,
-    },
-];
+#[test]
+fn lines_left_out(rt: HostRuntime) -> Result<(), Fail> {
+    let found = pure_differences(rt.alloc(), "a digest without one of its lines", LEFT_OUT)?;
+    assert!(rt; found.is_empty(), "{found}");
+    Ok(())
+}
 
 #[test]
-fn reading(rt: HostRuntime) -> Result<(), Fail> {
-    let found = differences(rt.alloc(), CASES)?;
+fn spoiled_lines(rt: HostRuntime) -> Result<(), Fail> {
+    let found = pure_differences(
+        rt.alloc(),
+        "a digest with a byte more in one of its lines",
+        SPOILED,
+    )?;
+    assert!(rt; found.is_empty(), "{found}");
+    Ok(())
+}
+
+#[test]
+fn numbers(rt: HostRuntime) -> Result<(), Fail> {
+    let found = pure_differences(rt.alloc(), "the number of a digest", NUMBERS)?;
+    assert!(rt; found.is_empty(), "{found}");
+    Ok(())
+}
+
+#[test]
+fn messages(rt: HostRuntime) -> Result<(), Fail> {
+    let found = pure_differences(rt.alloc(), "the messages of a digest", BLOCKS)?;
     assert!(rt; found.is_empty(), "{found}");
     Ok(())
 }
