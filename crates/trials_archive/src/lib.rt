@@ -1,9 +1,21 @@
-//! Tests of the public calls on the archive.
+//! Tests of the public calls on messages' subjects, on the archive, on its audit and on its pages, as rows.
 #![tactic(auto)]
 
 #[cfg(test)]
-mod answers;
+mod archives;
 #[cfg(test)]
-mod appends;
+mod audits;
+#[cfg(test)]
+mod calls;
+#[cfg(test)]
+mod cases;
+#[cfg(test)]
+mod damage;
+#[cfg(test)]
+mod pages;
+#[cfg(test)]
+mod posts;
 #[cfg(test)]
 mod subjects;
+#[cfg(test)]
+mod texts;

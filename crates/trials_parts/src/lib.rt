@@ -1,9 +1,23 @@
-//! Tests of the public calls of the crates that hold held posts and the outgoing queue.
+//! Tests of the public calls on held posts, the outgoing queue, the ledgers of bounces and the digests, as rows.
 #![tactic(auto)]
 
 #[cfg(test)]
-mod common;
+mod calls;
 #[cfg(test)]
-mod hold;
+mod cases;
+#[cfg(test)]
+mod digests;
+#[cfg(test)]
+mod held;
+#[cfg(test)]
+mod issues;
+#[cfg(test)]
+mod ledgers;
+#[cfg(test)]
+mod parts;
 #[cfg(test)]
 mod queue;
+#[cfg(test)]
+mod reading;
+#[cfg(test)]
+mod texts;
