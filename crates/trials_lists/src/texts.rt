@@ -75,11 +75,13 @@ pub fn text_of(texts: &Texts, name: Name) -> &[u8] {
     }
 }
 
-/// These files in memory. Their reads of these numbers, counted from 1, fail.
+/// These files in memory, without those of the text `-`. Their reads of these numbers, counted from 1, fail.
 pub fn memory(alloc: Global, texts: &Texts, failing: &[u64]) -> Result<MapFiles, AllocError> {
     let mut files = BTreeMap::new(alloc);
     for (name, text) in texts.iter() {
-        files.insert(*name, Bytes::from_slice(alloc, text.as_slice())?)?;
+        if text.as_slice() != ABSENT {
+            files.insert(*name, Bytes::from_slice(alloc, text.as_slice())?)?;
+        }
     }
     let fail = Numbers::from_vec(Vec::from_slice(alloc, failing)?);
     Ok(MapFiles::new(files, fail))
