@@ -757,8 +757,8 @@ const STEPS: [Steps; 76] = [
 
 #[test]
 fn items_are_answered_and_leave_so(rt: HostRuntime) -> Result<(), Fail> {
-    for row in STEPS.iter() {
-        all_hold(rt.alloc(), row)?;
+    for (number, row) in STEPS.iter().enumerate() {
+        all_hold(rt.alloc(), number, row)?;
     }
     Ok(())
 }

@@ -219,8 +219,8 @@ fn stepped(alloc: Global, list: List, step: Step, told: &mut Told) -> Result<Lis
     Ok(list)
 }
 
-// Fails where the steps of a row don't come out as they say, with the read of this number failing.
-fn holds(alloc: Global, row: &Steps, failing: u64) -> Result<(), Fail> {
+// Fails where the steps of a row don't come out as they say, with the read of this number failing, and names both.
+fn holds(alloc: Global, name: &str, row: &Steps, failing: u64) -> Result<(), Fail> {
     let mut told = Told {
         came: Bytes::new(alloc),
         wanted: Bytes::new(alloc),
@@ -233,7 +233,7 @@ fn holds(alloc: Global, row: &Steps, failing: u64) -> Result<(), Fail> {
     }
     same(
         alloc,
-        row.name,
+        name,
         failing as usize,
         told.came.as_slice(),
         told.wanted.as_slice(),
@@ -241,9 +241,10 @@ fn holds(alloc: Global, row: &Steps, failing: u64) -> Result<(), Fail> {
 }
 
 // The same for each read of a row that fails.
-pub(crate) fn all_hold(alloc: Global, row: &Steps) -> Result<(), Fail> {
+pub(crate) fn all_hold(alloc: Global, number: usize, row: &Steps) -> Result<(), Fail> {
+    let name = format!(in alloc; "row {number}, {}, failing read", row.name)?;
     for failing in row.failing.0..=row.failing.1 {
-        holds(alloc, row, failing)?;
+        holds(alloc, name.as_str(), row, failing)?;
     }
     Ok(())
 }

@@ -387,7 +387,7 @@ fn planned(cause: Cause, number: u64, fill: Fill) -> Plan {
 fn all_hold(alloc: Global, stops: &Stops) -> Result<(), Fail> {
     for number in stops.first..=stops.last {
         for fill in stops.fills {
-            let name = format!(in alloc; "{}, {fill:?}", stops.name)?;
+            let name = format!(in alloc; "{}, left {fill:?}, number", stops.name)?;
             let plan = planned(stops.cause, number, *fill);
             holds(alloc, name.as_str(), number as usize, plan, stops.steps)?;
         }
