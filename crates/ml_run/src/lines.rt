@@ -35,34 +35,3 @@ fn put_reply_number(out: &mut [u8; 64], at: usize, reply: Reply) -> usize
         at
     }
 }
-
-#[cfg(test)]
-mod tests {
-    use super::*;
-
-    #[test]
-    fn an_answer_stands_on_its_line(rt: HostRuntime) {
-        let mut out = [0u8; 64];
-        let posted = Reply {
-            code: Reply::POSTED,
-            number: 1,
-        };
-        let len = answer_line(12, posted, &mut out);
-        assert_eq!(rt; &out[..len], b"12 0 posted 1\n".as_slice());
-        let full = Reply {
-            code: Reply::FULL,
-            number: 0,
-        };
-        let len = answer_line(999_999_999_999, full, &mut out);
-        assert_eq!(rt; &out[..len], b"999999999999 100 full\n".as_slice());
-        let unsubscribed = Reply {
-            code: Reply::UNSUBSCRIBED,
-            number: 0,
-        };
-        let len = answer_line(u64::MAX, unsubscribed, &mut out);
-        assert_eq!(rt;
-            &out[..len],
-            b"18446744073709551615 0 unsubscribed\n".as_slice()
-        );
-    }
-}

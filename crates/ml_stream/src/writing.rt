@@ -83,29 +83,3 @@ fn push_key(out: &mut Bytes, key: &[u8; 32]) -> Result<(), AllocError>
         Err(_) => Err(AllocError),
     }
 }
-
-#[cfg(test)]
-mod tests {
-    use super::*;
-    use ml_base::{Address, Set};
-    use std::test::Fail;
-
-    #[test]
-    fn an_added_address_is_spelled_as_the_stream_has_it(rt: HostRuntime) -> Result<(), Fail> {
-        let alloc = rt.alloc();
-        let item = Item {
-            number: 7,
-            moment: 1_000_000_000,
-            act: Act::Add {
-                set: Set::List,
-                who: Address::parse(alloc, b"a@b")?,
-            },
-        };
-        let bytes = write_item(alloc, &item)?;
-        assert_eq!(rt;
-            bytes.as_slice(),
-            b"A1:7,10:1000000000,4:list,3:a@b,".as_slice()
-        );
-        Ok(())
-    }
-}

@@ -1,9 +1,13 @@
-//! Tests of the disk's public calls.
+//! Tests of the disk's public calls: sites, sources and clocks in memory, the store, and logs written by hand.
 #![tactic(auto)]
 
 #[cfg(test)]
-mod log;
+mod calls;
 #[cfg(test)]
-mod site;
+mod holding;
 #[cfg(test)]
-mod store;
+mod logs;
+#[cfg(test)]
+mod sites;
+#[cfg(test)]
+mod stores;

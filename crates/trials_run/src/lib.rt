@@ -1,17 +1,26 @@
-//! Tests of the public calls of the run.
+//! Tests of the public calls on items and streams: what a stream is answered over a list, what a run leaves wherever it is
+//! stopped, how items are read and written, and what an item does to the files of a list.
 #![tactic(auto)]
 
 #[cfg(test)]
-mod answers;
+mod ends;
 #[cfg(test)]
-mod crashes;
+mod items;
 #[cfg(test)]
-mod full;
+mod lines;
 #[cfg(test)]
-mod grammar;
+mod names;
 #[cfg(test)]
-mod groups;
+mod reading;
 #[cfg(test)]
-mod lists;
+mod runs;
 #[cfg(test)]
-mod run;
+mod script;
+#[cfg(test)]
+mod stepping;
+#[cfg(test)]
+mod stops;
+#[cfg(test)]
+mod streams;
+#[cfg(test)]
+mod texts;
