@@ -2,8 +2,8 @@
 use super::steps::{Runs, Step};
 use ml_real::{RealClock, StdSource};
 use ml_site::{Clock, Source};
-use std::str;
 use std::test::Fail;
+use std::{fs, str};
 
 static STEPS: [(Step, &str); 391] = [
     (Step::Row("files are found by the next run"), "ok"),
@@ -478,6 +478,7 @@ fn each_step_is_answered(rt: HostRuntime) -> Result<(), Fail> {
             "{row}, step {at}: {came:?} came, and {wanted:?} was to come"
         );
     }
+    fs::remove_dir_all(&rt, "real")?;
     Ok(())
 }
 
