@@ -1,6 +1,5 @@
 mod Families
 mod Given
-mod Messages
 mod OneItem
 mod Spelling
 mod Statuses

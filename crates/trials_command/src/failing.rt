@@ -121,7 +121,7 @@ const COMMANDS: [Failing; 5] = [
             output: b"22 0 timed 0\n",
             ..RUN
         },
-        calls: 120,
+        calls: 240,
         fails: &[
             (0, b"22 0 timed 0\n"),
             (73, b""),
