@@ -14,8 +14,8 @@ pub enum Made<'a> {
     Times(u8, u64, u64, &'a [u8]),
     /// A file gets texts at its end, each so many times, for each number from one to another.
     Count(u8, u64, (u64, u64), &'a [(u64, &'a [u8])]),
-    /// The file at each place from one to another has this text.
-    Each(u8, (u64, u64), &'a [u8]),
+    /// The file at each place from one to another has these texts, each so many times.
+    Each(u8, (u64, u64), &'a [(u64, &'a [u8])]),
     /// For each number from one to another, a text at the end of the bucket of an address: the address, and the text.
     Buckets(u8, (u64, u64), &'a [u8], &'a [u8]),
     /// The queue's entry of an id is a mail with what the file had as its text.
@@ -90,10 +90,12 @@ fn each(
     texts: &mut Texts,
     kind: u8,
     range: (u64, u64),
-    text: &[u8],
+    pieces: &[(u64, &[u8])],
 ) -> Result<(), AllocError> {
     for at in range.0..=range.1 {
-        put(alloc, texts, Name { kind, at }, text)?;
+        let mut text = Bytes::new(alloc);
+        add_pieces(alloc, &mut text, pieces, at)?;
+        texts.insert(Name { kind, at }, text)?;
     }
     Ok(())
 }
@@ -231,7 +233,7 @@ fn make_one(alloc: Global, texts: &mut Texts, made: &Made<'_>) -> Result<(), All
                 text.as_slice(),
             )
         }
-        Made::Each(kind, range, text) => each(alloc, texts, *kind, *range, text),
+        Made::Each(kind, range, pieces) => each(alloc, texts, *kind, *range, pieces),
         Made::Buckets(kind, range, address, text) => {
             buckets(alloc, texts, *kind, *range, address, text)
         }

@@ -393,10 +393,11 @@ const READERS: &[Line] = &[
     ),
 ];
 
-const XS: [u8; 1024] = [b'x'; 1024];
+// 64 bytes `x`.
+const X64: &[u8] = b"xxxxxxxxxxxxxxxxxxxxxxxxxxxxxxxxxxxxxxxxxxxxxxxxxxxxxxxxxxxxxxxx";
 
 // A post of which a hundred have 4,194,300 bytes.
-const USUAL: [u8; 41_943] = [b'x'; 41_943];
+const USUAL: &[(u64, &[u8])] = &[(655, X64), (1, b"xxxxxxxxxxxxxxxxxxxxxxx")];
 
 // An answer has 4,194,304 bytes of posts, or one post.
 const CUTS: &[Line] = &[
@@ -406,9 +407,14 @@ const CUTS: &[Line] = &[
         &[&[
             Text(11, 0, b"2\n"),
             Text(10, 0, b"1:0,3:g@h,7:4194303,1:x,\n1:0,3:g@h,1:1,1:x,\n"),
-            Times(9, 1, 4095, &XS),
-            Times(9, 1, 1, &[b'x'; 1023]),
-            Times(9, 2, 1, &[b'x'; 1]),
+            Times(9, 1, 65535, X64),
+            Times(
+                9,
+                1,
+                1,
+                b"xxxxxxxxxxxxxxxxxxxxxxxxxxxxxxxxxxxxxxxxxxxxxxxxxxxxxxxxxxxxxxx",
+            ),
+            Times(9, 2, 1, b"x"),
         ]],
     ),
     Ask(
@@ -417,11 +423,16 @@ const CUTS: &[Line] = &[
         b"9 0",
         Only(&[
             Times(17, 1, 1, b"--- post 1 of list@ex.org ---\n"),
-            Times(17, 1, 4095, &XS),
-            Times(17, 1, 1, &[b'x'; 1023]),
+            Times(17, 1, 65535, X64),
+            Times(
+                17,
+                1,
+                1,
+                b"xxxxxxxxxxxxxxxxxxxxxxxxxxxxxxxxxxxxxxxxxxxxxxxxxxxxxxxxxxxxxxx",
+            ),
             Times(17, 1, 1, b"\n\n"),
             Times(17, 1, 1, b"--- post 2 of list@ex.org ---\n"),
-            Times(17, 1, 1, &[b'x'; 1]),
+            Times(17, 1, 1, b"x"),
             Times(17, 1, 1, b"\n\n"),
             ARCHIVE,
             IDS,
@@ -433,9 +444,14 @@ const CUTS: &[Line] = &[
         &[&[
             Text(11, 0, b"2\n"),
             Text(10, 0, b"1:0,3:g@h,7:4194303,1:x,\n1:0,3:g@h,1:2,1:x,\n"),
-            Times(9, 1, 4095, &XS),
-            Times(9, 1, 1, &[b'x'; 1023]),
-            Times(9, 2, 1, &[b'x'; 2]),
+            Times(9, 1, 65535, X64),
+            Times(
+                9,
+                1,
+                1,
+                b"xxxxxxxxxxxxxxxxxxxxxxxxxxxxxxxxxxxxxxxxxxxxxxxxxxxxxxxxxxxxxxx",
+            ),
+            Times(9, 2, 1, b"xx"),
         ]],
     ),
     Ask(
@@ -444,8 +460,13 @@ const CUTS: &[Line] = &[
         b"9 0",
         Only(&[
             Times(17, 1, 1, b"--- post 1 of list@ex.org ---\n"),
-            Times(17, 1, 4095, &XS),
-            Times(17, 1, 1, &[b'x'; 1023]),
+            Times(17, 1, 65535, X64),
+            Times(
+                17,
+                1,
+                1,
+                b"xxxxxxxxxxxxxxxxxxxxxxxxxxxxxxxxxxxxxxxxxxxxxxxxxxxxxxxxxxxxxxx",
+            ),
             Times(17, 1, 1, b"\n\n"),
             ARCHIVE,
             IDS,
@@ -457,9 +478,9 @@ const CUTS: &[Line] = &[
         &[&[
             Text(11, 0, b"2\n"),
             Text(10, 0, b"1:0,3:g@h,7:4194305,1:x,\n1:0,3:g@h,1:1,1:x,\n"),
-            Times(9, 1, 4096, &XS),
-            Times(9, 1, 1, &[b'x'; 1]),
-            Times(9, 2, 1, &[b'x'; 1]),
+            Times(9, 1, 65536, X64),
+            Times(9, 1, 1, b"x"),
+            Times(9, 2, 1, b"x"),
         ]],
     ),
     Ask(
@@ -468,8 +489,8 @@ const CUTS: &[Line] = &[
         b"9 0",
         Only(&[
             Times(17, 1, 1, b"--- post 1 of list@ex.org ---\n"),
-            Times(17, 1, 4096, &XS),
-            Times(17, 1, 1, &[b'x'; 1]),
+            Times(17, 1, 65536, X64),
+            Times(17, 1, 1, b"x"),
             Times(17, 1, 1, b"\n\n"),
             ARCHIVE,
             IDS,
@@ -481,7 +502,7 @@ const CUTS: &[Line] = &[
         MAX,
         &[&[
             Text(11, 0, b"100\n"),
-            Each(9, (1, 99), b"x"),
+            Each(9, (1, 99), &[(1, b"x")]),
             Text(9, 100, b"x"),
             Times(10, 0, 99, b"1:0,3:g@h,1:1,1:x,\n"),
             Times(10, 1, 1, b"1:0,3:g@h,1:1,1:x,\n"),
@@ -507,7 +528,7 @@ const CUTS: &[Line] = &[
         MAX,
         &[&[
             Text(11, 0, b"101\n"),
-            Each(9, (1, 100), b"x"),
+            Each(9, (1, 100), &[(1, b"x")]),
             Text(9, 101, b"x"),
             Times(10, 0, 99, b"1:0,3:g@h,1:1,1:x,\n"),
             Times(10, 1, 1, b"1:0,3:g@h,1:1,1:x,\n"),
@@ -534,9 +555,9 @@ const CUTS: &[Line] = &[
         MAX,
         &[&[
             Text(11, 0, b"100\n"),
-            Each(9, (1, 99), &USUAL),
-            Times(9, 100, 40, &XS),
-            Times(9, 100, 1, &[b'x'; 987]),
+            Each(9, (1, 99), USUAL),
+            Times(9, 100, 655, X64),
+            Times(9, 100, 1, b"xxxxxxxxxxxxxxxxxxxxxxxxxxx"),
             Times(10, 0, 99, b"1:0,3:g@h,5:41943,1:x,\n"),
             Times(10, 1, 1, b"1:0,3:g@h,5:41947,1:x,\n"),
         ]],
@@ -552,13 +573,14 @@ const CUTS: &[Line] = &[
                 (1, 99),
                 &[
                     (1, b"--- post % of list@ex.org ---\n"),
-                    (1, &USUAL),
+                    (655, X64),
+                    (1, b"xxxxxxxxxxxxxxxxxxxxxxx"),
                     (1, b"\n\n"),
                 ],
             ),
             Times(17, 1, 1, b"--- post 100 of list@ex.org ---\n"),
-            Times(17, 1, 40, &XS),
-            Times(17, 1, 1, &[b'x'; 987]),
+            Times(17, 1, 655, X64),
+            Times(17, 1, 1, b"xxxxxxxxxxxxxxxxxxxxxxxxxxx"),
             Times(17, 1, 1, b"\n\n"),
             ARCHIVE,
             IDS,
@@ -569,9 +591,9 @@ const CUTS: &[Line] = &[
         MAX,
         &[&[
             Text(11, 0, b"100\n"),
-            Each(9, (1, 99), &USUAL),
-            Times(9, 100, 40, &XS),
-            Times(9, 100, 1, &[b'x'; 988]),
+            Each(9, (1, 99), USUAL),
+            Times(9, 100, 655, X64),
+            Times(9, 100, 1, b"xxxxxxxxxxxxxxxxxxxxxxxxxxxx"),
             Times(10, 0, 99, b"1:0,3:g@h,5:41943,1:x,\n"),
             Times(10, 1, 1, b"1:0,3:g@h,5:41948,1:x,\n"),
         ]],
@@ -587,13 +609,14 @@ const CUTS: &[Line] = &[
                 (1, 98),
                 &[
                     (1, b"--- post % of list@ex.org ---\n"),
-                    (1, &USUAL),
+                    (655, X64),
+                    (1, b"xxxxxxxxxxxxxxxxxxxxxxx"),
                     (1, b"\n\n"),
                 ],
             ),
             Times(17, 1, 1, b"--- post 99 of list@ex.org ---\n"),
-            Times(17, 1, 40, &XS),
-            Times(17, 1, 1, &[b'x'; 983]),
+            Times(17, 1, 655, X64),
+            Times(17, 1, 1, b"xxxxxxxxxxxxxxxxxxxxxxx"),
             Times(17, 1, 1, b"\n\n"),
             ARCHIVE,
             IDS,

@@ -28,7 +28,8 @@ hi
 // A held post with a message of a byte.
 const SMALL: &[u8] = b"10:1000000000,3:g@h,1:x,";
 
-const XS: [u8; 1024] = [b'x'; 1024];
+// 64 bytes `x`.
+const X64: &[u8] = b"xxxxxxxxxxxxxxxxxxxxxxxxxxxxxxxxxxxxxxxxxxxxxxxxxxxxxxxxxxxxxxxx";
 
 // 432,000 seconds later.
 const OLD: u64 = 1_000_432_000;
@@ -59,7 +60,10 @@ const TABLE: &[Line] = &[
     // A thousand go back at once.
     List(
         b"",
-        &[Each(13, (1, 1001), WAITING), Text(14, 0, b"1:1002\n")],
+        &[
+            Each(13, (1, 1001), &[(1, WAITING)]),
+            Text(14, 0, b"1:1002\n"),
+        ],
     ),
     Run(
         OLD,
@@ -86,8 +90,13 @@ const TABLE: &[Line] = &[
         b"",
         &[
             Text(13, 1, b"10:1000000000,3:g@h,33554431:"),
-            Times(13, 1, 32_767, &XS),
-            Times(13, 1, 1, &[b'x'; 1023]),
+            Times(13, 1, 524_287, X64),
+            Times(
+                13,
+                1,
+                1,
+                b"xxxxxxxxxxxxxxxxxxxxxxxxxxxxxxxxxxxxxxxxxxxxxxxxxxxxxxxxxxxxxxx",
+            ),
             Times(13, 1, 1, b","),
             Text(13, 2, SMALL),
             Text(13, 3, SMALL),
