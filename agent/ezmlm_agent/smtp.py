@@ -31,17 +31,16 @@ def batches(entry, size, verp, before):
     """The transactions of an entry: a sender, whether it is to name the recipients, and the copies' senders and recipients.
     Those who were handed theirs before are left out."""
     base, host, kind, _, *recipients = entry
-    rows = []
+    is_verp = kind == b'v'
+    together, alone = [], []
     for recipient in recipients:
-        if recipient in before:
-            continue
-        sender = sender_of(base, host, recipient if kind == b'v' else None)
-        joined = kind == b'v' and verp and base.endswith(b'-') and PLAIN.fullmatch(recipient.rpartition(b'@')[0]) is not None
-        named = (sender_of(base[:-1], host), True) if joined else (sender, False)
-        if not rows or rows[-1][:2] != named or len(rows[-1][2]) == size:
-            rows.append((*named, []))
-        rows[-1][2].append((sender, recipient))
-    return rows
+        if recipient not in before:
+            copy = sender_of(base, host, recipient if is_verp else None), recipient
+            is_joined = not is_verp or verp and base.endswith(b'-') and PLAIN.fullmatch(recipient.rpartition(b'@')[0])
+            (together if is_joined else alone).append(copy)
+    sender = sender_of(base.removesuffix(b'-') if is_verp else base, host)
+    rows = [(sender, is_verp, together[at:at + size]) for at in range(0, len(together), size)]
+    return rows + [(copy[0], False, [copy]) for copy in alone]
 
 
 async def connect(address):

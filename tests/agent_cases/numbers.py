@@ -66,6 +66,7 @@ def case_lost_answers(world):
     world.list()
     world.rows['program'] = script
     world.begin()
+    check(until(lambda: 'timed' in world.log()), 'there was no timed run')
     for n, word in enumerate(('lose', 'kill', 'lose'), 1):
         (world.place / word).touch()
         first = world.post(n)
