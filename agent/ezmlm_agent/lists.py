@@ -84,8 +84,8 @@ class Lists:
             return None
 
     def remembered(self):
-        """The addresses of the lists that have notes, by the folders' names. The folder may be gone."""
-        names = {path.stem for path in self.settings.state.glob('*.sqlite')}
+        """The addresses of the lists that were served, by the folders' names. The folder may be gone."""
+        names = {path.stem for path in self.settings.state.glob('*.sqlite')} | {path.name for path in self.served}
         for name in names - self.addresses.keys():
             if (address := notes.address(self.settings.state / f'{name}.sqlite')) is not None:
                 self.addresses[name] = address

@@ -67,4 +67,4 @@ def case_killed(world, part):
             trial.close()
         steps, doubled = steps + 1, doubled + twice
         step += PARTS * STRIDE[0]
-    world.note = f'{steps} steps up to {step - PARTS * STRIDE[0]}, each {STRIDE[0]}th, part {part + 1} of {PARTS}; {doubled} times doubled'
+    world.note = f'{steps - 1} kills from step {1 + part * STRIDE[0]} on, each {PARTS * STRIDE[0]} steps; {doubled} times a copy went out twice'
