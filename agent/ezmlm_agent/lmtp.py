@@ -77,15 +77,14 @@ class Session:
 
     def __init__(self, server, connection):
         self.server, self.wire = server, connection
-        self.held = self.size = 0
+        self.held = 0
         self.commands = {b'LHLO': self.hello, b'MAIL': self.mail, b'RCPT': self.rcpt, b'DATA': self.data, b'RSET': self.reset, b'NOOP': self.noop}
         self.forget()
 
     def forget(self):
         """There is no mail in hand."""
-        self.sender, self.recipients = None, []
-        self.server.room.give(self.held)
-        self.held = self.size = 0
+        self.sender, self.recipients, self.size = None, [], 0
+        self.give_room()
 
     async def talk(self):
         await self.say(f'220 {self.server.name} LMTP ezmlm-agent')
@@ -146,10 +145,15 @@ class Session:
         self.size += size
         if self.size > 2 * LONGEST_MAIL:
             return REFUSALS['toobig']
-        if not self.server.room.take(size):
-            return '452 4.3.1 Too much mail waits; later.'
-        self.held += size
-        return None
+        if self.server.room.take(size):
+            self.held += size
+            return None
+        self.give_room()
+        return '452 4.3.1 Too much mail waits; later.'
+
+    def give_room(self):
+        self.server.room.give(self.held)
+        self.held = 0
 
     async def data(self, _):
         if not self.recipients:

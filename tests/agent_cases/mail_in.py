@@ -133,12 +133,23 @@ def case_large_mail(world):
 
 
 def case_little_memory(world):
-    """Where too much mail waits, more is put off, and a small one is taken behind it."""
+    """Where too much mail waits, more is put off, and a small one is taken behind it. Those that come at once don't keep out one another."""
     world.rows['memory'] = 1
     world.list(words=['--max', '16777216'])
     world.begin()
     begins(world.post(1, body=('x' * 70 + '\n') * 30_000), '452 4.3.1', 'a mail of 2 MB')
     same(world.post(2), '250 2.0.0 posted 1', 'a small one')
+    clients = [Client(world.place / 'lmtp') for _ in range(4)]
+    for client in clients:
+        client.propose('w@m.net', [f'cats@{HOST}'])
+    for n, client in enumerate(clients):
+        client.socket.sendall(post(n + 3, body='x' * 400_000).replace(b'\n', b'\r\n'))
+    for client in clients:
+        client.send(b'')
+    said = [client.reply()[:16] for client in clients]
+    check('250 2.0.0 posted' in said and set(said) <= {'250 2.0.0 posted', '452 4.3.1 Too mu'}, f'said {said}')
+    for client in clients:
+        client.__exit__()
 
 
 def case_bad_clients(world):
