@@ -14,6 +14,7 @@ log = logging.getLogger('ezmlm-agent')
 MOST_MAILS, MOST_BYTES = 256, 8 << 20  # in one run, or one mail
 GATHERING = 0.02, 0.1  # seconds for which mails, and reports alone, wait for others
 HOUR, DAY = 3600, 86400
+OPEN = 1  # seconds for which a run goes while mail comes
 STEP = 512_000  # by which the floor may rise at once
 AGAIN = 60      # seconds until a list is tried again of which nothing could be read or written
 
@@ -114,11 +115,8 @@ class MailingList:
             try:
                 await self.begin()
                 await self.give(mails)
-            except Exception as error:  # Whatever it is, the mail comes again, and the other lists go on.
-                log.error('%s: %s: %s', self.folder.name, type(error).__name__, error)
-                self.again()
-                for mail in mails:
-                    mail.settle(program.Answer(75, 'the agent can\'t write its notes or read the list'))
+            except Exception as error:
+                self.fail(mails, error)
             if self.waiting:
                 self.wake.set()
             self.queue.changed.set()
@@ -160,43 +158,66 @@ class MailingList:
                 raise Refused(f'the list can\'t be read ({status})')
 
     async def give(self, mails):
-        """One stream of items, and their answers."""
+        """One run of the program: these mails, what comes while it goes, and what else the list is to be told."""
+        self.stale, self.open_until, self.given = [], time.monotonic() + OPEN, 0
+        now = int(time.time())
+        items = await self.items(mails)
+        items += [Item(program.item(b'S', 0, now, entry), self.reported(entry)) for entry in self.queue.handed_on]
+        if time.monotonic() >= self.next_timed and not self.stopping:
+            self.next_timed = time.monotonic() + HOUR
+            items += await self.timed(now)
+        await self.run(items)
+        if self.stale:
+            await self.notes.forget(self.stale, await self.reading(folder.behind_answers))
+
+    async def more(self):
+        """Items of the mails that came while a run goes, for a second at most."""
+        if not self.waiting:
+            await asyncio.sleep(GATHERING[0])
+        if self.stale or self.stopping or self.given > MOST_BYTES or time.monotonic() > self.open_until:
+            return []
+        mails = self.take()
+        try:
+            return await self.items(mails)
+        except Exception as error:
+            self.fail(mails, error)
+            return []
+
+    def fail(self, mails, error):
+        """Whatever it is, the mail comes again, and the other lists go on."""
+        log.error('%s: %s: %s', self.folder.name, type(error).__name__, error)
+        self.again()
+        for mail in mails:
+            mail.settle(program.Answer(75, 'the agent can\'t write its notes or read the list'))
+
+    async def items(self, mails):
+        """The items of mails, each under its number."""
         keys = [mail.key() for mail in mails]
         left = frozenset(self.queue.left)
         for mail, number in zip(mails, await self.notes.numbers(keys, left)):
             mail.number = number
         self.queue.left -= left
         now = int(time.time())
-        stale = []
-        items = [Item(program.item(b'D', mail.number, now, mail.sender, mail.recipient, mail.message), self.delivered(mail, key, stale))
-                 for mail, key in zip(mails, keys)]
-        items += [Item(program.item(b'S', 0, now, entry), self.reported(entry)) for entry in self.queue.handed_on]
-        if time.monotonic() >= self.next_timed and not self.stopping:
-            self.next_timed = time.monotonic() + HOUR
-            items += await self.timed(now)
-        await self.run(items)
-        if stale:
-            await self.notes.forget(stale, await self.reading(folder.behind_answers))
+        self.given += sum(len(mail.message) for mail in mails)
+        return [Item(program.item(b'D', mail.number, now, mail.sender, mail.recipient, mail.message), self.delivered(mail, key))
+                for mail, key in zip(mails, keys)]
 
     async def run(self, items):
         """Gives the list these items, again those that got no answer while another run has it."""
         patience = Patience(self)
         while items:
             async with self.turn:
-                answers, ending = await self.program.spool(self.folder, [item.text for item in items])
-            for item, answer in zip(items, answers):
-                item.settle(answer)
-            items = items[len(answers):]
+                items, ending = await self.program.spool(self.folder, items, self.more)
             if items and (ending.status != program.HELD or not await patience.lasts()):
                 log.error('%s: %d %s', self.folder.name, ending.status, ending.words)
                 for item in items:
                     item.settle(ending)
                 return
 
-    def delivered(self, mail, key, stale):
+    def delivered(self, mail, key):
         def settle(answer):
             if answer.words == 'stale':  # The floor was raised by hand. The mail gets a number above it when it comes again.
-                stale.append(key)
+                self.stale.append(key)
                 answer = dataclasses.replace(answer, status=75)
             mail.settle(answer)
         return settle

@@ -1,15 +1,11 @@
 """Runs of the program: items in, answers out, as docs/FORMATS.md has them."""
 
 import asyncio
+import collections
 import concurrent.futures
 import dataclasses
 import os
 import subprocess
-
-LONGEST_RUN = 600  # seconds; a run that is ended loses nothing that was answered
-HELD = 111         # another run has the list, or its disk failed
-SETTLES = 'out', '0'  # a command that does no more than to read the list: what its log has stands in its files then
-
 
 def netstring(content):
     return b'%d:%b,' % (len(content), content)
@@ -31,6 +27,13 @@ def netstrings(text):
         contents.append(text[colon + 1:end])
         at = end + 1
     return contents
+
+
+LONGEST_RUN = 600  # seconds; a run that is ended loses nothing that was answered
+HELD = 111         # another run has the list, or its disk failed
+FILLING = 15       # items behind the last one, by which it is committed and answered
+FILL = item(b'S', 0, 0, 10**15)  # an item that does nothing: the report of an entry that was never there
+SETTLES = 'out', '0'  # a command that does no more than to read the list: what its log has stands in its files then
 
 
 @dataclasses.dataclass(frozen=True)
@@ -55,6 +58,7 @@ class Program:
     def __init__(self, path, runs):
         self.path = path
         self.threads = concurrent.futures.ThreadPoolExecutor(runs, 'program')
+        self.free = asyncio.Semaphore(runs)
 
     async def aside(self, call, *words):
         """What a call answers that may take its time."""
@@ -73,12 +77,63 @@ class Program:
             return 71, b'- 71 %b\n' % str(error).encode('ascii', 'replace')
         return done.returncode, done.stdout
 
-    async def spool(self, folder, items):
-        """The answers of the first items, in order, and why the run ended before the others, or None."""
-        status, text = await self.run(folder, 'spool', given=b''.join(items))
-        lines = [answer_of(line) for line in text.split(b'\n')[:-1]]
-        answers = [line for line in lines if line.is_answer]
-        if len(answers) == len(items):
-            return answers, None
-        ends = [line for line in lines if not line.is_answer]
-        return answers, ends[0] if ends else Answer(status, 'no answer')
+    async def spool(self, folder, items, more):
+        """Gives one run items, each of which is told its answer as it comes, and then what `more` has, until it has nothing. The answer is
+        the items that got none, and why the run ended before them."""
+        async with self.free:
+            run = Run(await asyncio.create_subprocess_exec(self.path, os.fspath(folder), 'spool', stdin=subprocess.PIPE, stdout=subprocess.PIPE))
+            reading = asyncio.create_task(run.read())
+            try:
+                async with asyncio.timeout(LONGEST_RUN):
+                    await run.feed(items, more)
+                    await reading
+                    status = await run.process.wait()
+            except BaseException as error:
+                run.process.kill()
+                await run.process.wait()
+                await reading
+                if not isinstance(error, TimeoutError):
+                    raise
+                status = 71
+        return [item for item in run.given if item], run.ending or Answer(status, 'no answer')
+
+
+class Run:
+    """A run of `spool` while it goes."""
+
+    def __init__(self, process):
+        self.process = process
+        self.given = collections.deque()  # items without an answer yet, and None for one that only fills up
+        self.ending = None
+        self.answered = asyncio.Event()
+
+    async def read(self):
+        """Reads the answers."""
+        async for line in self.process.stdout:
+            answer = answer_of(line.rstrip(b'\n'))
+            if answer.is_answer:
+                item = self.given.popleft()
+                if item:
+                    item.settle(answer)
+            else:
+                self.ending = answer
+            if not any(self.given):
+                self.answered.set()
+        self.answered.set()
+
+    async def feed(self, items, more):
+        """Gives items, and more when they are answered. The program answers sixteen at once, so the last ones need others behind them."""
+        stdin = self.process.stdin
+        while items:
+            self.answered.clear()
+            self.given.extend([*items, *[None] * FILLING])
+            try:
+                stdin.write(b''.join(item.text for item in items) + FILL * FILLING)
+                await stdin.drain()
+            except OSError:
+                break  # It ended, and says why.
+            await self.answered.wait()
+            if self.process.stdout.at_eof():
+                break
+            items = await more()
+        stdin.close()

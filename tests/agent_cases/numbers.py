@@ -12,7 +12,7 @@ from .world import HOST, MEMBERS, Client, begins, check, post, same, until
 LOSING = '''#!/bin/sh
 case "$*" in
     *spool)
-        if rm '{place}/lose' 2> /dev/null; then {program} "$@" > /dev/null; kill -9 $$; fi
+        if rm '{place}/lose' 2> /dev/null; then timeout -s KILL 0.3 {program} "$@" > /dev/null; kill -9 $$; fi
         if rm '{place}/kill' 2> /dev/null; then exec timeout -s KILL 0.001 {program} "$@"; fi ;;
 esac
 exec {program} "$@"
