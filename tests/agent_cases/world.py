@@ -1,5 +1,6 @@
 """A folder with lists, an agent and a transfer agent, and a client that gives the agent mail."""
 
+import fcntl
 import os
 import pathlib
 import re
@@ -124,7 +125,10 @@ class World:
         return subprocess.run([self.program, self.folder(name), *words], input=given, stdout=subprocess.PIPE, check=False).stdout.decode()
 
     def posts(self, name='cats'):
-        return int((self.folder(name) / 'num').read_text())
+        """How many posts the list has, when no run of the program has it."""
+        with open(self.folder(name) / 'lock', encoding='ascii') as lock:
+            fcntl.flock(lock, fcntl.LOCK_EX)
+            return int((self.folder(name) / 'num').read_text())
 
     def queue(self, name='cats'):
         try:
