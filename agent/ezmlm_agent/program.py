@@ -3,6 +3,7 @@
 import asyncio
 import collections
 import concurrent.futures
+import contextlib
 import dataclasses
 import os
 import subprocess
@@ -137,3 +138,5 @@ class Run:
                 break
             items = await more()
         stdin.close()
+        with contextlib.suppress(OSError):
+            await stdin.wait_closed()

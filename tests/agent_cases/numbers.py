@@ -68,6 +68,7 @@ def case_lost_answers(world):
     world.begin()
     check(until(lambda: 'timed' in world.log()), 'there was no timed run')
     for n, word in enumerate(('lose', 'kill', 'lose'), 1):
+        same(world.posts(), n - 1, 'posts before')
         (world.place / word).touch()
         first = world.post(n)
         begins(first, '451 4.3.0' if word == 'lose' else ('451 4.3.0', '250'), word)
