@@ -11,7 +11,7 @@ from typing import Callable
 from . import folder, notes, outgoing, program, wire
 
 log = logging.getLogger('ezmlm-agent')
-MOST_MAILS, MOST_BYTES = 256, 8 << 20  # in one run, or one mail
+MOST_MAILS, MOST_BYTES = 128, 8 << 20  # at once; a run with so many takes no more
 GATHERING = 0.02, 0.1  # seconds for which mails, and reports alone, wait for others
 HOUR, DAY = 3600, 86400
 OPEN = 1  # seconds for which a run goes while mail comes
@@ -45,6 +45,18 @@ class Mail:
 class Item:
     text: bytes
     settle: Callable[[program.Answer], None]  # told the answer, or why there is none
+
+
+@dataclasses.dataclass
+class Load:
+    """What a run was given so far."""
+    until: float
+    mails: int = 0
+    size: int = 0
+    stale: list = dataclasses.field(default_factory=list)  # keys of mails whose numbers are below the floor
+
+    def is_full(self):
+        return bool(self.stale) or self.mails >= MOST_MAILS or self.size >= MOST_BYTES or time.monotonic() > self.until
 
 
 class Patience:
@@ -159,7 +171,7 @@ class MailingList:
 
     async def give(self, mails):
         """One run of the program: these mails, what comes while it goes, and what else the list is to be told."""
-        self.stale, self.open_until, self.given = [], time.monotonic() + OPEN, 0
+        self.load = Load(time.monotonic() + OPEN)
         now = int(time.time())
         items = await self.items(mails)
         items += [Item(program.item(b'S', 0, now, entry), self.reported(entry)) for entry in self.queue.handed_on]
@@ -167,14 +179,14 @@ class MailingList:
             self.next_timed = time.monotonic() + HOUR
             items += await self.timed(now)
         await self.run(items)
-        if self.stale:
-            await self.notes.forget(self.stale, await self.reading(folder.behind_answers))
+        if self.load.stale:
+            await self.notes.forget(self.load.stale, await self.reading(folder.behind_answers))
 
     async def more(self):
         """Items of the mails that came while a run goes, for a second at most."""
         if not self.waiting:
             await asyncio.sleep(GATHERING[0])
-        if self.stale or self.stopping or self.given > MOST_BYTES or time.monotonic() > self.open_until:
+        if self.stopping or self.load.is_full():
             return []
         mails = self.take()
         try:
@@ -188,7 +200,7 @@ class MailingList:
         log.error('%s: %s: %s', self.folder.name, type(error).__name__, error)
         self.again()
         for mail in mails:
-            mail.settle(program.Answer(75, 'the agent can\'t write its notes or read the list'))
+            mail.settle(program.Ending(75, 'the agent can\'t write its notes or read the list'))
 
     async def items(self, mails):
         """The items of mails, each under its number."""
@@ -198,7 +210,8 @@ class MailingList:
             mail.number = number
         self.queue.left -= left
         now = int(time.time())
-        self.given += sum(len(mail.message) for mail in mails)
+        self.load.mails += len(mails)
+        self.load.size += sum(len(mail.message) for mail in mails)
         return [Item(program.item(b'D', mail.number, now, mail.sender, mail.recipient, mail.message), self.delivered(mail, key))
                 for mail, key in zip(mails, keys)]
 
@@ -217,8 +230,8 @@ class MailingList:
     def delivered(self, mail, key):
         def settle(answer):
             if answer.words == 'stale':  # The floor was raised by hand. The mail gets a number above it when it comes again.
-                self.stale.append(key)
-                answer = dataclasses.replace(answer, status=75)
+                self.load.stale.append(key)
+                answer = program.Ending(75, answer.words)
             mail.settle(answer)
         return settle
 

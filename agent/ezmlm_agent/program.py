@@ -39,18 +39,21 @@ SETTLES = 'out', '0'  # a command that does no more than to read the list: what 
 
 @dataclasses.dataclass(frozen=True)
 class Answer:
-    """A line of the program: an item's answer, or why the run ended early."""
+    """An item's answer."""
     status: int
     words: str
+    is_answer = True
 
-    @property
-    def is_answer(self):
-        return self.status in (0, 100)
+
+class Ending(Answer):
+    """Why an item has no answer."""
+    is_answer = False
 
 
 def answer_of(line):
+    """What a line of the program says. Another line is a ValueError."""
     _, status, words = line.decode('ascii', 'replace').split(' ', 2)
-    return Answer(int(status), words)
+    return (Answer if status in ('0', '100') else Ending)(int(status), words)
 
 
 class Program:
@@ -82,21 +85,24 @@ class Program:
         """Gives one run items, each of which is told its answer as it comes, and then what `more` has, until it has nothing. The answer is
         the items that got none, and why the run ended before them."""
         async with self.free:
-            run = Run(await asyncio.create_subprocess_exec(self.path, os.fspath(folder), 'spool', stdin=subprocess.PIPE, stdout=subprocess.PIPE))
+            try:
+                process = await asyncio.create_subprocess_exec(self.path, os.fspath(folder), 'spool', stdin=subprocess.PIPE, stdout=subprocess.PIPE)
+            except OSError as error:
+                return items, Ending(71, str(error))
+            run = Run(process)
             reading = asyncio.create_task(run.read())
             try:
                 async with asyncio.timeout(LONGEST_RUN):
                     await run.feed(items, more)
                     await reading
-                    status = await run.process.wait()
-            except BaseException as error:
-                run.process.kill()
-                await run.process.wait()
-                await reading
-                if not isinstance(error, TimeoutError):
-                    raise
-                status = 71
-        return [item for item in run.given if item], run.ending or Answer(status, 'no answer')
+                    await process.wait()
+            except TimeoutError:
+                run.ending = Ending(71, 'it took too long')
+            finally:
+                if process.returncode is None:
+                    process.kill()
+                await asyncio.gather(reading, process.wait())
+        return [item for item in run.given if item], run.ending or Ending(process.returncode, 'no answer')
 
 
 class Run:
@@ -105,38 +111,45 @@ class Run:
     def __init__(self, process):
         self.process = process
         self.given = collections.deque()  # items without an answer yet, and None for one that only fills up
+        self.left = 0  # items without an answer yet
         self.ending = None
+        self.is_over = False
         self.answered = asyncio.Event()
 
     async def read(self):
-        """Reads the answers."""
-        async for line in self.process.stdout:
-            answer = answer_of(line.rstrip(b'\n'))
-            if answer.is_answer:
-                item = self.given.popleft()
-                if item:
-                    item.settle(answer)
-            else:
-                self.ending = answer
-            if not any(self.given):
-                self.answered.set()
+        """Reads the answers to the end."""
+        line = b''
+        try:
+            async for line in self.process.stdout:
+                self.told(answer_of(line.rstrip(b'\n')))
+        except (ValueError, IndexError):
+            self.ending = Ending(71, f'{line[:80]!a} is no answer')
+        self.is_over = True
         self.answered.set()
+
+    def told(self, answer):
+        if not answer.is_answer:
+            self.ending = answer
+        elif item := self.given.popleft():
+            item.settle(answer)
+            self.left -= 1
+            if not self.left:
+                self.answered.set()
 
     async def feed(self, items, more):
         """Gives items, and more when they are answered. The program answers sixteen at once, so the last ones need others behind them."""
         stdin = self.process.stdin
         while items:
             self.answered.clear()
+            self.left = len(items)
             self.given.extend([*items, *[None] * FILLING])
-            try:
+            if self.is_over:
+                break
+            with contextlib.suppress(OSError):  # It may be about to end, and says why.
                 stdin.write(b''.join(item.text for item in items) + FILL * FILLING)
                 await stdin.drain()
-            except OSError:
-                break  # It ended, and says why.
             await self.answered.wait()
-            if self.process.stdout.at_eof():
-                break
-            items = await more()
+            items = [] if self.left else await more()
         stdin.close()
         with contextlib.suppress(OSError):
             await stdin.wait_closed()
