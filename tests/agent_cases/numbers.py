@@ -74,7 +74,8 @@ def case_lost_answers(world):
         (world.place / word).touch()
         first = world.post(n)
         begins(first, ('451 4.3.0', '250') if word == 'kill' else '451 4.3.0', word)
-        same(world.post(n), f'250 2.0.0 posted {n}', f'behind {word}')
+        # What is given to a run that is just being killed is put off too.
+        check(until(lambda n=n: world.post(n) == f'250 2.0.0 posted {n}', 60), f'behind {word} it is not posted')
         same(world.posts(), n, 'posts')
 
 
