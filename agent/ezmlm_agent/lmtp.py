@@ -28,9 +28,9 @@ REFUSALS = {
 
 def reply_for(answer):
     """What the transfer agent is told for an answer of the list."""
-    if answer.status == 0:
+    if answer.is_answer and answer.status == 0:
         return f'250 2.0.0 {answer.words}'
-    if answer.status == 100 and answer.words in REFUSALS:
+    if answer.is_answer and answer.words in REFUSALS:
         return REFUSALS[answer.words]
     return f'451 4.3.0 {answer.status} {answer.words}'
 

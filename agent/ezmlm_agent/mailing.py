@@ -11,9 +11,10 @@ from typing import Callable
 from . import folder, notes, outgoing, program, wire
 
 log = logging.getLogger('ezmlm-agent')
-MOST_MAILS, MOST_BYTES = 256, 8 << 20  # in one run, or one mail
+MOST_MAILS, MOST_BYTES = 128, 8 << 20  # at once; a run with so many takes no more
 GATHERING = 0.02, 0.1  # seconds for which mails, and reports alone, wait for others
 HOUR, DAY = 3600, 86400
+OPEN = 1  # seconds for which a run goes while mail comes
 STEP = 512_000  # by which the floor may rise at once
 AGAIN = 60      # seconds until a list is tried again of which nothing could be read or written
 
@@ -44,6 +45,18 @@ class Mail:
 class Item:
     text: bytes
     settle: Callable[[program.Answer], None]  # told the answer, or why there is none
+
+
+@dataclasses.dataclass
+class Load:
+    """What a run was given so far."""
+    until: float
+    mails: int = 0
+    size: int = 0
+    stale: list = dataclasses.field(default_factory=list)  # keys of mails whose numbers are below the floor
+
+    def is_full(self):
+        return bool(self.stale) or self.mails >= MOST_MAILS or self.size >= MOST_BYTES or time.monotonic() > self.until
 
 
 class Patience:
@@ -114,11 +127,8 @@ class MailingList:
             try:
                 await self.begin()
                 await self.give(mails)
-            except Exception as error:  # Whatever it is, the mail comes again, and the other lists go on.
-                log.error('%s: %s: %s', self.folder.name, type(error).__name__, error)
-                self.again()
-                for mail in mails:
-                    mail.settle(program.Answer(75, 'the agent can\'t write its notes or read the list'))
+            except Exception as error:
+                self.fail(mails, error)
             if self.waiting:
                 self.wake.set()
             self.queue.changed.set()
@@ -160,44 +170,68 @@ class MailingList:
                 raise Refused(f'the list can\'t be read ({status})')
 
     async def give(self, mails):
-        """One stream of items, and their answers."""
+        """One run of the program: these mails, what comes while it goes, and what else the list is to be told."""
+        self.load = Load(time.monotonic() + OPEN)
+        now = int(time.time())
+        items = await self.items(mails)
+        items += [Item(program.item(b'S', 0, now, entry), self.reported(entry)) for entry in self.queue.handed_on]
+        if time.monotonic() >= self.next_timed and not self.stopping:
+            self.next_timed = time.monotonic() + HOUR
+            items += await self.timed(now)
+        await self.run(items)
+        if self.load.stale:
+            await self.notes.forget(self.load.stale, await self.reading(folder.behind_answers))
+
+    async def more(self):
+        """Items of the mails that came while a run goes, for a second at most."""
+        if not self.waiting:
+            await asyncio.sleep(GATHERING[0])
+        if self.stopping or self.load.is_full():
+            return []
+        mails = self.take()
+        try:
+            return await self.items(mails)
+        except Exception as error:
+            self.fail(mails, error)
+            return []
+
+    def fail(self, mails, error):
+        """Whatever it is, the mail comes again, and the other lists go on."""
+        log.error('%s: %s: %s', self.folder.name, type(error).__name__, error)
+        self.again()
+        for mail in mails:
+            mail.settle(program.Ending(75, 'the agent can\'t write its notes or read the list'))
+
+    async def items(self, mails):
+        """The items of mails, each under its number."""
         keys = [mail.key() for mail in mails]
         left = frozenset(self.queue.left)
         for mail, number in zip(mails, await self.notes.numbers(keys, left)):
             mail.number = number
         self.queue.left -= left
         now = int(time.time())
-        stale = []
-        items = [Item(program.item(b'D', mail.number, now, mail.sender, mail.recipient, mail.message), self.delivered(mail, key, stale))
-                 for mail, key in zip(mails, keys)]
-        items += [Item(program.item(b'S', 0, now, entry), self.reported(entry)) for entry in self.queue.handed_on]
-        if time.monotonic() >= self.next_timed and not self.stopping:
-            self.next_timed = time.monotonic() + HOUR
-            items += await self.timed(now)
-        await self.run(items)
-        if stale:
-            await self.notes.forget(stale, await self.reading(folder.behind_answers))
+        self.load.mails += len(mails)
+        self.load.size += sum(len(mail.message) for mail in mails)
+        return [Item(program.item(b'D', mail.number, now, mail.sender, mail.recipient, mail.message), self.delivered(mail, key))
+                for mail, key in zip(mails, keys)]
 
     async def run(self, items):
         """Gives the list these items, again those that got no answer while another run has it."""
         patience = Patience(self)
         while items:
             async with self.turn:
-                answers, ending = await self.program.spool(self.folder, [item.text for item in items])
-            for item, answer in zip(items, answers):
-                item.settle(answer)
-            items = items[len(answers):]
+                items, ending = await self.program.spool(self.folder, items, self.more)
             if items and (ending.status != program.HELD or not await patience.lasts()):
                 log.error('%s: %d %s', self.folder.name, ending.status, ending.words)
                 for item in items:
                     item.settle(ending)
                 return
 
-    def delivered(self, mail, key, stale):
+    def delivered(self, mail, key):
         def settle(answer):
             if answer.words == 'stale':  # The floor was raised by hand. The mail gets a number above it when it comes again.
-                stale.append(key)
-                answer = dataclasses.replace(answer, status=75)
+                self.load.stale.append(key)
+                answer = program.Ending(75, answer.words)
             mail.settle(answer)
         return settle
 

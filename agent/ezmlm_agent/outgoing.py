@@ -10,7 +10,8 @@ import time
 from . import folder, program, smtp, wire
 
 log = logging.getLogger('ezmlm-agent')
-ENTRIES = 16  # in hand at once
+ENTRIES = 512  # read at once
+AT_ONCE = 16   # of them that are taken apart
 OTHERS = 2  # connections that are for other lists alone
 SHORTEST, LONGEST = 5, 900  # seconds until an entry is tried again
 LOOKS = 60  # seconds until the queue is looked at again, whatever comes
@@ -39,6 +40,7 @@ class Queue:
         self.list, self.folder, self.settings = mailing_list, mailing_list.folder, mailing_list.settings
         self.exchange, self.room = exchange, room
         self.lanes = asyncio.Semaphore(max(1, exchange.connections - OTHERS))
+        self.at_once = asyncio.Semaphore(AT_ONCE)
         self.changed = asyncio.Event()
         self.in_hand = {}       # entries that are handed on, with their tasks
         self.handed_on = set()  # entries that were, until the list knows it
@@ -131,9 +133,10 @@ class Queue:
     async def hand_on(self, entry, text, verp, size):
         """Hands an entry's copies on, but those that were before, and has it reported when all are."""
         try:
-            attempt, rows = self.attempt(entry, text, verp)
-            del text
-            done = await self.hand_on_rows(attempt, rows)
+            async with self.at_once:
+                attempt, rows = self.attempt(entry, text, verp)
+                del text
+                done = await self.hand_on_rows(attempt, rows)
         except Exception as error:  # Whatever it is, the entry stays, and the others go on.
             log.error('%s: entry %d stays: %s: %s', self.folder.name, entry, type(error).__name__, error)
             done = False

@@ -30,6 +30,7 @@ def counted(call, behind):
 asyncio.events.Handle._run = counted(asyncio.events.Handle._run, False)
 notes.Notes.transaction = counted(notes.Notes.transaction, True)
 program.Program.run_now = counted(program.Program.run_now, True)
+program.answer_of = counted(program.answer_of, True)
 __main__.main(sys.argv[3:])
 '''
 

@@ -8,11 +8,13 @@ import time
 
 from .world import HOST, MEMBERS, Client, begins, check, post, same, until
 
-# Does what the program does, but loses what it says where a file tells it to, and is killed where another one does.
+# Does what the program does, but where files tell it to it loses what it says, is killed, says nothing, or says something else.
 LOSING = '''#!/bin/sh
 case "$*" in
     *spool)
-        if rm '{place}/lose' 2> /dev/null; then {program} "$@" > /dev/null; kill -9 $$; fi
+        if rm '{place}/lose' 2> /dev/null; then timeout -s KILL 0.3 {program} "$@" > /dev/null; kill -9 $$; fi
+        if rm '{place}/mute' 2> /dev/null; then exit 0; fi
+        if rm '{place}/babble' 2> /dev/null; then echo hello; exit 0; fi
         if rm '{place}/kill' 2> /dev/null; then exec timeout -s KILL 0.001 {program} "$@"; fi ;;
 esac
 exec {program} "$@"
@@ -59,7 +61,7 @@ def case_client_hangs_up(world):
 
 
 def case_lost_answers(world):
-    """A run of the program that is killed, or of which the answers are lost, puts the mail off, and given again it counts once."""
+    """A run of the program that is killed, or of which the answers are lost or none, puts the mail off, and given again it counts once."""
     script = world.place / 'losing'
     script.write_text(LOSING.format(place=world.place, program=world.program))
     script.chmod(0o755)
@@ -67,11 +69,13 @@ def case_lost_answers(world):
     world.rows['program'] = script
     world.begin()
     check(until(lambda: 'timed' in world.log()), 'there was no timed run')
-    for n, word in enumerate(('lose', 'kill', 'lose'), 1):
+    for n, word in enumerate(('lose', 'kill', 'mute', 'babble', 'lose'), 1):
+        check(world.is_out(3 * n - 3) and world.posts() == n - 1, 'the list is not at rest')
         (world.place / word).touch()
         first = world.post(n)
-        begins(first, '451 4.3.0' if word == 'lose' else ('451 4.3.0', '250'), word)
-        same(world.post(n), f'250 2.0.0 posted {n}', f'behind {word}')
+        begins(first, ('451 4.3.0', '250') if word == 'kill' else '451 4.3.0', word)
+        # What is given to a run that is just being killed is put off too.
+        check(until(lambda n=n: world.post(n) == f'250 2.0.0 posted {n}', 60), f'behind {word} it is not posted')
         same(world.posts(), n, 'posts')
 
 
