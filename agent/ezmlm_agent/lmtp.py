@@ -78,7 +78,8 @@ class Session:
     def __init__(self, server, connection):
         self.server, self.wire = server, connection
         self.held = 0
-        self.commands = {b'LHLO': self.hello, b'MAIL': self.mail, b'RCPT': self.rcpt, b'DATA': self.data, b'RSET': self.reset, b'NOOP': self.noop}
+        self.commands = {b'LHLO': self.hello, b'MAIL': self.mail, b'RCPT': self.rcpt, b'DATA': self.data,
+                         b'RSET': self.reset, b'NOOP': self.noop}
         self.forget()
 
     def forget(self):

@@ -108,8 +108,8 @@ class MailingList:
         self.waiting.append(mail)
         self.wake.set()
         answer = await mail.answer
-        log.info('%s %d %s %s: %d %s, %d ms', self.folder.name, mail.number, wire.shown(sender), wire.shown(recipient), answer.status, answer.words,
-                 1000 * (time.monotonic() - mail.came))
+        log.info('%s %d %s %s: %d %s, %d ms', self.folder.name, mail.number, wire.shown(sender), wire.shown(recipient),
+                 answer.status, answer.words, 1000 * (time.monotonic() - mail.came))
         return answer
 
     # What the list is given.

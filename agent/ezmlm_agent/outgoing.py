@@ -216,7 +216,8 @@ class Queue:
     async def bounce(self, attempt, copy, code, words):
         """Gives the list the bounce that a refused copy is. The answer is whether it knows of it."""
         sender, recipient = copy
-        answer = await self.list.deliver(b'', sender, b'Subject: refused\n\n%d to %b: %d %b\n' % (attempt.entry, recipient, code, words.encode()))
+        message = b'Subject: refused\n\n%d to %b: %d %b\n' % (attempt.entry, recipient, code, words.encode())
+        answer = await self.list.deliver(b'', sender, message)
         if answer.is_answer:
             await self.list.notes.hand(attempt.entry, attempt.mark, [recipient])
         return answer.is_answer

@@ -8,6 +8,7 @@ import dataclasses
 import os
 import subprocess
 
+
 def netstring(content):
     return b'%d:%b,' % (len(content), content)
 
@@ -22,8 +23,9 @@ def netstrings(text):
     at, contents = 0, []
     while at < len(text):
         colon = text.index(b':', at)
-        end = colon + 1 + int(text[at:colon])
-        if text[end:end + 1] != b',':
+        length = text[at:colon]
+        end = colon + 1 + int(length)
+        if not length.isdigit() or text[end:end + 1] != b',':
             raise ValueError(f'no netstring at {at}')
         contents.append(text[colon + 1:end])
         at = end + 1
@@ -86,7 +88,8 @@ class Program:
         the items that got none, and why the run ended before them."""
         async with self.free:
             try:
-                process = await asyncio.create_subprocess_exec(self.path, os.fspath(folder), 'spool', stdin=subprocess.PIPE, stdout=subprocess.PIPE)
+                words = self.path, os.fspath(folder), 'spool'
+                process = await asyncio.create_subprocess_exec(*words, stdin=subprocess.PIPE, stdout=subprocess.PIPE)
             except OSError as error:
                 return items, Ending(71, str(error))
             run = Run(process)

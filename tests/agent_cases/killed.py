@@ -49,8 +49,8 @@ def killed_at(world, step):
     again = world.mail('w@m.net', [f'cats@{HOST}'], post())
     is_sent = until(lambda: world.queue() == 0 and len(world.sink.copies) >= 3)
     copies = collections.Counter(recipient for _, recipient, _ in world.sink.copies)
-    check(again == ['250 2.0.0 posted 1'] and world.posts() == 1 and is_sent and set(copies) == set(MEMBERS) and set(copies.values()) in ({1}, {2}),
-          f'at step {step}: {first}, {again}, {world.posts()} posts, copies {copies}')
+    holds = again == ['250 2.0.0 posted 1'] and world.posts() == 1 and is_sent and set(copies) == set(MEMBERS)
+    check(holds and set(copies.values()) in ({1}, {2}), f'at step {step}: {first}, {again}, {world.posts()} posts, copies {copies}')
     return was_killed, set(copies.values()) == {2}
 
 

@@ -233,6 +233,7 @@ def case_damaged_entry(world):
     check(until(lambda: 'Later' in world.log()), 'it was not tried')
     world.end()
     (world.folder() / 'queue/1').write_bytes(b'9:cats')
+    (world.folder() / 'queue/7').write_bytes(b'1:a,-4:,')
     (world.folder() / 'queue/notes').write_bytes(b'a file of somebody else')
     world.sink.defer = set()
     world.begin()

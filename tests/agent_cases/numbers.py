@@ -147,7 +147,8 @@ def case_forgotten(world):
         world.post(n)
     check(world.is_out(12), 'not all went out')
     world.end()
-    world.notes('UPDATE mail SET first = first - 15 * 86400 - 10 WHERE number < 514', 'UPDATE mail SET first = first - 15 * 86400 + 900 WHERE number = 514')
+    world.notes('UPDATE mail SET first = first - 15 * 86400 - 10 WHERE number < 514',
+                'UPDATE mail SET first = first - 15 * 86400 + 900 WHERE number = 514')
     world.begin()
     floor = world.folder() / 'floor'
     check(until(lambda: floor.exists() and floor.read_text() == '514\n'), 'the floor did not rise')

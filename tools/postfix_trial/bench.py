@@ -78,7 +78,8 @@ class Bench:
             time.sleep(0.05)
         took = time.monotonic() - begun
         postfix, agent = (after - first for after, first in zip(self.used(), used))
-        print(f'{manager}, {many} posts, {out} copies: {took:6.2f} s, processor {postfix:5.2f} and {agent:5.2f}, load {os.getloadavg()[0]:.1f}', flush=True)
+        print(f'{manager}, {many} posts, {out} copies: {took:6.2f} s, processor {postfix:5.2f} and {agent:5.2f}, '
+              f'load {os.getloadavg()[0]:.1f}', flush=True)
         if out == copies:
             eventually(lambda: not self.setting.queue(), 'the queue of Postfix stays')
 
@@ -91,7 +92,8 @@ class Bench:
         posted = time.monotonic() - begun
         eventually(lambda: not os.listdir(folder / 'queue'), 'not handed on')
         took = time.monotonic() - begun
-        print(f'ezmlm, one post to 10,000: posted {posted:.2f} s, Postfix has all copies {took:.2f} s, load {os.getloadavg()[0]:.1f}', flush=True)
+        print(f'ezmlm, one post to 10,000: posted {posted:.2f} s, Postfix has all copies {took:.2f} s, '
+              f'load {os.getloadavg()[0]:.1f}', flush=True)
         eventually(lambda: not self.setting.queue(), 'the queue of Postfix stays')
 
 

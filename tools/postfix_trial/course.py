@@ -56,7 +56,7 @@ class Course:
             _, found = self.mail_for(sender, r'(?m)^Reply-To: (cats-\S*sc\S+)\r')
             self.setting.send(sender, found[1])
             self.mail_for(sender, 'Subject: welcome')
-            eventually(lambda: self.is_member('cats', sender, kind), f'{sender} is no member')  # pylint: disable=cell-var-from-loop
+            eventually(lambda: self.is_member('cats', sender, kind), f'{sender} is no member')
 
     def archive(self):
         """post, archive"""
@@ -135,7 +135,8 @@ class Course:
                 time.sleep(0.02 * (n // 20))
                 self.setting.end_agent(signal.SIGKILL)
                 self.setting.begin_agent()
-        eventually(lambda: (folder / 'num').read_text() == '400\n' and not os.listdir(folder / 'queue') and not self.setting.queue(), 'not all is out', 400)
+        eventually(lambda: (folder / 'num').read_text() == '400\n', 'not all is posted')
+        eventually(lambda: not os.listdir(folder / 'queue') and not self.setting.queue(), 'not all is out', 400)
         time.sleep(1)
         copies = collections.Counter((to.replace('"', ''), re.search(rb'number (\d+)\.', content)[1]) for _, to, content in self.sink.copies)
         wanted = {(member, b'%d' % n) for member in ODD for n in range(400)}
