@@ -1,0 +1,1 @@
+"""Mail in by LMTP and mail out by SMTP, for all lists of a host."""

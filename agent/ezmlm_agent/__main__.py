@@ -1,0 +1,100 @@
+"""ezmlm-agent [--check] SETTINGS: gives the lists of a host their mail, and hands on what they send."""
+
+import asyncio
+import fcntl
+import logging
+import os
+import pathlib
+import resource
+import signal
+import sys
+
+from . import check, lists, lmtp, mailing, program, settings, smtp, wire
+
+log = logging.getLogger('ezmlm-agent')
+LOOKS = 60  # seconds between two looks for lists and for timed runs
+DESCRIPTORS = 65536
+SWITCH = 0.0005  # seconds: threads wait for runs of the program and for the disk, and each is soon served
+
+
+class Agent:
+    def __init__(self, chosen):
+        self.settings = chosen
+        self.program = program.Program(chosen.program, chosen.runs)
+        self.exchange = smtp.Exchange(chosen.mta, chosen.name, chosen.connections)
+        self.room = wire.Room(chosen.memory << 20)
+        self.lists = lists.Lists(chosen, self.take_up)
+        self.server = lmtp.Server(chosen.name, self.lists.find, chosen.memory << 20)
+        self.ended = asyncio.Event()
+
+    def take_up(self, folder):
+        found = mailing.MailingList(folder, self.settings, self.program, self.exchange, self.room)
+        found.start()
+        return found
+
+    async def run(self):
+        loop = asyncio.get_running_loop()
+        for number in (signal.SIGTERM, signal.SIGINT):
+            loop.add_signal_handler(number, self.ended.set)
+        server = await listen(self.settings.listen, self.server.serve)
+        log.info('mail comes in at %s', self.settings.listen)
+        while not self.ended.is_set():
+            self.lists.look(again=True)
+            self.exchange.close_unused()
+            for found in self.lists.live():
+                found.wake.set()
+            try:
+                async with asyncio.timeout(LOOKS):
+                    await self.ended.wait()
+            except TimeoutError:
+                pass
+        log.info('stops')
+        server.close()
+        for found in self.lists.served.values():
+            found.hurry()
+        await self.server.stop()
+        await asyncio.gather(*(found.stop() for found in self.lists.served.values()))
+        self.exchange.close_unused(0)
+
+
+async def listen(address, serve):
+    match settings.endpoint(address):
+        case (host, port):
+            return await asyncio.start_server(serve, host, port, backlog=1024)
+        case path:
+            if pathlib.Path(path).is_socket():
+                os.unlink(path)
+            server = await asyncio.start_unix_server(serve, path, backlog=1024)
+            os.chmod(path, 0o660)
+            return server
+
+
+def main(words):
+    logging.basicConfig(format='%(message)s', level=logging.INFO, stream=sys.stderr)
+    if not words or words[:-1] not in ([], ['--check']):
+        sys.exit('usage: ezmlm-agent [--check] SETTINGS')
+    try:
+        chosen = settings.read(words[-1])
+    except ValueError as error:
+        sys.exit(f'ezmlm-agent: {error}')
+    if words[:-1]:
+        sys.exit(asyncio.run(check.check(chosen)))
+    os.umask(0o077)
+    most = resource.getrlimit(resource.RLIMIT_NOFILE)[1]
+    resource.setrlimit(resource.RLIMIT_NOFILE, (most if 0 <= most < DESCRIPTORS else DESCRIPTORS, most))
+    sys.setswitchinterval(SWITCH)
+    chosen.state.mkdir(parents=True, exist_ok=True)
+    with open(chosen.state / 'lock', 'w', encoding='ascii') as lock:
+        try:
+            fcntl.flock(lock, fcntl.LOCK_EX | fcntl.LOCK_NB)
+        except OSError:
+            sys.exit('ezmlm-agent: another agent runs')
+        asyncio.run(run(chosen))
+
+
+async def run(chosen):
+    await Agent(chosen).run()
+
+
+if __name__ == '__main__':
+    main(sys.argv[1:])

@@ -1,0 +1,1 @@
+"""The agent's cases, and what they are made of."""

@@ -1,0 +1,73 @@
+"""Runs the cases, a few at once."""
+
+import argparse
+import concurrent.futures
+import functools
+import os
+import pathlib
+import sys
+import traceback
+
+from . import killed, mail_in, mail_out, numbers, trouble
+from .world import TOP, World, Wrong
+
+AT_ONCE = 4
+
+
+def cases():
+    """The cases by their names, the longest first."""
+    found = {f'killed{part}': functools.partial(killed.case_killed, part=part) for part in range(killed.PARTS)}
+    for module in (mail_out, trouble, mail_in, numbers):
+        found.update({name.removeprefix('case_'): call for name, call in vars(module).items() if name.startswith('case_')})
+    return found
+
+
+def run(name, program):
+    """What is wrong, or None, and what there is to say."""
+    world, wrong = World(program), None
+    try:
+        cases()[name](world)
+        if 'Traceback' in world.log():
+            wrong = 'there is a traceback in the log'
+    except Wrong as why:
+        wrong = str(why)
+    except Exception:
+        wrong = traceback.format_exc()
+    said = '\n'.join('    ' + line for line in world.log().splitlines()[-15:]) if wrong else world.note
+    world.close()
+    return wrong, said
+
+
+def tell(name, wrong, said):
+    case = cases()[name]
+    about = getattr(case, 'func', case).__doc__
+    if wrong is None:
+        print(f'ok      {name}: {about}' + (f' ({said})' if said else ''), flush=True)
+    else:
+        print(f'FAILED  {name}: {about} {wrong}\n{said}', flush=True)
+
+
+def main():
+    parser = argparse.ArgumentParser(prog='tests/agent')
+    parser.add_argument('program', nargs='?', default=os.environ.get('EZMLM', TOP / 'crates/ezmlm/out/ezmlm'))
+    parser.add_argument('-k', default='', metavar='WORD')
+    parser.add_argument('--long', action='store_true')
+    words = parser.parse_args()
+    program = pathlib.Path(words.program).resolve()
+    if not os.access(program, os.X_OK):
+        sys.exit(f'agent: {program} is no program')
+    if words.long:
+        killed.STRIDE[0], trouble.HELD[0] = 1, 60
+    failed, names = 0, [name for name in cases() if words.k in name]
+    with concurrent.futures.ProcessPoolExecutor(AT_ONCE) as pool:
+        runs = {pool.submit(run, name, program): name for name in names}
+        for done in concurrent.futures.as_completed(runs):
+            wrong, said = done.result()
+            failed += wrong is not None
+            tell(runs[done], wrong, said)
+    print(f'{len(names) - failed} passed, {failed} failed')
+    sys.exit(failed > 0)
+
+
+if __name__ == '__main__':
+    main()

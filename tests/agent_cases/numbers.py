@@ -1,0 +1,204 @@
+"""Numbers: a mail that is given again counts once, and old ones are forgotten."""
+
+import os
+import shutil
+import signal
+import threading
+import time
+
+from .world import HOST, MEMBERS, Client, begins, check, post, same, until
+
+# Does what the program does, but where files tell it to it loses what it says, is killed, says nothing, or says something else.
+LOSING = '''#!/bin/sh
+case "$*" in
+    *spool)
+        if rm '{place}/lose' 2> /dev/null; then timeout -s KILL 0.3 {program} "$@" > /dev/null; kill -9 $$; fi
+        if rm '{place}/mute' 2> /dev/null; then exit 0; fi
+        if rm '{place}/babble' 2> /dev/null; then echo hello; exit 0; fi
+        if rm '{place}/kill' 2> /dev/null; then exec timeout -s KILL 0.001 {program} "$@"; fi ;;
+esac
+exec {program} "$@"
+'''
+
+
+def case_given_again(world):
+    """A mail that is given again counts once: in one go by two spellings, at once over many connections, and behind a new start."""
+    world.list()
+    world.begin()
+    for _ in range(3):
+        same(world.mail('w@m.net', [f'cats@{HOST}', 'Cats@EX.org'], post()), ['250 2.0.0 posted 1'] * 2, 'again')
+    said = []
+    threads = [threading.Thread(target=lambda: said.append(world.post(2))) for _ in range(20)]
+    for thread in threads:
+        thread.start()
+    for thread in threads:
+        thread.join()
+    same(said, ['250 2.0.0 posted 2'] * 20, 'at once')
+    for number in (signal.SIGKILL, signal.SIGTERM):
+        world.end(number)
+        world.begin()
+        same(world.post(), '250 2.0.0 posted 1', 'behind a new start')
+    same(world.post(3), '250 2.0.0 posted 3', 'another mail')
+    same(world.mail('v@m.net', [f'cats@{HOST}'], post(3)), ['250 2.0.0 posted 4'], 'of another sender')
+    same(world.posts(), 4, 'posts')
+
+
+def case_client_hangs_up(world):
+    """A client that hangs up in the middle of a mail has given none; behind its end it has, and the mail counts once."""
+    world.list()
+    world.begin()
+    with Client(world.place / 'lmtp') as client:
+        client.propose('w@m.net', [f'cats@{HOST}'])
+        client.socket.sendall(post()[:40])
+    time.sleep(0.3)
+    same(world.posts(), 0, 'posts of half a mail')
+    with Client(world.place / 'lmtp') as client:
+        client.propose('w@m.net', [f'cats@{HOST}'])
+        client.send(post())
+    check(until(lambda: world.posts() == 1), 'a whole mail was not posted')
+    same(world.post(), '250 2.0.0 posted 1', 'again')
+    same(world.posts(), 1, 'posts')
+
+
+def case_lost_answers(world):
+    """A run of the program that is killed, or of which the answers are lost or none, puts the mail off, and given again it counts once."""
+    script = world.place / 'losing'
+    script.write_text(LOSING.format(place=world.place, program=world.program))
+    script.chmod(0o755)
+    world.list()
+    world.rows['program'] = script
+    world.begin()
+    check(until(lambda: 'timed' in world.log()), 'there was no timed run')
+    for n, word in enumerate(('lose', 'kill', 'mute', 'babble', 'lose'), 1):
+        check(world.is_out(3 * n - 3) and world.posts() == n - 1, 'the list is not at rest')
+        (world.place / word).touch()
+        first = world.post(n)
+        begins(first, ('451 4.3.0', '250') if word == 'kill' else '451 4.3.0', word)
+        # What is given to a run that is just being killed is put off too.
+        check(until(lambda n=n: world.post(n) == f'250 2.0.0 posted {n}', 60), f'behind {word} it is not posted')
+        same(world.posts(), n, 'posts')
+
+
+def case_lost_notes(world):
+    """Where the notes are lost, or an old copy stands in their place, no mail is lost: the next number is behind all that was answered."""
+    world.list()
+    world.begin()
+    same(world.post(1), '250 2.0.0 posted 1', 'a post')
+    check(world.is_out(3), 'it did not go out')
+    world.end()
+    shutil.copytree(world.place / 'state', world.place / 'old')
+    world.begin()
+    for n in (2, 3):
+        same(world.post(n), f'250 2.0.0 posted {n}', 'a post')
+    world.end(signal.SIGKILL)
+    shutil.rmtree(world.place / 'state')
+    (world.place / 'old').rename(world.place / 'state')
+    world.begin()
+    same(world.post(4), '250 2.0.0 posted 4', 'behind an old copy')
+    same(world.post(1), '250 2.0.0 posted 1', 'a mail that the copy has')
+    world.end(signal.SIGKILL)
+    shutil.rmtree(world.place / 'state')
+    world.begin()
+    same(world.post(5), '250 2.0.0 posted 5', 'without notes')
+    check(until(lambda: world.queue() == 0), 'the queue stays')
+    same(sorted(set(world.sink.recipients())), MEMBERS, 'members')
+
+
+def case_old_list(world):
+    """Where an old copy of the list stands in its place, new posts go to all, also under the id of an entry that was handed on before."""
+    world.list()
+    world.begin()
+    world.end()
+    shutil.copytree(world.folder(), world.place / 'old')
+    world.sink.defer = {'b@m.net'}
+    world.begin()
+    same(world.post(1), '250 2.0.0 posted 1', 'a post')
+    check(until(lambda: len(world.sink.copies) == 2), 'it did not go out')
+    world.end(signal.SIGKILL)
+    shutil.rmtree(world.folder())
+    (world.place / 'old').rename(world.folder())
+    world.sink.defer = set()
+    same(world.run('cats', 'deliver', '0', 'w@m.net', f'cats@{HOST}', given=post(2)), '0 0 posted 1\n', 'a post by hand')
+    world.begin()
+    check(world.is_out(5), f'{len(world.sink.copies)} copies')
+    same(world.post(3), '250 2.0.0 posted 2', 'a new post')
+
+
+def case_floor_by_hand(world):
+    """A floor that was raised by hand puts mail off once, and loses none."""
+    world.list()
+    world.begin()
+    world.post(1)
+    check(world.is_out(3), 'it did not go out')
+    world.end()
+    same(world.run('cats', 'floor', '0', '5000'), '0 0 floored 5000\n', 'the floor')
+    world.begin()
+    same(world.post(2), '250 2.0.0 posted 2', 'a new mail behind a new start')
+    check(until(lambda: world.run('cats', 'floor', '0', '9000').startswith('0 0')), 'the list is held')
+    begins(world.post(3), '451', 'a new mail')
+    same(world.post(3), '250 2.0.0 posted 3', 'the same again')
+
+
+def case_forgotten(world):
+    """Numbers of mails that can't come again are forgotten, and the list's answers to them; none that may."""
+    world.list()
+    world.begin()
+    for n in range(1, 5):
+        world.post(n)
+    check(world.is_out(12), 'not all went out')
+    world.end()
+    world.notes('UPDATE mail SET first = first - 15 * 86400 - 10 WHERE number < 514',
+                'UPDATE mail SET first = first - 15 * 86400 + 900 WHERE number = 514')
+    world.begin()
+    floor = world.folder() / 'floor'
+    check(until(lambda: floor.exists() and floor.read_text() == '514\n'), 'the floor did not rise')
+    same(world.run('cats', 'sub', '513', 'list', 'x@y').split()[2], 'stale', 'an answer below the floor')
+    same(world.post(3), '250 2.0.0 posted 3', 'one that may come again')
+    same(world.post(1), '250 2.0.0 posted 5', 'one that was forgotten counts again')
+    same(world.post(6), '250 2.0.0 posted 6', 'a new one')
+    world.end()
+    same(world.notes('SELECT min(number), max(number) FROM mail'), [(514, 517)], 'numbers')
+
+
+def case_forgotten_in_order(world):
+    """Where the agent is killed between the notes and the list, or the list refuses the floor, no mail is lost."""
+    world.list()
+    world.begin()
+    world.post(1)
+    check(world.is_out(3), 'it did not go out')
+    world.end()
+    # The notes forgot the mail, and the list still has its answer.
+    world.notes('DELETE FROM mail')
+    world.begin()
+    same(world.post(1), '250 2.0.0 posted 2', 'one that was forgotten counts again')
+    floor = world.folder() / 'floor'
+    check(until(lambda: floor.exists() and floor.read_text() == '513\n'), 'the floor did not rise')
+    same(world.post(2), '250 2.0.0 posted 3', 'a new one')
+
+
+def case_floor_in_steps(world):
+    """The floor rises as far as it has to, also by more than one item may raise it."""
+    world.list()
+    world.begin()
+    world.post(1)
+    check(world.is_out(3), 'it did not go out')
+    world.end()
+    world.notes('DELETE FROM mail', 'UPDATE next SET number = 1500000')
+    world.begin()
+    floor = world.folder() / 'floor'
+    check(until(lambda: floor.exists() and floor.read_text() == '1500000\n'), 'the floor did not rise')
+    same(world.post(2), '250 2.0.0 posted 2', 'a new one')
+
+
+def case_clock_back(world):
+    """A clock that goes back loses no mail."""
+    world.list()
+    world.begin()
+    world.post(1)
+    check(world.is_out(3), 'it did not go out')
+    world.end()
+    world.notes('UPDATE mail SET first = first + 100 * 86400')
+    os.utime(world.folder() / 'num', (0, 0))
+    world.begin()
+    same(world.post(1), '250 2.0.0 posted 1', 'the same')
+    same(world.post(2), '250 2.0.0 posted 2', 'a new one')

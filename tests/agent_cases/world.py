@@ -1,0 +1,202 @@
+"""A folder with lists, an agent and a transfer agent, and a client that gives the agent mail."""
+
+import fcntl
+import os
+import pathlib
+import re
+import shutil
+import signal
+import socket
+import sqlite3
+import subprocess
+import tempfile
+import time
+
+from .sink import Sink
+
+TOP = pathlib.Path(__file__).resolve().parent.parent.parent
+HOST = 'ex.org'
+KEY = '0' * 64
+MEMBERS = ['a@m.net', 'b@m.net', 'c@m.net']
+LONG = 180  # seconds for which something is waited for that has to come
+
+
+def until(holds, seconds=LONG):
+    """Whether something comes to hold."""
+    end = time.monotonic() + seconds
+    while not holds():
+        if time.monotonic() > end:
+            return False
+        time.sleep(0.02)
+    return True
+
+
+def post(n=1, to='cats', subject='hello', body='hi'):
+    """A post, which is another one for each n, as its Received line is."""
+    return f'Received: by mx.ex.org id {n}\nFrom: w@m.net\nTo: {to}@{HOST}\nSubject: {subject}\n\n{body}\n'.encode('latin-1')
+
+
+class Client:
+    """An LMTP client that does nothing by itself."""
+
+    def __init__(self, path):
+        self.socket = socket.socket(socket.AF_UNIX)
+        self.socket.settimeout(400)
+        # The socket's file is there a moment before anybody listens.
+        until(lambda: self.socket.connect_ex(str(path)) == 0, 10)
+        self.file = self.socket.makefile('rb')
+        self.reply()
+        self.command(b'LHLO test')
+
+    def __enter__(self):
+        return self
+
+    def __exit__(self, *_):
+        self.socket.close()
+        self.file.close()
+
+    def reply(self):
+        while True:
+            line = self.file.readline()
+            if not line.endswith(b'\r\n'):
+                raise EOFError
+            if line[3:4] == b' ':
+                return line.decode().strip()
+
+    def command(self, text):
+        self.socket.sendall(text + b'\r\n')
+        return self.reply()
+
+    def propose(self, sender, recipients):
+        """The replies for the recipients, and whether the mail is waited for."""
+        self.command(b'MAIL FROM:<%b>' % sender.encode())
+        replies = [self.command(b'RCPT TO:<%b>' % recipient.encode()) for recipient in recipients]
+        if not any(reply.startswith('250') for reply in replies):
+            return replies, False
+        return replies, self.command(b'DATA').startswith('354')
+
+    def send(self, message):
+        self.socket.sendall(re.sub(rb'(?m)^\.', b'..', message).replace(b'\n', b'\r\n') + b'.\r\n')
+
+    def mail(self, sender, recipients, message):
+        """The reply for each recipient."""
+        replies, is_waited_for = self.propose(sender, recipients)
+        if is_waited_for:
+            self.send(message)
+        return [self.reply() if reply.startswith('250') else reply for reply in replies]
+
+
+class World:
+    words = (TOP / 'agent/ezmlm-agent',)
+
+    def __init__(self, program):
+        self.program = program
+        self.place = pathlib.Path(tempfile.mkdtemp(prefix='ezmlm-agent.', dir='/dev/shm' if os.access('/dev/shm', os.W_OK) else None))
+        (self.place / 'lists').mkdir()
+        self.sink = Sink(str(self.place / 'sink'))
+        self.rows = {'program': program, 'lists': self.place / 'lists', 'state': self.place / 'state', 'listen': self.place / 'lmtp',
+                     'mta': self.place / 'sink', 'name': 'mx.ex.org'}
+        self.agent, self.note = None, ''
+        self.log_file = open(self.place / 'agent.log', 'a', encoding='ascii')
+
+    def close(self):
+        self.end(signal.SIGKILL)
+        self.log_file.close()
+        self.sink.stop()
+        shutil.rmtree(self.place)
+
+    def log(self):
+        return (self.place / 'agent.log').read_text()
+
+    # Lists.
+
+    def folder(self, name='cats'):
+        return self.place / 'lists' / name
+
+    def list(self, name='cats', members=MEMBERS, words=()):
+        """Makes a list."""
+        self.run(name, 'make', *words, '--key', KEY, name, HOST, 'owner@m.net')
+        now = str(int(time.time()))
+        self.run(name, 'spool', given=''.join(f'A1:0,{len(now)}:{now},4:list,{len(m)}:{m},' for m in members).encode())
+        return self.folder(name)
+
+    def run(self, name, *words, given=b''):
+        """What the program says."""
+        return subprocess.run([self.program, self.folder(name), *words], input=given, stdout=subprocess.PIPE, check=False).stdout.decode()
+
+    def posts(self, name='cats'):
+        """How many posts the list has, when no run of the program has it."""
+        with open(self.folder(name) / 'lock', encoding='ascii') as lock:
+            fcntl.flock(lock, fcntl.LOCK_EX)
+            return int((self.folder(name) / 'num').read_text())
+
+    def queue(self, name='cats'):
+        try:
+            return len(os.listdir(self.folder(name) / 'queue'))
+        except FileNotFoundError:
+            return 0
+
+    def is_out(self, copies, name='cats'):
+        """Whether the queue gets empty with so many copies handed on."""
+        return until(lambda: self.queue(name) == 0 and len(self.sink.copies) >= copies) and len(self.sink.copies) == copies
+
+    def notes(self, *statements):
+        """Changes the notes of cats, or asks them. The agent has to be at rest."""
+        database = sqlite3.connect(self.place / 'state/cats.sqlite', isolation_level=None)
+        rows = [database.execute(statement).fetchall() for statement in statements]
+        database.close()
+        return rows[-1]
+
+    # The agent.
+
+    def settings(self):
+        path = self.place / 'agent.conf'
+        path.write_text('[agent]\n' + ''.join(f'{name} = {value}\n' for name, value in self.rows.items()))
+        return path
+
+    def begin(self, words=None):
+        (self.place / 'lmtp').unlink(missing_ok=True)
+        self.agent = subprocess.Popen([*(words or self.words), self.settings()], stderr=self.log_file, stdout=self.log_file)
+        until(lambda: (self.place / 'lmtp').exists() or self.agent.poll() is not None)
+
+    def end(self, number=signal.SIGTERM):
+        """The status with which it ends."""
+        if self.agent is None:
+            return None
+        if self.agent.poll() is None:
+            self.agent.send_signal(number)
+        return self.agent.wait(LONG)
+
+    def mail(self, sender, recipients, message):
+        """The replies for the recipients, or None where the agent hung up."""
+        try:
+            with Client(self.place / 'lmtp') as client:
+                return client.mail(sender, recipients, message)
+        except (OSError, EOFError):
+            return None
+
+    def post(self, n=1, to='cats', **more):
+        """The reply to a post."""
+        replies = self.mail('w@m.net', [f'{to}@{HOST}'], post(n, to, **more))
+        return replies and replies[0]
+
+    def memory(self):
+        """The agent's memory, in MiB."""
+        return int(re.search(r'VmRSS:\s*(\d+)', pathlib.Path(f'/proc/{self.agent.pid}/status').read_text())[1]) // 1024
+
+
+class Wrong(Exception):
+    """What a case found."""
+
+
+def check(holds, why):
+    if not holds:
+        raise Wrong(why)
+
+
+def same(found, wanted, what):
+    check(found == wanted, f'{what}: {found!r}, and not {wanted!r}')
+
+
+def begins(reply, wanted, what):
+    check(reply is not None and reply.startswith(wanted), f'{what}: {reply!r}, and not {wanted!r}')
