@@ -1,2 +1,3 @@
 pub mod Reads
 pub mod Ahead
+pub mod Telling

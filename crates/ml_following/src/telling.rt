@@ -9,42 +9,50 @@ ghost use Rattle.ml_plain.specs.Directory.{IsList};
 ghost use Rattle.ml_plain.specs.Mailing as spec;
 ghost use Rattle.ml_plain.specs.Plain.{Plain};
 ghost use Rattle.ml_queue.specs.Answers.{ids_name};
-ghost use Rattle.ml_reply.specs.declared.mails.Mail.TheVariants as mails;
 ghost use Rattle.ml_acts.specs.Damaged.{IsDamaged};
 ghost use Rattle.ml_acts.specs.Doing.{DrawsId, HasIds, is_of_queue};
+ghost use Rattle.ml_following.specs.Telling as telling;
 
 use ml_acts::{bounce_path, key_of, send};
-use ml_base::{Address, AddressList, Bytes, Files, Numbers, PartError, Row, Set, Txn};
+use ml_base::{Address, AddressList, Bytes, Files, PartError, Row, Set, Txn};
+use ml_bounce::Action;
 use ml_config::{Config, Keys};
 use ml_reply::{Mail, text};
 use std::alloc::{AllocError, Global};
 
-// The mail that warns a member of the numbers that he missed.
-pub(crate) fn warning(
+// The mail that a member gets of an action: a warning of the numbers that he missed, or a probe.
+pub(crate) fn mail_for(
     alloc: Global,
     set: Set,
+    action: &Action,
     who: &Address,
-    missed: &Numbers,
 ) -> Result<Mail, AllocError>
-    ensures { IfOk result (λ mail. mail ≡ mails.Warn who.now set who.now missed.now) }
+    ensures { IfOk result (λ mail. mail ≡ telling.mail_for set action.now who.now) }
 {
-    Ok(Mail::Warn {
-        to: Bytes::from_slice(alloc, who.bytes())?,
-        set,
-        who: Bytes::from_slice(alloc, who.bytes())?,
-        numbers: Row::from_vec(Vec::from_slice(alloc, missed.as_slice())?),
-    })
+    let to = Bytes::from_slice(alloc, who.bytes())?;
+    let who = Bytes::from_slice(alloc, who.bytes())?;
+    match action {
+        Action::Warn { missed, .. } => {
+            let numbers = Row::from_vec(Vec::from_slice(alloc, missed.as_slice())?);
+            Ok(Mail::Warn {
+                to,
+                set,
+                who,
+                numbers,
+            })
+        }
+        _ => Ok(Mail::Probe { to, set, who }),
+    }
 }
 
-// The mail that probes a member.
-pub(crate) fn probe_mail(alloc: Global, set: Set, who: &Address) -> Result<Mail, AllocError>
-    ensures { IfOk result (λ mail. mail ≡ mails.Probe who.now set who.now) }
+// The kind of the cookie that this mail's path has.
+pub(crate) fn cookie_kind(action: &Action) -> &'static [u8]
+    ensures { result.now ≡ telling.cookie_kind action.now }
 {
-    Ok(Mail::Probe {
-        to: Bytes::from_slice(alloc, who.bytes())?,
-        set,
-        who: Bytes::from_slice(alloc, who.bytes())?,
-    })
+    match action {
+        Action::Warn { .. } => b"warn",
+        _ => b"probe",
+    }
 }
 
 // The puts that queue a mail to a member, under a path whose cookie is of this kind, `warn` or `probe`.

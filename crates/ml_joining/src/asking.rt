@@ -87,7 +87,7 @@ pub(crate) fn ask<F: Files>(
     let reply = confirm_address(alloc, config, &keys, word, set, x, now)?;
     let mail = question(alloc, word, to, reply, set, x)?;
     let reply = plain(Reply::ASKED);
-    sent(alloc, files, config, Txn::new(alloc), to, now, mail, reply)
+    with_mail(alloc, files, config, Txn::new(alloc), to, now, &mail, reply)
 }
 
 // The mail that asks the moderators to confirm a subscription.
@@ -133,51 +133,6 @@ pub(crate) fn ask_moderators<F: Files>(
     let keys = key(alloc, files)?;
     let reply = confirm_address(alloc, config, &keys, Word::Tc, set, x, now)?;
     let mail = moderators_question(alloc, config, reply, set, x)?;
-    sent_to_moderators(alloc, files, config, now, mail)
-}
-
-// These puts, behind them a mail to one address, and a reply.
-pub(crate) fn sent<F: Files>(
-    alloc: Global,
-    files: &mut F,
-    config: &Config,
-    txn: Txn,
-    to: &Address,
-    now: u64,
-    mail: Mail,
-    reply: Reply,
-) -> Result<(Txn, Reply), PartError>
-    requires moment { IsMoment now }
-    requires room { IsTrue F.tells → HasIds (F.map files.now) }
-    requires others { touches_only is_beside_queue txn ≡ true }
-    requires names { IsTrue (are_files txn) }
-    ensures value { IsTrue F.tells → IfOk result (λ done. (p : Plain) → IsList (with_puts (F.map files.old) txn) p → p.config ≡ config.now → DoesList (F.map files.old) done (spec.mail_to to.now now mail p, reply)) }
-    ensures own { IfOk result (λ done. touches_only is_of_list done.0 ≡ true) }
-    ensures files { IfOk result (λ done. IsTrue (are_files done.0)) }
-    ensures reply { IfOk result (λ done. done.1 ≡ reply) }
-    ensures names { NamesDamaged ⟦<F as Files>⟧ (λ name. same_name name ids_name ≡ true) (IsDamaged (F.map files.old)) result }
-    ensures reads { IsReading ⟦<F as Files>⟧ files.old files.new result }
-{
-    with_mail(alloc, files, config, txn, to, now, &mail, reply)
-}
-
-// A mail to all moderators, and that somebody was asked.
-fn sent_to_moderators<F: Files>(
-    alloc: Global,
-    files: &mut F,
-    config: &Config,
-    now: u64,
-    mail: Mail,
-) -> Result<(Txn, Reply), PartError>
-    requires moment { IsMoment now }
-    requires room { IsTrue F.tells → HasIds (F.map files.now) }
-    ensures value { IsTrue F.tells → IfOk result (λ done. (p : Plain) → IsList (F.map files.old) p → p.config ≡ config.now → DoesList (F.map files.old) done (spec.mail_moderators now mail p, answers.asked)) }
-    ensures own { IfOk result (λ done. touches_only is_of_list done.0 ≡ true) }
-    ensures files { IfOk result (λ done. IsTrue (are_files done.0)) }
-    ensures reply { IfOk result (λ done. done.1 ≡ answers.asked) }
-    ensures names { NamesDamaged ⟦<F as Files>⟧ (λ name. is_mailed_by sets.Moderators name ≡ true) (IsDamaged (F.map files.old)) result }
-    ensures reads { IsReading ⟦<F as Files>⟧ files.old files.new result }
-{
     let reply = plain(Reply::ASKED);
     with_mail_to_moderators(alloc, files, config, Txn::new(alloc), now, &mail, reply)
 }

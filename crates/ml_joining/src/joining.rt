@@ -20,10 +20,11 @@ ghost use Rattle.ml_acts.specs.Damaged.{IsDamaged};
 ghost use Rattle.ml_joining.specs.Deeds.{IsSubject, MayJoin, joining_deed};
 ghost use Rattle.ml_joining.specs.Reads.{is_read_to_join, is_touched_with_mail};
 
-use crate::asking::{ask, ask_moderators, sent};
+use crate::asking::{ask, ask_moderators};
 use crate::deeds::{Joining, plain, reply_of};
 use crate::subjects::Subject;
 use ml_address::Word;
+use ml_acts::with_mail;
 use ml_base::{Address, Bytes, Files, PartError, Set, Txn};
 use ml_config::Config;
 use ml_plain::Reply;
@@ -91,7 +92,7 @@ fn tell_already<F: Files>(
     };
     let txn = Txn::new(alloc);
     let reply = plain(Reply::ALREADY);
-    sent(alloc, files, config, txn, sender, now, mail, reply)
+    with_mail(alloc, files, config, txn, sender, now, &mail, reply)
 }
 
 // An address that a set doesn't have joins it, where there is room, and is welcomed.
@@ -146,5 +147,5 @@ fn welcome<F: Files>(
         who: Bytes::from_slice(alloc, who.bytes())?,
     };
     let reply = plain(Reply::SUBSCRIBED);
-    sent(alloc, files, config, txn, who, now, mail, reply)
+    with_mail(alloc, files, config, txn, who, now, &mail, reply)
 }

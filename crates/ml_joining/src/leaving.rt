@@ -19,10 +19,10 @@ ghost use Rattle.ml_acts.specs.Damaged.{IsDamaged};
 ghost use Rattle.ml_joining.specs.Deeds.{IsSubject, MayLeave, leaving_deed};
 ghost use Rattle.ml_joining.specs.Reads.{is_read_to_leave};
 
-use crate::asking::{ask, sent};
+use crate::asking::ask;
 use crate::deeds::{Leaving, plain, reply_of};
 use crate::subjects::Subject;
-use ml_acts::remove_member;
+use ml_acts::{remove_member, with_mail};
 use ml_address::Word;
 use ml_base::{Address, Bytes, Files, PartError, Set, Txn};
 use ml_config::Config;
@@ -89,7 +89,7 @@ fn tell_absent<F: Files>(
     };
     let txn = Txn::new(alloc);
     let reply = plain(Reply::ABSENT);
-    sent(alloc, files, config, txn, sender, now, mail, reply)
+    with_mail(alloc, files, config, txn, sender, now, &mail, reply)
 }
 
 // An address that a set has leaves it, and gets its goodbye.
@@ -144,5 +144,5 @@ fn goodbye<F: Files>(
         who: Bytes::from_slice(alloc, who.bytes())?,
     };
     let reply = plain(Reply::UNSUBSCRIBED);
-    sent(alloc, files, config, txn, who, now, mail, reply)
+    with_mail(alloc, files, config, txn, who, now, &mail, reply)
 }

@@ -20,7 +20,7 @@ ghost use Rattle.ml_manage.specs.Texts as words;
 use crate::members::is_member;
 use crate::naming::plain;
 use crate::texts::{add_post, entries_text, no_posts};
-use ml_acts::mail_to;
+use ml_acts::with_mail;
 use ml_archive::{index, post, range, thread};
 use ml_base::{Address, Bytes, Files, PartError, Set, Txn};
 use ml_config::Config;
@@ -176,8 +176,8 @@ fn sent<F: Files>(
         to: Bytes::from_slice(alloc, sender.bytes())?,
         lines,
     };
-    let txn = mail_to(alloc, files, config, sender, now, &mail)?;
-    Ok((txn, plain(Reply::ARCHIVE)))
+    let reply = plain(Reply::ARCHIVE);
+    with_mail(alloc, files, config, Txn::new(alloc), sender, now, &mail, reply)
 }
 
 // The text of a range of posts.

@@ -14,7 +14,7 @@ ghost use Rattle.ml_acts.specs.Damaged.{IsDamaged};
 ghost use Rattle.ml_acts.specs.Doing.{DoesList, HasIds};
 
 use crate::naming::plain;
-use ml_acts::{mail_to, reply_path, send};
+use ml_acts::{reply_path, send, with_mail};
 use ml_base::{Address, AddressList, Bytes, Files, PartError, Row, Txn};
 use ml_config::Config;
 use ml_plain::Reply;
@@ -41,8 +41,8 @@ pub(crate) fn helped<F: Files>(
     let mail = Mail::Help {
         to: Bytes::from_slice(alloc, sender.bytes())?,
     };
-    let txn = mail_to(alloc, files, config, sender, now, &mail)?;
-    Ok((txn, plain(Reply::HELP)))
+    let reply = plain(Reply::HELP);
+    with_mail(alloc, files, config, Txn::new(alloc), sender, now, &mail, reply)
 }
 
 // A message goes on to the owner, unchanged.

@@ -1,6 +1,6 @@
 // Who is in a set.
 ghost use Rattle.std.specs.Prelude.{◌≡◌, ◌&&◌, ◌||◌, true, IsTrue, IfOk};
-ghost use Rattle.ml_base.specs.Dir.{are_files, same_name, touches_only};
+ghost use Rattle.ml_base.specs.Dir.{are_files, touches_only};
 ghost use Rattle.ml_base.specs.Ranges.{IsMoment};
 ghost use Rattle.ml_base.specs.ReadFiles.{IsReading, NamesDamaged};
 ghost use Rattle.ml_base.specs.declared.names.Set.TheVariants as sets;
@@ -8,14 +8,14 @@ ghost use Rattle.ml_plain.specs.Directory.{IsList, is_of_list};
 ghost use Rattle.ml_plain.specs.KeptFiles.{is_kept};
 ghost use Rattle.ml_plain.specs.Managing as spec;
 ghost use Rattle.ml_plain.specs.Plain.{Plain, addresses, is_in, is_moderator};
-ghost use Rattle.ml_queue.specs.Answers.{ids_name};
+ghost use Rattle.ml_reply.specs.declared.mails.Mail.TheVariants as mails;
 ghost use Rattle.ml_acts.specs.Damaged.{IsDamaged};
 ghost use Rattle.ml_acts.specs.Doing.{DoesList, HasIds, is_bucket, is_bucket_of};
 ghost use Rattle.ml_manage.specs.Reads.{is_of_members};
 
 use crate::naming::plain;
-use ml_acts::mail_to;
-use ml_base::{Address, AddressList, Bytes, Files, PartError, Set, Txn};
+use ml_acts::with_mail;
+use ml_base::{Address, Bytes, Files, PartError, Set, Txn};
 use ml_config::Config;
 use ml_plain::Reply;
 use ml_reply::Mail;
@@ -57,8 +57,9 @@ pub(crate) fn members<F: Files>(
     if !may_list(alloc, files, config, sender)? {
         return Ok((Txn::new(alloc), plain(Reply::PRIVATE)));
     }
-    let members = members_of(alloc, files, set)?;
-    sent(alloc, files, config, now, sender, set, members)
+    let mail = members_mail(alloc, files, sender, set)?;
+    let reply = plain(Reply::MEMBERS);
+    with_mail(alloc, files, config, Txn::new(alloc), sender, now, &mail, reply)
 }
 
 // Whether a sender may be told who is in a set.
@@ -78,39 +79,18 @@ fn may_list<F: Files>(
     is_member(alloc, files, Set::Moderators, sender)
 }
 
-// The addresses of a set, in order.
-fn members_of<F: Files>(alloc: Global, files: &mut F, set: Set) -> Result<AddressList, PartError>
-    ensures value { IsTrue F.tells → IfOk result (λ list. (p : Plain) → IsList (F.map files.old) p → list ≡ addresses p set) }
+// The mail that shows a sender the members of a set, in order.
+fn members_mail<F: Files>(
+    alloc: Global,
+    files: &mut F,
+    sender: &Address,
+    set: Set,
+) -> Result<Mail, PartError>
+    ensures value { IsTrue F.tells → IfOk result (λ mail. (p : Plain) → IsList (F.map files.old) p → mail ≡ mails.Members sender.now set (addresses p set)) }
     ensures names { NamesDamaged ⟦<F as Files>⟧ (λ name. is_bucket set name ≡ true) (IsDamaged (F.map files.old)) result }
     ensures reads { IsReading ⟦<F as Files>⟧ files.old files.new result }
 {
-    all(alloc, files, set)
-}
-
-// These members of a set go to a sender.
-fn sent<F: Files>(
-    alloc: Global,
-    files: &mut F,
-    config: &Config,
-    now: u64,
-    sender: &Address,
-    set: Set,
-    members: AddressList,
-) -> Result<(Txn, Reply), PartError>
-    requires moment { IsMoment now }
-    requires room { IsTrue F.tells → HasIds (F.map files.now) }
-    ensures value { IsTrue F.tells → IfOk result (λ done. (p : Plain) → IsList (F.map files.old) p → p.config ≡ config.now → members ≡ addresses p set → DoesList (F.map files.old) done (spec.list_members now sender.now set p true)) }
-    ensures own { IfOk result (λ done. touches_only is_of_list done.0 ≡ true) }
-    ensures files { IfOk result (λ done. IsTrue (are_files done.0)) }
-    ensures reply { IfOk result (λ done. is_kept done.1 ≡ true) }
-    ensures names { NamesDamaged ⟦<F as Files>⟧ (λ name. same_name name ids_name ≡ true) (IsDamaged (F.map files.old)) result }
-    ensures reads { IsReading ⟦<F as Files>⟧ files.old files.new result }
-{
-    let mail = Mail::Members {
-        to: Bytes::from_slice(alloc, sender.bytes())?,
-        set,
-        members,
-    };
-    let txn = mail_to(alloc, files, config, sender, now, &mail)?;
-    Ok((txn, plain(Reply::MEMBERS)))
+    let to = Bytes::from_slice(alloc, sender.bytes())?;
+    let members = all(alloc, files, set)?;
+    Ok(Mail::Members { to, set, members })
 }

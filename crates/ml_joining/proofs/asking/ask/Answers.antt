@@ -15,8 +15,8 @@ returns-clause-value g c told =
     let to = c.args.to.now in
     let x = c.args.x.now in
     let same = g.met.F.Files.kept_map c.args.files.now c.key.new.files told c.key.ensures.reads.kept in
-    told_by old (g.F.Files.map c.key.new.files) c.new.result c.sent.result c.args.config.now (λ p. (spec.mail_to to c.args.now c.in_ok-mail.mail p, c.plain-reply.result)) (λ p. (spec.ask to c.args.now c.args.word c.args.set x p, asked)) same c.new.ensures
+    told_by old (g.F.Files.map c.key.new.files) c.new.result c.with_mail.result c.args.config.now (λ p. (spec.mail_to to c.args.now c.in_ok-mail.mail p, c.plain-reply.result)) (λ p. (spec.ask to c.args.now c.args.word c.args.set x p, asked)) same c.new.ensures
     (λ p is e. ap₂ (λ (m : Mail) (r : Reply). (spec.mail_to to c.args.now m p, r))
     (c.in_ok-mail.ensures ∙ ap (λ (a : Text). spec.question c.args.word to a c.args.set x) (c.in_ok-reply.ensures p e (one_key_file (old key_name) p.keys c.in_ok-keys.keys is.keys (c.in_ok-keys.ensures.value told))))
     c.plain-reply.ensures)
-    (c.sent.ensures.value told)
+    (c.with_mail.ensures.value told)

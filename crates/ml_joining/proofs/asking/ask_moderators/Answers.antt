@@ -1,8 +1,8 @@
-use Rattle.std.proofs.Common.{◌≡◌, true, ◌||◌, sym, ap, ◌∙◌, ◌⊎◌, inl, inr, subst}
+use Rattle.std.proofs.Common.{◌≡◌, true, ◌||◌, sym, ap, ap₂, ◌∙◌, ◌⊎◌, inl, inr}
 use Rattle.std.proofs.lemmas.Bool.{or_cases, or_left, or_right}
 use Rattle.ml_address.specs.declared.Word.TheVariants as words
 use Rattle.ml_base.specs.Bytes.{Text}
-use Rattle.ml_base.specs.Dir.{Dir, same_name}
+use Rattle.ml_base.specs.Dir.{same_name}
 use Rattle.ml_base.specs.declared.names.Name.{Name}
 use Rattle.ml_base.specs.declared.names.Set.TheVariants as sets
 use Rattle.ml_config.proofs.KeyLemmas.{one_key_file}
@@ -10,14 +10,13 @@ use Rattle.ml_config.specs.KeyFile.{key_name}
 use Rattle.ml_config.specs.declared.configuration.Config.{Config}
 use Rattle.ml_queue.specs.Answers.{ids_name}
 use Rattle.ml_plain.specs.Answers.{asked}
-use Rattle.ml_plain.specs.Directory.{IsList}
 use Rattle.ml_plain.specs.Mailing as spec
+use Rattle.ml_plain.specs.declared.Reply.{Reply}
 use Rattle.ml_reply.specs.declared.mails.Mail.{Mail}
 use Rattle.ml_reply.specs.declared.mails.Mail.TheVariants.{AskTc}
-use Rattle.ml_acts.specs.Doing.{DoesList, is_bucket, is_mailed_by}
-use Rattle.ml_acts.proofs.Damages.{ok_then}
+use Rattle.ml_acts.specs.Doing.{is_bucket, is_mailed_by}
 use Rattle.ml_joining.specs.Reads.{is_for_mail}
-use Rattle.ml_joining.proofs.Does.{fewer_kept}
+use Rattle.ml_joining.proofs.Does.{fewer_kept, told_by}
 use Rattle.ml_joining.proofs.asking.ask_moderators.Goals as goal
 
 pub returns-clause-value : goal.returns-clause-value
@@ -25,15 +24,13 @@ returns-clause-value g c told =
     let old = g.F.Files.map c.args.files.now in
     let x = c.args.x.now in
     let same = g.met.F.Files.kept_map c.args.files.now c.key.new.files told c.key.ensures.reads.kept in
-    ok_then c.sent_to_moderators.result
-    (λ done value p is e.
-    subst (λ (d : Dir). DoesList d done (spec.ask_moderators c.args.now c.args.set x p, asked)) same
-    (subst (λ (m : Mail). DoesList (g.F.Files.map c.key.new.files) done (spec.mail_moderators c.args.now m p, asked))
+    told_by old (g.F.Files.map c.key.new.files) c.new.result c.with_mail_to_moderators.result c.args.config.now (λ p. (spec.mail_moderators c.args.now c.in_ok-mail.mail p, c.plain-reply.result)) (λ p. (spec.ask_moderators c.args.now c.args.set x p, asked)) same c.new.ensures
+    (λ p is e. ap₂ (λ (m : Mail) (r : Reply). (spec.mail_moderators c.args.now m p, r))
     (c.in_ok-mail.ensures
     ∙ ap (λ (a : Text). AskTc (spec.owner_address c.args.config.now) a c.args.set x) (c.in_ok-reply.ensures p e (one_key_file (old key_name) p.keys c.in_ok-keys.keys is.keys (c.in_ok-keys.ensures.value told)))
     ∙ ap (λ (d : Config). AskTc (spec.owner_address d) (spec.confirm_address p words.Tc c.args.set x c.args.now) c.args.set x) (sym e))
-    (value p (subst (λ (d : Dir). IsList d p) (sym same) is) e)))
-    (c.sent_to_moderators.ensures.value told)
+    c.plain-reply.ensures)
+    (c.with_mail_to_moderators.ensures.value told)
 
 wider : (name : Name) → is_mailed_by sets.Moderators name ≡ true → (is_for_mail name || is_bucket sets.Moderators name) ≡ true
 wider name e = go (or_cases (is_bucket sets.Moderators name) (same_name name ids_name) e)
@@ -44,5 +41,5 @@ wider name e = go (or_cases (is_bucket sets.Moderators name) (same_name name ids
 
 pub returns-clause-names : goal.returns-clause-names
 returns-clause-names g c =
-    fewer_kept g.F.Files c.args.files.now c.key.new.files (λ name. (is_for_mail name || is_bucket sets.Moderators name) ≡ true) (λ name. is_mailed_by sets.Moderators name ≡ true) c.sent_to_moderators.result
-    (λ told. g.met.F.Files.kept_map c.args.files.now c.key.new.files told c.key.ensures.reads.kept) wider c.sent_to_moderators.ensures.names
+    fewer_kept g.F.Files c.args.files.now c.key.new.files (λ name. (is_for_mail name || is_bucket sets.Moderators name) ≡ true) (λ name. is_mailed_by sets.Moderators name ≡ true) c.with_mail_to_moderators.result
+    (λ told. g.met.F.Files.kept_map c.args.files.now c.key.new.files told c.key.ensures.reads.kept) wider c.with_mail_to_moderators.ensures.names
