@@ -1,0 +1,6 @@
+//! The pages of a list's archive as questions of a list.
+#![tactic(auto)]
+
+mod pages;
+
+pub use pages::PageQuery;
