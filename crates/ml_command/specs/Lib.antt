@@ -2,9 +2,9 @@ pub mod Asking
 pub mod Commands
 pub mod Delivering
 pub mod Giving
+pub mod Inquiries
 pub mod ItemSource
 pub mod Making
-pub mod Message
 pub mod Single
 pub mod Spooling
 pub mod Words

@@ -11,9 +11,9 @@ ghost use Rattle.ml_command.specs.Single.{AnswersItem};
 ghost use Rattle.ml_command.specs.Words.{Deliver, deliver_of, delivered, fits_envelope, texts};
 
 use crate::asking::item_number;
-use crate::message::read_message;
 use crate::single::answer_item;
 use ml_base::Bytes;
+use ml_input::read_input;
 use ml_plain::{Act, Item};
 use ml_run::{Why, stop};
 use ml_site::{Clock, Site, Source};
@@ -21,6 +21,9 @@ use std::alloc::{AllocError, Global};
 
 // The most bytes of a sender or a recipient.
 const LONGEST_ADDRESS: usize = 1000;
+
+// The most bytes of a message.
+const LONGEST_MESSAGE: u32 = 33_554_432;
 
 /// Delivers the input from the sender to the recipient that the words behind `deliver` give, under their number.
 pub(crate) fn deliver_words<I: Source, S: Site, K: Clock>(
@@ -119,7 +122,7 @@ fn deliver_at<I: Source, S: Site>(
     requires recipient { length recipient.now ≤ 1000 }
     ensures { DeliversAt ⟦<I as Source>⟧ ⟦<S as Site>⟧ number moment sender.now recipient.now input.old input.new site result.1 result.0 }
 {
-    match read_message(alloc, input) {
+    match read_input(alloc, LONGEST_MESSAGE, input) {
         Ok(message) => deliver_message(alloc, number, moment, sender, recipient, message, site),
         Err(why) => stop(site, why),
     }

@@ -7,7 +7,6 @@ mod delivering;
 mod giving;
 mod item_source;
 mod making;
-mod message;
 mod single;
 mod spooling;
 

@@ -1,13 +1,13 @@
--- A message that goes on with what was read.
+-- Bytes that go on with what was read.
 use Rattle.std.proofs.Common.{[], arith, refl, ◌≡◌, ℕ, ◌+◌, ◌≤◌, ◌<◌, ◌++◌, length, take, Option, Some, None, IfSome, ap, sym, subst, ◌∙◌, append_assoc}
 use Rattle.std.proofs.lemmas.List.{length-take-le, take-append-le, take-take}
 use Rattle.std.proofs.Math.Seq.{take-append-add, take-append_seam}
 use Rattle.ml_base.specs.Bytes.{Text}
 use Rattle.ml_site.specs.Source.{Takes}
 use Rattle.ml_site.specs.declared.source.Source.{Ghosts as SourceGhosts}
-use Rattle.ml_command.specs.Message.{Continues, ReadsAtMost, TakesFront, longest_message}
+use Rattle.ml_input.specs.Input.{Continues, ReadsAtMost, TakesFront}
 
--- a message to which zeros were added, and some first bytes of a piece written over these
+-- bytes to which zeros were added, and some first bytes of a piece written over these
 written : (old zeros piece behind rest : Text) (room count : ℕ) → length old + count ≤ room → count ≤ length piece
     → take (length old + count) (take room ((take (length old) (old ++ zeros) ++ (piece ++ behind)) ++ rest)) ≡ old ++ take count piece
 written old zeros piece behind rest room count fits low =
@@ -36,10 +36,10 @@ continues (Some left) after old new grown zeros piece behind rest len room count
 }
 
 -- where nothing is read
-pub nothing_read : {I : Type 0} (source : SourceGhosts I) (input : I) → ReadsAtMost source input input
-nothing_read source input = of (source.left input) refl
+pub nothing_read : {I : Type 0} (source : SourceGhosts I) (limit : ℕ) (input : I) → ReadsAtMost source limit input input
+nothing_read source limit input = of (source.left input) refl
   where
-    of : (left : Option Text) → source.left input ≡ left → ReadsAtMost source input input
-    of None is = subst (λ (o : Option Text). IfSome o (λ left. TakesFront left (source.left input) (λ n. n ≤ longest_message + 1))) (sym is) tt
-    of (Some bytes) is = subst (λ (o : Option Text). IfSome o (λ left. TakesFront left (source.left input) (λ n. n ≤ longest_message + 1))) (sym is)
+    of : (left : Option Text) → source.left input ≡ left → ReadsAtMost source limit input input
+    of None is = subst (λ (o : Option Text). IfSome o (λ left. TakesFront left (source.left input) (λ n. n ≤ limit + 1))) (sym is) tt
+    of (Some bytes) is = subst (λ (o : Option Text). IfSome o (λ left. TakesFront left (source.left input) (λ n. n ≤ limit + 1))) (sym is)
         (record { front = []; rest = bytes; split = refl; after_is = is; count = omega arith })

@@ -1,12 +1,12 @@
 use Rattle.std.proofs.Common.{◌≡◌, ◌++◌, ◌-◌, ◌∙◌, ℕ, List, arith, rules, length, replicate, take, ap}
 use Rattle.std.proofs.lemmas.Grind.{common_steps}
 use Rattle.std.proofs.lemmas.List.{take_all}
-use Rattle.ml_command.proofs.Messages.{continues}
-use Rattle.ml_command.proofs.message.read_piece.Goals as goal
+use Rattle.ml_input.proofs.Pieces.{continues}
+use Rattle.ml_input.proofs.input.read_piece.Goals as goal
 
 pub returns-in-Ok-clause-taken : goal.returns-in-Ok-clause-taken
 returns-in-Ok-clause-taken g c =
-    let old : List ℕ = c.args.message.now.items in
+    let old : List ℕ = c.args.bytes.now.items in
     let zeros : List ℕ = replicate {A = ℕ} (c.min-end.result - length old) 0 in
     let same : take c.min-end.result old ≡ old = take_all c.min-end.result old (grind (arith, common_steps)) in
     let resized : c.resize.new.self.items ≡ take c.min-end.result old ++ zeros = search rules in
