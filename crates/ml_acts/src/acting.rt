@@ -27,14 +27,14 @@ pub fn with_mail<F: Files>(
     txn: Txn,
     to: &Address,
     now: u64,
-    mail: &Mail,
+    mail: Mail,
     reply: Reply,
 ) -> Result<(Txn, Reply), PartError>
     requires moment { IsMoment now }
     requires room { IsTrue F.tells → HasIds (F.map files.now) }
     requires others { touches_only is_beside_queue txn ≡ true }
     requires names { IsTrue (are_files txn) }
-    ensures value { IsTrue F.tells → IfOk result (λ done. (p : Plain) → IsList (with_puts (F.map files.old) txn) p → p.config ≡ config.now → DoesList (F.map files.old) done (spec.mail_to to.now now mail.now p, reply)) }
+    ensures value { IsTrue F.tells → IfOk result (λ done. (p : Plain) → IsList (with_puts (F.map files.old) txn) p → p.config ≡ config.now → DoesList (F.map files.old) done (spec.mail_to to.now now mail p, reply)) }
     ensures own { IfOk result (λ done. touches_only is_of_list done.0 ≡ true) }
     ensures files { IfOk result (λ done. IsTrue (are_files done.0)) }
     ensures reply { IfOk result (λ done. done.1 ≡ reply) }
@@ -55,14 +55,14 @@ pub fn with_mail_to_moderators<F: Files>(
     config: &Config,
     txn: Txn,
     now: u64,
-    mail: &Mail,
+    mail: Mail,
     reply: Reply,
 ) -> Result<(Txn, Reply), PartError>
     requires moment { IsMoment now }
     requires room { IsTrue F.tells → HasIds (F.map files.now) }
     requires others { touches_only (is_beside_mail sets.Moderators) txn ≡ true }
     requires names { IsTrue (are_files txn) }
-    ensures value { IsTrue F.tells → IfOk result (λ done. (p : Plain) → IsList (with_puts (F.map files.old) txn) p → p.config ≡ config.now → DoesList (F.map files.old) done (spec.mail_moderators now mail.now p, reply)) }
+    ensures value { IsTrue F.tells → IfOk result (λ done. (p : Plain) → IsList (with_puts (F.map files.old) txn) p → p.config ≡ config.now → DoesList (F.map files.old) done (spec.mail_moderators now mail p, reply)) }
     ensures own { IfOk result (λ done. touches_only is_of_list done.0 ≡ true) }
     ensures files { IfOk result (λ done. IsTrue (are_files done.0)) }
     ensures reply { IfOk result (λ done. done.1 ≡ reply) }

@@ -10,6 +10,7 @@ ghost use Rattle.ml_plain.specs.Directory.{IsList};
 ghost use Rattle.ml_plain.specs.Mailing as spec;
 ghost use Rattle.ml_plain.specs.Plain.{Plain};
 ghost use Rattle.ml_queue.specs.Answers.{ids_name};
+ghost use Rattle.ml_reply.specs.Mails.{mail_text};
 ghost use Rattle.ml_acts.specs.Doing.{Alike, DrawsId, HasIds, is_mailed_by, is_of_queue, is_with_queue};
 ghost use Rattle.ml_acts.specs.Damaged.{IsDamaged};
 
@@ -72,6 +73,19 @@ fn one(alloc: Global, who: &Address) -> Result<AddressList, AllocError>
     Ok(to)
 }
 
+/// A mail as it is sent at this moment, in seconds since 1970. It takes the mail, so that no call that sends one lets it go.
+pub fn mail_body(
+    alloc: Global,
+    config: &Config,
+    mail: Mail,
+    now: u64,
+) -> Result<Bytes, AllocError>
+    requires { IsMoment now }
+    ensures { IfOk result (λ body. body ≡ mail_text config.now mail now) }
+{
+    text(alloc, config, &mail, now)
+}
+
 /// A mail of this moment to one address: the puts that queue it. It reads the counter of ids.
 pub fn mail_to<F: Files>(
     alloc: Global,
@@ -79,19 +93,19 @@ pub fn mail_to<F: Files>(
     config: &Config,
     to: &Address,
     now: u64,
-    mail: &Mail,
+    mail: Mail,
 ) -> Result<Txn, PartError>
     requires moment { IsMoment now }
     requires room { IsTrue F.tells → HasIds (F.map files.now) }
-    ensures value { IsTrue F.tells → IfOk result (λ txn. (dir : Dir) (p : Plain) → Alike is_of_queue (F.map files.old) dir → IsList dir p → p.config ≡ config.now → IsList (with_puts dir txn) (spec.mail_to to.now now mail.now p)) }
+    ensures value { IsTrue F.tells → IfOk result (λ txn. (dir : Dir) (p : Plain) → Alike is_of_queue (F.map files.old) dir → IsList dir p → p.config ≡ config.now → IsList (with_puts dir txn) (spec.mail_to to.now now mail p)) }
     ensures own { IfOk result (λ txn. touches_only is_of_queue txn ≡ true) }
     ensures files { IfOk result (λ txn. IsTrue (are_files txn)) }
     ensures drawn { IsTrue F.tells → IfOk result (λ txn. DrawsId (F.map files.old) txn) }
     ensures names { NamesDamaged ⟦<F as Files>⟧ (λ name. same_name name ids_name ≡ true) (IsDamaged (F.map files.old)) result }
     ensures reads { IsReading ⟦<F as Files>⟧ files.old files.new result }
 {
+    let body = mail_body(alloc, config, mail, now)?;
     let way = reply_path(alloc, config)?;
-    let body = text(alloc, config, mail, now)?;
     let to = one(alloc, to)?;
     send(alloc, files, way, body, to)
 }
@@ -103,18 +117,18 @@ pub fn mail_moderators<F: Files>(
     files: &mut F,
     config: &Config,
     now: u64,
-    mail: &Mail,
+    mail: Mail,
 ) -> Result<Txn, PartError>
     requires moment { IsMoment now }
     requires room { IsTrue F.tells → HasIds (F.map files.now) }
-    ensures value { IsTrue F.tells → IfOk result (λ txn. (dir : Dir) (p : Plain) → Alike (is_with_queue sets.Moderators) (F.map files.old) dir → IsList dir p → p.config ≡ config.now → IsList (with_puts dir txn) (spec.mail_moderators now mail.now p)) }
+    ensures value { IsTrue F.tells → IfOk result (λ txn. (dir : Dir) (p : Plain) → Alike (is_with_queue sets.Moderators) (F.map files.old) dir → IsList dir p → p.config ≡ config.now → IsList (with_puts dir txn) (spec.mail_moderators now mail p)) }
     ensures own { IfOk result (λ txn. touches_only is_of_queue txn ≡ true) }
     ensures files { IfOk result (λ txn. IsTrue (are_files txn)) }
     ensures names { NamesDamaged ⟦<F as Files>⟧ (λ name. is_mailed_by sets.Moderators name ≡ true) (IsDamaged (F.map files.old)) result }
     ensures reads { IsReading ⟦<F as Files>⟧ files.old files.new result }
 {
+    let body = mail_body(alloc, config, mail, now)?;
     let way = reply_path(alloc, config)?;
-    let body = text(alloc, config, mail, now)?;
     let to = recipients(alloc, files, Set::Moderators)?;
     send(alloc, files, way, body, to)
 }

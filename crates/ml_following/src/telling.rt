@@ -13,11 +13,11 @@ ghost use Rattle.ml_acts.specs.Damaged.{IsDamaged};
 ghost use Rattle.ml_acts.specs.Doing.{DrawsId, HasIds, is_of_queue};
 ghost use Rattle.ml_following.specs.Telling as telling;
 
-use ml_acts::{bounce_path, key_of, send};
+use ml_acts::{bounce_path, key_of, mail_body, send};
 use ml_base::{Address, AddressList, Bytes, Files, PartError, Row, Set, Txn};
 use ml_bounce::Action;
 use ml_config::{Config, Keys};
-use ml_reply::{Mail, text};
+use ml_reply::Mail;
 use std::alloc::{AllocError, Global};
 
 // The mail that a member gets of an action: a warning of the numbers that he missed, or a probe.
@@ -64,21 +64,21 @@ pub(crate) fn tell<F: Files>(
     kind: &[u8],
     set: Set,
     who: &Address,
-    mail: &Mail,
+    mail: Mail,
     now: u64,
 ) -> Result<Txn, PartError>
     requires moment { IsMoment now }
     requires room { IsTrue F.tells → HasIds (F.map files.now) }
-    ensures value { IsTrue F.tells → IfOk result (λ txn. (p : Plain) → IsList (F.map files.old) p → p.config ≡ config.now → p.keys ≡ keys.now → IsList (with_puts (F.map files.old) txn) (spec.bounce_mail kind.now set who.now now mail.now p)) }
+    ensures value { IsTrue F.tells → IfOk result (λ txn. (p : Plain) → IsList (F.map files.old) p → p.config ≡ config.now → p.keys ≡ keys.now → IsList (with_puts (F.map files.old) txn) (spec.bounce_mail kind.now set who.now now mail p)) }
     ensures own { IfOk result (λ txn. touches_only is_of_queue txn ≡ true) }
     ensures files { IfOk result (λ txn. IsTrue (are_files txn)) }
     ensures drawn { IsTrue F.tells → IfOk result (λ txn. DrawsId (F.map files.old) txn) }
     ensures names { NamesDamaged ⟦<F as Files>⟧ (λ name. same_name name ids_name ≡ true) (IsDamaged (F.map files.old)) result }
     ensures reads { IsReading ⟦<F as Files>⟧ files.old files.new result }
 {
+    let body = mail_body(alloc, config, mail, now)?;
     let key = key_of(alloc, who)?;
     let way = bounce_path(alloc, config, keys, kind, set, key.as_slice(), now)?;
-    let body = text(alloc, config, mail, now)?;
     let to = alone(alloc, who)?;
     send(alloc, files, way, body, to)
 }

@@ -87,7 +87,7 @@ pub(crate) fn ask<F: Files>(
     let reply = confirm_address(alloc, config, &keys, word, set, x, now)?;
     let mail = question(alloc, word, to, reply, set, x)?;
     let reply = plain(Reply::ASKED);
-    with_mail(alloc, files, config, Txn::new(alloc), to, now, &mail, reply)
+    with_mail(alloc, files, config, Txn::new(alloc), to, now, mail, reply)
 }
 
 // The mail that asks the moderators to confirm a subscription.
@@ -134,5 +134,5 @@ pub(crate) fn ask_moderators<F: Files>(
     let reply = confirm_address(alloc, config, &keys, Word::Tc, set, x, now)?;
     let mail = moderators_question(alloc, config, reply, set, x)?;
     let reply = plain(Reply::ASKED);
-    with_mail_to_moderators(alloc, files, config, Txn::new(alloc), now, &mail, reply)
+    with_mail_to_moderators(alloc, files, config, Txn::new(alloc), now, mail, reply)
 }

@@ -92,7 +92,7 @@ fn tell_already<F: Files>(
     };
     let txn = Txn::new(alloc);
     let reply = plain(Reply::ALREADY);
-    with_mail(alloc, files, config, txn, sender, now, &mail, reply)
+    with_mail(alloc, files, config, txn, sender, now, mail, reply)
 }
 
 // An address that a set doesn't have joins it, where there is room, and is welcomed.
@@ -147,5 +147,5 @@ fn welcome<F: Files>(
         who: Bytes::from_slice(alloc, who.bytes())?,
     };
     let reply = plain(Reply::SUBSCRIBED);
-    with_mail(alloc, files, config, txn, who, now, &mail, reply)
+    with_mail(alloc, files, config, txn, who, now, mail, reply)
 }

@@ -89,7 +89,7 @@ fn tell_absent<F: Files>(
     };
     let txn = Txn::new(alloc);
     let reply = plain(Reply::ABSENT);
-    with_mail(alloc, files, config, txn, sender, now, &mail, reply)
+    with_mail(alloc, files, config, txn, sender, now, mail, reply)
 }
 
 // An address that a set has leaves it, and gets its goodbye.
@@ -144,5 +144,5 @@ fn goodbye<F: Files>(
         who: Bytes::from_slice(alloc, who.bytes())?,
     };
     let reply = plain(Reply::UNSUBSCRIBED);
-    with_mail(alloc, files, config, txn, who, now, &mail, reply)
+    with_mail(alloc, files, config, txn, who, now, mail, reply)
 }

@@ -203,7 +203,7 @@ fn rejected<F: Files>(
     let txn = taken(alloc, files, ticket)?;
     let mail = rejection(alloc, held)?;
     let reply = plain(Reply::REJECTED);
-    with_mail(alloc, files, config, txn, &held.sender, now, &mail, reply)
+    with_mail(alloc, files, config, txn, &held.sender, now, mail, reply)
 }
 
 // The mail that gives a post back to its sender.

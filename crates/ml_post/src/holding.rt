@@ -87,7 +87,7 @@ fn ask<F: Files>(
 {
     let keys = list_keys(alloc, files)?;
     let mail = moderate_mail(alloc, config, &keys, ticket, now, message)?;
-    with_mail_to_moderators(alloc, files, config, txn, now, &mail, waiting(ticket))
+    with_mail_to_moderators(alloc, files, config, txn, now, mail, waiting(ticket))
 }
 
 // The mail that asks the moderators about a post that is held now.

@@ -3,6 +3,7 @@ use Rattle.std.proofs.lemmas.Bool.{or_cases, or_left, or_right}
 use Rattle.ml_address.specs.declared.Word.TheVariants as words
 use Rattle.ml_base.specs.Bytes.{Text}
 use Rattle.ml_base.specs.Dir.{same_name}
+use Rattle.ml_base.proofs.ReadingLemmas.{kept_read, reading_then}
 use Rattle.ml_base.specs.declared.names.Name.{Name}
 use Rattle.ml_base.specs.declared.names.Set.TheVariants as sets
 use Rattle.ml_config.proofs.KeyLemmas.{one_key_file}
@@ -43,3 +44,8 @@ pub returns-clause-names : goal.returns-clause-names
 returns-clause-names g c =
     fewer_kept g.F.Files c.args.files.now c.key.new.files (λ name. (is_for_mail name || is_bucket sets.Moderators name) ≡ true) (λ name. is_mailed_by sets.Moderators name ≡ true) c.with_mail_to_moderators.result
     (λ told. g.met.F.Files.kept_map c.args.files.now c.key.new.files told c.key.ensures.reads.kept) wider c.with_mail_to_moderators.ensures.names
+
+pub returns-clause-reads : goal.returns-clause-reads
+returns-clause-reads g c =
+    reading_then g.F.Files g.met.F.Files.kept_then c.args.files.now c.key.new.files c.with_mail_to_moderators.new.files c.with_mail_to_moderators.result
+    (kept_read g.F.Files c.args.files.now c.key.new.files c.key.result c.key.ensures.reads) c.with_mail_to_moderators.ensures.reads

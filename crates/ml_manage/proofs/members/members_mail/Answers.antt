@@ -1,0 +1,9 @@
+use Rattle.std.proofs.Common.{◌≡◌, true, rules}
+use Rattle.ml_acts.specs.Doing.{is_bucket}
+use Rattle.ml_acts.proofs.Damages.{members_named}
+use Rattle.ml_manage.proofs.members.members_mail.Goals as goal
+
+pub returns-in_err-members-clause-names : goal.returns-in_err-members-clause-names
+returns-in_err-members-clause-names g c =
+    let names = members_named g.F.Files (λ name. is_bucket c.args.set name ≡ true) _ (g.F.Files.map c.args.files.now) c.args.set (λ name e. e) c.in_err-members.ensures.names in
+    search rules
