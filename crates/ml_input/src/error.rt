@@ -3,7 +3,7 @@ use std::alloc::AllocError;
 use thiserror::Error;
 
 /// Why an input makes no question.
-#[derive(Clone, Copy, Debug, PartialEq, Eq, Error)]
+#[derive(Clone, Copy, Debug, Error)]
 pub enum InputError {
     /// The input isn't as it must be: the place of the first byte of what is wrong, from 0.
     #[error("bad at {at}")]

@@ -1,4 +1,4 @@
-use Rattle.std.proofs.Common.{◌≡◌, ◌≤◌, ◌-◌, ◌++◌, List, ℕ, Some, length}
+use Rattle.std.proofs.Common.{◌≡◌, ◌≤◌, ◌+◌, ◌-◌, ◌++◌, List, ℕ, Some, length}
 use Rattle.ml_input.proofs.input.read_input.Given as goal
 
 abbrev pub invariant-loop-input : goal.invariant-loop-input
