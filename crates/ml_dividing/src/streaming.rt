@@ -1,7 +1,7 @@
 // The stream that moves a part as a question of a list.
 ghost use Rattle.std.specs.Prelude.{◌≡◌, ◌≤◌, true};
-ghost use Rattle.std.specs.Option.{option_map};
 ghost use Rattle.ml_dividing.specs.Questions.{move_words, moving_meaning, moving_of};
+ghost use Rattle.ml_reading.specs.Queries.{text_or_absent};
 ghost use Rattle.ml_split.specs.Reading.{rules_in};
 
 use crate::answering::moving;
@@ -40,7 +40,7 @@ impl Model for MoveWords {
 impl MoveWords {
     /// The stream that moves the part of a name, numbered from `first` on, or None where that is 0 or above `LAST_FIRST`.
     pub fn new(into: bool, first: u64, set: Set, name: Bytes) -> Option<MoveWords>
-        ensures { option_map (λ w. w.now) result ≡ move_words into first set name }
+        ensures { result ≡ move_words into first set name }
     {
         if 1 <= first && first <= LAST_FIRST {
             Some(MoveWords {
@@ -83,10 +83,17 @@ impl Question for Moving {
             words.first,
             self.moment,
         )?;
-        match stream {
-            Some(text) => Ok(Answer::Text(text)),
-            None => Ok(Answer::Absent),
-        }
+        Ok(one(stream))
+    }
+}
+
+// A stream, which may be absent.
+fn one(found: Option<Bytes>) -> Answer
+    ensures { result ≡ text_or_absent found }
+{
+    match found {
+        Some(text) => Answer::Text(text),
+        None => Answer::Absent,
     }
 }
 
