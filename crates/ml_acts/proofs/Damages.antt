@@ -1,5 +1,5 @@
 -- Which files are damaged, from what the calls of the parts say.
-use Rattle.std.proofs.Common.{◌≡◌, ◌<◌, ⊎_elim, ap, Bool, true, false, length, IsTrue, IfErr, IfOk, Result, Ok, Err, sym, subst, refl, arith}
+use Rattle.std.proofs.Common.{◌≡◌, ◌<◌, ⊎_elim, ap, ℕ, Bool, true, false, List, length, IsTrue, IfErr, IfOk, Result, Ok, Err, sym, subst, refl, arith}
 use Rattle.std.proofs.lemmas.Bool.{and_from, eq-eqb, lt-ltb}
 use Rattle.std.proofs.lemmas.Nat.{mod_below}
 use Rattle.ml_base.specs.Address.{key}
@@ -16,7 +16,9 @@ use Rattle.ml_base.specs.declared.names.Set.TheVariants as sets
 use Rattle.ml_base.specs.declared.part.PartError.{PartError}
 use Rattle.ml_base.specs.declared.part.PartError.TheVariants.{Fault, Memory, Damaged}
 use Rattle.ml_base.proofs.DamagedNames.{err_damaged, err_both_damaged}
-use Rattle.ml_archive.specs.Archive.{number_name}
+use Rattle.ml_archive.specs.Answers.{IsNoIndex}
+use Rattle.ml_archive.specs.Archive.{ArePosts, index_name, number_name}
+use Rattle.ml_archive.specs.declared.posts.Post.{Post}
 use Rattle.ml_archive.specs.Threads.{IsArchive}
 use Rattle.ml_archive.proofs.Exact.{count_one}
 use Rattle.ml_bounce.specs.Answers.{has_ledger, IsBadFile, IsNoFile, key_file}
@@ -36,7 +38,7 @@ use Rattle.ml_subs.proofs.Answering.{unread}
 use Rattle.ml_plain.specs.Directory.{IsList}
 use Rattle.ml_plain.specs.Plain.{Plain}
 use Rattle.ml_acts.specs.Doing.{is_bucket, is_bucket_of, is_entry_of}
-use Rattle.ml_acts.specs.Damaged.{IsDamaged, IsNoKeys}
+use Rattle.ml_acts.specs.Damaged.{AreNoPosts, IsDamaged, IsNoKeys}
 use Rattle.ml_acts.specs.Damaged as damage
 
 -- no file of a list is damaged
@@ -145,6 +147,16 @@ module _ {F T : Type 0} (told : Ghosts F) (May : Name → Type 0) (r : Result T 
     queue_named may is =
         named_so (λ name. name ≡ ids_name) (Breaks dir) (IsDamaged dir)
         (λ name e. may name (subst (λ (a : Name). same_name a ids_name ≡ true) (sym e) (same_self ids_name))) (λ name e bad. damage.queued bad) is
+
+    -- the index of a group
+    pub index_named : (group : ℕ) → ((name : Name) → group < 1_000_000 → name ≡ index_name group → May name) → (IsTrue told.tells → (posts : List Post) → ArePosts dir posts → IfErr r (λ e. OnDamaged e (λ _. ⊥)))
+        → IfErr r (λ e. OnDamaged e (λ _. group < 1_000_000)) → NamesDamaged told (λ name. name ≡ index_name group) (λ _. IsNoIndex dir group) r → NamesDamaged told May (IsDamaged dir) r
+    index_named group may sound table is = record {
+      named = err_both_damaged r (λ _. group < 1_000_000) (λ name. name ≡ index_name group) May may table is.named;
+      damaged = λ t.
+          err_both_damaged r (λ name. name ≡ index_name group) (λ _. IsNoIndex dir group × AreNoPosts dir) (IsDamaged dir) (λ name e no. damage.index group e no.0 no.1) is.named
+          (err_both_damaged r (λ _. IsNoIndex dir group) (λ _. AreNoPosts dir) (λ _. IsNoIndex dir group × AreNoPosts dir) (λ name no none. (no, none)) (is.damaged t) (err_all r (ArePosts dir) (sound t)));
+    }
 
     -- a call that names none
     pub none_named : IfErr r (λ e. OnDamaged e (λ _. ⊥)) → NamesDamaged told May (IsDamaged dir) r

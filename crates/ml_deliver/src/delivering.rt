@@ -17,7 +17,6 @@ ghost use Rattle.ml_acts.specs.Damaged.{IsDamaged};
 ghost use Rattle.ml_acts.specs.Doing.{DoesList, HasRoom};
 ghost use Rattle.ml_deliver.specs.Reads.{is_of_acts};
 
-use crate::guarding::guarded;
 use crate::moderating::moderated;
 use ml_acts::{Memo, is_worn};
 use ml_address::{Request, read_request};
@@ -54,28 +53,6 @@ pub fn deliver<F: Files>(
     ensures names { NamesDamaged ⟦<F as Files>⟧ (λ name. is_of_acts name ≡ true) (IsDamaged (F.map files.old)) result }
     ensures reads { IsReading ⟦<F as Files>⟧ files.old files.new result }
 {
-    guarded(delivered(alloc, files, memo, now, sender, recipient, message))
-}
-
-// Reads the configuration first.
-fn delivered<F: Files>(
-    alloc: Global,
-    files: &mut F,
-    memo: &mut Memo,
-    now: u64,
-    sender: &[u8],
-    recipient: &[u8],
-    message: &[u8],
-) -> Result<(Txn, Reply), PartError>
-    requires moment { IsMoment now }
-    requires length { length message.now ≤ 33_554_432 }
-    ensures value { IsTrue F.tells → IfOk result (λ done. (p : Plain) → IsList (F.map files.old) p → DoesList (F.map files.old) done (spec.deliver now sender.now recipient.now message.now p)) }
-    ensures own { IfOk result (λ done. touches_only is_of_list done.0 ≡ true) }
-    ensures files { IfOk result (λ done. IsTrue (are_files done.0)) }
-    ensures reply { IfOk result (λ done. is_kept done.1 ≡ true) }
-    ensures names { NamesDamaged ⟦<F as Files>⟧ (λ _. Unit {0}) (IsDamaged (F.map files.old)) result }
-    ensures reads { IsReading ⟦<F as Files>⟧ files.old files.new result }
-{
     let config = configuration(alloc, files)?;
     unless_worn(alloc, files, memo, &config, now, sender, recipient, message)
 }
@@ -99,7 +76,7 @@ fn unless_worn<F: Files>(
     ensures own { IfOk result (λ done. touches_only is_of_list done.0 ≡ true) }
     ensures files { IfOk result (λ done. IsTrue (are_files done.0)) }
     ensures reply { IfOk result (λ done. is_kept done.1 ≡ true) }
-    ensures names { NamesDamaged ⟦<F as Files>⟧ (λ _. Unit {0}) (IsDamaged (F.map files.old)) result }
+    ensures names { NamesDamaged ⟦<F as Files>⟧ (λ name. is_of_acts name ≡ true) (IsDamaged (F.map files.old)) result }
     ensures reads { IsReading ⟦<F as Files>⟧ files.old files.new result }
 {
     if is_worn(alloc, files)? {
@@ -143,7 +120,7 @@ fn by_recipient<F: Files>(
     ensures own { IfOk result (λ done. touches_only is_of_list done.0 ≡ true) }
     ensures files { IfOk result (λ done. IsTrue (are_files done.0)) }
     ensures reply { IfOk result (λ done. is_kept done.1 ≡ true) }
-    ensures names { NamesDamaged ⟦<F as Files>⟧ (λ _. Unit {0}) (IsDamaged (F.map files.old)) result }
+    ensures names { NamesDamaged ⟦<F as Files>⟧ (λ name. is_of_acts name ≡ true) (IsDamaged (F.map files.old)) result }
     ensures reads { IsReading ⟦<F as Files>⟧ files.old files.new result }
 {
     let local = config.local.as_slice();
@@ -177,7 +154,7 @@ fn by_request<F: Files>(
     ensures own { IfOk result (λ done. touches_only is_of_list done.0 ≡ true) }
     ensures files { IfOk result (λ done. IsTrue (are_files done.0)) }
     ensures reply { IfOk result (λ done. is_kept done.1 ≡ true) }
-    ensures names { NamesDamaged ⟦<F as Files>⟧ (λ _. Unit {0}) (IsDamaged (F.map files.old)) result }
+    ensures names { NamesDamaged ⟦<F as Files>⟧ (λ name. is_of_acts name ≡ true) (IsDamaged (F.map files.old)) result }
     ensures reads { IsReading ⟦<F as Files>⟧ files.old files.new result }
 {
     match request {

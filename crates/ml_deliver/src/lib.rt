@@ -2,7 +2,6 @@
 #![tactic(auto)]
 
 mod delivering;
-mod guarding;
 mod moderating;
 mod sending;
 mod timing;

@@ -11,7 +11,7 @@ ghost use Rattle.ml_drawn.specs.Names.{is_of_series};
 ghost use Rattle.ml_drawn.specs.Answers.{IsDrawing};
 ghost use Rattle.ml_hold.specs.Held.{Pending, IsPending, held_text, held_post};
 ghost use Rattle.ml_hold.specs.Held as spec;
-ghost use Rattle.ml_hold.specs.Answers.{Breaks, LooksBy, TakesBy, IsTaken, IsCountedPending, post_name, tickets_name, puts_of};
+ghost use Rattle.ml_hold.specs.Answers.{Breaks, LooksBy, TakesBy, IsPostName, IsTaken, IsCountedPending, tickets_name, puts_of};
 
 use crate::Held;
 use crate::reading::{held_of, parts_of, text_of};
@@ -43,7 +43,7 @@ pub fn look<F: Files>(alloc: Global, files: &mut F, ticket: u64) -> Result<Optio
     ensures value { IsTrue F.tells → IfOk result (λ answer. (pending : Pending) → IsPending (F.map files.old) pending → answer ≡ held_post ticket pending) }
     ensures read { IsTrue F.tells → IfOk result (LooksBy (F.map files.old) ticket) }
     ensures drawn { IfOk result (λ answer. IfSome answer (λ _. IsTrue (is_drawn ticket))) }
-    ensures names { NamesDamaged ⟦<F as Files>⟧ (λ name. name ≡ post_name ticket) (Breaks (F.map files.old)) result }
+    ensures names { NamesDamaged ⟦<F as Files>⟧ (IsPostName ticket) (Breaks (F.map files.old)) result }
     ensures sound { IsTrue F.tells → (pending : Pending) → IsPending (F.map files.old) pending → IfErr result (λ e. OnDamaged e (λ _. ⊥)) }
     ensures reads { IsReading ⟦<F as Files>⟧ files.old files.new result }
 {
@@ -67,7 +67,7 @@ pub fn take<F: Files>(
     ensures read { IsTrue F.tells → IfOk result (TakesBy (F.map files.old) ticket) }
     ensures others { IfOk result (λ answer. touches_only (is_of_series Tickets) (puts_of answer) ≡ true) }
     ensures files { IfOk result (λ answer. touches_only is_file (puts_of answer) ≡ true) }
-    ensures names { NamesDamaged ⟦<F as Files>⟧ (λ name. (name ≡ post_name ticket) ⊎ (name ≡ tickets_name)) (Breaks (F.map files.old)) result }
+    ensures names { NamesDamaged ⟦<F as Files>⟧ (λ name. IsPostName ticket name ⊎ (name ≡ tickets_name)) (Breaks (F.map files.old)) result }
     ensures sound { IsTrue F.tells → (pending : Pending) → IsPending (F.map files.old) pending → IfErr result (λ e. OnDamaged e (λ _. ⊥)) }
     ensures reads { IsReading ⟦<F as Files>⟧ files.old files.new result }
 {

@@ -2,13 +2,13 @@
 use Rattle.std.proofs.Common.{◌≡◌, inl, inr, ◌<◌, ℕ, zero, suc, ◌+◌, ◌-◌, ◌/◌, min, Bool, true, false, cond, ◌&&◌, ◌==◌, nat_lt, nat_le, List, [], ◌∷◌, ◌++◌, length, map, filter, Option, Some, None, codes, take, get_or, append-nil, refl, sym, ap, ap₂, ◌∙◌, arith, subst, zero-add}
 use Rattle.std.proofs.Math.Seq.{take-suc}
 use Rattle.std.proofs.lemmas.Grind.{flat_map-append}
-use Rattle.std.proofs.lemmas.Bool.{ltb-true, or_left, or_right}
+use Rattle.std.proofs.lemmas.Bool.{and_from, lt-ltb, ltb-true, or_left, or_right}
 use Rattle.std.specs.Prelude.{slice_get}
 use Rattle.std.specs.List.{flat_map, AllByRecursion}
 use Rattle.std.specs.Fmt.{decimal}
 use Rattle.ml_base.specs.Bytes.{Text}
 use Rattle.ml_base.specs.Cuts.{within, one_or_within}
-use Rattle.ml_base.specs.Dir.{Dir}
+use Rattle.ml_base.specs.Dir.{Dir, same_name}
 use Rattle.ml_base.specs.Texts.{lines_text}
 use Rattle.ml_base.specs.declared.names.Name.{Name}
 use Rattle.ml_archive.specs.Answers.{IsPostName, IsRangeName, IsThreadName}
@@ -20,7 +20,9 @@ use Rattle.ml_archive.proofs.ByFiles.{IsOne, filtered_ones}
 use Rattle.ml_plain.specs.ArchiveText.{index_entry, texts_of, whole_post}
 use Rattle.ml_plain.specs.Plain.{Plain}
 use Rattle.ml_reply.specs.Dates.{date_text}
+use Rattle.ml_acts.specs.Doing.{is_index, is_thread_file}
 use Rattle.ml_acts.proofs.Damages.{same_self}
+use Rattle.ml_acts.proofs.Placed.{index_placed, threads_placed}
 use Rattle.ml_manage.specs.Reads.{is_of_index, is_of_range, is_of_thread}
 use Rattle.ml_manage.specs.Texts.{entries_text, entry_text, if_post, post_text, posts_text}
 
@@ -98,27 +100,29 @@ pub index_is : (dir : Dir) (posts : List Post) (g : ℕ) → ArePosts dir posts 
 index_is dir posts g are = entries_are posts (group g posts) are.each (group_ones posts g)
 
 -- the files that are named
-is_index : (g : ℕ) (name : Name) → name ≡ index_name g → is_of_range name ≡ true
-is_index g name e = subst (λ (n : Name). is_of_range n ≡ true) (sym e) refl
+of_index : (g : ℕ) (name : Name) → g < 1_000_000 → name ≡ index_name g → is_of_range name ≡ true
+of_index g name less e = or_left (is_index name) (same_name name number_name) (index_placed g name less e)
 
 is_number : (name : Name) → name ≡ number_name → is_of_range name ≡ true
 is_number name e = subst (λ (n : Name). is_of_range n ≡ true) (sym e) refl
 
 pub range_read : (name : Name) → IsRangeName name → is_of_range name ≡ true
 range_read name (inl e) = is_number name e
-range_read name (inr found) = is_index found.0 name found.2
+range_read name (inr found) = of_index found.0 name found.1 found.2
 
 pub post_read : (n : ℕ) (name : Name) → IsPostName n name → is_of_range name ≡ true
 post_read n name (inl e) = is_number name e
-post_read n name (inr e) = is_index (n / 100) name e
+post_read n name (inr is) = let few = is.0 in of_index (n / 100) name (omega (arith, few)) is.1
 
 pub thread_read : (name : Name) → IsThreadName name → is_of_thread name ≡ true
-thread_read name (inl e) = or_left (is_of_range name) (name.kind == 20) (is_number name e)
-thread_read name (inr (inl found)) = or_left (is_of_range name) (name.kind == 20) (is_index found.0 name found.2)
-thread_read name (inr (inr found)) = or_right (is_of_range name) (name.kind == 20) (subst (λ (n : Name). (n.kind == 20) ≡ true) (sym found.2) refl)
+thread_read name (inl e) = or_left (is_of_range name) (is_thread_file name) (is_number name e)
+thread_read name (inr (inl found)) = or_left (is_of_range name) (is_thread_file name) (of_index found.0 name found.1 found.2)
+thread_read name (inr (inr found)) = or_right (is_of_range name) (is_thread_file name) (threads_placed found.0 name found.1 found.2)
 
-pub index_read : (at : ℕ) (name : Name) → name ≡ index_name (at / 100) → is_of_index at name ≡ true
-index_read at name e = subst (λ (n : Name). is_of_index at n ≡ true) (sym e) (same_self (index_name (at / 100)))
+pub index_read : (at : ℕ) (name : Name) → at / 100 < 1_000_000 → name ≡ index_name (at / 100) → is_of_index at name ≡ true
+index_read at name less e =
+    and_from (nat_lt (at / 100) 1_000_000) (same_name name (index_name (at / 100))) (lt-ltb (at / 100) 1_000_000 less)
+    (subst (λ (n : Name). same_name n (index_name (at / 100)) ≡ true) (sym e) (same_self (index_name (at / 100))))
 
 -- the texts of one number more
 pub one_more : (f : ℕ → Text) (ns : List ℕ) (i n : ℕ) (out new : Text) → i < length ns → n ≡ get_or ns i 0 → out ≡ flat_map f (take i ns) → new ≡ out ++ f n → new ≡ flat_map f (take (i + 1) ns)

@@ -1,5 +1,5 @@
 -- Which files mail to the list's other addresses may read.
-use Rattle.std.specs.Prelude.{◌/◌, ℕ, Bool, true, false, ◌||◌, ◌&&◌, ◌==◌, Option, Some, None}
+use Rattle.std.specs.Prelude.{◌/◌, ℕ, Bool, true, false, ◌||◌, ◌&&◌, nat_lt, Option, Some, None}
 use Rattle.ml_base.specs.Address.{key, address_of}
 use Rattle.ml_base.specs.Bytes.{Text}
 use Rattle.ml_base.specs.Dir.{same_name}
@@ -15,7 +15,7 @@ use Rattle.ml_joining.specs.Deeds.{asked_of}
 use Rattle.ml_joining.specs.Reads.{is_read_to_confirm, is_read_to_subscribe, is_read_to_unsubscribe}
 use Rattle.ml_plain.specs.Bouncing.{address_named}
 use Rattle.ml_subs.specs.Subscribers.{is_touched}
-use Rattle.ml_acts.specs.Doing.{is_bucket, is_bucket_of, is_entry_of}
+use Rattle.ml_acts.specs.Doing.{is_bucket, is_bucket_of, is_entry_of, is_index, is_thread_file}
 use Rattle.ml_queue.specs.Answers.{ids_name}
 
 -- the file that tells which numbers of a set were used: the mark of the digests, or the number of posts
@@ -44,15 +44,15 @@ is_of_reader c sender name =
 
 -- a range of posts: their number, and the indexes
 abbrev pub is_of_range : Name → Bool
-is_of_range name = name.kind == 10 || same_name name number_name
+is_of_range name = is_index name || same_name name number_name
 
 -- a thread: a thread file beside them
 abbrev pub is_of_thread : Name → Bool
-is_of_thread name = is_of_range name || name.kind == 20
+is_of_thread name = is_of_range name || is_thread_file name
 
--- the index of a post's group
+-- the index of a post's group, where it is one that posts can have
 abbrev pub is_of_index : ℕ → Name → Bool
-is_of_index at name = same_name name (index_name (at / 100))
+is_of_index at name = nat_lt (at / 100) 1_000_000 && same_name name (index_name (at / 100))
 
 -- the members of a set for a sender: the moderators, where `l` is set, and the set
 abbrev pub is_of_members : Config → Text → Set → Name → Bool

@@ -1,13 +1,14 @@
 -- What a moderator answers about a post that waits.
-use Rattle.std.proofs.Common.{◌≡◌, ◌⊎◌, inl, inr, ◌+◌, ℕ, Bool, true, false, List, ◌++◌, length, sym, ap, ◌∙◌, subst}
-use Rattle.std.proofs.lemmas.Bool.{or_left, or_right}
+use Rattle.std.proofs.Common.{◌≡◌, ◌⊎◌, inl, inr, ◌+◌, ℕ, Bool, true, false, ◌&&◌, ◌||◌, List, ◌++◌, length, sym, ap, ◌∙◌, subst}
+use Rattle.std.proofs.lemmas.Bool.{and_from, or_left, or_right}
 use Rattle.ml_base.specs.Dir.{Dir, same_name, with_puts}
+use Rattle.ml_base.specs.Ranges.{is_drawn}
 use Rattle.ml_base.specs.declared.names.Name.{Name}
 use Rattle.ml_base.specs.declared.puts.Put.{Put}
 use Rattle.ml_base.proofs.Laid.{laid_joined}
 use Rattle.ml_archive.specs.declared.posts.Appended.TheVariants.{At}
 use Rattle.ml_config.specs.KeyFile.{key_name}
-use Rattle.ml_hold.specs.Answers.{post_name, tickets_name}
+use Rattle.ml_hold.specs.Answers.{IsPostName, post_name, tickets_name}
 use Rattle.ml_hold.specs.Held.{without_ticket}
 use Rattle.ml_hold.specs.declared.posts.Held.{Held}
 use Rattle.ml_plain.specs.declared.Reply.{Reply}
@@ -35,16 +36,18 @@ accepts dir p now ticket h n taken more done is e f =
     })
 
 -- the files that are read where a post is taken out
-pub taken_read : (ticket : ℕ) (name : Name) → ((name ≡ post_name ticket) ⊎ (name ≡ tickets_name)) → is_taken_by ticket name ≡ true
-taken_read ticket name (inl e) = or_left (same_name name (post_name ticket)) (same_name name tickets_name) (subst (λ (n : Name). same_name n (post_name ticket) ≡ true) (sym e) (same_self (post_name ticket)))
-taken_read ticket name (inr e) = or_right (same_name name (post_name ticket)) (same_name name tickets_name) (subst (λ (n : Name). same_name n tickets_name ≡ true) (sym e) (same_self tickets_name))
+pub taken_read : (ticket : ℕ) (name : Name) → (IsPostName ticket name ⊎ (name ≡ tickets_name)) → is_taken_by ticket name ≡ true
+taken_read ticket name (inl is) =
+    or_left (is_drawn ticket && same_name name (post_name ticket)) (same_name name tickets_name)
+    (and_from (is_drawn ticket) (same_name name (post_name ticket)) is.0 (subst (λ (n : Name). same_name n (post_name ticket) ≡ true) (sym is.1) (same_self (post_name ticket))))
+taken_read ticket name (inr e) = or_right (is_drawn ticket && same_name name (post_name ticket)) (same_name name tickets_name) (subst (λ (n : Name). same_name n tickets_name ≡ true) (sym e) (same_self tickets_name))
 
 -- the post's own file may be read, whatever he answers
-pub own_read : (ticket : ℕ) (accept : Bool) (name : Name) → name ≡ post_name ticket → is_answered_by ticket accept name ≡ true
-own_read ticket accept name e = or_right (same_name name key_name) (is_followed_by ticket accept name) (go accept)
+pub own_read : (ticket : ℕ) (accept : Bool) (name : Name) → IsPostName ticket name → is_answered_by ticket accept name ≡ true
+own_read ticket accept name is = or_right (same_name name key_name) (is_followed_by ticket accept name) (go accept)
   where
     taken : is_taken_by ticket name ≡ true
-    taken = taken_read ticket name (inl e)
+    taken = taken_read ticket name (inl is)
 
     go : (accept : Bool) → is_followed_by ticket accept name ≡ true
     go true = or_right (is_published_by name) (is_taken_by ticket name) taken

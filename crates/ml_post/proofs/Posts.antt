@@ -1,8 +1,8 @@
 -- A post in the archive and in the queue.
 use Rattle.std.proofs.Common.{◌≡◌, ◌⊎◌, inl, inr, ◌<◌, ◌+◌, ◌/◌, ℕ, Bool, true, false, eqb, leb, ◌&&◌, ◌||◌, not, List, [], ◌∷◌, ◌++◌, length, length-append, Option, refl, sym, ap, ◌∙◌, subst, arith}
-use Rattle.std.proofs.lemmas.Bool.{or_cases, eqb-true, lt-leb, le-leb}
+use Rattle.std.proofs.lemmas.Bool.{or_cases, or_left, or_right, eqb-true, lt-leb, le-leb}
 use Rattle.ml_base.specs.Bytes.{Text}
-use Rattle.ml_base.specs.Dir.{Dir, with_puts, touches_only}
+use Rattle.ml_base.specs.Dir.{Dir, same_name, with_puts, touches_only}
 use Rattle.ml_base.specs.declared.names.Name.{Name}
 use Rattle.ml_base.specs.declared.names.Set.{Set}
 use Rattle.ml_base.specs.declared.names.Set.TheVariants as sets
@@ -23,7 +23,8 @@ use Rattle.ml_plain.specs.Mailing.{post_path, send}
 use Rattle.ml_plain.specs.Plain.{Plain, addresses, is_archive_full}
 use Rattle.ml_plain.specs.Posting.{sent_text, with_text}
 use Rattle.ml_plain.proofs.PartChanges.{posts_changed}
-use Rattle.ml_acts.specs.Doing.{Alike, is_with_queue}
+use Rattle.ml_acts.specs.Doing.{Alike, is_index, is_mailed_by, is_thread_file, is_with_queue}
+use Rattle.ml_acts.proofs.Placed.{index_placed, threads_placed}
 use Rattle.ml_post.specs.Publishing.{Publishes, is_beside_held, is_published_by}
 
 -- a name of a kind is of no file that a mail to a set needs, where no name of that kind is
@@ -135,8 +136,10 @@ module _ (old dir : Dir) (p : Plain) (c : Config) (now : ℕ) (sender text : Tex
 -- what appending reads
 pub append_read : (name : Name) → IsAppendName name → is_published_by name ≡ true
 append_read name (inl e) = ap is_published_by e
-append_read name (inr (inl g)) = ap is_published_by g.2
-append_read name (inr (inr n)) = ap is_published_by n.2
+append_read name (inr (inl g)) =
+    let mailed = is_mailed_by sets.List name || same_name name number_name in
+    or_left (mailed || is_index name) (is_thread_file name) (or_right mailed (is_index name) (index_placed g.0 name g.1 g.2))
+append_read name (inr (inr n)) = or_right (is_mailed_by sets.List name || same_name name number_name || is_index name) (is_thread_file name) (threads_placed n.0 name n.1 n.2)
 
 -- a file that is damaged for the next post, where there is room for one, is so whatever list the files stand for
 pub no_archive : (dir : Dir) (name : Name) (count : ℕ) → IsNumberFile (dir number_name) count → count < 99_999_999 → IsBadForAppend dir name → (prefix : Text) (posts : List Post) → IsArchive dir prefix posts → ⊥

@@ -1,5 +1,5 @@
 -- Posts that go into the archive and to the set list.
-use Rattle.std.specs.Prelude.{◌≡◌, ◌+◌, ℕ, Bool, true, false, not, ◌||◌, ◌==◌, length}
+use Rattle.std.specs.Prelude.{◌≡◌, ◌+◌, ℕ, Bool, true, false, not, ◌||◌, length}
 use Rattle.ml_base.specs.Bytes.{Text}
 use Rattle.ml_base.specs.Dir.{Dir, same_name, with_puts}
 use Rattle.ml_base.specs.declared.names.Name.{Name}
@@ -10,7 +10,7 @@ use Rattle.ml_archive.specs.declared.posts.Appended.TheVariants.{At, Full}
 use Rattle.ml_plain.specs.Directory.{IsList, held_kinds}
 use Rattle.ml_plain.specs.Plain.{Plain, is_archive_full}
 use Rattle.ml_plain.specs.Posting.{sent_text, with_text}
-use Rattle.ml_acts.specs.Doing.{is_mailed_by}
+use Rattle.ml_acts.specs.Doing.{is_index, is_mailed_by, is_thread_file}
 
 -- a post that is taken: where the archive has room, it gets the next number, and with these puts laid over the files they stand for the
 -- list with it
@@ -30,4 +30,4 @@ is_beside_held name = not (held_kinds name.kind)
 
 -- the files that are read where a post is taken: those of the set list, the next id, the number of posts, an index and a file of threads
 abbrev pub is_published_by : Name → Bool
-is_published_by name = is_mailed_by sets.List name || same_name name number_name || name.kind == 10 || name.kind == 20
+is_published_by name = is_mailed_by sets.List name || same_name name number_name || is_index name || is_thread_file name

@@ -1,10 +1,10 @@
 // Entries of the queue, one behind the other.
-ghost use Rattle.std.specs.Prelude.{◌≡◌, ◌≤◌, ◌⊎◌, ℕ, IsTrue, IfOk, IfErr, OnOk, IsErrOf};
+ghost use Rattle.std.specs.Prelude.{◌≡◌, ◌≤◌, IsTrue, IfOk, IfErr, OnOk, IsErrOf};
 ghost use Rattle.ml_base.specs.PartErrors.{OnDamaged};
 ghost use Rattle.ml_base.specs.ReadFiles.{IsReading, NamesDamaged};
 ghost use Rattle.ml_queue.specs.Queue.{Queue};
 ghost use Rattle.ml_queue.specs.Queue as spec;
-ghost use Rattle.ml_queue.specs.Answers.{BreaksCounted, IsCountedQueue, entry_name, ids_name};
+ghost use Rattle.ml_queue.specs.Answers.{BreaksCounted, IsCountedQueue, IsQueueName, ids_name};
 
 use crate::reading::read_out;
 use ml_base::{Files, Numbers, PartError};
@@ -32,7 +32,7 @@ pub fn ids<F: Files>(alloc: Global, files: &mut F) -> Result<Numbers, PartError>
 /// first that is outside its grammar.
 pub fn audit<F: Files>(alloc: Global, files: &mut F) -> Result<(), PartError>
     ensures ok { IsTrue F.tells → OnOk result ((queue : Queue) × IsCountedQueue (F.map files.old) queue) }
-    ensures names { NamesDamaged ⟦<F as Files>⟧ (λ name. (name ≡ ids_name) ⊎ ((id : ℕ) × (name ≡ entry_name id))) (BreaksCounted (F.map files.old)) result }
+    ensures names { NamesDamaged ⟦<F as Files>⟧ IsQueueName (BreaksCounted (F.map files.old)) result }
     ensures sound { IsTrue F.tells → (queue : Queue) → IsCountedQueue (F.map files.old) queue → IfErr result (λ e. OnDamaged e (λ _. ⊥)) }
     ensures reads { IsReading ⟦<F as Files>⟧ files.old files.new result }
 {

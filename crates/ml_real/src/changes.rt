@@ -1,9 +1,7 @@
 // What has to reach the disk before a sync is good.
-#[cfg(test)]
-mod tests;
-
-use crate::descriptors::{length_of, open_folder, open_to_change, open_to_sync};
+use crate::descriptors::{length_of, open_folder, open_to_sync};
 use crate::folder::barred_or;
+use crate::log::{FoundLog, find, new_log, open_log, remove_new_log, rename_new_log};
 use crate::places::{Paths, Place, path_text};
 use ml_base::Name;
 use std::alloc::{AllocError, Global};
@@ -11,13 +9,9 @@ use std::collections::{BTreeMap, BTreeSet};
 use std::fs::File;
 use std::io;
 use std::io::ErrorKind;
-use std::os::unix::fs::FileExt;
 
 // How many files are kept open until the next sync, of the 1,024 descriptors that a process usually has.
 const MOST_KEPT: usize = 256;
-
-// How many bytes of a log are written back at once.
-const PIECE: usize = 4096;
 
 // The configuration of a list.
 const CONFIG: Name = Name { kind: 1, at: 0 };
@@ -26,8 +20,8 @@ const CONFIG: Name = Name { kind: 1, at: 0 };
 #[derive(Drop)]
 pub(crate) struct Changes {
     log: bool,
-    // Whether this run has written the log back as it read.
-    is_log_back: bool,
+    // Whether the log that this run found is on the disk as it reads.
+    is_log_settled: bool,
     // Whether something was changed before the first good sync.
     is_touched: bool,
     // Whether the log that was found is one closed gate: nothing was pending.
@@ -38,7 +32,9 @@ pub(crate) struct Changes {
     // of a write-back that failed, where another that is opened later may not be.
     files: BTreeMap<Name, Option<File>>,
     kept: usize,
-    // Those with an entry that was made or removed, or that may have been.
+    // Whether the list's own folder has an entry that was made, renamed or removed, or that may have been.
+    list: bool,
+    // The same of the folders below it.
     folders: BTreeSet<Place>,
     // The folder that the list's folder stands in.
     outside: bool,
@@ -53,12 +49,13 @@ impl Changes {
     pub fn new(alloc: Global) -> Self {
         Changes {
             log: true,
-            is_log_back: false,
+            is_log_settled: false,
             is_touched: false,
             is_closed: false,
             are_names_settled: false,
             files: BTreeMap::new(alloc),
             kept: 0,
+            list: true,
             folders: BTreeSet::new(alloc),
             outside: true,
             is_lost: false,
@@ -77,15 +74,15 @@ impl Changes {
     }
 
     /// Notes that an entry of the list's own folder may have been made.
-    pub fn note_list(&mut self) -> Result<(), AllocError> {
-        self.folders.insert(Place::LIST)?;
-        Ok(())
+    pub fn note_list(&mut self) {
+        self.list = true;
     }
 
     /// Notes the folders on the way to a file, whether or not they and the file are there.
     pub fn note_folders(&mut self, name: Name) -> io::Result<()> {
         self.is_touched = true;
-        for depth in 0..=depth_of(name)? {
+        self.list = true;
+        for depth in 1..=depth_of(name)? {
             self.folders.insert(Place::toward(name, depth))?;
         }
         Ok(())
@@ -97,7 +94,12 @@ impl Changes {
         if !self.are_names_settled {
             return self.note_folders(name);
         }
-        self.folders.insert(Place::toward(name, depth_of(name)?))?;
+        match depth_of(name)? {
+            0 => self.list = true,
+            depth => {
+                self.folders.insert(Place::toward(name, depth))?;
+            }
+        }
         Ok(())
     }
 
@@ -156,7 +158,7 @@ impl Changes {
         &mut self,
         rt: &HostRuntime,
         paths: &mut Paths<'_>,
-        log: Option<&File>,
+        log: &mut Option<File>,
     ) -> io::Result<()> {
         if self.is_lost {
             return Err(ErrorKind::Other.into());
@@ -166,14 +168,16 @@ impl Changes {
         self.sync_closed_files(rt, paths)?;
         self.sync_log(rt, paths, log)?;
         if self.is_list_there(rt, paths) {
-            self.folders.clear();
+            self.list = false;
             self.outside = false;
         }
+        self.sync_list(rt, paths)?;
         self.sync_folders(rt, paths)?;
         self.is_touched = true;
         self.are_names_settled = self.is_closed;
         self.log = false;
         self.files.clear();
+        self.list = false;
         self.folders.clear();
         self.outside = false;
         Ok(())
@@ -189,30 +193,89 @@ impl Changes {
         &mut self,
         rt: &HostRuntime,
         paths: &mut Paths<'_>,
-        log: Option<&File>,
+        log: &mut Option<File>,
     ) -> io::Result<()> {
         if !self.log {
             return Ok(());
         }
-        if let Some(file) = log {
-            return self.sync_open_log(file);
+        if !self.is_log_settled {
+            return self.settle_found_log(rt, paths, log);
         }
-        // An earlier run may have written it.
-        match open_to_change(rt, paths.below(b"log")?) {
-            Ok(file) => self.sync_open_log(&file),
-            Err(error) => absent_or(error),
+        match log {
+            Some(file) => settled(file.sync_data(), &mut self.is_lost),
+            None => Ok(()),
         }
     }
 
-    // At the first sync of a run the log is written back as it reads.
-    fn sync_open_log(&mut self, file: &File) -> io::Result<()> {
-        if !self.is_log_back {
-            self.is_closed = write_back(file)? && !self.is_touched;
+    // At the first sync of a run: the log that it finds is on the disk behind it as it reads. What an earlier run wrote may be there
+    // in part. Where its sync failed, Linux shows bytes that the disk hasn't got, and calls them written.
+    fn settle_found_log(
+        &mut self,
+        rt: &HostRuntime,
+        paths: &mut Paths<'_>,
+        log: &mut Option<File>,
+    ) -> io::Result<()> {
+        if log.is_none() {
+            *log = open_log(rt, paths)?;
         }
-        // This brings the length too, and leaves out no more than the times.
-        settled(file.sync_data(), &mut self.is_lost)?;
-        self.is_log_back = true;
+        let standing = match log {
+            Some(file) => find(file)?,
+            None => FoundLog::Little,
+        };
+        if standing == FoundLog::Records {
+            self.renew_log(rt, paths, log)?;
+        } else {
+            self.sync_short_log(rt, paths, log.as_ref())?;
+        }
+        self.is_closed = standing == FoundLog::Gate && !self.is_touched;
+        self.is_log_settled = true;
         Ok(())
+    }
+
+    // A log of one byte at most isn't written. A run closes the first gate and syncs that before it cuts the log: so where one closed
+    // gate reads, the disk has a closed one too, and nothing counts that it may have behind it.
+    fn sync_short_log(
+        &mut self,
+        rt: &HostRuntime,
+        paths: &mut Paths<'_>,
+        log: Option<&File>,
+    ) -> io::Result<()> {
+        if let Some(file) = log {
+            settled(file.sync_data(), &mut self.is_lost)?;
+        }
+        // Of a run that was killed, before a crash left this log.
+        remove_new_log(rt, paths)
+    }
+
+    // The log's bytes, as they read, go into a new file, which is synced and then takes the log's name; the folder is synced behind it.
+    // In each moment one of the two is whole under that name. The lock is a file of its own and holds throughout.
+    //
+    // Each other order could lose answered items by a crash:
+    // - bytes written in place are pending until a sync is good: all of the log may be left with any bytes;
+    // - a name taken before the new file is synced may lead to an empty file, or to half of one;
+    // - a log removed before its name is taken may leave none, which is an empty one;
+    // - a log changed before the folder is synced may come back as it was, without what was answered since.
+    fn renew_log(
+        &mut self,
+        rt: &HostRuntime,
+        paths: &mut Paths<'_>,
+        log: &mut Option<File>,
+    ) -> io::Result<()> {
+        let Some(old) = log else {
+            return Ok(());
+        };
+        match renewed(rt, paths, old, &mut self.is_lost) {
+            Ok(new) => {
+                *log = Some(new);
+                self.list = true;
+                Ok(())
+            }
+            Err(error) => {
+                // Its space may be wanted. Where it can't be removed, the next run writes over it.
+                let _ = remove_new_log(rt, paths);
+                Err(error)
+            }
+        }
     }
 
     // Brings the files that are kept open to the disk, closes them and forgets them. Without it a crash could leave a file that
@@ -237,7 +300,16 @@ impl Changes {
         Ok(())
     }
 
-    // Without it a crash could leave a file or a folder that was made absent, or a removed file there.
+    // Without it a crash could leave a file or a folder that was made absent, a removed file there, or an old log under its name.
+    fn sync_list(&mut self, rt: &HostRuntime, paths: &mut Paths<'_>) -> io::Result<()> {
+        if self.list {
+            let folder = open_folder(rt, paths.folder(Place::LIST)?)?;
+            settled(folder.sync_all(), &mut self.is_lost)?;
+        }
+        Ok(())
+    }
+
+    // The same of the folders below the list's own, and of the one that it stands in.
     fn sync_folders(&mut self, rt: &HostRuntime, paths: &mut Paths<'_>) -> io::Result<()> {
         for place in self.folders.iter() {
             match open_folder(rt, paths.folder(*place)?) {
@@ -255,6 +327,19 @@ impl Changes {
         }
         Ok(())
     }
+}
+
+// A new file with the log's bytes, on the disk and under the log's name.
+fn renewed(
+    rt: &HostRuntime,
+    paths: &mut Paths<'_>,
+    log: &File,
+    is_lost: &mut bool,
+) -> io::Result<File> {
+    let new = new_log(rt, paths, log)?;
+    settled(new.sync_data(), is_lost)?;
+    rename_new_log(rt, paths)?;
+    Ok(new)
 }
 
 // How many folders below the list's own stand on the way to a file.
@@ -275,28 +360,6 @@ fn has_config(rt: &HostRuntime, paths: &mut Paths<'_>) -> bool {
         Ok(path) => matches!(length_of(rt, path), Ok(Some(_))),
         Err(_) => false,
     }
-}
-
-// Writes the bytes of a log again, as they read and where they stand, piece by piece, and answers whether they are one closed gate.
-// After a sync that failed, in an earlier run too, Linux shows bytes that the disk hasn't got, and calls them written; the sync
-// behind this brings them there.
-fn write_back(log: &File) -> io::Result<bool> {
-    let mut piece = [0u8; PIECE];
-    let mut at: u64 = 0;
-    let mut is_closed = false;
-    for _ in 0..u64::MAX {
-        match log.read_at(&mut piece, at) {
-            Ok(0) => return Ok(is_closed),
-            Ok(count) => {
-                is_closed = at == 0 && count == 1 && piece[0] == 0;
-                log.write_all_at(&piece[..count], at)?;
-                at = at.saturating_add(count as u64);
-            }
-            Err(error) if error.kind() == ErrorKind::Interrupted => {}
-            Err(error) => return Err(error),
-        }
-    }
-    Err(ErrorKind::Interrupted.into())
 }
 
 fn absent_or(error: io::Error) -> io::Result<()> {

@@ -10,6 +10,11 @@ const FILE_MODE: u32 = 0o600;
 
 const FOLDER_MODE: u32 = 0o700;
 
+// The system's ENFILE and EMFILE.
+const TOO_MANY_OF_MACHINE: i32 = 23;
+
+const TOO_MANY_OF_PROCESS: i32 = 24;
+
 /// Opens a file to sync it.
 pub(crate) fn open_to_sync(rt: &HostRuntime, path: &str) -> io::Result<File> {
     let (file, _) = open_to_read(rt, path)?;
@@ -31,13 +36,45 @@ pub(crate) fn open_to_change(rt: &HostRuntime, path: &str) -> io::Result<File> {
 /// Opens a file to read and to write it, with its bytes as they are, and makes it where it is missing. What stands there is a
 /// regular file, if it is there, as `length_of` finds.
 pub(crate) fn open_to_write(rt: &HostRuntime, path: &str) -> io::Result<File> {
+    open_made(rt, path, false)
+}
+
+/// Opens a file to write it from nothing. What an earlier run left of it is gone then.
+pub(crate) fn open_anew(rt: &HostRuntime, path: &str) -> io::Result<File> {
+    length_of(rt, path)?;
+    open_made(rt, path, true)
+}
+
+// Opens a file to read and to write it, without its bytes where it is to be emptied, and makes it where it is missing.
+fn open_made(rt: &HostRuntime, path: &str, is_emptied: bool) -> io::Result<File> {
     let file = OpenOptions::new()
         .read(true)
         .write(true)
         .create(true)
+        .truncate(is_emptied)
         .mode(FILE_MODE)
         .open(rt, path)?;
     above_streams(file)
+}
+
+/// Removes a file, where it is there.
+pub(crate) fn remove_file(rt: &HostRuntime, path: &str) -> io::Result<()> {
+    for _ in 0..u64::MAX {
+        match fs::remove_file(rt, path) {
+            Err(error) if error.kind() == ErrorKind::Interrupted => {}
+            Err(error) if error.kind() == ErrorKind::NotFound => return Ok(()),
+            answer => return answer,
+        }
+    }
+    Err(ErrorKind::Interrupted.into())
+}
+
+/// Whether a file was not opened for want of a descriptor, of this process or of the whole machine.
+pub(crate) fn lacks_descriptor(error: &io::Error) -> bool {
+    matches!(
+        error.raw_os_error(),
+        Some(TOO_MANY_OF_MACHINE | TOO_MANY_OF_PROCESS)
+    )
 }
 
 /// Opens a folder to sync it.

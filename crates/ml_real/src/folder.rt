@@ -1,13 +1,16 @@
 // The folder of a list: its log and its files.
 use crate::changes::Changes;
-use crate::descriptors::{length_of, make_folder, open_folder, open_to_read, open_to_write};
+use crate::descriptors::{
+    lacks_descriptor, length_of, make_folder, open_folder, open_to_read, open_to_write, remove_file,
+};
+use crate::log::LOG;
 use crate::places::{Paths, path_text};
 use ml_base::{Bytes, Name};
 use std::alloc::{AllocError, Global};
 use std::fs::File;
 use std::io::{ErrorKind, Read, Write};
 use std::os::unix::fs::FileExt;
-use std::{fs, io, str};
+use std::{io, str};
 
 /// The folder of a list, which is made and locked at its first use. It counts no faults.
 #[derive(Drop)]
@@ -17,7 +20,7 @@ pub(crate) struct Folder<'a> {
     paths: Paths<'a>,
     // The lock ends when this file is closed.
     lock: Option<File>,
-    // The log, from its first change on.
+    // The log, from the first sync that finds it or from its first change on.
     log: Option<File>,
     // The file that was last looked for and not there: each item of a stream asks for the floor, which most lists haven't. The
     // lock keeps others from making it.
@@ -39,10 +42,9 @@ impl<'a> Folder<'a> {
         }
     }
 
-    /// Takes the room for paths, and for the entry of the list's own folder. Behind it a first sync takes none of its own.
+    /// Takes the room for paths. Behind it a first sync takes none of its own.
     pub fn take_room(&mut self) -> Result<(), AllocError> {
-        self.paths.take_room()?;
-        self.changes.note_list()
+        self.paths.take_room()
     }
 
     // Makes the folder and takes its lock, where that isn't done. After an error the next call tries again.
@@ -104,7 +106,7 @@ impl<'a> Folder<'a> {
     /// The bytes of the log. A log that isn't there is empty.
     pub fn read_log(&mut self, alloc: Global) -> io::Result<Bytes> {
         self.ready()?;
-        match open_to_read(self.rt, self.paths.below(b"log")?) {
+        match open_to_read(self.rt, self.paths.below(LOG)?) {
             Ok((file, len)) => read_all(alloc, file, len),
             Err(error) if error.kind() == ErrorKind::NotFound => Ok(Bytes::new(alloc)),
             Err(error) => Err(error),
@@ -126,9 +128,9 @@ impl<'a> Folder<'a> {
         self.ready()?;
         self.changes.note_log();
         if self.log.is_none() {
-            let path = self.paths.below(b"log")?;
+            let path = self.paths.below(LOG)?;
             if length_of(self.rt, path)?.is_none() || self.changes.may_miss_entries() {
-                self.changes.note_list()?;
+                self.changes.note_list();
             }
             self.log = Some(open_to_write(self.rt, path)?);
         }
@@ -185,8 +187,8 @@ impl<'a> Folder<'a> {
     // Opens a file to write it.
     fn file_to_write(&mut self, name: Name) -> io::Result<File> {
         match self.open_file(name) {
-            // There may be no further descriptor, as long as files are kept open for the next sync.
-            Err(_) if self.changes.keeps_files() => {
+            // There is no further descriptor, as long as files are kept open for the next sync.
+            Err(error) if lacks_descriptor(&error) && self.changes.keeps_files() => {
                 self.changes.close_files()?;
                 self.open_file(name)
             }
@@ -229,8 +231,7 @@ impl<'a> Folder<'a> {
     /// Brings what has changed since the last good sync to the disk. It takes memory at the first use alone.
     pub fn sync(&mut self) -> io::Result<()> {
         self.ready()?;
-        self.changes
-            .sync(self.rt, &mut self.paths, self.log.as_ref())
+        self.changes.sync(self.rt, &mut self.paths, &mut self.log)
     }
 
     /// Writes bytes to standard output. No byte is kept back.
@@ -308,16 +309,4 @@ pub(crate) fn barred_or(error: io::Error) -> io::Result<()> {
     } else {
         Err(error)
     }
-}
-
-// Removes a file, where it is there.
-fn remove_file(rt: &HostRuntime, path: &str) -> io::Result<()> {
-    for _ in 0..u64::MAX {
-        match fs::remove_file(rt, path) {
-            Err(error) if error.kind() == ErrorKind::Interrupted => {}
-            Err(error) if error.kind() == ErrorKind::NotFound => return Ok(()),
-            answer => return answer,
-        }
-    }
-    Err(ErrorKind::Interrupted.into())
 }

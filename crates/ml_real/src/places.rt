@@ -41,11 +41,12 @@ impl Place {
     }
 }
 
-/// Paths below a list's folder, each in the place of the one before.
+/// Paths below a list's folder, each in the place of those before.
 #[derive(Drop)]
 pub(crate) struct Paths<'a> {
     dir: &'a str,
     text: String,
+    second: String,
 }
 
 impl<'a> Paths<'a> {
@@ -54,25 +55,30 @@ impl<'a> Paths<'a> {
         Paths {
             dir,
             text: String::new(alloc),
+            second: String::new(alloc),
         }
     }
 
     /// Takes room for each path to come, so that a sync takes no memory.
     pub fn take_room(&mut self) -> Result<(), AllocError> {
+        let room = self.dir.len().saturating_add(ROOM);
         self.text.clear();
-        self.text.reserve(self.dir.len().saturating_add(ROOM))
+        self.text.reserve(room)?;
+        self.second.clear();
+        self.second.reserve(room)
     }
 
     /// The path of what stands at these bytes below the folder.
     pub fn below(&mut self, rest: &[u8]) -> io::Result<&str> {
-        let Ok(rest) = str::from_utf8(rest) else {
-            return Err(ErrorKind::InvalidFilename.into());
-        };
-        self.text.clear();
-        self.text.push_str(self.dir)?;
-        self.text.push_str("/")?;
-        self.text.push_str(rest)?;
+        set_path(&mut self.text, self.dir, rest)?;
         Ok(self.text.as_str())
+    }
+
+    /// The paths of two things below the folder.
+    pub fn both(&mut self, one: &[u8], other: &[u8]) -> io::Result<(&str, &str)> {
+        set_path(&mut self.text, self.dir, one)?;
+        set_path(&mut self.second, self.dir, other)?;
+        Ok((self.text.as_str(), self.second.as_str()))
     }
 
     /// The path of a folder above the list's own, with a text of at most eight bytes behind it. It takes no memory.
@@ -96,6 +102,18 @@ impl<'a> Paths<'a> {
         let rest = path_text(place.file, &mut room)?;
         self.below(front(rest, place.depth))
     }
+}
+
+// Makes a text the path of what stands at these bytes below a folder.
+fn set_path(text: &mut String, dir: &str, rest: &[u8]) -> io::Result<()> {
+    let Ok(rest) = str::from_utf8(rest) else {
+        return Err(ErrorKind::InvalidFilename.into());
+    };
+    text.clear();
+    text.push_str(dir)?;
+    text.push_str("/")?;
+    text.push_str(rest)?;
+    Ok(())
 }
 
 /// The path of a file below the list's folder. A name outside the table has none.

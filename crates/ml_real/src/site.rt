@@ -4,9 +4,6 @@ ghost use Rattle.ml_site.specs.Disk.{nothing, untold};
 ghost use Rattle.ml_base.specs.Faults.{Rose, next_call};
 ghost use Rattle.ml_site.specs.declared.site.SiteError.TheVariants.{Failed as FailedCall};
 
-#[cfg(test)]
-mod tests;
-
 use crate::folder::Folder;
 use ml_base::{Bytes, Name};
 use ml_site::{Failed, Site, SiteError};
@@ -46,6 +43,13 @@ impl<'a> RealSite<'a> {
         ensures output { self.new.output_faults ≡ self.old.output_faults }
     {
         self.folder.take_room()
+    }
+
+    /// How many calls on the disk have failed, as far as that can be counted in 64 bits.
+    pub fn failures(&self) -> u64
+        ensures { result ≡ self.now.disk_faults }
+    {
+        self.disk_faults
     }
 }
 

@@ -1,18 +1,23 @@
 -- The posts of a digest, one behind the other, and which files tell of them.
-use Rattle.std.proofs.Common.{◌≡◌, inl, inr, ◌≤◌, ◌+◌, ◌-◌, ℕ, zero, suc, true, List, [], ◌∷◌, ◌++◌, map, take, drop, Option, Some, None, refl, sym, ap, ap₂, ◌∙◌, subst, arith}
+use Rattle.std.proofs.Common.{◌≡◌, inl, inr, ◌≤◌, ◌+◌, ◌-◌, ◌/◌, ◌<◌, ℕ, zero, suc, true, List, [], ◌∷◌, ◌++◌, map, take, drop, Option, Some, None, refl, sym, ap, ap₂, ◌∙◌, subst, arith}
 use Rattle.std.specs.Prelude.{slice_get}
+use Rattle.std.proofs.lemmas.Bool.{or_right}
+use Rattle.ml_base.specs.Dir.{same_name}
 use Rattle.ml_base.specs.declared.names.Name.{Name}
 use Rattle.ml_archive.specs.Answers.{IsPostName}
+use Rattle.ml_archive.specs.Archive.{number_name}
 use Rattle.ml_archive.specs.Posts.{post_at}
 use Rattle.ml_archive.specs.declared.posts.Post.{Post}
 use Rattle.ml_digest.specs.declared.posts.DigestPost.{DigestPost}
 use Rattle.ml_plain.specs.Timing.{digest_post}
+use Rattle.ml_acts.specs.Doing.{is_index}
+use Rattle.ml_acts.proofs.Placed.{index_placed}
 use Rattle.ml_timed.specs.Reads.{is_of_posts_told}
 
 -- the files that are named
 pub post_read : (n : ℕ) (name : Name) → IsPostName n name → is_of_posts_told name ≡ true
 post_read n name (inl e) = subst (λ (a : Name). is_of_posts_told a ≡ true) (sym e) refl
-post_read n name (inr e) = subst (λ (a : Name). is_of_posts_told a ≡ true) (sym e) refl
+post_read n name (inr is) = let few = is.0 in or_right (same_name name number_name) (is_index name) (index_placed (n / 100) name (omega (arith, few)) is.1)
 
 map_on : {A B : Type 0} (f : A → B) (xs : List A) (x : A) → map f (xs ++ x ∷ []) ≡ map f xs ++ f x ∷ []
 map_on f [] x = refl

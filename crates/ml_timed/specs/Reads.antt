@@ -1,5 +1,5 @@
 -- Which files a timed run may read.
-use Rattle.std.specs.Prelude.{Bool, ◌||◌, ◌==◌}
+use Rattle.std.specs.Prelude.{Bool, ◌||◌}
 use Rattle.ml_base.specs.Dir.{same_name}
 use Rattle.ml_base.specs.declared.names.Name.{Name}
 use Rattle.ml_base.specs.declared.names.Set.TheVariants as sets
@@ -7,12 +7,12 @@ use Rattle.ml_archive.specs.Archive.{number_name}
 use Rattle.ml_digest.specs.Due.{mark_name}
 use Rattle.ml_hold.specs.Answers.{tickets_name}
 use Rattle.ml_queue.specs.Answers.{ids_name}
-use Rattle.ml_acts.specs.Doing.{is_bucket}
+use Rattle.ml_acts.specs.Doing.{is_bucket, is_held_post, is_index}
 use Rattle.ml_following.specs.Reads.{is_of_following}
 
 -- held posts and their counter
 abbrev pub is_waiting : Name → Bool
-is_waiting name = name.kind == 13 || same_name name tickets_name
+is_waiting name = is_held_post name || same_name name tickets_name
 
 -- what giving posts back reads: the counter of ids beside them
 abbrev pub is_of_giving_back : Name → Bool
@@ -24,7 +24,7 @@ is_of_progress name = same_name name mark_name || same_name name number_name
 
 -- the number of posts and their indexes
 abbrev pub is_of_posts_told : Name → Bool
-is_of_posts_told name = same_name name number_name || name.kind == 10
+is_of_posts_told name = same_name name number_name || is_index name
 
 -- a mail to the digest set: its members, and the counter of ids
 abbrev pub is_of_issue : Name → Bool

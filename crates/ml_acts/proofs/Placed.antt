@@ -1,0 +1,17 @@
+-- Files of the archive and held posts, in their places.
+use Rattle.std.proofs.Common.{◌≡◌, ◌<◌, ℕ, true, ap, ◌∙◌}
+use Rattle.std.proofs.lemmas.Bool.{lt-ltb}
+use Rattle.ml_base.specs.declared.names.Name.{Name}
+use Rattle.ml_archive.specs.Archive.{index_name}
+use Rattle.ml_archive.specs.Threads.{thread_name}
+use Rattle.ml_hold.specs.Answers.{IsPostName}
+use Rattle.ml_acts.specs.Doing.{is_held_post, is_index, is_thread_file}
+
+pub index_placed : (g : ℕ) (name : Name) → g < 1_000_000 → name ≡ index_name g → is_index name ≡ true
+index_placed g name less e = ap is_index e ∙ lt-ltb g 1_000_000 less
+
+pub threads_placed : (n : ℕ) (name : Name) → n < 256 → name ≡ thread_name n → is_thread_file name ≡ true
+threads_placed n name less e = ap is_thread_file e ∙ lt-ltb n 256 less
+
+pub held_placed : (ticket : ℕ) (name : Name) → IsPostName ticket name → is_held_post name ≡ true
+held_placed ticket name is = ap is_held_post is.1 ∙ is.0
