@@ -74,12 +74,7 @@ fn one(alloc: Global, who: &Address) -> Result<AddressList, AllocError>
 }
 
 /// A mail as it is sent at this moment, in seconds since 1970. It takes the mail, so that no call that sends one lets it go.
-pub fn mail_body(
-    alloc: Global,
-    config: &Config,
-    mail: Mail,
-    now: u64,
-) -> Result<Bytes, AllocError>
+pub fn mail_body(alloc: Global, config: &Config, mail: Mail, now: u64) -> Result<Bytes, AllocError>
     requires { IsMoment now }
     ensures { IfOk result (λ body. body ≡ mail_text config.now mail now) }
 {

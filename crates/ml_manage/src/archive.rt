@@ -177,7 +177,16 @@ fn sent<F: Files>(
         lines,
     };
     let reply = plain(Reply::ARCHIVE);
-    with_mail(alloc, files, config, Txn::new(alloc), sender, now, mail, reply)
+    with_mail(
+        alloc,
+        files,
+        config,
+        Txn::new(alloc),
+        sender,
+        now,
+        mail,
+        reply,
+    )
 }
 
 // The text of a range of posts.

@@ -42,7 +42,16 @@ pub(crate) fn helped<F: Files>(
         to: Bytes::from_slice(alloc, sender.bytes())?,
     };
     let reply = plain(Reply::HELP);
-    with_mail(alloc, files, config, Txn::new(alloc), sender, now, mail, reply)
+    with_mail(
+        alloc,
+        files,
+        config,
+        Txn::new(alloc),
+        sender,
+        now,
+        mail,
+        reply,
+    )
 }
 
 // A message goes on to the owner, unchanged.

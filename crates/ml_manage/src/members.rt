@@ -59,7 +59,16 @@ pub(crate) fn members<F: Files>(
     }
     let mail = members_mail(alloc, files, sender, set)?;
     let reply = plain(Reply::MEMBERS);
-    with_mail(alloc, files, config, Txn::new(alloc), sender, now, mail, reply)
+    with_mail(
+        alloc,
+        files,
+        config,
+        Txn::new(alloc),
+        sender,
+        now,
+        mail,
+        reply,
+    )
 }
 
 // Whether a sender may be told who is in a set.

@@ -20,16 +20,13 @@ pub record GivesAnswer {S : Type 0} (told : Ghosts S) (asked : Meaning) (old new
   pub complete : IsTrue told.tells_reads → (files : Dir) (q : State) → directory (told.disk old).reads ≡ Some files → IsState files q
       → GivesFound (IsTrue told.tells_all) status (asked.of_list q.plain) (told.output old) (told.output new)
   pub nolist : IsTrue told.tells_reads → (files : Dir) → directory (told.disk old).reads ≡ Some files → files config_name ≡ None → MissesList (IsTrue told.tells_all) status (told.output old) (told.output new)
-
   -- The directory stays as it is, and so it is at every moment; where something is pending at the start from the first sync that succeeds.
   pub same : IsTrue told.tells_reads → directory (told.disk new).reads ≡ directory (told.disk old).reads
   pub moments : IsTrue told.tells_all → Opens told old new (IsReading asked (directory (told.disk old).reads) (told.output old))
   pub at_rest : IsAtRest (told.disk old) → Leaves told old new (IsReading asked (directory (told.disk old).reads) (told.output old))
-
   -- Nothing is pending then, but after a fault or want of memory, and the log is one closed gate.
   pub rest : (Rose (told.disk_faults old) (told.disk_faults new) → ⊥) → (status ≡ 71 → ⊥) → (status ≡ 73 → ⊥) → IsTrue told.tells_all → IsAtRest (told.disk new)
   pub gate : IsSome (directory (told.disk old).reads) → (status ≡ 71 → ⊥) → (status ≡ 73 → ⊥) → (status ≡ 111 → ⊥) → IsTrue told.tells_reads → (told.disk new).reads.log ≡ 0 ∷ []
-
   -- Which statuses there are, where the counts rose, and how many syncs it makes.
   pub known : IsTrue (is_status_of asked status)
   pub of_disk : status ≡ 111 → Rose (told.disk_faults old) (told.disk_faults new)
