@@ -196,11 +196,18 @@ enum Reader {
     Failed(Items),
 }
 
-fn push_all(out: &mut Bytes, pieces: &[&[u8]]) -> Result<(), AllocError> {
-    for piece in pieces {
-        out.extend(piece)?;
-    }
-    Ok(())
+// Adds three words with a space between them.
+fn push_words(
+    out: &mut Bytes,
+    first: &[u8],
+    second: &[u8],
+    third: &[u8],
+) -> Result<(), AllocError> {
+    out.extend(first)?;
+    out.push(b' ')?;
+    out.extend(second)?;
+    out.push(b' ')?;
+    out.extend(third)
 }
 
 // Adds the act of an item, but for a key's bytes.
@@ -210,24 +217,14 @@ fn push_act(alloc: Global, out: &mut Bytes, act: &Act) -> Result<(), AllocError>
             sender,
             recipient,
             message,
-        } => push_all(
-            out,
-            &[
-                b"deliver ".as_slice(),
-                sender.as_slice(),
-                b" ",
-                recipient.as_slice(),
-                b" ",
-                message.as_slice(),
-            ],
-        ),
+        } => {
+            push_words(out, b"deliver", sender.as_slice(), recipient.as_slice())?;
+            out.push(b' ')?;
+            out.extend(message.as_slice())
+        }
         Act::Timed => out.extend(b"timed"),
-        Act::Add { set, who } => {
-            push_all(out, &[b"add ".as_slice(), set.word(), b" ", who.bytes()])
-        }
-        Act::Remove { set, who } => {
-            push_all(out, &[b"remove ".as_slice(), set.word(), b" ", who.bytes()])
-        }
+        Act::Add { set, who } => push_words(out, b"add", set.word(), who.bytes()),
+        Act::Remove { set, who } => push_words(out, b"remove", set.word(), who.bytes()),
         Act::Sent { id } => out.extend(format!(in alloc; "sent {id}")?.as_bytes()),
         Act::Rekey { .. } => out.extend(b"rekey"),
         Act::Floor { at } => out.extend(format!(in alloc; "floor {at}")?.as_bytes()),

@@ -71,13 +71,20 @@ fn put_files(alloc: Global, texts: &mut Texts, given: Given) -> Result<(), Alloc
     Ok(())
 }
 
+fn put_all(alloc: Global, texts: &mut Texts, all: &[Given]) -> Result<(), AllocError> {
+    for given in all {
+        put_files(alloc, texts, *given)?;
+    }
+    Ok(())
+}
+
 // The list that a row begins with, where the read of this number fails.
 fn started(alloc: Global, row: &Steps, failing: u64) -> Result<List, AllocError> {
     let mut texts = BTreeMap::new(alloc);
-    let list = if row.is_list { NEW_LIST } else { &[] };
-    for given in list.iter().chain(row.others) {
-        put_files(alloc, &mut texts, *given)?;
+    if row.is_list {
+        put_all(alloc, &mut texts, NEW_LIST)?;
     }
+    put_all(alloc, &mut texts, row.others)?;
     let files = memory(alloc, &texts, &[failing])?;
     Ok(Layer::new(files, Txn::new(alloc)))
 }
