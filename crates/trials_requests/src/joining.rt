@@ -334,6 +334,9 @@ const JOINING: &[Line] = &[
             IDS,
         ]),
     ),
+];
+
+const MORE_JOINING: &[Line] = &[
     // A moderator with the right, and without it.
     List(b"r", MAX, &[MEMBERS]),
     Ask(
@@ -689,6 +692,11 @@ const DAMAGED: &[Line] = &[
 #[test]
 fn who_joins(rt: HostRuntime) -> Result<(), Fail> {
     hold(rt.alloc(), "joining", JOINING)
+}
+
+#[test]
+fn who_joins_himself(rt: HostRuntime) -> Result<(), Fail> {
+    hold(rt.alloc(), "more joining", MORE_JOINING)
 }
 
 #[test]
