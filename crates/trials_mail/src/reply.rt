@@ -16,6 +16,8 @@ const NEVER: u64 = 253_402_300_800;
 // The moment of the mails but for the first warning: Sunday, 9 September 2001, 01:46:40.
 const MOMENT: u64 = 1_000_000_000;
 
+const WHO: &[u8] = b"bob@b.org";
+
 // Mails, up to the members, numbers, post or lines at their ends.
 const ADDS: &str = "Mailing-List: contact list-help@ex.org; run by ezmlm
 Precedence: bulk
@@ -201,20 +203,38 @@ const POST: &[u8] = b"Subject: cats\n\nMeow.\n";
 
 #[derive(Clone, Copy)]
 enum Kind {
-    AskSc,
-    AskTc,
-    AskUc,
+    Ask(Asked),
+    Tell(Told),
+    Give(Given),
+    Help,
+    Members,
+    Moderate,
+    Warn,
+}
+
+// What is to be confirmed.
+#[derive(Clone, Copy)]
+enum Asked {
+    Sc,
+    Tc,
+    Uc,
+}
+
+// What is told of an address.
+#[derive(Clone, Copy)]
+enum Told {
     Welcome,
     Goodbye,
     Already,
     Absent,
-    Help,
-    Members,
-    Moderate,
+    Probe,
+}
+
+// What is given with a text.
+#[derive(Clone, Copy)]
+enum Given {
     Rejected,
     Expired,
-    Warn,
-    Probe,
     Archive,
 }
 
@@ -270,68 +290,106 @@ fn numbers(alloc: Global, lines: &[u8]) -> Result<Numbers, AllocError> {
     Ok(numbers)
 }
 
-fn mail(alloc: Global, row: &Row, end: Bytes) -> Result<Mail, Fail> {
+fn asking(alloc: Global, row: &Row, asked: Asked) -> Result<Mail, AllocError> {
     let to = Bytes::from_slice(alloc, row.to)?;
     let reply = Bytes::from_slice(alloc, row.reply)?;
-    let who = Bytes::from_slice(alloc, b"bob@b.org")?;
+    let who = Bytes::from_slice(alloc, WHO)?;
     let set = row.set;
-    match row.kind {
-        Kind::AskSc => Ok(Mail::AskSc {
+    match asked {
+        Asked::Sc => Ok(Mail::AskSc {
             to,
             reply,
             set,
             who,
         }),
-        Kind::AskTc => Ok(Mail::AskTc {
+        Asked::Tc => Ok(Mail::AskTc {
             to,
             reply,
             set,
             who,
         }),
-        Kind::AskUc => Ok(Mail::AskUc {
+        Asked::Uc => Ok(Mail::AskUc {
             to,
             reply,
             set,
             who,
         }),
-        Kind::Welcome => Ok(Mail::Welcome { to, set, who }),
-        Kind::Goodbye => Ok(Mail::Goodbye { to, set, who }),
-        Kind::Already => Ok(Mail::Already { to, set, who }),
-        Kind::Absent => Ok(Mail::Absent { to, set, who }),
-        Kind::Help => Ok(Mail::Help { to }),
-        Kind::Members => Ok(Mail::Members {
-            to,
-            set,
-            members: members(alloc, end.as_slice())?,
-        }),
-        Kind::Moderate => Ok(Mail::Moderate {
-            to,
-            reply,
-            reject: Bytes::from_slice(alloc, b"list-reject.12@ex.org")?,
-            ticket: 12,
-            message: end,
-        }),
-        Kind::Rejected => Ok(Mail::Rejected { to, message: end }),
-        Kind::Expired => Ok(Mail::Expired { to, message: end }),
-        Kind::Warn => Ok(Mail::Warn {
-            to,
-            set,
-            who,
-            numbers: numbers(alloc, end.as_slice())?,
-        }),
-        Kind::Probe => Ok(Mail::Probe { to, set, who }),
-        Kind::Archive => Ok(Mail::Archive { to, lines: end }),
     }
 }
 
-fn told(alloc: Global, row: &Row) -> Result<String, Fail> {
+fn telling(alloc: Global, row: &Row, told: Told) -> Result<Mail, AllocError> {
+    let to = Bytes::from_slice(alloc, row.to)?;
+    let who = Bytes::from_slice(alloc, WHO)?;
+    let set = row.set;
+    match told {
+        Told::Welcome => Ok(Mail::Welcome { to, set, who }),
+        Told::Goodbye => Ok(Mail::Goodbye { to, set, who }),
+        Told::Already => Ok(Mail::Already { to, set, who }),
+        Told::Absent => Ok(Mail::Absent { to, set, who }),
+        Told::Probe => Ok(Mail::Probe { to, set, who }),
+    }
+}
+
+fn giving(alloc: Global, row: &Row, given: Given, end: &[u8]) -> Result<Mail, AllocError> {
+    let to = Bytes::from_slice(alloc, row.to)?;
+    let end = Bytes::from_slice(alloc, end)?;
+    match given {
+        Given::Rejected => Ok(Mail::Rejected { to, message: end }),
+        Given::Expired => Ok(Mail::Expired { to, message: end }),
+        Given::Archive => Ok(Mail::Archive { to, lines: end }),
+    }
+}
+
+fn moderating(alloc: Global, row: &Row, end: &[u8]) -> Result<Mail, AllocError> {
+    Ok(Mail::Moderate {
+        to: Bytes::from_slice(alloc, row.to)?,
+        reply: Bytes::from_slice(alloc, row.reply)?,
+        reject: Bytes::from_slice(alloc, b"list-reject.12@ex.org")?,
+        ticket: 12,
+        message: Bytes::from_slice(alloc, end)?,
+    })
+}
+
+fn listing(alloc: Global, row: &Row, end: &[u8]) -> Result<Mail, Fail> {
+    Ok(Mail::Members {
+        to: Bytes::from_slice(alloc, row.to)?,
+        set: row.set,
+        members: members(alloc, end)?,
+    })
+}
+
+fn warning(alloc: Global, row: &Row, end: &[u8]) -> Result<Mail, AllocError> {
+    Ok(Mail::Warn {
+        to: Bytes::from_slice(alloc, row.to)?,
+        set: row.set,
+        who: Bytes::from_slice(alloc, WHO)?,
+        numbers: numbers(alloc, end)?,
+    })
+}
+
+fn mail(alloc: Global, row: &Row, end: &[u8]) -> Result<Mail, Fail> {
+    match row.kind {
+        Kind::Ask(asked) => Ok(asking(alloc, row, asked)?),
+        Kind::Tell(told) => Ok(telling(alloc, row, told)?),
+        Kind::Give(given) => Ok(giving(alloc, row, given, end)?),
+        Kind::Help => Ok(Mail::Help {
+            to: Bytes::from_slice(alloc, row.to)?,
+        }),
+        Kind::Members => listing(alloc, row, end),
+        Kind::Moderate => Ok(moderating(alloc, row, end)?),
+        Kind::Warn => Ok(warning(alloc, row, end)?),
+    }
+}
+
+fn made(alloc: Global, row: &Row) -> Result<String, Fail> {
     let config = read_config(alloc, CONFIG)?.ok_or("no configuration")?;
-    let mail = mail(alloc, row, end_text(alloc, row.end)?)?;
+    let end = end_text(alloc, row.end)?;
+    let mail = mail(alloc, row, end.as_slice())?;
     if row.moment >= NEVER {
         return Ok(String::from_str(alloc, "no moment")?);
     }
-    let made = text(alloc, &config, &mail, row.moment)?;
-    Ok(String::from_utf8(made.into_vec())?)
+    let text = text(alloc, &config, &mail, row.moment)?;
+    Ok(String::from_utf8(text.into_vec())?)
 }
 
 fn expected(alloc: Global, row: &Row) -> Result<String, Fail> {
@@ -341,7 +399,7 @@ fn expected(alloc: Global, row: &Row) -> Result<String, Fail> {
 
 static MAILS: [Row; 20] = [
     Row {
-        kind: Kind::AskSc,
+        kind: Kind::Ask(Asked::Sc),
         to: b"ann@a.org",
         reply: b"list-sc.digest@ex.org",
         set: Set::Digest,
@@ -350,7 +408,7 @@ static MAILS: [Row; 20] = [
         front: ADDS,
     },
     Row {
-        kind: Kind::AskTc,
+        kind: Kind::Ask(Asked::Tc),
         to: b"list-owner@ex.org",
         reply: b"list-tc.list@ex.org",
         set: Set::List,
@@ -359,7 +417,7 @@ static MAILS: [Row; 20] = [
         front: ADDS_BY_MODERATOR,
     },
     Row {
-        kind: Kind::AskUc,
+        kind: Kind::Ask(Asked::Uc),
         to: b"ann@a.org",
         reply: b"list-uc.allow@ex.org",
         set: Set::Allow,
@@ -368,7 +426,7 @@ static MAILS: [Row; 20] = [
         front: REMOVES,
     },
     Row {
-        kind: Kind::Welcome,
+        kind: Kind::Tell(Told::Welcome),
         to: b"ann@a.org",
         reply: b"",
         set: Set::List,
@@ -377,7 +435,7 @@ static MAILS: [Row; 20] = [
         front: WELCOME,
     },
     Row {
-        kind: Kind::Goodbye,
+        kind: Kind::Tell(Told::Goodbye),
         to: b"ann@a.org",
         reply: b"",
         set: Set::Digest,
@@ -386,7 +444,7 @@ static MAILS: [Row; 20] = [
         front: GOODBYE,
     },
     Row {
-        kind: Kind::Already,
+        kind: Kind::Tell(Told::Already),
         to: b"ann@a.org",
         reply: b"",
         set: Set::Deny,
@@ -395,7 +453,7 @@ static MAILS: [Row; 20] = [
         front: ALREADY,
     },
     Row {
-        kind: Kind::Absent,
+        kind: Kind::Tell(Told::Absent),
         to: b"ann@a.org",
         reply: b"",
         set: Set::Moderators,
@@ -413,7 +471,7 @@ static MAILS: [Row; 20] = [
         front: HELP,
     },
     Row {
-        kind: Kind::Archive,
+        kind: Kind::Give(Given::Archive),
         to: b"ann@a.org",
         reply: b"",
         set: Set::List,
@@ -467,7 +525,7 @@ static MAILS: [Row; 20] = [
         front: MODERATE,
     },
     Row {
-        kind: Kind::Rejected,
+        kind: Kind::Give(Given::Rejected),
         to: b"ann@a.org",
         reply: b"",
         set: Set::List,
@@ -476,7 +534,7 @@ static MAILS: [Row; 20] = [
         front: REJECTED,
     },
     Row {
-        kind: Kind::Expired,
+        kind: Kind::Give(Given::Expired),
         to: b"ann@a.org",
         reply: b"",
         set: Set::List,
@@ -512,7 +570,7 @@ static MAILS: [Row; 20] = [
         front: WARNING,
     },
     Row {
-        kind: Kind::Probe,
+        kind: Kind::Tell(Told::Probe),
         to: b"ann@a.org",
         reply: b"",
         set: Set::List,
@@ -528,7 +586,7 @@ fn mails_are_made(rt: HostRuntime) -> Result<(), Fail> {
     assert_eq!(rt; MEMBERS.len(), 173);
     for (at, row) in MAILS.iter().enumerate() {
         let expected = expected(alloc, row)?;
-        let found = told(alloc, row)?;
+        let found = made(alloc, row)?;
         assert_eq!(rt; found.as_str(), expected.as_str(), "row {at}");
     }
     Ok(())
