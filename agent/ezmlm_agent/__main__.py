@@ -1,6 +1,7 @@
 """ezmlm-agent [--check] SETTINGS: gives the lists of a host their mail, and hands on what they send."""
 
 import asyncio
+import contextlib
 import fcntl
 import logging
 import os
@@ -39,21 +40,28 @@ class Agent:
         server = await listen(self.settings.listen, self.server.serve)
         log.info('mail comes in at %s', self.settings.listen)
         while not self.ended.is_set():
-            self.lists.look(again=True)
-            self.exchange.close_unused()
-            for found in self.lists.live():
-                found.wake.set()
-            try:
+            self.tend()
+            with contextlib.suppress(TimeoutError):
                 async with asyncio.timeout(LOOKS):
                     await self.ended.wait()
-            except TimeoutError:
-                pass
         log.info('stops')
         server.close()
-        for found in self.lists.served.values():
+        await self.stop()
+
+    def tend(self):
+        """What is done each minute."""
+        self.lists.look(again=True)
+        self.exchange.close_unused()
+        for found in self.lists.live():
+            found.wake.set()
+
+    async def stop(self):
+        """Ends behind what is in hand."""
+        served = self.lists.served.values()
+        for found in served:
             found.hurry()
         await self.server.stop()
-        await asyncio.gather(*(found.stop() for found in self.lists.served.values()))
+        await asyncio.gather(*(found.stop() for found in served))
         self.exchange.close_unused(0)
 
 

@@ -58,8 +58,7 @@ async def lists(chosen, addresses):
         return [f'{chosen.program} is not the program: status {status}']
     wrong = []
     for path, address in addresses.items():
-        for each in (path, *path.rglob('*')):
-            wrong += modes(each)
+        wrong += [fault for each in (path, *path.rglob('*')) for fault in modes(each)]
         status, line = await whole(runs, path)
         if status:
             wrong.append(f'{path}: {status} {line}')
@@ -78,8 +77,8 @@ async def transfer_agent(chosen, addresses):
         for path, address in addresses.items():
             owner = folder.configuration(path).get(b'owner', b'')
             commands = connection.commands(b'-return-@'.join(address), False, [owner], b'')
-            async for code, words in connection.ask([*commands, b'RSET\r\n']):
-                wrong += [f'{path.name}, mail to its owner: {code} {words[0]}'] * (code >= 400)
+            replies = [reply async for reply in connection.ask([*commands, b'RSET\r\n'])]
+            wrong += [f'{path.name}, mail to its owner: {code} {words[0]}' for code, words in replies if code >= 400]
         connection.close()
     except wire.Gone as error:
         return [*wrong, str(error)]

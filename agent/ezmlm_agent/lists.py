@@ -56,17 +56,9 @@ class Lists:
 
     def look(self, again=False):
         """Looks which lists are there. One that is served is only looked at again where that is asked for."""
-        stamp, trouble, found, is_whole = self.stamp(), {}, {}, True
-        try:
-            folders = sorted(path for path in self.settings.lists.iterdir() if path.is_dir())
-        except OSError as error:
-            folders, trouble['.'] = [], str(error)
-        for path in folders:
-            address = self.addresses[path.name] if path in self.served and not again else self.address(path, trouble)
-            if address is None:
-                is_whole = False
-            else:
-                found.setdefault(address, []).append(path)
+        stamp, trouble = self.stamp(), {}
+        found = self.found(again, trouble)
+        is_whole = found.pop(None, None) is None
         remembered = self.remembered()
         self.is_unsure = bool(trouble.keys() - remembered.keys())
         self.by_address = {address: f'the list {name} can\'t be read now' for name, address in remembered.items()}
@@ -74,6 +66,18 @@ class Lists:
             self.by_address[address] = self.one_of(paths, address, trouble)
         self.tell(trouble)
         self.seen = stamp if is_whole and not trouble else None
+
+    def found(self, again, trouble):
+        """The folders by the addresses of their lists; by None those of no list."""
+        try:
+            folders = sorted(path for path in self.settings.lists.iterdir() if path.is_dir())
+        except OSError as error:
+            folders, trouble['.'] = [], str(error)
+        found = {}
+        for path in folders:
+            address = self.addresses[path.name] if path in self.served and not again else self.address(path, trouble)
+            found.setdefault(address, []).append(path)
+        return found
 
     def address(self, path, trouble):
         """The address of the list in a folder, or None."""

@@ -63,9 +63,8 @@ class Notes:
             run('DELETE FROM list')
             run('INSERT INTO list VALUES (?, ?)', address)
             run('UPDATE next SET number = max(number, ?)', (behind,))
-            for entry, in run('SELECT DISTINCT entry FROM handed').fetchall():
-                if entry not in entries:
-                    run('DELETE FROM handed WHERE entry = ?', (entry,))
+            noted = {entry for entry, in run('SELECT DISTINCT entry FROM handed').fetchall()}
+            self.forget_copies(run, noted - set(entries))
         await self.change(begin)
 
     # Numbers.
@@ -88,9 +87,12 @@ class Notes:
                 found, following = (following,), following + 1
             numbers.append(found[0])
         run('UPDATE next SET number = ?', (following,))
-        for entry in left:
-            run('DELETE FROM handed WHERE entry = ?', (entry,))
+        self.forget_copies(run, left)
         return numbers
+
+    def forget_copies(self, run, entries):
+        for entry in entries:
+            run('DELETE FROM handed WHERE entry = ?', (entry,))
 
     async def forget(self, keys, behind):
         """The mails of these keys get new numbers where they come again, and none below `behind`."""

@@ -14,6 +14,7 @@ case "$*" in
     *spool)
         if rm '{place}/lose' 2> /dev/null; then timeout -s KILL 0.3 {program} "$@" > /dev/null; kill -9 $$; fi
         if rm '{place}/mute' 2> /dev/null; then exit 0; fi
+        if rm '{place}/bad' 2> /dev/null; then echo '- 65 bad 7'; exit 65; fi
         if rm '{place}/babble' 2> /dev/null; then echo hello; exit 0; fi
         if rm '{place}/kill' 2> /dev/null; then exec timeout -s KILL 0.001 {program} "$@"; fi ;;
 esac
@@ -69,12 +70,13 @@ def case_lost_answers(world):
     world.rows['program'] = script
     world.begin()
     check(until(lambda: 'timed' in world.log()), 'there was no timed run')
-    for n, word in enumerate(('lose', 'kill', 'mute', 'babble', 'lose'), 1):
+    for n, word in enumerate(('lose', 'kill', 'mute', 'babble', 'bad', 'lose'), 1):
         check(world.is_out(3 * n - 3) and world.posts() == n - 1, 'the list is not at rest')
         (world.place / word).touch()
         first = world.post(n)
         begins(first, ('451 4.3.0', '250') if word == 'kill' else '451 4.3.0', word)
         # What is given to a run that is just being killed is put off too.
+        check(word != 'bad' or 'cats: 65 bad 7' in world.log(), 'the log has no error')
         check(until(lambda n=n: world.post(n) == f'250 2.0.0 posted {n}', 60), f'behind {word} it is not posted')
         same(world.posts(), n, 'posts')
 
