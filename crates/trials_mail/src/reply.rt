@@ -1,6 +1,6 @@
 // Mails in full, dates on both sides of the ends of February, and that the call answers with ample memory.
 use ml_base::{Address, AddressList, Bytes, Numbers, Set, read_number};
-use ml_config::read_config;
+use ml_config::{Config, read_config};
 use ml_reply::{Mail, date_text, law_dates, text};
 use std::alloc::{AllocError, Global};
 use std::test::Fail;
@@ -381,15 +381,22 @@ fn mail(alloc: Global, row: &Row, end: &[u8]) -> Result<Mail, Fail> {
     }
 }
 
-fn made(alloc: Global, row: &Row) -> Result<String, Fail> {
-    let config = read_config(alloc, CONFIG)?.ok_or("no configuration")?;
-    let end = end_text(alloc, row.end)?;
-    let mail = mail(alloc, row, end.as_slice())?;
-    if row.moment >= NEVER {
+fn config(alloc: Global) -> Result<Config, Fail> {
+    Ok(read_config(alloc, CONFIG)?.ok_or("no configuration")?)
+}
+
+fn text_of(alloc: Global, mail: &Mail, moment: u64) -> Result<String, Fail> {
+    if moment >= NEVER {
         return Ok(String::from_str(alloc, "no moment")?);
     }
-    let text = text(alloc, &config, &mail, row.moment)?;
-    Ok(String::from_utf8(text.into_vec())?)
+    let made = text(alloc, &config(alloc)?, mail, moment)?;
+    Ok(String::from_utf8(made.into_vec())?)
+}
+
+fn made(alloc: Global, row: &Row) -> Result<String, Fail> {
+    let end = end_text(alloc, row.end)?;
+    let mail = mail(alloc, row, end.as_slice())?;
+    text_of(alloc, &mail, row.moment)
 }
 
 fn expected(alloc: Global, row: &Row) -> Result<String, Fail> {
