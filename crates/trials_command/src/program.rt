@@ -1,48 +1,36 @@
-// The program over a list in memory: one command, and what it answers and leaves.
-use ml_base::{Bytes, Name, Numbers, read_number};
+// The program over a list in memory. Each case is run and compared by a function of its own, which a table calls: so little is
+// left to prove of a test.
+use ml_base::{Bytes, Numbers};
 use ml_command::ezmlm_main;
 use ml_site::{Fill, Image, MemClock, MemSite, MemSource};
 use std::alloc::{AllocError, Global};
 use std::collections::BTreeMap;
-use trials_lists::{ABSENT, File};
+use std::process::Abort;
 
-// A command: its words with single spaces, where `a*N` stands for N letters; its input, with so many zeros behind it; the reads of the input
-// that fail; the moment that its clock shows, if it does; the calls on the disk that fail. Then its status and what it puts out.
-#[derive(Clone, Copy)]
-pub(crate) struct Run<'a> {
-    pub(crate) words: &'a str,
-    pub(crate) input: &'a [u8],
-    pub(crate) zeros: usize,
-    pub(crate) reads: &'a [u64],
-    pub(crate) moment: Option<u64>,
-    pub(crate) failing: &'a [u64],
-    pub(crate) status: u8,
-    pub(crate) output: &'a [u8],
+pub(crate) const KEY: &str = "000102030405060708090a0b0c0d0e0f101112131415161718191a1b1c1d1e1f";
+
+pub(crate) const MAKE: [&str; 6] = ["make", "--key", KEY, "list", "ex.org", "o@own.org"];
+
+pub(crate) const MADE: &[u8] = b"made list@ex.org\n";
+
+// The elements of each item begin at 0, 1, 5, 19 and 26 of its 32 bytes.
+pub(crate) const A_B: &[u8] = b"A1:7,10:1000000000,4:list,3:a@b,";
+
+pub(crate) const A_B_TWICE: &[u8] =
+    b"A1:7,10:1000000000,4:list,3:a@b,A1:8,10:1000000001,4:list,3:A@B,";
+
+// A source of these bytes, whose named reads fail.
+pub(crate) fn source(alloc: Global, bytes: &[u8], fail: &[u64]) -> Result<MemSource, AllocError> {
+    let fail = Numbers::from_vec(Vec::from_slice(alloc, fail)?);
+    Ok(MemSource::new(Bytes::from_slice(alloc, bytes)?, fail))
 }
 
-// A command of which nothing fails, at 1,000,000,000. Its input has a byte that is no item.
-pub(crate) const RUN: Run = Run {
-    words: "",
-    input: b"A",
-    zeros: 0,
-    reads: &[],
-    moment: Some(1_000_000_000),
-    failing: &[],
-    status: 0,
-    output: b"",
-};
-
-// The making of the list `list@ex.org`, under the key of the bytes 0 to 31.
-pub(crate) const MAKE: Run = Run {
-    words: "make --key 000102030405060708090a0b0c0d0e0f101112131415161718191a1b1c1d1e1f list ex.org o@own.org",
-    output: b"made list@ex.org\n",
-    ..RUN
-};
-
-// The room for calls, and for output.
-const CALLS: usize = 1000;
-
-const ROOM: usize = 4000;
+// A site over an image, whose named calls fail.
+pub(crate) fn site_over(alloc: Global, image: Image, fail: &[u64]) -> Result<MemSite, AllocError> {
+    let mut site = MemSite::new(alloc, image, 1000, 1000)?;
+    site.fail(alloc, fail)?;
+    Ok(site)
+}
 
 // No log and no files.
 pub(crate) fn nothing(alloc: Global) -> Image {
@@ -52,119 +40,77 @@ pub(crate) fn nothing(alloc: Global) -> Image {
     }
 }
 
-// The same image.
-pub(crate) fn copy(alloc: Global, image: &Image) -> Result<Image, AllocError> {
-    let mut files = BTreeMap::new(alloc);
-    for (name, text) in image.files.iter() {
-        files.insert(*name, Bytes::from_slice(alloc, text.as_slice())?)?;
-    }
-    let log = Bytes::from_slice(alloc, image.log.as_slice())?;
-    Ok(Image { log, files })
-}
-
-// An image with a file in the place of its own. One of the text `-` is absent, and that of kind 0 is the log.
-pub(crate) fn with_file(alloc: Global, image: Image, file: File) -> Result<Image, AllocError> {
-    let (kind, at, text) = file;
-    let mut image = image;
-    if kind == 0 {
-        image.log = Bytes::from_slice(alloc, text)?;
-    } else if text == ABSENT {
-        let _ = image.files.remove(&Name { kind, at });
-    } else {
-        let name = Name { kind, at };
-        image.files.insert(name, Bytes::from_slice(alloc, text)?)?;
-    }
-    Ok(image)
-}
-
-// The text of a file, or `-` where it is absent. That of kind 0 is the log.
-pub(crate) fn text_of(image: &Image, kind: u8, at: u64) -> &[u8] {
-    if kind == 0 {
-        return image.log.as_slice();
-    }
-    match image.files.get(&Name { kind, at }) {
-        Some(text) => text.as_slice(),
-        None => ABSENT,
-    }
-}
-
-// A site over an image.
-pub(crate) fn site_over(alloc: Global, image: Image) -> Result<MemSite, AllocError> {
-    MemSite::new(alloc, image, CALLS, ROOM)
+// A site without files, whose named calls fail.
+pub(crate) fn empty(alloc: Global, fail: &[u64]) -> Result<MemSite, AllocError> {
+    site_over(alloc, nothing(alloc), fail)
 }
 
 // What is left for good of the calls on a site.
 pub(crate) fn settled(alloc: Global, site: &MemSite) -> Result<Image, AllocError> {
-    site.crash(alloc, CALLS as u64, Fill::Old)
+    site.crash(alloc, 1000, Fill::Old)
 }
 
-// The word that a text stands for.
-fn word_of(alloc: Global, text: &str) -> Result<String, AllocError> {
-    let letters = match text.as_bytes().strip_prefix(b"a*".as_slice()) {
-        Some(digits) => read_number(digits),
-        None => None,
-    };
-    let Some(letters) = letters else {
-        return String::from_str(alloc, text);
-    };
-    let mut word = String::new(alloc);
-    for _ in 0..letters {
-        word.push('a')?;
-    }
-    Ok(word)
-}
-
-// The words of a command.
-fn words_of(alloc: Global, text: &str) -> Result<Vec<String>, AllocError> {
-    let mut words = Vec::new(alloc);
-    if text.is_empty() {
-        return Ok(words);
-    }
-    for word in text.split(' ') {
-        words.push(word_of(alloc, word)?)?;
-    }
-    Ok(words)
-}
-
-// The input of a command.
-fn source(alloc: Global, run: &Run) -> Result<MemSource, AllocError> {
-    let mut bytes = vec![in alloc; 0u8; run.zeros]?;
-    if !run.input.is_empty() {
-        bytes = Vec::from_slice(alloc, run.input)?;
-    }
-    let reads = Numbers::from_vec(Vec::from_slice(alloc, run.reads)?);
-    Ok(MemSource::new(Bytes::from_vec(bytes), reads))
-}
-
-// The clock of a command.
-fn clock(alloc: Global, moment: Option<u64>) -> Result<MemClock, AllocError> {
-    match moment {
-        Some(moment) => Ok(MemClock::new(moment.min(253_402_300_799), Numbers::new(alloc))),
-        None => {
-            let first = Numbers::from_vec(Vec::from_slice(alloc, &[1u64])?);
-            Ok(MemClock::new(0, first))
-        }
-    }
-}
-
-// Runs a command over a site, and answers the status and the site.
-pub(crate) fn run_over(
+// Runs the program with these words on a stream, by a clock, and answers the status and the site.
+pub(crate) fn command_by(
     alloc: Global,
-    run: &Run,
+    words: &[&str],
+    input: &mut MemSource,
+    site: MemSite,
+    clock: &mut MemClock,
+) -> Result<(u8, MemSite), AllocError> {
+    let mut owned = Vec::new(alloc);
+    for word in words {
+        owned.push(String::from_str(alloc, word)?)?;
+    }
+    Ok(ezmlm_main(alloc, &owned, input, site, clock))
+}
+
+// The same, by a clock that shows 1,000,000,000.
+pub(crate) fn command(
+    alloc: Global,
+    words: &[&str],
+    input: &mut MemSource,
     site: MemSite,
 ) -> Result<(u8, MemSite), AllocError> {
-    let words = words_of(alloc, run.words)?;
-    let mut input = source(alloc, run)?;
-    let mut clock = clock(alloc, run.moment)?;
-    let mut site = site;
-    site.fail(alloc, run.failing)?;
-    Ok(ezmlm_main(alloc, &words, &mut input, site, &mut clock))
+    let mut clock = MemClock::new(1_000_000_000, Numbers::new(alloc));
+    command_by(alloc, words, input, site, &mut clock)
 }
 
-// The text of an answer.
-pub(crate) fn told(alloc: Global, status: u8, output: &[u8]) -> Result<Bytes, AllocError> {
-    let head = format!(in alloc; "{status} ")?;
-    let mut text = Bytes::from_slice(alloc, head.as_bytes())?;
-    text.extend(output)?;
-    Ok(text)
+// Makes the list `list@ex.org`, and answers the status and the site.
+pub(crate) fn make(alloc: Global, site: MemSite) -> Result<(u8, MemSite), AllocError> {
+    command(alloc, &MAKE, &mut source(alloc, b"", &[])?, site)
+}
+
+// Whether `make` ends so over a site without files, whose named calls fail.
+pub(crate) fn make_ends(
+    alloc: Global,
+    fail: &[u64],
+    status: u8,
+    output: &[u8],
+) -> Result<bool, AllocError> {
+    let (found, site) = make(alloc, empty(alloc, fail)?)?;
+    Ok(found == status && site.output() == output)
+}
+
+// Whether the program ends so with these words on a stream, whose named reads fail, over a list that was made before.
+pub(crate) fn list_ends(
+    alloc: Global,
+    words: &[&str],
+    stream: &[u8],
+    reads: &[u64],
+    status: u8,
+    output: &[u8],
+) -> Result<bool, AllocError> {
+    let (_, site) = make(alloc, empty(alloc, &[])?)?;
+    let mut input = source(alloc, stream, reads)?;
+    let (found, site) = command(alloc, words, &mut input, site)?;
+    Ok(
+        found == status
+            && site.output().strip_prefix(b"made list@ex.org\n".as_slice()) == Some(output),
+    )
+}
+
+// Fails the test, and names the row of its table, where a case doesn't hold.
+pub(crate) fn holds(rt: &impl Abort, row: usize, case: bool) {
+    assert!(rt; case, "row {row}");
 }

@@ -1,206 +1,191 @@
-// Commands that give one item, and what they leave.
-use crate::program::{MAKE, RUN, Run};
-use crate::rows::{Step, Table, check};
-use std::test::Fail;
+// Commands that give one item, over a list in memory.
+use crate::program::{KEY, command_by, empty, holds, make, nothing, settled, site_over, source};
+use ml_base::{Name, Numbers};
+use ml_site::{Image, MemClock};
+use std::alloc::{AllocError, Global};
 
-const MEMBERS: [Step; 10] = [
-    Step::Run(Run {
-        words: "sub 7 list a@b",
-        output: b"7 0 subscribed\n",
-        ..RUN
-    }),
-    Step::Left((3, 29, b"layout 2\nTa@b\x001000000000\x00")),
-    Step::Left((8, 0, b"1\n")),
-    Step::Left((0, 0, b"\0")),
-    Step::Run(Run {
-        words: "sub 8 list A@B",
-        moment: Some(1_000_000_001),
-        output: b"8 0 already\n",
-        ..RUN
-    }),
+// The words of a command, the moment that its clock shows, its status, and what it puts out.
+pub(crate) type Told<'a> = (&'a [&'a str], u64, u8, &'a [u8]);
+
+// Whether a command over an image ends so, and what it leaves.
+pub(crate) fn one_ends(
+    alloc: Global,
+    image: Image,
+    told: Told,
+) -> Result<(bool, Image), AllocError> {
+    let (words, moment, status, output) = told;
+    let mut input = source(alloc, b"A", &[])?;
+    let mut clock = MemClock::new(moment.min(253_402_300_799), Numbers::new(alloc));
+    let site = site_over(alloc, image, &[])?;
+    let (found, site) = command_by(alloc, words, &mut input, site, &mut clock)?;
+    let ended = found == status && site.output() == output;
+    Ok((ended, settled(alloc, &site)?))
+}
+
+// What is left of commands, each over what the one before it left, and how many of them end as it is said of each, up to the
+// first that doesn't.
+pub(crate) fn after_over(
+    alloc: Global,
+    image: Image,
+    rows: &[Told],
+) -> Result<(Image, usize), AllocError> {
+    let mut image = image;
+    for at in 0..rows.len() {
+        let (ended, left) = one_ends(alloc, image, rows[at])?;
+        image = left;
+        if !ended {
+            return Ok((image, at));
+        }
+    }
+    Ok((image, rows.len()))
+}
+
+// The same on a new list.
+fn after(alloc: Global, rows: &[Told]) -> Result<(Image, usize), AllocError> {
+    let (_, site) = make(alloc, empty(alloc, &[])?)?;
+    after_over(alloc, settled(alloc, &site)?, rows)
+}
+
+const MEMBERS: [Told; 7] = [
+    (
+        &["sub", "7", "list", "a@b"],
+        1_000_000_000,
+        0,
+        b"7 0 subscribed\n",
+    ),
+    (
+        &["sub", "8", "list", "A@B"],
+        1_000_000_001,
+        0,
+        b"8 0 already\n",
+    ),
     // A number is answered once, whatever comes under it.
-    Step::Run(Run {
-        words: "unsub 7 list a@b",
-        moment: Some(1_000_000_002),
-        output: b"7 0 subscribed\n",
-        ..RUN
-    }),
-    Step::Run(Run {
-        words: "unsub 9 list A@b",
-        moment: Some(1_000_000_003),
-        output: b"9 0 unsubscribed\n",
-        ..RUN
-    }),
-    Step::Run(Run {
-        words: "unsub 10 list a@b",
-        moment: Some(1_000_000_004),
-        output: b"10 0 absent\n",
-        ..RUN
-    }),
-    Step::Run(Run {
-        words: "sub 0 mod m@o",
-        moment: Some(1_000_000_005),
-        output: b"0 0 subscribed\n",
-        ..RUN
-    }),
-    Step::Run(Run {
-        words: "sub 0 mod m@O",
-        moment: Some(1_000_000_006),
-        output: b"0 0 already\n",
-        ..RUN
-    }),
-];
-
-const KEYS: [Step; 3] = [
-    Step::Run(Run {
-        words: "rekey 33 FFFFFFFFFFFFFFFFFFFFFFFFFFFFFFFFFFFFFFFFFFFFFFFFFFFFFFFFFFFFFFFF",
-        moment: Some(1_000_000_300),
-        output: b"33 0 rekeyed\n",
-        ..RUN
-    }),
-    Step::Run(Run {
-        words: "rekey 35 000102030405060708090a0b0c0d0e0f101112131415161718191a1b1c1d1e1f",
-        moment: Some(1_001_000_300),
-        status: 100,
-        output: b"35 100 toosoon\n",
-        ..RUN
-    }),
-    Step::Run(Run {
-        words: "rekey 36 000102030405060708090a0b0c0d0e0f101112131415161718191a1b1c1d1e1f",
-        moment: Some(1_001_000_301),
-        output: b"36 0 rekeyed\n",
-        ..RUN
-    }),
-];
-
-const FLOORS: [Step; 5] = [
-    Step::Run(Run {
-        words: "floor 90 50",
-        moment: Some(1_000_000_500),
-        output: b"90 0 floored 50\n",
-        ..RUN
-    }),
-    Step::Run(Run {
-        words: "sub 7 list a@b",
-        moment: Some(1_000_000_501),
-        status: 100,
-        output: b"7 100 stale\n",
-        ..RUN
-    }),
-    Step::Run(Run {
-        words: "floor 91 20",
-        moment: Some(1_000_000_502),
-        output: b"91 0 floored 50\n",
-        ..RUN
-    }),
-    Step::Run(Run {
-        words: "floor 92 100",
-        moment: Some(1_000_000_503),
-        status: 100,
-        output: b"92 100 badfloor\n",
-        ..RUN
-    }),
-    Step::Run(Run {
-        words: "floor 0 600000",
-        moment: Some(1_000_000_504),
-        status: 100,
-        output: b"0 100 badfloor\n",
-        ..RUN
-    }),
-];
-
-const NO_LIST: Run = Run {
-    words: "sub 7 list a@b",
-    status: 75,
-    output: b"- 75 nolist\n",
-    ..RUN
-};
-
-// The list with `a@b` in a bucket of the first layout, and his count.
-const OLD: [Step; 3] = [
-    Step::Run(MAKE),
-    Step::Put((3, 29, b"Ta@b\0")),
-    Step::Put((8, 0, b"1\n")),
-];
-
-const LISTED: [Step; 8] = [
-    Step::Run(Run {
-        words: "list -t list",
-        moment: Some(0),
-        output: b"0 a@b\n",
-        ..RUN
-    }),
-    Step::Run(Run {
-        words: "sub 70 list a@5",
-        moment: Some(1_000_000_400),
-        output: b"70 0 subscribed\n",
-        ..RUN
-    }),
-    Step::Run(Run {
-        words: "list -t list",
-        moment: Some(0),
-        output: b"1000000400 a@5\n0 a@b\n",
-        ..RUN
-    }),
-    Step::Run(Run {
-        words: "sub 71 list A@5",
-        moment: Some(1_000_000_500),
-        output: b"71 0 already\n",
-        ..RUN
-    }),
-    Step::Run(Run {
-        words: "list list",
-        moment: Some(0),
-        output: b"a@5\na@b\n",
-        ..RUN
-    }),
-    Step::Run(Run {
-        words: "unsub 72 list a@b",
-        moment: Some(1_000_000_600),
-        output: b"72 0 unsubscribed\n",
-        ..RUN
-    }),
-    Step::Run(Run {
-        words: "list -t list",
-        moment: Some(0),
-        output: b"1000000400 a@5\n",
-        ..RUN
-    }),
-    Step::Run(Run {
-        words: "list mod",
-        moment: Some(0),
-        ..RUN
-    }),
-];
-
-const DAMAGED: [Step; 2] = [
-    Step::Put((3, 29, b"Ta@b")),
-    Step::Run(Run {
-        words: "list list",
-        status: 75,
-        output: b"- 75 subscribers/]\n",
-        ..RUN
-    }),
+    (
+        &["unsub", "7", "list", "a@b"],
+        1_000_000_002,
+        0,
+        b"7 0 subscribed\n",
+    ),
+    (
+        &["unsub", "9", "list", "A@b"],
+        1_000_000_003,
+        0,
+        b"9 0 unsubscribed\n",
+    ),
+    (
+        &["unsub", "10", "list", "a@b"],
+        1_000_000_004,
+        0,
+        b"10 0 absent\n",
+    ),
+    (
+        &["sub", "0", "mod", "m@o"],
+        1_000_000_005,
+        0,
+        b"0 0 subscribed\n",
+    ),
+    (
+        &["sub", "0", "mod", "m@O"],
+        1_000_000_006,
+        0,
+        b"0 0 already\n",
+    ),
 ];
 
 #[test]
-fn items_are_answered_one_at_a_time(rt: HostRuntime) -> Result<(), Fail> {
-    let tables = [
-        Table {
-            name: "members, keys and floors",
-            list: &[Step::Run(MAKE)],
-            rows: &[&MEMBERS, &KEYS, &FLOORS],
-        },
-        Table {
-            name: "no list for an item",
-            list: &[],
-            rows: &[&[Step::Run(NO_LIST)]],
-        },
-        Table {
-            name: "members with their moments, and a damaged set",
-            list: &OLD,
-            rows: &[&LISTED, &DAMAGED],
-        },
-    ];
-    check(rt.alloc(), &tables)
+fn members_come_and_go(rt: HostRuntime) -> Result<(), AllocError> {
+    let (_, same) = after(rt.alloc(), &MEMBERS)?;
+    holds(&rt, same, same == MEMBERS.len());
+    Ok(())
+}
+
+// Whether an image has one closed gate as its log, and this file with these bytes.
+fn has(image: &Image, name: Name, bytes: &[u8]) -> bool {
+    image.log.as_slice() == b"\0".as_slice()
+        && image.files.get(&name).map(|found| found.as_slice()) == Some(bytes)
+}
+
+#[test]
+fn a_member_stands_in_the_bucket_with_the_moment(rt: HostRuntime) -> Result<(), AllocError> {
+    let (image, same) = after(rt.alloc(), &MEMBERS[..1])?;
+    holds(&rt, 0, same == 1);
+    let bucket = Name { kind: 3, at: 29 };
+    let member = b"layout 2\nTa@b\x001000000000\x00".as_slice();
+    holds(&rt, 1, has(&image, bucket, member));
+    holds(&rt, 2, has(&image, Name { kind: 8, at: 0 }, b"1\n"));
+    Ok(())
+}
+
+const UPPER: &str = "FFFFFFFFFFFFFFFFFFFFFFFFFFFFFFFFFFFFFFFFFFFFFFFFFFFFFFFFFFFFFFFF";
+
+const KEYS: [Told; 3] = [
+    (&["rekey", "33", UPPER], 1_000_000_300, 0, b"33 0 rekeyed\n"),
+    (
+        &["rekey", "35", KEY],
+        1_001_000_300,
+        100,
+        b"35 100 toosoon\n",
+    ),
+    (&["rekey", "36", KEY], 1_001_000_301, 0, b"36 0 rekeyed\n"),
+];
+
+#[test]
+fn a_key_is_replaced_after_its_time(rt: HostRuntime) -> Result<(), AllocError> {
+    let (_, same) = after(rt.alloc(), &KEYS)?;
+    holds(&rt, same, same == KEYS.len());
+    Ok(())
+}
+
+const FLOORS: [Told; 5] = [
+    (
+        &["floor", "90", "50"],
+        1_000_000_500,
+        0,
+        b"90 0 floored 50\n",
+    ),
+    (
+        &["sub", "7", "list", "a@b"],
+        1_000_000_501,
+        100,
+        b"7 100 stale\n",
+    ),
+    (
+        &["floor", "91", "20"],
+        1_000_000_502,
+        0,
+        b"91 0 floored 50\n",
+    ),
+    (
+        &["floor", "92", "100"],
+        1_000_000_503,
+        100,
+        b"92 100 badfloor\n",
+    ),
+    (
+        &["floor", "0", "600000"],
+        1_000_000_504,
+        100,
+        b"0 100 badfloor\n",
+    ),
+];
+
+#[test]
+fn numbers_below_the_floor_are_refused(rt: HostRuntime) -> Result<(), AllocError> {
+    let (_, same) = after(rt.alloc(), &FLOORS)?;
+    holds(&rt, same, same == FLOORS.len());
+    Ok(())
+}
+
+#[test]
+fn there_is_no_item_without_a_list(rt: HostRuntime) -> Result<(), AllocError> {
+    let alloc = rt.alloc();
+    let told: Told = (
+        &["sub", "7", "list", "a@b"],
+        1_000_000_000,
+        75,
+        b"- 75 nolist\n",
+    );
+    let (ended, _) = one_ends(alloc, nothing(alloc), told)?;
+    holds(&rt, 0, ended);
+    Ok(())
 }

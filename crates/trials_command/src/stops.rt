@@ -1,11 +1,9 @@
-// Scripts of items, stopped after each of their calls, and with each of these failing: the next run over the same items makes it good.
-use crate::program::{MAKE, RUN, Run, copy, run_over, site_over, told};
-use crate::rows::{Step, list_of};
+// The program stopped after each of its calls, and with each of them failing: the next run over the same items makes it good.
+use crate::program::{KEY, MAKE, command, empty, source};
 use ml_base::{Bytes, read_number, split_first};
 use ml_site::{Fill, Image, MemSite};
 use std::alloc::{AllocError, Global};
-use std::test::Fail;
-use trials_lists::same;
+use std::process::Abort;
 
 // An item, and its answer on a new list behind the items before it.
 type Row = (&'static [u8], &'static [u8]);
@@ -194,36 +192,24 @@ const BOUNCES: [Row; 20] = [
     (b"S2:10,10:1001000009,1:2,", b"10 100 noentry\n"),
 ];
 
-const MAKE_MODERATED: Run = Run {
-    words: "make -m --key 000102030405060708090a0b0c0d0e0f101112131415161718191a1b1c1d1e1f list ex.org o@own.org",
-    ..MAKE
-};
+const MAKE_MODERATED: [&str; 7] = ["make", "-m", "--key", KEY, "list", "ex.org", "o@own.org"];
 
-// How many items are before the floor.
+// How many items are before the floor, and the floor.
 const WITHOUT_FLOOR: usize = 34;
 
-// More calls than a run makes.
+const FLOOR: u64 = 20;
+
+// The room for calls and for output.
 const CALLS: u64 = 1000;
 
-// What no sync has settled when the program stops.
-const FILLS: [Fill; 5] = [
-    Fill::Old,
-    Fill::New,
-    Fill::Byte(0),
-    Fill::Byte(1),
-    Fill::Byte(7),
-];
+const OUTPUT: usize = 4000;
 
-// A script: its stream, the answers of a run that nothing stops, those of one more run behind it, the list before the first, and the list behind it.
-#[derive(Drop)]
-struct Script<'a> {
-    name: &'a str,
-    rows: &'a [Row],
-    stream: Bytes,
-    answers: Bytes,
-    later: Bytes,
-    start: Image,
-    end: Image,
+// A log of one closed gate.
+const CLOSED: &[u8] = &[0];
+
+// A site over an image.
+fn site(alloc: Global, image: Image) -> Result<MemSite, AllocError> {
+    MemSite::new(alloc, image, CALLS as usize, OUTPUT)
 }
 
 // What a site holds as it reads.
@@ -231,67 +217,38 @@ fn held(alloc: Global, site: &MemSite) -> Result<Image, AllocError> {
     site.crash(alloc, CALLS, Fill::New)
 }
 
-fn stream_of(alloc: Global, rows: &[Row]) -> Result<Bytes, AllocError> {
+// Runs a script over a site.
+fn run_script(alloc: Global, rows: &[Row], site: MemSite) -> Result<(u8, MemSite), AllocError> {
     let mut stream = Bytes::new(alloc);
-    for (item, _) in rows {
-        stream.extend(item)?;
+    for row in rows {
+        stream.extend(row.0)?;
     }
-    Ok(stream)
+    let mut input = source(alloc, stream.as_slice(), &[])?;
+    command(alloc, &["spool"], &mut input, site)
 }
 
-// Runs a stream over a site.
-fn spool(alloc: Global, stream: &[u8], site: MemSite) -> Result<(u8, MemSite), AllocError> {
-    let run = Run {
-        words: "spool",
-        input: stream,
-        ..RUN
-    };
-    run_over(alloc, &run, site)
+// What is behind the answer to an item in an output, where it is this one; below a floor it is another one.
+fn behind_answer<'a>(output: &'a [u8], answer: &[u8], floor: u64) -> Option<&'a [u8]> {
+    let (number, _) = split_first(b' ', answer)?;
+    if read_number(number)? < floor {
+        output
+            .strip_prefix(number)?
+            .strip_prefix(b" 100 stale\n".as_slice())
+    } else {
+        output.strip_prefix(answer)
+    }
 }
 
-// Adds the answer to an item, or where its number is below a floor that it is refused.
-fn add_answer(out: &mut Bytes, answer: &[u8], floor: u64) -> Result<(), AllocError> {
-    if let Some((number, _)) = split_first(b' ', answer) {
-        if read_number(number).is_some_and(|number| number < floor) {
-            out.extend(number)?;
-            return out.extend(b" 100 stale\n");
+// Whether an output is the answers to all items, over a list with this floor.
+fn answers_all(rows: &[Row], output: &[u8], floor: u64) -> bool {
+    let mut rest = output;
+    for row in rows {
+        match behind_answer(rest, row.1, floor) {
+            Some(more) => rest = more,
+            None => return false,
         }
     }
-    out.extend(answer)
-}
-
-// The answers to the items of a script over a list with this floor.
-fn answers_of(alloc: Global, rows: &[Row], floor: u64) -> Result<Bytes, AllocError> {
-    let mut out = Bytes::new(alloc);
-    for (_, answer) in rows {
-        add_answer(&mut out, answer, floor)?;
-    }
-    Ok(out)
-}
-
-fn script_of<'a>(
-    alloc: Global,
-    name: &'a str,
-    make: Run,
-    rows: &'a [Row],
-    floor: u64,
-) -> Result<Script<'a>, Fail> {
-    let start = list_of(alloc, name, &[Step::Run(make)])?;
-    let stream = stream_of(alloc, rows)?;
-    let answers = answers_of(alloc, rows, 0)?;
-    let later = answers_of(alloc, rows, floor)?;
-    let site = site_over(alloc, copy(alloc, &start)?)?;
-    let (_, site) = spool(alloc, stream.as_slice(), site)?;
-    let end = held(alloc, &site)?;
-    Ok(Script {
-        name,
-        rows,
-        stream,
-        answers,
-        later,
-        start,
-        end,
-    })
+    rest.is_empty()
 }
 
 // Whether what is left of an output is some front of an answer, or a stop line in its place.
@@ -317,21 +274,15 @@ fn is_front(rows: &[Row], output: &[u8]) -> bool {
     rest.is_empty() || rest == b"- 111 disk\n".as_slice()
 }
 
-// Fails where an output isn't a front of what is answered.
-fn check_front(
-    alloc: Global,
-    script: &Script,
-    name: &str,
-    at: u64,
-    out: &[u8],
-) -> Result<(), Fail> {
-    if is_front(script.rows, out) {
-        return Ok(());
-    }
-    same(alloc, name, at as usize, out, script.answers.as_slice())
+// Whether a second run answered each item as a first one did or would have: where the floor of the first one was done, items
+// below it are refused.
+fn answers_again(rows: &[Row], first: &[u8], second: &[u8]) -> bool {
+    let floored = rows.len() > WITHOUT_FLOOR;
+    let is_done = floored && answers_all(rows, first, 0);
+    (!is_done && answers_all(rows, second, 0)) || (floored && answers_all(rows, second, FLOOR))
 }
 
-// Whether two images have the same bytes.
+// Whether two images have the same bytes, and their log is one closed gate.
 fn is_same(image: &Image, other: &Image) -> bool {
     let mut same = image.files.len() == other.files.len();
     for (name, bytes) in &image.files {
@@ -341,169 +292,166 @@ fn is_same(image: &Image, other: &Image) -> bool {
         };
         same = same && there;
     }
-    same && image.log.as_slice() == other.log.as_slice()
+    same && image.log.as_slice() == CLOSED && other.log.as_slice() == CLOSED
 }
 
-// What the next run answers behind a first one that put this out: where the floor of the first one was done, items below it are refused.
-fn next_answers<'b>(script: &'b Script, first: &[u8], second: &[u8]) -> &'b [u8] {
-    if first == script.answers.as_slice() || second == script.later.as_slice() {
-        script.later.as_slice()
-    } else {
-        script.answers.as_slice()
-    }
+// A script, the list on which it is run, and what a run leaves that nothing stops.
+#[derive(Drop)]
+struct Trial<'a> {
+    rows: &'a [Row],
+    start: MemSite,
+    end: Image,
 }
 
-// Fails where the next run over a site, behind a first one that put this out, doesn't answer all, or leaves other files than the plain run.
+fn trial_of<'a>(alloc: Global, make: &[&str], rows: &'a [Row]) -> Result<Trial<'a>, AllocError> {
+    let mut nothing = source(alloc, b"", &[])?;
+    let (_, start) = command(alloc, make, &mut nothing, empty(alloc, &[])?)?;
+    let (_, site) = run_script(alloc, rows, site(alloc, held(alloc, &start)?)?)?;
+    let end = held(alloc, &site)?;
+    Ok(Trial { rows, start, end })
+}
+
+// Whether the next run over a site, behind a first one that put this out, answers all and leaves the files of the plain run.
 // What the site had put out before that run is in front of its answers.
-fn check_again(
+fn is_made_good(
     alloc: Global,
-    script: &Script,
-    name: &str,
-    at: u64,
+    trial: &Trial,
     first: &[u8],
     before: &[u8],
     site: MemSite,
-) -> Result<(), Fail> {
-    let (status, site) = spool(alloc, script.stream.as_slice(), site)?;
-    let second = site.output().strip_prefix(before).unwrap_or(b"?");
-    let came = told(alloc, status, second)?;
-    let wanted = told(alloc, 0, next_answers(script, first, second))?;
-    same(alloc, name, at as usize, came.as_slice(), wanted.as_slice())?;
-    let left = held(alloc, &site)?;
-    same(alloc, name, at as usize, left.log.as_slice(), b"\0")?;
-    if is_same(&left, &script.end) {
-        return Ok(());
-    }
-    Err(Fail::new(format_args!("{name}, row {at}: other files are left")))
-}
-
-// A run over the list, which stops after so many calls.
-fn stopped_run(alloc: Global, script: &Script, calls: u64) -> Result<(u8, MemSite), AllocError> {
-    let mut stopping = site_over(alloc, copy(alloc, &script.start)?)?;
-    stopping.stop_after(calls);
-    spool(alloc, script.stream.as_slice(), stopping)
-}
-
-// Whether a stop one call before put the same out, and left this image.
-fn is_as_before(
-    alloc: Global,
-    image: &Image,
-    output: &[u8],
-    before: Option<&MemSite>,
-    calls: u64,
-    fill: Fill,
 ) -> Result<bool, AllocError> {
-    match before {
-        Some(site) => {
-            let earlier = site.crash(alloc, calls.saturating_sub(1), fill)?;
-            Ok(site.output() == output && is_same(image, &earlier))
-        }
-        None => Ok(false),
-    }
+    let (status, site) = run_script(alloc, trial.rows, site)?;
+    let told = match site.output().strip_prefix(before) {
+        Some(second) => answers_again(trial.rows, first, second),
+        None => false,
+    };
+    Ok(status == 0 && told && is_same(&held(alloc, &site)?, &trial.end))
 }
 
-// Fails where a stop after so many calls isn't made good, whatever the crash leaves. What the stop before left isn't tried again.
-fn check_stop(
-    alloc: Global,
-    script: &Script,
-    name: &str,
-    stopped: &MemSite,
-    before: Option<&MemSite>,
-    calls: u64,
-) -> Result<(), Fail> {
-    check_front(alloc, script, name, calls, stopped.output())?;
+// What no sync has settled when the program stops.
+const FILLS: [Fill; 5] = [
+    Fill::Old,
+    Fill::New,
+    Fill::Byte(0),
+    Fill::Byte(1),
+    Fill::Byte(7),
+];
+
+// A run over the list that stops after so many calls.
+fn stopped_run(alloc: Global, trial: &Trial, calls: u64) -> Result<(u8, MemSite), AllocError> {
+    let mut stopping = site(alloc, held(alloc, &trial.start)?)?;
+    stopping.stop_after(calls);
+    run_script(alloc, trial.rows, stopping)
+}
+
+// Whether a stop after so many calls is made good, whatever the crash leaves.
+fn is_stop_good(alloc: Global, trial: &Trial, calls: u64) -> Result<bool, AllocError> {
+    let (_, stopped) = stopped_run(alloc, trial, calls)?;
+    let mut good = is_front(trial.rows, stopped.output());
     for fill in FILLS {
-        let image = stopped.crash(alloc, calls, fill)?;
-        if !is_as_before(alloc, &image, stopped.output(), before, calls, fill)? {
-            let site = site_over(alloc, image)?;
-            check_again(alloc, script, name, calls, stopped.output(), b"", site)?;
-        }
+        let next = site(alloc, stopped.crash(alloc, calls, fill)?)?;
+        good = good && is_made_good(alloc, trial, stopped.output(), b"", next)?;
     }
-    Ok(())
+    Ok(good)
 }
 
-// Stops a run after each of its calls, and answers how many it makes.
-fn check_stops(alloc: Global, script: &Script) -> Result<u64, Fail> {
-    let name = format!(in alloc; "{}, stops", script.name)?;
-    let mut before = None;
+// Whether a call that fails alone ends the run, and is made good by a next one over the same site.
+fn is_failure_good(alloc: Global, trial: &Trial, call: u64) -> Result<bool, AllocError> {
+    let mut failing = site(alloc, held(alloc, &trial.start)?)?;
+    failing.fail(alloc, &[call])?;
+    let (status, site) = run_script(alloc, trial.rows, failing)?;
+    let first = Bytes::from_slice(alloc, site.output())?;
+    let front = status != 0 && is_front(trial.rows, first.as_slice());
+    Ok(front && is_made_good(alloc, trial, first.as_slice(), first.as_slice(), site)?)
+}
+
+// How many calls a run makes: after so many a stop changes nothing.
+fn calls_of(alloc: Global, trial: &Trial) -> Result<u64, AllocError> {
     for calls in 0..CALLS {
-        let (status, stopped) = stopped_run(alloc, script, calls)?;
-        check_stop(
-            alloc,
-            script,
-            name.as_str(),
-            &stopped,
-            before.as_ref(),
-            calls,
-        )?;
+        let (status, _) = stopped_run(alloc, trial, calls)?;
         if status == 0 {
             return Ok(calls);
         }
-        before = Some(stopped);
     }
-    Err(Fail::new("a run makes more calls than were tried"))
+    Ok(CALLS)
 }
 
-// Fails where a call that fails alone doesn't end the run, or isn't made good by a next one over the same site.
-fn check_failure(alloc: Global, script: &Script, name: &str, call: u64) -> Result<(), Fail> {
-    let run = Run {
-        words: "spool",
-        input: script.stream.as_slice(),
-        failing: &[call],
-        ..RUN
-    };
-    let site = site_over(alloc, copy(alloc, &script.start)?)?;
-    let (status, site) = run_over(alloc, &run, site)?;
-    if status == 0 {
-        return Err(Fail::new(format_args!("{name}, row {call}: it ends with 0")));
+// The first number of calls after which a stop isn't made good.
+fn bad_stop(alloc: Global, make: &[&str], rows: &[Row]) -> Result<Option<u64>, AllocError> {
+    let trial = trial_of(alloc, make, rows)?;
+    for calls in 0..=calls_of(alloc, &trial)? {
+        if !is_stop_good(alloc, &trial, calls)? {
+            return Ok(Some(calls));
+        }
     }
-    let first = Bytes::from_slice(alloc, site.output())?;
-    check_front(alloc, script, name, call, first.as_slice())?;
-    check_again(
-        alloc,
-        script,
-        name,
-        call,
-        first.as_slice(),
-        first.as_slice(),
-        site,
-    )
+    Ok(None)
 }
 
-// Tries a script with each stop, and with each failing call.
-fn check_script(
-    alloc: Global,
-    name: &str,
-    make: Run,
-    rows: &[Row],
-    floor: u64,
-) -> Result<(), Fail> {
-    let script = script_of(alloc, name, make, rows, floor)?;
-    let calls = check_stops(alloc, &script)?;
-    let name = format!(in alloc; "{name}, failing calls")?;
-    for call in 1..=calls {
-        check_failure(alloc, &script, name.as_str(), call)?;
+// The first call whose failure isn't made good.
+fn bad_failure(alloc: Global, make: &[&str], rows: &[Row]) -> Result<Option<u64>, AllocError> {
+    let trial = trial_of(alloc, make, rows)?;
+    for call in 1..=calls_of(alloc, &trial)? {
+        if !is_failure_good(alloc, &trial, call)? {
+            return Ok(Some(call));
+        }
     }
+    Ok(None)
+}
+
+// Fails the test, and names the call, where one is found.
+fn is_none(rt: &impl Abort, found: Option<u64>) {
+    if let Some(call) = found {
+        assert!(rt; false, "call {call}");
+    }
+}
+
+#[test]
+fn a_stop_after_each_call_is_made_good(rt: HostRuntime) -> Result<(), AllocError> {
+    is_none(&rt, bad_stop(rt.alloc(), &MAKE, &SCRIPT[..WITHOUT_FLOOR])?);
     Ok(())
 }
 
 #[test]
-fn members_and_keys_are_made_good(rt: HostRuntime) -> Result<(), Fail> {
-    let rows = &SCRIPT[..WITHOUT_FLOOR];
-    check_script(rt.alloc(), "members and keys", MAKE, rows, 0)
+fn a_stop_after_each_call_before_a_floor_is_made_good(rt: HostRuntime) -> Result<(), AllocError> {
+    is_none(&rt, bad_stop(rt.alloc(), &MAKE, &SCRIPT)?);
+    Ok(())
 }
 
 #[test]
-fn a_floor_is_made_good(rt: HostRuntime) -> Result<(), Fail> {
-    check_script(rt.alloc(), "members, keys and a floor", MAKE, &SCRIPT, 20)
+fn each_call_that_fails_is_made_good(rt: HostRuntime) -> Result<(), AllocError> {
+    is_none(
+        &rt,
+        bad_failure(rt.alloc(), &MAKE, &SCRIPT[..WITHOUT_FLOOR])?,
+    );
+    Ok(())
 }
 
 #[test]
-fn requests_are_made_good(rt: HostRuntime) -> Result<(), Fail> {
-    check_script(rt.alloc(), "requests", MAKE_MODERATED, &REQUESTS, 0)
+fn each_call_that_fails_before_a_floor_is_made_good(rt: HostRuntime) -> Result<(), AllocError> {
+    is_none(&rt, bad_failure(rt.alloc(), &MAKE, &SCRIPT)?);
+    Ok(())
 }
 
 #[test]
-fn bounces_are_made_good(rt: HostRuntime) -> Result<(), Fail> {
-    check_script(rt.alloc(), "bounces", MAKE, &BOUNCES, 0)
+fn a_stop_after_each_call_of_requests_is_made_good(rt: HostRuntime) -> Result<(), AllocError> {
+    is_none(&rt, bad_stop(rt.alloc(), &MAKE_MODERATED, &REQUESTS)?);
+    Ok(())
+}
+
+#[test]
+fn a_stop_after_each_call_of_bounces_is_made_good(rt: HostRuntime) -> Result<(), AllocError> {
+    is_none(&rt, bad_stop(rt.alloc(), &MAKE, &BOUNCES)?);
+    Ok(())
+}
+
+#[test]
+fn each_call_that_fails_of_requests_is_made_good(rt: HostRuntime) -> Result<(), AllocError> {
+    is_none(&rt, bad_failure(rt.alloc(), &MAKE_MODERATED, &REQUESTS)?);
+    Ok(())
+}
+
+#[test]
+fn each_call_that_fails_of_bounces_is_made_good(rt: HostRuntime) -> Result<(), AllocError> {
+    is_none(&rt, bad_failure(rt.alloc(), &MAKE, &BOUNCES)?);
+    Ok(())
 }

@@ -1,175 +1,100 @@
 // What streams are answered, with limits and over inputs that fail, and the making of a list.
-use crate::program::{MAKE, RUN, Run};
-use crate::rows::{Step, Table, check};
-use std::test::Fail;
+use crate::program::{A_B, A_B_TWICE, empty, holds, list_ends, make, make_ends};
+use std::alloc::AllocError;
 
-const A_B: &[u8] = b"A1:7,10:1000000000,4:list,3:a@b,";
-
-// The elements of each item begin at 0, 1, 5, 19 and 26 of its 32 bytes.
-const A_B_TWICE: &[u8] = b"A1:7,10:1000000000,4:list,3:a@b,A1:8,10:1000000001,4:list,3:A@B,";
-
-const SPOOL: Run = Run {
-    words: "spool",
-    ..RUN
-};
-
-const STREAMS: [&[Step]; 8] = [
-    &[Step::Run(Run {
-        input: b"",
-        ..SPOOL
-    })],
-    &[Step::Run(Run {
-        input: A_B,
-        output: b"7 0 subscribed\n",
-        ..SPOOL
-    })],
-    &[Step::Run(Run {
-        input: A_B_TWICE,
-        output: b"7 0 subscribed\n8 0 already\n",
-        ..SPOOL
-    })],
-    &[Step::Run(Run {
-        input: b"A1:7,10:1000000000,4:list,3:a@b,A1:8,10:1000000001,4:list,3:A@B,A1:9,10:1000000002,4:list,3:a@",
-        status: 65,
-        output: b"7 0 subscribed\n8 0 already\n- 65 short 90\n",
-        ..SPOOL
-    })],
-    &[Step::Run(Run {
-        input: b"Q",
-        status: 65,
-        output: b"- 65 bad 0\n",
-        ..SPOOL
-    })],
-    &[Step::Run(Run {
-        input: b"A1:7,10:1000000000,4:list,3:a@b,Q1:8,10:1000000001,",
-        status: 65,
-        output: b"7 0 subscribed\n- 65 bad 32\n",
-        ..SPOOL
-    })],
+// The streams, and what they are answered.
+const STREAMS: [(&[u8], u8, &[u8]); 8] = [
+    (b"", 0, b""),
+    (A_B, 0, b"7 0 subscribed\n"),
+    (A_B_TWICE, 0, b"7 0 subscribed\n8 0 already\n"),
+    (
+        b"A1:7,10:1000000000,4:list,3:a@b,A1:8,10:1000000001,4:list,3:A@B,A1:9,10:1000000002,4:list,3:a@",
+        65,
+        b"7 0 subscribed\n8 0 already\n- 65 short 90\n",
+    ),
+    (b"Q", 65, b"- 65 bad 0\n"),
+    (
+        b"A1:7,10:1000000000,4:list,3:a@b,Q1:8,10:1000000001,",
+        65,
+        b"7 0 subscribed\n- 65 bad 32\n",
+    ),
     // A number of its own is answered once.
-    &[Step::Run(Run {
-        input: b"A1:7,10:1000000000,4:list,3:a@b,R1:8,10:1000000001,4:list,3:a@b,A1:7,10:1000000002,4:list,3:a@b,R1:9,10:1000000003,4:list,3:a@b,",
-        output: b"7 0 subscribed\n8 0 unsubscribed\n7 0 subscribed\n9 0 absent\n",
-        ..SPOOL
-    })],
+    (
+        b"A1:7,10:1000000000,4:list,3:a@b,R1:8,10:1000000001,4:list,3:a@b,A1:7,10:1000000002,4:list,3:a@b,R1:9,10:1000000003,4:list,3:a@b,",
+        0,
+        b"7 0 subscribed\n8 0 unsubscribed\n7 0 subscribed\n9 0 absent\n",
+    ),
     // A floor, and repeats below it in the same group.
-    &[Step::Run(Run {
-        input: b"A1:7,10:1000000000,4:list,3:a@b,F1:0,10:1000000001,1:8,A1:7,10:1000000002,4:list,3:a@b,A1:8,10:1000000003,4:list,3:c@d,",
-        output: b"7 0 subscribed\n0 0 floored 8\n7 100 stale\n8 0 subscribed\n",
-        ..SPOOL
-    })],
-];
-
-const LIMITS: [&[Step]; 5] = [
-    &[Step::Run(Run {
-        words: "spool -m 2",
-        input: A_B_TWICE,
-        output: b"7 0 subscribed\n8 0 already\n",
-        ..RUN
-    })],
-    &[Step::Run(Run {
-        words: "spool -m 1",
-        input: A_B_TWICE,
-        status: 72,
-        output: b"7 0 subscribed\n- 72 more\n",
-        ..RUN
-    })],
-    &[Step::Run(Run {
-        words: "spool -m 1000000",
-        input: A_B,
-        output: b"7 0 subscribed\n",
-        ..RUN
-    })],
-    &[Step::Run(Run {
-        words: "spool -m 0",
-        input: A_B,
-        status: 65,
-        output: b"- 65 words\n",
-        ..RUN
-    })],
-    &[Step::Run(Run {
-        words: "spool -m 1000001",
-        input: A_B,
-        status: 65,
-        output: b"- 65 words\n",
-        ..RUN
-    })],
-];
-
-// The reads that fail. An item takes 18: the bytes of letter, lengths, colons and commas one by one, and each content at once.
-const READS: [&[Step]; 4] = [
-    &[Step::Run(Run {
-        input: A_B_TWICE,
-        reads: &[1],
-        status: 74,
-        output: b"- 74 input\n",
-        ..SPOOL
-    })],
-    &[Step::Run(Run {
-        input: A_B_TWICE,
-        reads: &[18],
-        status: 74,
-        output: b"- 74 input\n",
-        ..SPOOL
-    })],
-    &[Step::Run(Run {
-        input: A_B_TWICE,
-        reads: &[19],
-        status: 74,
-        output: b"7 0 subscribed\n- 74 input\n",
-        ..SPOOL
-    })],
-    &[Step::Run(Run {
-        input: A_B_TWICE,
-        reads: &[38],
-        output: b"7 0 subscribed\n8 0 already\n",
-        ..SPOOL
-    })],
-];
-
-const THERE: Run = Run {
-    status: 100,
-    output: b"- 100 there\n",
-    ..MAKE
-};
-
-const MAKES: [&[Step]; 4] = [
-    &[Step::Run(MAKE)],
-    &[Step::Run(Run {
-        failing: &[1],
-        status: 111,
-        output: b"- 111 disk\n",
-        ..MAKE
-    })],
-    &[Step::Run(MAKE), Step::Run(THERE)],
-    // A configuration of no bytes is one.
-    &[Step::Put((1, 0, b"")), Step::Run(THERE)],
+    (
+        b"A1:7,10:1000000000,4:list,3:a@b,F1:0,10:1000000001,1:8,A1:7,10:1000000002,4:list,3:a@b,A1:8,10:1000000003,4:list,3:c@d,",
+        0,
+        b"7 0 subscribed\n0 0 floored 8\n7 100 stale\n8 0 subscribed\n",
+    ),
 ];
 
 #[test]
-fn streams_are_answered(rt: HostRuntime) -> Result<(), Fail> {
-    let made = [Step::Run(MAKE)];
-    let tables = [
-        Table {
-            name: "streams",
-            list: &made,
-            rows: &STREAMS,
-        },
-        Table {
-            name: "limits of streams",
-            list: &made,
-            rows: &LIMITS,
-        },
-        Table {
-            name: "failing reads of a stream",
-            list: &made,
-            rows: &READS,
-        },
-        Table {
-            name: "the making of a list",
-            list: &[],
-            rows: &MAKES,
-        },
-    ];
-    check(rt.alloc(), &tables)
+fn a_stream_is_answered(rt: HostRuntime) -> Result<(), AllocError> {
+    for (row, (stream, status, output)) in STREAMS.iter().enumerate() {
+        let case = list_ends(rt.alloc(), &["spool"], stream, &[], *status, output)?;
+        holds(&rt, row, case);
+    }
+    Ok(())
+}
+
+// The words, the stream, and what it is answered.
+const LIMITS: [(&[&str], &[u8], u8, &[u8]); 5] = [
+    (
+        &["spool", "-m", "2"],
+        A_B_TWICE,
+        0,
+        b"7 0 subscribed\n8 0 already\n",
+    ),
+    (
+        &["spool", "-m", "1"],
+        A_B_TWICE,
+        72,
+        b"7 0 subscribed\n- 72 more\n",
+    ),
+    (&["spool", "-m", "1000000"], A_B, 0, b"7 0 subscribed\n"),
+    (&["spool", "-m", "0"], A_B, 65, b"- 65 words\n"),
+    (&["spool", "-m", "1000001"], A_B, 65, b"- 65 words\n"),
+];
+
+#[test]
+fn a_stream_has_a_limit(rt: HostRuntime) -> Result<(), AllocError> {
+    for (row, (words, stream, status, output)) in LIMITS.iter().enumerate() {
+        let case = list_ends(rt.alloc(), words, stream, &[], *status, output)?;
+        holds(&rt, row, case);
+    }
+    Ok(())
+}
+
+// The reads that fail. An item takes 18: the bytes of letter, lengths, colons and commas one by one, and each content at
+// once.
+const READS: [(&[u64], u8, &[u8]); 4] = [
+    (&[1], 74, b"- 74 input\n"),
+    (&[18], 74, b"- 74 input\n"),
+    (&[19], 74, b"7 0 subscribed\n- 74 input\n"),
+    (&[38], 0, b"7 0 subscribed\n8 0 already\n"),
+];
+
+#[test]
+fn a_failing_input_ends_the_run(rt: HostRuntime) -> Result<(), AllocError> {
+    for (row, (reads, status, output)) in READS.iter().enumerate() {
+        let case = list_ends(rt.alloc(), &["spool"], A_B_TWICE, reads, *status, output)?;
+        holds(&rt, row, case);
+    }
+    Ok(())
+}
+
+#[test]
+fn a_list_is_made_once(rt: HostRuntime) -> Result<(), AllocError> {
+    let alloc = rt.alloc();
+    holds(&rt, 0, make_ends(alloc, &[], 0, b"made list@ex.org\n")?);
+    holds(&rt, 1, make_ends(alloc, &[1], 111, b"- 111 disk\n")?);
+    let (_, site) = make(alloc, empty(alloc, &[])?)?;
+    let (status, site) = make(alloc, site)?;
+    let output = b"made list@ex.org\n- 100 there\n".as_slice();
+    holds(&rt, 2, status == 100 && site.output() == output);
+    Ok(())
 }

@@ -2,18 +2,8 @@
 #![tactic(auto)]
 
 #[cfg(test)]
-mod asking;
-#[cfg(test)]
 mod giving;
 #[cfg(test)]
 mod listing;
 #[cfg(test)]
 mod lists;
-#[cfg(test)]
-mod many;
-#[cfg(test)]
-mod noted;
-#[cfg(test)]
-mod rows;
-#[cfg(test)]
-mod stopped;
