@@ -103,12 +103,16 @@ abbrev pub paged : Option PageQuery → Asked
 paged None = askeds.BadWord
 paged (Some query) = askeds.Inquiry (inquiries.Pages query)
 
+-- a page of the month or the thread of a word
+abbrev pub page_of : Text → Text → Text → Asked
+page_of kind which page =
+    if bytes_eq kind (codes "month") then paged (month_query which page)
+    else (if bytes_eq kind (codes "thread") then paged (thread_query which page) else askeds.NoCommand)
+
 -- what the words behind `pages` ask for: the list of them, behind `month` a page of a month, and behind `thread` one of a thread
 abbrev pub pages_of : List Text → Asked
 pages_of (kind ∷ []) = if bytes_eq kind (codes "list") then askeds.Inquiry (inquiries.Pages pages.List) else askeds.NoCommand
-pages_of (kind ∷ of_what ∷ page ∷ []) =
-    if bytes_eq kind (codes "month") then paged (month_query of_what page)
-    else (if bytes_eq kind (codes "thread") then paged (thread_query of_what page) else askeds.NoCommand)
+pages_of (kind ∷ which ∷ page ∷ []) = page_of kind which page
 pages_of _ = askeds.NoCommand
 
 -- the parts of a set are asked for, where a word names one
