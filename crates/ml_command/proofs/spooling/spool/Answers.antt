@@ -16,7 +16,7 @@ returns g c =
       complete = c.run-site.ensures.complete;
       moments = c.run-site.ensures.moments;
       at_rest = c.run-site.ensures.at_rest;
-      rest = λ all ending q b none one two. c.run-site.ensures.rest all ending q b none (λ e. one (keeps run status 71 is refl e)) (λ e. two (keeps run status 73 is refl e));
+      rest = λ none one two. c.run-site.ensures.rest none (λ e. one (keeps run status 71 is refl e)) (λ e. two (keeps run status 73 is refl e));
       taken = λ told all ending q b.
           let t = c.run-site.ensures.taken told all ending q b in
           record { taken = t.taken; rest = t.rest; before_is = t.before_is; after_is = t.after_is; items = t.items; ending = t.ending; stream = t.stream; holds = (t.holds.0, λ e. t.holds.1 (back run status 74 is (omega arith) e)) };
