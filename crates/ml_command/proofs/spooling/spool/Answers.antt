@@ -26,6 +26,8 @@ returns g c =
       named = λ t e. c.run-site.ensures.named t (back run status 75 is (omega arith) e);
       gate = λ some one two three. c.run-site.ensures.gate some (λ e. one (keeps run status 71 is refl e)) (λ e. two (keeps run status 73 is refl e)) (λ e. three (keeps run status 111 is refl e));
       nolist = λ told files found none. misses (IsTrue g.S.Site.tells_all) run status (g.S.Site.output c.args.site) (g.S.Site.output c.run-site.result.1) is (c.run-site.ensures.nolist told files found none);
+      takes = c.run-site.ensures.few;
       streamed = c.run-site.ensures.streamed;
+      answers = c.run-site.ensures.answers;
       syncs = c.run-site.ensures.syncs;
     }
