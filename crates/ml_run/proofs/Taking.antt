@@ -13,7 +13,6 @@ use Rattle.ml_stream.specs.declared.stream.StreamError.{StreamError}
 use Rattle.ml_stream.specs.declared.stream.StreamError.TheVariants.{Bad, Short, Fault, Memory}
 use Rattle.ml_stream.specs.Stream.{got, Read, StreamEnd, End, Broken, IsStream, behind_letter, elements_at, item_at, letter_of}
 use Rattle.ml_stream.specs.Reading.{Breaks, IsNoItem, Tells}
-use Rattle.ml_stream.specs.declared.reader.Letter.{Letter}
 use Rattle.ml_stream.specs.Items.{HasLeft, place_of, ahead_of}
 use Rattle.ml_run.specs.Stops.{why_of_stream}
 use Rattle.ml_run.specs.Groups.{Spells, TakesTo, Takes, IsPartReason}
@@ -130,15 +129,20 @@ takes_refused place bs items more more' reader new left left' item rest why t is
       λ e. absurd (not_more why part e),
     ))
 
+none_or : {A : Type 0} (o : Option A) (P : Option A → Type 0) → P None → ((a : A) → P (Some a)) → P o
+none_or None P none some = none
+none_or (Some a) P none some = some a
+
 -- a byte is no item
-byte_none : (place b : ℕ) (o : Option Letter) → letter_of b ≡ o → IsNoItem place (b ∷ [])
+byte_none : (place b : ℕ) → IsNoItem place (b ∷ [])
 unfolding elements_at
-byte_none place b None is = (Broken (Bad place), ap (λ (l : Option Letter). behind_letter place l []) is)
-byte_none place b (Some letter) is = (Broken (Short (place + 1)), ap (λ (l : Option Letter). behind_letter place l []) is)
+byte_none place b =
+    let h = none_or (letter_of b) (λ o. (e : StreamError) × (behind_letter place o [] ≡ Err e)) (Bad place, refl) (λ letter. (Short (place + 1), refl)) in
+    (Broken h.0, h.1)
 
 one_none : (place : ℕ) (o : Option ℕ) → IsNoItem place (option_to_list o)
 one_none place None = (End, refl)
-one_none place (Some b) = byte_none place b (letter_of b) refl
+one_none place (Some b) = byte_none place b
 
 one_byte : (o : Option ℕ) → length (option_to_list o) ≤ 1
 one_byte None = omega arith
