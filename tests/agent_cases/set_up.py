@@ -73,14 +73,16 @@ def case_two_agents(world):
 
 
 def case_settings(world):
-    """Settings that make no sense are refused by name."""
+    """Settings that make no sense are refused by name, and so are folders that can't be had."""
+    (world.place / 'file').touch()
     rows = [('listen', '192.0.2.1:24', 'not loopback'), ('batch', '0', 'batch is below 1'), ('mta', 'somewhere', 'neither a path'),
-            ('colour', 'red', "unknown ['colour']"), ('runs', 'x', 'invalid literal')]
+            ('colour', 'red', "unknown ['colour']"), ('runs', 'x', 'invalid literal'),
+            ('listen', world.place / 'none/lmtp', 'No such file'), ('state', world.place / 'file/state', 'Not a directory')]
     for name, value, wanted in rows:
         kept = dict(world.rows)
         world.rows[name] = value
         said = subprocess.run([*world.words, world.settings()], capture_output=True, text=True, check=False)
-        check(said.returncode == 1 and wanted in said.stderr, f'{name}: {said.stderr}')
+        check(said.returncode == 1 and wanted in said.stderr and said.stderr.count('\n') == 1, f'{name}: {said.stderr}')
         world.rows = kept
 
 
@@ -100,12 +102,14 @@ def case_check(world):
     if os.geteuid() == 0:
         shutil.chown(folder / 'num', 1)
     world.sink.refuses_all, world.sink.takes_verp = True, False
+    os.chmod(world.place / 'lists', 0o777)
     shutil.copytree(folder, world.folder('copy'))
     (folder / 'num').write_bytes(b'x\n')
     status, said = checked()
     same(status, 1, 'the status')
     check(os.geteuid() != 0 or 'num belongs to another user' in said, said)
-    for wanted in ('key is open to others: mode 644', '75 num', 'mail to its owner: 550', 'takes no XVERP', 'has the address of another list'):
+    for wanted in ('lists can be written by others', 'key is open to others: mode 644', '75 num', 'mail to its owner: 550', 'takes no XVERP',
+                   'has the address of another list'):
         check(wanted in said, said)
     world.rows['program'] = '/bin/true'
     check('/bin/true is not the program' in checked()[1], 'another program is taken')

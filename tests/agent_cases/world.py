@@ -108,7 +108,7 @@ class World:
     def __init__(self, program):
         self.program = program
         self.place = pathlib.Path(tempfile.mkdtemp(prefix='ezmlm-agent.', dir='/dev/shm' if os.access('/dev/shm', os.W_OK) else None))
-        (self.place / 'lists').mkdir()
+        (self.place / 'lists').mkdir(mode=0o700)
         self.sink = Sink(str(self.place / 'sink'))
         self.rows = {'program': program, 'lists': self.place / 'lists', 'state': self.place / 'state', 'listen': self.place / 'lmtp',
                      'mta': self.place / 'sink', 'name': 'mx.ex.org'}
