@@ -1,9 +1,13 @@
-use Rattle.std.proofs.Common.{sym, subst, refl, arith}
+use Rattle.std.proofs.Common.{sym, subst, refl, arith, get_or, rules}
 use Rattle.ml_base.specs.Dir.{Dir}
 use Rattle.ml_base.proofs.ReadingLemmas.{kept_then, kept_read}
+use Rattle.ml_archive.specs.Answers.{IsPostName}
+use Rattle.ml_archive.specs.Archive.{number_name}
+use Rattle.ml_archive.specs.Reads.{IsOfRow}
 use Rattle.ml_plain.specs.Directory.{IsList}
+use Rattle.ml_acts.proofs.Damages.{fewer_named}
 use Rattle.ml_manage.specs.Texts.{post_text}
-use Rattle.ml_manage.proofs.Posts.{one_more}
+use Rattle.ml_manage.proofs.Posts.{one_more, one_of_row}
 use Rattle.ml_manage.proofs.archive.all_posts.Goals as goal
 
 pub loop-number-preserved : goal.loop-number-preserved
@@ -16,3 +20,10 @@ loop-number-preserved g c =
           one_more (post_text p) c.args.numbers.now c.loop-number.number-index _ c.loop-number.out c.add_one.new.out (omega arith) refl (before.text told p is conf)
           (c.in_ok-add_one.ensures.value told p (subst (λ (d : Dir). IsList d p) (sym same) is) conf);
     }
+
+pub returns-in_err-add_one-clause-names : goal.returns-in_err-add_one-clause-names
+returns-in_err-add_one-clause-names g c =
+    let ns = c.args.numbers.now in
+    let i = c.loop-number.number-index in
+    let names = fewer_named g.F.Files (IsOfRow number_name ns) _ (IsPostName (get_or ns i 0)) _ (λ name e. one_of_row ns i name (omega arith) e) c.in_err-add_one.ensures.names in
+    search rules
