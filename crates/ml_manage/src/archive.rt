@@ -3,7 +3,7 @@ ghost use Rattle.std.specs.Prelude.{◌≡◌, ◌&&◌, ◌||◌, ◌++◌, not
 ghost use Rattle.ml_address.specs.Requests.{Thread};
 ghost use Rattle.ml_archive.specs.Answers.{IsPostName};
 ghost use Rattle.ml_archive.specs.Archive.{number_name};
-ghost use Rattle.ml_archive.specs.Reads.{IsOfRow, IsOfThread};
+ghost use Rattle.ml_archive.specs.Reads.{IsOfRow};
 ghost use Rattle.std.specs.List.{flat_map};
 ghost use Rattle.ml_base.specs.Dir.{are_files, same_name, touches_only};
 ghost use Rattle.ml_base.specs.Ranges.{IsMoment};
@@ -218,7 +218,7 @@ fn thread_text<F: Files>(
 ) -> Result<Bytes, PartError>
     requires { IsTrue F.tells → IsConfigFile (F.map files.now config_name) config.now }
     ensures value { IsTrue F.tells → IfOk result (λ text. (p : Plain) → IsList (F.map files.old) p → p.config ≡ config.now → text ≡ texts.thread_text p at) }
-    ensures names { NamesDamaged ⟦<F as Files>⟧ (λ name. is_of_thread name ≡ true) (λ name. IsDamaged (F.map files.old) name × IsOfThread (F.map files.old) config.now.prefix at name) result }
+    ensures names { NamesDamaged ⟦<F as Files>⟧ (λ name. is_of_thread name ≡ true) (IsDamagedFor (F.map files.old) config.now (Thread at)) result }
     ensures reads { IsReading ⟦<F as Files>⟧ files.old files.new result }
 {
     let numbers = thread(alloc, files, config.prefix.as_slice(), at)?;

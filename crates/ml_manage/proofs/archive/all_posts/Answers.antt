@@ -1,11 +1,13 @@
 use Rattle.std.proofs.Common.{sym, subst, refl, arith, get_or, rules}
 use Rattle.ml_base.specs.Dir.{Dir}
+use Rattle.ml_base.specs.PartErrors.{OnDamaged}
+use Rattle.ml_base.proofs.DamagedNames.{on_damaged}
 use Rattle.ml_base.proofs.ReadingLemmas.{kept_then, kept_read}
 use Rattle.ml_archive.specs.Answers.{IsPostName}
 use Rattle.ml_archive.specs.Archive.{number_name}
 use Rattle.ml_archive.specs.Reads.{IsOfRow}
 use Rattle.ml_plain.specs.Directory.{IsList}
-use Rattle.ml_acts.proofs.Damages.{fewer_named}
+use Rattle.ml_acts.specs.Damaged.{IsDamaged}
 use Rattle.ml_manage.specs.Texts.{post_text}
 use Rattle.ml_manage.proofs.Posts.{one_more, one_of_row}
 use Rattle.ml_manage.proofs.archive.all_posts.Goals as goal
@@ -25,5 +27,12 @@ pub returns-in_err-add_one-clause-names : goal.returns-in_err-add_one-clause-nam
 returns-in_err-add_one-clause-names g c =
     let ns = c.args.numbers.now in
     let i = c.loop-number.number-index in
-    let names = fewer_named g.F.Files (IsOfRow number_name ns) _ (IsPostName (get_or ns i 0)) _ (λ name e. one_of_row ns i name (omega arith) e) c.in_err-add_one.ensures.names in
-    search rules
+    let e = c.in_err-add_one.field-0.0 in
+    let failed = c.in_err-add_one.ensures.names in
+    record {
+      named = let own : OnDamaged e (IsOfRow number_name ns) = on_damaged e (IsPostName (get_or ns i 0)) (IsOfRow number_name ns) (λ name is. one_of_row ns i name (omega arith) is) failed.named in search rules;
+      damaged = λ told.
+          let same = g.met.F.Files.kept_map c.args.files.now c.loop-number.files told c.loop-number.invariant.read.kept in
+          let bad : OnDamaged e (IsDamaged (g.F.Files.map c.args.files.now)) = subst (λ (d : Dir). OnDamaged e (IsDamaged d)) same (failed.damaged told) in
+          search rules;
+    }

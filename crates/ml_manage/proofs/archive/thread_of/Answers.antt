@@ -2,10 +2,9 @@ use Rattle.std.proofs.Common.{◌≡◌, ◌∙◌, ◌||◌, true, IfErr, sym, 
 use Rattle.std.proofs.lemmas.Bool.{or_left, or_right}
 use Rattle.std.proofs.lemmas.Result.{IfOk-weaker}
 use Rattle.ml_address.specs.Requests.{Thread}
-use Rattle.ml_archive.specs.Reads.{IsOfThread}
 use Rattle.ml_base.specs.Dir.{Dir, same_name}
 use Rattle.ml_base.specs.PartErrors.{OnDamaged}
-use Rattle.ml_base.proofs.DamagedNames.{err_both_damaged, err_damaged, on_both, on_damaged}
+use Rattle.ml_base.proofs.DamagedNames.{err_both_damaged, err_damaged, on_damaged}
 use Rattle.ml_config.specs.ConfigFile.{IsConfigFile, config_name}
 use Rattle.ml_plain.specs.ArchiveText.{thread_text}
 use Rattle.ml_plain.specs.Directory.{IsList}
@@ -72,9 +71,7 @@ returns-in_err-lines-clause-names g c =
       damaged = λ told.
           let dir = g.F.Files.map c.args.files.now in
           let first = g.met.F.Files.kept_map c.args.files.now c.may_read.new.files told c.may_read.ensures.reads.kept in
-          let bad : OnDamaged e (IsDamagedFor dir conf (Thread at)) =
-          on_damaged e (λ name. IsDamaged dir name × IsOfThread dir conf.prefix at name) (IsDamagedFor dir conf (Thread at)) (λ name bad. record { damaged = bad.0; threaded = λ _. bad.1 })
-          (subst (λ (d : Dir). OnDamaged e (λ name. IsDamaged d name × IsOfThread d conf.prefix at name)) first (failed.damaged told)) in
+          let bad : OnDamaged e (IsDamagedFor dir conf (Thread at)) = subst (λ (d : Dir). OnDamaged e (IsDamagedFor d conf (Thread at))) first (failed.damaged told) in
           search rules;
     }
 
