@@ -15,7 +15,7 @@ ghost use Rattle.ml_plain.specs.Managing as spec;
 ghost use Rattle.ml_plain.specs.Plain.{Plain};
 ghost use Rattle.ml_acts.specs.Damaged.{IsDamaged};
 ghost use Rattle.ml_acts.specs.Doing.{DoesList, HasRoom};
-ghost use Rattle.ml_deliver.specs.Reads.{IsDelivered, IsRequested, IsServed, is_of_acts};
+ghost use Rattle.ml_deliver.specs.Reads.{IsDamagedServed, IsDelivered, IsRequested, is_of_acts};
 
 use crate::moderating::moderated;
 use ml_acts::{Memo, is_worn};
@@ -75,7 +75,7 @@ fn unless_worn<F: Files>(
     ensures own { IfOk result (λ done. touches_only is_of_list done.0 ≡ true) }
     ensures files { IfOk result (λ done. IsTrue (are_files done.0)) }
     ensures reply { IfOk result (λ done. is_kept done.1 ≡ true) }
-    ensures names { NamesDamaged ⟦<F as Files>⟧ (λ name. is_of_acts name ≡ true) (λ name. IsDamaged (F.map files.old) name × IsServed (F.map files.old) config.now sender.now (request_of config.now.local config.now.host recipient.now) name) result }
+    ensures names { NamesDamaged ⟦<F as Files>⟧ (λ name. is_of_acts name ≡ true) (IsDamagedServed (F.map files.old) config.now sender.now (request_of config.now.local config.now.host recipient.now)) result }
     ensures reads { IsReading ⟦<F as Files>⟧ files.old files.new result }
 {
     if is_worn(alloc, files)? {
