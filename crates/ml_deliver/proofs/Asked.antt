@@ -7,7 +7,7 @@ use Rattle.ml_base.specs.Bytes.{Text}
 use Rattle.ml_base.specs.declared.names.Name.{Name}
 use Rattle.ml_config.specs.declared.configuration.Config.{Config}
 use Rattle.ml_manage.specs.Reads.{may_read}
-use Rattle.ml_deliver.specs.Reads.{is_requested}
+use Rattle.ml_deliver.specs.Asked.{is_requested}
 
 -- one that is neither a post nor a moderator's answer
 pub requested_other : (c : Config) (sender : Text) (name : Name) (r : Request) → (r ≡ requests.Post → ⊥) → ((ticket : ℕ) (cookie : List ℕ) → r ≡ requests.Accept ticket cookie → ⊥) → ((ticket : ℕ) (cookie : List ℕ) → r ≡ requests.Reject ticket cookie → ⊥)

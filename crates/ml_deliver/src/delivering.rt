@@ -15,7 +15,8 @@ ghost use Rattle.ml_plain.specs.Managing as spec;
 ghost use Rattle.ml_plain.specs.Plain.{Plain};
 ghost use Rattle.ml_acts.specs.Damaged.{IsDamaged};
 ghost use Rattle.ml_acts.specs.Doing.{DoesList, HasRoom};
-ghost use Rattle.ml_deliver.specs.Reads.{IsDamagedServed, IsDelivered, IsRequested, is_of_acts};
+ghost use Rattle.ml_deliver.specs.Asked.{IsDamagedServed, IsDelivered, IsRequested};
+ghost use Rattle.ml_deliver.specs.Reads.{is_of_acts};
 
 use crate::moderating::moderated;
 use ml_acts::{Memo, is_worn};

@@ -10,7 +10,8 @@ use Rattle.ml_plain.specs.declared.Act.{Act}
 use Rattle.ml_plain.specs.declared.Act.TheVariants.{Deliver}
 use Rattle.ml_acts.specs.Damaged as acts
 use Rattle.ml_acts.proofs.Damages.{named_so}
-use Rattle.ml_deliver.specs.Reads.{IsDelivered, is_of_acts}
+use Rattle.ml_deliver.specs.Asked.{IsDelivered}
+use Rattle.ml_deliver.specs.Reads.{is_of_acts}
 use Rattle.ml_list.specs.Asked.{IsDamagedForAct, IsReadByAct}
 use Rattle.ml_list.specs.Damage.{IsDamaged, is_read_by, part}
 

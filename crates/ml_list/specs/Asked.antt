@@ -5,7 +5,7 @@ use Rattle.ml_base.specs.declared.names.Name.{Name}
 use Rattle.ml_plain.specs.declared.Act.{Act}
 use Rattle.ml_plain.specs.declared.Act.TheVariants.{Deliver}
 use Rattle.ml_plain.specs.declared.Item.{Item}
-use Rattle.ml_deliver.specs.Reads.{IsDelivered}
+use Rattle.ml_deliver.specs.Asked.{IsDelivered}
 use Rattle.ml_list.specs.Damage.{IsDamaged, is_looked_up, is_read_by}
 
 -- The files that an act may read: those of a delivery go by the configuration that the files hold, and by the numbers of its request.

@@ -4,7 +4,8 @@ use Rattle.ml_address.specs.Requests.{PlainRequest}
 use Rattle.ml_address.specs.Views.{request_view}
 use Rattle.ml_base.specs.ReadFiles.{NamesDamaged}
 use Rattle.ml_acts.specs.Damaged.{IsDamaged}
-use Rattle.ml_deliver.specs.Reads.{IsRequested, is_of_acts}
+use Rattle.ml_deliver.specs.Asked.{IsRequested}
+use Rattle.ml_deliver.specs.Reads.{is_of_acts}
 use Rattle.ml_deliver.proofs.delivering.by_recipient.Goals as goal
 
 pub returns-clause-names : goal.returns-clause-names
