@@ -9,3 +9,4 @@ mod texts;
 
 pub use rows::hold;
 pub use stage::Program;
+pub use texts::spelled;

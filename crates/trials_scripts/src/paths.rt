@@ -71,10 +71,14 @@ fn place(kind: u8, leaf: &[u8]) -> Option<u64> {
 
 // The number of these digits, of which the first may be zeros.
 fn leading(digits: &[u8]) -> Option<u64> {
-    match digits {
-        [b'0', rest @ ..] if !rest.is_empty() => leading(rest),
-        _ => read_number(digits),
+    let mut rest = digits;
+    for _ in 0..2 {
+        match rest {
+            [b'0', more @ ..] if !more.is_empty() => rest = more,
+            _ => (),
+        }
     }
+    read_number(rest)
 }
 
 // The name of a post, or of the index of a group.

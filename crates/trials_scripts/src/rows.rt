@@ -1,7 +1,7 @@
 // The lines of a table.
 use crate::stage::{Program, Stage, beginning, empty};
 use crate::steps::step;
-use crate::texts::{Named, number_of, spelled};
+use crate::texts::{Named, number_of, spelled_with};
 use std::alloc::Global;
 use std::test::Fail;
 
@@ -46,7 +46,7 @@ fn turns<P: Program>(
 // Keeps a text under its name: `NAME TEXT`.
 fn keep(alloc: Global, named: &mut Named, text: &str) -> Result<(), Fail> {
     let (name, text) = text.split_once(' ').unwrap_or((text, ""));
-    let text = spelled(alloc, named, text)?;
+    let text = spelled_with(alloc, named, text)?;
     named.push((String::from_str(alloc, name)?, text))?;
     Ok(())
 }

@@ -1,5 +1,5 @@
 // A list in memory, and one command over it.
-use crate::texts::{Named, spelled};
+use crate::texts::{Named, spelled_with};
 use ml_base::{Bytes, Numbers};
 use ml_site::{Fill, Image, MemClock, MemSite, MemSource, Source};
 use std::alloc::{AllocError, Global};
@@ -99,7 +99,7 @@ fn words_of(alloc: Global, named: &Named, text: &str) -> Result<Vec<String>, Fai
         if word == "''" {
             words.push(String::new(alloc))?;
         } else if !word.is_empty() {
-            let word = spelled(alloc, named, word)?;
+            let word = spelled_with(alloc, named, word)?;
             words.push(String::from_utf8(word.into_vec())?)?;
         }
     }

@@ -1,12 +1,12 @@
 // The steps of a row.
 use crate::paths::name_of;
 use crate::stage::{Program, Stage, run};
-use crate::texts::{Named, number_of, spelled};
-use ml_base::{Bytes, Name, split_first};
+use crate::texts::{Named, number_of, spelled_with};
+use ml_base::{Bytes, Name, Set, split_first};
 use ml_site::Image;
 use std::alloc::Global;
 use std::test::Fail;
-use trials_lists::{Left, check_left, same, text_of};
+use trials_lists::{Left, add_members, check_left, same, text_of};
 
 // The number of a step, or that of the row's loop.
 fn number_or(text: &str, turn: u64) -> Result<u64, Fail> {
@@ -31,7 +31,7 @@ fn prepare(
     } else if verb == "at" {
         stage.next.moment = Some(number_of(rest)?);
     } else if verb == "input" {
-        stage.next.input = spelled(alloc, named, rest)?;
+        stage.next.input = spelled_with(alloc, named, rest)?;
     } else if verb == "read" {
         stage.next.read = number_or(rest, turn)?;
     } else if verb == "fail" {
@@ -74,11 +74,11 @@ fn changed(
 ) -> Result<Option<Bytes>, Fail> {
     let mut bytes = Bytes::from_slice(alloc, file_of(image, name))?;
     if verb == "put" {
-        bytes = spelled(alloc, named, text)?;
+        bytes = spelled_with(alloc, named, text)?;
     } else if verb == "cut" {
         bytes.truncate(bytes.len().saturating_sub(1));
     } else if verb == "grow" {
-        bytes.extend(spelled(alloc, named, text)?.as_slice())?;
+        bytes.extend(spelled_with(alloc, named, text)?.as_slice())?;
     } else if verb == "take" {
         bytes = Bytes::from_slice(alloc, file_of(image, name_of(text)?))?;
     } else {
@@ -98,7 +98,7 @@ fn compare(
     text: &str,
 ) -> Result<(), Fail> {
     let wanted = if verb == "has" {
-        spelled(alloc, named, text)?
+        spelled_with(alloc, named, text)?
     } else if verb == "lacks" {
         Bytes::from_slice(alloc, b"-")?
     } else {
@@ -172,7 +172,7 @@ fn command<P: Program>(
     let came = told(alloc, status, output.as_slice())?;
     let mut wanted = Bytes::new(alloc);
     for ending in endings.split(" || ") {
-        wanted = spelled(alloc, named, ending)?;
+        wanted = spelled_with(alloc, named, ending)?;
         if wanted.as_slice() == came.as_slice() {
             return Ok(());
         }
@@ -218,6 +218,9 @@ pub(crate) fn step<P: Program>(
     let (verb, rest) = text.split_once(' ').unwrap_or((text, ""));
     if verb == "run" || verb == "may" {
         command::<P>(alloc, named, place, stage, verb, rest)
+    } else if verb == "members" {
+        add_members(alloc, &mut stage.image.files, Set::List, number_of(rest)?)?;
+        Ok(())
     } else if verb == "same" {
         is_as_before(alloc, place, stage)
     } else if verb == "unread" {

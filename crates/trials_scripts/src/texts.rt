@@ -16,9 +16,16 @@ pub(crate) fn number_of(text: &str) -> Result<u64, Fail> {
     }
 }
 
-/// The bytes of a text: `\n` is an LF, `\0` a NUL and `\x` with two digits any byte; `{NAME}` is a text of this name, and `{A..B:TEXT}` is
-/// TEXT once for each number from A to B, with its digits for each `%`.
-pub(crate) fn spelled(alloc: Global, named: &Named, text: &str) -> Result<Bytes, Fail> {
+/// The bytes of a text: `\n` is an LF, `\0` a NUL and `\x` with two hexadecimal digits any byte.
+pub fn spelled(alloc: Global, text: &str) -> Result<Bytes, Fail> {
+    let mut out = Bytes::new(alloc);
+    add_plain(&mut out, text)?;
+    Ok(out)
+}
+
+/// The bytes of a text in which besides `{NAME}` is a text of this name, and `{A..B:TEXT}` is TEXT once for each number from A to B, with its
+/// digits for each `%`.
+pub(crate) fn spelled_with(alloc: Global, named: &Named, text: &str) -> Result<Bytes, Fail> {
     let mut out = Bytes::new(alloc);
     for (at, piece) in text.split('{').enumerate() {
         if at == 0 {
