@@ -1,0 +1,5 @@
+pub mod Ranged
+pub mod Turns
+pub mod Standing
+pub mod Paths
+pub mod Imported
