@@ -1,5 +1,5 @@
 -- The answer of an import, and the stream that it is.
-use Rattle.std.proofs.Common.{◌≡◌, ℕ, ◌≤◌, Bool, true, false, cond, ◌||◌, List, [], ◌∷◌, length, map, Option, Some, None, Result, Ok, Err, refl, sym, ap, ap₂, ◌∙◌, subst, arith}
+use Rattle.std.proofs.Common.{◌≡◌, ℕ, Bool, true, false, cond, ◌||◌, List, [], ◌∷◌, Option, Some, None, Result, Ok, Err, refl, sym, ap, ◌∙◌, subst}
 use Rattle.std.specs.Prelude.{All, Any, unwrap_or}
 use Rattle.std.specs.List.{AllByRecursion, list_any}
 use Rattle.std.proofs.lemmas.List.Elements.{All-from_recursion}
@@ -11,12 +11,12 @@ use Rattle.ml_mbox.specs.Importing.{act_of, acts_of}
 use Rattle.ml_mbox.specs.Reading.{read}
 use Rattle.ml_mbox.specs.declared.mails.Boxed.{Boxed}
 use Rattle.ml_plain.specs.Items.{numbered}
-use Rattle.ml_plain.specs.declared.Act.{Act}
+use Rattle.ml_reading.specs.Meanings.{IsKnown}
 use Rattle.ml_reading.specs.declared.question.Answer.{Answer}
 use Rattle.ml_reading.specs.declared.question.Answer.TheVariants as answers
 use Rattle.ml_stream.specs.Writing.{stream_text}
 use Rattle.ml_porting.specs.Imports.{import_answer, mails_of}
-use Rattle.ml_porting.specs.Questions.{importing_by, importing_of}
+use Rattle.ml_porting.specs.Questions.{importing_by, importing_meaning, importing_of}
 use Rattle.ml_porting.specs.declared.importing.Importing.{Importing}
 
 -- whether one of the deliveries is too long, by the mails
@@ -39,21 +39,28 @@ long_answer c first moment mails any = sym (ap (when_long c first moment mails) 
 pub stream_answer : (c : Config) (first moment : ℕ) (mails : List Boxed) (text : Text) → text ≡ stream_text (numbered first moment (acts_of c mails)) → All (Fits c) mails → answers.Text text ≡ import_answer c first moment mails
 stream_answer c first moment mails text is all = ap answers.Text is ∙ sym (ap (when_long c first moment mails) (none_long c mails all))
 
+pub known_answer : (f m : ℕ) (t : Text) (c : Config) (first moment : ℕ) (mails : List Boxed) (answer : Answer) → answer ≡ import_answer c first moment mails → IsKnown (importing_meaning f m t) answer
+known_answer f m t c first moment mails answer is = subst (IsKnown (importing_meaning f m t)) (sym is) (go (list_any is_long (acts_of c mails)))
+  where
+    go : (b : Bool) → IsKnown (importing_meaning f m t) (when_long c first moment mails b)
+    go true = refl
+    go false = tt
+
 -- what a question of an import was made of
 record IsOf (first moment : ℕ) (text : Text) (question : Importing) : Type 0 where
   pub mails : List Boxed
   pub found : read text ≡ Some mails
   pub is : question ≡ record { words = first; moment = moment; text = text }
 
-one_question : (q r : Importing) → Ok {E = ℕ} q ≡ Ok r → r ≡ q
-one_question q r e = cc
+one_question : (made : Result Importing ℕ) (q r : Importing) → made ≡ Ok q → made ≡ Ok r → r ≡ q
+one_question made q r is other = cc
 
-no_question : (q : Importing) → Err {A = Importing} 0 ≡ Ok q → ⊥
-no_question q e = cc
+no_question : (made : Result Importing ℕ) (at : ℕ) (q : Importing) → made ≡ Err at → made ≡ Ok q → ⊥
+no_question made at q is other = cc
 
 made_of : (first moment : ℕ) (text : Text) (question : Importing) (o : Option (List Boxed)) → read text ≡ o → importing_by first moment text o ≡ Ok question → IsOf first moment text question
-made_of first moment text question None found made = absurd (no_question question made)
-made_of first moment text question (Some mails) found made = record { mails = mails; found = found; is = one_question (record { words = first; moment = moment; text = text }) question made }
+made_of first moment text question None found made = absurd (no_question (importing_by first moment text None) 0 question refl made)
+made_of first moment text question (Some mails) found made = record { mails = mails; found = found; is = one_question (importing_by first moment text (Some mails)) (record { words = first; moment = moment; text = text }) question refl made }
 
 each_fits : (c : Config) (mails : List Boxed) → list_any is_long (acts_of c mails) ≡ false → AllByRecursion (Fits c) mails
 each_fits c [] none = tt

@@ -1,5 +1,4 @@
 pub mod Ranged
 pub mod Turns
 pub mod Standing
-pub mod Paths
 pub mod Imported

@@ -1,5 +1,5 @@
 -- The mailbox of a range by the files is that of the list for which they stand, and none of these files is damaged.
-use Rattle.std.proofs.Common.{◌≡◌, ◌<◌, ◌≤◌, ◌+◌, ◌-◌, ◌/◌, min, max, ℕ, zero, suc, Bool, true, false, cond, ◌&&◌, List, [], ◌∷◌, length, map, filter, slice_get, Some, refl, sym, ap, ap₂, ◌∙◌, subst, arith, ◌⊎◌, inl, inr}
+use Rattle.std.proofs.Common.{◌≡◌, ◌≤◌, ◌+◌, ◌-◌, ◌/◌, min, max, ℕ, suc, Bool, true, false, cond, ◌&&◌, List, [], ◌∷◌, length, map, filter, slice_get, Some, refl, sym, ap, ap₂, ◌∙◌, subst, arith, inl, inr}
 use Rattle.std.specs.Prelude.{nat_le}
 use Rattle.std.specs.List.{AllByRecursion, AllZip, enumerate_from, range_with_len}
 use Rattle.std.proofs.lemmas.Bool.{leb-true, leb-false}
@@ -7,14 +7,13 @@ use Rattle.std.proofs.lemmas.Nat.{div_below}
 use Rattle.ml_base.specs.Bytes.{Text}
 use Rattle.ml_base.specs.Dir.{Dir}
 use Rattle.ml_base.specs.declared.names.Name.{Name}
-use Rattle.ml_rows.proofs.RowLaws.{one_some}
 use Rattle.ml_archive.specs.Answers.{IsBadForPost, IsPostByFiles}
 use Rattle.ml_archive.specs.Archive.{ArePosts}
 use Rattle.ml_archive.specs.Posts.{Numbered, entry, in_range, numbers, post_at}
 use Rattle.ml_archive.specs.declared.posts.Post.{Post}
 use Rattle.ml_archive.proofs.ByFiles.{IsOne, filtered_ones}
 use Rattle.ml_archive.proofs.Looking.{counted_is, no_bad_count, no_bad_index, no_missing, post_found, right_size}
-use Rattle.ml_porting.specs.Mailboxes.{IsBadForMailbox, IsBadForOne, IsRangeMailbox, mailbox, numbers_of, range_mailbox}
+use Rattle.ml_porting.specs.Mailboxes.{IsBadForMailbox, IsRangeMailbox, mailbox, numbers_of, range_mailbox}
 
 -- the numbers of a range
 ranged : (a b k : ℕ) (posts : List Post) → map (λ (e : Numbered). e.0) (filter (λ (e : Numbered). nat_le a e.0 && nat_le e.0 b) (enumerate_from k posts)) ≡ range_with_len (max a k) (min (b + 1) (k + length posts) - max a k)
@@ -45,6 +44,9 @@ ranged a b k (x ∷ xs) = go (nat_le a k) refl (nat_le k b) refl (ranged a b (k 
         let size : min (b + 1) ((k + 1) + length xs) - max a (k + 1) ≡ min (b + 1) (k + suc (length xs)) - max a k = omega (arith, l) in
         rw low (more ∙ ap₂ (λ (n m : ℕ). range_with_len n m) same size)
 
+one_post : (p q : Post) → Some p ≡ Some q → p ≡ q
+one_post p q e = cc
+
 own_numbers : (a b count : ℕ) (posts : List Post) → count ≡ length posts → numbers_of a b count ≡ numbers (in_range a b posts)
 own_numbers a b count posts same =
     let size : min (b + 1) (1 + length posts) - max a 1 ≡ min b count + 1 - max a 1 = omega (arith, same) in
@@ -61,7 +63,7 @@ module _ (dir : Dir) (posts : List Post) (is : ArePosts dir posts) where
   own_all (x ∷ xs) [] ones all = absurd all
   own_all (x ∷ xs) (p ∷ ps) ones all =
       let one = ones.0 in
-      ap₂ (λ (q : Post) (qs : List Post). q ∷ qs) (one_some p x.1 (own x.0 p all.0 ∙ ap (post_at posts) one.1 ∙ one.2)) (own_all xs ps ones.1 all.1)
+      ap₂ (λ (q : Post) (qs : List Post). q ∷ qs) (one_post p x.1 (own x.0 p all.0 ∙ ap (post_at posts) one.1 ∙ one.2)) (own_all xs ps ones.1 all.1)
 
   pub own_mailbox : (a b : ℕ) (text : Text) → IsRangeMailbox dir a b text → text ≡ range_mailbox a b posts
   own_mailbox a b text by =

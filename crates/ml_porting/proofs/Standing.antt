@@ -11,5 +11,5 @@ use Rattle.ml_plain.specs.Histories.{State}
 pub same_config : (dir : Dir) (c : Config) (q : State) → IsConfigFile (dir config_name) c → IsState dir q → q.plain.config ≡ c
 same_config dir c q file state = one_in_file (dir config_name) q.plain.config c state.list.config file
 
-pub posts : (dir : Dir) (q : State) → IsState dir q → ArePosts dir q.plain.posts
-posts dir q state = ((state.list).archive).filed
+pub posts_stand : (dir : Dir) (q : State) → IsState dir q → ArePosts dir q.plain.posts
+posts_stand dir q state = ((state.list).archive).filed

@@ -1,14 +1,13 @@
 -- One post more in a mailbox, by the files.
-use Rattle.std.proofs.Common.{◌≡◌, ◌<◌, ◌≤◌, ◌+◌, ◌/◌, min, ℕ, Bool, true, false, cond, ◌==◌, List, [], ◌∷◌, ◌++◌, length, map, Option, Some, None, refl, sym, ap, ap₂, ◌∙◌, subst, arith, ◌⊎◌, inl, inr}
+use Rattle.std.proofs.Common.{◌≡◌, ◌≤◌, ◌+◌, ◌/◌, min, ℕ, Bool, true, false, cond, ◌==◌, ◌&&◌, List, [], ◌∷◌, ◌++◌, map, Some, None, sym, ap, ap₂, ◌∙◌, subst, arith, inl, inr}
 use Rattle.std.specs.List.{AllByRecursion, AllZip, flat_map, range_with_len}
-use Rattle.std.proofs.lemmas.Bool.{ltb-true}
+use Rattle.std.proofs.lemmas.Bool.{le-leb, ltb-true}
 use Rattle.std.proofs.lemmas.List.{append-nil, map-append}
 use Rattle.std.proofs.lemmas.List.Concat.{flat_map-append}
 use Rattle.ml_base.specs.Bytes.{Text}
 use Rattle.ml_base.specs.Dir.{Dir}
 use Rattle.ml_base.specs.declared.names.Name.{Name}
-use Rattle.ml_rows.proofs.RowLaws.{none_some, one_some}
-use Rattle.ml_archive.specs.Answers.{IsBadForPost, IsIndexByFiles, IsNoIndex, IsPostByFiles}
+use Rattle.ml_archive.specs.Answers.{IsBadForPost, IsIndexByFiles, IsPostByFiles, IsPostName}
 use Rattle.ml_archive.specs.Archive.{IsEntry, IsIndexFile, IsNumberFile, index_name, number_name}
 use Rattle.ml_archive.specs.Threads.{entry_at}
 use Rattle.ml_archive.specs.declared.posts.Entry.{Entry}
@@ -16,17 +15,22 @@ use Rattle.ml_archive.specs.declared.posts.Post.{Post}
 use Rattle.ml_archive.proofs.Looking.{post_by_files}
 use Rattle.ml_archive.proofs.OneMore.{range_on_end}
 use Rattle.ml_mbox.specs.Mbox.{mail_text}
-use Rattle.ml_mbox.specs.declared.mails.Mailed.{Mailed}
-use Rattle.ml_porting.specs.Mailboxes.{IsBadForMailbox, IsBadForOne, IsMailbox, mail_of, mailbox}
+use Rattle.ml_porting.specs.Mailboxes.{IsBadForMailbox, IsMailbox, IsMailboxName, mail_of, mailbox}
 use Rattle.ml_porting.specs.Steps.{AddsMail, IsBadAmong}
+
+one_entry : (e f : Entry) → Some e ≡ Some f → e ≡ f
+one_entry e f is = cc
+
+no_entry : (e : Entry) → None ≡ Some e → ⊥
+no_entry e is = cc
 
 -- an entry that is found has what each has
 found_has : (P : Entry → Type 0) (n : ℕ) (es : List Entry) (e : Entry) → AllByRecursion P es → entry_at n es ≡ Some e → P e
-found_has P n [] e all found = absurd (none_some e found)
+found_has P n [] e all found = absurd (no_entry e found)
 found_has P n (f ∷ fs) e all found = go (f.number == n) found (λ is. found_has P n fs e all.1 is)
   where
     go : (t : Bool) → cond t (Some f) (entry_at n fs) ≡ Some e → (entry_at n fs ≡ Some e → P e) → P e
-    go true is later = subst P (one_some f e is) all.0
+    go true is later = subst P (one_entry f e is) all.0
     go false is later = later is
 
 zip_on : {A B : Type 0} (R : A → B → Type 0) (xs : List A) (ys : List B) (x : A) (y : B) → AllZip R xs ys → R x y → AllZip R (xs ++ x ∷ []) (ys ++ y ∷ [])
@@ -44,9 +48,6 @@ mailbox_on ps p =
 pub file_of : (dir : Dir) (n : ℕ) (es : List Entry) → n ≤ 99_999_999 → IsIndexByFiles dir (n / 100) es → IsIndexFile (n / 100) (dir (index_name (n / 100))) es
 file_of dir n es few (inl file) = file.1
 file_of dir n es few (inr none) = absurd (let past = none.0 in omega (arith, few, past))
-
-pub nothing_yet : (dir : Dir) (a k : ℕ) (out : Text) → k ≡ 0 → out ≡ [] → IsMailbox dir (range_with_len a k) out
-nothing_yet dir a k out none empty = subst (λ (k : ℕ). IsMailbox dir (range_with_len a k) out) (sym none) (record { posts = []; each = tt; text_is = empty })
 
 module _ (dir : Dir) (n count : ℕ) (es : List Entry) (counted : IsNumberFile (dir number_name) count) (low : 1 ≤ n) (high : n ≤ count) (by : IsIndexFile (n / 100) (dir (index_name (n / 100))) es) where
   pub one_more : (a k m : ℕ) (old new : Text) → n ≡ a + k → m ≡ k + 1 → IsMailbox dir (range_with_len a k) old → AddsMail dir es n old new → IsMailbox dir (range_with_len a m) new
@@ -72,5 +73,7 @@ module _ (dir : Dir) (n count : ℕ) (es : List Entry) (counted : IsNumberFile (
 pub bad_one : (dir : Dir) (a b n count : ℕ) (name : Name) → a ≤ n → n ≤ b → IsNumberFile (dir number_name) count → 1 ≤ n → n ≤ count → IsBadForPost dir n name → IsBadForMailbox dir a b name
 bad_one dir a b n count name from to counted low high bad = inr (record { n = n; from = from; to = to; count = count; counted = counted; low = low; high = high; bad = bad })
 
-pub bad_index : (dir : Dir) (n : ℕ) (name : Name) → name ≡ index_name (n / 100) → IsNoIndex dir (n / 100) → IsBadForPost dir n name
-bad_index dir n name named none = inr (named, inl none)
+-- a file that tells of a post of the range tells of the mailbox
+pub name_of_one : (a b n : ℕ) (name : Name) → a ≤ n → n ≤ b → 1 ≤ n → IsPostName n name → IsMailboxName a b name
+name_of_one a b n name from to low (inl named) = inl named
+name_of_one a b n name from to low (inr (few, named)) = inr (n, from, to, ap₂ (λ (p q : Bool). p && q) (le-leb 1 n low) (le-leb n 99_999_999 few), named)

@@ -4,7 +4,6 @@ use Rattle.ml_base.specs.Bytes.{Text}
 use Rattle.ml_mbox.specs.Reading.{read}
 use Rattle.ml_mbox.specs.declared.mails.Boxed.{Boxed}
 use Rattle.ml_reading.specs.Meanings.{Meaning}
-use Rattle.ml_reading.specs.declared.question.Answer.{Answer}
 use Rattle.ml_reading.specs.declared.question.Answer.TheVariants as answers
 use Rattle.ml_porting.specs.Imports.{import_answer, mails_of}
 use Rattle.ml_porting.specs.Mailboxes.{IsBadForMailbox, IsMailboxName, IsRangeMailbox, range_mailbox}

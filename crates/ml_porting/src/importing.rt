@@ -66,13 +66,9 @@ impl Question for Importing {
         config: &Config,
         _files: &mut F,
     ) -> Result<Answer, PartError> {
-        let answer = answer_of(
-            alloc,
-            config,
-            self.words.first,
-            self.moment,
-            self.text.as_slice(),
-        )?;
+        let words = &self.words;
+        let text = self.text.as_slice();
+        let answer = answer_of(alloc, config, words.first, self.moment, text)?;
         Ok(answer)
     }
 }
