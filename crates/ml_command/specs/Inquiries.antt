@@ -15,6 +15,10 @@ use Rattle.ml_dividing.specs.Moves.{PlainMove}
 use Rattle.ml_dividing.specs.Questions.{division_meaning, division_of, move_words, moving_meaning, moving_of}
 use Rattle.ml_dividing.specs.declared.dividing.Division.{Division}
 use Rattle.ml_dividing.specs.declared.streaming.Moving.{Moving}
+use Rattle.ml_porting.specs.Questions.{importing_meaning, importing_of, mbox_meaning}
+use Rattle.ml_porting.specs.Words.{import_words, mbox_query}
+use Rattle.ml_porting.specs.declared.importing.Importing.{Importing}
+use Rattle.ml_porting.specs.declared.query.MboxQuery.{MboxQuery}
 use Rattle.ml_split.specs.Reading.{rules_in}
 use Rattle.ml_web.specs.Questions.{page_meaning}
 use Rattle.ml_web.specs.Words.{month_query, thread_query}
@@ -55,13 +59,29 @@ moving_asked words = record {
   meaning = λ it. moving_meaning it.words it.rules it.moment;
 }
 
+-- the most bytes of a mailbox that is imported
+abbrev pub longest_mailbox : ℕ
+longest_mailbox = 268_435_456
+
+-- the stream of the posts of the mailbox that the input is, numbered from a first number on and at the clock's moment
+abbrev pub importing_asked : ℕ → InputQuestion
+importing_asked first = record {
+  Question = Importing;
+  timed = true;
+  limit = longest_mailbox;
+  made = importing_of first;
+  meaning = λ it. importing_meaning it.words it.moment it.text;
+}
+
 -- what an inquiry asks
 abbrev pub asking_of : Inquiry → Asking
 asking_of (inquiries.Query query) = ByWords (query_meaning query)
 asking_of inquiries.Check = ByWords check_meaning
 asking_of (inquiries.Pages query) = ByWords (page_meaning query)
+asking_of (inquiries.Mailbox query) = ByWords (mbox_meaning query)
 asking_of (inquiries.Split set) = ByInput (division_asked set)
 asking_of (inquiries.Move words) = ByInput (moving_asked words)
+asking_of (inquiries.Import first) = ByInput (importing_asked first)
 
 -- a query is asked, where a word gives it
 abbrev pub queried : Option Query → Asked
@@ -115,6 +135,26 @@ pages_of (kind ∷ []) = if bytes_eq kind (codes "list") then askeds.Inquiry (in
 pages_of (kind ∷ which ∷ page ∷ []) = page_of kind which page
 pages_of _ = askeds.NoCommand
 
+-- the mailbox of a range is asked for, where words give one
+abbrev pub ranged : Option MboxQuery → Asked
+ranged None = askeds.BadWord
+ranged (Some query) = askeds.Inquiry (inquiries.Mailbox query)
+
+-- what the words behind `mbox` ask for: the mailbox of the posts from one number to another
+abbrev pub mbox_of : List Text → Asked
+mbox_of (first ∷ last ∷ []) = ranged (mbox_query first last)
+mbox_of _ = askeds.NoCommand
+
+-- the stream of a mailbox is asked for, where a word gives the number of its first item
+abbrev pub imported : Option ℕ → Asked
+imported None = askeds.BadWord
+imported (Some first) = askeds.Inquiry (inquiries.Import first)
+
+-- what the words behind `import` ask for: the stream of a mailbox
+abbrev pub import_of : List Text → Asked
+import_of (first ∷ []) = imported (import_words first)
+import_of _ = askeds.NoCommand
+
 -- the parts of a set are asked for, where a word names one
 abbrev pub divided : Option Set → Asked
 divided None = askeds.BadWord
@@ -152,7 +192,9 @@ asked_of_list name rest =
     else (if bytes_eq name (codes "out") then Some (out_of rest)
     else (if bytes_eq name (codes "show") then Some (show_of rest)
     else (if bytes_eq name (codes "check") then Some (check_of rest)
-    else (if bytes_eq name (codes "pages") then Some (pages_of rest) else None)))))
+    else (if bytes_eq name (codes "pages") then Some (pages_of rest)
+    else (if bytes_eq name (codes "mbox") then Some (mbox_of rest)
+    else (if bytes_eq name (codes "import") then Some (import_of rest) else None)))))))
 
 -- what words ask for that begin with this one, where it is that of a command that gives a text
 abbrev pub asked_of : Text → List Text → Option Asked
