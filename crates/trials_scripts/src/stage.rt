@@ -1,0 +1,158 @@
+// A list in memory, and one command over it.
+use crate::texts::{Named, spelled_with};
+use ml_base::{Bytes, Numbers};
+use ml_site::{Fill, Image, MemClock, MemSite, MemSource, Source};
+use std::alloc::{AllocError, Global};
+use std::collections::BTreeMap;
+use std::test::Fail;
+use trials_lists::copy;
+
+/// What is tried: a program of words, an input, a disk with its output, and a clock.
+pub trait Program {
+    /// Runs the program, and answers its status and the site.
+    fn ended(
+        alloc: Global,
+        words: &[String],
+        input: &mut MemSource,
+        site: MemSite,
+        clock: &mut MemClock,
+    ) -> Result<(u8, MemSite), Fail>;
+}
+
+// What the next command meets: the moment that the clock shows, if it does, the input, the read of it that fails, the call on the disk that fails, the
+// room for its output, and the call behind which it is stopped.
+#[derive(Drop)]
+pub(crate) struct Next {
+    pub(crate) moment: Option<u64>,
+    pub(crate) input: Bytes,
+    pub(crate) read: u64,
+    pub(crate) call: u64,
+    pub(crate) room: usize,
+    pub(crate) stop: u64,
+}
+
+/// A list as it stands at a step, as it stood before the last command, how many bytes that one left of its input, and what the next one meets.
+#[derive(Drop)]
+pub(crate) struct Stage {
+    pub(crate) image: Image,
+    pub(crate) before: Image,
+    pub(crate) unread: usize,
+    pub(crate) next: Next,
+}
+
+// The room for calls, and for output.
+const CALLS: usize = 60_000;
+
+const ROOM: usize = 10_000;
+
+fn plain(alloc: Global, moment: Option<u64>) -> Next {
+    Next {
+        moment,
+        input: Bytes::new(alloc),
+        read: 0,
+        call: 0,
+        room: ROOM,
+        stop: CALLS as u64,
+    }
+}
+
+fn nothing(alloc: Global) -> Image {
+    Image {
+        log: Bytes::new(alloc),
+        files: BTreeMap::new(alloc),
+    }
+}
+
+/// No log and no files, at 1,000,000,000.
+pub(crate) fn empty(alloc: Global) -> Stage {
+    Stage {
+        image: nothing(alloc),
+        before: nothing(alloc),
+        unread: 0,
+        next: plain(alloc, Some(1_000_000_000)),
+    }
+}
+
+fn copied(alloc: Global, image: &Image) -> Result<Image, AllocError> {
+    Ok(Image {
+        log: Bytes::from_slice(alloc, image.log.as_slice())?,
+        files: copy(alloc, &image.files)?,
+    })
+}
+
+/// The same list, whose next command meets the same moment and input.
+pub(crate) fn beginning(alloc: Global, stage: &Stage) -> Result<Stage, AllocError> {
+    let mut next = plain(alloc, stage.next.moment);
+    next.input = Bytes::from_slice(alloc, stage.next.input.as_slice())?;
+    Ok(Stage {
+        image: copied(alloc, &stage.image)?,
+        before: nothing(alloc),
+        unread: 0,
+        next,
+    })
+}
+
+// The words of a command, with single spaces between them. An empty word is spelled `''`.
+fn words_of(alloc: Global, named: &Named, text: &str) -> Result<Vec<String>, Fail> {
+    let mut words = Vec::new(alloc);
+    for word in text.split(' ') {
+        if word == "''" {
+            words.push(String::new(alloc))?;
+        } else if !word.is_empty() {
+            let word = spelled_with(alloc, named, word)?;
+            words.push(String::from_utf8(word.into_vec())?)?;
+        }
+    }
+    Ok(words)
+}
+
+fn source(alloc: Global, next: &Next) -> Result<MemSource, AllocError> {
+    let bytes = Bytes::from_slice(alloc, next.input.as_slice())?;
+    let reads = Numbers::from_vec(Vec::from_slice(alloc, &[next.read])?);
+    Ok(MemSource::new(bytes, reads))
+}
+
+// A clock that shows this moment, or fails.
+fn clock(alloc: Global, moment: Option<u64>) -> Result<MemClock, AllocError> {
+    let Some(moment) = moment else {
+        let first = Numbers::from_vec(Vec::from_slice(alloc, &[1u64])?);
+        return Ok(MemClock::new(0, first));
+    };
+    Ok(MemClock::new(moment.min(253_402_300_799), Numbers::new(alloc)))
+}
+
+// How many bytes are left of an input. A read that is to fail may still come.
+fn unread(input: &mut MemSource) -> usize {
+    let mut buffer = [0; 4096];
+    let mut count = 0usize;
+    for _ in 0..10_000 {
+        match input.read(&mut buffer) {
+            Ok(0) => return count,
+            Ok(more) => count = count.saturating_add(more),
+            Err(_) => (),
+        }
+    }
+    count
+}
+
+/// Runs the program with these words, and answers its status and what it put out.
+pub(crate) fn run<P: Program>(
+    alloc: Global,
+    named: &Named,
+    stage: &mut Stage,
+    words: &str,
+) -> Result<(u8, Bytes), Fail> {
+    let words = words_of(alloc, named, words)?;
+    let next = &stage.next;
+    let mut site = MemSite::new(alloc, copied(alloc, &stage.image)?, CALLS, next.room)?;
+    site.fail(alloc, &[next.call])?;
+    let mut input = source(alloc, next)?;
+    let mut clock = clock(alloc, next.moment)?;
+    let (status, site) = P::ended(alloc, &words, &mut input, site, &mut clock)?;
+    let output = Bytes::from_slice(alloc, site.output())?;
+    stage.unread = unread(&mut input);
+    stage.before = copied(alloc, &stage.image)?;
+    stage.image = site.crash(alloc, stage.next.stop, Fill::Old)?;
+    stage.next = plain(alloc, stage.next.moment);
+    Ok((status, output))
+}

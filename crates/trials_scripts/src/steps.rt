@@ -1,0 +1,230 @@
+// The steps of a row.
+use crate::paths::name_of;
+use crate::stage::{Program, Stage, run};
+use crate::texts::{Named, number_of, spelled_with};
+use ml_base::{Bytes, Name, split_first};
+use ml_site::Image;
+use std::alloc::Global;
+use std::test::Fail;
+use trials_lists::{Left, check_left, same, text_of};
+
+// The number of a step, or that of the row's loop.
+fn number_or(text: &str, turn: u64) -> Result<u64, Fail> {
+    if text.is_empty() {
+        Ok(turn)
+    } else {
+        number_of(text)
+    }
+}
+
+// Does a step, if it says what the next command meets: `at`, `input`, `read`, `fail`, `room` or `stop`.
+fn prepare(
+    alloc: Global,
+    named: &Named,
+    stage: &mut Stage,
+    verb: &str,
+    rest: &str,
+    turn: u64,
+) -> Result<bool, Fail> {
+    if verb == "at" && rest == "never" {
+        stage.next.moment = None;
+    } else if verb == "at" {
+        stage.next.moment = Some(number_of(rest)?);
+    } else if verb == "input" {
+        stage.next.input = spelled_with(alloc, named, rest)?;
+    } else if verb == "read" {
+        stage.next.read = number_or(rest, turn)?;
+    } else if verb == "fail" {
+        stage.next.call = number_or(rest, turn)?;
+    } else if verb == "stop" {
+        stage.next.stop = number_or(rest, turn)?;
+    } else if verb == "room" {
+        stage.next.room = number_of(rest)? as usize;
+    } else {
+        return Ok(false);
+    }
+    Ok(true)
+}
+
+fn file_of(image: &Image, name: Name) -> &[u8] {
+    if name == Name::LOG {
+        image.log.as_slice()
+    } else {
+        text_of(&image.files, name)
+    }
+}
+
+fn put(image: &mut Image, name: Name, text: Bytes) -> Result<(), Fail> {
+    if name == Name::LOG {
+        image.log = text;
+    } else {
+        image.files.insert(name, text)?;
+    }
+    Ok(())
+}
+
+// What a file is changed to: `put` gives it a text, `cut` takes its last byte, `grow` adds a text at its end, and `take` gives it what another file has.
+fn changed(
+    alloc: Global,
+    named: &Named,
+    image: &Image,
+    verb: &str,
+    name: Name,
+    text: &str,
+) -> Result<Option<Bytes>, Fail> {
+    let mut bytes = Bytes::from_slice(alloc, file_of(image, name))?;
+    if verb == "put" {
+        bytes = spelled_with(alloc, named, text)?;
+    } else if verb == "cut" {
+        bytes.truncate(bytes.len().saturating_sub(1));
+    } else if verb == "grow" {
+        bytes.extend(spelled_with(alloc, named, text)?.as_slice())?;
+    } else if verb == "take" {
+        bytes = Bytes::from_slice(alloc, file_of(image, name_of(text)?))?;
+    } else {
+        return Ok(None);
+    }
+    Ok(Some(bytes))
+}
+
+// Fails where a file hasn't this text, or isn't absent where it is to `lack`.
+fn compare(
+    alloc: Global,
+    named: &Named,
+    place: &str,
+    image: &Image,
+    verb: &str,
+    name: Name,
+    text: &str,
+) -> Result<(), Fail> {
+    let wanted = if verb == "has" {
+        spelled_with(alloc, named, text)?
+    } else if verb == "lacks" {
+        Bytes::from_slice(alloc, b"-")?
+    } else {
+        return Err(Fail::new(format_args!("{place}: no step: {verb}")));
+    };
+    same(alloc, place, 0, file_of(image, name), wanted.as_slice())
+}
+
+// Does a step of a file: the changes above, `drop` and the comparisons.
+fn of_file(
+    alloc: Global,
+    named: &Named,
+    place: &str,
+    stage: &mut Stage,
+    verb: &str,
+    rest: &str,
+) -> Result<(), Fail> {
+    let (path, text) = rest.split_once(' ').unwrap_or((rest, ""));
+    let name = name_of(path)?;
+    if verb == "drop" {
+        let _ = stage.image.files.remove(&name);
+        return Ok(());
+    }
+    match changed(alloc, named, &stage.image, verb, name, text)? {
+        Some(bytes) => put(&mut stage.image, name, bytes),
+        None => compare(alloc, named, place, &stage.image, verb, name, text),
+    }
+}
+
+// A status, and an output behind a space if there is one.
+fn told(alloc: Global, status: u8, output: &[u8]) -> Result<Bytes, Fail> {
+    let head = format!(in alloc; "{status}")?;
+    let mut text = Bytes::from_slice(alloc, head.as_bytes())?;
+    if !output.is_empty() {
+        text.push(b' ')?;
+        text.extend(output)?;
+    }
+    Ok(text)
+}
+
+// Whether a command of which a call failed says so: by 73 where it put out nothing or all, or by a stop line that is alone, or under the number of its answer, or
+// behind its answer.
+fn says_so(status: u8, output: &[u8], answer: &[u8]) -> bool {
+    if status == 73 {
+        return output.is_empty() || output == answer;
+    }
+    let rest = match split_first(b' ', answer) {
+        Some((number, _)) => output.strip_prefix(number),
+        None => None,
+    };
+    let disk = b"- 111 disk\n".as_slice();
+    status == 111
+        && (output == disk
+            || output.strip_prefix(answer) == Some(disk)
+            || rest == Some(b" 111 disk\n".as_slice()))
+}
+
+// Fails where a command doesn't end as it is to: `run WORDS => STATUS OUTPUT`, with further endings behind `||`; and `may` for a command of which a call may fail.
+fn command<P: Program>(
+    alloc: Global,
+    named: &Named,
+    place: &str,
+    stage: &mut Stage,
+    verb: &str,
+    rest: &str,
+) -> Result<(), Fail> {
+    let Some((words, endings)) = rest.split_once("=> ") else {
+        return Err(Fail::new(format_args!("{place}: no ending")));
+    };
+    let (status, output) = run::<P>(alloc, named, stage, words)?;
+    let came = told(alloc, status, output.as_slice())?;
+    let mut wanted = Bytes::new(alloc);
+    for ending in endings.split(" || ") {
+        wanted = spelled_with(alloc, named, ending)?;
+        if wanted.as_slice() == came.as_slice() {
+            return Ok(());
+        }
+    }
+    if let Some((_, answer)) = split_first(b' ', wanted.as_slice())
+        && verb == "may"
+        && says_so(status, output.as_slice(), answer)
+    {
+        return Ok(());
+    }
+    same(alloc, place, 0, came.as_slice(), wanted.as_slice())
+}
+
+// Fails where the last command left a list that isn't as it was.
+fn is_as_before(alloc: Global, place: &str, stage: &Stage) -> Result<(), Fail> {
+    let (before, image) = (&stage.before, &stage.image);
+    same(alloc, place, 0, image.log.as_slice(), before.log.as_slice())?;
+    check_left(
+        alloc,
+        place,
+        0,
+        &before.files,
+        &image.files,
+        &Left::Only(&[]),
+    )
+}
+
+// Fails where the last command left other than so many bytes of its input.
+fn is_unread(alloc: Global, place: &str, stage: &Stage, rest: &str) -> Result<(), Fail> {
+    let left = format!(in alloc; "{}", stage.unread)?;
+    same(alloc, place, 0, left.as_bytes(), rest.as_bytes())
+}
+
+/// Does a step, in this turn of its row's loop, and fails where it doesn't come out as it says.
+pub(crate) fn step<P: Program>(
+    alloc: Global,
+    named: &Named,
+    place: &str,
+    stage: &mut Stage,
+    text: &str,
+    turn: u64,
+) -> Result<(), Fail> {
+    let (verb, rest) = text.split_once(' ').unwrap_or((text, ""));
+    if verb == "run" || verb == "may" {
+        command::<P>(alloc, named, place, stage, verb, rest)
+    } else if verb == "same" {
+        is_as_before(alloc, place, stage)
+    } else if verb == "unread" {
+        is_unread(alloc, place, stage, rest)
+    } else if prepare(alloc, named, stage, verb, rest, turn)? {
+        Ok(())
+    } else {
+        of_file(alloc, named, place, stage, verb, rest)
+    }
+}

@@ -1,0 +1,126 @@
+// The bytes that texts of tables stand for.
+ghost use Rattle.std.specs.Prelude.{◌≤◌};
+
+use ml_base::{Bytes, read_number, write_number};
+use std::alloc::Global;
+use std::test::Fail;
+
+// Texts that have names.
+pub(crate) type Named = Vec<(String, Bytes)>;
+
+/// The number that a text is.
+pub(crate) fn number_of(text: &str) -> Result<u64, Fail> {
+    match read_number(text.as_bytes()) {
+        Some(number) => Ok(number),
+        None => Err(Fail::new(format_args!("no number: {text}"))),
+    }
+}
+
+/// The bytes of a text: `\n` is an LF, `\0` a NUL and `\x` with two hexadecimal digits any byte.
+pub fn spelled(alloc: Global, text: &str) -> Result<Bytes, Fail> {
+    let mut out = Bytes::new(alloc);
+    add_plain(&mut out, text)?;
+    Ok(out)
+}
+
+/// The bytes of a text in which besides `{NAME}` is a text of this name, and `{A..B:TEXT}` is TEXT once for each number from A to B, with its
+/// digits for each `%`.
+pub(crate) fn spelled_with(alloc: Global, named: &Named, text: &str) -> Result<Bytes, Fail> {
+    let mut out = Bytes::new(alloc);
+    for (at, piece) in text.split('{').enumerate() {
+        if at == 0 {
+            add_plain(&mut out, piece)?;
+        } else {
+            add_braced(alloc, named, &mut out, piece)?;
+        }
+    }
+    Ok(out)
+}
+
+// Adds what braces stand for that a text begins with, and what is behind them.
+fn add_braced(alloc: Global, named: &Named, out: &mut Bytes, text: &str) -> Result<(), Fail> {
+    let Some((inner, behind)) = text.split_once('}') else {
+        return Err(Fail::new(format_args!("no brace closes: {text}")));
+    };
+    match inner.split_once(':') {
+        Some((range, each)) => add_times(alloc, out, range, each)?,
+        None => add_named(named, out, inner)?,
+    }
+    add_plain(out, behind)
+}
+
+fn add_named(named: &Named, out: &mut Bytes, wanted: &str) -> Result<(), Fail> {
+    for (name, text) in named.iter() {
+        if name.as_str() == wanted {
+            out.extend(text.as_slice())?;
+            return Ok(());
+        }
+    }
+    Err(Fail::new(format_args!("no text has this name: {wanted}")))
+}
+
+fn add_times(alloc: Global, out: &mut Bytes, range: &str, each: &str) -> Result<(), Fail> {
+    let Some((first, last)) = range.split_once("..") else {
+        return Err(Fail::new(format_args!("no range: {range}")));
+    };
+    let (first, last) = (number_of(first)?, number_of(last)?);
+    let mut text = Bytes::new(alloc);
+    add_plain(&mut text, each)?;
+    if let [byte] = text.as_slice() {
+        let count = last.saturating_sub(first).saturating_add(1);
+        out.extend(&vec![in alloc; *byte; count as usize]?)?;
+        return Ok(());
+    }
+    for number in first..=last {
+        add_numbered(out, text.as_slice(), number)?;
+    }
+    Ok(())
+}
+
+// Adds a text, with the digits of a number for each `%`.
+fn add_numbered(out: &mut Bytes, text: &[u8], number: u64) -> Result<(), Fail> {
+    let mut digits = [0; 20];
+    let len = write_number(number, &mut digits);
+    for (at, piece) in text.split(|byte| *byte == b'%').enumerate() {
+        if at > 0 {
+            out.extend(&digits[..len])?;
+        }
+        out.extend(piece)?;
+    }
+    Ok(())
+}
+
+fn add_plain(out: &mut Bytes, text: &str) -> Result<(), Fail> {
+    for (at, piece) in text.as_bytes().split(|byte| *byte == b'\\').enumerate() {
+        if at == 0 {
+            out.extend(piece)?;
+        } else {
+            add_escaped(out, piece)?;
+        }
+    }
+    Ok(())
+}
+
+// Adds what the letter behind a backslash stands for, and what is behind it.
+fn add_escaped(out: &mut Bytes, text: &[u8]) -> Result<(), Fail> {
+    let (byte, rest) = match text {
+        [b'n', rest @ ..] => (b'\n', rest),
+        [b'0', rest @ ..] => (0, rest),
+        [b'x', high, low, rest @ ..] => (16 * digit(*high) + digit(*low), rest),
+        _ => return Err(Fail::new("a backslash that stands for nothing")),
+    };
+    out.push(byte)?;
+    out.extend(rest)?;
+    Ok(())
+}
+
+// The value of a hexadecimal digit in upper case.
+fn digit(byte: u8) -> u8
+    ensures { result ≤ 15 }
+{
+    match byte {
+        b'0'..=b'9' => byte - b'0',
+        b'A'..=b'F' => byte - b'A' + 10,
+        _ => 0,
+    }
+}
