@@ -2,8 +2,12 @@
 #![tactic(auto)]
 
 #[cfg(test)]
+mod asking;
+#[cfg(test)]
 mod giving;
 #[cfg(test)]
 mod listing;
 #[cfg(test)]
-mod lists;
+mod noted;
+#[cfg(test)]
+mod program;

@@ -2,11 +2,11 @@
 use crate::paths::name_of;
 use crate::stage::{Program, Stage, run};
 use crate::texts::{Named, number_of, spelled_with};
-use ml_base::{Bytes, Name, split_first};
+use ml_base::{Bytes, Name, Set, split_first};
 use ml_site::Image;
 use std::alloc::Global;
 use std::test::Fail;
-use trials_lists::{Left, check_left, same, text_of};
+use trials_lists::{Left, add_members, check_left, same, text_of};
 
 // The number of a step, or that of the row's loop.
 fn number_or(text: &str, turn: u64) -> Result<u64, Fail> {
@@ -218,6 +218,9 @@ pub(crate) fn step<P: Program>(
     let (verb, rest) = text.split_once(' ').unwrap_or((text, ""));
     if verb == "run" || verb == "may" {
         command::<P>(alloc, named, place, stage, verb, rest)
+    } else if verb == "members" {
+        add_members(alloc, &mut stage.image.files, Set::List, number_of(rest)?)?;
+        Ok(())
     } else if verb == "same" {
         is_as_before(alloc, place, stage)
     } else if verb == "unread" {
