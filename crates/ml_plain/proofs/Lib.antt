@@ -9,6 +9,7 @@ pub mod Places
 pub mod Bases
 pub mod Steps
 pub mod PostLaw
+pub mod Lasting
 pub mod Asked
 pub mod Leaving
 pub mod LeavingLaw

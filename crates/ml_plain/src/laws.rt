@@ -28,13 +28,20 @@ ghost use Rattle.ml_plain.specs.OnceLaws.{Once, Joined};
 ghost use Rattle.ml_plain.specs.Plain.{Plain, with_members};
 ghost use Rattle.ml_plain.specs.Runs.{Run};
 ghost use Rattle.ml_plain.specs.declared.Reply.{Reply};
+ghost use Rattle.ml_plain.specs.Lasting.{LawLasting};
 ghost use Rattle.ml_plain.specs.Laws.{HasIssues, LawChain, LawLeaving, LawPosts, MakesDigests};
 
 /// Each step of a list's history posts or doesn't. One that posts is answered `posted` and the number of the new post, which goes last
 /// into the archive, and puts one entry into the queue: the post, for the members as they then are. Any other leaves the posts as they
 /// are, is answered otherwise, and puts no entry with the path of a post into the queue.
+///
+/// Each step of whatever list leaves what stood before it as it was and in its order: each post; each entry of the queue, a digest's too,
+/// but for that of an id which is reported to be sent, and then it is gone; and each held post, but for those that a moderator answers with
+/// their cookies, which are posted or rejected, or that a timed run gives back as old. What is new stands behind it, under numbers that
+/// weren't drawn before.
 pub fn law_posts()
-    ensures { LawPosts }
+    ensures steps { LawPosts }
+    ensures lasting { LawLasting }
 {}
 
 /// An address leaves a set in one of four ways: the operator removes it; it asks for that itself, where the list asks for no

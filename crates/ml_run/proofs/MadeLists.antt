@@ -1,5 +1,6 @@
 -- How a list is made, call by call.
 use Rattle.std.proofs.Common.{◌≡◌, ◌⊎◌, inl, inr, ⊎_elim, ℕ, IsTrue, List, ◌++◌, take, Option, Some, None, ap, sym, refl, subst, ◌∙◌, length, arith}
+use Rattle.std.specs.Prelude.{IsSome}
 use Rattle.ml_base.specs.Bytes.{Text}
 use Rattle.ml_base.specs.Dir.{Dir, with_puts}
 use Rattle.ml_base.specs.Name.{is_file}
@@ -93,24 +94,24 @@ module _ {S : Type 0} (told : Ghosts S) where
 
   -- a list was committed, its store closed, and told of
   pub told_makes : (start old new : S) (dir : Option Dir) (txn : List Put) (line : Text) (status : ℕ) → IsTrue told.tells_reads → (IsTrue told.tells_all → told.output old ≡ told.output start)
-      → directory (told.disk old).reads ≡ with_txn txn dir → TellsClosed told old new status line → Makes (IsTrue told.tells_all) status dir txn line (told.output start) (told.disk new).reads (told.output new)
-  told_makes start old new dir txn line status r put is f =
+      → IsSome dir → directory (told.disk old).reads ≡ with_txn txn dir → TellsClosed told old new status line → Makes (IsTrue told.tells_all) status dir txn line (told.output start) (told.disk new).reads (told.output new)
+  told_makes start old new dir txn line status r put there is f =
       let put' : IsTrue told.tells_all → told.output f.mid ≡ told.output start = λ t. f.output t ∙ put t in
       let mid : directory (told.disk f.mid).reads ≡ with_txn txn dir = f.same r ∙ is in
       ⊎_elim
       (λ tells.
       let here : directory (told.disk new).reads ≡ with_txn txn dir = ap directory (tells.1.reads r) ∙ mid in
       ⊎_elim
-      (λ whole. inl (record { status_is = whole.0; made = here; put = λ t. whole.1 t ∙ ap (λ (o : Text). o ++ line) (put' t) }))
-      (λ cut. inr (inr (record { status_is = cut.0; held_is = inr here; put = λ t. let c = cut.2 t in inr (here, (c.0, c.1 ∙ ap (λ (o : Text). o ++ take c.0 line) (put' t))) })))
+      (λ whole. inl (record { status_is = whole.0; made = (there, here); put = λ t. whole.1 t ∙ ap (λ (o : Text). o ++ line) (put' t) }))
+      (λ cut. inr (inr (record { status_is = cut.0; held_is = inr here; put = λ t. let c = cut.2 t in inr ((there, here), (c.0, c.1 ∙ ap (λ (o : Text). o ++ take c.0 line) (put' t))) })))
       tells.1.line_is)
       (λ stops. said_makes start f.mid new dir txn line status stops.0 r put' (either_unmade stops.0 dir (directory (told.disk f.mid).reads) txn (⊎_elim (λ m. inl m) (λ d. inr d.0) stops.1) (inr mid)) stops.2)
       f.said
 
   pub told_making : (start old new : S) (dir : Option Dir) (txn : List Put) (line : Text) (status : ℕ) → LeavesOnly told.moment told.left_since told.disk told.output start old (IsMaking dir txn line (told.output start))
-      → told.output old ≡ told.output start → directory (told.disk old).reads ≡ with_txn txn dir → TellsClosed told old new status line → IsTrue told.tells_all
+      → told.output old ≡ told.output start → IsSome dir → directory (told.disk old).reads ≡ with_txn txn dir → TellsClosed told old new status line → IsTrue told.tells_all
       → LeavesOnly told.moment told.left_since told.disk told.output start new (IsMaking dir txn line (told.output start))
-  told_making start old new dir txn line status l put is f t =
+  told_making start old new dir txn line status l put there is f t =
       let put' : told.output f.mid ≡ told.output start = f.output t ∙ put in
       let one : LeavesOnly told.moment told.left_since told.disk told.output start f.mid (IsMaking dir txn line (told.output start)) =
       joins told.moment told.left_since told.disk told.output start old f.mid (IsMaking dir txn line (told.output start)) (IsOld (directory (told.disk old).reads) (told.output old)) (IsMaking dir txn line (told.output start)) l (f.moments t)
@@ -118,7 +119,7 @@ module _ {S : Type 0} (told : Ghosts S) where
       let images : (left : Contents) → IsImage (told.disk f.mid) left → directory left ≡ with_txn txn dir = λ left image. ((f.moments t).now left image).0 ∙ is in
       ⊎_elim
       (λ tells. goes_on told.moment told.left_since told.disk told.output start f.mid new (IsMaking dir txn line (told.output start)) (Giving (told.disk f.mid) (told.output f.mid) line) one (tells.1.time t)
-      (λ left out g. inr (images left g.0, (g.1.0, g.1.1 ∙ ap (λ (o : Text). o ++ take g.1.0 line) put')))
+      (λ left out g. inr ((there, images left g.0), (g.1.0, g.1.1 ∙ ap (λ (o : Text). o ++ take g.1.0 line) put')))
       (λ left image. (subst (λ (d : Disk). IsImage d left) (tells.1.disk_is t) image, tells_front told f.mid new status line tells.1 t)))
       (λ stops. said_making start f.mid new (told.output start) dir txn line status stops.0 one (λ left image. inr (images left image)) put' stops.2 t)
       f.said
@@ -254,7 +255,7 @@ some_status whys.Disk e = omega (arith, e)
 pub made_state : (told : Type 0) (status : ℕ) (dir : Option Dir) (files : Dir) (config : Config) (key line before : Text) (held : Contents) (output : Text) → IsConfig config → length key ≡ 32 → dir ≡ Some files
     → ((name : Name) → IsTrue (is_file name) → files name ≡ None) → status ≡ 0 → Makes told status dir (first_puts config key) line before held output → HasState (directory held) (fresh (new_list config key))
 made_state told status dir files config key line before held output sound long found none zero m = ⊎_elim
-    (λ made. record { files = with_puts files (first_puts config key); is = made.made ∙ ap (with_txn (first_puts config key)) found; stands = laid_state files config key sound long none })
+    (λ made. record { files = with_puts files (first_puts config key); is = made.made.1 ∙ ap (with_txn (first_puts config key)) found; stands = laid_state files config key sound long none })
     (λ other. ⊎_elim
     (λ refused. absurd (some_status refused.why (sym refused.status_is ∙ zero)))
     (λ cut. absurd (omega (arith, cut.status_is, zero)))

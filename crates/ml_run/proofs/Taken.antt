@@ -1,5 +1,5 @@
 -- What a run takes from the source, and that it does no more than that.
-use Rattle.std.proofs.Common.{◌≡◌, ⊎_elim, ℕ, ◌+◌, true, IsTrue, List, [], ◌∷◌, ◌++◌, length, take, Option, Some, None, ap, sym, refl, subst, ◌∙◌, arith, append_assoc, length-append}
+use Rattle.std.proofs.Common.{◌≡◌, ⊎_elim, ℕ, ◌+◌, ◌-◌, ◌≤◌, true, IsTrue, List, [], ◌∷◌, ◌++◌, length, take, Option, Some, None, ap, sym, refl, subst, ◌∙◌, arith, append_assoc, length-append}
 use Rattle.std.proofs.Math.Seq.{take-append_seam}
 use Rattle.ml_base.specs.Bytes.{Text}
 use Rattle.ml_base.specs.Faults.{Rose}
@@ -23,7 +23,7 @@ use Rattle.ml_ending.specs.Lines.{stop_text}
 use Rattle.ml_run.specs.Groups.{HasWhole, TakesTo, TakesSome, IsNumberOf}
 use Rattle.ml_run.specs.Leaving.{HasState, IsAfterSome}
 use Rattle.ml_ending.specs.Endings.{StopLine, ClosesTo, Says, Finishes}
-use Rattle.ml_run.specs.Endings.{FromTaken}
+use Rattle.ml_run.specs.Endings.{FromTaken, TakesFew}
 use Rattle.ml_stream.proofs.Ahead.{stream_item}
 use Rattle.ml_run.proofs.Causes.{status_not}
 use Rattle.ml_run.proofs.Leaving.{same_state, other_list, reached_none, saying}
@@ -46,15 +46,21 @@ prefix_same xs ys xs' ys' is long = sym (take-append_seam xs ys) ∙ ap (λ (n :
 
 -- what the end of a group tells of the items behind it that the bytes hold
 abbrev pub EndsTo : GroupEnd → ℕ → List Item → Type 0
-EndsTo ends.Full more behind = Unit {0}
-EndsTo ends.Last more behind = Unit {0}
-EndsTo (ends.Stopped who why) more behind = IsNumberOf who (take more behind) × (why ≡ whys.Input → behind ≡ [])
+EndsTo ends.Full more behind = behind ≡ []
+EndsTo ends.Last more behind = behind ≡ []
+EndsTo (ends.Stopped who why) more behind = IsNumberOf who (take more behind) × (why ≡ whys.Input → behind ≡ []) × (length behind ≤ more)
 
 takes_whole : (end : GroupEnd) (place : ℕ) (front rest : Text) (items : List Item) (more : ℕ) (reader : Items) (left : Option Text) → TakesTo end place front rest items more reader left → HasWhole place front items (EndsTo end more)
 takes_whole ends.Full place front rest items more reader left t =
-    record { behind = []; ending = End; stream = subst (λ (b : Text). IsStream place b (items ++ []) End) (append-nil front) (spells_stream place (place_of reader) front [] items [] End t.0 refl); holds = tt }
-takes_whole ends.Last place front rest items more reader left t = record { behind = t.behind; ending = t.ending; stream = t.stream; holds = tt }
-takes_whole (ends.Stopped who why) place front rest items more reader left t = record { behind = t.behind; ending = t.ending; stream = t.stream; holds = t.holds }
+    record { behind = []; ending = End; stream = subst (λ (b : Text). IsStream place b (items ++ []) End) (append-nil front) (spells_stream place (place_of reader) front [] items [] End t.0 refl); holds = refl }
+takes_whole ends.Last place front rest items more reader left t = record { behind = t.behind; ending = t.ending; stream = t.stream; holds = t.holds }
+takes_whole (ends.Stopped who why) place front rest items more reader left t = record { behind = t.0.behind; ending = t.0.ending; stream = t.0.stream; holds = t.0.holds }
+
+-- no more of them than were to be read
+ends_few : (end : GroupEnd) (more : ℕ) (behind : List Item) → EndsTo end more behind → length behind ≤ more
+ends_few ends.Full more behind e = omega (arith, ap length e)
+ends_few ends.Last more behind e = omega (arith, ap length e)
+ends_few (ends.Stopped who why) more behind e = e.2
 
 -- a group that was read behind others
 pub takes_joined : (bytes : Text) (answered count m0 m1 m2 : ℕ) (reader next : Items) (left left' : Option Text) (t : TakesSome ends.Full 0 bytes answered m0 reader left) → TakesSome ends.Full (place_of reader) t.2.rest count m1 next left'
@@ -96,7 +102,39 @@ from_taken before left left' bytes all ending done ahead items rest answered cou
       holds = f w.behind w.holds;
     }
 
+-- how many items were taken up to there
+pub few_taken : (before left left' : Option Text) (bytes : Text) (status limit answered count m0 more : ℕ) (reader next : Items) (end : GroupEnd) → before ≡ Some bytes → answered + count ≤ limit → more ≡ limit - answered - count
+    → (t : TakesSome ends.Full 0 bytes answered m0 reader left) → TakesSome end (place_of reader) t.2.rest count more next left' → (status ≡ 72 → (who : Option ℕ) × (end ≡ ends.Stopped who whys.More)) → TakesFew status limit before left'
+few_taken before left left' bytes status limit answered count m0 more reader next end is few room t u only =
+    let w = takes_whole end (place_of reader) u.2.front u.2.rest u.0 more next left' u.2.holds in
+    let front = t.2.front ++ u.2.front in
+    let behind_few = ends_few end more w.behind w.holds in record {
+      taken = front;
+      rest = u.2.rest;
+      before_is = is ∙ ap (λ (b : Text). Some b) (t.2.split ∙ ap (λ (b : Text). t.2.front ++ b) u.2.split ∙ sym (append_assoc t.2.front u.2.front u.2.rest));
+      after_is = u.2.left_is;
+      items = t.0 ++ (u.0 ++ w.behind);
+      ending = w.ending;
+      stream = spells_stream 0 (place_of reader) t.2.front u.2.front t.0 (u.0 ++ w.behind) w.ending t.2.holds.0 w.stream;
+      few = omega (arith, length-append t.0 (u.0 ++ w.behind), length-append u.0 w.behind, behind_few, t.1, u.1, few, room);
+      more = λ e.
+          let o = only e in
+          let h = (subst (λ (end : GroupEnd). TakesTo end (place_of reader) u.2.front u.2.rest u.0 more next left') o.1 u.2.holds).1 refl in (
+            t.2.front,
+            u.2.front,
+            t.0,
+            refl,
+            h.2,
+            subst (λ (b : Text). IsStream 0 b t.0 End) (append-nil t.2.front) (subst (λ (l : List Item). IsStream 0 (t.2.front ++ []) l End) (append-nil t.0) (spells_stream 0 (place_of reader) t.2.front [] t.0 [] End t.2.holds.0 refl)),
+            omega (arith, t.1, u.1, ap length h.0, h.1, few, room),
+          );
+    }
+
 -- nothing was taken
+pub few_none : (before : Option Text) (bytes : Text) (status limit : ℕ) → before ≡ Some bytes → (status ≡ 72 → ⊥) → TakesFew status limit before before
+few_none before bytes status limit is other =
+    record { taken = []; rest = bytes; before_is = is; after_is = is; items = []; ending = End; stream = refl; few = omega arith; more = λ e. absurd (other e) }
+
 pub nothing_taken : (before : Option Text) (bytes : Text) (P : List Item → Type 0) → before ≡ Some bytes → P [] → FromTaken before before P
 nothing_taken before bytes P is p = record { taken = []; rest = bytes; before_is = is; after_is = is; items = []; ending = End; stream = refl; holds = p }
 
@@ -125,6 +163,23 @@ input_only whys.NoList is = absurd (omega (arith, is))
 input_only (whys.At name) is = absurd (omega (arith, is))
 input_only whys.There is = absurd (omega (arith, is))
 input_only whys.Absent is = absurd (omega (arith, is))
+
+-- and so has status 72
+pub more_only : (why : Why) → status_of_why why ≡ 72 → why ≡ whys.More
+more_only whys.More is = refl
+more_only whys.Input is = absurd (omega (arith, is))
+more_only (whys.Bad at) is = absurd (omega (arith, is))
+more_only (whys.Short at) is = absurd (omega (arith, is))
+more_only whys.Memory is = absurd (omega (arith, is))
+more_only whys.Disk is = absurd (omega (arith, is))
+more_only whys.Usage is = absurd (omega (arith, is))
+more_only whys.Words is = absurd (omega (arith, is))
+more_only whys.Long is = absurd (omega (arith, is))
+more_only whys.Clock is = absurd (omega (arith, is))
+more_only whys.NoList is = absurd (omega (arith, is))
+more_only (whys.At name) is = absurd (omega (arith, is))
+more_only whys.There is = absurd (omega (arith, is))
+more_only whys.Absent is = absurd (omega (arith, is))
 
 abbrev why_in : StopLine → Why
 why_in None = whys.Usage

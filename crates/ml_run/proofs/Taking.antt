@@ -1,5 +1,5 @@
 -- What a group takes from the source.
-use Rattle.std.proofs.Common.{◌≡◌, ℕ, ◌+◌, ◌<◌, List, [], ◌∷◌, ◌++◌, length, Option, Some, None, ap, sym, refl, subst, ◌∙◌, arith, append_assoc, length-append}
+use Rattle.std.proofs.Common.{◌≡◌, inl, inr, ℕ, ◌+◌, ◌<◌, ◌≤◌, List, [], ◌∷◌, ◌++◌, length, Option, Some, None, Err, ap, sym, refl, subst, ◌∙◌, arith, append_assoc, length-append}
 use Rattle.std.specs.Option.{option_to_list}
 use Rattle.std.proofs.lemmas.List.{append-nil}
 use Rattle.ml_base.specs.Bytes.{Text}
@@ -11,8 +11,8 @@ use Rattle.ml_ending.specs.declared.lines.Why.{Why}
 use Rattle.ml_ending.specs.declared.lines.Why.TheVariants as whys
 use Rattle.ml_stream.specs.declared.stream.StreamError.{StreamError}
 use Rattle.ml_stream.specs.declared.stream.StreamError.TheVariants.{Bad, Short, Fault, Memory}
-use Rattle.ml_stream.specs.Stream.{got, StreamEnd, End, IsStream, item_at}
-use Rattle.ml_stream.specs.Reading.{Breaks, IsNoItem}
+use Rattle.ml_stream.specs.Stream.{got, Read, StreamEnd, End, Broken, IsStream, behind_letter, elements_at, item_at, letter_of}
+use Rattle.ml_stream.specs.Reading.{Breaks, IsNoItem, Tells}
 use Rattle.ml_stream.specs.Items.{HasLeft, place_of, ahead_of}
 use Rattle.ml_run.specs.Stops.{why_of_stream}
 use Rattle.ml_run.specs.Groups.{Spells, TakesTo, Takes, IsPartReason}
@@ -55,34 +55,40 @@ takes_more end place mid bs front rest own rest' items more reader left behind e
   holds = f (front ++ own) (spells_stream place mid front own items behind ending spells stream);
 }
 
+err_item : (e : StreamError) (item : Item) (place : ℕ) (rest : Text) → ◌≡◌ {A = Read (Option Item)} (Err e) (got (Some item) place rest) → ⊥
+err_item e item place rest is = cc
+
+-- what is no item is none in part
+none_front : (place : ℕ) (front rest bs : Text) (e : StreamError) → bs ≡ front ++ rest → item_at place bs ≡ Err e → IsNoItem place front
+none_front place front rest bs e split is = let some = streams place front in go some.0 some.1 some.2
+  where
+    go : (items : List Item) (ending : StreamEnd) → IsStream place front items ending → IsNoItem place front
+    go [] ending s = (ending, s)
+    go (item ∷ items) ending s =
+        let one = item_local place front item s.0 s.1 s.2 in
+        let wide : item_at place bs ≡ got (Some item) s.0 (s.1 ++ rest) = ap (item_at place) (split ∙ ap (λ (b : Text). b ++ rest) one.split ∙ append_assoc one.one s.1 rest) ∙ one.all (s.1 ++ rest) in
+        absurd (err_item e item s.0 (s.1 ++ rest) (sym is ∙ wide))
+
+-- where an error was answered, what was taken holds no item
+none_taken : (e : StreamError) (place : ℕ) (bs : Text) (left' : Option Text) → Tells e (item_at place bs) → (b : Breaks e left' bs (IsNoItem place)) → IsNoItem place b.front
+none_taken (Bad at) place bs left' tells b = none_front place b.front b.rest bs (Bad at) b.split tells
+none_taken (Short at) place bs left' tells b = none_front place b.front b.rest bs (Short at) b.split tells
+none_taken Fault place bs left' tells b = b.cut (inl refl)
+none_taken Memory place bs left' tells b = b.cut (inr refl)
+
+stream_more : (e : StreamError) → why_of_stream e ≡ whys.More → ⊥
+stream_more (Bad at) is = let bad : whys.Bad at ≡ whys.More = is in cc
+stream_more (Short at) is = let bad : whys.Short at ≡ whys.More = is in cc
+stream_more Fault is = let bad : whys.Input ≡ whys.More = is in cc
+stream_more Memory is = let bad : whys.Memory ≡ whys.More = is in cc
+
 -- an error was answered in place of an item
 pub takes_error : (e : StreamError) (place : ℕ) (bs : Text) (items : List Item) (more more' : ℕ) (reader new : Items) (left left' : Option Text) (t : Takes ends.Full place bs items more reader left)
-    → Breaks e left' t.rest (IsNoItem (place_of reader)) → Takes (ends.Stopped None (why_of_stream e)) place bs items more' new left'
-takes_error Fault place bs items more more' reader new left left' t b =
-    let none = b.cut refl in
-    takes_more (ends.Stopped None whys.Input) place (place_of reader) bs t.front t.rest b.front b.rest items more' new left' [] none.0 t.split t.holds.0 b.split b.left_is none.1
-    (λ front s. record { behind = []; ending = none.0; stream = s; holds = (tt, λ e. refl) })
-takes_error Memory place bs items more more' reader new left left' t b =
-    let some = streams (place_of reader) b.front in
-    takes_more (ends.Stopped None whys.Memory) place (place_of reader) bs t.front t.rest b.front b.rest items more' new left' some.0 some.1 t.split t.holds.0 b.split b.left_is some.2
-    (λ front s. record { behind = some.0; ending = some.1; stream = s; holds = (tt, λ e. absurd (memory_input e)) })
-  where
-    memory_input : whys.Memory ≡ whys.Input → ⊥
-    memory_input e = cc
-takes_error (Bad at) place bs items more more' reader new left left' t b =
-    let some = streams (place_of reader) b.front in
-    takes_more (ends.Stopped None (whys.Bad at)) place (place_of reader) bs t.front t.rest b.front b.rest items more' new left' some.0 some.1 t.split t.holds.0 b.split b.left_is some.2
-    (λ front s. record { behind = some.0; ending = some.1; stream = s; holds = (tt, λ e. absurd (bad_input e)) })
-  where
-    bad_input : whys.Bad at ≡ whys.Input → ⊥
-    bad_input e = cc
-takes_error (Short at) place bs items more more' reader new left left' t b =
-    let some = streams (place_of reader) b.front in
-    takes_more (ends.Stopped None (whys.Short at)) place (place_of reader) bs t.front t.rest b.front b.rest items more' new left' some.0 some.1 t.split t.holds.0 b.split b.left_is some.2
-    (λ front s. record { behind = some.0; ending = some.1; stream = s; holds = (tt, λ e. absurd (short_input e)) })
-  where
-    short_input : whys.Short at ≡ whys.Input → ⊥
-    short_input e = cc
+    → Tells e (item_at (place_of reader) t.rest) → Breaks e left' t.rest (IsNoItem (place_of reader)) → Takes (ends.Stopped None (why_of_stream e)) place bs items more' new left'
+takes_error e place bs items more more' reader new left left' t tells b =
+    let none = none_taken e (place_of reader) t.rest left' tells b in
+    takes_more (ends.Stopped None (why_of_stream e)) place (place_of reader) bs t.front t.rest b.front b.rest items more' new left' [] none.0 t.split t.holds.0 b.split b.left_is none.1
+    (λ front s. (record { behind = []; ending = none.0; stream = s; holds = (tt, λ is. refl, omega arith) }, λ is. absurd (stream_more e is)))
 
 -- the stream was at its end
 pub takes_last : (place : ℕ) (bs : Text) (items : List Item) (more more' : ℕ) (reader new : Items) (left left' : Option Text) (p : ℕ) (rest : Text) (t : Takes ends.Full place bs items more reader left)
@@ -90,7 +96,7 @@ pub takes_last : (place : ℕ) (bs : Text) (items : List Item) (more more' : ℕ
 takes_last place bs items more more' reader new left left' p rest t is none has =
     let empty = no_bytes_end (place_of reader) p t.rest rest is in
     takes_more ends.Last place (place_of reader) bs t.front t.rest [] rest items more' new left' [] End t.split t.holds.0 (empty.0 ∙ sym empty.1) (left_own (place_of new) (ahead_of new) left' rest none has) refl
-    (λ front s. record { behind = []; ending = End; stream = s; holds = tt })
+    (λ front s. record { behind = []; ending = End; stream = s; holds = refl })
 
 -- the next item was read
 pub takes_next : (place : ℕ) (bs : Text) (items : List Item) (more more' : ℕ) (reader new : Items) (left left' : Option Text) (item : Item) (rest : Text) (t : Takes ends.Full place bs items more reader left)
@@ -107,6 +113,9 @@ takes_next place bs items more more' reader new left left' item rest t is none h
 not_input : (why : Why) → IsPartReason why → why ≡ whys.Input → ⊥
 not_input why part is = subst IsPartReason is part
 
+not_more : (why : Why) → IsPartReason why → why ≡ whys.More → ⊥
+not_more why part is = subst IsPartReason is part
+
 -- and refused
 pub takes_refused : (place : ℕ) (bs : Text) (items : List Item) (more more' : ℕ) (reader new : Items) (left left' : Option Text) (item : Item) (rest : Text) (why : Why) (t : Takes ends.Full place bs items more reader left)
     → item_at (place_of reader) t.rest ≡ got (Some item) (place_of new) rest → ahead_of new ≡ None → HasLeft new left' rest → 0 < more' → IsPartReason why → Takes (ends.Stopped (Some item.number) why) place bs items more' new left'
@@ -115,31 +124,53 @@ takes_refused place bs items more more' reader new left left' item rest why t is
     let alone : item_at (place_of reader) one.one ≡ got (Some item) (place_of new) [] = ap (item_at (place_of reader)) (sym (append-nil one.one)) ∙ one.all [] in
     takes_more (ends.Stopped (Some item.number) why) place (place_of reader) bs t.front t.rest one.one rest items more' new left' (item ∷ []) End t.split t.holds.0 one.split (left_own (place_of new) (ahead_of new) left' rest none has)
     (place_of new, [], alone, refl)
-    (λ front s. record { behind = item ∷ []; ending = End; stream = s; holds = (number_cut more' item (item ∷ []) [] some refl, λ e. absurd (not_input why part e)) })
+    (λ front s. (
+      record { behind = item ∷ []; ending = End; stream = s; holds = (number_cut more' item (item ∷ []) [] some refl, λ e. absurd (not_input why part e), omega (arith, some)) },
+      λ e. absurd (not_more why part e),
+    ))
+
+none_or : {A : Type 0} (o : Option A) (P : Option A → Type 0) → P None → ((a : A) → P (Some a)) → P o
+none_or None P none some = none
+none_or (Some a) P none some = some a
+
+-- a byte is no item
+byte_none : (place b : ℕ) → IsNoItem place (b ∷ [])
+unfolding elements_at
+byte_none place b =
+    let h = none_or (letter_of b) (λ o. (e : StreamError) × (behind_letter place o [] ≡ Err e)) (Bad place, refl) (λ letter. (Short (place + 1), refl)) in
+    (Broken h.0, h.1)
+
+one_none : (place : ℕ) (o : Option ℕ) → IsNoItem place (option_to_list o)
+one_none place None = (End, refl)
+one_none place (Some b) = byte_none place b
+
+one_byte : (o : Option ℕ) → length (option_to_list o) ≤ 1
+one_byte None = omega arith
+one_byte (Some b) = omega arith
 
 -- no item was to be read
-more_input : whys.More ≡ whys.Input → ⊥
-more_input e = cc
-
 pub takes_byte : (place : ℕ) (bs : Text) (new : Items) (left' : Option Text) → HasLeft new left' bs → Takes (ends.Stopped None whys.More) place bs [] 0 new left'
 takes_byte place bs new left' has =
-    let some = streams place (option_to_list (ahead_of new)) in record {
+    let none = one_none place (ahead_of new) in record {
       front = option_to_list (ahead_of new);
       rest = has.own;
       split = has.is_all;
       left_is = has.is_left;
-      holds = record { behind = some.0; ending = some.1; stream = some.2; holds = (tt, λ e. absurd (more_input e)) };
+      holds = (record { behind = []; ending = none.0; stream = none.1; holds = (tt, λ e. refl, omega arith) }, λ e. (refl, refl, one_byte (ahead_of new)));
     }
 
 pub takes_end : (place : ℕ) (bs : Text) (new : Items) (left' : Option Text) → HasLeft new left' bs → Takes ends.Last place bs [] 0 new left'
 takes_end place bs new left' has =
-    let some = streams place (option_to_list (ahead_of new)) in record {
+    let none = one_none place (ahead_of new) in record {
       front = option_to_list (ahead_of new);
       rest = has.own;
       split = has.is_all;
       left_is = has.is_left;
-      holds = record { behind = some.0; ending = some.1; stream = some.2; holds = tt };
+      holds = record { behind = []; ending = none.0; stream = none.1; holds = refl };
     }
+
+input_more : whys.Input ≡ whys.More → ⊥
+input_more e = cc
 
 pub takes_nothing : (place : ℕ) (bs : Text) (new : Items) (left' : Option Text) → ahead_of new ≡ None → HasLeft new left' bs → Takes (ends.Stopped None whys.Input) place bs [] 0 new left'
 takes_nothing place bs new left' none has = record {
@@ -147,7 +178,7 @@ takes_nothing place bs new left' none has = record {
   rest = bs;
   split = refl;
   left_is = left_own (place_of new) (ahead_of new) left' bs none has;
-  holds = record { behind = []; ending = End; stream = refl; holds = (tt, λ e. refl) };
+  holds = (record { behind = []; ending = End; stream = refl; holds = (tt, λ e. refl, omega arith) }, λ e. absurd (input_more e));
 }
 
 -- a group has no items yet

@@ -1,5 +1,5 @@
 -- How a new list is made.
-use Rattle.std.specs.Prelude.{◌≡◌, ◌≢◌, ◌⊎◌, ℕ, Bool, ◌==◌, ◌||◌, List, [], ◌∷◌, ◌++◌, codes, Option, Some, None}
+use Rattle.std.specs.Prelude.{◌≡◌, ◌≢◌, ◌⊎◌, ℕ, Bool, ◌==◌, ◌||◌, IsSome, List, [], ◌∷◌, ◌++◌, codes, Option, Some, None}
 use Rattle.ml_base.specs.Bytes.{Text}
 use Rattle.ml_base.specs.Dir.{Dir}
 use Rattle.ml_base.specs.declared.puts.Put.{Put}
@@ -22,11 +22,15 @@ made_text c = codes "made " ++ c.local ++ 64 ∷ c.host ++ 10 ∷ []
 abbrev pub IsOneOf : Option Dir → List Put → Option Dir → Type 0
 IsOneOf before txn dir = (dir ≡ before) ⊎ (dir ≡ with_txn txn before)
 
--- The directory is the one before or the whole new one, and some first bytes of one stop line are out at most; or it is the
--- new one, and some first bytes of the line that tells of it are out.
+-- there was a directory, and the whole new one is there
+abbrev pub IsNew : Option Dir → List Put → Option Dir → Type 0
+IsNew before txn dir = IsSome before × (dir ≡ with_txn txn before)
+
+-- The directory is the one before or the whole new one, and some first bytes of one stop line are out at most; or the new one is
+-- there, and some first bytes of the line that tells of it are out.
 abbrev pub IsMaking : Option Dir → List Put → Text → Text → Contents → Text → Type 0
 IsMaking dir txn line before left out =
-    (IsOneOf dir txn (directory left) × SaysAtMost before out) ⊎ ((directory left ≡ with_txn txn dir) × TellsAtMost line before out)
+    (IsOneOf dir txn (directory left) × SaysAtMost before out) ⊎ (IsNew dir txn (directory left) × TellsAtMost line before out)
 
 -- Why a list is not made: there is a configuration in the directory, which stays as it is; the log has no directory; or the disk
 -- failed, or memory was wanting.
@@ -37,10 +41,10 @@ IsUnmade whys.Memory dir txn held = IsOneOf dir txn held
 IsUnmade whys.Disk dir txn held = IsOneOf dir txn held
 IsUnmade _ dir txn held = ⊥
 
--- the list was made, and its line is out
+-- the list was made and is there, and its line is out
 pub record IsMade (told : Type 0) (status : ℕ) (dir : Option Dir) (txn : List Put) (line before : Text) (held : Contents) (output : Text) : Type 0 where
   pub status_is : status ≡ 0
-  pub made : directory held ≡ with_txn txn dir
+  pub made : IsNew dir txn (directory held)
   pub put : told → output ≡ before ++ line
 
 -- it was not, and a whole stop line tells why

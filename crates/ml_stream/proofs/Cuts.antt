@@ -1,15 +1,16 @@
 -- What was taken of a stream that is read no further.
-use Rattle.std.proofs.Common.{◌≡◌, ℕ, ◌+◌, ◌<◌, [], ◌∷◌, ◌++◌, length, Option, Some, None, Result, Ok, Err, OnErr, IfErr, ap, sym, refl, ◌∙◌, arith, append_assoc}
+use Rattle.std.proofs.Common.{◌≡◌, inl, inr, ⊎_elim, ℕ, ◌+◌, ◌<◌, Bool, true, false, eqb, [], ◌∷◌, ◌++◌, length, Option, Some, None, Result, Ok, Err, OnErr, IfErr, ap, sym, refl, ◌∙◌, arith, append_assoc}
 use Rattle.std.specs.Result.{IsErrAnd}
 use Rattle.std.specs.Option.{option_to_list}
+use Rattle.std.proofs.lemmas.Bool.{eqb-true, eqb-false}
 use Rattle.std.proofs.lemmas.List.{append-nil}
 use Rattle.ml_base.specs.Bytes.{Text}
 use Rattle.ml_plain.specs.declared.Item.{Item}
 use Rattle.ml_stream.specs.declared.reader.Letter.{Letter}
 use Rattle.ml_stream.specs.declared.stream.StreamError.{StreamError}
 use Rattle.ml_stream.specs.declared.stream.StreamError.TheVariants.{Bad, Short, Fault, Memory}
-use Rattle.ml_stream.specs.Stream.{Got, Read, got, and_then, length_at, content_at, comma_at, closed, element_at, item_number_of, moment_of, any_bytes, deliver_at, act_at, elements_at, letter_of, some_item, Broken}
-use Rattle.ml_stream.specs.Reading.{Stands, Breaks, Fails, IsCut, IsNoItem}
+use Rattle.ml_stream.specs.Stream.{Got, Read, got, and_then, length_at, bytes_at, content_at, comma_at, closed, element_at, item_number_of, moment_of, any_bytes, deliver_at, act_at, elements_at, letter_of, some_item, Broken}
+use Rattle.ml_stream.specs.Reading.{Stands, Breaks, Fails, IsCut, IsHindrance, IsNoItem, IsUnfinished}
 use Rattle.ml_stream.proofs.Locality.{IsLocal, length_local, content_local, element_local}
 use Rattle.ml_stream.proofs.Elements.{own_is, content_short, item_letter, sender_then, recipient_then, message_then}
 
@@ -26,15 +27,12 @@ empty : (xs : Text) → length xs < 1 → xs ≡ []
 empty [] e = refl
 empty (x ∷ xs) e = absurd (omega (arith, e))
 
--- errors that are no fault
-pub bad_not : (at : ℕ) → Bad at ≡ Fault → ⊥
-bad_not at is = cc
+-- errors that tell of the stream
+pub bad_not : (at : ℕ) → IsHindrance (Bad at) → ⊥
+bad_not at h = ⊎_elim (λ (e : Bad at ≡ Fault). cc) (λ (e : Bad at ≡ Memory). cc) h
 
-pub short_not : (at : ℕ) → Short at ≡ Fault → ⊥
-short_not at is = cc
-
-pub memory_not : (e : StreamError) → e ≡ Memory → e ≡ Fault → ⊥
-memory_not e is fault = let bad : Memory ≡ Fault = sym is ∙ fault in cc
+pub short_not : (at : ℕ) → IsHindrance (Short at) → ⊥
+short_not at h = ⊎_elim (λ (e : Short at ≡ Fault). cc) (λ (e : Short at ≡ Memory). cc) h
 
 -- what is left where no byte was read ahead
 pub left_own : (place : ℕ) (ahead : Option ℕ) (left : Option Text) (bs : Text) → ahead ≡ None → Stands place ahead left bs → left ≡ Some bs
@@ -50,7 +48,7 @@ pub breaks_none : (e : StreamError) (left : Option Text) (bs : Text) (P : Text �
 breaks_none e left bs P is p = record { front = []; rest = bs; split = refl; left_is = is; cut = λ fault. p }
 
 -- a byte was taken, or the stream was at its end
-pub breaks_byte : (e : StreamError) (place : ℕ) (ahead b : Option ℕ) (left : Option Text) (bs rest : Text) (P : Text → Type 0) → bs ≡ option_to_list b ++ rest → ahead ≡ None → Stands place ahead left rest → (e ≡ Fault → ⊥) → Breaks e left bs P
+pub breaks_byte : (e : StreamError) (place : ℕ) (ahead b : Option ℕ) (left : Option Text) (bs rest : Text) (P : Text → Type 0) → bs ≡ option_to_list b ++ rest → ahead ≡ None → Stands place ahead left rest → (IsHindrance e → ⊥) → Breaks e left bs P
 breaks_byte e place ahead b left bs rest P split none s other = record { front = option_to_list b; rest = rest; split = split; left_is = left_own place ahead left rest none s; cut = λ fault. absurd (other fault) }
 
 -- the same within a value that was read in part
@@ -67,7 +65,7 @@ pub breaks_map : (e : StreamError) (left : Option Text) (bs : Text) (Q P : Text 
 breaks_map e left bs Q P b f = record { front = b.front; rest = b.rest; split = b.split; left_is = b.left_is; cut = λ fault. f b.front (b.cut fault) }
 
 -- all was taken
-pub breaks_all : (e : StreamError) (left : Option Text) (bs : Text) (P : Text → Type 0) → left ≡ Some [] → (e ≡ Fault → ⊥) → Breaks e left bs P
+pub breaks_all : (e : StreamError) (left : Option Text) (bs : Text) (P : Text → Type 0) → left ≡ Some [] → (IsHindrance e → ⊥) → Breaks e left bs P
 breaks_all e left bs P is other = record { front = bs; rest = []; split = sym (append-nil bs); left_is = is; cut = λ fault. absurd (other fault) }
 
 -- the first of two values was read in part
@@ -84,21 +82,50 @@ breaks_then {A} {B} e left bs rest f h value place local is b =
 
 -- a value was read, and no more, for another reason than a fault
 pub breaks_got : {A : Type 0} (e : StreamError) (place : ℕ) (ahead : Option ℕ) (left : Option Text) (bs rest : Text) (f : Text → Read A) (value : A) (P : Text → Type 0) → IsLocal f → f bs ≡ got value place rest
-    → ahead ≡ None → Stands place ahead left rest → (e ≡ Fault → ⊥) → Breaks e left bs P
+    → ahead ≡ None → Stands place ahead left rest → (IsHindrance e → ⊥) → Breaks e left bs P
 breaks_got {A} e place ahead left bs rest f value P local is none s other =
     let one = local bs (record { value = value; place = place; rest = rest }) is in
     record { front = one.one; rest = rest; split = one.split; left_is = left_own place ahead left rest none s; cut = λ fault. absurd (other fault) }
 
+-- the same where memory was wanting behind it
+pub breaks_read : {A : Type 0} (e : StreamError) (place : ℕ) (ahead : Option ℕ) (left : Option Text) (bs rest : Text) (f : Text → Read A) (value : A) (P : Text → Type 0) → IsLocal f → f bs ≡ got value place rest
+    → ahead ≡ None → Stands place ahead left rest → ((front : Text) → f front ≡ got value place [] → P front) → Breaks e left bs P
+breaks_read {A} e place ahead left bs rest f value P local is none s all =
+    let one = local bs (record { value = value; place = place; rest = rest }) is in
+    record { front = one.one; rest = rest; split = one.split; left_is = left_own place ahead left rest none s; cut = λ h. all one.one (ap f (sym (append-nil one.one)) ∙ one.all []) }
+
+-- a length was read, and nothing behind it
+pub length_unfinished : (start limit n p : ℕ) (front : Text) → length_at start limit 0 0 start front ≡ got n p [] → IsUnfinished (content_at start limit front)
+length_unfinished start limit n p front is = go (eqb n 0) refl
+  where
+    go : (t : Bool) → eqb n 0 ≡ t → IsUnfinished (content_at start limit front)
+    go true z = inr ([], p + 0, ap (λ (r : Read ℕ). and_then r (bytes_at start)) (is ∙ ap (λ (m : ℕ). got m p []) (eqb-true n 0 z)))
+    go false z = inl (Short start, content_short start limit p n front [] is (omega (arith, eqb-false n 0 z)))
+
+-- an element isn't read whose content isn't finished
+pub element_unfinished : {X : Type 0} (limit start : ℕ) (read : Text → Option X) (t : Text) → IsUnfinished (content_at start limit t) → Fails (element_at limit read start t)
+element_unfinished {X} limit start read t u = ⊎_elim
+    (λ f. (f.0, ap (λ (r : Read Text). and_then r (λ content. closed start (read content.value) content.place content.rest)) f.1))
+    (λ g. let f = unclosed (read g.0) g.1 in (f.0, ap (λ (r : Read Text). and_then r (λ content. closed start (read content.value) content.place content.rest)) g.2 ∙ f.1))
+    u
+  where
+    unclosed : (o : Option X) (place : ℕ) → Fails (closed start o place [])
+    unclosed None place = (Bad start, refl)
+    unclosed (Some x) place = (Short start, refl)
+
+pub breaks_element : {X : Type 0} (e : StreamError) (limit start : ℕ) (read : Text → Option X) (left : Option Text) (bs : Text) → Breaks e left bs (λ t. IsUnfinished (content_at start limit t)) → Breaks e left bs (λ t. Fails (element_at limit read start t))
+breaks_element e limit start read left bs b = breaks_map e left bs (λ t. IsUnfinished (content_at start limit t)) (λ t. Fails (element_at limit read start t)) b (λ t u. element_unfinished limit start read t u)
+
 -- a content was read in part
 pub breaks_content : (e : StreamError) (start limit p n size : ℕ) (ahead : Option ℕ) (left after : Option Text) (bs own : Text) → length_at start limit 0 0 start bs ≡ got n p own → ahead ≡ None → (s : Stands p ahead left own) → size ≡ n → IsCut size s.own after
-    → Breaks e after bs (λ t. Fails (content_at start limit t))
+    → Breaks e after bs (λ t. IsUnfinished (content_at start limit t))
 breaks_content e start limit p n size ahead left after bs own is none s same c =
     let one = length_local start limit 0 0 start bs (record { value = n; place = p; rest = own }) is in record {
       front = one.one ++ c.front;
       rest = c.rest;
       split = one.split ∙ ap (λ (t : Text). one.one ++ t) (own_is p ahead left own none s ∙ c.split) ∙ sym (append_assoc one.one c.front c.rest);
       left_is = c.left_is;
-      cut = λ fault. (Short start, content_short start limit p n (one.one ++ c.front) c.front (one.all c.front) (omega (arith, c.few, same)));
+      cut = λ fault. inl (Short start, content_short start limit p n (one.one ++ c.front) c.front (one.all c.front) (omega (arith, c.few, same)));
     }
 
 -- a content was read, and the comma behind it wasn't

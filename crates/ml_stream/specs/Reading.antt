@@ -1,8 +1,8 @@
 -- What a reader has left of its stream, and what it reads.
-use Rattle.std.specs.Prelude.{◌≡◌, ℕ, ◌+◌, ◌^◌, ◌<◌, [], ◌++◌, length, Option, Some, None, Result, Ok, Err}
+use Rattle.std.specs.Prelude.{◌≡◌, ◌⊎◌, ℕ, ◌+◌, ◌^◌, ◌<◌, [], ◌++◌, length, Option, Some, None, Result, Ok, Err}
 use Rattle.std.specs.Option.{option_to_list}
 use Rattle.ml_base.specs.Bytes.{Text}
-use Rattle.ml_stream.specs.Stream.{Read, StreamEnd, IsStream}
+use Rattle.ml_stream.specs.Stream.{Read, StreamEnd, IsStream, got}
 use Rattle.ml_stream.specs.declared.stream.StreamError.{StreamError}
 use Rattle.ml_stream.specs.declared.stream.StreamError.TheVariants.{Bad, Short, Fault, Memory}
 
@@ -45,14 +45,22 @@ pub record IsCut (size : ℕ) (bs : Text) (left : Option Text) : Type 0 where
 abbrev pub Fails : {X : Type 0} → Read X → Type 0
 Fails read = (e : StreamError) × (read ≡ Err e)
 
+-- no value is read, or one behind which no byte is left
+abbrev pub IsUnfinished : {X : Type 0} → Read X → Type 0
+IsUnfinished {X} read = Fails read ⊎ ((value : X) × (place : ℕ) × (read ≡ got value place []))
+
 -- no whole item is at the front of these bytes
 abbrev pub IsNoItem : ℕ → Text → Type 0
 IsNoItem place bs = (ending : StreamEnd) × IsStream place bs [] ending
 
--- An error was answered: some bytes were taken from the front, and where the source failed, this holds of these alone.
+-- an error that doesn't tell of the stream: the source failed, or memory was wanting
+abbrev pub IsHindrance : StreamError → Type 0
+IsHindrance e = (e ≡ Fault) ⊎ (e ≡ Memory)
+
+-- An error was answered: some bytes were taken from the front, and where it doesn't tell of the stream, this holds of these alone.
 pub record Breaks (e : StreamError) (left : Option Text) (bs : Text) (P : Text → Type 0) : Type 0 where
   pub front : Text
   pub rest : Text
   pub split : bs ≡ front ++ rest
   pub left_is : left ≡ Some rest
-  pub cut : e ≡ Fault → P front
+  pub cut : IsHindrance e → P front

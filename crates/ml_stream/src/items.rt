@@ -41,8 +41,7 @@ impl Items {
     /// The next item, which is in its ranges, or None at the end of the stream. It takes no byte behind the item from the
     /// source, and memory for each of its parts as large as the part's length says, up to 32 MiB for a message.
     /// After an error it answers that error again and reads no more. `Bad` and `Short` come only where the stream is
-    /// so, and `Fault` only where the source's count of faults rose, and
-    /// then no whole item was taken. `Memory` is free.
+    /// so, and `Fault` only where the source's count of faults rose. `Memory` is free. With these two no whole item was taken.
     pub fn next<I: Source>(
         &mut self,
         alloc: Global,

@@ -5,7 +5,7 @@ ghost use Rattle.ml_base.specs.Bytes.{Text};
 ghost use Rattle.ml_base.specs.Name.{set_of};
 ghost use Rattle.ml_base.specs.Address.{address_of};
 ghost use Rattle.ml_stream.specs.Stream.{length_at, content_at, comma_at, element_at, item_number_of, moment_of, positive_within, key_of, any_bytes, add_at, remove_at, deliver_at, sent_at, floor_at, rekey_at, act_at, elements_at, item_at, letter_of};
-ghost use Rattle.ml_stream.specs.Reading.{Stands, Reads, Steps, Breaks, Fails, IsCut, IsNoItem};
+ghost use Rattle.ml_stream.specs.Reading.{Stands, Reads, Steps, Breaks, Fails, IsCut, IsNoItem, IsUnfinished};
 ghost use Rattle.ml_plain.specs.Items.{IsAct, IsItem};
 
 use crate::StreamError;
@@ -152,7 +152,7 @@ impl Reader {
         ensures read { (bs : List ℕ) → Stands self.old.place self.old.ahead (I.left input.old) bs →
             Reads result self.new.place self.new.ahead (I.left input.new) (content_at self.old.place limit bs) }
         ensures stops { (bs : List ℕ) → Stands self.old.place self.old.ahead (I.left input.old) bs →
-            IfErr result (λ e. Breaks e (I.left input.new) bs (λ t. Fails (content_at self.old.place limit t))) }
+            IfErr result (λ e. Breaks e (I.left input.new) bs (λ t. IsUnfinished (content_at self.old.place limit t))) }
         ensures ahead { OnOk result (self.new.ahead ≡ None) }
         ensures limit { IfOk result (λ text. length text ≤ limit) }
         ensures later { I.faults input.old ≤ I.faults input.new }

@@ -16,7 +16,7 @@ returns g c =
       complete = c.run-site.ensures.complete;
       moments = c.run-site.ensures.moments;
       at_rest = c.run-site.ensures.at_rest;
-      rest = λ all ending q b none one two. c.run-site.ensures.rest all ending q b none (λ e. one (keeps run status 71 is refl e)) (λ e. two (keeps run status 73 is refl e));
+      rest = λ none one two. c.run-site.ensures.rest none (λ e. one (keeps run status 71 is refl e)) (λ e. two (keeps run status 73 is refl e));
       taken = λ told all ending q b.
           let t = c.run-site.ensures.taken told all ending q b in
           record { taken = t.taken; rest = t.rest; before_is = t.before_is; after_is = t.after_is; items = t.items; ending = t.ending; stream = t.stream; holds = (t.holds.0, λ e. t.holds.1 (back run status 74 is (omega arith) e)) };
@@ -26,6 +26,10 @@ returns g c =
       named = λ t e. c.run-site.ensures.named t (back run status 75 is (omega arith) e);
       gate = λ some one two three. c.run-site.ensures.gate some (λ e. one (keeps run status 71 is refl e)) (λ e. two (keeps run status 73 is refl e)) (λ e. three (keeps run status 111 is refl e));
       nolist = λ told files found none. misses (IsTrue g.S.Site.tells_all) run status (g.S.Site.output c.args.site) (g.S.Site.output c.run-site.result.1) is (c.run-site.ensures.nolist told files found none);
+      takes = λ bytes left.
+          let t = c.run-site.ensures.few bytes left in
+          record { taken = t.taken; rest = t.rest; before_is = t.before_is; after_is = t.after_is; items = t.items; ending = t.ending; stream = t.stream; few = t.few; more = λ e. t.more (back run status 72 is (omega arith) e) };
       streamed = c.run-site.ensures.streamed;
+      answers = c.run-site.ensures.answers;
       syncs = c.run-site.ensures.syncs;
     }

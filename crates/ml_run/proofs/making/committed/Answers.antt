@@ -12,7 +12,7 @@ pub returns-in-Ok-clause-makes : goal.returns-in-Ok-clause-makes
 returns-in-Ok-clause-makes g c told =
     let start = site_of c.args.store in
     told_makes g.S.Site start (site_of c.in-Ok.store) c.told.result.1 (directory (g.S.Site.disk start).reads) c.args.txn.now c.args.line.now c.told.result.0 told
-    (λ t. at_site (λ s. g.S.Site.output s ≡ g.S.Site.output start) c.commit.result _ c.in-Ok.is (c.commit.ensures.keeps.output t)) (c.in-Ok.ensures.done told) c.told.ensures
+    (λ t. at_site (λ s. g.S.Site.output s ≡ g.S.Site.output start) c.commit.result _ c.in-Ok.is (c.commit.ensures.keeps.output t)) (c.commit.ensures.whole told) (c.in-Ok.ensures.done told) c.told.ensures
 
 pub returns-in-Ok-clause-moments : goal.returns-in-Ok-clause-moments
 returns-in-Ok-clause-moments g c t =
@@ -20,7 +20,7 @@ returns-in-Ok-clause-moments g c t =
     let changes = at_site (λ s. ChangesDirectory g.S.Site c.args.txn.now start s) c.commit.result _ c.in-Ok.is c.commit.ensures.directory in
     told_making g.S.Site start (site_of c.in-Ok.store) c.told.result.1 (directory (g.S.Site.disk start).reads) c.args.txn.now c.args.line.now c.told.result.0
     (commit_making g.S.Site start (site_of c.in-Ok.store) c.args.txn.now c.args.line.now changes t)
-    (at_site (λ s. g.S.Site.output s ≡ g.S.Site.output start) c.commit.result _ c.in-Ok.is (c.commit.ensures.keeps.output t)) (c.in-Ok.ensures.done (g.met.S.Site.all_has_reads t)) c.told.ensures t
+    (at_site (λ s. g.S.Site.output s ≡ g.S.Site.output start) c.commit.result _ c.in-Ok.is (c.commit.ensures.keeps.output t)) (c.commit.ensures.whole (g.met.S.Site.all_has_reads t)) (c.in-Ok.ensures.done (g.met.S.Site.all_has_reads t)) c.told.ensures t
 
 pub returns-in-Err-clause-makes : goal.returns-in-Err-clause-makes
 returns-in-Err-clause-makes g c told =

@@ -1,11 +1,11 @@
-use Rattle.std.proofs.Common.{◌∙◌, ap, sym, ◌≡◌, subst}
+use Rattle.std.proofs.Common.{inr, ◌∙◌, ap, sym, ◌≡◌, subst}
 use Rattle.ml_base.specs.Address.{address_of}
 use Rattle.ml_stream.proofs.Elements.{element_ok}
 use Rattle.ml_stream.specs.Reading.{Breaks, Fails}
 use Rattle.ml_stream.specs.Stream.{content_at, closed, element_at}
 use Rattle.ml_stream.specs.declared.stream.StreamError.{StreamError}
 use Rattle.ml_stream.specs.declared.stream.StreamError.TheVariants.{Bad, Memory}
-use Rattle.ml_stream.proofs.Cuts.{at_exit, breaks_first, breaks_got, breaks_comma, bad_not, memory_not}
+use Rattle.ml_stream.proofs.Cuts.{at_exit, breaks_element, breaks_got, breaks_comma, breaks_read, bad_not, element_unfinished}
 use Rattle.ml_stream.proofs.Locality.{content_local}
 use Rattle.ml_stream.proofs.reader.Reader.address.Goals as goal
 
@@ -19,7 +19,7 @@ pub returns-in_err-text-clause-stops : goal.returns-in_err-text-clause-stops
 returns-in_err-text-clause-stops g c bs s =
     at_exit c.from_residual.result (λ (e : StreamError). e ≡ c.in_err-text.field-0.0) (λ (e : StreamError). Breaks e (g.I.Source.left c.content.new.input) bs (λ t. Fails (element_at 400 address_of c.args.self.now.place t))) c.from_residual.ensures.1
     (λ e is. subst (λ (x : StreamError). Breaks x (g.I.Source.left c.content.new.input) bs (λ t. Fails (element_at 400 address_of c.args.self.now.place t))) (sym is)
-    (breaks_first c.in_err-text.field-0.0 (g.I.Source.left c.content.new.input) bs (λ t. content_at c.args.self.now.place 400 t) (λ content. closed c.args.self.now.place (address_of content.value) content.place content.rest) (c.in_err-text.ensures.stops bs s)))
+    (breaks_element c.in_err-text.field-0.0 400 c.args.self.now.place address_of (g.I.Source.left c.content.new.input) bs (c.in_err-text.ensures.stops bs s)))
 
 pub returns-in_default-clause-stops : goal.returns-in_default-clause-stops
 returns-in_default-clause-stops g c bs s =
@@ -30,7 +30,7 @@ pub returns-in_err-value-clause-stops : goal.returns-in_err-value-clause-stops
 returns-in_err-value-clause-stops g c bs s =
     let h = c.in_ok-text.ensures.read bs s in
     at_exit c.from_residual-in_err-value.result (λ (e : StreamError). e ≡ Memory) (λ (e : StreamError). Breaks e (g.I.Source.left c.content.new.input) bs (λ t. Fails (element_at 400 address_of c.args.self.now.place t))) c.from_residual-in_err-value.ensures.1
-    (λ e is. breaks_got e c.content.new.self.place c.content.new.self.ahead (g.I.Source.left c.content.new.input) bs h.0 (λ t. content_at c.args.self.now.place 400 t) c.in_ok-text.text (λ t. Fails (element_at 400 address_of c.args.self.now.place t)) (content_local c.args.self.now.place 400) h.1 c.in_ok-text.ensures.ahead h.2 (memory_not e is))
+    (λ e is. breaks_read e c.content.new.self.place c.content.new.self.ahead (g.I.Source.left c.content.new.input) bs h.0 (λ t. content_at c.args.self.now.place 400 t) c.in_ok-text.text (λ t. Fails (element_at 400 address_of c.args.self.now.place t)) (content_local c.args.self.now.place 400) h.1 c.in_ok-text.ensures.ahead h.2 (λ front got. element_unfinished 400 c.args.self.now.place address_of front (inr (c.in_ok-text.text, c.content.new.self.place, got))))
 
 pub returns-in_err-comma-clause-stops : goal.returns-in_err-comma-clause-stops
 returns-in_err-comma-clause-stops g c bs s =

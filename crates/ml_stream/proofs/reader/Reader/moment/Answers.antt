@@ -5,7 +5,7 @@ use Rattle.ml_stream.proofs.Elements.{element_ok}
 use Rattle.ml_stream.specs.Reading.{Breaks, Fails}
 use Rattle.ml_stream.specs.declared.stream.StreamError.{StreamError}
 use Rattle.ml_stream.specs.declared.stream.StreamError.TheVariants.{Bad}
-use Rattle.ml_stream.proofs.Cuts.{at_exit, breaks_first, breaks_got, breaks_comma, bad_not}
+use Rattle.ml_stream.proofs.Cuts.{at_exit, breaks_element, breaks_got, breaks_comma, bad_not}
 use Rattle.ml_stream.proofs.Locality.{content_local}
 use Rattle.ml_stream.proofs.reader.Reader.moment.Goals as goal
 
@@ -24,7 +24,7 @@ pub returns-in_err-text-clause-stops : goal.returns-in_err-text-clause-stops
 returns-in_err-text-clause-stops g c bs s =
     at_exit c.from_residual.result (λ (e : StreamError). e ≡ c.in_err-text.field-0.0) (λ (e : StreamError). Breaks e (g.I.Source.left c.content.new.input) bs (λ t. Fails (element_at 12 moment_of c.args.self.now.place t))) c.from_residual.ensures.1
     (λ e is. subst (λ (x : StreamError). Breaks x (g.I.Source.left c.content.new.input) bs (λ t. Fails (element_at 12 moment_of c.args.self.now.place t))) (sym is)
-    (breaks_first c.in_err-text.field-0.0 (g.I.Source.left c.content.new.input) bs (λ t. content_at c.args.self.now.place 12 t) (λ content. closed c.args.self.now.place (moment_of content.value) content.place content.rest) (c.in_err-text.ensures.stops bs s)))
+    (breaks_element c.in_err-text.field-0.0 12 c.args.self.now.place moment_of (g.I.Source.left c.content.new.input) bs (c.in_err-text.ensures.stops bs s)))
 
 pub returns-in_default-clause-stops : goal.returns-in_default-clause-stops
 returns-in_default-clause-stops g c bs s =

@@ -3,7 +3,7 @@ use Rattle.ml_stream.specs.Stream.{any_bytes, content_at, closed, element_at}
 use Rattle.ml_stream.proofs.Elements.{element_ok}
 use Rattle.ml_stream.specs.Reading.{Breaks, Fails}
 use Rattle.ml_stream.specs.declared.stream.StreamError.{StreamError}
-use Rattle.ml_stream.proofs.Cuts.{at_exit, breaks_first, breaks_comma}
+use Rattle.ml_stream.proofs.Cuts.{at_exit, breaks_element, breaks_comma}
 use Rattle.ml_stream.proofs.reader.Reader.text.Goals as goal
 
 pub returns-clause-read : goal.returns-clause-read
@@ -16,7 +16,7 @@ pub returns-in_err-text-clause-stops : goal.returns-in_err-text-clause-stops
 returns-in_err-text-clause-stops g c bs s =
     at_exit c.from_residual.result (λ (e : StreamError). e ≡ c.in_err-text.field-0.0) (λ (e : StreamError). Breaks e (g.I.Source.left c.content.new.input) bs (λ t. Fails (element_at c.args.limit any_bytes c.args.self.now.place t))) c.from_residual.ensures.1
     (λ e is. subst (λ (x : StreamError). Breaks x (g.I.Source.left c.content.new.input) bs (λ t. Fails (element_at c.args.limit any_bytes c.args.self.now.place t))) (sym is)
-    (breaks_first c.in_err-text.field-0.0 (g.I.Source.left c.content.new.input) bs (λ t. content_at c.args.self.now.place c.args.limit t) (λ content. closed c.args.self.now.place (any_bytes content.value) content.place content.rest) (c.in_err-text.ensures.stops bs s)))
+    (breaks_element c.in_err-text.field-0.0 c.args.limit c.args.self.now.place any_bytes (g.I.Source.left c.content.new.input) bs (c.in_err-text.ensures.stops bs s)))
 
 pub returns-in_err-comma-clause-stops : goal.returns-in_err-comma-clause-stops
 returns-in_err-comma-clause-stops g c bs s =
