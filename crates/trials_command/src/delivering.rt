@@ -1,263 +1,59 @@
-// Mail that commands take in and give out, over a list in memory.
-use crate::program::{command_by, empty, holds, make, settled, site_over, source};
-use ml_base::{Bytes, Numbers};
-use ml_command::ezmlm_main;
-use ml_site::{Image, MemClock, MemSource};
-use std::alloc::{AllocError, Global};
+// Mail that commands take in and give out.
+use crate::program::Whole;
+use std::test::Fail;
+use trials_scripts::hold;
 
-pub(crate) const MESSAGE: &[u8] = b"From: a@b\nTo: list@ex.org\nSubject: hello\n\nhi\n";
-
-// The words of a command, its input, the moment that its clock shows, its status, and what it puts out.
-type Row<'a> = (&'a [&'a str], &'a [u8], u64, u8, &'a [u8]);
-
-// Whether a command over an image and an input ends so, and what it leaves.
-fn input_ends(
-    alloc: Global,
-    image: Image,
-    input: &mut MemSource,
-    row: Row,
-) -> Result<(bool, Image), AllocError> {
-    let (words, _, moment, status, output) = row;
-    let mut clock = MemClock::new(moment.min(253_402_300_799), Numbers::new(alloc));
-    let site = site_over(alloc, image, &[])?;
-    let (found, site) = command_by(alloc, words, input, site, &mut clock)?;
-    let ended = found == status && site.output() == output;
-    Ok((ended, settled(alloc, &site)?))
-}
-
-// The first command of a new list that doesn't end as it is said of it, each over what the one before it left.
-fn first_bad(alloc: Global, rows: &[Row]) -> Result<Option<usize>, AllocError> {
-    let (_, site) = make(alloc, empty(alloc, &[])?)?;
-    let mut image = settled(alloc, &site)?;
-    for at in 0..rows.len() {
-        let mut input = source(alloc, rows[at].1, &[])?;
-        let (ended, left) = input_ends(alloc, image, &mut input, rows[at])?;
-        image = left;
-        if !ended {
-            return Ok(Some(at));
-        }
-    }
-    Ok(None)
-}
-
-const POST: &[u8] =
-    b"Mailing-List: contact list-help@ex.org; run by ezmlm\nPrecedence: bulk\nList-Post: <mailto:list@ex.org>\nList-Help: <mailto:list-help@ex.org>\nList-Unsubscribe: <mailto:list-unsubscribe@ex.org>\nList-Subscribe: <mailto:list-subscribe@ex.org>\nDelivered-To: mailing list list@ex.org\nFrom: a@b\nTo: list@ex.org\nSubject: hello\n\nhi\n";
-
-const OUT: &[u8] =
-    b"321:Mailing-List: contact list-help@ex.org; run by ezmlm\nPrecedence: bulk\nList-Post: <mailto:list@ex.org>\nList-Help: <mailto:list-help@ex.org>\nList-Unsubscribe: <mailto:list-unsubscribe@ex.org>\nList-Subscribe: <mailto:list-subscribe@ex.org>\nDelivered-To: mailing list list@ex.org\nFrom: a@b\nTo: list@ex.org\nSubject: hello\n\nhi\n,32:Flist-return-1-a=b@ex.org\0Ta@b\0\0,32:Flist-return-1-c=d@ex.org\0Tc@d\0\0,32:Flist-return-1-e=f@ex.org\0Te@f\0\0,";
-
-const DELIVER: [&str; 4] = ["deliver", "20", "a@b", "list@ex.org"];
-
-// A post comes in, is read from the queue and reported sent.
-const MAIL: [Row; 19] = [
-    (
-        &["sub", "7", "list", "a@b"],
-        b"",
-        1_000_000_000,
-        0,
-        b"7 0 subscribed\n",
-    ),
-    (
-        &["sent", "8", "1"],
-        b"",
-        1_000_000_000,
-        100,
-        b"8 100 noentry\n",
-    ),
-    (
-        &["sub", "9", "list", "c@d"],
-        b"",
-        1_000_000_000,
-        0,
-        b"9 0 subscribed\n",
-    ),
-    (
-        &["sub", "10", "list", "e@f"],
-        b"",
-        1_000_000_000,
-        0,
-        b"10 0 subscribed\n",
-    ),
-    (&["queue"], MESSAGE, 0, 0, b""),
-    (&DELIVER, MESSAGE, 1_000_000_100, 0, b"20 0 posted 1\n"),
-    // A number is answered once, whatever comes under it.
-    (&DELIVER, b"", 1_000_000_101, 0, b"20 0 posted 1\n"),
-    (&["queue"], b"", 0, 0, b"1 3 321\n"),
-    (&["out", "1"], b"", 0, 0, OUT),
-    (&["out", "2"], b"", 0, 100, b"- 100 absent\n"),
-    (&["out", "0"], b"", 0, 100, b"- 100 absent\n"),
-    (&["show", "1"], b"", 0, 0, POST),
-    (&["show", "2"], b"", 0, 100, b"- 100 absent\n"),
-    (&["show", "0"], b"", 0, 100, b"- 100 absent\n"),
-    (
-        &["deliver", "0", "g@h", "list-help@ex.org"],
-        b"",
-        1_000_000_102,
-        0,
-        b"0 0 help\n",
-    ),
-    (
-        &["sent", "21", "1"],
-        MESSAGE,
-        1_000_000_103,
-        0,
-        b"21 0 dequeued\n",
-    ),
-    (
-        &["sent", "22", "1"],
-        b"",
-        1_000_000_104,
-        100,
-        b"22 100 noentry\n",
-    ),
-    (&["out", "1"], b"", 0, 100, b"- 100 absent\n"),
-    (&["timed", "23"], b"", 1_000_000_105, 0, b"23 0 timed 0\n"),
-];
+const TABLE: &str = r"
+let message From: a@b\nTo: list@ex.org\nSubject: hello\n\nhi\n
+let head Mailing-List: contact list-help@ex.org; run by ezmlm\nPrecedence: bulk\nList-Post: <mailto:list@ex.org>\nList-Help: <mailto:list-help@ex.org>\n
+let post {head}List-Unsubscribe: <mailto:list-unsubscribe@ex.org>\nList-Subscribe: <mailto:list-subscribe@ex.org>\nDelivered-To: mailing list list@ex.org\n{message}
+let first 32:Flist-return-1-a=b@ex.org\0Ta@b\0\0,
+let second 32:Flist-return-1-c=d@ex.org\0Tc@d\0\0,
+let third 32:Flist-return-1-e=f@ex.org\0Te@f\0\0,
+let posted 0 20 0 posted 1\n
+let absent 100 - 100 absent\n
+list run make --key 000102030405060708090a0b0c0d0e0f101112131415161718191a1b1c1d1e1f list ex.org o@own.org => 0 made list@ex.org\n
+# A post comes in, is read from the queue and reported sent.
+run sub 7 list a@b => 0 7 0 subscribed\n
+then run sent 8 1 => 100 8 100 noentry\n
+then run sub 9 list c@d => 0 9 0 subscribed\n
+then run sub 10 list e@f => 0 10 0 subscribed\n
+then at 0 | input {message} | run queue => 0 | unread 45
+then at 1000000100 | input {message} | run deliver 20 a@b list@ex.org => {posted} | unread 0
+# A number is answered once, whatever comes under it.
+then at 1000000101 | run deliver 20 a@b list@ex.org => {posted}
+then at 0 | run queue => 0 1 3 321\n
+then run out 1 => 0 321:{post},{first}{second}{third}
+then run out 2 => {absent}
+then run out 0 => {absent}
+then run show 1 => 0 {post}
+then run show 2 => {absent}
+then run show 0 => {absent}
+then at 1000000102 | run deliver 0 g@h list-help@ex.org => 0 0 0 help\n
+then at 1000000103 | input {message} | run sent 21 1 => 0 21 0 dequeued\n | unread 45
+then at 1000000104 | run sent 22 1 => 100 22 100 noentry\n
+then at 0 | run out 1 => {absent}
+then at 1000000105 | run timed 23 => 0 23 0 timed 0\n
+# Any bytes are a sender or a recipient.
+input {message} | run deliver 1 '' list@ex.org => 100 1 100 nosender\n
+then input {message} | run deliver 2 a\nb@c list@ex.org => 100 2 100 nosender\n
+then input {message} | run deliver 3 \xC3\xA9@c list@ex.org => 100 3 100 nosender\n
+then input {message} | run deliver 4 a@b '' => 100 4 100 notours\n
+then input {message} | run deliver 5 a@b \xC3\xA9\n => 100 5 100 notours\n
+# An envelope has a limit.
+input {message} | run deliver 1 {1..1000:a} list@ex.org => 100 1 100 nosender\n
+input {message} | run deliver 1 {1..1001:a} list@ex.org => 65 - 65 words\n
+input {message} | run deliver 1 a@b {1..1000:a} => 100 1 100 notours\n
+input {message} | run deliver 1 a@b {1..1001:a} => 65 - 65 words\n
+# An input that fails. The message comes in one read, and its end in another.
+input {message} | read 1 | run deliver 20 a@b list@ex.org => 74 - 74 input\n
+input {message} | read 2 | run deliver 20 a@b list@ex.org => 74 - 74 input\n
+input {message} | read 3 | run deliver 20 a@b list@ex.org => {posted}
+# A message has a limit.
+input {1..33554433:\0} | run deliver 20 a@b list@ex.org => 65 - 65 long\n | same
+";
 
 #[test]
-fn mail_comes_in_and_goes_out(rt: HostRuntime) -> Result<(), AllocError> {
-    let bad = first_bad(rt.alloc(), &MAIL)?;
-    holds(&rt, bad.unwrap_or(0), bad.is_none());
-    Ok(())
-}
-
-// Any bytes are a sender or a recipient.
-const ENVELOPES: [Row; 5] = [
-    (
-        &["deliver", "1", "", "list@ex.org"],
-        MESSAGE,
-        1_000_000_000,
-        100,
-        b"1 100 nosender\n",
-    ),
-    (
-        &["deliver", "2", "a\nb@c", "list@ex.org"],
-        MESSAGE,
-        1_000_000_000,
-        100,
-        b"2 100 nosender\n",
-    ),
-    (
-        &["deliver", "3", "\u{e9}@c", "list@ex.org"],
-        MESSAGE,
-        1_000_000_000,
-        100,
-        b"3 100 nosender\n",
-    ),
-    (
-        &["deliver", "4", "a@b", ""],
-        MESSAGE,
-        1_000_000_000,
-        100,
-        b"4 100 notours\n",
-    ),
-    (
-        &["deliver", "5", "a@b", "\u{e9}\n"],
-        MESSAGE,
-        1_000_000_000,
-        100,
-        b"5 100 notours\n",
-    ),
-];
-
-#[test]
-fn an_envelope_has_any_bytes(rt: HostRuntime) -> Result<(), AllocError> {
-    let bad = first_bad(rt.alloc(), &ENVELOPES)?;
-    holds(&rt, bad.unwrap_or(0), bad.is_none());
-    Ok(())
-}
-
-// Whether a delivery by this envelope to a new list ends so.
-fn envelope_ends(
-    alloc: Global,
-    sender: String,
-    recipient: String,
-    status: u8,
-    output: &[u8],
-) -> Result<bool, AllocError> {
-    let (_, site) = make(alloc, empty(alloc, &[])?)?;
-    let site = site_over(alloc, settled(alloc, &site)?, &[])?;
-    let mut words = Vec::new(alloc);
-    words.push(String::from_str(alloc, "deliver")?)?;
-    words.push(String::from_str(alloc, "1")?)?;
-    words.push(sender)?;
-    words.push(recipient)?;
-    let mut input = source(alloc, MESSAGE, &[])?;
-    let mut clock = MemClock::new(1_000_000_000, Numbers::new(alloc));
-    let (found, site) = ezmlm_main(alloc, &words, &mut input, site, &mut clock);
-    Ok(found == status && site.output() == output)
-}
-
-// A word of so many bytes.
-fn long_word(alloc: Global, size: usize) -> Result<String, AllocError> {
-    let mut word = String::new(alloc);
-    for _ in 0..size {
-        word.push('a')?;
-    }
-    Ok(word)
-}
-
-// Whether a delivery by a sender of so many bytes ends so.
-fn sender_ends(alloc: Global, size: usize, status: u8, output: &[u8]) -> Result<bool, AllocError> {
-    let recipient = String::from_str(alloc, "list@ex.org")?;
-    envelope_ends(alloc, long_word(alloc, size)?, recipient, status, output)
-}
-
-// Whether a delivery to a recipient of so many bytes ends so.
-fn recipient_ends(
-    alloc: Global,
-    size: usize,
-    status: u8,
-    output: &[u8],
-) -> Result<bool, AllocError> {
-    let sender = String::from_str(alloc, "a@b")?;
-    envelope_ends(alloc, sender, long_word(alloc, size)?, status, output)
-}
-
-#[test]
-fn an_envelope_has_a_limit(rt: HostRuntime) -> Result<(), AllocError> {
-    let alloc = rt.alloc();
-    holds(&rt, 0, sender_ends(alloc, 1000, 100, b"1 100 nosender\n")?);
-    holds(&rt, 1, sender_ends(alloc, 1001, 65, b"- 65 words\n")?);
-    holds(
-        &rt,
-        2,
-        recipient_ends(alloc, 1000, 100, b"1 100 notours\n")?,
-    );
-    holds(&rt, 3, recipient_ends(alloc, 1001, 65, b"- 65 words\n")?);
-    Ok(())
-}
-
-// Whether a delivery of an input whose named reads fail ends so. The message comes in one read, and its end in another.
-fn reads_end(alloc: Global, reads: &[u64], status: u8, output: &[u8]) -> Result<bool, AllocError> {
-    let (_, site) = make(alloc, empty(alloc, &[])?)?;
-    let mut input = source(alloc, MESSAGE, reads)?;
-    let row: Row = (&DELIVER, b"", 1_000_000_000, status, output);
-    let (ended, _) = input_ends(alloc, settled(alloc, &site)?, &mut input, row)?;
-    Ok(ended)
-}
-
-#[test]
-fn an_input_that_fails_is_told(rt: HostRuntime) -> Result<(), AllocError> {
-    let alloc = rt.alloc();
-    holds(&rt, 0, reads_end(alloc, &[1], 74, b"- 74 input\n")?);
-    holds(&rt, 1, reads_end(alloc, &[2], 74, b"- 74 input\n")?);
-    holds(&rt, 2, reads_end(alloc, &[3], 0, b"20 0 posted 1\n")?);
-    Ok(())
-}
-
-// Whether a delivery of more bytes than a message may have is told so.
-fn is_too_long(alloc: Global) -> Result<bool, AllocError> {
-    let (_, site) = make(alloc, empty(alloc, &[])?)?;
-    let bytes = Bytes::from_vec(vec![in alloc; 0u8; 33_554_433]?);
-    let mut input = MemSource::new(bytes, Numbers::new(alloc));
-    let row: Row = (&DELIVER, b"", 1_000_000_000, 65, b"- 65 long\n");
-    let (ended, _) = input_ends(alloc, settled(alloc, &site)?, &mut input, row)?;
-    Ok(ended)
-}
-
-#[test]
-fn a_message_has_a_limit(rt: HostRuntime) -> Result<(), AllocError> {
-    holds(&rt, 0, is_too_long(rt.alloc())?);
-    Ok(())
+fn mail_comes_in_and_goes_out(rt: HostRuntime) -> Result<(), Fail> {
+    hold::<Whole>(rt.alloc(), "mail", TABLE)
 }
