@@ -1,5 +1,5 @@
-// A damaged file of each kind, and what an item of each letter is answered: the file is named under the item's number, and the list stays as it was; an item that doesn't
-// read it is done.
+// A damaged file of each kind, and what an item of each letter is answered: the file is named under the item's number, and the list stays
+// as it was; an item that doesn't read it is done.
 use crate::program::Whole;
 use std::test::Fail;
 use trials_scripts::hold;

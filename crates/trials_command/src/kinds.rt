@@ -3,8 +3,8 @@ use crate::program::Whole;
 use std::test::Fail;
 use trials_scripts::hold;
 
-// The list that is changed: its sets have 3, 1, 2, 1 and 1 members; of three posts two have the same key, and the first two the same size; two posts are held, and
-// two entries queued, with gaps.
+// The list that is changed: its sets have 3, 1, 2, 1 and 1 members; of three posts two have the same key, and the first two the same size;
+// two posts are held, and two entries queued, with gaps.
 const KINDS: &str = r"
 let ok 0 ok 3 3 1 2 1 1 2 2\n
 let hold 10:1000000000,3:g@h,2:hi,

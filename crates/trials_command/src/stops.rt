@@ -7,8 +7,8 @@ use std::collections::BTreeMap;
 use std::test::Fail;
 use trials_scripts::{Program, spelled};
 
-// Items, each with its answer on a new list behind the items before it: thirty of their own numbers, some of these again, two of them with another
-// act, and a floor.
+// Items, each with its answer on a new list behind the items before it: thirty of their own numbers, some of these again, two of them with
+// another act, and a floor.
 const SCRIPT: &str = r"
 A1:1,10:1000000001,4:list,3:a@b, => 1 0 subscribed
 A1:2,10:1000000002,4:list,3:c@d, => 2 0 subscribed

@@ -51,10 +51,12 @@ fn keep(alloc: Global, named: &mut Named, text: &str) -> Result<(), Fail> {
     Ok(())
 }
 
-/// Tries the rows of a table, and fails at the first that doesn't come out as it says, with the number of its line from 0, of its step and of its turn.
+/// Tries the rows of a table, and fails at the first that doesn't come out as it says, with the number of its line from 0, of its step and
+/// of its turn.
 ///
-/// Each line is a row, but for empty ones and those that begin with `#`. `let NAME TEXT` keeps a text, and `list STEPS` makes the list that the
-/// rows behind it begin with. `then STEPS` goes on where the row before ended, and `turns FIRST LAST | STEPS` is tried once for each of these numbers.
+/// Each line is a row, but for empty ones and those that begin with `#`. `let NAME TEXT` keeps a text, and `list STEPS` makes the list that
+/// the rows behind it begin with. `then STEPS` goes on where the row before ended, and `turns FIRST LAST | STEPS` is tried once for each of
+/// these numbers.
 pub fn hold<P: Program>(alloc: Global, table: &str, text: &str) -> Result<(), Fail> {
     let mut named = Vec::new(alloc);
     let mut list = empty(alloc);

@@ -19,8 +19,8 @@ pub trait Program {
     ) -> Result<(u8, MemSite), Fail>;
 }
 
-// What the next command meets: the moment that the clock shows, if it does, the input, the read of it that fails, the call on the disk that fails, the
-// room for its output, and the call behind which it is stopped.
+// What the next command meets: the moment that the clock shows, if it does, the input, the read of it that fails, the call on the disk that
+// fails, the room for its output, and the call behind which it is stopped.
 #[derive(Drop)]
 pub(crate) struct Next {
     pub(crate) moment: Option<u64>,
@@ -31,7 +31,8 @@ pub(crate) struct Next {
     pub(crate) stop: u64,
 }
 
-/// A list as it stands at a step, as it stood before the last command, how many bytes that one left of its input, and what the next one meets.
+/// A list as it stands at a step, as it stood before the last command, how many bytes that one left of its input, and what the next one
+/// meets.
 #[derive(Drop)]
 pub(crate) struct Stage {
     pub(crate) image: Image,

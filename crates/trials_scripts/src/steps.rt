@@ -63,7 +63,8 @@ fn put(image: &mut Image, name: Name, text: Bytes) -> Result<(), Fail> {
     Ok(())
 }
 
-// What a file is changed to: `put` gives it a text, `cut` takes its last byte, `grow` adds a text at its end, and `take` gives it what another file has.
+// What a file is changed to: `put` gives it a text, `cut` takes its last byte, `grow` adds a text at its end, and `take` gives it what
+// another file has.
 fn changed(
     alloc: Global,
     named: &Named,
@@ -139,8 +140,8 @@ fn told(alloc: Global, status: u8, output: &[u8]) -> Result<Bytes, Fail> {
     Ok(text)
 }
 
-// Whether a command of which a call failed says so: by 73 where it put out nothing or all, or by a stop line that is alone, or under the number of its answer, or
-// behind its answer.
+// Whether a command of which a call failed says so: by 73 where it put out nothing or all, or by a stop line that is alone, or under the
+// number of its answer, or behind its answer.
 fn says_so(status: u8, output: &[u8], answer: &[u8]) -> bool {
     if status == 73 {
         return output.is_empty() || output == answer;
@@ -156,7 +157,8 @@ fn says_so(status: u8, output: &[u8], answer: &[u8]) -> bool {
             || rest == Some(b" 111 disk\n".as_slice()))
 }
 
-// Fails where a command doesn't end as it is to: `run WORDS => STATUS OUTPUT`, with further endings behind `||`; and `may` for a command of which a call may fail.
+// Fails where a command doesn't end as it is to: `run WORDS => STATUS OUTPUT`, with further endings behind `||`; and `may` for a command of
+// which a call may fail.
 fn command<P: Program>(
     alloc: Global,
     named: &Named,

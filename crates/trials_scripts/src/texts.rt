@@ -23,8 +23,8 @@ pub fn spelled(alloc: Global, text: &str) -> Result<Bytes, Fail> {
     Ok(out)
 }
 
-/// The bytes of a text in which besides `{NAME}` is a text of this name, and `{A..B:TEXT}` is TEXT once for each number from A to B, with its
-/// digits for each `%`.
+/// The bytes of a text in which besides `{NAME}` is a text of this name, and `{A..B:TEXT}` is TEXT once for each number from A to B, with
+/// its digits for each `%`.
 pub(crate) fn spelled_with(alloc: Global, named: &Named, text: &str) -> Result<Bytes, Fail> {
     let mut out = Bytes::new(alloc);
     for (at, piece) in text.split('{').enumerate() {
