@@ -33,10 +33,11 @@ class Handed:
     """How many copies the sink took so far, by Postfix's log."""
 
     def __init__(self, path):
-        self.file, self.many = open(path, encoding='utf-8', errors='replace'), 0
+        self.file, self.many, self.rest = open(path, encoding='utf-8', errors='replace'), 0, ''
 
     def count(self):
-        self.many += sum(1 for line in self.file if SENT.search(line))
+        *lines, self.rest = (self.rest + self.file.read()).split('\n')  # The last one may not be written whole yet.
+        self.many += sum(1 for line in lines if SENT.search(line))
         return self.many
 
 
