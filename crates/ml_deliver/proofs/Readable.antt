@@ -1,5 +1,6 @@
 -- What a delivery and a timed run read is in the table, and is of the list's acts.
 use Rattle.std.proofs.Common.{◌≡◌, ⊎_elim, ◌<◌, ◌≤◌, ◌/◌, ℕ, Bool, true, false, eqb, leb, nat_lt, ◌&&◌, ◌||◌, Option, Some, None, refl, ap, ◌∙◌, arith}
+use Rattle.std.specs.Prelude.{unwrap_or}
 use Rattle.std.proofs.lemmas.Bool.{and_from, and_parts, eqb-true, le-leb, leb-true, ltb-true, or_cases}
 use Rattle.std.proofs.lemmas.Nat.{mod_below}
 use Rattle.ml_base.specs.Address.{address_of, key}
@@ -30,7 +31,7 @@ use Rattle.ml_acts.specs.Doing.{is_bucket, is_bucket_of, is_entry_of, is_held_po
 use Rattle.ml_joining.specs.Deeds.{asked_of}
 use Rattle.ml_joining.specs.Reads.{asks_rank, is_for_mail, is_read_to_confirm, is_read_to_join, is_read_to_leave}
 use Rattle.ml_following.specs.Reads.{is_followed_by as is_followed_in, is_ledger, is_of_following}
-use Rattle.ml_manage.specs.Reads.{is_asked_of, is_counted_in, is_of_bounce, is_of_index, is_of_members, is_of_probe, is_of_range, is_of_reader, is_of_signed, is_of_thread, is_of_warning, is_read_for, may_read}
+use Rattle.ml_manage.specs.Reads.{is_asked_of, is_counted_in, is_of_bounce, is_of_index, is_of_members, is_of_posts, is_of_probe, is_of_range, is_of_reader, is_of_signed, is_of_thread, is_of_warning, is_read_for, may_read}
 use Rattle.ml_post.specs.Answering.{is_answered_by, is_followed_by, is_taken_by}
 use Rattle.ml_post.specs.Holding.{is_asked_by, is_held_by}
 use Rattle.ml_post.specs.Judging.{is_judged_by, is_of_user}
@@ -251,6 +252,11 @@ module _ (name : Name) where
   of_range : is_of_range name ≡ true → Acts name
   of_range e = either (is_index name) (same_name name number_name) of_index of_number e
 
+  of_posts : (a b : ℕ) → is_of_posts a b name ≡ true → Acts name
+  of_posts a b e =
+      let within = leb (a / 100) name.at && leb name.at (b / 100) in
+      either (is_index name && within) (same_name name number_name) (λ i. of_index (and_parts (is_index name) within i).0) of_number e
+
   of_thread : is_of_thread name ≡ true → Acts name
   of_thread e = either (is_of_range name) (is_thread_file name) of_range of_threads e
 
@@ -270,7 +276,7 @@ module _ (name : Name) where
   asked c sender (Unsubscribe set who) e = ranked c.flags.r sender (is_read_to_leave set (asked_of sender who) name) (to_leave set (asked_of sender who)) e
   asked c sender (Confirm word set s) e = to_confirm word set (address_named s.who) e
   asked c sender (Members set) e = of_members c sender set e
-  asked c sender (Get from to) e = read_by c sender (is_of_range name) of_range e
+  asked c sender (Get from to) e = read_by c sender (is_of_posts from (unwrap_or to from) name) (of_posts from (unwrap_or to from)) e
   asked c sender (Index at) e = read_by c sender (is_of_index at name) (of_group at) e
   asked c sender (Thread at) e = read_by c sender (is_of_thread name) of_thread e
   asked c sender Post e = of_ids e

@@ -1,5 +1,5 @@
 // A delivery: the first rule that applies decides.
-ghost use Rattle.std.specs.Prelude.{◌≡◌, ◌≤◌, true, length, IsTrue, IfOk, IfErr, Some};
+ghost use Rattle.std.specs.Prelude.{◌≡◌, true, IsTrue, IfOk, IfErr, Some};
 ghost use Rattle.ml_address.specs.Reading.{request_of};
 ghost use Rattle.ml_address.specs.Views.{request_view};
 ghost use Rattle.ml_base.specs.Dir.{are_files, touches_only};
@@ -15,6 +15,7 @@ ghost use Rattle.ml_plain.specs.Managing as spec;
 ghost use Rattle.ml_plain.specs.Plain.{Plain};
 ghost use Rattle.ml_acts.specs.Damaged.{IsDamaged};
 ghost use Rattle.ml_acts.specs.Doing.{DoesList, HasRoom};
+ghost use Rattle.ml_deliver.specs.Asked.{IsDamagedServed, IsDelivered, IsRequested};
 ghost use Rattle.ml_deliver.specs.Reads.{is_of_acts};
 
 use crate::moderating::moderated;
@@ -30,11 +31,12 @@ use std::alloc::Global;
 /// What a message does that comes for an address, from an envelope sender: the puts, and the reply.
 ///
 /// Where ids or tickets are worn out it is `full`. Else the recipient decides: one that isn't the list's is `notours`, the list's own address
-/// takes posts, and its other addresses take requests, bounces and moderators' answers. `Damaged` names a file that was read and is outside its
-/// grammar, or names what isn't there. `Fault` comes only where a read failed. The configuration is there: who asks has looked at it, and
-/// where it isn't, there is no memory.
+/// takes posts, and its other addresses take requests, bounces and moderators' answers. `Damaged` names a file that is outside its grammar, or
+/// names what isn't there, and that the delivery may read: a counter that is looked at first, or what the request reads, by its own numbers,
+/// which the recipient is under the configuration that the files hold. `Fault` comes only where a read failed. The configuration is there: who
+/// asks has looked at it, and where it isn't, there is no memory.
 ///
-/// `now` is in seconds since 1970, and the message has at most 33,554,432 bytes. The memo is what an earlier delivery left, or nothing.
+/// `now` is in seconds since 1970. The memo is what an earlier delivery left, or nothing.
 pub fn deliver<F: Files>(
     alloc: Global,
     files: &mut F,
@@ -45,12 +47,11 @@ pub fn deliver<F: Files>(
     message: &[u8],
 ) -> Result<(Txn, Reply), PartError>
     requires moment { IsMoment now }
-    requires length { length message.now ≤ 33_554_432 }
     ensures value { IsTrue F.tells → IfOk result (λ done. (p : Plain) → IsList (F.map files.old) p → DoesList (F.map files.old) done (spec.deliver now sender.now recipient.now message.now p)) }
     ensures own { IfOk result (λ done. touches_only is_of_list done.0 ≡ true) }
     ensures files { IfOk result (λ done. IsTrue (are_files done.0)) }
     ensures reply { IfOk result (λ done. is_kept done.1 ≡ true) }
-    ensures names { NamesDamaged ⟦<F as Files>⟧ (λ name. is_of_acts name ≡ true) (IsDamaged (F.map files.old)) result }
+    ensures names { NamesDamaged ⟦<F as Files>⟧ (λ name. is_of_acts name ≡ true) (λ name. IsDamaged (F.map files.old) name × IsDelivered (F.map files.old) sender.now recipient.now name) result }
     ensures reads { IsReading ⟦<F as Files>⟧ files.old files.new result }
 {
     let config = configuration(alloc, files)?;
@@ -71,12 +72,11 @@ fn unless_worn<F: Files>(
     requires moment { IsMoment now }
     requires config { IsConfig config.now }
     requires loaded { IsTrue F.tells → IsConfigFile (F.map files.now config_name) config.now }
-    requires length { length message.now ≤ 33_554_432 }
     ensures value { IsTrue F.tells → IfOk result (λ done. (p : Plain) → IsList (F.map files.old) p → p.config ≡ config.now → DoesList (F.map files.old) done (spec.deliver now sender.now recipient.now message.now p)) }
     ensures own { IfOk result (λ done. touches_only is_of_list done.0 ≡ true) }
     ensures files { IfOk result (λ done. IsTrue (are_files done.0)) }
     ensures reply { IfOk result (λ done. is_kept done.1 ≡ true) }
-    ensures names { NamesDamaged ⟦<F as Files>⟧ (λ name. is_of_acts name ≡ true) (IsDamaged (F.map files.old)) result }
+    ensures names { NamesDamaged ⟦<F as Files>⟧ (λ name. is_of_acts name ≡ true) (IsDamagedServed (F.map files.old) config.now sender.now (request_of config.now.local config.now.host recipient.now)) result }
     ensures reads { IsReading ⟦<F as Files>⟧ files.old files.new result }
 {
     if is_worn(alloc, files)? {
@@ -115,12 +115,11 @@ fn by_recipient<F: Files>(
     requires config { IsConfig config.now }
     requires loaded { IsTrue F.tells → IsConfigFile (F.map files.now config_name) config.now }
     requires room { IsTrue F.tells → HasRoom (F.map files.now) }
-    requires length { length message.now ≤ 33_554_432 }
     ensures value { IsTrue F.tells → IfOk result (λ done. (p : Plain) → IsList (F.map files.old) p → p.config ≡ config.now → DoesList (F.map files.old) done (spec.by_recipient now sender.now message.now p (request_of config.now.local config.now.host recipient.now))) }
     ensures own { IfOk result (λ done. touches_only is_of_list done.0 ≡ true) }
     ensures files { IfOk result (λ done. IsTrue (are_files done.0)) }
     ensures reply { IfOk result (λ done. is_kept done.1 ≡ true) }
-    ensures names { NamesDamaged ⟦<F as Files>⟧ (λ name. is_of_acts name ≡ true) (IsDamaged (F.map files.old)) result }
+    ensures names { NamesDamaged ⟦<F as Files>⟧ (λ name. is_of_acts name ≡ true) (λ name. IsDamaged (F.map files.old) name × IsRequested (F.map files.old) config.now sender.now (request_of config.now.local config.now.host recipient.now) name) result }
     ensures reads { IsReading ⟦<F as Files>⟧ files.old files.new result }
 {
     let local = config.local.as_slice();
@@ -149,12 +148,11 @@ fn by_request<F: Files>(
     requires loaded { IsTrue F.tells → IsConfigFile (F.map files.now config_name) config.now }
     requires room { IsTrue F.tells → HasRoom (F.map files.now) }
     requires read { request_of config.now.local config.now.host recipient.now ≡ Some (request_view request.now) }
-    requires length { length message.now ≤ 33_554_432 }
     ensures value { IsTrue F.tells → IfOk result (λ done. (p : Plain) → IsList (F.map files.old) p → p.config ≡ config.now → DoesList (F.map files.old) done (spec.by_request now sender.now message.now p (request_view request.now))) }
     ensures own { IfOk result (λ done. touches_only is_of_list done.0 ≡ true) }
     ensures files { IfOk result (λ done. IsTrue (are_files done.0)) }
     ensures reply { IfOk result (λ done. is_kept done.1 ≡ true) }
-    ensures names { NamesDamaged ⟦<F as Files>⟧ (λ name. is_of_acts name ≡ true) (IsDamaged (F.map files.old)) result }
+    ensures names { NamesDamaged ⟦<F as Files>⟧ (λ name. is_of_acts name ≡ true) (λ name. IsDamaged (F.map files.old) name × IsRequested (F.map files.old) config.now sender.now (Some (request_view request.now)) name) result }
     ensures reads { IsReading ⟦<F as Files>⟧ files.old files.new result }
 {
     match request {

@@ -5,6 +5,8 @@ ghost use Rattle.ml_base.specs.Address.{address_of};
 ghost use Rattle.ml_base.specs.Dir.{are_files, touches_only};
 ghost use Rattle.ml_base.specs.Ranges.{IsMoment};
 ghost use Rattle.ml_base.specs.ReadFiles.{IsReading, NamesDamaged};
+ghost use Rattle.ml_config.specs.ConfigFile.{IsConfigFile, config_name};
+ghost use Rattle.ml_config.specs.Configuration.{IsConfig};
 ghost use Rattle.ml_header.specs.Fields.{has_field};
 ghost use Rattle.ml_plain.specs.Directory.{IsList, is_of_list};
 ghost use Rattle.ml_plain.specs.KeptFiles.{is_kept};
@@ -36,6 +38,8 @@ pub(crate) fn moderated<F: Files>(
     accept: bool,
 ) -> Result<(Txn, Reply), PartError>
     requires moment { IsMoment now }
+    requires config { IsConfig config.now }
+    requires loaded { IsTrue F.tells → IsConfigFile (F.map files.now config_name) config.now }
     requires room { IsTrue F.tells → HasIds (F.map files.now) }
     ensures value { IsTrue F.tells → IfOk result (λ done. (p : Plain) → IsList (F.map files.old) p → p.config ≡ config.now → DoesList (F.map files.old) done (spec.by_sender now message.now p (answer_to ticket letters.now accept) (address_of sender.now))) }
     ensures own { IfOk result (λ done. touches_only is_of_list done.0 ≡ true) }

@@ -16,6 +16,7 @@ ghost use Rattle.ml_plain.specs.KeptFiles.{is_kept};
 ghost use Rattle.ml_plain.specs.Mailing.{is_good};
 ghost use Rattle.ml_plain.specs.Managing as spec;
 ghost use Rattle.ml_plain.specs.Plain.{Plain};
+ghost use Rattle.ml_acts.specs.Configured.{with_config};
 ghost use Rattle.ml_acts.specs.Doing.{DoesList, HasIds, HasRoom};
 ghost use Rattle.ml_acts.specs.Damaged.{IsDamaged};
 ghost use Rattle.ml_joining.specs.Deeds.{IsSubject, asked_of};
@@ -26,14 +27,15 @@ use crate::deciding::{Facts, confirmed_joining, confirmed_leaving, joining, leav
 use crate::joining::joined;
 use crate::leaving::left;
 use crate::subjects::{Subject, find_subject, moderates};
-use ml_acts::{is_good as good_cookie, key_of, word_kind};
+use ml_acts::{Configured, is_good as good_cookie, key_of, word_kind};
 use ml_address::{Who, Word};
 use ml_base::{Address, Files, PartError, Set, Txn};
 use ml_config::{Config, key as load_keys};
 use ml_plain::Reply;
 use std::alloc::Global;
 
-/// A sender asks that an address joins a set: the one that is named, or his own. The set is one that requests name.
+/// A sender asks that an address joins a set: the one that is named, or his own. The set is one that requests name. What it does is said
+/// of the files with the configuration in the place of theirs.
 pub fn subscribe<F: Files>(
     alloc: Global,
     files: &mut F,
@@ -48,15 +50,16 @@ pub fn subscribe<F: Files>(
     requires asked { IsTrue (is_asked set) }
     requires range { IsTrue (if_who (option_map who_view who)) }
     requires room { IsTrue F.tells → HasRoom (F.map files.now) }
-    ensures value { IsTrue F.tells → IfOk result (λ done. (p : Plain) → IsList (F.map files.old) p → p.config ≡ config.now → DoesList (F.map files.old) done (spec.subscribe now sender.now set (spec.subject_of p set sender.now (option_map who_view who.entry)) p)) }
+    ensures value { IsTrue F.tells → IfOk result (λ done. (p : Plain) → IsList (with_config config.now (F.map files.old)) p → DoesList (with_config config.now (F.map files.old)) done (spec.subscribe now sender.now set (spec.subject_of p set sender.now (option_map who_view who.entry)) p)) }
     ensures own { IfOk result (λ done. touches_only is_of_list done.0 ≡ true) }
     ensures files { IfOk result (λ done. IsTrue (are_files done.0)) }
     ensures reply { IfOk result (λ done. is_kept done.1 ≡ true) }
-    ensures names { NamesDamaged ⟦<F as Files>⟧ (λ name. is_read_to_subscribe config.now sender.now set (asked_of sender.now (option_map who_view who.entry)) name ≡ true) (IsDamaged (F.map files.old)) result }
-    ensures sound { IsTrue F.tells → (p : Plain) → IsList (F.map files.old) p → IfErr result (λ e. OnDamaged e (λ _. ⊥)) }
+    ensures names { NamesDamaged ⟦<F as Files>⟧ (λ name. is_read_to_subscribe config.now sender.now set (asked_of sender.now (option_map who_view who.entry)) name ≡ true) (IsDamaged (with_config config.now (F.map files.old))) result }
+    ensures sound { IsTrue F.tells → (p : Plain) → IsList (with_config config.now (F.map files.old)) p → IfErr result (λ e. OnDamaged e (λ _. ⊥)) }
     ensures reads { IsReading ⟦<F as Files>⟧ files.old files.new result }
 {
-    join_asked(alloc, files, config, now, sender, set, who)
+    let mut under = Configured::new(files, config);
+    join_asked(alloc, &mut under, config, now, sender, set, who)
 }
 
 // A sender asks that somebody joins a set, who is looked for there.
@@ -123,7 +126,8 @@ fn join_found<F: Files>(
     joined(alloc, files, config, now, set, sender, x, deed)
 }
 
-/// A sender asks that an address leaves a set: the one that is named, or his own. The set is one that requests name.
+/// A sender asks that an address leaves a set: the one that is named, or his own. The set is one that requests name. What it does is said
+/// of the files with the configuration in the place of theirs.
 pub fn unsubscribe<F: Files>(
     alloc: Global,
     files: &mut F,
@@ -138,15 +142,16 @@ pub fn unsubscribe<F: Files>(
     requires asked { IsTrue (is_asked set) }
     requires range { IsTrue (if_who (option_map who_view who)) }
     requires room { IsTrue F.tells → HasRoom (F.map files.now) }
-    ensures value { IsTrue F.tells → IfOk result (λ done. (p : Plain) → IsList (F.map files.old) p → p.config ≡ config.now → DoesList (F.map files.old) done (spec.unsubscribe now sender.now set (spec.subject_of p set sender.now (option_map who_view who.entry)) p)) }
+    ensures value { IsTrue F.tells → IfOk result (λ done. (p : Plain) → IsList (with_config config.now (F.map files.old)) p → DoesList (with_config config.now (F.map files.old)) done (spec.unsubscribe now sender.now set (spec.subject_of p set sender.now (option_map who_view who.entry)) p)) }
     ensures own { IfOk result (λ done. touches_only is_of_list done.0 ≡ true) }
     ensures files { IfOk result (λ done. IsTrue (are_files done.0)) }
     ensures reply { IfOk result (λ done. is_kept done.1 ≡ true) }
-    ensures names { NamesDamaged ⟦<F as Files>⟧ (λ name. is_read_to_unsubscribe config.now sender.now set (asked_of sender.now (option_map who_view who.entry)) name ≡ true) (IsDamaged (F.map files.old)) result }
-    ensures sound { IsTrue F.tells → (p : Plain) → IsList (F.map files.old) p → IfErr result (λ e. OnDamaged e (λ _. ⊥)) }
+    ensures names { NamesDamaged ⟦<F as Files>⟧ (λ name. is_read_to_unsubscribe config.now sender.now set (asked_of sender.now (option_map who_view who.entry)) name ≡ true) (IsDamaged (with_config config.now (F.map files.old))) result }
+    ensures sound { IsTrue F.tells → (p : Plain) → IsList (with_config config.now (F.map files.old)) p → IfErr result (λ e. OnDamaged e (λ _. ⊥)) }
     ensures reads { IsReading ⟦<F as Files>⟧ files.old files.new result }
 {
-    leave_asked(alloc, files, config, now, sender, set, who)
+    let mut under = Configured::new(files, config);
+    leave_asked(alloc, &mut under, config, now, sender, set, who)
 }
 
 // A sender asks that somebody leaves a set, who is looked for there.
@@ -206,7 +211,8 @@ fn leave_found<F: Files>(
     left(alloc, files, config, now, set, sender, x, deed)
 }
 
-/// A sender confirms that an address joins a set or leaves it, with a cookie for the address. The set is one that requests name.
+/// A sender confirms that an address joins a set or leaves it, with a cookie for the address. The set is one that requests name. What it
+/// does is said of the files with the configuration in the place of theirs.
 pub fn confirm<F: Files>(
     alloc: Global,
     files: &mut F,
@@ -224,16 +230,17 @@ pub fn confirm<F: Files>(
     requires asked { IsTrue (is_asked set) }
     requires range { IsTrue (is_who (who_view who)) }
     requires room { IsTrue F.tells → HasRoom (F.map files.now) }
-    ensures value { IsTrue F.tells → IfOk result (λ done. (p : Plain) → IsList (F.map files.old) p → p.config ≡ config.now → DoesList (F.map files.old) done (spec.confirm now sender.now word set (record { time = time; cookie = cookie.now; who = who_view who.entry }) (spec.subject_of p set sender.now (Some (who_view who.entry))) p)) }
+    ensures value { IsTrue F.tells → IfOk result (λ done. (p : Plain) → IsList (with_config config.now (F.map files.old)) p → DoesList (with_config config.now (F.map files.old)) done (spec.confirm now sender.now word set (record { time = time; cookie = cookie.now; who = who_view who.entry }) (spec.subject_of p set sender.now (Some (who_view who.entry))) p)) }
     ensures own { IfOk result (λ done. touches_only is_of_list done.0 ≡ true) }
     ensures files { IfOk result (λ done. IsTrue (are_files done.0)) }
     ensures reply { IfOk result (λ done. is_kept done.1 ≡ true) }
-    ensures names { NamesDamaged ⟦<F as Files>⟧ (λ name. is_read_to_confirm word set (address_named (who_view who.entry)) name ≡ true) (IsDamaged (F.map files.old)) result }
-    ensures sound { IsTrue F.tells → (p : Plain) → IsList (F.map files.old) p → IfErr result (λ e. OnDamaged e (λ _. ⊥)) }
+    ensures names { NamesDamaged ⟦<F as Files>⟧ (λ name. is_read_to_confirm word set (address_named (who_view who.entry)) name ≡ true) (IsDamaged (with_config config.now (F.map files.old))) result }
+    ensures sound { IsTrue F.tells → (p : Plain) → IsList (with_config config.now (F.map files.old)) p → IfErr result (λ e. OnDamaged e (λ _. ⊥)) }
     ensures reads { IsReading ⟦<F as Files>⟧ files.old files.new result }
 {
+    let mut under = Configured::new(files, config);
     confirm_asked(
-        alloc, files, config, now, sender, word, set, time, cookie, who,
+        alloc, &mut under, config, now, sender, word, set, time, cookie, who,
     )
 }
 

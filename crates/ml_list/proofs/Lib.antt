@@ -7,3 +7,4 @@ pub mod Steps
 pub mod LookedUp
 pub mod States
 pub mod Named
+pub mod Asked

@@ -15,6 +15,7 @@ ghost use Rattle.ml_plain.specs.KeptFiles.{is_kept};
 ghost use Rattle.ml_plain.specs.KeptFiles as states;
 ghost use Rattle.ml_list.specs.Applying.{Does, Repeats};
 ghost use Rattle.ml_list.specs.Lookups.{answer_of, IsNew, IsInRange, IsRead};
+ghost use Rattle.ml_list.specs.Asked.{IsDamagedFor, IsDamagedForAct};
 ghost use Rattle.ml_list.specs.Damage.{IsDamaged, is_looked_up, is_read_by, may_read};
 
 use crate::changing::{add_member, change_key, remove_member};
@@ -32,7 +33,8 @@ use std::alloc::{AllocError, Global};
 ///
 /// An item whose number isn't 0 and is below the floor is answered `stale`, one whose number has a kept reply is answered
 /// with it, and neither changes anything. The reply of any other item is kept for its number, where that isn't 0.
-/// `Damaged` names a file that the item may read and that is outside its grammar. `Fault` comes only where a read failed.
+/// `Damaged` names a file that the item may read, a delivery by the numbers of what its recipient asks under the configuration that the
+/// files hold, and that is outside its grammar. `Fault` comes only where a read failed.
 ///
 /// The item is in its ranges. The configuration is there, which `load` tells.
 pub fn apply<F: Files>(alloc: Global, files: F, item: &Item) -> (F, Result<(Txn, Reply), PartError>)
@@ -40,7 +42,7 @@ pub fn apply<F: Files>(alloc: Global, files: F, item: &Item) -> (F, Result<(Txn,
     ensures value { IsTrue F.tells → IfOk result.1 (λ done. (q : State) → IsState (F.map files) q → Does (F.map files) done (step q item.now)) }
     ensures reply { IfOk result.1 (λ done. IsTrue (is_code done.1.code)) }
     ensures files { IfOk result.1 (λ done. IsTrue (are_files done.0)) }
-    ensures names { NamesDamaged ⟦<F as Files>⟧ (λ name. may_read item.now name ≡ true) (IsDamaged (F.map files)) result.1 }
+    ensures names { NamesDamaged ⟦<F as Files>⟧ (λ name. may_read item.now name ≡ true) (IsDamagedFor (F.map files) item.now) result.1 }
     ensures sound { IsTrue F.tells → (q : State) → IsState (F.map files) q → IfErr result.1 (λ e. OnDamaged e (λ _. ⊥)) }
     ensures reads { IsReading ⟦<F as Files>⟧ files result.0 result.1 }
 {
@@ -58,7 +60,7 @@ pub fn apply_with_memo<F: Files>(
     ensures value { IsTrue F.tells → IfOk result.1 (λ done. (q : State) → IsState (F.map files) q → Does (F.map files) done (step q item.now)) }
     ensures reply { IfOk result.1 (λ done. IsTrue (is_code done.1.code)) }
     ensures files { IfOk result.1 (λ done. IsTrue (are_files done.0)) }
-    ensures names { NamesDamaged ⟦<F as Files>⟧ (λ name. may_read item.now name ≡ true) (IsDamaged (F.map files)) result.1 }
+    ensures names { NamesDamaged ⟦<F as Files>⟧ (λ name. may_read item.now name ≡ true) (IsDamagedFor (F.map files) item.now) result.1 }
     ensures sound { IsTrue F.tells → (q : State) → IsState (F.map files) q → IfErr result.1 (λ e. OnDamaged e (λ _. ⊥)) }
     ensures reads { IsReading ⟦<F as Files>⟧ files result.0 result.1 }
 {
@@ -139,7 +141,7 @@ fn count<F: Files>(
     ensures value { IsTrue F.tells → IfOk result.1 (λ done. (q : State) → IsState (F.map files) q → Repeats q item.now.number None → Does (F.map files) done (with_reply item.now.number (steps.effect q item.now))) }
     ensures reply { IfOk result.1 (λ done. IsTrue (is_code done.1.code)) }
     ensures files { IfOk result.1 (λ done. IsTrue (are_files done.0)) }
-    ensures names { NamesDamaged ⟦<F as Files>⟧ (λ name. is_read_by item.now.act name ≡ true) (IsDamaged (F.map files)) result.1 }
+    ensures names { NamesDamaged ⟦<F as Files>⟧ (λ name. is_read_by item.now.act name ≡ true) (IsDamagedForAct (F.map files) item.now.act) result.1 }
     ensures reads { IsReading ⟦<F as Files>⟧ files result.0 result.1 }
 {
     let (files, answer) = effect(alloc, files, memo, item, &known);
@@ -166,7 +168,7 @@ fn effect<F: Files>(
     ensures value { IsTrue F.tells → IfOk result.1 (λ done. (q : State) → IsState (F.map files) q → Does (F.map files) done (steps.effect q item.now)) }
     ensures reply { IfOk result.1 (λ done. is_kept done.1 ≡ true) }
     ensures files { IfOk result.1 (λ done. IsTrue (are_files done.0)) }
-    ensures names { NamesDamaged ⟦<F as Files>⟧ (λ name. is_read_by item.now.act name ≡ true) (IsDamaged (F.map files)) result.1 }
+    ensures names { NamesDamaged ⟦<F as Files>⟧ (λ name. is_read_by item.now.act name ≡ true) (IsDamagedForAct (F.map files) item.now.act) result.1 }
     ensures reads { IsReading ⟦<F as Files>⟧ files result.0 result.1 }
 {
     match &item.act {
@@ -193,7 +195,7 @@ fn change<F: Files>(
     ensures value { IsTrue F.tells → IfOk result (λ done. (q : State) → IsState (F.map files.old) q → Does (F.map files.old) done (steps.effect q item.now)) }
     ensures reply { IfOk result (λ done. is_kept done.1 ≡ true) }
     ensures files { IfOk result (λ done. IsTrue (are_files done.0)) }
-    ensures names { NamesDamaged ⟦<F as Files>⟧ (λ name. is_read_by item.now.act name ≡ true) (IsDamaged (F.map files.old)) result }
+    ensures names { NamesDamaged ⟦<F as Files>⟧ (λ name. is_read_by item.now.act name ≡ true) (IsDamagedForAct (F.map files.old) item.now.act) result }
     ensures reads { IsReading ⟦<F as Files>⟧ files.old files.new result }
 {
     match &item.act {

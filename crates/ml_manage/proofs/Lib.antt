@@ -5,3 +5,4 @@ pub mod Requests
 mod Sending
 mod Senders
 pub mod Others
+mod OfThreads

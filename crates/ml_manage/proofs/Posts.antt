@@ -1,21 +1,23 @@
 -- Posts by their numbers, and their texts.
-use Rattle.std.proofs.Common.{◌≡◌, inl, inr, ◌<◌, ℕ, zero, suc, ◌+◌, ◌-◌, ◌/◌, min, Bool, true, false, cond, ◌&&◌, ◌==◌, nat_lt, nat_le, List, [], ◌∷◌, ◌++◌, length, map, filter, Option, Some, None, codes, take, get_or, append-nil, refl, sym, ap, ap₂, ◌∙◌, arith, subst, zero-add}
+use Rattle.std.proofs.Common.{◌≡◌, inl, inr, ◌<◌, ◌≤◌, ℕ, zero, suc, ◌+◌, ◌-◌, ◌/◌, min, Bool, true, false, cond, ◌&&◌, ◌==◌, nat_lt, nat_le, List, [], ◌∷◌, ◌++◌, length, map, filter, Option, Some, None, codes, take, get_or, append-nil, refl, sym, ap, ap₂, ◌∙◌, arith, subst, zero-add}
 use Rattle.std.proofs.Math.Seq.{take-suc}
 use Rattle.std.proofs.lemmas.Grind.{flat_map-append}
-use Rattle.std.proofs.lemmas.Bool.{and_from, lt-ltb, ltb-true, or_left, or_right}
+use Rattle.std.proofs.lemmas.Bool.{and_from, le-leb, lt-ltb, ltb-true, or_left, or_right}
 use Rattle.std.specs.Prelude.{slice_get}
-use Rattle.std.specs.List.{flat_map, AllByRecursion}
+use Rattle.std.specs.List.{flat_map, AllByRecursion, IsAmong}
 use Rattle.std.specs.Fmt.{decimal}
 use Rattle.ml_base.specs.Bytes.{Text}
 use Rattle.ml_base.specs.Cuts.{within, one_or_within}
 use Rattle.ml_base.specs.Dir.{Dir, same_name}
 use Rattle.ml_base.specs.Texts.{lines_text}
 use Rattle.ml_base.specs.declared.names.Name.{Name}
-use Rattle.ml_archive.specs.Answers.{IsPostName, IsRangeName, IsThreadName}
+use Rattle.ml_archive.specs.Answers.{IsPostName, IsThreadName}
 use Rattle.ml_archive.specs.Archive.{ArePosts, number_name, index_name}
 use Rattle.ml_archive.specs.Posts.{IsPost, Numbered, as_post, cut, entry, group, in_range, in_thread, numbered, numbers, post_at, size_of}
+use Rattle.ml_archive.specs.Reads.{IsOfRange, IsOfRow, IsOfSubject, IsOfThread, IsWithin}
 use Rattle.ml_archive.specs.declared.posts.Entry.{Entry}
 use Rattle.ml_archive.specs.declared.posts.Post.{Post}
+use Rattle.ml_archive.proofs.Asked.{each_among}
 use Rattle.ml_archive.proofs.ByFiles.{IsOne, filtered_ones}
 use Rattle.ml_plain.specs.ArchiveText.{index_entry, texts_of, whole_post}
 use Rattle.ml_plain.specs.Plain.{Plain}
@@ -23,7 +25,7 @@ use Rattle.ml_reply.specs.Dates.{date_text}
 use Rattle.ml_acts.specs.Doing.{is_index, is_thread_file}
 use Rattle.ml_acts.proofs.Damages.{same_self}
 use Rattle.ml_acts.proofs.Placed.{index_placed, threads_placed}
-use Rattle.ml_manage.specs.Reads.{is_of_index, is_of_range, is_of_thread}
+use Rattle.ml_manage.specs.Reads.{is_of_index, is_of_posts, is_of_range, is_of_thread}
 use Rattle.ml_manage.specs.Texts.{entries_text, entry_text, if_post, post_text, posts_text}
 
 -- what is taken of a row has what all of it has
@@ -106,13 +108,34 @@ of_index g name less e = or_left (is_index name) (same_name name number_name) (i
 is_number : (name : Name) → name ≡ number_name → is_of_range name ≡ true
 is_number name e = subst (λ (n : Name). is_of_range n ≡ true) (sym e) refl
 
-pub range_read : (name : Name) → IsRangeName name → is_of_range name ≡ true
-range_read name (inl e) = is_number name e
-range_read name (inr found) = of_index found.0 name found.1 found.2
+pub range_read : (a b : ℕ) (name : Name) → IsOfRange a b name → is_of_posts a b name ≡ true
+range_read a b name (inl e) = subst (λ (n : Name). is_of_posts a b n ≡ true) (sym e) refl
+range_read a b name (inr (m, low, high, few, e)) =
+    or_left (is_index name && (nat_le (a / 100) name.at && nat_le name.at (b / 100))) (same_name name number_name)
+    (and_from (is_index name) (nat_le (a / 100) name.at && nat_le name.at (b / 100)) (index_placed (m / 100) name (omega (arith, few)) e)
+    (subst (λ (n : Name). (nat_le (a / 100) n.at && nat_le n.at (b / 100)) ≡ true) (sym e)
+    (and_from (nat_le (a / 100) (m / 100)) (nat_le (m / 100) (b / 100)) (le-leb (a / 100) (m / 100) (omega (arith, low))) (le-leb (m / 100) (b / 100) (omega (arith, high))))))
 
-pub post_read : (n : ℕ) (name : Name) → IsPostName n name → is_of_range name ≡ true
-post_read n name (inl e) = is_number name e
-post_read n name (inr is) = let few = is.0 in of_index (n / 100) name (omega (arith, few)) is.1
+pub row_read : (a b : ℕ) (ns : List ℕ) (name : Name) → AllByRecursion (IsWithin a b) ns → IsOfRow number_name ns name → is_of_posts a b name ≡ true
+row_read a b ns name all (inl e) = range_read a b name (inl e)
+row_read a b ns name all (inr (m, among, few, e)) = let within = each_among (IsWithin a b) ns m all among in range_read a b name (inr (m, within.0, within.1, few, e))
+
+among_at : (ns : List ℕ) (i : ℕ) → i < length ns → IsAmong ns (get_or ns i 0)
+among_at [] i low = absurd (omega (arith, low))
+among_at (n ∷ ns) zero low = (0, (omega arith, refl))
+among_at (n ∷ ns) (suc i) low = let more = among_at ns i (omega (arith, low)) in (suc more.0, (let less = more.1.0 in omega (arith, less), more.1.1))
+
+pub one_of_row : (ns : List ℕ) (i : ℕ) (name : Name) → i < length ns → IsPostName (get_or ns i 0) name → IsOfRow number_name ns name
+one_of_row ns i name low (inl e) = inl e
+one_of_row ns i name low (inr is) = inr (get_or ns i 0, among_at ns i low, is.0, is.1)
+
+pub row_thread_read : (ns : List ℕ) (name : Name) → IsOfRow number_name ns name → is_of_thread name ≡ true
+row_thread_read ns name (inl e) = or_left (is_of_range name) (is_thread_file name) (is_number name e)
+row_thread_read ns name (inr (m, among, few, e)) = or_left (is_of_range name) (is_thread_file name) (of_index (m / 100) name (omega (arith, few)) e)
+
+pub row_of_thread : (dir : Dir) (prefix : Text) (n : ℕ) (ns : List ℕ) (name : Name) → ((m : ℕ) → IsAmong ns m → IsOfSubject dir prefix n m) → IsOfRow number_name ns name → IsOfThread dir prefix n name
+row_of_thread dir prefix n ns name of (inl e) = inl (inl e)
+row_of_thread dir prefix n ns name of (inr (m, among, few, e)) = inr (inr (m, of m among, few, e))
 
 pub thread_read : (name : Name) → IsThreadName name → is_of_thread name ≡ true
 thread_read name (inl e) = or_left (is_of_range name) (is_thread_file name) (is_number name e)

@@ -1,13 +1,14 @@
 -- Which files mail to the list's other addresses may read.
-use Rattle.std.specs.Prelude.{◌/◌, ℕ, Bool, true, false, ◌||◌, ◌&&◌, nat_lt, Option, Some, None}
+use Rattle.std.specs.Prelude.{◌≡◌, ◌/◌, ℕ, Bool, true, false, ◌||◌, ◌&&◌, nat_le, nat_lt, Option, Some, None, unwrap_or}
 use Rattle.ml_base.specs.Address.{key, address_of}
 use Rattle.ml_base.specs.Bytes.{Text}
-use Rattle.ml_base.specs.Dir.{same_name}
+use Rattle.ml_base.specs.Dir.{Dir, same_name}
 use Rattle.ml_base.specs.declared.names.Name.{Name}
 use Rattle.ml_base.specs.declared.names.Set.{Set}
 use Rattle.ml_base.specs.declared.names.Set.TheVariants as sets
 use Rattle.ml_address.specs.Requests.{PlainRequest, Post, Other, Owner, Subscribe, Unsubscribe, Confirm, Members, Get, Index, Thread, Accept, Reject, Bounce, WarnBounce, ProbeBounce, ReplyBounce, is_in_range}
 use Rattle.ml_archive.specs.Archive.{number_name, index_name}
+use Rattle.ml_archive.specs.Reads.{IsOfThread}
 use Rattle.ml_config.specs.KeyFile.{key_name}
 use Rattle.ml_config.specs.declared.configuration.Config.{Config}
 use Rattle.ml_digest.specs.Due.{mark_name}
@@ -15,6 +16,7 @@ use Rattle.ml_joining.specs.Deeds.{asked_of}
 use Rattle.ml_joining.specs.Reads.{is_read_to_confirm, is_read_to_subscribe, is_read_to_unsubscribe}
 use Rattle.ml_plain.specs.Bouncing.{address_named}
 use Rattle.ml_subs.specs.Subscribers.{is_touched}
+use Rattle.ml_acts.specs.Damaged.{IsDamaged}
 use Rattle.ml_acts.specs.Doing.{is_bucket, is_bucket_of, is_entry_of, is_index, is_thread_file}
 use Rattle.ml_queue.specs.Answers.{ids_name}
 
@@ -42,11 +44,15 @@ abbrev pub is_of_reader : Config → Text → Name → Bool
 is_of_reader c sender name =
     is_bucket_of sets.Moderators sender name || (c.flags.g && (is_bucket_of sets.List sender name || is_bucket_of sets.Digest sender name))
 
--- a range of posts: their number, and the indexes
+-- posts: their number, and the indexes
 abbrev pub is_of_range : Name → Bool
 is_of_range name = is_index name || same_name name number_name
 
--- a thread: a thread file beside them
+-- the posts a to b: their number, and the indexes of their groups
+abbrev pub is_of_posts : ℕ → ℕ → Name → Bool
+is_of_posts a b name = (is_index name && (nat_le (a / 100) name.at && nat_le name.at (b / 100))) || same_name name number_name
+
+-- a thread: a thread file beside all of them
 abbrev pub is_of_thread : Name → Bool
 is_of_thread name = is_of_range name || is_thread_file name
 
@@ -64,7 +70,7 @@ is_asked_of c sender (Subscribe set who) name = is_read_to_subscribe c sender se
 is_asked_of c sender (Unsubscribe set who) name = is_read_to_unsubscribe c sender set (asked_of sender who) name
 is_asked_of c sender (Confirm word set s) name = is_read_to_confirm word set (address_named s.who) name
 is_asked_of c sender (Members set) name = is_of_members c sender set name
-is_asked_of c sender (Get from to) name = is_of_reader c sender name || is_of_range name || same_name name ids_name
+is_asked_of c sender (Get from to) name = is_of_reader c sender name || is_of_posts from (unwrap_or to from) name || same_name name ids_name
 is_asked_of c sender (Index at) name = is_of_reader c sender name || is_of_index at name || same_name name ids_name
 is_asked_of c sender (Thread at) name = is_of_reader c sender name || is_of_thread name || same_name name ids_name
 is_asked_of c sender _ name = same_name name ids_name
@@ -90,3 +96,14 @@ is_managed (Accept ticket cookie) = false
 is_managed (Reject ticket cookie) = false
 is_managed Other = true
 is_managed request = is_in_range request
+
+-- A file of the archive that is named for a thread is one that it is looked up in, by what the files have of it: the number of posts, the index
+-- of the post's group, the one thread file of its key, and the indexes of the posts there. Nothing else that is asked looks a thread up.
+abbrev pub IsThreaded : Dir → Config → PlainRequest → Name → Type 0
+IsThreaded dir c (Thread at) name = is_of_thread name ≡ true → IsOfThread dir c.prefix at name
+IsThreaded dir c _ name = Unit {0}
+
+-- a file that is damaged, where it is the archive's for a thread that is asked for, one of this thread's
+pub record IsDamagedFor (dir : Dir) (c : Config) (request : PlainRequest) (name : Name) : Type 0 where
+  pub damaged : IsDamaged dir name
+  pub threaded : IsThreaded dir c request name

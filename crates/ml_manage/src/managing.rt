@@ -1,5 +1,5 @@
 // A request: the first rule that applies decides.
-ghost use Rattle.std.specs.Prelude.{◌≡◌, ◌≤◌, true, length, codes, IsTrue, IfOk, IfErr};
+ghost use Rattle.std.specs.Prelude.{◌≡◌, true, codes, IsTrue, IfOk, IfErr};
 ghost use Rattle.ml_address.specs.Requests.{Bounce, WarnBounce, ProbeBounce, is_in_range};
 ghost use Rattle.ml_address.specs.Views.{request_view, who_view};
 ghost use Rattle.ml_base.specs.Address.{address_of};
@@ -16,16 +16,18 @@ ghost use Rattle.ml_plain.specs.Directory.{IsList, is_of_list};
 ghost use Rattle.ml_plain.specs.KeptFiles.{is_kept};
 ghost use Rattle.ml_plain.specs.Managing as spec;
 ghost use Rattle.ml_plain.specs.Plain.{Plain};
+ghost use Rattle.ml_acts.specs.Configured.{with_config};
 ghost use Rattle.ml_acts.specs.Damaged.{IsDamaged};
 ghost use Rattle.ml_acts.specs.Doing.{DoesList, HasRoom};
 ghost use Rattle.ml_manage.specs.Leaving.{signed};
-ghost use Rattle.ml_manage.specs.Reads.{is_asked_of, is_managed, is_of_bounce, is_of_probe, is_of_warning, is_read_for, may_read};
+ghost use Rattle.ml_manage.specs.Reads.{IsDamagedFor, is_asked_of, is_managed, is_of_bounce, is_of_probe, is_of_warning, is_read_for, may_read};
 
 use crate::archive::{get, index_of, thread_of};
 use crate::bounces::{bounced, probe_bounced, warning_bounced};
 use crate::helping::{helped, to_owner};
 use crate::members::members;
 use crate::naming::{named, plain};
+use ml_acts::Configured;
 use ml_address::{Request, Who};
 use ml_base::{Address, AddressError, Files, PartError, Set, Txn};
 use ml_config::Config;
@@ -35,12 +37,12 @@ use ml_plain::Reply;
 use std::alloc::{AllocError, Global};
 
 /// What a request does that mail to one of the list's addresses asks, of an envelope sender with a message: the puts, and the
-/// reply. The request is neither a post nor a moderator's answer, and its parts are in their ranges; the message has at most
-/// 33,554,432 bytes, and `now` is in seconds since 1970.
+/// reply. The request is neither a post nor a moderator's answer, and its parts are in their ranges; `now` is in seconds since 1970. What
+/// it does is said of the files with the configuration in the place of theirs.
 ///
 /// Bounces are noted and mail to the owner goes on whoever sent it. Of the others a sender who is no address is answered
-/// `nosender`, and a message from a list `looped`. `Damaged` names a file that the request may read and that is outside its grammar,
-/// or names what isn't there. `Fault` comes only where a read failed.
+/// `nosender`, and a message from a list `looped`. `Damaged` names a file that the request may read, by its own numbers, and that is outside
+/// its grammar, or names what isn't there. `Fault` comes only where a read failed.
 pub fn manage<F: Files>(
     alloc: Global,
     files: &mut F,
@@ -52,19 +54,18 @@ pub fn manage<F: Files>(
 ) -> Result<(Txn, Reply), PartError>
     requires moment { IsMoment now }
     requires config { IsConfig config.now }
-    requires loaded { IsTrue F.tells → IsConfigFile (F.map files.now config_name) config.now }
     requires room { IsTrue F.tells → HasRoom (F.map files.now) }
     requires request { is_managed (request_view request.now) ≡ true }
-    requires length { length message.now ≤ 33_554_432 }
-    ensures value { IsTrue F.tells → IfOk result (λ done. (p : Plain) → IsList (F.map files.old) p → p.config ≡ config.now → DoesList (F.map files.old) done (spec.by_request now sender.now message.now p (request_view request.now))) }
+    ensures value { IsTrue F.tells → IfOk result (λ done. (p : Plain) → IsList (with_config config.now (F.map files.old)) p → DoesList (with_config config.now (F.map files.old)) done (spec.by_request now sender.now message.now p (request_view request.now))) }
     ensures own { IfOk result (λ done. touches_only is_of_list done.0 ≡ true) }
     ensures files { IfOk result (λ done. IsTrue (are_files done.0)) }
     ensures reply { IfOk result (λ done. is_kept done.1 ≡ true) }
-    ensures names { NamesDamaged ⟦<F as Files>⟧ (λ name. may_read config.now sender.now (request_view request.now) name ≡ true) (IsDamaged (F.map files.old)) result }
-    ensures sound { IsTrue F.tells → (p : Plain) → IsList (F.map files.old) p → IfErr result (λ e. OnDamaged e (λ _. ⊥)) }
+    ensures names { NamesDamaged ⟦<F as Files>⟧ (λ name. may_read config.now sender.now (request_view request.now) name ≡ true) (IsDamagedFor (with_config config.now (F.map files.old)) config.now (request_view request.now)) result }
+    ensures sound { IsTrue F.tells → (p : Plain) → IsList (with_config config.now (F.map files.old)) p → IfErr result (λ e. OnDamaged e (λ _. ⊥)) }
     ensures reads { IsReading ⟦<F as Files>⟧ files.old files.new result }
 {
-    by_request(alloc, files, config, now, sender, request, message)
+    let mut under = Configured::new(files, config);
+    by_request(alloc, &mut under, config, now, sender, request, message)
 }
 
 // A request, whoever sent it.
@@ -86,7 +87,7 @@ fn by_request<F: Files>(
     ensures own { IfOk result (λ done. touches_only is_of_list done.0 ≡ true) }
     ensures files { IfOk result (λ done. IsTrue (are_files done.0)) }
     ensures reply { IfOk result (λ done. is_kept done.1 ≡ true) }
-    ensures names { NamesDamaged ⟦<F as Files>⟧ (λ name. may_read config.now sender.now (request_view request.now) name ≡ true) (IsDamaged (F.map files.old)) result }
+    ensures names { NamesDamaged ⟦<F as Files>⟧ (λ name. may_read config.now sender.now (request_view request.now) name ≡ true) (IsDamagedFor (F.map files.old) config.now (request_view request.now)) result }
     ensures reads { IsReading ⟦<F as Files>⟧ files.old files.new result }
 {
     match request {
@@ -195,7 +196,7 @@ fn by_sender<F: Files>(
     ensures own { IfOk result (λ done. touches_only is_of_list done.0 ≡ true) }
     ensures files { IfOk result (λ done. IsTrue (are_files done.0)) }
     ensures reply { IfOk result (λ done. is_kept done.1 ≡ true) }
-    ensures names { NamesDamaged ⟦<F as Files>⟧ (λ name. is_read_for config.now (address_of sender.now) (request_view request.now) name ≡ true) (IsDamaged (F.map files.old)) result }
+    ensures names { NamesDamaged ⟦<F as Files>⟧ (λ name. is_read_for config.now (address_of sender.now) (request_view request.now) name ≡ true) (IsDamagedFor (F.map files.old) config.now (request_view request.now)) result }
     ensures reads { IsReading ⟦<F as Files>⟧ files.old files.new result }
 {
     let Some(who) = usable(alloc, sender)? else {
@@ -243,7 +244,7 @@ fn managed<F: Files>(
     ensures own { IfOk result (λ done. touches_only is_of_list done.0 ≡ true) }
     ensures files { IfOk result (λ done. IsTrue (are_files done.0)) }
     ensures reply { IfOk result (λ done. is_kept done.1 ≡ true) }
-    ensures names { NamesDamaged ⟦<F as Files>⟧ (λ name. is_asked_of config.now sender.now (request_view request.now) name ≡ true) (IsDamaged (F.map files.old)) result }
+    ensures names { NamesDamaged ⟦<F as Files>⟧ (λ name. is_asked_of config.now sender.now (request_view request.now) name ≡ true) (IsDamagedFor (F.map files.old) config.now (request_view request.now)) result }
     ensures reads { IsReading ⟦<F as Files>⟧ files.old files.new result }
 {
     match request {

@@ -6,3 +6,4 @@ mod Posts
 mod Waiting
 mod Fates
 mod Moderated
+mod Fitting

@@ -15,6 +15,8 @@ ghost use Rattle.ml_plain.specs.KeptFiles.{is_kept};
 ghost use Rattle.ml_plain.specs.Mailing as mailing;
 ghost use Rattle.ml_plain.specs.Managing as spec;
 ghost use Rattle.ml_plain.specs.Plain.{Plain, is_archive_full};
+ghost use Rattle.ml_config.specs.Configuration.{IsConfig};
+ghost use Rattle.ml_acts.specs.Configured.{with_config};
 ghost use Rattle.ml_acts.specs.Damaged.{IsDamaged};
 ghost use Rattle.ml_acts.specs.Doing.{DoesList, HasIds};
 ghost use Rattle.ml_post.specs.Answering.{is_accepted_by, is_answered_by, is_followed_by, is_rejected_by, is_taken_by};
@@ -22,7 +24,7 @@ ghost use Rattle.ml_post.specs.Answering.{is_accepted_by, is_answered_by, is_fol
 use crate::holding::list_keys;
 use crate::posting::{plain, posted};
 use crate::publishing::publish;
-use ml_acts::{Memo, is_cookie, with_mail};
+use ml_acts::{Configured, Memo, is_cookie, with_mail};
 use ml_archive::Appended;
 use ml_base::{Bytes, Files, PartError, Set, Txn, write_number};
 use ml_config::{Config, Keys};
@@ -34,7 +36,8 @@ use std::alloc::{AllocError, Global};
 /// A moderator's answer about the post of a ticket, with the letters of its cookie, whatever its age. `now` is in seconds since 1970.
 ///
 /// `gone` where no post waits under the ticket, and `badcookie` where the letters aren't its cookie. A post that is accepted is posted
-/// and waits no longer; `full` where the archive is full, and then it still waits. One that is rejected goes back to its sender.
+/// and waits no longer; `full` where the archive is full, and then it still waits. One that is rejected goes back to its sender. All
+/// this is said of the files with the configuration in the place of theirs.
 pub fn answer<F: Files>(
     alloc: Global,
     files: &mut F,
@@ -46,15 +49,16 @@ pub fn answer<F: Files>(
 ) -> Result<(Txn, Reply), PartError>
     requires moment { IsMoment now }
     requires room { IsTrue F.tells → HasIds (F.map files.now) }
-    ensures value { IsTrue F.tells → IfOk result (λ done. (p : Plain) → IsList (F.map files.old) p → p.config ≡ config.now → DoesList (F.map files.old) done (spec.answer now ticket letters.now accept p)) }
+    ensures value { IsTrue F.tells → IsConfig config.now → IfOk result (λ done. (p : Plain) → IsList (with_config config.now (F.map files.old)) p → DoesList (with_config config.now (F.map files.old)) done (spec.answer now ticket letters.now accept p)) }
     ensures own { IfOk result (λ done. touches_only is_of_list done.0 ≡ true) }
     ensures files { IfOk result (λ done. IsTrue (are_files done.0)) }
     ensures reply { IfOk result (λ done. is_kept done.1 ≡ true) }
-    ensures names { NamesDamaged ⟦<F as Files>⟧ (λ name. is_answered_by ticket accept name ≡ true) (IsDamaged (F.map files.old)) result }
-    ensures sound { IsTrue F.tells → (p : Plain) → IsList (F.map files.old) p → IfErr result (λ e. OnDamaged e (λ _. ⊥)) }
+    ensures names { NamesDamaged ⟦<F as Files>⟧ (λ name. is_answered_by ticket accept name ≡ true) (IsDamaged (with_config config.now (F.map files.old))) result }
+    ensures sound { IsTrue F.tells → (p : Plain) → IsList (with_config config.now (F.map files.old)) p → IfErr result (λ e. OnDamaged e (λ _. ⊥)) }
     ensures reads { IsReading ⟦<F as Files>⟧ files.old files.new result }
 {
-    answer_ticket(alloc, files, config, now, ticket, letters, accept)
+    let mut under = Configured::new(files, config);
+    answer_ticket(alloc, &mut under, config, now, ticket, letters, accept)
 }
 
 // Looks for the post of the ticket first.

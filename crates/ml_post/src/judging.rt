@@ -1,5 +1,5 @@
 // What is found of a post: the first row of the table that holds.
-ghost use Rattle.std.specs.Prelude.{◌≡◌, ◌&&◌, ◌||◌, true, false, not, IsTrue, IfOk, IfErr, MatchOption, is_ok, Some, None};
+ghost use Rattle.std.specs.Prelude.{◌≡◌, ◌≢◌, ◌≤◌, ◌&&◌, ◌||◌, true, false, not, length, IsTrue, IfOk, IfErr, MatchOption, is_ok, Some, None};
 ghost use Rattle.ml_base.specs.Address.{address_check, address_of, key};
 ghost use Rattle.ml_base.specs.Bytes.{lower};
 ghost use Rattle.ml_base.specs.PartErrors.{OnDamaged};
@@ -10,12 +10,16 @@ ghost use Rattle.ml_plain.specs.Verdicts as spec;
 ghost use Rattle.ml_archive.specs.Archive.{number_name};
 ghost use Rattle.ml_base.specs.Dir.{same_name};
 ghost use Rattle.ml_base.specs.declared.names.Set.TheVariants as sets;
+ghost use Rattle.ml_config.specs.Configuration.{IsConfig};
+ghost use Rattle.ml_acts.specs.Configured.{with_config};
 ghost use Rattle.ml_acts.specs.Damaged.{IsDamaged};
 ghost use Rattle.ml_post.specs.Judging.{row_of, is_judged_by, is_bucket_of, is_of_user};
 ghost use Rattle.ml_post.specs.Judging as rows;
+ghost use Rattle.ml_post.specs.declared.verdicts.Verdict.TheVariants.{TooBig};
 
 use crate::Verdict;
 use crate::addressed::is_addressed;
+use ml_acts::Configured;
 use ml_archive::{count, subject};
 use ml_base::{Address, AddressError, Files, PartError, Set};
 use ml_config::Config;
@@ -30,7 +34,7 @@ const MOST_POSTS: u64 = 99_999_999;
 ///
 /// Of the files it reads the sender's bucket of the deny list, where the list has one; his buckets of the sets list, digest,
 /// allow and mod, where only users may post; and the number of posts. `Damaged` names one of these that is outside its
-/// grammar. `Fault` comes only where a read failed.
+/// grammar. `Fault` comes only where a read failed. All this is said of the files with the configuration in the place of theirs.
 pub fn verdict<F: Files>(
     alloc: Global,
     files: &mut F,
@@ -38,9 +42,27 @@ pub fn verdict<F: Files>(
     sender: &[u8],
     message: &Message<'_>,
 ) -> Result<Verdict, PartError>
+    ensures value { IsTrue F.tells → IsConfig config.now → IfOk result (λ found. (p : Plain) → IsList (with_config config.now (F.map files.old)) p → row_of found ≡ spec.verdict p sender.now message.now) }
+    ensures fits { IfOk result (λ found. found ≢ TooBig → length message.now ≤ config.now.max) }
+    ensures names { NamesDamaged ⟦<F as Files>⟧ (λ name. is_judged_by config.now sender.now name ≡ true) (IsDamaged (with_config config.now (F.map files.old))) result }
+    ensures sound { IsTrue F.tells → (p : Plain) → IsList (with_config config.now (F.map files.old)) p → IfErr result (λ e. OnDamaged e (λ _. ⊥)) }
+    ensures reads { IsReading ⟦<F as Files>⟧ files.old files.new result }
+{
+    let mut under = Configured::new(files, config);
+    judged(alloc, &mut under, config, sender, message)
+}
+
+// The same on a list that has the configuration.
+pub(crate) fn judged<F: Files>(
+    alloc: Global,
+    files: &mut F,
+    config: &Config,
+    sender: &[u8],
+    message: &Message<'_>,
+) -> Result<Verdict, PartError>
     ensures value { IsTrue F.tells → IfOk result (λ found. (p : Plain) → IsList (F.map files.old) p → p.config ≡ config.now → row_of found ≡ spec.verdict p sender.now message.now) }
+    ensures fits { IfOk result (λ found. found ≢ TooBig → length message.now ≤ config.now.max) }
     ensures names { NamesDamaged ⟦<F as Files>⟧ (λ name. is_judged_by config.now sender.now name ≡ true) (IsDamaged (F.map files.old)) result }
-    ensures sound { IsTrue F.tells → (p : Plain) → IsList (F.map files.old) p → IfErr result (λ e. OnDamaged e (λ _. ⊥)) }
     ensures reads { IsReading ⟦<F as Files>⟧ files.old files.new result }
 {
     if message.bytes().len() as u64 > config.max {

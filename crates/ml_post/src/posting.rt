@@ -13,6 +13,7 @@ ghost use Rattle.ml_plain.specs.KeptFiles.{is_kept};
 ghost use Rattle.ml_plain.specs.Plain.{Plain, is_archive_full};
 ghost use Rattle.ml_plain.specs.Posting as spec;
 ghost use Rattle.ml_plain.specs.Verdicts as verdicts;
+ghost use Rattle.ml_acts.specs.Configured.{with_config};
 ghost use Rattle.ml_acts.specs.Damaged.{IsDamaged};
 ghost use Rattle.ml_acts.specs.Doing.{DoesList, HasIds, HasRoom};
 ghost use Rattle.ml_post.specs.Holding.{is_held_by};
@@ -20,10 +21,10 @@ ghost use Rattle.ml_post.specs.Posting.{fate_of, is_posted_by, reply_of};
 ghost use Rattle.ml_post.specs.Publishing.{is_published_by};
 
 use crate::holding::hold_post;
-use crate::judging::usable;
+use crate::judging::{judged, usable};
 use crate::publishing::publish;
-use crate::{Verdict, verdict};
-use ml_acts::Memo;
+use crate::Verdict;
+use ml_acts::{Configured, Memo};
 use ml_archive::Appended;
 use ml_base::{Files, PartError, Txn};
 use ml_config::Config;
@@ -33,7 +34,8 @@ use std::alloc::Global;
 
 /// What a message does that comes to the list's own address: it is posted, or held for the moderators, who are asked, or refused, by its verdict.
 ///
-/// A post goes last into the archive, and the queue gets it for the members of the set list as they are. `now` is in seconds since 1970.
+/// A post goes last into the archive, and the queue gets it for the members of the set list as they are. `now` is in seconds since 1970. What
+/// it does is said of the files with the configuration in the place of theirs.
 /// `Memory` comes also where no memory could hold the text that is sent, of 2^32 bytes or more.
 pub fn post<F: Files>(
     alloc: Global,
@@ -45,14 +47,13 @@ pub fn post<F: Files>(
 ) -> Result<(Txn, Reply), PartError>
     requires moment { IsMoment now }
     requires config { IsConfig config.now }
-    requires size { length message.now ≤ 33_554_432 }
     requires room { IsTrue F.tells → HasRoom (F.map files.now) }
-    ensures value { IsTrue F.tells → IfOk result (λ done. (p : Plain) → IsList (F.map files.old) p → p.config ≡ config.now → DoesList (F.map files.old) done (spec.post now sender.now message.now p)) }
+    ensures value { IsTrue F.tells → IfOk result (λ done. (p : Plain) → IsList (with_config config.now (F.map files.old)) p → DoesList (with_config config.now (F.map files.old)) done (spec.post now sender.now message.now p)) }
     ensures own { IfOk result (λ done. touches_only is_of_list done.0 ≡ true) }
     ensures files { IfOk result (λ done. IsTrue (are_files done.0)) }
     ensures reply { IfOk result (λ done. is_kept done.1 ≡ true) }
-    ensures names { NamesDamaged ⟦<F as Files>⟧ (λ name. is_posted_by config.now sender.now name ≡ true) (IsDamaged (F.map files.old)) result }
-    ensures sound { IsTrue F.tells → (p : Plain) → IsList (F.map files.old) p → IfErr result (λ e. OnDamaged e (λ _. ⊥)) }
+    ensures names { NamesDamaged ⟦<F as Files>⟧ (λ name. is_posted_by config.now sender.now name ≡ true) (IsDamaged (with_config config.now (F.map files.old))) result }
+    ensures sound { IsTrue F.tells → (p : Plain) → IsList (with_config config.now (F.map files.old)) p → IfErr result (λ e. OnDamaged e (λ _. ⊥)) }
     ensures reads { IsReading ⟦<F as Files>⟧ files.old files.new result }
 {
     let mut memo = Memo::new();
@@ -71,7 +72,30 @@ pub fn post_with_memo<F: Files>(
 ) -> Result<(Txn, Reply), PartError>
     requires moment { IsMoment now }
     requires config { IsConfig config.now }
-    requires size { length message.now ≤ 33_554_432 }
+    requires room { IsTrue F.tells → HasRoom (F.map files.now) }
+    ensures value { IsTrue F.tells → IfOk result (λ done. (p : Plain) → IsList (with_config config.now (F.map files.old)) p → DoesList (with_config config.now (F.map files.old)) done (spec.post now sender.now message.now p)) }
+    ensures own { IfOk result (λ done. touches_only is_of_list done.0 ≡ true) }
+    ensures files { IfOk result (λ done. IsTrue (are_files done.0)) }
+    ensures reply { IfOk result (λ done. is_kept done.1 ≡ true) }
+    ensures names { NamesDamaged ⟦<F as Files>⟧ (λ name. is_posted_by config.now sender.now name ≡ true) (IsDamaged (with_config config.now (F.map files.old))) result }
+    ensures reads { IsReading ⟦<F as Files>⟧ files.old files.new result }
+{
+    let mut under = Configured::new(files, config);
+    post_judged(alloc, &mut under, memo, config, now, sender, message)
+}
+
+// The same on a list that has the configuration.
+fn post_judged<F: Files>(
+    alloc: Global,
+    files: &mut F,
+    memo: &mut Memo,
+    config: &Config,
+    now: u64,
+    sender: &[u8],
+    message: &[u8],
+) -> Result<(Txn, Reply), PartError>
+    requires moment { IsMoment now }
+    requires config { IsConfig config.now }
     requires room { IsTrue F.tells → HasRoom (F.map files.now) }
     ensures value { IsTrue F.tells → IfOk result (λ done. (p : Plain) → IsList (F.map files.old) p → p.config ≡ config.now → DoesList (F.map files.old) done (spec.post now sender.now message.now p)) }
     ensures own { IfOk result (λ done. touches_only is_of_list done.0 ≡ true) }
@@ -80,7 +104,7 @@ pub fn post_with_memo<F: Files>(
     ensures names { NamesDamaged ⟦<F as Files>⟧ (λ name. is_posted_by config.now sender.now name ≡ true) (IsDamaged (F.map files.old)) result }
     ensures reads { IsReading ⟦<F as Files>⟧ files.old files.new result }
 {
-    let found = verdict(alloc, files, config, sender, &Message::scan(message))?;
+    let found = judged(alloc, files, config, sender, &Message::scan(message))?;
     match follows(found) {
         Fate::Refused(reply) => Ok((Txn::new(alloc), reply)),
         Fate::Held => hold_message(alloc, files, config, now, sender, message),

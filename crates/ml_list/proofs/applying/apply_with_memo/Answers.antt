@@ -1,13 +1,15 @@
-use Rattle.std.proofs.Common.{None, IfErr, subst}
+use Rattle.std.proofs.Common.{◌≡◌, inl, inr, true, None, IfErr, subst}
+use Rattle.std.proofs.lemmas.Bool.{or_left, or_right}
 use Rattle.std.proofs.lemmas.Result.{IfOk-weaker}
 use Rattle.ml_base.specs.Dir.{Dir}
 use Rattle.ml_base.specs.PartErrors.{OnDamaged}
-use Rattle.ml_base.proofs.DamagedNames.{on_damaged}
+use Rattle.ml_base.proofs.DamagedNames.{err_damaged, on_both, on_damaged}
 use Rattle.ml_plain.specs.Histories.{State, effect, with_reply}
 use Rattle.ml_plain.specs.Directory.{IsState}
 use Rattle.ml_list.specs.declared.applying.Lookup.{Lookup}
 use Rattle.ml_list.specs.Applying.{Does, Repeats}
-use Rattle.ml_list.specs.Damage.{IsDamaged}
+use Rattle.ml_list.specs.Asked.{IsDamagedFor, IsDamagedForAct}
+use Rattle.ml_list.specs.Damage.{IsDamaged, is_looked_up, is_read_by, may_read}
 use Rattle.ml_list.specs.Lookups.{answer_of}
 use Rattle.ml_list.proofs.Damages.{none_damaged, sound_by}
 use Rattle.ml_list.proofs.Steps.{answered_does, new_does}
@@ -35,6 +37,32 @@ returns-in-Err-clause-sound g c told q is =
 
 pub returns-in-Ok-New-clause-sound : goal.returns-in-Ok-New-clause-sound
 returns-in-Ok-New-clause-sound g c told q is =
+    let dir = g.F.Files.map c.args.files in
+    let item = c.args.item.now in
     let same = g.met.F.Files.kept_map c.args.files c.look_up.new.files told c.look_up.ensures.reads.kept in
     let r = c.count.result.1 in
-    sound_by (g.F.Files.map c.args.files) q r is (subst (λ (d : Dir). IfErr r (λ e. OnDamaged e (IsDamaged d))) same (c.count.ensures.names.damaged told))
+    sound_by dir q r is (err_damaged r (IsDamagedForAct dir item.act) (IsDamaged dir) (λ name bad. bad.damaged) (subst (λ (d : Dir). IfErr r (λ e. OnDamaged e (IsDamagedForAct d item.act))) same (c.count.ensures.names.damaged told)))
+
+pub returns-in-Err-clause-names : goal.returns-in-Err-clause-names
+returns-in-Err-clause-names g c =
+    let dir = g.F.Files.map c.args.files in
+    let item = c.args.item.now in
+    let e = c.in-Err.error in
+    let failed = c.in-Err.ensures.names in
+    record {
+      named = on_damaged e (λ name. is_looked_up item.number name ≡ true) (λ name. may_read item name ≡ true) (λ name l. or_left (is_looked_up item.number name) (is_read_by item.act name) l) failed.named;
+      damaged = λ told. on_both e (λ name. is_looked_up item.number name ≡ true) (IsDamaged dir) (IsDamagedFor dir item) (λ name l bad. record { damaged = bad; read = inl l }) failed.named (failed.damaged told);
+    }
+
+pub returns-in-Ok-New-clause-names : goal.returns-in-Ok-New-clause-names
+returns-in-Ok-New-clause-names g c =
+    let dir = g.F.Files.map c.args.files in
+    let item = c.args.item.now in
+    let r = c.count.result.1 in
+    record {
+      named = err_damaged r (λ name. is_read_by item.act name ≡ true) (λ name. may_read item name ≡ true) (λ name e. or_right (is_looked_up item.number name) (is_read_by item.act name) e) c.count.ensures.names.named;
+      damaged = λ told.
+          let same = g.met.F.Files.kept_map c.args.files c.look_up.new.files told c.look_up.ensures.reads.kept in
+          err_damaged r (IsDamagedForAct dir item.act) (IsDamagedFor dir item) (λ name bad. record { damaged = bad.damaged; read = inr bad.read })
+          (subst (λ (d : Dir). IfErr r (λ e. OnDamaged e (IsDamagedForAct d item.act))) same (c.count.ensures.names.damaged told));
+    }

@@ -2,10 +2,12 @@ use Rattle.std.proofs.Common.{◌≡◌, true, sym, ap, subst}
 use Rattle.ml_base.specs.Dir.{same_name}
 use Rattle.ml_base.specs.ReadFiles.{NamesDamaged}
 use Rattle.ml_queue.specs.Answers.{ids_name}
-use Rattle.ml_deliver.specs.Reads.{is_of_acts}
-use Rattle.ml_list.specs.Damage.{IsDamaged, is_read_by}
+use Rattle.ml_list.specs.Asked.{IsDamagedForAct}
+use Rattle.ml_list.specs.Damage.{is_read_by}
+use Rattle.ml_list.proofs.Asked.{acted_named, delivered_named}
 use Rattle.ml_list.proofs.Damages.{part_named}
 use Rattle.ml_plain.specs.declared.Act.{Act}
+use Rattle.ml_plain.specs.declared.Act.TheVariants.{Add, Remove, Sent, Rekey, Floor}
 use Rattle.ml_plain.specs.Steps.{act_step}
 use Rattle.ml_plain.specs.Histories.{effect_by, floor_asked}
 use Rattle.ml_acts.specs.Doing.{DoesList}
@@ -27,7 +29,8 @@ returns-in-Deliver-clause-value g c told =
 pub returns-in-Deliver-clause-names : goal.returns-in-Deliver-clause-names
 returns-in-Deliver-clause-names g c =
     let dir = g.F.Files.map c.args.files.now in
-    subst (λ (a : Act). NamesDamaged g.F.Files (λ name. is_read_by a name ≡ true) (IsDamaged dir) c.deliver.result) (sym c.in-Deliver.is) (part_named g.F.Files (λ name. is_of_acts name ≡ true) c.deliver.result dir c.deliver.ensures.names)
+    subst (λ (a : Act). NamesDamaged g.F.Files (λ name. is_read_by a name ≡ true) (IsDamagedForAct dir a) c.deliver.result) (sym c.in-Deliver.is)
+    (delivered_named g.F.Files c.deliver.result dir _ _ _ _ _ c.as_slice.ensures c.as_slice-in-Deliver.ensures c.deliver.ensures.names)
 
 pub returns-in-Sent-clause-value : goal.returns-in-Sent-clause-value
 returns-in-Sent-clause-value g c told =
@@ -40,7 +43,8 @@ returns-in-Sent-clause-value g c told =
 pub returns-in-Sent-clause-names : goal.returns-in-Sent-clause-names
 returns-in-Sent-clause-names g c =
     let dir = g.F.Files.map c.args.files.now in
-    subst (λ (a : Act). NamesDamaged g.F.Files (λ name. is_read_by a name ≡ true) (IsDamaged dir) c.sent_entry.result) (sym c.in-Sent.is) (part_named g.F.Files (λ name. same_name name ids_name ≡ true) c.sent_entry.result dir c.sent_entry.ensures.names)
+    subst (λ (a : Act). NamesDamaged g.F.Files (λ name. is_read_by a name ≡ true) (IsDamagedForAct dir a) c.sent_entry.result) (sym c.in-Sent.is)
+    (acted_named g.F.Files c.sent_entry.result dir (Sent _) (λ name e. e) (part_named g.F.Files (λ name. same_name name ids_name ≡ true) c.sent_entry.result dir c.sent_entry.ensures.names))
 
 pub returns-in-Add-clause-value : goal.returns-in-Add-clause-value
 returns-in-Add-clause-value g c told =
@@ -71,3 +75,27 @@ returns-in-Floor-clause-value g c told =
     let dir = g.F.Files.map c.args.files.now in
     let item = c.args.item.now in
     IfOk-weaker c.raise.result _ _ (λ done h q is. subst (λ (a : Act). Does dir done (effect_by q item (floor_asked a))) (sym c.in-Floor.is) (h q is)) (c.raise.ensures.value told)
+
+pub returns-in-Add-clause-names : goal.returns-in-Add-clause-names
+returns-in-Add-clause-names g c =
+    let dir = g.F.Files.map c.args.files.now in
+    subst (λ (a : Act). NamesDamaged g.F.Files (λ name. is_read_by a name ≡ true) (IsDamagedForAct dir a) c.add_member.result) (sym c.in-Add.is)
+    (acted_named g.F.Files c.add_member.result dir (Add _ _) (λ name e. e) c.add_member.ensures.names)
+
+pub returns-in-Remove-clause-names : goal.returns-in-Remove-clause-names
+returns-in-Remove-clause-names g c =
+    let dir = g.F.Files.map c.args.files.now in
+    subst (λ (a : Act). NamesDamaged g.F.Files (λ name. is_read_by a name ≡ true) (IsDamagedForAct dir a) c.remove_member.result) (sym c.in-Remove.is)
+    (acted_named g.F.Files c.remove_member.result dir (Remove _ _) (λ name e. e) c.remove_member.ensures.names)
+
+pub returns-in-Rekey-clause-names : goal.returns-in-Rekey-clause-names
+returns-in-Rekey-clause-names g c =
+    let dir = g.F.Files.map c.args.files.now in
+    subst (λ (a : Act). NamesDamaged g.F.Files (λ name. is_read_by a name ≡ true) (IsDamagedForAct dir a) c.change_key.result) (sym c.in-Rekey.is)
+    (acted_named g.F.Files c.change_key.result dir (Rekey _) (λ name e. e) c.change_key.ensures.names)
+
+pub returns-in-Floor-clause-names : goal.returns-in-Floor-clause-names
+returns-in-Floor-clause-names g c =
+    let dir = g.F.Files.map c.args.files.now in
+    subst (λ (a : Act). NamesDamaged g.F.Files (λ name. is_read_by a name ≡ true) (IsDamagedForAct dir a) c.raise.result) (sym c.in-Floor.is)
+    (acted_named g.F.Files c.raise.result dir (Floor _) (λ name e. e) c.raise.ensures.names)

@@ -1,9 +1,15 @@
-use Rattle.std.proofs.Common.{sym, subst, refl, arith}
+use Rattle.std.proofs.Common.{sym, subst, refl, arith, get_or, rules}
 use Rattle.ml_base.specs.Dir.{Dir}
+use Rattle.ml_base.specs.PartErrors.{OnDamaged}
+use Rattle.ml_base.proofs.DamagedNames.{on_damaged}
 use Rattle.ml_base.proofs.ReadingLemmas.{kept_then, kept_read}
+use Rattle.ml_archive.specs.Answers.{IsPostName}
+use Rattle.ml_archive.specs.Archive.{number_name}
+use Rattle.ml_archive.specs.Reads.{IsOfRow}
 use Rattle.ml_plain.specs.Directory.{IsList}
+use Rattle.ml_acts.specs.Damaged.{IsDamaged}
 use Rattle.ml_manage.specs.Texts.{post_text}
-use Rattle.ml_manage.proofs.Posts.{one_more}
+use Rattle.ml_manage.proofs.Posts.{one_more, one_of_row}
 use Rattle.ml_manage.proofs.archive.all_posts.Goals as goal
 
 pub loop-number-preserved : goal.loop-number-preserved
@@ -15,4 +21,18 @@ loop-number-preserved g c =
           let same = g.met.F.Files.kept_map c.args.files.now c.loop-number.files told before.read.kept in
           one_more (post_text p) c.args.numbers.now c.loop-number.number-index _ c.loop-number.out c.add_one.new.out (omega arith) refl (before.text told p is conf)
           (c.in_ok-add_one.ensures.value told p (subst (λ (d : Dir). IsList d p) (sym same) is) conf);
+    }
+
+pub returns-in_err-add_one-clause-names : goal.returns-in_err-add_one-clause-names
+returns-in_err-add_one-clause-names g c =
+    let ns = c.args.numbers.now in
+    let i = c.loop-number.number-index in
+    let e = c.in_err-add_one.field-0.0 in
+    let failed = c.in_err-add_one.ensures.names in
+    record {
+      named = let own : OnDamaged e (IsOfRow number_name ns) = on_damaged e (IsPostName (get_or ns i 0)) (IsOfRow number_name ns) (λ name is. one_of_row ns i name (omega arith) is) failed.named in search rules;
+      damaged = λ told.
+          let same = g.met.F.Files.kept_map c.args.files.now c.loop-number.files told c.loop-number.invariant.read.kept in
+          let bad : OnDamaged e (IsDamaged (g.F.Files.map c.args.files.now)) = subst (λ (d : Dir). OnDamaged e (IsDamaged d)) same (failed.damaged told) in
+          search rules;
     }

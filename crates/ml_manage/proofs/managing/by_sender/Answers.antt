@@ -4,8 +4,7 @@ use Rattle.ml_address.specs.Views.{request_view}
 use Rattle.ml_base.specs.Address.{address_of}
 use Rattle.ml_base.specs.Bytes.{Text}
 use Rattle.ml_base.specs.ReadFiles.{NamesDamaged}
-use Rattle.ml_acts.specs.Damaged.{IsDamaged}
-use Rattle.ml_manage.specs.Reads.{is_read_for}
+use Rattle.ml_manage.specs.Reads.{IsDamagedFor, is_read_for}
 use Rattle.ml_manage.proofs.Senders.{of_list, of_nobody, of_somebody}
 use Rattle.ml_manage.proofs.managing.by_sender.Goals as goal
 
@@ -29,4 +28,4 @@ returns-clause-value g c told =
 pub returns-clause-names : goal.returns-clause-names
 returns-clause-names g c =
     let some : Some c.in-Some.who ≡ address_of c.args.sender.now = sym (sym c.in_ok-who.ensures ∙ c.in-Some.is) in
-    subst (λ (o : Option Text). NamesDamaged g.F.Files (λ name. is_read_for c.args.config.now o (request_view c.args.request.now) name ≡ true) (IsDamaged (g.F.Files.map c.args.files.now)) c.managed.result) some c.managed.ensures.names
+    subst (λ (o : Option Text). NamesDamaged g.F.Files (λ name. is_read_for c.args.config.now o (request_view c.args.request.now) name ≡ true) (IsDamagedFor (g.F.Files.map c.args.files.now) c.args.config.now (request_view c.args.request.now)) c.managed.result) some c.managed.ensures.names

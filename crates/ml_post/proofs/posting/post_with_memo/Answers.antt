@@ -1,65 +1,20 @@
-use Rattle.std.proofs.Common.{◌≡◌, ◌||◌, true, false, IfOk, IfErr, ap, ◌∙◌, subst, sym}
-use Rattle.std.proofs.lemmas.Bool.{or_left, or_right}
-use Rattle.ml_base.specs.Address.{as_address}
+use Rattle.std.proofs.Common.{ap, sym, subst}
 use Rattle.ml_base.specs.Dir.{Dir}
-use Rattle.ml_base.specs.PartErrors.{OnDamaged}
-use Rattle.ml_base.proofs.DamagedNames.{err_damaged}
-use Rattle.ml_plain.specs.Directory.{IsList}
-use Rattle.ml_plain.specs.Plain.{Plain, is_archive_full}
-use Rattle.ml_plain.specs.Posting.{held_now, posted_now}
-use Rattle.ml_plain.specs.Verdicts.{is_usable, verdict}
-use Rattle.ml_acts.specs.Damaged.{IsDamaged}
-use Rattle.ml_acts.specs.Doing.{DoesList}
-use Rattle.ml_post.specs.Holding.{is_held_by}
-use Rattle.ml_post.specs.Judging.{is_judged_by}
-use Rattle.ml_post.specs.Posting.{is_posted_by}
-use Rattle.ml_post.specs.Publishing.{is_published_by}
-use Rattle.ml_post.proofs.Damages.{ok_then}
-use Rattle.ml_post.proofs.Fates.{follows_held, follows_posted}
+use Rattle.ml_plain.specs.Posting.{post}
+use Rattle.ml_acts.specs.Doing.{HasRoom}
+use Rattle.ml_acts.proofs.UnderConfig.{bad_under, done_under, room_under}
 use Rattle.ml_post.proofs.posting.post_with_memo.Goals as goal
 
-pub returns-in-Held-clause-value : goal.returns-in-Held-clause-value
-returns-in-Held-clause-value g c told =
-    let dir = g.F.Files.map c.args.files.now in
-    let config = c.args.config.now in
-    let sender = c.args.sender.now in
-    let message = c.args.message.now in
-    let kept = g.met.F.Files.kept_map c.args.files.now c.verdict.new.files told c.verdict.ensures.reads.kept in
-    let value =
-    subst (λ (d : Dir). IfOk c.hold_message.result (λ done. (p : Plain) → IsList d p → p.config ≡ config → is_usable sender ≡ true → DoesList d done (held_now c.args.now (as_address sender) message p))) kept (c.hold_message.ensures.value told) in
-    ok_then c.hold_message.result (λ done does p is same.
-    follows_held dir p c.args.now sender message c.in_ok-found.found done (sym c.follows.ensures ∙ c.in-Held.is) (c.in_ok-found.ensures.value told p is same ∙ ap (verdict p sender) c.scan.ensures) (does p is same)) value
+pub post_judged-requires-clause-room : goal.post_judged-requires-clause-room
+post_judged-requires-clause-room g c told =
+    room_under c.new-under.result.config.now (g.F.Files.map c.new-under.result.files.now) (subst (λ (d : Dir). HasRoom d) (sym (ap g.F.Files.map c.new-under.ensures.files)) (c.requires.room told))
 
-pub returns-in-Held-clause-names : goal.returns-in-Held-clause-names
-returns-in-Held-clause-names g c =
-    let config = c.args.config.now in
-    let sender = c.args.sender.now in
-    record {
-      named = err_damaged c.hold_message.result (λ name. is_held_by name ≡ true) (λ name. is_posted_by config sender name ≡ true)
-          (λ name e. or_left (is_judged_by config sender name || is_held_by name) (is_published_by name) (or_right (is_judged_by config sender name) (is_held_by name) e)) c.hold_message.ensures.names.named;
-      damaged = λ told.
-          subst (λ (d : Dir). IfErr c.hold_message.result (λ e. OnDamaged e (IsDamaged d))) (g.met.F.Files.kept_map c.args.files.now c.verdict.new.files told c.verdict.ensures.reads.kept) (c.hold_message.ensures.names.damaged told);
-    }
+pub returns-clause-value : goal.returns-clause-value
+returns-clause-value g c told =
+    done_under c.args.config.now c.new-under.result.config.now (g.F.Files.map c.args.files.now) (g.F.Files.map c.new-under.result.files.now) c.new-under.ensures.config (ap g.F.Files.map c.new-under.ensures.files) c.post_judged.result (λ p. post c.args.now c.args.sender.now c.args.message.now p) c.requires.config (c.post_judged.ensures.value told)
 
-pub returns-in-Posted-clause-value : goal.returns-in-Posted-clause-value
-returns-in-Posted-clause-value g c told =
-    let dir = g.F.Files.map c.args.files.now in
-    let config = c.args.config.now in
-    let sender = c.args.sender.now in
-    let message = c.args.message.now in
-    let kept = g.met.F.Files.kept_map c.args.files.now c.verdict.new.files told c.verdict.ensures.reads.kept in
-    let value =
-    subst (λ (d : Dir). IfOk c.post_message.result (λ done. (p : Plain) → IsList d p → p.config ≡ config → is_usable sender ≡ true → is_archive_full p ≡ false → DoesList d done (posted_now c.args.now (as_address sender) message p))) kept (c.post_message.ensures.value told) in
-    ok_then c.post_message.result (λ done does p is same.
-    follows_posted dir p c.args.now sender message c.in_ok-found.found done (sym c.follows.ensures ∙ c.in-Posted.is) (c.in_ok-found.ensures.value told p is same ∙ ap (verdict p sender) c.scan.ensures) (does p is same)) value
-
-pub returns-in-Posted-clause-names : goal.returns-in-Posted-clause-names
-returns-in-Posted-clause-names g c =
-    let config = c.args.config.now in
-    let sender = c.args.sender.now in
-    record {
-      named = err_damaged c.post_message.result (λ name. is_published_by name ≡ true) (λ name. is_posted_by config sender name ≡ true)
-          (λ name e. or_right (is_judged_by config sender name || is_held_by name) (is_published_by name) e) c.post_message.ensures.names.named;
-      damaged = λ told.
-          subst (λ (d : Dir). IfErr c.post_message.result (λ e. OnDamaged e (IsDamaged d))) (g.met.F.Files.kept_map c.args.files.now c.verdict.new.files told c.verdict.ensures.reads.kept) (c.post_message.ensures.names.damaged told);
-    }
+pub returns-clause-names : goal.returns-clause-names
+returns-clause-names g c = record {
+  named = c.post_judged.ensures.names.named;
+  damaged = λ told. bad_under c.args.config.now c.new-under.result.config.now (g.F.Files.map c.args.files.now) (g.F.Files.map c.new-under.result.files.now) c.new-under.ensures.config (ap g.F.Files.map c.new-under.ensures.files) c.post_judged.result (c.post_judged.ensures.names.damaged told);
+}

@@ -1,0 +1,31 @@
+-- What is said under a configuration, of files that hold it.
+use Rattle.std.proofs.Common.{◌≡◌, IsTrue, IfErr, List, Result, sym, subst}
+use Rattle.ml_base.specs.Dir.{Dir}
+use Rattle.ml_base.specs.PartErrors.{OnDamaged}
+use Rattle.ml_base.specs.ReadFiles.{NamesDamaged}
+use Rattle.ml_base.specs.declared.files.Files.{Ghosts}
+use Rattle.ml_base.specs.declared.names.Name.{Name}
+use Rattle.ml_base.specs.declared.part.PartError.{PartError}
+use Rattle.ml_base.specs.declared.puts.Put.{Put}
+use Rattle.ml_config.specs.ConfigFile.{IsConfigFile, config_name}
+use Rattle.ml_config.specs.declared.configuration.Config.{Config}
+use Rattle.ml_plain.specs.Directory.{IsList}
+use Rattle.ml_plain.specs.Plain.{Plain}
+use Rattle.ml_plain.specs.declared.Reply.{Reply}
+use Rattle.ml_acts.specs.Configured.{with_config}
+use Rattle.ml_acts.specs.Doing.{DoesList}
+use Rattle.ml_acts.proofs.UnderConfig.{config_held, config_listed}
+
+module _ (c : Config) (dir : Dir) where
+  pub listed : (p : Plain) (done : List Put × Reply) (step : Plain × Reply) → IsList dir p → p.config ≡ c → (IsList (with_config c dir) p → DoesList (with_config c dir) done step) → DoesList dir done step
+  listed p done step is same does =
+      let held = config_listed c dir p is same in
+      subst (λ (d : Dir). DoesList d done step) held (does (subst (λ (d : Dir). IsList d p) (sym held) is))
+
+  -- and what is named
+  pub named_held : {F T : Type 0} (told : Ghosts F) (May : Name → Type 0) (Bad : Dir → Name → Type 0) (r : Result T PartError) → (IsTrue told.tells → IsConfigFile (dir config_name) c)
+      → NamesDamaged told May (Bad (with_config c dir)) r → NamesDamaged told May (Bad dir) r
+  named_held told May Bad r held is = record {
+    named = is.named;
+    damaged = λ t. subst (λ (d : Dir). IfErr r (λ e. OnDamaged e (Bad d))) (config_held c dir (held t)) (is.damaged t);
+  }

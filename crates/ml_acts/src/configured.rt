@@ -1,0 +1,64 @@
+// Files as they read under a configuration.
+ghost use Rattle.std.specs.Prelude.{◌≡◌, ◌≤◌, IsTrue, IfOk, IsErrOf};
+ghost use Rattle.ml_base.specs.Faults.{Rose};
+ghost use Rattle.ml_base.specs.Name.{is_file};
+ghost use Rattle.ml_base.specs.declared.files.FilesError.TheVariants.{Fault};
+ghost use Rattle.ml_acts.specs.Configured.{with_config};
+ghost use Rattle.std.proofs.Common.{refl, ap, ◌∙◌};
+
+use ml_base::{Bytes, Files, FilesError, Name};
+use ml_config::Config;
+use std::alloc::Global;
+
+// The file of the configuration.
+const CONFIG: Name = Name { kind: 1, at: 0 };
+
+/// Files with a configuration in the place of theirs, whatever that is: what an act does under it is said over these.
+#[derive(Drop)]
+pub struct Configured<'a, F: Files> {
+    pub files: &'a mut F,
+    pub config: &'a Config,
+}
+
+impl<'a, F: Files> Configured<'a, F> {
+    /// Files under a configuration. It takes no memory.
+    pub fn new(files: &'a mut F, config: &'a Config) -> Configured<'a, F>
+        ensures same { result.files.ghost_name ≡ files.entry.ghost_name }
+        ensures files { result.files.now ≡ files.old }
+        ensures config { result.config.now ≡ config.now }
+    {
+        Configured { files, config }
+    }
+}
+
+impl<F: Files> Files for Configured<'_, F> {
+    ghost tells = { F.tells };
+
+    ghost map = { λ c. with_config c.config.now (F.map c.files.now) };
+
+    ghost faults = { λ c. F.faults c.files.now };
+
+    ghost kept = { λ a b. F.kept a.files.now b.files.now × (b.config.now ≡ a.config.now) × (b.files.ghost_name ≡ a.files.ghost_name) };
+
+    /// The bytes of a file, or None where it is absent. The configuration is at hand and not read: for its file there is no memory.
+    fn get(&mut self, alloc: Global, name: Name) -> Result<Option<Bytes>, FilesError>
+        requires { IsTrue (is_file name) }
+        ensures value { IsTrue F.tells → IfOk result (λ found. found ≡ with_config self.old.config.now (F.map self.old.files.now) name) }
+        ensures kept { F.kept self.old.files.now self.new.files.now × (self.new.config.now ≡ self.old.config.now) × (self.new.files.ghost_name ≡ self.old.files.ghost_name) }
+        ensures later { F.faults self.old.files.now ≤ F.faults self.new.files.now }
+        ensures cause { IsErrOf result Fault → Rose (F.faults self.old.files.now) (F.faults self.new.files.now) }
+    {
+        if name == CONFIG {
+            return Err(FilesError::Memory);
+        }
+        self.files.get(alloc, name)
+    }
+
+    ghost kept_self = { λ c. (F.kept_self c.files.now, refl, refl) };
+
+    ghost kept_then = { λ a b c first then. (F.kept_then a.files.now b.files.now c.files.now first.0 then.0, then.1 ∙ first.1, then.2 ∙ first.2) };
+
+    ghost kept_map = { λ a b told kept. ap (λ c. with_config c (F.map b.files.now)) kept.1 ∙ ap (with_config a.config.now) (F.kept_map a.files.now b.files.now told kept.0) };
+
+    ghost kept_faults = { λ a b kept. F.kept_faults a.files.now b.files.now kept.0 };
+}

@@ -1,0 +1,46 @@
+-- Which files a delivery may read, by the configuration that the files hold.
+use Rattle.std.specs.Prelude.{◌≡◌, ◌⊎◌, Bool, true, false, ◌||◌, Option, Some, None}
+use Rattle.ml_base.specs.Bytes.{Text}
+use Rattle.ml_base.specs.Dir.{Dir, same_name}
+use Rattle.ml_base.specs.declared.names.Name.{Name}
+use Rattle.ml_address.specs.Reading.{request_of}
+use Rattle.ml_address.specs.Requests.{PlainRequest, Post, Accept, Reject}
+use Rattle.ml_config.specs.ConfigFile.{IsConfigFile, config_name}
+use Rattle.ml_config.specs.declared.configuration.Config.{Config}
+use Rattle.ml_acts.specs.Damaged.{IsDamaged}
+use Rattle.ml_hold.specs.Answers.{tickets_name}
+use Rattle.ml_manage.specs.Reads.{IsThreaded, may_read}
+use Rattle.ml_post.specs.Answering.{is_answered_by}
+use Rattle.ml_post.specs.Posting.{is_posted_by}
+use Rattle.ml_queue.specs.Answers.{ids_name}
+
+-- the counters that are looked at before anything else
+abbrev pub is_of_worn : Name → Bool
+is_of_worn name = same_name name ids_name || same_name name tickets_name
+
+-- the files that a request of an envelope sender may read: a post, a moderator's answer, or anything else
+abbrev pub is_requested : Config → Text → PlainRequest → Name → Bool
+is_requested c sender Post name = is_posted_by c sender name
+is_requested c sender (Accept ticket cookie) name = is_answered_by ticket true name
+is_requested c sender (Reject ticket cookie) name = is_answered_by ticket false name
+is_requested c sender request name = may_read c sender request name
+
+-- A file that a request may read, where there is one: none is read for a recipient who isn't the list's.
+abbrev pub IsRequested : Dir → Config → Text → Option PlainRequest → Name → Type 0
+IsRequested dir c sender None name = ⊥
+IsRequested dir c sender (Some request) name = (is_requested c sender request name ≡ true) × IsThreaded dir c request name
+
+-- a counter that is looked at first, or a file that the request may read
+abbrev pub IsServed : Dir → Config → Text → Option PlainRequest → Name → Type 0
+IsServed dir c sender request name = (is_of_worn name ≡ true) ⊎ IsRequested dir c sender request name
+
+-- a damaged one
+pub record IsDamagedServed (dir : Dir) (c : Config) (sender : Text) (request : Option PlainRequest) (name : Name) : Type 0 where
+  pub damaged : IsDamaged dir name
+  pub served : IsServed dir c sender request name
+
+-- A file that a delivery may read: by the configuration that the files hold, under which its recipient is a request, of certain numbers.
+pub record IsDelivered (dir : Dir) (sender recipient : Text) (name : Name) : Type 0 where
+  pub config : Config
+  pub held : IsConfigFile (dir config_name) config
+  pub served : IsServed dir config sender (request_of config.local config.host recipient) name

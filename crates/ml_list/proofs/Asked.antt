@@ -1,0 +1,33 @@
+-- Which damaged files an item may name.
+use Rattle.std.proofs.Common.{◌≡◌, inl, inr, true, Result, subst}
+use Rattle.ml_base.specs.Bytes.{Text}
+use Rattle.ml_base.specs.Dir.{Dir}
+use Rattle.ml_base.specs.ReadFiles.{NamesDamaged}
+use Rattle.ml_base.specs.declared.files.Files.{Ghosts}
+use Rattle.ml_base.specs.declared.names.Name.{Name}
+use Rattle.ml_base.specs.declared.part.PartError.{PartError}
+use Rattle.ml_plain.specs.declared.Act.{Act}
+use Rattle.ml_plain.specs.declared.Act.TheVariants.{Deliver}
+use Rattle.ml_acts.specs.Damaged as acts
+use Rattle.ml_acts.proofs.Damages.{named_so}
+use Rattle.ml_deliver.specs.Asked.{IsDelivered}
+use Rattle.ml_deliver.specs.Reads.{is_of_acts}
+use Rattle.ml_list.specs.Asked.{IsDamagedForAct, IsReadByAct}
+use Rattle.ml_list.specs.Damage.{IsDamaged, is_read_by, part}
+
+module _ {F T : Type 0} (told : Ghosts F) (r : Result T PartError) (dir : Dir) where
+  -- an act whose files go by itself
+  pub acted_named : (act : Act) → ((name : Name) → is_read_by act name ≡ true → IsReadByAct dir act name) → NamesDamaged told (λ name. is_read_by act name ≡ true) (IsDamaged dir) r
+      → NamesDamaged told (λ name. is_read_by act name ≡ true) (IsDamagedForAct dir act) r
+  acted_named act read is =
+      named_so told (λ name. is_read_by act name ≡ true) r (λ name. is_read_by act name ≡ true) (IsDamaged dir) (IsDamagedForAct dir act) (λ name e. e) (λ name e bad. record { damaged = bad; read = read name e }) is
+
+  -- a delivery
+  pub delivered_named : (sender recipient message from to : Text) → from ≡ sender → to ≡ recipient → NamesDamaged told (λ name. is_of_acts name ≡ true) (λ name. acts.IsDamaged dir name × IsDelivered dir from to name) r
+      → NamesDamaged told (λ name. is_read_by (Deliver sender recipient message) name ≡ true) (IsDamagedForAct dir (Deliver sender recipient message)) r
+  delivered_named sender recipient message from to same_sender same_recipient is =
+      named_so told (λ name. is_read_by (Deliver sender recipient message) name ≡ true) r (λ name. is_of_acts name ≡ true) (λ name. acts.IsDamaged dir name × IsDelivered dir from to name) (IsDamagedForAct dir (Deliver sender recipient message)) (λ name e. e)
+      (λ name e bad. record {
+        damaged = part bad.0;
+        read = subst (λ (x : Text). IsDelivered dir x recipient name) same_sender (subst (λ (x : Text). IsDelivered dir from x name) same_recipient bad.1);
+      }) is

@@ -1,0 +1,27 @@
+-- Which files an item may read, by what the files hold.
+use Rattle.std.specs.Prelude.{◌≡◌, ◌⊎◌, true}
+use Rattle.ml_base.specs.Dir.{Dir}
+use Rattle.ml_base.specs.declared.names.Name.{Name}
+use Rattle.ml_plain.specs.declared.Act.{Act}
+use Rattle.ml_plain.specs.declared.Act.TheVariants.{Deliver}
+use Rattle.ml_plain.specs.declared.Item.{Item}
+use Rattle.ml_deliver.specs.Asked.{IsDelivered}
+use Rattle.ml_list.specs.Damage.{IsDamaged, is_looked_up, is_read_by}
+
+-- The files that an act may read: those of a delivery go by the configuration that the files hold, and by the numbers of its request.
+abbrev pub IsReadByAct : Dir → Act → Name → Type 0
+IsReadByAct dir (Deliver sender recipient message) name = IsDelivered dir sender recipient name
+IsReadByAct dir act name = is_read_by act name ≡ true
+
+-- the files that an item may read: before it counts, and by its act
+abbrev pub IsReadBy : Dir → Item → Name → Type 0
+IsReadBy dir item name = (is_looked_up item.number name ≡ true) ⊎ IsReadByAct dir item.act name
+
+-- a damaged file that an act may read, and one that an item may
+pub record IsDamagedForAct (dir : Dir) (act : Act) (name : Name) : Type 0 where
+  pub damaged : IsDamaged dir name
+  pub read : IsReadByAct dir act name
+
+pub record IsDamagedFor (dir : Dir) (item : Item) (name : Name) : Type 0 where
+  pub damaged : IsDamaged dir name
+  pub read : IsReadBy dir item name
