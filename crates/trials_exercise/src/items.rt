@@ -99,9 +99,16 @@ fn read_all(alloc: Global, source: &mut Generated, piece: usize) -> Result<Bytes
 }
 
 fn holds(alloc: Global, row: &Row, piece: usize) -> Result<bool, Fail> {
+    if row.local.len() > 60 || row.host.len() > 255 || row.count > 999_999 {
+        return Err("no such source".into());
+    }
     let mut source = Generated::new(row.local, row.host, row.count);
     let bytes = read_all(alloc, &mut source, piece)?;
-    Ok(bytes.len() == row.size && bytes.as_slice()[row.at..].starts_with(row.bytes))
+    let there = match bytes.as_slice().get(row.at..) {
+        Some(rest) => rest.starts_with(row.bytes),
+        None => false,
+    };
+    Ok(bytes.len() == row.size && there)
 }
 
 #[test]
