@@ -73,11 +73,11 @@ told_ends told status dir held q count before now lines output state same is giv
 told_ends told status dir held q count before now lines output state same is gives (inr (inl refused)) = inr (record {
   state = same_state dir (directory held) (behind q count) same state;
   put = inl (
-      refused.why,
-      refused.status_is,
-      ⊎_elim (λ zero. absurd (never_zero refused.why (sym refused.status_is ∙ zero.0))) (λ h. h) gives,
-      λ t. refused.put t ∙ ap (λ (b : Text). b ++ stop_text None status refused.why) (is t),
-    );
+    refused.why,
+    refused.status_is,
+    ⊎_elim (λ zero. absurd (never_zero refused.why (sym refused.status_is ∙ zero.0))) (λ h. h) gives,
+    λ t. refused.put t ∙ ap (λ (b : Text). b ++ stop_text None status refused.why) (is t),
+  );
 })
 told_ends told status dir held q count before now lines output state same is gives (inr (inr cut)) = inr (record {
   state = same_state dir (directory held) (behind q count) same state;
