@@ -1,5 +1,5 @@
 -- What the last reading of an exercise puts out, behind all answers.
-use Rattle.std.proofs.Common.{◌≡◌, ◌⊎◌, inl, inr, ⊎_elim, ℕ, IsTrue, ◌++◌, Option, Some, None, ap, ap₂, sym, refl, subst, ◌∙◌, arith}
+use Rattle.std.proofs.Common.{◌≡◌, ◌⊎◌, inl, inr, ⊎_elim, ℕ, ◌++◌, Option, None, ap, ap₂, sym, refl, subst, ◌∙◌, arith}
 use Rattle.ml_base.specs.Bytes.{Text}
 use Rattle.ml_base.specs.Dir.{Dir}
 use Rattle.ml_check.specs.Checking.{exercised_meaning, IsFound}
@@ -16,7 +16,7 @@ use Rattle.ml_ending.specs.Endings.{SaysAtMost, TellsAtMost}
 use Rattle.ml_ending.specs.Lines.{stop_text}
 use Rattle.ml_ending.specs.Stops.{status_of_why}
 use Rattle.ml_reading.specs.declared.question.Answer.TheVariants as answers
-use Rattle.ml_reading.specs.Readings.{GivesText, IsAnswer, IsFront, IsHindered, IsReading, Reads}
+use Rattle.ml_reading.specs.Readings.{GivesText, IsAnswer, IsFront, IsReading, Reads}
 use Rattle.ml_run.specs.Leaving.{HasState}
 use Rattle.ml_run.proofs.Leaving.{same_state}
 use Rattle.ml_exercise.specs.Exercising.{answered, behind, Exercised, IsTelling, two_lines, Untold}
