@@ -1,0 +1,4 @@
+pub mod Sizes
+pub mod People
+pub mod Streams
+pub mod Turning
