@@ -37,7 +37,10 @@ class Agent:
         loop = asyncio.get_running_loop()
         for number in (signal.SIGTERM, signal.SIGINT):
             loop.add_signal_handler(number, self.ended.set)
-        server = await listen(self.settings.listen, self.server.serve)
+        try:
+            server = await listen(self.settings.listen, self.server.serve)
+        except OSError as error:
+            sys.exit(f'ezmlm-agent: {self.settings.listen}: {error}')
         log.info('mail comes in at %s', self.settings.listen)
         while not self.ended.is_set():
             self.tend()
@@ -91,13 +94,21 @@ def main(words):
     most = resource.getrlimit(resource.RLIMIT_NOFILE)[1]
     resource.setrlimit(resource.RLIMIT_NOFILE, (most if 0 <= most < DESCRIPTORS else DESCRIPTORS, most))
     sys.setswitchinterval(SWITCH)
-    chosen.state.mkdir(parents=True, exist_ok=True)
-    with open(chosen.state / 'lock', 'w', encoding='ascii') as lock:
-        try:
-            fcntl.flock(lock, fcntl.LOCK_EX | fcntl.LOCK_NB)
-        except OSError:
-            sys.exit('ezmlm-agent: another agent runs')
+    with alone(chosen.state):
         asyncio.run(run(chosen))
+
+
+def alone(state):
+    """Keeps other agents of the same state away, as long as what it answers is open."""
+    try:
+        state.mkdir(parents=True, exist_ok=True)
+        lock = open(state / 'lock', 'w', encoding='ascii')
+        fcntl.flock(lock, fcntl.LOCK_EX | fcntl.LOCK_NB)
+    except BlockingIOError:
+        sys.exit('ezmlm-agent: another agent runs')
+    except OSError as error:
+        sys.exit(f'ezmlm-agent: {error}')
+    return lock
 
 
 async def run(chosen):

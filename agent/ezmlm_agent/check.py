@@ -90,6 +90,8 @@ async def transfer_agent(chosen, addresses):
 async def check(chosen):
     """Tells all that is wrong. The status is 0 where nothing is."""
     wrong = modes(chosen.state) if chosen.state.exists() else []
+    if chosen.lists.exists() and chosen.lists.stat().st_mode & 0o022:
+        wrong.append(f'{chosen.lists} can be written by others')
     socket = pathlib.Path(chosen.listen)
     if '/' in chosen.listen and not os.access(socket.parent, os.W_OK | os.X_OK):
         wrong.append(f'{socket.parent}: no socket can be made there')

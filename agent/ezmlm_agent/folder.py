@@ -4,6 +4,7 @@ import fcntl
 import re
 
 SLOTS, SLOT = 512, 9
+NO_MAIL = 500_000_000_000  # numbers from here on are given to moves of members
 ENTRY = re.compile('[1-9][0-9]{0,15}', re.ASCII)
 
 
@@ -83,8 +84,8 @@ def floor(folder):
 
 
 def behind_answers(folder):
-    """The first number behind all that the list has answered, and not below its floor."""
-    groups = [int(name) for name in names(folder / 'done') if name.isdecimal()]
+    """The first number behind all that the list has answered, but for those that are no mail's, and not below its floor."""
+    groups = [int(name) for name in names(folder / 'done') if name.isdecimal() and int(name) < NO_MAIL // SLOTS]
     if not groups:
         return floor(folder)
     kept = (folder / 'done' / str(max(groups))).read_bytes()

@@ -64,11 +64,15 @@ class Patience:
 
     def __init__(self, mailing_list):
         self.list, self.until, self.pause = mailing_list, time.monotonic() + mailing_list.settings.patience, 0.05
+        self.is_told = False
 
-    async def lasts(self):
+    async def lasts(self, status):
         """Waits a little. The answer is whether it makes sense to try again."""
         if self.list.stopping or time.monotonic() > self.until:
             return False
+        if status == program.HELD and not self.is_told:
+            self.is_told = True
+            log.info('%s: another run has the list, or its disk failed; it is tried again', self.list.folder.name)
         await asyncio.sleep(self.pause)
         self.pause = min(2 * self.pause, 2)
         return True
@@ -166,7 +170,7 @@ class MailingList:
                     status = program.HELD
                 except folder.Unsettled:
                     status, _ = await self.program.run(self.folder, *program.SETTLES)
-            if status not in (0, 100, program.HELD) or not await patience.lasts():
+            if status not in (0, 100, program.HELD) or not await patience.lasts(status):
                 raise Refused(f'the list can\'t be read ({status})')
 
     async def give(self, mails):
@@ -221,7 +225,7 @@ class MailingList:
         while items:
             async with self.turn:
                 items, ending = await self.program.spool(self.folder, items, self.more)
-            if items and (ending.status != program.HELD or not await patience.lasts()):
+            if items and (ending.status != program.HELD or not await patience.lasts(ending.status)):
                 log.error('%s: %d %s', self.folder.name, ending.status, ending.words)
                 for item in items:
                     item.settle(ending)

@@ -129,6 +129,7 @@ class Queue:
     def put_off(self, entry):
         pause = min(2 * self.later.get(entry, (0, SHORTEST / 2))[1], LONGEST)
         self.later[entry] = time.monotonic() + pause, pause
+        log.info('%s: entry %d is tried again in %d s', self.folder.name, entry, pause)
 
     async def hand_on(self, entry, text, verp, size):
         """Hands an entry's copies on, but those that were before, and has it reported when all are."""

@@ -131,6 +131,8 @@ class Run:
         self.answered.set()
 
     def told(self, answer):
+        if self.ending:
+            raise ValueError('a line behind the last one')
         if not answer.is_answer:
             self.ending = answer
         elif item := self.given.popleft():

@@ -8,7 +8,7 @@ import pathlib
 import sys
 import traceback
 
-from . import killed, mail_in, mail_out, numbers, trouble
+from . import killed, mail_in, mail_out, numbers, set_up, trouble
 from .world import TOP, World, Wrong
 
 AT_ONCE = 4
@@ -17,7 +17,7 @@ AT_ONCE = 4
 def cases():
     """The cases by their names, the longest first."""
     found = {f'killed{part}': functools.partial(killed.case_killed, part=part) for part in range(killed.PARTS)}
-    for module in (mail_out, trouble, mail_in, numbers):
+    for module in (mail_out, trouble, mail_in, numbers, set_up):
         found.update({name.removeprefix('case_'): call for name, call in vars(module).items() if name.startswith('case_')})
     return found
 
@@ -27,8 +27,8 @@ def run(name, program):
     world, wrong = World(program), None
     try:
         cases()[name](world)
-        if 'Traceback' in world.log():
-            wrong = 'there is a traceback in the log'
+        if world.end() or 'Traceback' in world.log():
+            wrong = 'the agent ended with a fault, or told one'
     except Wrong as why:
         wrong = str(why)
     except Exception:

@@ -41,13 +41,11 @@ def killed_at(world, step):
     world.begin(words=('/usr/bin/python3', '-c', KILLED, TOP / 'agent', str(step)))
     first = world.post()
     if first is not None:
-        until(lambda: world.agent.poll() is not None or world.queue() == 0 and len(world.sink.copies) >= 3)
-    until(lambda: world.agent.poll() is not None, 1)
-    was_killed = world.agent.poll() is not None
-    world.end(signal.SIGKILL)
+        until(lambda: world.agent.poll() is not None or len(world.sink.copies) >= 3 and world.queue() == 0)
+    was_killed = world.end() == -signal.SIGKILL
     world.begin()
     again = world.mail('w@m.net', [f'cats@{HOST}'], post())
-    is_sent = until(lambda: world.queue() == 0 and len(world.sink.copies) >= 3)
+    is_sent = until(lambda: len(world.sink.copies) >= 3 and world.queue() == 0)
     copies = collections.Counter(recipient for _, recipient, _ in world.sink.copies)
     holds = again == ['250 2.0.0 posted 1'] and world.posts() == 1 and is_sent and set(copies) == set(MEMBERS)
     check(holds and set(copies.values()) in ({1}, {2}), f'at step {step}: {first}, {again}, {world.posts()} posts, copies {copies}')

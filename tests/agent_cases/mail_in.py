@@ -1,6 +1,7 @@
 """Mail in: replies, addresses, bytes."""
 
 import os
+import re
 import threading
 
 from .world import HOST, Client, begins, check, post, same, until
@@ -9,12 +10,14 @@ LONGEST = 33_554_432
 
 
 def case_each_reply(world):
-    """Each answer of the list becomes a reply that a person understands."""
-    world.list(words=['-u'])
+    """Each answer of the list becomes a reply that a person understands, and one line in the log."""
+    world.list(words=['-uk'])
+    world.run('cats', 'sub', '0', 'deny', 'd@m.net')
     world.begin()
     rows = [
         ('a@m.net', 'cats', post(1), '250 2.0.0 posted 1'),
-        ('x@m.net', 'cats', post(2), '550 5.7.2'),
+        ('x@m.net', 'cats', post(2), '550 5.7.2 Only those who are known'),
+        ('d@m.net', 'cats', post(2), '550 5.7.1 The sender may not post'),
         ('a@m.net', 'cats', post(3, subject='help'), '554 5.6.0 The subject is a command'),
         ('a@m.net', 'cats', post(4, subject=''), '554 5.6.0 The message has no subject'),
         ('a@m.net', 'cats', post(5, to='dogs'), '554 5.6.0 Neither'),
@@ -31,6 +34,33 @@ def case_each_reply(world):
     ]
     for sender, local, message, wanted in rows:
         begins(world.mail(sender, [f'{local}@{HOST}'], message)[0], wanted, f'{local} of {sender}')
+    world.end()
+    lines = re.findall(r'(?m)^cats (\d+) (\S+) (\S+): (\d+) (.*), \d+ ms$', world.log())
+    same(lines[:2], [('512', 'a@m.net', 'cats@ex.org', '0', 'posted 1'), ('513', 'x@m.net', 'cats@ex.org', '100', 'usersonly')], 'the log')
+    same(len(lines), len(rows) - 3, 'lines of the log')  # The last three are of no list.
+
+
+def case_each_word(world):
+    """Each word of a refusal is for good and has a sentence, but those that tell of no mail: they are for now."""
+    says = world.place / 'says'
+    says.touch()
+    world.list()
+    world.stands_in()
+    world.begin()
+    for n, word in enumerate(('gone', 'full', 'toobig', 'nosender', 'looped', 'denied', 'nosubject', 'command', 'notaddressed', 'usersonly',
+                              'notours', 'badcookie', 'private')):
+        says.write_text(f'100 {word}')
+        reply = world.post(n)
+        check(re.fullmatch(r'55[024] 5\.\d\.\d [A-Z].* .*\.', reply), f'{word}: {reply}')
+    for n, word in enumerate(('stale', 'noentry', 'toosoon', 'badfloor', 'absent', 'there', 'new'), 100):
+        says.write_text(f'100 {word}')
+        begins(world.post(n), '451 4.3.0', word)
+    for n, words in enumerate(('71 memory', '75 num', '111 disk', '72 more', '65 bad 1', '64 usage', '0', 'x'), 200):
+        says.write_text(words)
+        begins(world.post(n), '451 4.3.0', words)
+    says.unlink()
+    for n in (0, 100, 200):
+        begins(world.post(n), '250 2.0.0 posted', 'the same again')
 
 
 def case_empty_sender(world):

@@ -4,10 +4,11 @@ import os
 import signal
 import time
 
-from .sink import Sink
+from .sink import Sink, never
 from .world import HOST, MEMBERS, begins, check, post, same, until
 
 HUNDRED = [f'm{n}@m.net' for n in range(100)]
+AGAIN = 'entry 1 is tried again'
 
 
 def senders(members, n=1):
@@ -68,7 +69,7 @@ def case_refused_recipient(world):
     check(world.is_out(2), f'{len(world.sink.copies)} copies')
     same(world.sink.recipients(), ['a@m.net', 'c@m.net'], 'copies')
     same(bounces(world), 1, 'bounces')
-    check(f'<> cats-return-1-b=m.net@{HOST}: 0 bounce' in world.log(), 'the log tells no bounce')
+    check(world.tells(f'<> cats-return-1-b=m.net@{HOST}: 0 bounce'), 'the log tells no bounce')
 
 
 def case_many_refused(world):
@@ -79,28 +80,31 @@ def case_many_refused(world):
     world.post()
     check(world.is_out(50), f'{len(world.sink.copies)} copies')
     same(world.sink.recipients(), sorted(HUNDRED[1::2]), 'copies')
+    world.end()
     same(world.log().count(': 0 bounce,'), 50, 'bounces')
 
 
 def case_all_refused(world):
     """Where every copy is refused the entry stays for a day, and nobody bounces; behind it each is a bounce. Few are tried meanwhile."""
-    world.rows['batch'] = 50
+    world.rows['batch'] = 10
     world.list(members=HUNDRED + [f'n{n}@m.net' for n in range(300)])
     world.sink.refuses_all = True
     world.begin()
     world.post()
-    check(until(lambda: world.log().count('No such user') >= 100), 'it was not tried')
+    check(world.tells(AGAIN), 'it was not tried')
     world.end()
     same((world.queue(), bounces(world)), (1, 0), 'entries and bounces')
-    check(len(world.sink.asked) <= 400, f'{len(world.sink.asked)} were tried')
+    # Behind the first hundred, what its six connections had in hand.
+    check(len(world.sink.asked) <= 160 * world.log().count(AGAIN), f'{len(world.sink.asked)} were tried')
     is_older(world, 82_800)
     world.begin()
-    check(until(lambda: world.log().count('No such user') >= 200), 'it was not tried again')
+    check(world.tells(AGAIN, times=world.log().count(AGAIN) + 1), 'it was not tried again')
     world.end()
     same((world.queue(), bounces(world)), (1, 0), 'entries and bounces behind 23 hours')
     is_older(world, 86_400)
     world.begin()
     check(world.is_out(0), 'it stays behind a day')
+    world.end()
     same(world.log().count(': 0 bounce,'), 400, 'bounces')
 
 
@@ -140,7 +144,7 @@ def case_no_transfer_agent(world):
     (world.place / 'sink').unlink(missing_ok=True)
     world.begin()
     same(world.post(), '250 2.0.0 posted 1', 'a post')
-    check(until(lambda: 'nothing is handed on' in world.log()), 'the log tells nothing')
+    check(world.tells('nothing is handed on'), 'the log tells nothing')
     world.sink = Sink(str(world.place / 'sink'))
     check(world.is_out(3), f'{len(world.sink.copies)} copies')
     same(bounces(world), 0, 'bounces')
@@ -161,13 +165,15 @@ def case_slow_list(world):
     world.rows['batch'] = 1
     world.list(members=HUNDRED)
     world.list('dogs')
-    world.sink.slow = 1
+    world.sink.holds = lambda recipients: recipients[0] in HUNDRED
     world.begin()
     world.post()
-    check(until(lambda: world.sink.asked), 'nothing is handed on')
+    check(until(lambda: world.sink.waiting == 6), 'not all connections of a list are used')
     world.post(1, to='dogs')
-    check(until(lambda: world.queue('dogs') == 0), 'the other list waits')
-    check(world.queue('cats') == 1, 'the slow list was quicker')
+    check(until(lambda: world.queue('dogs') == 0 and len(world.sink.copies) >= 9), 'the other list waits')
+    same((world.queue('cats'), world.sink.waiting), (1, 6), 'entries and transactions of the slow list')
+    world.sink.holds = never
+    check(world.is_out(103), f'{len(world.sink.copies)} copies')
 
 
 def case_terminated(world):
@@ -175,13 +181,15 @@ def case_terminated(world):
     members = [f'm{n}@m.net' for n in range(1000)]
     world.rows['batch'] = 20
     world.list(members=members)
-    world.sink.slow = 0.2
+    world.sink.holds = lambda _: world.sink.answered >= 10
     world.begin()
     world.post()
-    check(until(lambda: len(world.sink.copies) >= 200), 'nothing goes out')
+    check(until(lambda: world.sink.waiting == 6), 'nothing goes out')
+    world.agent.send_signal(signal.SIGTERM)
+    check(world.tells('stops'), 'it doesn\'t stop')
+    world.sink.holds = never
     same(world.end(), 0, 'the status')
-    check(world.queue() == 1, 'all was handed on')
-    world.sink.slow = 0
+    same((world.queue(), world.sink.answered), (1, 16), 'entries, and transactions that were in hand')
     world.begin()
     check(world.is_out(1000), f'{len(world.sink.copies)} copies')
     same(world.sink.recipients(), sorted(members), 'copies')
@@ -192,17 +200,20 @@ def case_killed_in_the_middle(world):
     members = [f'm{n}@m.net' for n in range(1000)]
     world.rows.update(batch=10, connections=4)
     world.list(members=members)
-    world.sink.slow = 0.05
+    world.sink.holds = lambda _: True
     world.begin()
     world.post()
-    for least in (100, 300, 500):
-        check(until(lambda least=least: len(world.sink.copies) >= least), 'nothing goes out')
+    for most in (10, 30, 50):
+        world.sink.holds = lambda _, most=most: world.sink.answered >= most
+        check(until(lambda most=most: world.sink.answered >= most and world.sink.waiting == 2), 'nothing goes out')
         world.end(signal.SIGKILL)
+        check(until(lambda: world.sink.waiting == 0), 'a transaction goes on')
         world.begin()
+    world.sink.holds = never
     check(until(lambda: world.queue() == 0), 'the entry stays')
     same(set(world.sink.recipients()), set(members), 'copies')
     doubled = len(world.sink.copies) - 1000
-    check(doubled <= 3 * 4 * 10, f'{doubled} copies twice')
+    check(0 < doubled <= 3 * 4 * 10, f'{doubled} copies twice')
     world.note = f'{doubled} twice behind 3 kills'
 
 
@@ -212,16 +223,19 @@ def case_little_memory_out(world):
     world.sink.stop()
     world.rows['memory'] = 8
     world.begin()
-    for n, size in enumerate((600, 700, 800, 900)):
+    for n, size in enumerate((600, 700, 1200, 900)):
         same(world.post(n, body=('x' * 99 + '\n') * 10 * size), f'250 2.0.0 posted {n + 1}', 'a post')
     world.end()
     world.rows['memory'] = 1
     (world.place / 'sink').unlink(missing_ok=True)
     world.sink = Sink(str(world.place / 'sink'))
-    world.sink.slow = 0.2
+    world.sink.holds = lambda _: True
     world.begin()
     same(world.post(5), '250 2.0.0 posted 5', 'a small post')
+    check(until(lambda: world.sink.waiting), 'nothing is handed on')
+    world.sink.holds = never
     check(world.is_out(15), f'{len(world.sink.copies)} copies')
+    check(world.sink.most_waiting <= 2, f'{world.sink.most_waiting} were handed on at once')  # a large one and the small one
 
 
 def case_damaged_entry(world):
@@ -230,7 +244,7 @@ def case_damaged_entry(world):
     world.sink.defer = set(MEMBERS)
     world.begin()
     world.post()
-    check(until(lambda: 'Later' in world.log()), 'it was not tried')
+    check(world.tells('Later'), 'it was not tried')
     world.end()
     (world.folder() / 'queue/1').write_bytes(b'9:cats')
     (world.folder() / 'queue/7').write_bytes(b'1:a,-4:,')

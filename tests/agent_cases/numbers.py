@@ -8,19 +8,6 @@ import time
 
 from .world import HOST, MEMBERS, Client, begins, check, post, same, until
 
-# Does what the program does, but where files tell it to it loses what it says, is killed, says nothing, or says something else.
-LOSING = '''#!/bin/sh
-case "$*" in
-    *spool)
-        if rm '{place}/lose' 2> /dev/null; then timeout -s KILL 0.3 {program} "$@" > /dev/null; kill -9 $$; fi
-        if rm '{place}/mute' 2> /dev/null; then exit 0; fi
-        if rm '{place}/bad' 2> /dev/null; then echo '- 65 bad 7'; exit 65; fi
-        if rm '{place}/babble' 2> /dev/null; then echo hello; exit 0; fi
-        if rm '{place}/kill' 2> /dev/null; then exec timeout -s KILL 0.001 {program} "$@"; fi ;;
-esac
-exec {program} "$@"
-'''
-
 
 def case_given_again(world):
     """A mail that is given again counts once: in one go by two spellings, at once over many connections, and behind a new start."""
@@ -51,33 +38,30 @@ def case_client_hangs_up(world):
     with Client(world.place / 'lmtp') as client:
         client.propose('w@m.net', [f'cats@{HOST}'])
         client.socket.sendall(post()[:40])
-    time.sleep(0.3)
-    same(world.posts(), 0, 'posts of half a mail')
+    same(world.post(2), '250 2.0.0 posted 1', 'another mail')
+    same(world.posts(), 1, 'posts behind half a mail')
     with Client(world.place / 'lmtp') as client:
         client.propose('w@m.net', [f'cats@{HOST}'])
         client.send(post())
-    check(until(lambda: world.posts() == 1), 'a whole mail was not posted')
-    same(world.post(), '250 2.0.0 posted 1', 'again')
-    same(world.posts(), 1, 'posts')
+    check(until(lambda: world.posts() == 2), 'a whole mail was not posted')
+    same(world.post(), '250 2.0.0 posted 2', 'again')
+    same(world.posts(), 2, 'posts')
 
 
 def case_lost_answers(world):
     """A run of the program that is killed, or of which the answers are lost or none, puts the mail off, and given again it counts once."""
-    script = world.place / 'losing'
-    script.write_text(LOSING.format(place=world.place, program=world.program))
-    script.chmod(0o755)
     world.list()
-    world.rows['program'] = script
+    world.stands_in()
     world.begin()
-    check(until(lambda: 'timed' in world.log()), 'there was no timed run')
+    check(world.tells('timed'), 'there was no timed run')
     for n, word in enumerate(('lose', 'kill', 'mute', 'babble', 'bad', 'lose'), 1):
         check(world.is_out(3 * n - 3) and world.posts() == n - 1, 'the list is not at rest')
         (world.place / word).touch()
         first = world.post(n)
         begins(first, ('451 4.3.0', '250') if word == 'kill' else '451 4.3.0', word)
         # What is given to a run that is just being killed is put off too.
-        check(word != 'bad' or 'cats: 65 bad 7' in world.log(), 'the log has no error')
-        check(until(lambda n=n: world.post(n) == f'250 2.0.0 posted {n}', 60), f'behind {word} it is not posted')
+        check(word != 'bad' or world.tells('cats: 65 bad 7'), 'the log has no error')
+        check(until(lambda n=n: world.post(n) == f'250 2.0.0 posted {n}'), f'behind {word} it is not posted')
         same(world.posts(), n, 'posts')
 
 
@@ -117,6 +101,7 @@ def case_old_list(world):
     same(world.post(1), '250 2.0.0 posted 1', 'a post')
     check(until(lambda: len(world.sink.copies) == 2), 'it did not go out')
     world.end(signal.SIGKILL)
+    check(until(world.is_alone), 'a run goes on')
     shutil.rmtree(world.folder())
     (world.place / 'old').rename(world.folder())
     world.sink.defer = set()
@@ -136,7 +121,7 @@ def case_floor_by_hand(world):
     same(world.run('cats', 'floor', '0', '5000'), '0 0 floored 5000\n', 'the floor')
     world.begin()
     same(world.post(2), '250 2.0.0 posted 2', 'a new mail behind a new start')
-    check(until(lambda: world.run('cats', 'floor', '0', '9000').startswith('0 0')), 'the list is held')
+    same(world.run('cats', 'floor', '0', '9000'), '0 0 floored 9000\n', 'the floor')
     begins(world.post(3), '451', 'a new mail')
     same(world.post(3), '250 2.0.0 posted 3', 'the same again')
 

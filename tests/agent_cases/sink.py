@@ -5,6 +5,8 @@ import asyncio
 from aiosmtpd.controller import Controller, UnixSocketController
 from aiosmtpd.smtp import SMTP, syntax
 
+LONG = 900  # seconds: nothing depends on time, as a machine may be slow
+
 
 class Protocol(SMTP):
     line_length_limit = 1 << 26
@@ -13,6 +15,10 @@ class Protocol(SMTP):
     async def smtp_MAIL(self, arg):
         self.session.is_named = 'XVERP=-=' in arg
         await super().smtp_MAIL(arg.replace(' XVERP=-=', ''))
+
+
+def never(_):
+    return False
 
 
 class Sink:
@@ -27,9 +33,13 @@ class Sink:
         self.refuses_all = False
         self.most_errors = 1000     # behind which it hangs up
         self.hang_up = 0            # how many transactions end in the middle
-        self.slow = 0
+        self.holds = never          # whether a transaction of these recipients, whose copies were kept, has no reply yet
+        self.waiting = 0            # how many have none
+        self.most_waiting = 0       # how many had none at once
+        self.answered = 0           # how many have one
         self.controller = UnixSocketController(self, where) if isinstance(where, str) else Controller(self, *where)
-        self.controller.factory = lambda: Protocol(self, data_size_limit=None, hostname='sink')
+        self.controller.ready_timeout = LONG
+        self.controller.factory = lambda: Protocol(self, data_size_limit=None, hostname='sink', timeout=LONG)
         self.controller.start()
 
     def stop(self):
@@ -54,11 +64,22 @@ class Sink:
         return '250 Ok'
 
     async def handle_DATA(self, server, session, envelope):
-        await asyncio.sleep(self.slow)
         if self.hang_up:
             self.hang_up -= 1
             server.transport.abort()
             return '421 Bye'
+        self.keep(session, envelope)
+        self.waiting += 1
+        self.most_waiting = max(self.most_waiting, self.waiting)
+        try:
+            while self.holds(envelope.rcpt_tos):
+                await asyncio.sleep(0.01)
+        finally:
+            self.waiting -= 1
+        self.answered += 1
+        return '250 Ok'
+
+    def keep(self, session, envelope):
         self.transactions.append(list(envelope.rcpt_tos))
         for recipient in envelope.rcpt_tos:
             sender = envelope.mail_from
@@ -66,4 +87,3 @@ class Sink:
                 local, _, host = sender.rpartition('@')
                 sender = f'{local}-{recipient.replace("@", "=")}@{host}'
             self.copies.append((sender, recipient, envelope.content))
-        return '250 Ok'

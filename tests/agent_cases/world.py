@@ -1,5 +1,7 @@
 """A folder with lists, an agent and a transfer agent, and a client that gives the agent mail."""
 
+import contextlib
+import errno
 import fcntl
 import os
 import pathlib
@@ -10,25 +12,36 @@ import socket
 import sqlite3
 import subprocess
 import tempfile
+import threading
 import time
 
 from .sink import Sink
 
 TOP = pathlib.Path(__file__).resolve().parent.parent.parent
+STAND_IN = TOP / 'tests/agent_cases/stand_in.py'
 HOST = 'ex.org'
 KEY = '0' * 64
 MEMBERS = ['a@m.net', 'b@m.net', 'c@m.net']
-LONG = 180  # seconds for which something is waited for that has to come
+LISTENS = b'mail comes in at'
+LONG = 900  # seconds behind which what has to come is given up. Nothing else depends on time, as a machine may be slow
 
 
-def until(holds, seconds=LONG):
+def until(holds):
     """Whether something comes to hold."""
-    end = time.monotonic() + seconds
+    end = time.monotonic() + LONG
     while not holds():
         if time.monotonic() > end:
             return False
         time.sleep(0.02)
     return True
+
+
+@contextlib.contextmanager
+def held(folder):
+    """Has a list as a run of the program has it."""
+    with open(folder / 'lock', 'a', encoding='ascii') as lock:
+        fcntl.flock(lock, fcntl.LOCK_EX)
+        yield
 
 
 def post(n=1, to='cats', subject='hello', body='hi'):
@@ -39,11 +52,14 @@ def post(n=1, to='cats', subject='hello', body='hi'):
 class Client:
     """An LMTP client that does nothing by itself."""
 
-    def __init__(self, path):
-        self.socket = socket.socket(socket.AF_UNIX)
-        self.socket.settimeout(400)
-        # The socket's file is there a moment before anybody listens.
-        until(lambda: self.socket.connect_ex(str(path)) == 0, 10)
+    def __init__(self, address):
+        self.socket = socket.socket(socket.AF_INET if isinstance(address, tuple) else socket.AF_UNIX)
+        self.socket.settimeout(LONG)
+        # Where others come at once it is asked again.
+        while error := self.socket.connect_ex(address if isinstance(address, tuple) else str(address)):
+            if error != errno.EAGAIN:
+                raise OSError(error, os.strerror(error))
+            time.sleep(0.02)
         self.file = self.socket.makefile('rb')
         self.reply()
         self.command(b'LHLO test')
@@ -92,21 +108,41 @@ class World:
     def __init__(self, program):
         self.program = program
         self.place = pathlib.Path(tempfile.mkdtemp(prefix='ezmlm-agent.', dir='/dev/shm' if os.access('/dev/shm', os.W_OK) else None))
-        (self.place / 'lists').mkdir()
+        (self.place / 'lists').mkdir(mode=0o700)
         self.sink = Sink(str(self.place / 'sink'))
         self.rows = {'program': program, 'lists': self.place / 'lists', 'state': self.place / 'state', 'listen': self.place / 'lmtp',
                      'mta': self.place / 'sink', 'name': 'mx.ex.org'}
         self.agent, self.note = None, ''
-        self.log_file = open(self.place / 'agent.log', 'a', encoding='ascii')
+        self.told = []  # what each agent said
 
     def close(self):
         self.end(signal.SIGKILL)
-        self.log_file.close()
+        until(self.is_alone)
         self.sink.stop()
         shutil.rmtree(self.place)
 
+    def is_alone(self):
+        """Whether no process is left that the agent began."""
+        for line in pathlib.Path('/proc').glob('[0-9]*/cmdline'):
+            with contextlib.suppress(OSError):
+                if os.fsencode(self.place) in line.read_bytes():
+                    return False
+        return True
+
     def log(self):
-        return (self.place / 'agent.log').read_text()
+        """What the agents said so far."""
+        return b''.join(self.told).decode(errors='replace')
+
+    def listen(self, pipe, told):
+        while said := pipe.read1():
+            told += said
+        pipe.close()
+
+    def stands_in(self):
+        """Gives the agent a program that fails as files in this folder tell it."""
+        self.rows['program'] = self.place / 'program'
+        self.rows['program'].write_text(f'#!/bin/sh\nexec /usr/bin/python3 {STAND_IN} {self.place} {self.program} "$@"\n')
+        self.rows['program'].chmod(0o755)
 
     # Lists.
 
@@ -121,24 +157,30 @@ class World:
         return self.folder(name)
 
     def run(self, name, *words, given=b''):
-        """What the program says."""
-        return subprocess.run([self.program, self.folder(name), *words], input=given, stdout=subprocess.PIPE, check=False).stdout.decode()
+        """What the program says. Where a run of the agent's has the list it is asked again."""
+        status = 111
+        while status == 111:
+            done = subprocess.run([self.program, self.folder(name), *words], input=given, stdout=subprocess.PIPE, check=False)
+            status = done.returncode
+        return done.stdout.decode()
+
+    def settled(self, name, call):
+        """What a call makes of a list's folder when no run of the program has it, or None where one was stopped and left its log."""
+        folder = self.folder(name)
+        with held(folder):
+            return call(folder) if (folder / 'log').stat().st_size <= 1 else None
 
     def posts(self, name='cats'):
-        """How many posts the list has, when no run of the program has it."""
-        with open(self.folder(name) / 'lock', encoding='ascii') as lock:
-            fcntl.flock(lock, fcntl.LOCK_EX)
-            return int((self.folder(name) / 'num').read_text())
+        """How many posts the list has."""
+        return self.settled(name, lambda folder: int((folder / 'num').read_text()))
 
     def queue(self, name='cats'):
-        try:
-            return len(os.listdir(self.folder(name) / 'queue'))
-        except FileNotFoundError:
-            return 0
+        """How many entries are to be sent."""
+        return self.settled(name, lambda folder: len(os.listdir(folder / 'queue')) if (folder / 'queue').exists() else 0)
 
     def is_out(self, copies, name='cats'):
         """Whether the queue gets empty with so many copies handed on."""
-        return until(lambda: self.queue(name) == 0 and len(self.sink.copies) >= copies) and len(self.sink.copies) == copies
+        return until(lambda: len(self.sink.copies) >= copies and self.queue(name) == 0) and len(self.sink.copies) == copies
 
     def notes(self, *statements):
         """Changes the notes of cats, or asks them. The agent has to be at rest."""
@@ -155,17 +197,27 @@ class World:
         return path
 
     def begin(self, words=None):
-        (self.place / 'lmtp').unlink(missing_ok=True)
-        self.agent = subprocess.Popen([*(words or self.words), self.settings()], stderr=self.log_file, stdout=self.log_file)
-        until(lambda: (self.place / 'lmtp').exists() or self.agent.poll() is not None)
+        """Starts the agent, and waits until it listens or ends."""
+        self.told.append(told := bytearray())
+        # What it says goes through a pipe, to which no limit on files applies.
+        self.agent = subprocess.Popen([*(words or self.words), self.settings()], stdout=subprocess.PIPE, stderr=subprocess.STDOUT)
+        self.listening = threading.Thread(target=self.listen, args=[self.agent.stdout, told])
+        self.listening.start()
+        until(lambda: LISTENS in told or self.agent.poll() is not None)
 
     def end(self, number=signal.SIGTERM):
         """The status with which it ends."""
         if self.agent is None:
             return None
-        if self.agent.poll() is None:
-            self.agent.send_signal(number)
-        return self.agent.wait(LONG)
+        self.agent.send_signal(number)
+        status = self.agent.wait(LONG)
+        if status == 0:
+            self.listening.join()
+        return status
+
+    def tells(self, *words, times=1):
+        """Whether all of this comes to stand in the log, so often."""
+        return until(lambda: all(self.log().count(word) >= times for word in words))
 
     def mail(self, sender, recipients, message):
         """The replies for the recipients, or None where the agent hung up."""

@@ -95,7 +95,7 @@ class Course:
         """members whom Postfix itself refuses, more than it takes errors of one connection"""
         self.setting.list('fish', [f'm{n}@refused.net' for n in range(30)] + [f'm{n}@m.net' for n in range(70)])
         self.setting.send('w@m.net', 'fish@ex.org', 'fish')
-        eventually(lambda: sum(b'Subject: fish' in content for _, _, content in self.sink.copies) == 70 and not self.setting.entries('fish'),
+        eventually(lambda: sum(b'Subject: fish' in content for _, _, content in self.sink.copies) == 70 and self.setting.entries('fish') == 0,
                    'not all have it')
         assert self.setting.agent_log().count('refused.net@ex.org: 0 bounce,') == 30, 'not each refusal is a bounce'
 
@@ -136,8 +136,7 @@ class Course:
                 self.setting.end_agent(signal.SIGKILL)
                 self.setting.begin_agent()
         eventually(lambda: (folder / 'num').read_text() == '400\n', 'not all is posted')
-        eventually(lambda: not os.listdir(folder / 'queue') and not self.setting.queue(), 'not all is out', 400)
-        time.sleep(1)
+        eventually(lambda: self.setting.entries('birds') == 0 and not self.setting.queue(), 'not all is out')
         copies = collections.Counter((to.replace('"', ''), re.search(rb'number (\d+)\.', content)[1]) for _, to, content in self.sink.copies)
         wanted = {(member, b'%d' % n) for member in ODD for n in range(400)}
         assert set(copies) == wanted, f'{len(copies)} different copies'

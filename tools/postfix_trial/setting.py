@@ -1,5 +1,6 @@
 """Postfix, lists and the agent in a folder of their own."""
 
+import fcntl
 import os
 import pathlib
 import re
@@ -12,7 +13,6 @@ import sys
 import time
 
 TOP = pathlib.Path(__file__).resolve().parent.parent.parent
-sys.path.insert(0, str(TOP / 'tests'))
 SMTPD, SINK = 12525, 12526
 USER = 'list'  # who has the lists and runs the agent
 KEY = '0' * 63 + '1'
@@ -40,6 +40,7 @@ minimal_backoff_time = 2s
 queue_run_delay = 2s
 maximal_backoff_time = 4s
 mlmmj_destination_recipient_limit = 1
+recipe_destination_recipient_limit = 1
 
 transport_maps = regexp:{place}/etc/lists
 smtpd_authorized_verp_clients = 127.0.0.0/8, [::1]/128
@@ -47,7 +48,7 @@ mydestination = local.org
 local_recipient_maps = proxy:unix:passwd.byname $alias_maps regexp:{place}/etc/lists
 virtual_mailbox_domains = virtual.org
 virtual_mailbox_maps = regexp:{place}/etc/lists
-relay_domains = ex.org, mlm.org
+relay_domains = ex.org, mlm.org, small.org
 relay_recipient_maps = regexp:{place}/etc/lists
 '''
 MASTER = '''127.0.0.1:{smtpd} inet n - n - - smtpd
@@ -75,6 +76,9 @@ ezmlm unix - - {chroot} - - lmtp
 anvil unix - - n - 1 anvil
 scache unix - - n - 1 scache
 postlog unix-dgram n - n - 1 postlogd
+recipe unix - n n - 1 pipe
+  user={user} null_sender=
+  argv=/usr/bin/env EZMLM={program} {place}/recipe/bin/list-in {place}/recipe/lists/$nexthop $queue_id $sender $recipient
 mlmmj unix - n n - - pipe
   flags=ORhu user=nobody argv=/usr/bin/mlmmj-receive -F -L {place}/mlmmj/$nexthop
 '''
@@ -83,6 +87,8 @@ LISTS = r'''/^(cats|dogs|birds|fish)(-.*)?@ex\.org$/ ezmlm:unix:ezmlm/lmtp
 /^talk(-.*)?@virtual\.org$/ ezmlm:unix:ezmlm/lmtp
 /^cats(\+.*)?@mlm\.org$/ mlmmj:cats
 /^dogs(\+.*)?@mlm\.org$/ mlmmj:dogs
+/^cats(-.*)?@small\.org$/ recipe:cats
+/^dogs(-.*)?@small\.org$/ recipe:dogs
 '''
 REFUSED = r'''/@refused\.net$/ 550 5.1.1 No such user
 '''
@@ -106,7 +112,7 @@ class Setting:
         for name in ('etc', 'spool', 'data', 'lists', 'state', 'mlmmj'):
             (self.place / name).mkdir()
         shutil.chown(self.place / 'data', 'postfix')
-        values = {'place': self.place, 'smtpd': SMTPD, 'sink': SINK, 'chroot': self.chroot}
+        values = {'place': self.place, 'smtpd': SMTPD, 'sink': SINK, 'chroot': self.chroot, 'user': USER, 'program': self.program}
         for name, text in (('main.cf', MAIN.format(**values)), ('master.cf', MASTER.format(**values)), ('lists', LISTS), ('refused', REFUSED)):
             (self.place / 'etc' / name).write_text(text)
         shutil.copy('/etc/postfix/dynamicmaps.cf', self.place / 'etc')
@@ -137,7 +143,7 @@ class Setting:
 
     def end_agent(self, number=signal.SIGTERM):
         self.agent.send_signal(number)
-        self.agent.wait(90)
+        self.agent.wait(900)
 
     def end(self):
         if self.agent and self.agent.poll() is None:
@@ -173,11 +179,13 @@ class Setting:
         return (self.place / 'agent.log').read_text()
 
     def entries(self, name):
-        """How many entries a list's queue has."""
-        try:
-            return len(os.listdir(self.place / 'lists' / name / 'queue'))
-        except FileNotFoundError:
-            return 0
+        """How many entries a list's queue has when no run has it, or None where a run was stopped and left its log."""
+        folder = self.place / 'lists' / name
+        with open(folder / 'lock', encoding='ascii') as lock:
+            fcntl.flock(lock, fcntl.LOCK_EX)
+            if (folder / 'log').stat().st_size > 1:
+                return None
+            return len(os.listdir(folder / 'queue')) if (folder / 'queue').exists() else 0
 
     def tells(self, pattern):
         return lambda: re.search(pattern, self.agent_log()) is not None
@@ -197,7 +205,7 @@ def wait_for(port):
     eventually(listens, f'nobody listens at {port}')
 
 
-def eventually(holds, what, seconds=180):
+def eventually(holds, what, seconds=900):
     end = time.monotonic() + seconds
     while not holds():
         if time.monotonic() > end:

@@ -1,6 +1,6 @@
 -- What the words ask for of the commands that give a text, and what each asks of a list.
 use Rattle.std.specs.Prelude.{ℕ, Bool, true, false, List, [], ◌∷◌, codes, if◌then◌else◌, Option, Some, None}
-use Rattle.std.specs.Option.{option_map}
+use Rattle.std.specs.Option.{option_map, option_and_then}
 use Rattle.std.specs.Str.{bytes_eq}
 use Rattle.ml_base.specs.Bytes.{Text}
 use Rattle.ml_base.specs.Name.{set_of}
@@ -11,6 +11,16 @@ use Rattle.ml_reading.specs.declared.queries.Query.{Query}
 use Rattle.ml_reading.specs.declared.queries.Query.TheVariants as queries
 use Rattle.ml_input.specs.Asking.{InputQuestion}
 use Rattle.ml_check.specs.Checking.{check_meaning}
+use Rattle.ml_dividing.specs.Moves.{PlainMove}
+use Rattle.ml_dividing.specs.Questions.{division_meaning, division_of, move_words, moving_meaning, moving_of}
+use Rattle.ml_dividing.specs.declared.dividing.Division.{Division}
+use Rattle.ml_dividing.specs.declared.streaming.Moving.{Moving}
+use Rattle.ml_split.specs.Reading.{rules_in}
+use Rattle.ml_web.specs.Questions.{page_meaning}
+use Rattle.ml_web.specs.Words.{month_query, thread_query}
+use Rattle.ml_web.specs.declared.pages.PageQuery.{PageQuery}
+use Rattle.ml_web.specs.declared.pages.PageQuery.TheVariants as pages
+use Rattle.ml_base.specs.declared.names.Set.{Set}
 use Rattle.ml_command.specs.declared.giving.Inquiry.{Inquiry}
 use Rattle.ml_command.specs.declared.giving.Inquiry.TheVariants as inquiries
 use Rattle.ml_command.specs.declared.giving.Asked.{Asked}
@@ -21,10 +31,37 @@ pub data Asking : Type 1 where
   ByWords : Meaning → Asking
   ByInput : InputQuestion → Asking
 
+-- the most bytes of the rules of `split`
+abbrev pub longest_rules : ℕ
+longest_rules = 1_048_576
+
+-- the parts of a set, by the rules that the input spells
+abbrev pub division_asked : Set → InputQuestion
+division_asked set = record {
+  Question = Division;
+  timed = false;
+  limit = longest_rules;
+  made = λ moment text. division_of set (rules_in text);
+  meaning = λ it. division_meaning it.set it.rules;
+}
+
+-- the stream that moves a part, by the rules that the input spells and at the clock's moment
+abbrev pub moving_asked : PlainMove → InputQuestion
+moving_asked words = record {
+  Question = Moving;
+  timed = true;
+  limit = longest_rules;
+  made = λ moment text. moving_of words moment (rules_in text);
+  meaning = λ it. moving_meaning it.words it.rules it.moment;
+}
+
 -- what an inquiry asks
 abbrev pub asking_of : Inquiry → Asking
 asking_of (inquiries.Query query) = ByWords (query_meaning query)
 asking_of inquiries.Check = ByWords check_meaning
+asking_of (inquiries.Pages query) = ByWords (page_meaning query)
+asking_of (inquiries.Split set) = ByInput (division_asked set)
+asking_of (inquiries.Move words) = ByInput (moving_asked words)
 
 -- a query is asked, where a word gives it
 abbrev pub queried : Option Query → Asked
@@ -61,11 +98,62 @@ abbrev pub check_of : List Text → Asked
 check_of [] = askeds.Inquiry inquiries.Check
 check_of _ = askeds.NoCommand
 
--- what words ask for that begin with this one, where it is that of a command that gives a text
-abbrev pub asked_of : Text → List Text → Option Asked
-asked_of name rest =
+-- a page is asked for, where words name one
+abbrev pub paged : Option PageQuery → Asked
+paged None = askeds.BadWord
+paged (Some query) = askeds.Inquiry (inquiries.Pages query)
+
+-- a page of the month or the thread of a word
+abbrev pub page_of : Text → Text → Text → Asked
+page_of kind which page =
+    if bytes_eq kind (codes "month") then paged (month_query which page)
+    else (if bytes_eq kind (codes "thread") then paged (thread_query which page) else askeds.NoCommand)
+
+-- what the words behind `pages` ask for: the list of them, behind `month` a page of a month, and behind `thread` one of a thread
+abbrev pub pages_of : List Text → Asked
+pages_of (kind ∷ []) = if bytes_eq kind (codes "list") then askeds.Inquiry (inquiries.Pages pages.List) else askeds.NoCommand
+pages_of (kind ∷ which ∷ page ∷ []) = page_of kind which page
+pages_of _ = askeds.NoCommand
+
+-- the parts of a set are asked for, where a word names one
+abbrev pub divided : Option Set → Asked
+divided None = askeds.BadWord
+divided (Some set) = askeds.Inquiry (inquiries.Split set)
+
+-- whether an option adds a part's members or removes them
+abbrev pub into_of : Text → Option Bool
+into_of option = if bytes_eq option (codes "-a") then Some true else (if bytes_eq option (codes "-r") then Some false else None)
+
+-- the move of a part by the words of a number, a set and the part's name, which is any word
+abbrev pub move_of : Bool → Text → Text → Text → Option PlainMove
+move_of into first set name = option_and_then (λ n. option_and_then (λ s. move_words into n s name) (set_of set)) (number_of first)
+
+-- a move is asked for, where words give one
+abbrev pub moved : Option PlainMove → Asked
+moved None = askeds.BadWord
+moved (Some words) = askeds.Inquiry (inquiries.Move words)
+
+-- the same in one of two directions, where an option is one
+abbrev pub moved_by : Option Bool → Text → Text → Text → Asked
+moved_by None first set name = askeds.NoCommand
+moved_by (Some into) first set name = moved (move_of into first set name)
+
+-- what the words behind `split` ask for: a set's parts, and behind `-a` and `-r` the stream of one of them
+abbrev pub split_of : List Text → Asked
+split_of (set ∷ []) = divided (set_of set)
+split_of (option ∷ first ∷ set ∷ name ∷ []) = moved_by (into_of option) first set name
+split_of _ = askeds.NoCommand
+
+-- what words ask for that begin with this one, where it is that of a command that gives a text, but for `split`
+abbrev pub asked_of_list : Text → List Text → Option Asked
+asked_of_list name rest =
     if bytes_eq name (codes "list") then Some (list_of rest)
     else (if bytes_eq name (codes "queue") then Some (queue_of rest)
     else (if bytes_eq name (codes "out") then Some (out_of rest)
     else (if bytes_eq name (codes "show") then Some (show_of rest)
-    else (if bytes_eq name (codes "check") then Some (check_of rest) else None))))
+    else (if bytes_eq name (codes "check") then Some (check_of rest)
+    else (if bytes_eq name (codes "pages") then Some (pages_of rest) else None)))))
+
+-- what words ask for that begin with this one, where it is that of a command that gives a text
+abbrev pub asked_of : Text → List Text → Option Asked
+asked_of name rest = if bytes_eq name (codes "split") then Some (split_of rest) else asked_of_list name rest

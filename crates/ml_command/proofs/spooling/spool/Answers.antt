@@ -26,7 +26,9 @@ returns g c =
       named = λ t e. c.run-site.ensures.named t (back run status 75 is (omega arith) e);
       gate = λ some one two three. c.run-site.ensures.gate some (λ e. one (keeps run status 71 is refl e)) (λ e. two (keeps run status 73 is refl e)) (λ e. three (keeps run status 111 is refl e));
       nolist = λ told files found none. misses (IsTrue g.S.Site.tells_all) run status (g.S.Site.output c.args.site) (g.S.Site.output c.run-site.result.1) is (c.run-site.ensures.nolist told files found none);
-      takes = c.run-site.ensures.few;
+      takes = λ bytes left.
+          let t = c.run-site.ensures.few bytes left in
+          record { taken = t.taken; rest = t.rest; before_is = t.before_is; after_is = t.after_is; items = t.items; ending = t.ending; stream = t.stream; few = t.few; more = λ e. t.more (back run status 72 is (omega arith) e) };
       streamed = c.run-site.ensures.streamed;
       answers = c.run-site.ensures.answers;
       syncs = c.run-site.ensures.syncs;

@@ -1,0 +1,4 @@
+pub mod Ranged
+pub mod Turns
+pub mod Standing
+pub mod Imported

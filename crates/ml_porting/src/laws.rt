@@ -1,0 +1,28 @@
+// What holds of every stream that an import gives.
+ghost use Rattle.std.specs.Prelude.{◌≡◌, ◌≤◌, ℕ, List, Some, Ok, length};
+ghost use Rattle.ml_base.specs.Bytes.{Text};
+ghost use Rattle.ml_base.specs.Dir.{Dir};
+ghost use Rattle.ml_base.specs.Ranges.{IsMoment};
+ghost use Rattle.ml_config.specs.Configuration.{IsConfig};
+ghost use Rattle.ml_config.specs.declared.configuration.Config.{Config};
+ghost use Rattle.ml_mbox.specs.Importing.{acts_of};
+ghost use Rattle.ml_mbox.specs.Reading.{read};
+ghost use Rattle.ml_mbox.specs.declared.mails.Boxed.{Boxed};
+ghost use Rattle.ml_plain.specs.Items.{numbered};
+ghost use Rattle.ml_reading.specs.declared.question.Answer.TheVariants as answers;
+ghost use Rattle.ml_stream.specs.Stream.{IsStream, End};
+ghost use Rattle.ml_porting.specs.Numbers.{IsFirst};
+ghost use Rattle.ml_porting.specs.Questions.{importing_meaning, importing_of};
+ghost use Rattle.ml_porting.specs.declared.importing.Importing.{Importing as TheImporting};
+
+use ml_import::law_import;
+
+/// The input that a question of an import was made of is a mailbox, and a text that answers it, of whatever files, is by the
+/// grammar of streams exactly the deliveries of its mails, in order, numbered from the first number on, and then ends.
+pub fn law_importing()
+    ensures { (first moment : ℕ) (text stream : Text) (question : TheImporting) (c : Config) (dir : Dir) → IsFirst first → IsMoment moment → length text ≤ 268_435_456 → IsConfig c
+        → importing_of first moment text ≡ Ok question → (importing_meaning question.words question.moment question.text).by_files c dir (answers.Text stream)
+        → (mails : List Boxed) × (read text ≡ Some mails) × IsStream 0 stream (numbered first moment (acts_of c mails)) End }
+{
+    law_import();
+}
