@@ -1,7 +1,6 @@
 -- Files under a configuration.
-use Rattle.std.proofs.Common.{◌≡◌, ◌∙◌, Bool, true, false, cond, List, Option, Some, Result, Ok, Err, IfOk, IfErr, refl, sym, ap, ap₂, subst}
+use Rattle.std.proofs.Common.{◌≡◌, ◌∙◌, Bool, true, false, cond, List, Some, Result, Ok, Err, IfOk, IfErr, refl, sym, ap, ap₂, subst}
 use Rattle.std.proofs.Math.Path.{fun_ext}
-use Rattle.ml_base.specs.Bytes.{Text}
 use Rattle.ml_base.specs.Dir.{Dir, same_name}
 use Rattle.ml_base.specs.PartErrors.{OnDamaged}
 use Rattle.ml_base.specs.declared.names.Name.{Name}

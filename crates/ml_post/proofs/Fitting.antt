@@ -5,7 +5,6 @@ use Rattle.ml_base.specs.declared.part.PartError.{PartError}
 use Rattle.ml_config.specs.Configuration.{is_max}
 use Rattle.ml_plain.specs.Answers as answers
 use Rattle.ml_post.specs.Posting.{fate_of}
-use Rattle.ml_post.specs.declared.posting.Fate.{Fate}
 use Rattle.ml_post.specs.declared.posting.Fate.TheVariants as fates
 use Rattle.ml_post.specs.declared.verdicts.Verdict.{Verdict as Found}
 use Rattle.ml_post.specs.declared.verdicts.Verdict.TheVariants as found

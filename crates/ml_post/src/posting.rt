@@ -20,10 +20,10 @@ ghost use Rattle.ml_post.specs.Holding.{is_held_by};
 ghost use Rattle.ml_post.specs.Posting.{fate_of, is_posted_by, reply_of};
 ghost use Rattle.ml_post.specs.Publishing.{is_published_by};
 
+use crate::Verdict;
 use crate::holding::hold_post;
 use crate::judging::{judged, usable};
 use crate::publishing::publish;
-use crate::Verdict;
 use ml_acts::{Configured, Memo};
 use ml_archive::Appended;
 use ml_base::{Files, PartError, Txn};

@@ -1,4 +1,4 @@
-use Rattle.std.proofs.Common.{◌≡◌, ◌∙◌, true, ap₂, sym, subst}
+use Rattle.std.proofs.Common.{◌∙◌, true, ap₂, sym, subst}
 use Rattle.std.specs.Prelude.{◌&&◌}
 use Rattle.std.proofs.lemmas.Result.{IfOk-weaker}
 use Rattle.ml_base.specs.Dir.{Dir}

@@ -1,5 +1,4 @@
-use Rattle.std.proofs.Common.{ap, sym, subst}
-use Rattle.ml_base.specs.Dir.{Dir}
+use Rattle.std.proofs.Common.{ap}
 use Rattle.ml_plain.specs.Managing as spec
 use Rattle.ml_acts.proofs.UnderConfig.{bad_under, done_under, sound_under}
 use Rattle.ml_post.proofs.answering.answer.Goals as goal
