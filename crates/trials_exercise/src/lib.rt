@@ -1,0 +1,5 @@
+//! Tests of exercises: the items that are made from a count, and the command that runs them.
+#![tactic(auto)]
+
+#[cfg(test)]
+mod items;
