@@ -1,2 +1,3 @@
+pub mod Texts
 pub mod Items
 pub mod Generated

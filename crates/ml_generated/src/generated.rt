@@ -2,7 +2,7 @@
 ghost use Rattle.std.specs.Prelude.{◌≡◌, ◌≤◌, ◌<◌, ◌+◌, ◌^◌, Some, IsOk, length};
 ghost use Rattle.ml_stream.specs.Writing.{stream_text};
 ghost use Rattle.ml_generated.specs.Items.{generated};
-ghost use Rattle.ml_generated.proofs.Sizes.{room};
+ghost use Rattle.ml_generated.proofs.Streams.{room};
 
 use crate::buffer::Buffer;
 use crate::items::item;
@@ -85,5 +85,5 @@ impl Source for Generated {
         Ok(count)
     }
 
-    ghost room = { λ s bytes is. room s.local s.host s.item bytes s.next s.ahead s.at s.local_fits s.host_fits s.few s.short is };
+    ghost room = { λ s bytes is. room s.local s.host s.item bytes s.at s.next s.ahead s.local_fits s.host_fits s.few s.short is };
 }

@@ -3,8 +3,10 @@ ghost use Rattle.std.specs.Prelude.{◌≡◌, ◌≤◌, ◌+◌, [], ◌∷◌
 ghost use Rattle.ml_base.specs.Netstrings.{ns};
 ghost use Rattle.ml_stream.specs.Writing.{letter as letter_of, spelled_act, spelled_item};
 ghost use Rattle.ml_generated.specs.Items as spec;
+ghost use Rattle.ml_generated.specs.Texts as texts;
 
 use crate::buffer::Buffer;
+use crate::texts::{address, bounce_address, message, put_list};
 
 /// What an item does.
 #[derive(Clone, Copy)]
@@ -100,7 +102,7 @@ fn put_member(out: &mut Buffer, set: &[u8], i: u64)
     requires room { length out.old ≤ 100 }
     requires set { length set.now ≤ 6 }
     requires number { i ≤ 999_999 }
-    ensures text { out.new ≡ out.old ++ ns set.now ++ ns (spec.address i) }
+    ensures text { out.new ≡ out.old ++ ns set.now ++ ns (texts.address i) }
     ensures grown { length out.old ≤ length out.new }
 {
     out.put_netstring(set);
@@ -115,7 +117,7 @@ fn put_post(out: &mut Buffer, words: &[u8], local: &[u8], host: &[u8], i: u64)
     requires local { length local.now ≤ 60 }
     requires host { length host.now ≤ 255 }
     requires number { i ≤ 999_999 }
-    ensures text { out.new ≡ out.old ++ ns (spec.address i) ++ ns (local.now ++ words.now ++ 64 ∷ host.now) ++ ns (spec.message local.now host.now i) }
+    ensures text { out.new ≡ out.old ++ ns (texts.address i) ++ ns (local.now ++ words.now ++ 64 ∷ host.now) ++ ns (texts.message local.now host.now i) }
     ensures grown { length out.old ≤ length out.new }
 {
     let mut recipient = Buffer::new();
@@ -123,77 +125,4 @@ fn put_post(out: &mut Buffer, words: &[u8], local: &[u8], host: &[u8], i: u64)
     out.put_netstring(address(i).as_slice());
     out.put_netstring(recipient.as_slice());
     out.put_netstring(message(local, host, i).as_slice());
-}
-
-// Adds an address of the list at the end, with these words behind its local part.
-fn put_list(out: &mut Buffer, local: &[u8], words: &[u8], host: &[u8])
-    requires { length out.old + length local.now + length words.now + length host.now + 1 ≤ 1024 }
-    ensures text { out.new ≡ out.old ++ local.now ++ words.now ++ 64 ∷ host.now }
-    ensures size { length out.new ≡ length out.old + length local.now + length words.now + length host.now + 1 }
-{
-    out.put(local);
-    out.put(words);
-    out.put(b"@");
-    out.put(host);
-}
-
-// The address of an item's person.
-fn address(i: u64) -> Buffer
-    requires number { i ≤ 999_999 }
-    ensures text { result ≡ spec.address i }
-    ensures size { length result ≤ 28 }
-{
-    let mut out = Buffer::new();
-    out.put(b"u");
-    out.put_number(person(i));
-    out.put(b"@ex.com");
-    out
-}
-
-// Whom an item is about.
-fn person(i: u64) -> u64
-    requires { i ≤ 999_999 }
-    ensures { result ≡ spec.person i }
-{
-    37 * i % 97
-}
-
-// The envelope sender under which the list sent a post to an item's person.
-fn bounce_address(local: &[u8], host: &[u8], i: u64) -> Buffer
-    requires local { length local.now ≤ 60 }
-    requires host { length host.now ≤ 255 }
-    requires number { i ≤ 999_999 }
-    ensures text { result ≡ spec.bounce_address local.now host.now i }
-    ensures size { length result ≤ 373 }
-{
-    let mut out = Buffer::new();
-    out.put(local);
-    out.put(b"-return-");
-    out.put_number((i / 10).max(1));
-    out.put(b"-u");
-    out.put_number(person(i));
-    out.put(b"=ex.com@");
-    out.put(host);
-    out
-}
-
-// A message of an item's person to the list.
-fn message(local: &[u8], host: &[u8], i: u64) -> Buffer
-    requires local { length local.now ≤ 60 }
-    requires host { length host.now ≤ 255 }
-    requires number { i ≤ 999_999 }
-    ensures text { result ≡ spec.message local.now host.now i }
-    ensures size { length result ≤ 419 }
-{
-    let mut out = Buffer::new();
-    out.put(b"From: ");
-    out.put(address(i).as_slice());
-    out.put(b"\nTo: ");
-    put_list(&mut out, local, b"", host);
-    out.put(b"\nSubject: topic ");
-    out.put_number(i % 7);
-    out.put(b"\n\npost ");
-    out.put_number(i);
-    out.put(b"\n");
-    out
 }

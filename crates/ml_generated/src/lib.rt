@@ -5,6 +5,7 @@ mod buffer;
 mod generated;
 mod items;
 mod laws;
+mod texts;
 
 pub use generated::Generated;
 pub use laws::law_generated;
