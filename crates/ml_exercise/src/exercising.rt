@@ -6,7 +6,7 @@ use crate::finding::find;
 use ml_check::Exercised;
 use ml_config::Config;
 use ml_reading::read_list;
-use ml_run::{Generated, run};
+use ml_run::{Generated, run, stop};
 use ml_site::Site;
 use std::alloc::Global;
 
@@ -21,8 +21,8 @@ pub fn exercise<S: Site>(alloc: Global, count: u64, site: S) -> (u8, S)
     ensures { Exercises ⟦<S as Site>⟧ count site result.1 result.0 }
 {
     match find(alloc, site) {
-        Ok((config, site)) => exercise_list(alloc, &config, count, site),
-        Err((status, site)) => (status, site),
+        (Ok(config), site) => exercise_list(alloc, &config, count, site),
+        (Err(why), site) => stop(site, why),
     }
 }
 

@@ -1,11 +1,11 @@
 -- The people of an exercise have addresses.
-use Rattle.std.proofs.Common.{◌≡◌, ℕ, suc, ◌+◌, ◌*◌, ◌%◌, ◌^◌, ◌<◌, ◌≤◌, List, [], ◌∷◌, ◌++◌, ◌&&◌, true, false, length, Result, Ok, Err, is_ok, ap, ap₂, sym, refl, ◌∙◌, subst, arith, codes, append_assoc, nat_lt}
+use Rattle.std.proofs.Common.{◌≡◌, ℕ, suc, ◌+◌, ◌%◌, ◌^◌, ◌<◌, ◌≤◌, List, [], ◌∷◌, ◌++◌, ◌&&◌, true, length, Result, Ok, Err, is_ok, ap, ap₂, sym, refl, ◌∙◌, arith, codes, nat_lt}
 use Rattle.std.proofs.lemmas.Bool.Decides.{nat_tests}
 use Rattle.std.proofs.lemmas.Fmt.{decimal_by_steps}
 use Rattle.std.proofs.lemmas.List.Folds.{list_all-append}
 use Rattle.std.specs.Fmt.{decimal}
 use Rattle.std.specs.List.{list_all}
-use Rattle.ml_base.specs.Address.{IsAddress, address_check, are_parts, is_host_byte, is_local_byte}
+use Rattle.ml_base.specs.Address.{IsAddress, address_check, are_parts, is_local_byte}
 use Rattle.ml_base.specs.Bytes.{Text}
 use Rattle.ml_base.specs.declared.address.AddressFault.{AddressFault}
 use Rattle.ml_base.proofs.AddressParts.{who_parts}

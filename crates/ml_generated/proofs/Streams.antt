@@ -1,16 +1,15 @@
 -- The items of an exercise make a stream, and how long it is.
-use Rattle.std.proofs.Common.{◌≡◌, ℕ, zero, suc, ◌+◌, ◌-◌, ◌*◌, ◌/◌, ◌%◌, ◌^◌, ◌<◌, ◌≤◌, List, [], ◌∷◌, ◌++◌, length, drop, Some, ap, sym, refl, ◌∙◌, subst, arith, codes, length-append, length-drop}
+use Rattle.std.proofs.Common.{◌≡◌, ℕ, zero, suc, ◌+◌, ◌*◌, ◌/◌, ◌%◌, ◌^◌, ◌<◌, ◌≤◌, [], ◌∷◌, ◌++◌, length, drop, Some, ap, refl, ◌∙◌, arith, codes, length-append, length-drop}
 use Rattle.std.proofs.lemmas.Bool.Decides.{nat_tests}
 use Rattle.std.proofs.lemmas.List.Concat.{flat_map-cons}
 use Rattle.std.specs.Fmt.{decimal}
 use Rattle.ml_base.specs.Bytes.{Text}
 use Rattle.ml_base.specs.Netstrings.{ns}
-use Rattle.ml_plain.specs.Items.{IsAct, IsItem}
 use Rattle.ml_stream.specs.Stream.{IsStream, End, got, item_at}
-use Rattle.ml_stream.specs.Writing.{IsGood, IsTyped, letter, spelled_act, spelled_item, stream_text}
+use Rattle.ml_stream.specs.Writing.{IsGood, spelled_act, spelled_item, stream_text}
 use Rattle.ml_stream.proofs.Spelled.{item_written}
-use Rattle.ml_generated.specs.Texts.{address, bounce_address, list_address, message, request_address}
-use Rattle.ml_generated.specs.Items.{act_of, generated, item, items_from, kind_of}
+use Rattle.ml_generated.specs.Texts.{address, bounce_address, line, list_address, message, request_address}
+use Rattle.ml_generated.specs.Items.{act_of, item, items_from, kind_of, left_of}
 use Rattle.ml_generated.specs.declared.items.Kind.{Kind}
 use Rattle.ml_generated.specs.declared.items.Kind.TheVariants as kinds
 use Rattle.ml_generated.proofs.People.{is_address}
@@ -20,11 +19,13 @@ use Rattle.ml_generated.proofs.Sizes.{address_size, bounce_size, digits_short, m
 nine : (d : ℕ) → kind_of d ≡ kinds.Sent → d ≡ 9
 nine d is = grind (arith, nat_tests)
 
+three : (a b c : Text) → length (a ++ b ++ c) ≡ length a + length b + length c
+three a b c = grind (arith, length-append)
+
 request_size : (local host : Text) → length local ≤ 60 → length host ≤ 255 → length (request_address local host) ≤ 326
 request_size local host few some =
-    let a = length-append local (codes "-subscribe" ++ 64 ∷ host) in
-    let b = length-append (codes "-subscribe") (64 ∷ host) in
-    omega (arith, a, b)
+    let all : length (request_address local host) ≡ length local + 10 + length (64 ∷ host) = three local (codes "-subscribe") (64 ∷ host) in
+    omega (arith, all)
 
 good : (k : Kind) (local host : Text) (i : ℕ) → length local ≤ 60 → length host ≤ 255 → i < 1_000_000 → kind_of (i % 10) ≡ k → IsGood (act_of k local host i)
 good kinds.Join local host i few some small is = (tt, is_address i)
@@ -61,16 +62,13 @@ items_read place local host first (suc more) few some all = (
   items_read (place + length (spelled_item (item local host first))) local host (first + 1) more few some (omega arith),
 )
 
-delivery_size : (to local host : Text) (i : ℕ) → length to ≤ 326 → length local ≤ 60 → length host ≤ 255 → i < 1_000_000 → length (ns (address i) ++ ns to ++ ns (message local host i)) ≤ 900
-delivery_size to local host i own few some small =
-    let who = address_size i in
-    let body = message_size local host i few some small in
-    let a = length-append (ns (address i)) (ns to ++ ns (message local host i)) in
-    let b = length-append (ns to) (ns (message local host i)) in
-    let c = ns_short (address i) (omega (arith, who)) in
-    let d = ns_short to (omega (arith, own)) in
-    let e = ns_short (message local host i) (omega (arith, body)) in
-    omega (arith, who, body, a, b, c, d, e)
+delivery_size : (from to body : Text) → length from ≤ 28 → length to ≤ 373 → length body ≤ 419 → length (ns from ++ ns to ++ ns body) ≤ 900
+delivery_size from to body one two more =
+    let all = three (ns from) (ns to) (ns body) in
+    let a = ns_short from (omega (arith, one)) in
+    let b = ns_short to (omega (arith, two)) in
+    let c = ns_short body (omega (arith, more)) in
+    omega (arith, one, two, more, all, a, b, c)
 
 member_size : (set : Text) (i : ℕ) → length set ≤ 6 → length (ns set ++ ns (address i)) ≤ 900
 member_size set i short =
@@ -83,25 +81,20 @@ member_size set i short =
 -- an act takes so many bytes at most
 act_size : (k : Kind) (local host : Text) (i : ℕ) → length local ≤ 60 → length host ≤ 255 → i < 1_000_000 → length (spelled_act (act_of k local host i)) ≤ 900
 act_size kinds.Join local host i few some small = member_size (codes "list") i (omega arith)
-act_size kinds.Bounce local host i few some small =
-    let who = bounce_size local host i few some small in
-    let a = length-append (ns []) (ns (bounce_address local host i) ++ ns (10 ∷ [])) in
-    let b = length-append (ns (bounce_address local host i)) (ns (10 ∷ [])) in
-    let c = ns_short [] (omega arith) in
-    let d = ns_short (bounce_address local host i) (omega (arith, who)) in
-    let e = ns_short (10 ∷ []) (omega arith) in
-    omega (arith, who, a, b, c, d, e)
+act_size kinds.Bounce local host i few some small = delivery_size [] (bounce_address local host i) (line []) (omega arith) (bounce_size local host i few some small) (omega arith)
 act_size kinds.Follow local host i few some small = member_size (codes "digest") i (omega arith)
 act_size kinds.Leave local host i few some small = member_size (codes "list") i (omega arith)
-act_size kinds.Post local host i few some small = delivery_size (list_address local host) local host i (let own = length-append local (64 ∷ host) in omega (arith, own)) few some small
-act_size kinds.Request local host i few some small = delivery_size (request_address local host) local host i (request_size local host few some) few some small
+act_size kinds.Post local host i few some small =
+    delivery_size (address i) (list_address local host) (message local host i) (address_size i) (let own = length-append local (64 ∷ host) in omega (arith, own)) (message_size local host i few some small)
+act_size kinds.Request local host i few some small =
+    delivery_size (address i) (request_address local host) (message local host i) (address_size i) (let own = request_size local host few some in omega (arith, own)) (message_size local host i few some small)
 act_size kinds.Sent local host i few some small =
     let digits = digits_short ((i + 1) / 10) (omega arith) in
     let a = ns_short (decimal ((i + 1) / 10)) (omega (arith, digits)) in
     omega (arith, digits, a)
 act_size kinds.Timed local host i few some small = omega arith
 
-item_size : (local host : Text) (i : ℕ) → length local ≤ 60 → length host ≤ 255 → i < 1_000_000 → length (spelled_item (item local host i)) ≤ 1024
+pub item_size : (local host : Text) (i : ℕ) → length local ≤ 60 → length host ≤ 255 → i < 1_000_000 → length (spelled_item (item local host i)) ≤ 1024
 item_size local host i few some small =
     let act = spelled_act (act_of (kind_of (i % 10)) local host i) in
     let moment = 1_000_000_000 + 1000 * i in
@@ -110,9 +103,9 @@ item_size local host i few some small =
     let two = digits_short moment (omega arith) in
     let a = ns_short (decimal i) (omega (arith, one)) in
     let b = ns_short (decimal moment) (omega (arith, two)) in
-    let c = length-append (ns (decimal i)) (ns (decimal moment) ++ act) in
-    let d = length-append (ns (decimal moment)) act in
-    omega (arith, size, one, two, a, b, c, d)
+    let all : length (spelled_item (item local host i)) ≡ suc (length (ns (decimal i) ++ ns (decimal moment) ++ act)) = refl in
+    let parts = three (ns (decimal i)) (ns (decimal moment)) act in
+    omega (arith, size, one, two, a, b, all, parts)
 
 stream_size : (local host : Text) (first more : ℕ) → length local ≤ 60 → length host ≤ 255 → first + more ≤ 1_000_000 → length (stream_text (items_from local host first more)) ≤ 1024 * more
 stream_size local host first zero few some all = omega arith
@@ -125,10 +118,8 @@ stream_size local host first (suc more) few some all =
     omega (arith, one, others, whole)
 
 -- what is left can be counted
-pub room : (local host held bytes : Text) (at first more : ℕ) → length local ≤ 60 → length host ≤ 255 → first + more ≤ 1_000_000 → length held ≤ 1024
-    → Some (drop at held ++ stream_text (items_from local host first more)) ≡ Some bytes → length bytes < 2 ^ 64
-room local host held bytes at first more few some all short is =
-    let rest = stream_text (items_from local host first more) in
-    let same : drop at held ++ rest ≡ bytes = cc in
-    let size = stream_size local host first more few some all in
-    omega (arith, size, ap length same, length-append (drop at held) rest, length-drop at held)
+pub room : (local host held : Text) (at next ahead : ℕ) → length local ≤ 60 → length host ≤ 255 → next + ahead ≤ 1_000_000 → length held ≤ 1024 → length (left_of local host held at next ahead) < 2 ^ 64
+room local host held at next ahead few some all short =
+    let rest = stream_text (items_from local host next ahead) in
+    let size = stream_size local host next ahead few some all in
+    omega (arith, size, length-append (drop at held) rest, length-drop at held)

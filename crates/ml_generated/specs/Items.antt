@@ -1,10 +1,11 @@
 -- The items of an exercise: what each does is told by the last digit of its number.
-use Rattle.std.specs.Prelude.{ℕ, zero, suc, ◌+◌, ◌*◌, ◌/◌, ◌%◌, ◌==◌, if◌then◌else◌, List, [], ◌∷◌}
+use Rattle.std.specs.Prelude.{ℕ, zero, suc, ◌+◌, ◌*◌, ◌/◌, ◌%◌, ◌==◌, if◌then◌else◌, List, [], ◌∷◌, ◌++◌, drop}
 use Rattle.ml_base.specs.Bytes.{Text}
 use Rattle.ml_base.specs.declared.names.Set.TheVariants as sets
 use Rattle.ml_plain.specs.declared.Act.{Act}
 use Rattle.ml_plain.specs.declared.Act.TheVariants as acts
 use Rattle.ml_plain.specs.declared.Item.{Item}
+use Rattle.ml_stream.specs.Writing.{stream_text}
 use Rattle.ml_generated.specs.Texts.{address, bounce_address, line, list_address, message, request_address}
 use Rattle.ml_generated.specs.declared.items.Kind.{Kind}
 use Rattle.ml_generated.specs.declared.items.Kind.TheVariants as kinds
@@ -43,3 +44,7 @@ items_from local host first (suc more) = item local host first ∷ items_from lo
 -- the items of an exercise
 abbrev pub generated : Text → Text → ℕ → List Item
 generated local host n = items_from local host 1 n
+
+-- the bytes that are left where some of one item's bytes are taken, and so many items are behind it from this number on
+abbrev pub left_of : Text → Text → Text → ℕ → ℕ → ℕ → Text
+left_of local host held at next ahead = drop at held ++ stream_text (items_from local host next ahead)

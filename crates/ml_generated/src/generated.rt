@@ -1,8 +1,8 @@
 // A source of the items of an exercise.
 ghost use Rattle.std.specs.Prelude.{◌≡◌, ◌≤◌, ◌<◌, ◌+◌, ◌^◌, Some, IsOk, length};
 ghost use Rattle.ml_stream.specs.Writing.{stream_text};
-ghost use Rattle.ml_generated.specs.Items.{generated};
-ghost use Rattle.ml_generated.proofs.Streams.{room};
+ghost use Rattle.ml_site.specs.Source.{left-room};
+ghost use Rattle.ml_generated.specs.Items.{generated, left_of};
 
 use crate::buffer::Buffer;
 use crate::items::item;
@@ -28,13 +28,14 @@ pub struct Generated {
     ghost few: { next + ahead ≤ 1_000_000 },
     ghost within: { at ≤ length item },
     ghost short: { length item ≤ 1024 },
+    ghost room: { length (left_of local host item at next ahead) < 2 ^ 64 },
 }
 
 impl Generated {
     ghost use Rattle.ml_generated.specs.Generated.{generated_left};
 
     /// The items 1 to `n` for a list with this local part and host, of which it keeps copies. The local part has at most 60 bytes, the host
-    /// at most 255, and `n` is 1 to 999,999.
+    /// at most 255, and `n` is at most 999,999.
     pub fn new(local: &[u8], host: &[u8], n: u64) -> Generated
         requires local { length local.now ≤ 60 }
         requires host { length host.now ≤ 255 }
@@ -85,5 +86,5 @@ impl Source for Generated {
         Ok(count)
     }
 
-    ghost room = { λ s bytes is. room s.local s.host s.item bytes s.at s.next s.ahead s.local_fits s.host_fits s.few s.short is };
+    ghost room = { λ s bytes is. left-room 0 (generated_left s) bytes s.room is };
 }

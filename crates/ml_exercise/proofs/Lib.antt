@@ -1,0 +1,5 @@
+pub mod Lists
+pub mod Statuses
+pub mod Telling
+pub mod Joined
+pub mod Missed
