@@ -3,3 +3,4 @@ pub mod Statuses
 pub mod Telling
 pub mod Joined
 pub mod Missed
+pub mod Found

@@ -34,3 +34,6 @@ count_is config count = as_many config.local config.host 1 count
 
 pub all_taken : (config : Config) (count : ℕ) → take count (items_for config count) ≡ items_for config count
 all_taken config count = let long = count_is config count in take_all count (items_for config count) (omega (arith, long))
+
+pub many : (q : State) (count : ℕ) → length (items_of q count) ≡ count
+many q count = as_many q.plain.config.local q.plain.config.host 1 count

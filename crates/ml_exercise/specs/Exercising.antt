@@ -100,7 +100,8 @@ pub record ExercisesList {S : Type 0} (told : Ghosts S) (count : ℕ) (old new :
       → Ends (IsTrue told.tells_all) status (told.disk new).reads (told.output new) q count (told.output old)
   pub at_rest : IsAtRest (told.disk old) → (q : State) → HasState (directory (told.disk old).reads) q
       → Leaves told old new (IsExercising q count (told.output old))
-  pub rest : (status ≡ 71 → ⊥) → (status ≡ 73 → ⊥) → (status ≡ 111 → ⊥) → IsSome (directory (told.disk old).reads) → IsTrue told.tells_all → IsAtRest (told.disk new)
+  pub rest : (q : State) → HasState (directory (told.disk old).reads) q
+      → (Rose (told.disk_faults old) (told.disk_faults new) → ⊥) → (status ≡ 71 → ⊥) → (status ≡ 73 → ⊥) → IsTrue told.tells_all → IsAtRest (told.disk new)
   pub gate : IsSome (directory (told.disk old).reads) → (status ≡ 71 → ⊥) → (status ≡ 73 → ⊥) → (status ≡ 111 → ⊥) → IsTrue told.tells_reads → (told.disk new).reads.log ≡ 0 ∷ []
   pub of_disk : status ≡ 111 → Rose (told.disk_faults old) (told.disk_faults new)
   pub of_output : status ≡ 73 → Rose (told.output_faults old) (told.output_faults new)

@@ -1,18 +1,16 @@
 // The configuration of the list that lies on a site.
-ghost use Rattle.std.specs.Prelude.{◌≡◌, ◌⊎◌, ◌≤◌, IsTrue, IsSome, IfOk, IfErr, [], ◌∷◌};
+ghost use Rattle.std.specs.Prelude.{◌≡◌, ◌≤◌, IsTrue, IsSome, IfOk, IfErr};
 ghost use Rattle.ml_base.specs.Faults.{Rose};
 ghost use Rattle.ml_base.specs.ReadFiles.{AreKept};
 ghost use Rattle.ml_config.specs.ConfigFile.{config_name};
 ghost use Rattle.ml_config.specs.Configuration.{IsConfig};
-ghost use Rattle.ml_site.specs.Disk.{IsAtRest, Now};
-ghost use Rattle.ml_site.specs.Moments.{BeforeFirstSync, FromFirstSync};
-ghost use Rattle.ml_journal.specs.Calls.{IsClean, Leaves};
+ghost use Rattle.ml_site.specs.Disk.{IsAtRest};
+ghost use Rattle.ml_journal.specs.Calls.{Leaves};
 ghost use Rattle.ml_journal.specs.Kept.{IsStill};
 ghost use Rattle.ml_journal.specs.Log.{directory};
-ghost use Rattle.ml_journal.specs.Moments.{IsOld};
 ghost use Rattle.ml_journal.specs.Stores.{site_of};
 ghost use Rattle.ml_ending.specs.Lines.{HasPath};
-ghost use Rattle.ml_exercise.specs.Finding.{HasConfig, IsMiss, IsOnlyConfig, IsUnfound, IsUnread};
+ghost use Rattle.ml_exercise.specs.Finding.{Finds, HasConfig, IsMiss, IsOnlyConfig, IsUnfound, IsUnread, Misses};
 
 use ml_base::Files;
 use ml_config::{Config, load};
@@ -25,25 +23,8 @@ use std::alloc::Global;
 /// wanting or the disk failed. It opens what lies there, which ends what an earlier run began, changes nothing else, and hands the site
 /// back with a log of one closed gate.
 pub(crate) fn find<S: Site>(alloc: Global, site: S) -> (Result<Config, Why>, S)
-    ensures range { IfOk result.0 IsConfig }
-    ensures config { IsTrue S.tells_reads → IfOk result.0 (HasConfig (directory (S.disk site).reads)) }
-    ensures reason { IsTrue S.tells_reads → IfErr result.0 (λ why. IsUnfound why (directory (S.disk site).reads)) }
-    ensures known { IfErr result.0 IsMiss }
-    ensures path { IfErr result.0 HasPath }
-    ensures same { IsTrue S.tells_reads → directory (S.disk result.1).reads ≡ directory (S.disk site).reads }
-    ensures output { IsTrue S.tells_all → S.output result.1 ≡ S.output site }
-    ensures found { IsTrue S.tells_all → IfOk result.0 (λ _. FromFirstSync S.moment S.left_since S.disk S.output S.syncs site result.1
-        (Now (S.disk site) (S.output site)) (IsOld (directory (S.disk site).reads) (S.output site))) }
-    ensures missed { IsTrue S.tells_all → IfErr result.0 (λ why.
-        BeforeFirstSync S.moment S.left_since S.disk S.output S.syncs site result.1 (Now (S.disk site) (S.output site))
-        ⊎ FromFirstSync S.moment S.left_since S.disk S.output S.syncs site result.1
-        (Now (S.disk site) (S.output site)) (IsOld (directory (S.disk site).reads) (S.output site))) }
-    ensures clean { IfOk result.0 (λ _. IsClean ⟦<S as Site>⟧ result.1) }
-    ensures gate { IsSome (directory (S.disk site).reads) → IfErr result.0 (λ why. (why ≡ Why.Memory → ⊥) → (why ≡ Why.Disk → ⊥) → IsTrue S.tells_reads → (S.disk result.1).reads.log ≡ 0 ∷ []) }
-    ensures rest { IsTrue S.tells_all → IfErr result.0 (λ why. (why ≡ Why.Memory → ⊥) → (why ≡ Why.Disk → ⊥) → IsAtRest (S.disk result.1)) }
-    ensures cause { IfErr result.0 (λ why. why ≡ Why.Disk → Rose (S.disk_faults site) (S.disk_faults result.1)) }
-    ensures disk_later { S.disk_faults site ≤ S.disk_faults result.1 }
-    ensures output_later { S.output_faults site ≤ S.output_faults result.1 }
+    ensures found { IfOk result.0 (λ config. Finds ⟦<S as Site>⟧ site result.1 config) }
+    ensures missed { IfErr result.0 (λ why. Misses ⟦<S as Site>⟧ site result.1 why) }
 {
     match Store::open(alloc, site) {
         Ok(store) => look(alloc, store),

@@ -7,3 +7,5 @@ mod commands;
 mod items;
 #[cfg(test)]
 mod program;
+#[cfg(test)]
+mod stops;

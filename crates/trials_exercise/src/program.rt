@@ -10,9 +10,6 @@ const KEY: &str = "000102030405060708090a0b0c0d0e0f101112131415161718191a1b1c1d1
 /// The words that make the list `list@ex.org`.
 pub(crate) const MAKE: [&str; 6] = ["make", "--key", KEY, "list", "ex.org", "o@own.org"];
 
-/// What tells that it is made.
-pub(crate) const MADE: &[u8] = b"made list@ex.org\n";
-
 /// No log and no files.
 pub(crate) fn nothing(alloc: Global) -> Image {
     Image {
@@ -21,10 +18,6 @@ pub(crate) fn nothing(alloc: Global) -> Image {
     }
 }
 
-/// What is left for good of the calls on a site, of which there are at most so many.
-pub(crate) fn settled(alloc: Global, site: &MemSite, calls: u64) -> Result<Image, AllocError> {
-    site.crash(alloc, calls, Fill::Old)
-}
 
 /// Runs the program with these words on a stream, at 1,000,000,000, and answers the status and the site.
 pub(crate) fn command(
