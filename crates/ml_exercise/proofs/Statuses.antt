@@ -3,16 +3,19 @@ use Rattle.std.proofs.Common.{◌≡◌, ◌⊎◌, inl, inr, ⊎_elim, ℕ, Boo
 use Rattle.std.proofs.lemmas.Bool.Decides.{nat_tests}
 use Rattle.std.specs.List.{list_all}
 use Rattle.ml_base.specs.Bytes.{Text}
+use Rattle.ml_base.specs.Faults.{Rose}
 use Rattle.ml_base.proofs.Bools.{both}
 use Rattle.ml_site.specs.Disk.{Contents}
 use Rattle.ml_plain.specs.Histories.{State, step, last_from}
 use Rattle.ml_plain.specs.Replies.{Kind, is_status, kind_at, kinds, status_of}
 use Rattle.ml_plain.specs.declared.Item.{Item}
 use Rattle.ml_reading.specs.Readings.{IsHindered, is_reading_status}
-use Rattle.ml_run.specs.Endings.{AnswersAll, CutOff, Ended, Runs, Stopped}
+use Rattle.ml_run.specs.Endings.{CutOff, Ended, HasMore, IsBroken, Runs, Stopped}
 use Rattle.ml_run.specs.Stops.{is_run_status}
 use Rattle.ml_run.proofs.Complete.{answers_all}
-use Rattle.ml_stream.specs.Stream.{End}
+use Rattle.ml_stream.specs.Stream.{End, Broken}
+use Rattle.ml_stream.specs.declared.stream.StreamError.{StreamError}
+use Rattle.ml_stream.specs.declared.stream.StreamError.TheVariants as errors
 use Rattle.ml_exercise.specs.Running.{is_items_status}
 
 abbrev is_kind : Kind → Bool
@@ -20,11 +23,11 @@ is_kind kind = is_status kind.status
 
 kind_status : (ks : List Kind) (n : ℕ) → list_all is_kind ks ≡ true → is_status (kind_at ks n).status ≡ true
 kind_status [] n all = refl
-kind_status (k ∷ ks) n all = go (eqb n 0) (both (is_kind k) (list_all is_kind ks) all)
+kind_status (k ∷ ks) n all = let parts = both (is_kind k) (list_all is_kind ks) all in go (eqb n 0) parts.0 (kind_status ks (n - 1) parts.1)
   where
-    go : (t : Bool) → (is_kind k ≡ true) × (list_all is_kind ks ≡ true) → is_status (cond t k (kind_at ks (n - 1))).status ≡ true
-    go true parts = parts.0
-    go false parts = kind_status ks (n - 1) parts.1
+    go : (t : Bool) → is_kind k ≡ true → is_status (kind_at ks (n - 1)).status ≡ true → is_status (cond t k (kind_at ks (n - 1))).status ≡ true
+    go true here more = here
+    go false here more = more
 
 reply_status : (code : ℕ) → is_status (status_of code) ≡ true
 reply_status code = kind_status kinds (code - 1) refl
@@ -67,3 +70,16 @@ items_known status known one two three = grind (arith, nat_tests)
 
 pub early_known : (status : ℕ) → is_items_status status ≡ true → is_status status ≡ false → is_reading_status status ≡ true
 early_known status known is = grind (arith, nat_tests)
+
+-- what never comes of a source that never fails, and of a stream that ends where its items do
+pub none_rose : Rose 0 0 → ⊥
+none_rose rose = omega (arith, rose)
+
+end_not : (e : StreamError) → End ≡ Broken e → ⊥
+end_not e is = cc
+
+pub never_broken : IsBroken End → ⊥
+never_broken broken = ⊎_elim (λ e. end_not (errors.Bad broken.0) e) (λ e. end_not (errors.Short broken.0) e) broken.1
+
+pub never_more : (limit : ℕ) (items : List Item) → length items ≡ limit → HasMore limit items End → ⊥
+never_more limit items long more = ⊎_elim (λ over. omega (arith, over, long)) (λ other. other refl) more

@@ -3,6 +3,7 @@ ghost use Rattle.std.specs.Prelude.{◌≡◌, ◌≤◌, IsTrue};
 ghost use Rattle.ml_config.specs.Configuration.{IsConfig};
 ghost use Rattle.ml_site.specs.Disk.{IsAtRest};
 ghost use Rattle.ml_journal.specs.Log.{directory};
+ghost use Rattle.ml_plain.specs.Replies.{is_status};
 ghost use Rattle.ml_exercise.specs.Exercising.{Exercises, ExercisesList};
 ghost use Rattle.ml_exercise.specs.Finding.{HasConfig};
 ghost use Rattle.ml_exercise.specs.Running.{items_for, RunsItems};
@@ -40,11 +41,19 @@ fn exercise_list<S: Site>(alloc: Global, config: &Config, count: u64, site: S) -
     ensures { ExercisesList ⟦<S as Site>⟧ count site result.1 result.0 }
 {
     let (status, site) = run_items(alloc, config, count, site);
-    if status == 0 || status == 100 {
+    let answered = is_reply_status(status);
+    if answered {
         read_list(alloc, &Exercised { count }, site)
     } else {
         (status, site)
     }
+}
+
+// Whether a status is one of a reply: all items were answered.
+fn is_reply_status(status: u8) -> bool
+    ensures { result ≡ is_status status }
+{
+    status == 0 || status == 100
 }
 
 // Runs the items of an exercise, and answers the status of the run.
