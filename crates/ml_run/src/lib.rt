@@ -16,5 +16,6 @@ pub use laws::law_joined;
 pub use lines::answer_line;
 pub use making::make;
 pub use ml_ending::{Ending, Why, stop, stop_line};
+pub use ml_generated::{Generated, law_generated};
 pub use ml_stream::{Items, StreamError, law_fronts, law_items, law_streams, write_item};
 pub use running::run;

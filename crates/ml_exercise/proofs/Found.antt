@@ -1,0 +1,135 @@
+-- An exercise of a list, behind the look at its configuration.
+use Rattle.std.proofs.Common.{◌≡◌, ◌⊎◌, inl, inr, ⊎_elim, ℕ, IsTrue, List, [], ◌++◌, take, drop, Option, Some, None, ap, sym, refl, subst, ◌∙◌, arith}
+use Rattle.std.specs.Prelude.{IsSome}
+use Rattle.std.proofs.lemmas.List.{append-nil, take-append-drop}
+use Rattle.ml_base.specs.Bytes.{Text}
+use Rattle.ml_base.specs.Dir.{Dir}
+use Rattle.ml_base.specs.Faults.{Rose}
+use Rattle.ml_config.specs.ConfigFile.{config_name}
+use Rattle.ml_config.specs.declared.configuration.Config.{Config}
+use Rattle.ml_list.proofs.States.{fold-nil, text-nil}
+use Rattle.ml_plain.specs.Histories.{State, fold, text}
+use Rattle.ml_plain.specs.declared.Item.{Item}
+use Rattle.ml_site.specs.Disk.{Contents, IsAtRest, Now}
+use Rattle.ml_site.specs.Moments.{LeavesOnly}
+use Rattle.ml_site.specs.declared.site.Site.{Ghosts}
+use Rattle.ml_site.proofs.Steps.{joins, rest_contents, weaker}
+use Rattle.ml_journal.specs.Calls.{Leaves}
+use Rattle.ml_journal.specs.Log.{directory}
+use Rattle.ml_journal.specs.Moments.{IsOld}
+use Rattle.ml_ending.specs.Endings.{IsUnopened, Opens, SaysAtMost, TellsAtMost}
+use Rattle.ml_ending.specs.Lines.{stop_text}
+use Rattle.ml_ending.specs.Stops.{status_of_why}
+use Rattle.ml_ending.proofs.Finished.{rose_earlier}
+use Rattle.ml_ending.proofs.Said.{opening_then}
+use Rattle.ml_run.specs.Endings.{CutOff, IsCut, Names, Stopped}
+use Rattle.ml_run.specs.Leaving.{HasState, IsAfterSome}
+use Rattle.ml_run.proofs.Leaving.{other_list, same_state, some_answered}
+use Rattle.ml_run.proofs.Missing.{misses_before}
+use Rattle.ml_stream.specs.Stream.{End}
+use Rattle.ml_exercise.specs.Exercising.{answered, Ends, Exercises, ExercisesList, IsExercising, IsOfItem, items_of, two_lines}
+use Rattle.ml_exercise.specs.Finding.{Finds}
+
+-- the same over an output that was the same before
+ends_before : (told : Type 0) (status : ℕ) (held : Contents) (output : Text) (q : State) (count : ℕ) (old new : Text) → (told → old ≡ new) → Ends told status held output q count old → Ends told status held output q count new
+ends_before told status held output q count old new same (inl e) =
+    inl (record { status_is = e.status_is; state = e.state; put = λ t. subst (λ (b : Text). output ≡ answered q count b ++ two_lines q count) (same t) (e.put t) })
+ends_before told status held output q count old new same (inr (inl u)) = inr (inl (record {
+  state = u.state;
+  put = ⊎_elim
+      (λ w. inl (w.0, w.1, w.2, λ t. subst (λ (b : Text). output ≡ answered q count b ++ stop_text None status w.0) (same t) (w.3 t)))
+      (λ c. inr (c.0, λ t. subst (λ (b : Text). SaysAtMost (answered q count b) output ⊎ TellsAtMost (two_lines q count) (answered q count b) output) (same t) (c.1 t)))
+      u.put;
+}))
+ends_before told status held output q count old new same (inr (inr early)) = inr (inr (record {
+  items = early.items;
+  end = ⊎_elim (λ s. inl (stopped s)) (λ c. inr (cut c)) early.end;
+  hindered = early.hindered;
+}))
+  where
+    stopped : Stopped told ⊥ status count early.items held output (items_of q count) End q old → Stopped told ⊥ status count early.items held output (items_of q count) End q new
+    stopped s = record {
+      why = s.why;
+      who = s.who;
+      done = s.done;
+      behind = s.behind;
+      split = s.split;
+      count = s.count;
+      reached = s.reached;
+      early = s.early;
+      status_is = s.status_is;
+      put = λ t. subst (λ (b : Text). output ≡ (b ++ text q s.done) ++ stop_text s.who status s.why) (same t) (s.put t);
+    }
+
+    cut : CutOff told status count early.items held output (items_of q count) q old → CutOff told status count early.items held output (items_of q count) q new
+    cut c = record {
+      status_is = c.status_is;
+      done = c.done;
+      behind = c.behind;
+      split = c.split;
+      count = c.count;
+      reached = c.reached;
+      put = λ t. let p = c.put t in (p.0, p.1, p.2 ∙ ap (λ (b : Text). (b ++ text q c.done) ++ p.0) (same t), p.3);
+    }
+
+-- no item is done, and some front of one stop line is out at most
+none_done : (q : State) (items : List Item) (dir : Option Dir) (before out : Text) (left : Contents) → HasState dir q → directory left ≡ dir → SaysAtMost before out → IsAfterSome q items before left out
+none_done q items dir before out left state same said =
+    let here : HasState (directory left) (fold q []) = other_list (directory left) q (fold q []) (sym (fold-nil q)) (same_state dir (directory left) q same state) in
+    let put : before ≡ before ++ text q [] = sym (append-nil before) ∙ ap (λ (o : Text). before ++ o) (sym (text-nil q)) in
+    ⊎_elim
+    (λ none. some_answered q items [] items before out left refl here (none ∙ put))
+    (λ line. record {
+      first = [];
+      rest = items;
+      split = refl;
+      state = here;
+      put = inr (record {
+        answered = [];
+        waiting = [];
+        split = refl;
+        front = take line.1 (stop_text None (status_of_why line.0) line.0);
+        more = drop line.1 (stop_text None (status_of_why line.0) line.0);
+        line = record { who = None; why = line.0; number = tt; is = take-append-drop line.1 (stop_text None (status_of_why line.0) line.0) };
+        put = line.2 ∙ ap (λ (o : Text). o ++ take line.1 (stop_text None (status_of_why line.0) line.0)) put;
+      });
+    })
+    said
+
+module _ {S : Type 0} (told : Ghosts S) (reads_told : IsTrue told.tells_all → IsTrue told.tells_reads) where
+  -- it begins at rest
+  opens_rest : (old new : S) (P : Contents → Text → Type 0) → IsAtRest (told.disk old) → ((left : Contents) (out : Text) → directory left ≡ directory (told.disk old).reads → SaysAtMost (told.output old) out → P left out)
+      → Opens told old new P → IsTrue told.tells_all → LeavesOnly told.moment told.left_since told.disk told.output old new P
+  opens_rest old new P rest here o t = ⊎_elim
+      (λ early. weaker told.moment told.left_since told.disk told.output old new (IsUnopened (told.disk old) (told.output old)) P early.all
+      (λ left out u. here left out (ap directory (rest_contents (told.disk old) left rest u.image)) u.put))
+      (λ late. joins told.moment told.left_since told.disk told.output old late.synced new (Now (told.disk old) (told.output old)) P P late.until late.since
+      (λ left out p. here left out (ap directory (rest_contents (told.disk old) left rest p.0)) (inl p.1)) (λ left out p. p))
+      o
+
+  module _ (old mid new : S) (config : Config) (count status : ℕ) (finds : Finds told old mid config) (list : ExercisesList told count mid new status) where
+    state_at : IsTrue told.tells_reads → (q : State) → HasState (directory (told.disk old).reads) q → HasState (directory (told.disk mid).reads) q
+    state_at r q state = same_state (directory (told.disk old).reads) (directory (told.disk mid).reads) q (finds.same r) state
+
+    opens : IsTrue told.tells_all → (q : State) → HasState (directory (told.disk old).reads) q → Opens told old new (IsExercising q count (told.output old))
+    opens t q state = opening_then told old mid new (IsExercising q count (told.output old)) (finds.moments t)
+        (weaker told.moment told.left_since told.disk told.output mid new (IsExercising q count (told.output mid)) (IsExercising q count (told.output old)) (list.at_rest (finds.rest t) q (state_at (reads_told t) q state) t)
+        (λ left out p. subst (λ (b : Text). IsExercising q count b left out) (finds.output t) p))
+        (λ left out p. inl (none_done q (items_of q count) (directory (told.disk old).reads) (told.output old) out left state p.0 (inl p.1)))
+
+    pub found_then : Exercises told count old new status
+    found_then = record {
+      does = record {
+        known = list.known;
+        whole = λ r q state. ends_before (IsTrue told.tells_all) status (told.disk new).reads (told.output new) q count (told.output mid) (told.output old) finds.output (list.whole r q (state_at r q state));
+        at_rest = λ rest q state t. opens_rest old new (IsExercising q count (told.output old)) rest
+            (λ left out same said. inl (none_done q (items_of q count) (directory (told.disk old).reads) (told.output old) out left state same said)) (opens t q state) t;
+        rest = λ q state none one two t. list.rest q (state_at (reads_told t) q state) (λ rose. none (rose_earlier (told.disk_faults old) (told.disk_faults mid) (told.disk_faults new) finds.disk_later rose)) one two t;
+        gate = λ some one two three r. list.gate (subst (λ (d : Option Dir). IsSome d) (sym (finds.same r)) some) one two three r;
+        of_disk = λ e. rose_earlier (told.disk_faults old) (told.disk_faults mid) (told.disk_faults new) finds.disk_later (list.of_disk e);
+        of_output = λ e. rose_earlier (told.output_faults old) (told.output_faults mid) (told.output_faults new) finds.output_later (list.of_output e);
+        named = λ t e. ⊎_elim (λ n. inl (subst (λ (d : Option Dir). Names (IsOfItem d count) d (directory (told.disk new).reads) (told.output new)) (finds.same (reads_told t)) n)) (λ n. inr n) (list.named t e);
+        nolist = λ r files is none. misses_before (IsTrue told.tells_all) status (told.output mid) (told.output old) (told.output new) finds.output (list.nolist r files (finds.same r ∙ is) none);
+      };
+      moments = opens;
+    }

@@ -1,0 +1,155 @@
+-- A run of the items of an exercise, and the reading behind it, as one.
+use Rattle.std.proofs.Common.{◌≡◌, ◌⊎◌, inl, inr, ⊎_elim, ℕ, Bool, true, false, IsTrue, List, [], ◌∷◌, ◌++◌, length, ◌≤◌, Option, Some, None, ap, sym, refl, subst, ◌∙◌, ◌||◌, ◌&&◌, arith}
+use Rattle.std.specs.Prelude.{IsSome}
+use Rattle.ml_base.specs.Bytes.{Text}
+use Rattle.ml_base.specs.Dir.{Dir}
+use Rattle.ml_base.specs.Faults.{Rose}
+use Rattle.ml_base.specs.declared.names.Name.{Name}
+use Rattle.ml_check.specs.Checking.{exercised_meaning}
+use Rattle.ml_config.specs.ConfigFile.{config_name, config_text}
+use Rattle.ml_config.specs.Configuration.{IsConfig}
+use Rattle.ml_config.specs.declared.configuration.Config.{Config}
+use Rattle.ml_generated.proofs.Streams.{items_read}
+use Rattle.ml_plain.specs.Histories.{State, fold, text}
+use Rattle.ml_plain.specs.Replies.{is_status}
+use Rattle.ml_plain.specs.declared.Item.{Item}
+use Rattle.ml_site.specs.Disk.{Contents, IsAtRest}
+use Rattle.ml_site.specs.declared.site.Site.{Ghosts}
+use Rattle.ml_site.proofs.Steps.{joins, weaker}
+use Rattle.ml_journal.specs.Calls.{Leaves}
+use Rattle.ml_journal.specs.Log.{directory}
+use Rattle.ml_journal.specs.Stores.{the_dir}
+use Rattle.ml_ending.specs.declared.lines.Why.{Why}
+use Rattle.ml_ending.specs.Endings.{MissesList}
+use Rattle.ml_ending.specs.Lines.{stop_text}
+use Rattle.ml_ending.specs.Stops.{status_of_why}
+use Rattle.ml_ending.proofs.Finished.{rose_earlier, rose_later}
+use Rattle.ml_reading.specs.Giving.{GivesAnswer}
+use Rattle.ml_reading.specs.Readings.{IsReading, IsRefusal, Reads, is_reading_status}
+use Rattle.ml_run.specs.Endings.{Brings, Ended, Names, Runs}
+use Rattle.ml_run.specs.Groups.{IsOfNext}
+use Rattle.ml_run.specs.Leaving.{HasState, IsAfterSome}
+use Rattle.ml_run.proofs.Named.{names_map}
+use Rattle.ml_run.proofs.Settled.{settled_not}
+use Rattle.ml_stream.specs.Stream.{End}
+use Rattle.ml_stream.specs.Writing.{stream_text}
+use Rattle.ml_exercise.specs.Exercising.{answered, behind, EndsEarly, Ends, ExercisesList, IsExercising, IsOfItem, items_of, NamesWhole, two_lines}
+use Rattle.ml_exercise.specs.Finding.{HasConfig}
+use Rattle.ml_exercise.specs.Running.{items_for, RunsItems}
+use Rattle.ml_exercise.proofs.Lists.{count_is, items_same}
+use Rattle.ml_exercise.proofs.Statuses.{all_ended, early, early_known}
+use Rattle.ml_exercise.proofs.Telling.{is_telling, told_ends}
+
+-- a log of one closed gate has a directory
+gate_some : (held : Contents) → held.log ≡ 0 ∷ [] → IsSome (directory held)
+gate_some held is = gate held.log is
+  where
+    gate : (log : Text) → log ≡ 0 ∷ [] → IsSome (directory (record { log = log; files = held.files }))
+    gate log one = subst (λ (l : Text). IsSome (directory (record { log = l; files = held.files }))) (sym one) refl
+
+plain_known : (b : Bool) → (b || (false && true) || (false && true)) ≡ true → b ≡ true
+plain_known true is = refl
+plain_known false is = is
+
+some_none : (t : Text) → ◌≡◌ {A = Option Text} None (Some t) → ⊥
+some_none t e = cc
+
+-- a list that was found has a configuration
+has_one : (dir : Option Dir) (config : Config) (files : Dir) → HasConfig dir config → dir ≡ Some files → files config_name ≡ None → ⊥
+has_one dir config files found is none =
+    let same : found.files ≡ files = ap (λ (d : Option Dir). the_dir d) (sym found.is ∙ is) in
+    some_none (config_text config) (sym none ∙ ap (λ (d : Dir). d config_name) (sym same) ∙ found.config_is.stands.text)
+
+-- an item that a stop line names is one of those of the list
+item_named : (dir : Option Dir) (config : Config) (count n : ℕ) (who : Option ℕ) (name : Name) → HasConfig dir config → IsConfig config → count ≤ 999_999
+    → IsOfNext (Brings (Some (stream_text (items_for config count)))) n who name → IsOfItem dir count who name
+item_named dir config count n who name found range few is =
+    let next = is.next (items_for config count) End (record { bytes = stream_text (items_for config count); left_is = refl; stream = items_read 0 config.local config.host 1 count range.local range.host (omega (arith, few)) }) in record {
+      config = config;
+      has = found;
+      item = is.item;
+      before = next.0;
+      behind = next.1;
+      split = next.2;
+      number = is.number;
+      reads = is.reads;
+    }
+
+module _ {S : Type 0} (told : Ghosts S) (reads_told : IsTrue told.tells_all → IsTrue told.tells_reads) (config : Config) (count : ℕ) (old mid : S) (run : ℕ)
+    (found : IsTrue told.tells_reads → HasConfig (directory (told.disk old).reads) config) (range : IsConfig config) (few : count ≤ 999_999) (rest : IsTrue told.tells_all → IsAtRest (told.disk old))
+    (runs : RunsItems told (items_for config count) count old mid run) where
+  -- the run by the items of the list
+  runs_list : IsTrue told.tells_reads → (q : State) → HasState (directory (told.disk old).reads) q
+      → Runs (IsTrue told.tells_all) ⊥ run count runs.answered (told.disk mid).reads (told.output mid) (items_of q count) End q (told.output old)
+  runs_list r q state = subst (λ (items : List Item). Runs (IsTrue told.tells_all) ⊥ run count runs.answered (told.disk mid).reads (told.output mid) items End q (told.output old))
+      (items_same (directory (told.disk old).reads) config q count (found r) state) (runs.whole r q state)
+
+  as_many : IsTrue told.tells_reads → (q : State) → HasState (directory (told.disk old).reads) q → length (items_of q count) ≡ count
+  as_many r q state = subst (λ (items : List Item). length items ≡ count) (items_same (directory (told.disk old).reads) config q count (found r) state) (count_is config count)
+
+  some_moments : IsTrue told.tells_all → (q : State) → HasState (directory (told.disk old).reads) q → Leaves told old mid (IsAfterSome q (items_of q count) (told.output old))
+  some_moments t q state = subst (λ (items : List Item). Leaves told old mid (IsAfterSome q items (told.output old)))
+      (items_same (directory (told.disk old).reads) config q count (found (reads_told t)) state) (runs.at_rest (rest t) q state)
+
+  run_named : IsTrue told.tells_all → run ≡ 75 → Names (IsOfItem (directory (told.disk old).reads) count) (directory (told.disk old).reads) (directory (told.disk mid).reads) (told.output mid)
+  run_named t is = names_map (IsOfNext (Brings (Some (stream_text (items_for config count)))) runs.answered) (IsOfItem (directory (told.disk old).reads) count) (directory (told.disk old).reads) (directory (told.disk mid).reads) (told.output mid)
+      (λ who name next. item_named (directory (told.disk old).reads) config count runs.answered who name (found (reads_told t)) range few next) (runs.named t is)
+
+  -- it has ended early
+  pub early_list : is_status run ≡ false → ExercisesList told count old mid run
+  early_list is = record {
+    known = early_known run runs.known is;
+    whole = λ r q state.
+        let e = early (IsTrue told.tells_all) ⊥ run count runs.answered (told.disk mid).reads (told.output mid) (items_of q count) q (told.output old) (as_many r q state) runs.known is (runs_list r q state) in
+        inr (inr (record { items = runs.answered; end = e.0; hindered = e.1 }));
+    at_rest = λ _ q state t. weaker told.moment told.left_since told.disk told.output old mid (IsAfterSome q (items_of q count) (told.output old)) (IsExercising q count (told.output old)) (some_moments t q state t)
+        (λ left out p. inl p);
+    rest = runs.rest;
+    gate = runs.gate;
+    of_disk = runs.of_disk;
+    of_output = runs.of_output;
+    named = λ t e. inl (run_named t e);
+    nolist = λ r files dir none. absurd (has_one (directory (told.disk old).reads) config files (found r) dir none);
+  }
+
+  -- all is answered, and the list is looked over
+  module _ (new : S) (status : ℕ) (gives : GivesAnswer told (exercised_meaning count) mid new status) (is : is_status run ≡ true) where
+    ended : IsTrue told.tells_reads → (q : State) → HasState (directory (told.disk old).reads) q
+        → Ended (IsTrue told.tells_all) run count runs.answered (told.disk mid).reads (told.output mid) (items_of q count) End q (told.output old)
+    ended r q state = all_ended (IsTrue told.tells_all) ⊥ run count runs.answered (told.disk mid).reads (told.output mid) (items_of q count) q (told.output old) (as_many r q state) is (runs_list r q state)
+
+    read_named : IsTrue told.tells_all → status ≡ 75 → NamesWhole (directory (told.disk new).reads) count (told.output new)
+    read_named t e = go (gives.given (reads_told t))
+      where
+        go : Reads (IsTrue told.tells_all) status (exercised_meaning count) (directory (told.disk mid).reads) (told.output mid) (told.output new) → NamesWhole (directory (told.disk new).reads) count (told.output new)
+        go (inl whole) = absurd (omega (arith, whole.status_is, e))
+        go (inr (inl refused)) = record {
+          why = refused.why;
+          before = told.output mid;
+          put = refused.put t ∙ ap (λ (n : ℕ). told.output mid ++ stop_text None n refused.why) e;
+          refusal = subst (λ (d : Option Dir). IsRefusal refused.why (exercised_meaning count) d) (sym (gives.same (reads_told t))) refused.refusal;
+        }
+        go (inr (inr cut)) = absurd (omega (arith, cut.status_is, e))
+
+    pub joined_list : ExercisesList told count old new status
+    joined_list = record {
+      known = plain_known (is_reading_status status) gives.known;
+      whole = λ r q state.
+          let e = ended r q state in
+          ⊎_elim (λ done. inl done) (λ stopped. inr (inl stopped))
+          (told_ends (IsTrue told.tells_all) status (directory (told.disk mid).reads) (told.disk new).reads q count (told.output old) (told.output mid) (two_lines q count) (told.output new) e.state (gives.same r) e.put
+          (gives.complete r e.state.files (behind q count) e.state.is e.state.stands) (gives.given r));
+      at_rest = λ _ q state t.
+          let e = ended (reads_told t) q state in
+          joins told.moment told.left_since told.disk told.output old mid new (IsAfterSome q (items_of q count) (told.output old)) (IsReading (exercised_meaning count) (directory (told.disk mid).reads) (told.output mid)) (IsExercising q count (told.output old))
+          (some_moments t q state t) (gives.at_rest (runs.settled is t) t) (λ left out p. inl p)
+          (λ left out p. inr (is_telling (directory (told.disk mid).reads) q count (told.output old) (told.output mid) left out e.state (e.put t) p));
+      rest = λ q state none one two. gives.rest (λ rose. none (rose_earlier (told.disk_faults old) (told.disk_faults mid) (told.disk_faults new) runs.disk_later rose)) one two;
+      gate = λ some one two three r.
+          let here = runs.gate some (λ e. settled_not run 71 refl is e) (λ e. settled_not run 73 refl is e) (λ e. settled_not run 111 refl is e) r in
+          gives.gate (gate_some (told.disk mid).reads here) one two three r;
+      of_disk = λ e. rose_earlier (told.disk_faults old) (told.disk_faults mid) (told.disk_faults new) runs.disk_later (gives.of_disk e);
+      of_output = λ e. rose_earlier (told.output_faults old) (told.output_faults mid) (told.output_faults new) runs.output_later (gives.of_output e);
+      named = λ t e. inr (read_named t e);
+      nolist = λ r files dir none. absurd (has_one (directory (told.disk old).reads) config files (found r) dir none);
+    }

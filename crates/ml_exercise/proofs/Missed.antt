@@ -1,0 +1,193 @@
+-- An exercise of a site on which no configuration is found.
+use Rattle.std.proofs.Common.{◌≡◌, ◌⊎◌, inl, inr, ⊎_elim, ℕ, Bool, true, false, IsTrue, List, ◌++◌, Option, Some, None, ap, sym, refl, subst, ◌∙◌, arith, ◌≤◌}
+use Rattle.std.specs.Prelude.{IsSome}
+use Rattle.ml_base.specs.Bytes.{Text}
+use Rattle.ml_base.specs.Dir.{Dir}
+use Rattle.ml_base.specs.Faults.{Rose}
+use Rattle.ml_base.specs.declared.names.Name.{Name}
+use Rattle.ml_check.specs.Checking.{exercised_meaning}
+use Rattle.ml_config.specs.ConfigFile.{config_name, IsConfigFile}
+use Rattle.ml_plain.specs.Histories.{State}
+use Rattle.ml_plain.specs.Replies.{is_status}
+use Rattle.ml_plain.specs.declared.Item.{Item}
+use Rattle.ml_site.specs.Disk.{Contents, Disk, IsAtRest, Now}
+use Rattle.ml_site.specs.declared.site.Site.{Ghosts}
+use Rattle.ml_site.proofs.Steps.{first_weaker, weaker}
+use Rattle.ml_journal.specs.Log.{directory}
+use Rattle.ml_ending.specs.declared.lines.Why.{Why}
+use Rattle.ml_ending.specs.declared.lines.Why.TheVariants as whys
+use Rattle.ml_ending.specs.Endings.{IsUnopened, MissesList, Opens, Says}
+use Rattle.ml_ending.specs.Lines.{stop_text}
+use Rattle.ml_ending.specs.Stops.{status_of_why}
+use Rattle.ml_ending.proofs.Finished.{disk_status, memory_status, rose_earlier, rose_later}
+use Rattle.ml_ending.proofs.Said.{unopened_said}
+use Rattle.ml_reading.specs.Readings.{IsRefusal, is_reading_status}
+use Rattle.ml_run.specs.Endings.{Runs}
+use Rattle.ml_run.specs.Leaving.{HasState, IsAfterSome}
+use Rattle.ml_run.proofs.Missing.{said_misses}
+use Rattle.ml_run.proofs.Opening.{early_runs, from_rest, opened_said}
+use Rattle.ml_stream.specs.Stream.{End}
+use Rattle.ml_exercise.specs.Exercising.{Exercises, ExercisesList, IsExercising, items_of, NamesWhole}
+use Rattle.ml_exercise.specs.Finding.{IsMiss, IsUnfound, Misses}
+use Rattle.ml_exercise.specs.Running.{is_items_status}
+use Rattle.ml_exercise.proofs.Lists.{many}
+use Rattle.ml_exercise.proofs.Statuses.{early}
+
+none_some : (d : Dir) → ◌≡◌ {A = Option Dir} None (Some d) → ⊥
+none_some d e = cc
+
+-- over a list memory was wanting, or the disk failed
+over_list : (why : Why) (dir : Option Dir) (q : State) → HasState dir q → IsUnfound why dir → (why ≡ whys.Memory) ⊎ (why ≡ whys.Disk)
+over_list whys.Memory dir q state is = inl refl
+over_list whys.Disk dir q state is = inr refl
+over_list whys.NoList dir q state is = absurd (some_not is.0 state.files is.1 state.is is.2 state.stands.list.config.text)
+  where
+    some_not : {t : Text} (a b : Dir) → dir ≡ Some a → dir ≡ Some b → a config_name ≡ None → b config_name ≡ Some t → ⊥
+    some_not a b one two none some = cc
+over_list (whys.At name) dir q state (inl log) = absurd (none_some state.files (sym log.1 ∙ state.is))
+over_list (whys.At name) dir q state (inr config) = absurd (config.3.outside q.plain.config (subst (λ (d : Dir). IsConfigFile (d config_name) q.plain.config) (one state.files config.0 (sym state.is ∙ config.1)) state.stands.list.config))
+  where
+    one : (a b : Dir) → Some a ≡ Some b → a ≡ b
+    one a b e = cc
+over_list whys.Usage dir q state is = absurd is
+over_list (whys.Bad at) dir q state is = absurd is
+over_list (whys.Short at) dir q state is = absurd is
+over_list whys.Words dir q state is = absurd is
+over_list whys.Long dir q state is = absurd is
+over_list whys.Clock dir q state is = absurd is
+over_list whys.More dir q state is = absurd is
+over_list whys.Input dir q state is = absurd is
+over_list whys.There dir q state is = absurd is
+over_list whys.Absent dir q state is = absurd is
+
+-- what the statuses are of the reasons that there are
+record KnownStatus (status : ℕ) (why : Why) : Type 0 where
+  reading : is_reading_status status ≡ true
+  items : is_items_status status ≡ true
+  none : is_status status ≡ false
+  of_disk : status ≡ 111 → why ≡ whys.Disk
+  no_output : status ≡ 73 → ⊥
+
+known_why : (why : Why) → IsMiss why → KnownStatus (status_of_why why) why
+known_why whys.NoList is = record { reading = refl; items = refl; none = refl; of_disk = λ e. absurd (omega (arith, e)); no_output = λ e. omega (arith, e) }
+known_why (whys.At name) is = record { reading = refl; items = refl; none = refl; of_disk = λ e. absurd (omega (arith, e)); no_output = λ e. omega (arith, e) }
+known_why whys.Memory is = record { reading = refl; items = refl; none = refl; of_disk = λ e. absurd (omega (arith, e)); no_output = λ e. omega (arith, e) }
+known_why whys.Disk is = record { reading = refl; items = refl; none = refl; of_disk = λ e. refl; no_output = λ e. omega (arith, e) }
+known_why whys.Usage is = absurd is
+known_why (whys.Bad at) is = absurd is
+known_why (whys.Short at) is = absurd is
+known_why whys.Words is = absurd is
+known_why whys.Long is = absurd is
+known_why whys.Clock is = absurd is
+known_why whys.More is = absurd is
+known_why whys.Input is = absurd is
+known_why whys.There is = absurd is
+known_why whys.Absent is = absurd is
+
+refusal : (why : Why) (count : ℕ) (dir : Option Dir) → IsUnfound why dir → IsRefusal why (exercised_meaning count) dir
+refusal whys.NoList count dir is = is
+refusal (whys.At name) count dir (inl log) = inl log
+refusal (whys.At name) count dir (inr config) = inr (config.0, config.1, inl (config.2, config.3))
+refusal whys.Memory count dir is = tt
+refusal whys.Disk count dir is = tt
+refusal whys.Usage count dir is = absurd is
+refusal (whys.Bad at) count dir is = absurd is
+refusal (whys.Short at) count dir is = absurd is
+refusal whys.Words count dir is = absurd is
+refusal whys.Long count dir is = absurd is
+refusal whys.Clock count dir is = absurd is
+refusal whys.More count dir is = absurd is
+refusal whys.Input count dir is = absurd is
+refusal whys.There count dir is = absurd is
+refusal whys.Absent count dir is = absurd is
+
+-- without a configuration none is damaged
+without : (why : Why) (dir : Option Dir) (files : Dir) → dir ≡ Some files → files config_name ≡ None → IsUnfound why dir → (why ≡ whys.NoList) ⊎ ((why ≡ whys.Memory) ⊎ (why ≡ whys.Disk))
+without whys.NoList dir files is none r = inl refl
+without whys.Memory dir files is none r = inr (inl refl)
+without whys.Disk dir files is none r = inr (inr refl)
+without (whys.At name) dir files is none (inl log) = absurd (none_some files (sym log.1 ∙ is))
+without (whys.At name) dir files is none (inr config) = absurd (config.3.there (same config.0 files (sym config.1 ∙ is) none))
+  where
+    same : (a b : Dir) → Some a ≡ Some b → b config_name ≡ None → a config_name ≡ None
+    same a b e n = cc
+without whys.Usage dir files is none r = absurd r
+without (whys.Bad at) dir files is none r = absurd r
+without (whys.Short at) dir files is none r = absurd r
+without whys.Words dir files is none r = absurd r
+without whys.Long dir files is none r = absurd r
+without whys.Clock dir files is none r = absurd r
+without whys.More dir files is none r = absurd r
+without whys.Input dir files is none r = absurd r
+without whys.There dir files is none r = absurd r
+without whys.Absent dir files is none r = absurd r
+
+module _ {S : Type 0} (told : Ghosts S) (reads_told : IsTrue told.tells_all → IsTrue told.tells_reads) (count : ℕ) (old mid new : S) (why : Why) (status : ℕ)
+    (miss : Misses told old mid why) (says : Says told mid new status None why) where
+  line_is : (status ≡ status_of_why why) ⊎ ((status ≡ 73) × Rose (told.output_faults mid) (told.output_faults new))
+  line_is = ⊎_elim (λ whole. inl whole.0) (λ cut. inr (cut.0, cut.1)) says.line
+
+  known : (P : ℕ → Type 0) → (KnownStatus (status_of_why why) why → P (status_of_why why)) → P 73 → P status
+  known P here cut = ⊎_elim (λ is. subst P (sym is) (here (known_why why miss.known))) (λ c. subst P (sym c.0) cut) line_is
+
+  after_some : IsTrue told.tells_all → (q : State) → HasState (directory (told.disk old).reads) q → Opens told old new (IsAfterSome q (items_of q count) (told.output old))
+  after_some t q state = ⊎_elim
+      (λ early. inl (unopened_said told old mid new status why early says t))
+      (λ late. inr (record {
+        synced = late.synced;
+        first = late.first;
+        rest = late.rest;
+        same = late.same;
+        until = late.until;
+        since = opened_said told old late.synced mid new q (items_of q count) status why state (miss.output t) late.since says t;
+      }))
+      (miss.moments t)
+
+  runs : IsTrue told.tells_reads → (q : State) → HasState (directory (told.disk old).reads) q
+      → Runs (IsTrue told.tells_all) ⊥ status count 0 (told.disk new).reads (told.output new) (items_of q count) End q (told.output old)
+  runs r q state = early_runs told old mid new q (items_of q count) End ⊥ count 0 status why r state miss.same miss.output refl (over_list why (directory (told.disk old).reads) q state (miss.reason r)) says
+
+  missed_list : ExercisesList told count old new status
+  missed_list = record {
+    known = known (λ n. is_reading_status n ≡ true) (λ k. k.reading) refl;
+    whole = λ r q state.
+        let e = early (IsTrue told.tells_all) ⊥ status count 0 (told.disk new).reads (told.output new) (items_of q count) q (told.output old) (many q count) (known (λ n. is_items_status n ≡ true) (λ k. k.items) refl)
+        (known (λ n. is_status n ≡ false) (λ k. k.none) refl) (runs r q state) in
+        inr (inr (record { items = 0; end = e.0; hindered = e.1 }));
+    at_rest = λ rest q state t. weaker told.moment told.left_since told.disk told.output old new (IsAfterSome q (items_of q count) (told.output old)) (IsExercising q count (told.output old))
+        (from_rest told old new q (items_of q count) state rest (after_some t q state)) (λ left out p. inl p);
+    rest = λ q state none one two t. subst (λ (d : Disk). IsAtRest d) (sym (says.disk_is t)) (miss.rest (λ e. memory_status told mid new status None why says e one two)
+        (λ e. none (subst (λ (n : ℕ). Rose (told.disk_faults old) n) (sym says.disk_faults) (miss.cause e))) t);
+    gate = λ some one two three r. ap (λ (c : Contents). c.log) (says.reads r) ∙ miss.gate (λ e. memory_status told mid new status None why says e one two) (λ e. disk_status told mid new status None why says e three two) some r;
+    of_disk = λ e. subst (λ (n : ℕ). Rose (told.disk_faults old) n) (sym says.disk_faults) (miss.cause (⊎_elim (λ is. (known_why why miss.known).of_disk (sym is ∙ e)) (λ c. absurd (omega (arith, e, c.0))) line_is));
+    of_output = λ e. rose_earlier (told.output_faults old) (told.output_faults mid) (told.output_faults new) miss.output_later
+        (⊎_elim (λ is. absurd ((known_why why miss.known).no_output (sym is ∙ e))) (λ c. c.1) line_is);
+    named = λ t e. inr (named t e);
+    nolist = λ r files is none. ⊎_elim (λ w. no_list r w) (λ w. said_misses told mid new (told.output old) status None why w says) (without why (directory (told.disk old).reads) files is none (miss.reason r));
+  }
+    where
+      named : IsTrue told.tells_all → status ≡ 75 → NamesWhole (directory (told.disk new).reads) count (told.output new)
+      named t e = ⊎_elim
+          (λ whole. record {
+            why = why;
+            before = told.output mid;
+            put = whole.1 t ∙ ap (λ (n : ℕ). told.output mid ++ stop_text None n why) (sym whole.0 ∙ e);
+            refusal = subst (λ (d : Option Dir). IsRefusal why (exercised_meaning count) d) (sym (ap directory (says.reads (reads_told t)) ∙ miss.same (reads_told t))) (refusal why count (directory (told.disk old).reads) (miss.reason (reads_told t)));
+          })
+          (λ cut. absurd (omega (arith, e, cut.0)))
+          says.line
+
+      no_list : IsTrue told.tells_reads → why ≡ whys.NoList → MissesList (IsTrue told.tells_all) status (told.output old) (told.output new)
+      no_list r is = ⊎_elim
+          (λ whole. inl (whole.0 ∙ ap status_of_why is, λ t. whole.1 t ∙ ap (λ (w : Why). told.output mid ++ stop_text None (status_of_why w) w) is ∙ ap (λ (o : Text). o ++ stop_text None 75 whys.NoList) (miss.output t)))
+          (λ cut. inr (inr (inl cut.0)))
+          says.line
+
+  pub missed : Exercises told count old new status
+  missed = record {
+    does = missed_list;
+    moments = λ t q state. ⊎_elim (λ early. inl early)
+        (λ late. inr (first_weaker told.moment told.left_since told.disk told.output told.syncs old new (Now (told.disk old) (told.output old)) (IsAfterSome q (items_of q count) (told.output old)) (Now (told.disk old) (told.output old)) (IsExercising q count (told.output old))
+        late (λ left out p. p) (λ left out p. inl p)))
+        (after_some t q state);
+  }

@@ -1,0 +1,43 @@
+-- What a run of the items of an exercise does.
+use Rattle.std.specs.Prelude.{◌≡◌, ◌≤◌, ℕ, Bool, ◌==◌, ◌||◌, IsTrue, IsSome, List, [], ◌∷◌, Some}
+use Rattle.ml_base.specs.Faults.{Rose}
+use Rattle.ml_config.specs.declared.configuration.Config.{Config}
+use Rattle.ml_generated.specs.Items.{generated}
+use Rattle.ml_plain.specs.Histories.{State}
+use Rattle.ml_plain.specs.Replies.{is_status}
+use Rattle.ml_plain.specs.declared.Item.{Item}
+use Rattle.ml_site.specs.Disk.{IsAtRest}
+use Rattle.ml_site.specs.declared.site.Site.{Ghosts}
+use Rattle.ml_journal.specs.Calls.{Leaves}
+use Rattle.ml_journal.specs.Log.{directory}
+use Rattle.ml_run.specs.Endings.{Brings, Names, Runs}
+use Rattle.ml_run.specs.Groups.{IsOfNext}
+use Rattle.ml_run.specs.Leaving.{HasState, IsAfterSome}
+use Rattle.ml_stream.specs.Stream.{End}
+use Rattle.ml_stream.specs.Writing.{stream_text}
+
+-- the items of an exercise of a list of this configuration
+abbrev pub items_for : Config → ℕ → List Item
+items_for config count = generated config.local config.host count
+
+-- the statuses of a run of them
+abbrev pub is_items_status : ℕ → Bool
+is_items_status status = status == 0 || status == 71 || status == 73 || status == 75 || status == 100 || status == 111
+
+-- What a run does of whose stream these are the items: that of `run`, of a source that never fails.
+pub record RunsItems {S : Type 0} (told : Ghosts S) (items : List Item) (count : ℕ) (old new : S) (status : ℕ) : Type 0 where
+  pub answered : ℕ
+  pub known : IsTrue (is_items_status status)
+  pub whole : IsTrue told.tells_reads → (q : State) → HasState (directory (told.disk old).reads) q
+      → Runs (IsTrue told.tells_all) ⊥ status count answered (told.disk new).reads (told.output new) items End q (told.output old)
+  pub at_rest : IsAtRest (told.disk old) → (q : State) → HasState (directory (told.disk old).reads) q → Leaves told old new (IsAfterSome q items (told.output old))
+  pub settled : IsTrue (is_status status) → IsTrue told.tells_all → IsAtRest (told.disk new)
+  pub rest : (q : State) → HasState (directory (told.disk old).reads) q
+      → (Rose (told.disk_faults old) (told.disk_faults new) → ⊥) → (status ≡ 71 → ⊥) → (status ≡ 73 → ⊥) → IsTrue told.tells_all → IsAtRest (told.disk new)
+  pub gate : IsSome (directory (told.disk old).reads) → (status ≡ 71 → ⊥) → (status ≡ 73 → ⊥) → (status ≡ 111 → ⊥) → IsTrue told.tells_reads → (told.disk new).reads.log ≡ 0 ∷ []
+  pub of_disk : status ≡ 111 → Rose (told.disk_faults old) (told.disk_faults new)
+  pub of_output : status ≡ 73 → Rose (told.output_faults old) (told.output_faults new)
+  pub named : IsTrue told.tells_all → status ≡ 75
+      → Names (IsOfNext (Brings (Some (stream_text items))) answered) (directory (told.disk old).reads) (directory (told.disk new).reads) (told.output new)
+  pub disk_later : told.disk_faults old ≤ told.disk_faults new
+  pub output_later : told.output_faults old ≤ told.output_faults new
