@@ -124,11 +124,11 @@ module _ {S : Type 0} (told : Ghosts S) (reads_told : IsTrue told.tells_all → 
         whole = λ r q state. ends_before (IsTrue told.tells_all) status (told.disk new).reads (told.output new) q count (told.output mid) (told.output old) finds.output (list.whole r q (state_at r q state));
         at_rest = λ rest q state t. opens_rest old new (IsExercising q count (told.output old)) rest
             (λ left out same said. inl (none_done q (items_of q count) (directory (told.disk old).reads) (told.output old) out left state same said)) (opens t q state) t;
-        rest = λ q state none one two t. list.rest q (state_at (reads_told t) q state) (λ rose. none (rose_earlier (told.disk_faults old) (told.disk_faults mid) (told.disk_faults new) finds.disk_later rose)) one two t;
+        rest = λ none one two t. list.rest (λ rose. none (rose_earlier (told.disk_faults old) (told.disk_faults mid) (told.disk_faults new) finds.disk_later rose)) one two t;
         gate = λ some one two three r. list.gate (subst (λ (d : Option Dir). IsSome d) (sym (finds.same r)) some) one two three r;
         of_disk = λ e. rose_earlier (told.disk_faults old) (told.disk_faults mid) (told.disk_faults new) finds.disk_later (list.of_disk e);
         of_output = λ e. rose_earlier (told.output_faults old) (told.output_faults mid) (told.output_faults new) finds.output_later (list.of_output e);
-        named = λ t e. ⊎_elim (λ n. inl (subst (λ (d : Option Dir). Names (IsOfItem d count) d (directory (told.disk new).reads) (told.output new)) (finds.same (reads_told t)) n)) (λ n. inr n) (list.named t e);
+        named = λ r e. ⊎_elim (λ n. inl (subst (λ (d : Option Dir). Names (IsTrue told.tells_all) (IsOfItem d count) d (directory (told.disk new).reads) (told.output new)) (finds.same r) n)) (λ n. inr n) (list.named r e);
         nolist = λ r files is none. misses_before (IsTrue told.tells_all) status (told.output mid) (told.output old) (told.output new) finds.output (list.nolist r files (finds.same r ∙ is) none);
       };
       moments = opens;

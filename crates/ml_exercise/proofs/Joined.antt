@@ -91,9 +91,9 @@ module _ {S : Type 0} (told : Ghosts S) (reads_told : IsTrue told.tells_all → 
   some_moments t q state = subst (λ (items : List Item). Leaves told old mid (IsAfterSome q items (told.output old)))
       (items_same (directory (told.disk old).reads) config q count (found (reads_told t)) state) (runs.at_rest (rest t) q state)
 
-  run_named : IsTrue told.tells_all → run ≡ 75 → Names (IsOfItem (directory (told.disk old).reads) count) (directory (told.disk old).reads) (directory (told.disk mid).reads) (told.output mid)
-  run_named t is = names_map (IsOfNext (Brings (Some (stream_text (items_for config count)))) runs.answered) (IsOfItem (directory (told.disk old).reads) count) (directory (told.disk old).reads) (directory (told.disk mid).reads) (told.output mid)
-      (λ who name next. item_named (directory (told.disk old).reads) config count runs.answered who name (found (reads_told t)) range few next) (runs.named t is)
+  run_named : IsTrue told.tells_reads → run ≡ 75 → Names (IsTrue told.tells_all) (IsOfItem (directory (told.disk old).reads) count) (directory (told.disk old).reads) (directory (told.disk mid).reads) (told.output mid)
+  run_named r is = names_map (IsTrue told.tells_all) (IsOfNext (Brings (Some (stream_text (items_for config count)))) runs.answered) (IsOfItem (directory (told.disk old).reads) count) (directory (told.disk old).reads) (directory (told.disk mid).reads) (told.output mid)
+      (λ who name next. item_named (directory (told.disk old).reads) config count runs.answered who name (found r) range few next) (runs.named r is)
 
   -- it has ended early
   pub early_list : is_status run ≡ false → ExercisesList told count old mid run
@@ -108,7 +108,7 @@ module _ {S : Type 0} (told : Ghosts S) (reads_told : IsTrue told.tells_all → 
     gate = runs.gate;
     of_disk = runs.of_disk;
     of_output = runs.of_output;
-    named = λ t e. inl (run_named t e);
+    named = λ r e. inl (run_named r e);
     nolist = λ r files dir none. absurd (has_one (directory (told.disk old).reads) config files (found r) dir none);
   }
 
@@ -118,16 +118,16 @@ module _ {S : Type 0} (told : Ghosts S) (reads_told : IsTrue told.tells_all → 
         → Ended (IsTrue told.tells_all) run count runs.answered (told.disk mid).reads (told.output mid) (items_of q count) End q (told.output old)
     ended r q state = all_ended (IsTrue told.tells_all) ⊥ run count runs.answered (told.disk mid).reads (told.output mid) (items_of q count) q (told.output old) (as_many r q state) is (runs_list r q state)
 
-    read_named : IsTrue told.tells_all → status ≡ 75 → NamesWhole (directory (told.disk new).reads) count (told.output new)
-    read_named t e = go (gives.given (reads_told t))
+    read_named : IsTrue told.tells_reads → status ≡ 75 → NamesWhole (IsTrue told.tells_all) (directory (told.disk new).reads) count (told.output new)
+    read_named r e = go (gives.given r)
       where
-        go : Reads (IsTrue told.tells_all) status (exercised_meaning count) (directory (told.disk mid).reads) (told.output mid) (told.output new) → NamesWhole (directory (told.disk new).reads) count (told.output new)
+        go : Reads (IsTrue told.tells_all) status (exercised_meaning count) (directory (told.disk mid).reads) (told.output mid) (told.output new) → NamesWhole (IsTrue told.tells_all) (directory (told.disk new).reads) count (told.output new)
         go (inl whole) = absurd (omega (arith, whole.status_is, e))
         go (inr (inl refused)) = record {
           why = refused.why;
           before = told.output mid;
-          put = refused.put t ∙ ap (λ (n : ℕ). told.output mid ++ stop_text None n refused.why) e;
-          refusal = subst (λ (d : Option Dir). IsRefusal refused.why (exercised_meaning count) d) (sym (gives.same (reads_told t))) refused.refusal;
+          put = λ t. refused.put t ∙ ap (λ (n : ℕ). told.output mid ++ stop_text None n refused.why) e;
+          refusal = subst (λ (d : Option Dir). IsRefusal refused.why (exercised_meaning count) d) (sym (gives.same r)) refused.refusal;
         }
         go (inr (inr cut)) = absurd (omega (arith, cut.status_is, e))
 
@@ -144,12 +144,12 @@ module _ {S : Type 0} (told : Ghosts S) (reads_told : IsTrue told.tells_all → 
           joins told.moment told.left_since told.disk told.output old mid new (IsAfterSome q (items_of q count) (told.output old)) (IsReading (exercised_meaning count) (directory (told.disk mid).reads) (told.output mid)) (IsExercising q count (told.output old))
           (some_moments t q state t) (gives.at_rest (runs.settled is t) t) (λ left out p. inl p)
           (λ left out p. inr (is_telling (directory (told.disk mid).reads) q count (told.output old) (told.output mid) left out e.state (e.put t) p));
-      rest = λ q state none one two. gives.rest (λ rose. none (rose_earlier (told.disk_faults old) (told.disk_faults mid) (told.disk_faults new) runs.disk_later rose)) one two;
+      rest = λ none one two. gives.rest (λ rose. none (rose_earlier (told.disk_faults old) (told.disk_faults mid) (told.disk_faults new) runs.disk_later rose)) one two;
       gate = λ some one two three r.
           let here = runs.gate some (λ e. settled_not run 71 refl is e) (λ e. settled_not run 73 refl is e) (λ e. settled_not run 111 refl is e) r in
           gives.gate (gate_some (told.disk mid).reads here) one two three r;
       of_disk = λ e. rose_earlier (told.disk_faults old) (told.disk_faults mid) (told.disk_faults new) runs.disk_later (gives.of_disk e);
       of_output = λ e. rose_earlier (told.output_faults old) (told.output_faults mid) (told.output_faults new) runs.output_later (gives.of_output e);
-      named = λ t e. inr (read_named t e);
+      named = λ r e. inr (read_named r e);
       nolist = λ r files dir none. absurd (has_one (directory (told.disk old).reads) config files (found r) dir none);
     }

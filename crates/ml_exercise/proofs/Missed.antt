@@ -156,23 +156,23 @@ module _ {S : Type 0} (told : Ghosts S) (reads_told : IsTrue told.tells_all → 
         inr (inr (record { items = 0; end = e.0; hindered = e.1 }));
     at_rest = λ rest q state t. weaker told.moment told.left_since told.disk told.output old new (IsAfterSome q (items_of q count) (told.output old)) (IsExercising q count (told.output old))
         (from_rest told old new q (items_of q count) state rest (after_some t q state)) (λ left out p. inl p);
-    rest = λ q state none one two t. subst (λ (d : Disk). IsAtRest d) (sym (says.disk_is t)) (miss.rest (λ e. memory_status told mid new status None why says e one two)
+    rest = λ none one two t. subst (λ (d : Disk). IsAtRest d) (sym (says.disk_is t)) (miss.rest (λ e. memory_status told mid new status None why says e one two)
         (λ e. none (subst (λ (n : ℕ). Rose (told.disk_faults old) n) (sym says.disk_faults) (miss.cause e))) t);
     gate = λ some one two three r. ap (λ (c : Contents). c.log) (says.reads r) ∙ miss.gate (λ e. memory_status told mid new status None why says e one two) (λ e. disk_status told mid new status None why says e three two) some r;
     of_disk = λ e. subst (λ (n : ℕ). Rose (told.disk_faults old) n) (sym says.disk_faults) (miss.cause (⊎_elim (λ is. (known_why why miss.known).of_disk (sym is ∙ e)) (λ c. absurd (omega (arith, e, c.0))) line_is));
     of_output = λ e. rose_earlier (told.output_faults old) (told.output_faults mid) (told.output_faults new) miss.output_later
         (⊎_elim (λ is. absurd ((known_why why miss.known).no_output (sym is ∙ e))) (λ c. c.1) line_is);
-    named = λ t e. inr (named t e);
+    named = λ r e. inr (named r e);
     nolist = λ r files is none. ⊎_elim (λ w. no_list r w) (λ w. said_misses told mid new (told.output old) status None why w says) (without why (directory (told.disk old).reads) files is none (miss.reason r));
   }
     where
-      named : IsTrue told.tells_all → status ≡ 75 → NamesWhole (directory (told.disk new).reads) count (told.output new)
-      named t e = ⊎_elim
+      named : IsTrue told.tells_reads → status ≡ 75 → NamesWhole (IsTrue told.tells_all) (directory (told.disk new).reads) count (told.output new)
+      named r e = ⊎_elim
           (λ whole. record {
             why = why;
             before = told.output mid;
-            put = whole.1 t ∙ ap (λ (n : ℕ). told.output mid ++ stop_text None n why) (sym whole.0 ∙ e);
-            refusal = subst (λ (d : Option Dir). IsRefusal why (exercised_meaning count) d) (sym (ap directory (says.reads (reads_told t)) ∙ miss.same (reads_told t))) (refusal why count (directory (told.disk old).reads) (miss.reason (reads_told t)));
+            put = λ t. whole.1 t ∙ ap (λ (n : ℕ). told.output mid ++ stop_text None n why) (sym whole.0 ∙ e);
+            refusal = subst (λ (d : Option Dir). IsRefusal why (exercised_meaning count) d) (sym (ap directory (says.reads r) ∙ miss.same r)) (refusal why count (directory (told.disk old).reads) (miss.reason r));
           })
           (λ cut. absurd (omega (arith, e, cut.0)))
           says.line

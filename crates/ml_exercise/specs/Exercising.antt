@@ -86,11 +86,11 @@ pub record IsOfItem (dir : Option Dir) (count : ℕ) (who : Option ℕ) (name : 
   pub number : who ≡ Some item.number
   pub reads : may_read item name ≡ true
 
--- the output ends in a stop line of status 75 that a look at the whole list gives
-pub record NamesWhole (dir : Option Dir) (count : ℕ) (output : Text) : Type 0 where
+-- a stop line of status 75 is one that a look at the whole list gives, and the output ends in it
+pub record NamesWhole (told : Type 0) (dir : Option Dir) (count : ℕ) (output : Text) : Type 0 where
   pub why : Why
   pub before : Text
-  pub put : output ≡ before ++ stop_text None 75 why
+  pub put : told → output ≡ before ++ stop_text None 75 why
   pub refusal : IsRefusal why (exercised_meaning count) dir
 
 -- What an exercise of so many items does, but for the moments of its opening.
@@ -100,14 +100,13 @@ pub record ExercisesList {S : Type 0} (told : Ghosts S) (count : ℕ) (old new :
       → Ends (IsTrue told.tells_all) status (told.disk new).reads (told.output new) q count (told.output old)
   pub at_rest : IsAtRest (told.disk old) → (q : State) → HasState (directory (told.disk old).reads) q
       → Leaves told old new (IsExercising q count (told.output old))
-  pub rest : (q : State) → HasState (directory (told.disk old).reads) q
-      → (Rose (told.disk_faults old) (told.disk_faults new) → ⊥) → (status ≡ 71 → ⊥) → (status ≡ 73 → ⊥) → IsTrue told.tells_all → IsAtRest (told.disk new)
+  pub rest : (Rose (told.disk_faults old) (told.disk_faults new) → ⊥) → (status ≡ 71 → ⊥) → (status ≡ 73 → ⊥) → IsTrue told.tells_all → IsAtRest (told.disk new)
   pub gate : IsSome (directory (told.disk old).reads) → (status ≡ 71 → ⊥) → (status ≡ 73 → ⊥) → (status ≡ 111 → ⊥) → IsTrue told.tells_reads → (told.disk new).reads.log ≡ 0 ∷ []
   pub of_disk : status ≡ 111 → Rose (told.disk_faults old) (told.disk_faults new)
   pub of_output : status ≡ 73 → Rose (told.output_faults old) (told.output_faults new)
-  pub named : IsTrue told.tells_all → status ≡ 75
-      → Names (IsOfItem (directory (told.disk old).reads) count) (directory (told.disk old).reads) (directory (told.disk new).reads) (told.output new)
-      ⊎ NamesWhole (directory (told.disk new).reads) count (told.output new)
+  pub named : IsTrue told.tells_reads → status ≡ 75
+      → Names (IsTrue told.tells_all) (IsOfItem (directory (told.disk old).reads) count) (directory (told.disk old).reads) (directory (told.disk new).reads) (told.output new)
+      ⊎ NamesWhole (IsTrue told.tells_all) (directory (told.disk new).reads) count (told.output new)
   pub nolist : IsTrue told.tells_reads → (files : Dir) → directory (told.disk old).reads ≡ Some files → files config_name ≡ None → MissesList (IsTrue told.tells_all) status (told.output old) (told.output new)
 
 -- What an exercise of so many items does. At each moment it is as `IsExercising` says, where something is pending at the start from the

@@ -32,12 +32,11 @@ pub record RunsItems {S : Type 0} (told : Ghosts S) (items : List Item) (count :
       → Runs (IsTrue told.tells_all) ⊥ status count answered (told.disk new).reads (told.output new) items End q (told.output old)
   pub at_rest : IsAtRest (told.disk old) → (q : State) → HasState (directory (told.disk old).reads) q → Leaves told old new (IsAfterSome q items (told.output old))
   pub settled : IsTrue (is_status status) → IsTrue told.tells_all → IsAtRest (told.disk new)
-  pub rest : (q : State) → HasState (directory (told.disk old).reads) q
-      → (Rose (told.disk_faults old) (told.disk_faults new) → ⊥) → (status ≡ 71 → ⊥) → (status ≡ 73 → ⊥) → IsTrue told.tells_all → IsAtRest (told.disk new)
+  pub rest : (Rose (told.disk_faults old) (told.disk_faults new) → ⊥) → (status ≡ 71 → ⊥) → (status ≡ 73 → ⊥) → IsTrue told.tells_all → IsAtRest (told.disk new)
   pub gate : IsSome (directory (told.disk old).reads) → (status ≡ 71 → ⊥) → (status ≡ 73 → ⊥) → (status ≡ 111 → ⊥) → IsTrue told.tells_reads → (told.disk new).reads.log ≡ 0 ∷ []
   pub of_disk : status ≡ 111 → Rose (told.disk_faults old) (told.disk_faults new)
   pub of_output : status ≡ 73 → Rose (told.output_faults old) (told.output_faults new)
-  pub named : IsTrue told.tells_all → status ≡ 75
-      → Names (IsOfNext (Brings (Some (stream_text items))) answered) (directory (told.disk old).reads) (directory (told.disk new).reads) (told.output new)
+  pub named : IsTrue told.tells_reads → status ≡ 75
+      → Names (IsTrue told.tells_all) (IsOfNext (Brings (Some (stream_text items))) answered) (directory (told.disk old).reads) (directory (told.disk new).reads) (told.output new)
   pub disk_later : told.disk_faults old ≤ told.disk_faults new
   pub output_later : told.output_faults old ≤ told.output_faults new

@@ -42,11 +42,11 @@ returns g c =
       whole = λ r q state. never_fails (IsTrue g.S.Site.tells_all) _ status count c.run-site.result.0.answered held out items End q (g.S.Site.output c.args.site) none_rose (c.run-site.ensures.whole r items End q (begins q state));
       at_rest = λ rest q state. subst (λ (all : List Item). Leaves g.S.Site c.args.site c.run-site.result.1 (IsAfterSome q all (g.S.Site.output c.args.site))) (all_taken config count) (c.run-site.ensures.at_rest rest items End q (begins q state));
       settled = c.run-site.ensures.settled;
-      rest = λ q state. c.run-site.ensures.rest items End q (begins q state);
+      rest = c.run-site.ensures.rest;
       gate = c.run-site.ensures.gate;
       of_disk = c.run-site.ensures.disk;
       of_output = c.run-site.ensures.output;
-      named = λ t e. subst (λ (left : Text). Names (IsOfNext (Brings (Some left)) c.run-site.result.0.answered) (directory old.reads) (directory held) out) is (c.run-site.ensures.named t e);
+      named = λ r e. subst (λ (left : Text). Names (IsTrue g.S.Site.tells_all) (IsOfNext (Brings (Some left)) c.run-site.result.0.answered) (directory old.reads) (directory held) out) is (c.run-site.ensures.named r e);
       disk_later = c.run-site.ensures.disk_later;
       output_later = c.run-site.ensures.output_later;
     }
