@@ -127,7 +127,7 @@ const ROWS: [Row; 17] = [
     },
     // A file that the fourth item reads is damaged: the items before it are answered.
     Row {
-        before: Before::File(10, 0, b"x"),
+        before: Before::File(9, 0, b"x"),
         words: &["exercise", "10"],
         status: 75,
         told: All(b"1 0 subscribed\n2 0 subscribed\n3 0 subscribed\n4 0 ignored\n5 0 subscribed\n6 0 absent\n7 75 num\n"),
