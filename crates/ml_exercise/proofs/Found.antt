@@ -1,11 +1,9 @@
 -- An exercise of a list, behind the look at its configuration.
-use Rattle.std.proofs.Common.{◌≡◌, ◌⊎◌, inl, inr, ⊎_elim, ℕ, IsTrue, List, [], ◌++◌, take, drop, Option, Some, None, ap, sym, refl, subst, ◌∙◌, arith}
+use Rattle.std.proofs.Common.{◌≡◌, ◌⊎◌, inl, inr, ⊎_elim, ℕ, IsTrue, List, [], ◌++◌, take, drop, Option, None, ap, sym, refl, subst, ◌∙◌}
 use Rattle.std.specs.Prelude.{IsSome}
 use Rattle.std.proofs.lemmas.List.{append-nil, take-append-drop}
 use Rattle.ml_base.specs.Bytes.{Text}
 use Rattle.ml_base.specs.Dir.{Dir}
-use Rattle.ml_base.specs.Faults.{Rose}
-use Rattle.ml_config.specs.ConfigFile.{config_name}
 use Rattle.ml_config.specs.declared.configuration.Config.{Config}
 use Rattle.ml_list.proofs.States.{fold-nil, text-nil}
 use Rattle.ml_plain.specs.Histories.{State, fold, text}
@@ -14,15 +12,13 @@ use Rattle.ml_site.specs.Disk.{Contents, IsAtRest, Now}
 use Rattle.ml_site.specs.Moments.{LeavesOnly}
 use Rattle.ml_site.specs.declared.site.Site.{Ghosts}
 use Rattle.ml_site.proofs.Steps.{joins, rest_contents, weaker}
-use Rattle.ml_journal.specs.Calls.{Leaves}
 use Rattle.ml_journal.specs.Log.{directory}
-use Rattle.ml_journal.specs.Moments.{IsOld}
 use Rattle.ml_ending.specs.Endings.{IsUnopened, Opens, SaysAtMost, TellsAtMost}
 use Rattle.ml_ending.specs.Lines.{stop_text}
 use Rattle.ml_ending.specs.Stops.{status_of_why}
 use Rattle.ml_ending.proofs.Finished.{rose_earlier}
 use Rattle.ml_ending.proofs.Said.{opening_then}
-use Rattle.ml_run.specs.Endings.{CutOff, IsCut, Names, Stopped}
+use Rattle.ml_run.specs.Endings.{CutOff, Names, Stopped}
 use Rattle.ml_run.specs.Leaving.{HasState, IsAfterSome}
 use Rattle.ml_run.proofs.Leaving.{other_list, same_state, some_answered}
 use Rattle.ml_run.proofs.Missing.{misses_before}

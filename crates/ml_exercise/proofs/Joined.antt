@@ -1,16 +1,15 @@
 -- A run of the items of an exercise, and the reading behind it, as one.
-use Rattle.std.proofs.Common.{◌≡◌, ◌⊎◌, inl, inr, ⊎_elim, ℕ, Bool, true, false, IsTrue, List, [], ◌∷◌, ◌++◌, length, ◌≤◌, Option, Some, None, ap, sym, refl, subst, ◌∙◌, ◌||◌, ◌&&◌, arith}
+use Rattle.std.proofs.Common.{◌≡◌, inl, inr, ⊎_elim, ℕ, Bool, true, false, IsTrue, List, [], ◌∷◌, ◌++◌, length, ◌≤◌, Option, Some, None, ap, sym, refl, subst, ◌∙◌, ◌||◌, ◌&&◌, arith}
 use Rattle.std.specs.Prelude.{IsSome}
 use Rattle.ml_base.specs.Bytes.{Text}
 use Rattle.ml_base.specs.Dir.{Dir}
-use Rattle.ml_base.specs.Faults.{Rose}
 use Rattle.ml_base.specs.declared.names.Name.{Name}
 use Rattle.ml_check.specs.Checking.{exercised_meaning}
 use Rattle.ml_config.specs.ConfigFile.{config_name, config_text}
 use Rattle.ml_config.specs.Configuration.{IsConfig}
 use Rattle.ml_config.specs.declared.configuration.Config.{Config}
 use Rattle.ml_generated.proofs.Streams.{items_read}
-use Rattle.ml_plain.specs.Histories.{State, fold, text}
+use Rattle.ml_plain.specs.Histories.{State}
 use Rattle.ml_plain.specs.Replies.{is_status}
 use Rattle.ml_plain.specs.declared.Item.{Item}
 use Rattle.ml_site.specs.Disk.{Contents, IsAtRest}
@@ -19,11 +18,8 @@ use Rattle.ml_site.proofs.Steps.{joins, weaker}
 use Rattle.ml_journal.specs.Calls.{Leaves}
 use Rattle.ml_journal.specs.Log.{directory}
 use Rattle.ml_journal.specs.Stores.{the_dir}
-use Rattle.ml_ending.specs.declared.lines.Why.{Why}
-use Rattle.ml_ending.specs.Endings.{MissesList}
 use Rattle.ml_ending.specs.Lines.{stop_text}
-use Rattle.ml_ending.specs.Stops.{status_of_why}
-use Rattle.ml_ending.proofs.Finished.{rose_earlier, rose_later}
+use Rattle.ml_ending.proofs.Finished.{rose_earlier}
 use Rattle.ml_reading.specs.Giving.{GivesAnswer}
 use Rattle.ml_reading.specs.Readings.{IsReading, IsRefusal, Reads, is_reading_status}
 use Rattle.ml_run.specs.Endings.{Brings, Ended, Names, Runs}
@@ -33,7 +29,7 @@ use Rattle.ml_run.proofs.Named.{names_map}
 use Rattle.ml_run.proofs.Settled.{settled_not}
 use Rattle.ml_stream.specs.Stream.{End}
 use Rattle.ml_stream.specs.Writing.{stream_text}
-use Rattle.ml_exercise.specs.Exercising.{answered, behind, EndsEarly, Ends, ExercisesList, IsExercising, IsOfItem, items_of, NamesWhole, two_lines}
+use Rattle.ml_exercise.specs.Exercising.{behind, ExercisesList, IsExercising, IsOfItem, items_of, NamesWhole, two_lines}
 use Rattle.ml_exercise.specs.Finding.{HasConfig}
 use Rattle.ml_exercise.specs.Running.{items_for, RunsItems}
 use Rattle.ml_exercise.proofs.Lists.{count_is, items_same}

@@ -1,5 +1,5 @@
 -- The list on which an exercise is run, and its items.
-use Rattle.std.proofs.Common.{◌≡◌, ℕ, zero, suc, ◌+◌, List, length, take, Option, Some, ap, sym, refl, ◌∙◌, subst, arith}
+use Rattle.std.proofs.Common.{◌≡◌, ℕ, zero, suc, ◌+◌, length, take, Option, ap, sym, refl, ◌∙◌, subst, arith}
 use Rattle.std.proofs.lemmas.List.{take_all}
 use Rattle.ml_base.specs.Bytes.{Text}
 use Rattle.ml_base.specs.Dir.{Dir}
@@ -7,7 +7,6 @@ use Rattle.ml_config.specs.ConfigFile.{config_name, IsConfigFile}
 use Rattle.ml_config.specs.declared.configuration.Config.{Config}
 use Rattle.ml_generated.specs.Items.{generated, items_from}
 use Rattle.ml_plain.specs.Histories.{State}
-use Rattle.ml_plain.specs.declared.Item.{Item}
 use Rattle.ml_journal.specs.Stores.{the_dir}
 use Rattle.ml_run.specs.Leaving.{HasState}
 use Rattle.ml_exercise.specs.Exercising.{items_of}

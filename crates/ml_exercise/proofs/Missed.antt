@@ -1,25 +1,22 @@
 -- An exercise of a site on which no configuration is found.
-use Rattle.std.proofs.Common.{◌≡◌, ◌⊎◌, inl, inr, ⊎_elim, ℕ, Bool, true, false, IsTrue, List, ◌++◌, Option, Some, None, ap, sym, refl, subst, ◌∙◌, arith, ◌≤◌}
-use Rattle.std.specs.Prelude.{IsSome}
+use Rattle.std.proofs.Common.{◌≡◌, ◌⊎◌, inl, inr, ⊎_elim, ℕ, true, false, IsTrue, ◌++◌, Option, Some, None, ap, sym, refl, subst, ◌∙◌, arith}
 use Rattle.ml_base.specs.Bytes.{Text}
 use Rattle.ml_base.specs.Dir.{Dir}
 use Rattle.ml_base.specs.Faults.{Rose}
-use Rattle.ml_base.specs.declared.names.Name.{Name}
 use Rattle.ml_check.specs.Checking.{exercised_meaning}
 use Rattle.ml_config.specs.ConfigFile.{config_name, IsConfigFile}
 use Rattle.ml_plain.specs.Histories.{State}
 use Rattle.ml_plain.specs.Replies.{is_status}
-use Rattle.ml_plain.specs.declared.Item.{Item}
 use Rattle.ml_site.specs.Disk.{Contents, Disk, IsAtRest, Now}
 use Rattle.ml_site.specs.declared.site.Site.{Ghosts}
 use Rattle.ml_site.proofs.Steps.{first_weaker, weaker}
 use Rattle.ml_journal.specs.Log.{directory}
 use Rattle.ml_ending.specs.declared.lines.Why.{Why}
 use Rattle.ml_ending.specs.declared.lines.Why.TheVariants as whys
-use Rattle.ml_ending.specs.Endings.{IsUnopened, MissesList, Opens, Says}
+use Rattle.ml_ending.specs.Endings.{MissesList, Opens, Says}
 use Rattle.ml_ending.specs.Lines.{stop_text}
 use Rattle.ml_ending.specs.Stops.{status_of_why}
-use Rattle.ml_ending.proofs.Finished.{disk_status, memory_status, rose_earlier, rose_later}
+use Rattle.ml_ending.proofs.Finished.{disk_status, memory_status, rose_earlier}
 use Rattle.ml_ending.proofs.Said.{unopened_said}
 use Rattle.ml_reading.specs.Readings.{IsRefusal, is_reading_status}
 use Rattle.ml_run.specs.Endings.{Runs}

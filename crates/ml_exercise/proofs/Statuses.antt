@@ -1,5 +1,5 @@
 -- The statuses of the items of a run, and of the run.
-use Rattle.std.proofs.Common.{◌≡◌, ◌⊎◌, inl, inr, ⊎_elim, ℕ, Bool, true, false, eqb, cond, List, [], ◌∷◌, length, ap, sym, refl, ◌∙◌, arith, ◌-◌, ◌&&◌}
+use Rattle.std.proofs.Common.{◌≡◌, ◌⊎◌, inl, inr, ⊎_elim, ℕ, Bool, true, false, eqb, cond, List, [], ◌∷◌, length, ap, sym, refl, ◌∙◌, arith, ◌-◌}
 use Rattle.std.proofs.lemmas.Bool.Decides.{nat_tests}
 use Rattle.std.specs.List.{list_all}
 use Rattle.ml_base.specs.Bytes.{Text}

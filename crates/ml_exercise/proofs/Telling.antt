@@ -1,5 +1,5 @@
 -- What the last reading of an exercise puts out, behind all answers.
-use Rattle.std.proofs.Common.{◌≡◌, ◌⊎◌, inl, inr, ⊎_elim, ℕ, IsTrue, ◌++◌, Option, Some, None, ap, ap₂, sym, refl, subst, ◌∙◌, arith}
+use Rattle.std.proofs.Common.{◌≡◌, ◌⊎◌, inl, inr, ⊎_elim, ℕ, ◌++◌, Option, None, ap, ap₂, sym, refl, subst, ◌∙◌, arith}
 use Rattle.ml_base.specs.Bytes.{Text}
 use Rattle.ml_base.specs.Dir.{Dir}
 use Rattle.ml_check.specs.Checking.{exercised_meaning, IsFound}
@@ -16,7 +16,7 @@ use Rattle.ml_ending.specs.Endings.{SaysAtMost, TellsAtMost}
 use Rattle.ml_ending.specs.Lines.{stop_text}
 use Rattle.ml_ending.specs.Stops.{status_of_why}
 use Rattle.ml_reading.specs.declared.question.Answer.TheVariants as answers
-use Rattle.ml_reading.specs.Readings.{GivesText, IsAnswer, IsFront, IsHindered, IsReading, Reads}
+use Rattle.ml_reading.specs.Readings.{GivesText, IsAnswer, IsFront, IsReading, Reads}
 use Rattle.ml_run.specs.Leaving.{HasState}
 use Rattle.ml_run.proofs.Leaving.{same_state}
 use Rattle.ml_exercise.specs.Exercising.{answered, behind, Exercised, IsTelling, two_lines, Untold}
@@ -73,11 +73,11 @@ told_ends told status dir held q count before now lines output state same is giv
 told_ends told status dir held q count before now lines output state same is gives (inr (inl refused)) = inr (record {
   state = same_state dir (directory held) (behind q count) same state;
   put = inl (
-      refused.why,
-      refused.status_is,
-      ⊎_elim (λ zero. absurd (never_zero refused.why (sym refused.status_is ∙ zero.0))) (λ h. h) gives,
-      λ t. refused.put t ∙ ap (λ (b : Text). b ++ stop_text None status refused.why) (is t),
-    );
+    refused.why,
+    refused.status_is,
+    ⊎_elim (λ zero. absurd (never_zero refused.why (sym refused.status_is ∙ zero.0))) (λ h. h) gives,
+    λ t. refused.put t ∙ ap (λ (b : Text). b ++ stop_text None status refused.why) (is t),
+  );
 })
 told_ends told status dir held q count before now lines output state same is gives (inr (inr cut)) = inr (record {
   state = same_state dir (directory held) (behind q count) same state;

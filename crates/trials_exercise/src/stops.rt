@@ -29,7 +29,8 @@ const STEPS: [u64; 12] = [2048, 1024, 512, 256, 128, 64, 32, 16, 8, 4, 2, 1];
 // A log of one closed gate.
 const CLOSED: &[u8] = &[0];
 
-const FILLS: [Fill; 4] = [
+const FILLS: [Fill; 5] = [
+    Fill::Old,
     Fill::New,
     Fill::Byte(0),
     Fill::Byte(1),
@@ -192,19 +193,30 @@ fn stopped_run(alloc: Global, trial: &Trial, calls: u64) -> Result<(u8, MemSite)
     run(alloc, trial, stopping)
 }
 
-// Whether a stop after so many calls is made good, whatever the crash leaves. What another crash left too is tried once.
-fn is_stop_good(alloc: Global, trial: &Trial, calls: u64) -> Result<bool, AllocError> {
+// Whether a stop after so many calls is made good, whatever the crash leaves. What the crash of this filling left after the last stop that was
+// tried is taken from these images, and put there anew: where it left the same, the next run is the same too, and isn't tried again.
+fn is_stop_good(
+    alloc: Global,
+    trial: &Trial,
+    calls: u64,
+    tried: &mut Vec<Image>,
+) -> Result<bool, AllocError> {
     let (_, stopped) = stopped_run(alloc, trial, calls)?;
     let mut good = is_front(trial, stopped.output());
-    let mut last = stopped.crash(alloc, calls, Fill::Old)?;
-    good = good && is_made_good(alloc, trial, b"", site(alloc, stopped.crash(alloc, calls, Fill::Old)?)?)?;
-    for fill in FILLS {
-        let left = stopped.crash(alloc, calls, fill)?;
-        if !is_alike(&left, &last) {
-            last = stopped.crash(alloc, calls, fill)?;
-            good = good && is_made_good(alloc, trial, b"", site(alloc, left)?)?;
+    let mut images = Vec::new(alloc);
+    for (place, fill) in FILLS.iter().enumerate() {
+        let left = stopped.crash(alloc, calls, *fill)?;
+        let known = match tried.get(place) {
+            Some(last) => is_alike(&left, last),
+            None => false,
+        };
+        if !known {
+            let next = site(alloc, stopped.crash(alloc, calls, *fill)?)?;
+            good = good && is_made_good(alloc, trial, b"", next)?;
         }
+        images.push(left)?;
     }
+    *tried = images;
     Ok(good)
 }
 
@@ -234,9 +246,10 @@ fn calls_of(alloc: Global, trial: &Trial) -> Result<u64, AllocError> {
 // The first of some calls after which a stop, or whose failure, isn't made good: every so many from the first one on.
 fn bad_call(alloc: Global, floored: bool, first: u64) -> Result<Option<u64>, Fail> {
     let trial = trial_of(alloc, floored)?;
+    let mut tried = Vec::new(alloc);
     for call in first..=calls_of(alloc, &trial)? {
         if call % TESTS == first {
-            let stop = is_stop_good(alloc, &trial, call)?;
+            let stop = is_stop_good(alloc, &trial, call, &mut tried)?;
             let failure = call == 0 || is_failure_good(alloc, &trial, call)?;
             if !stop || !failure {
                 return Ok(Some(call));

@@ -1,9 +1,8 @@
-use Rattle.std.proofs.Common.{◌≡◌, sym, subst, Option, Result}
+use Rattle.std.proofs.Common.{subst, Result}
 use Rattle.std.specs.Prelude.{IfErr, IfOk}
-use Rattle.ml_base.specs.Dir.{Dir}
 use Rattle.ml_config.specs.declared.configuration.Config.{Config}
 use Rattle.ml_ending.specs.declared.lines.Why.{Why}
-use Rattle.ml_exercise.specs.Finding.{Finds, HasConfig, Misses}
+use Rattle.ml_exercise.specs.Finding.{Finds, Misses}
 use Rattle.ml_exercise.proofs.Found.{found_then}
 use Rattle.ml_exercise.proofs.Missed.{missed}
 use Rattle.ml_exercise.proofs.exercising.exercise.Goals as goal

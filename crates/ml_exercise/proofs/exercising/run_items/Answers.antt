@@ -1,6 +1,5 @@
-use Rattle.std.proofs.Common.{◌≡◌, ◌∙◌, ◌≤◌, ◌++◌, [], IsTrue, List, ℕ, Some, ap, ap₂, sym, refl, subst, arith, length, take}
+use Rattle.std.proofs.Common.{◌≡◌, ◌∙◌, IsTrue, List, Some, ap, ap₂, subst, arith}
 use Rattle.ml_base.specs.Bytes.{Text}
-use Rattle.ml_base.specs.Faults.{Rose}
 use Rattle.ml_generated.specs.Generated.{generated_left}
 use Rattle.ml_generated.specs.Items.{generated}
 use Rattle.ml_generated.proofs.Streams.{items_read}
