@@ -1,6 +1,6 @@
 // The bytes of the items of an exercise.
 use ml_base::Bytes;
-use ml_run::{Generated, law_generated};
+use ml_generated::{Generated, law_generated};
 use ml_site::Source;
 use std::alloc::Global;
 use std::test::Fail;
