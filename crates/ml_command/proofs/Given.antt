@@ -25,6 +25,9 @@ use Rattle.ml_command.specs.Words.{act_of, member_act, member_of, rekey_of, floo
 pub number_given : (word : Text) (number : ℕ) → item_number_of word ≡ Some number → number ≤ 999_999_999_999
 number_given word number e = (number_spelled 999_999_999_999 word number (omega arith) e).0
 
+pub count_given : (word : Text) (count : ℕ) → number_within 999_999 word ≡ Some count → count ≤ 999_999
+count_given word count e = (number_spelled 999_999 word count (omega arith) e).0
+
 -- a key has 32 bytes
 key_given : (digits key : Text) → key_of digits ≡ Some key → (length key ≡ 32) × IsBytes key
 key_given digits key e = go (decode_sized digits 32) refl

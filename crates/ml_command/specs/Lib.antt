@@ -1,6 +1,7 @@
 pub mod Asking
 pub mod Commands
 pub mod Delivering
+pub mod Exercising
 pub mod Giving
 pub mod Inquiries
 pub mod ItemSource

@@ -4,6 +4,7 @@
 mod asking;
 mod commands;
 mod delivering;
+mod exercising;
 mod giving;
 mod item_source;
 mod making;

@@ -57,9 +57,9 @@ has_one dir config files found is none =
     some_none (config_text config) (sym none ∙ ap (λ (d : Dir). d config_name) (sym same) ∙ found.config_is.stands.text)
 
 -- an item that a stop line names is one of those of the list
-item_named : (dir : Option Dir) (config : Config) (count n : ℕ) (who : Option ℕ) (name : Name) → HasConfig dir config → IsConfig config → count ≤ 999_999
-    → IsOfNext (Brings (Some (stream_text (items_for config count)))) n who name → IsOfItem dir count who name
-item_named dir config count n who name found range few is =
+item_named : (dir : Option Dir) (config : Config) (count n : ℕ) (files : Dir) (who : Option ℕ) (name : Name) → HasConfig dir config → IsConfig config → count ≤ 999_999
+    → IsOfNext (Brings (Some (stream_text (items_for config count)))) n files who name → IsOfItem dir count files who name
+item_named dir config count n files who name found range few is =
     let next = is.next (items_for config count) End (record { bytes = stream_text (items_for config count); left_is = refl; stream = items_read 0 config.local config.host 1 count range.local range.host (omega (arith, few)) }) in record {
       config = config;
       has = found;
@@ -69,6 +69,7 @@ item_named dir config count n who name found range few is =
       split = next.2;
       number = is.number;
       reads = is.reads;
+      asked = is.asked;
     }
 
 module _ {S : Type 0} (told : Ghosts S) (reads_told : IsTrue told.tells_all → IsTrue told.tells_reads) (config : Config) (count : ℕ) (old mid : S) (run : ℕ)
@@ -89,7 +90,7 @@ module _ {S : Type 0} (told : Ghosts S) (reads_told : IsTrue told.tells_all → 
 
   run_named : IsTrue told.tells_reads → run ≡ 75 → Names (IsTrue told.tells_all) (IsOfItem (directory (told.disk old).reads) count) (directory (told.disk old).reads) (directory (told.disk mid).reads) (told.output mid)
   run_named r is = names_map (IsTrue told.tells_all) (IsOfNext (Brings (Some (stream_text (items_for config count)))) runs.answered) (IsOfItem (directory (told.disk old).reads) count) (directory (told.disk old).reads) (directory (told.disk mid).reads) (told.output mid)
-      (λ who name next. item_named (directory (told.disk old).reads) config count runs.answered who name (found r) range few next) (runs.named r is)
+      (λ files who name next. item_named (directory (told.disk old).reads) config count runs.answered files who name (found r) range few next) (runs.named r is)
 
   -- it has ended early
   pub early_list : is_status run ≡ false → ExercisesList told count old mid run

@@ -9,6 +9,7 @@ use Rattle.ml_check.specs.Sizes.{exercised_lines, sizes_of}
 use Rattle.ml_config.specs.ConfigFile.{config_name}
 use Rattle.ml_config.specs.declared.configuration.Config.{Config}
 use Rattle.ml_generated.specs.Items.{generated}
+use Rattle.ml_list.specs.Asked.{IsReadBy}
 use Rattle.ml_list.specs.Damage.{may_read}
 use Rattle.ml_plain.specs.Histories.{State, fold, text}
 use Rattle.ml_plain.specs.declared.Item.{Item}
@@ -75,8 +76,9 @@ abbrev pub Ends : Type 0 → ℕ → Contents → Text → State → ℕ → Tex
 Ends told status held output q count before =
     Exercised told status held output q count before ⊎ (Untold told status held output q count before ⊎ EndsEarly told status held output q count before)
 
--- one of the items of an exercise of a list of this configuration: a stop line begins with its number, and it may read this file
-pub record IsOfItem (dir : Option Dir) (count : ℕ) (who : Option ℕ) (name : Name) : Type 0 where
+-- One of the items of an exercise of a list of this configuration: a stop line begins with its number, and it may read this file of a directory,
+-- by the configuration that is there and the numbers of what it asks.
+pub record IsOfItem (dir : Option Dir) (count : ℕ) (files : Dir) (who : Option ℕ) (name : Name) : Type 0 where
   pub config : Config
   pub has : HasConfig dir config
   pub item : Item
@@ -85,6 +87,7 @@ pub record IsOfItem (dir : Option Dir) (count : ℕ) (who : Option ℕ) (name : 
   pub split : generated config.local config.host count ≡ before ++ item ∷ behind
   pub number : who ≡ Some item.number
   pub reads : may_read item name ≡ true
+  pub asked : IsReadBy files item name
 
 -- a stop line of status 75 is one that a look at the whole list gives, and the output ends in it
 pub record NamesWhole (told : Type 0) (dir : Option Dir) (count : ℕ) (output : Text) : Type 0 where

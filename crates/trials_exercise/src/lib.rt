@@ -1,7 +1,5 @@
-//! Tests of exercises: the items that are made from a count, and lists on which they are run.
+//! Tests of exercises: the items that are made from a count.
 #![tactic(auto)]
 
 #[cfg(test)]
 mod items;
-#[cfg(test)]
-mod lists;
