@@ -1,5 +1,6 @@
 mod Families
 mod Given
 mod OneItem
+mod Printing
 mod Spelling
 mod Statuses

@@ -6,6 +6,7 @@ pub mod Giving
 pub mod Inquiries
 pub mod ItemSource
 pub mod Making
+pub mod Printing
 pub mod Single
 pub mod Spooling
 pub mod Words
