@@ -90,9 +90,9 @@ hindered_not_zero status h zero =
 
 -- with status 0 the answer is a text, and all of it is out
 text_put : (told : Type 0) (status : ℕ) (answer : Answer) (before output : Text) → GivesFound told status answer before output → status ≡ 0 → told → (text : Text) × (answer ≡ answers.Text text) × (output ≡ before ++ text)
-text_put told status (answers.Text text) before output g zero yes = ⊎_elim (λ given. (text, refl, given.1 yes)) (λ h. absurd (hindered_not_zero status h zero)) g
-text_put told status answers.Absent before output g zero yes = absurd (⊎_elim (λ r. is_not_zero status 100 r.0 (omega arith) zero) (λ h. hindered_not_zero status h zero) g)
-text_put told status answers.Long before output g zero yes = absurd (⊎_elim (λ r. is_not_zero status 65 r.0 (omega arith) zero) (λ h. hindered_not_zero status h zero) g)
+text_put told status (answers.Text text) before output g zero holds = ⊎_elim (λ given. (text, refl, given.1 holds)) (λ h. absurd (hindered_not_zero status h zero)) g
+text_put told status answers.Absent before output g zero holds = absurd (⊎_elim (λ r. is_not_zero status 100 r.0 (omega arith) zero) (λ h. hindered_not_zero status h zero) g)
+text_put told status answers.Long before output g zero holds = absurd (⊎_elim (λ r. is_not_zero status 65 r.0 (omega arith) zero) (λ h. hindered_not_zero status h zero) g)
 
 -- what a question of a move was made of
 record IsMoveOf (words : PlainMove) (moment : ℕ) (text : Text) (question : Moving) : Type 0 where
@@ -100,10 +100,10 @@ record IsMoveOf (words : PlainMove) (moment : ℕ) (text : Text) (question : Mov
   pub are : rules_in text ≡ Ok rules
   pub is : question ≡ record { words = words; rules = rules; moment = moment }
 
-one_move : (q r : Moving) → Ok {E = ℕ} q ≡ Ok r → r ≡ q
+one_move : (q r : Moving) → ◌≡◌ {A = Result Moving ℕ} (Ok q) (Ok r) → r ≡ q
 one_move q r e = cc
 
-no_move : (at : ℕ) (q : Moving) → Err {A = Moving} at ≡ Ok q → ⊥
+no_move : (at : ℕ) (q : Moving) → ◌≡◌ {A = Result Moving ℕ} (Err at) (Ok q) → ⊥
 no_move at q e = cc
 
 move_made : (words : PlainMove) (moment : ℕ) (text : Text) (question : Moving) (r : Result (List Rule) ℕ) → rules_in text ≡ r → moving_of words moment r ≡ Ok question → IsMoveOf words moment text question
@@ -227,15 +227,15 @@ prints source told clocks law (Give (inquiries.Mailbox query)) input next old ne
 prints source told clocks law (Give (inquiries.Split set)) input next old new clock after status d = λ reads all zero files q dir state. tt
 prints source told clocks law (Give (inquiries.Move words)) input next old new clock after status d = λ reads all zero files q dir state low.
     ⊎_elim (λ asks. ⊎_elim
-        (λ now. ⊎_elim
-            (λ asked. moves_put source told clocks input next old new clock after status reads all zero files q dir state words now.0 asked.0 asked.1.0 low now.1 asked.1.1 asked.1.2 asked.2)
-            (λ none. absurd (says_not_zero told old new status none.0 none.2 zero)) now.2)
-        (λ failed. absurd (says_not_zero told old new status whys.Clock failed.1 zero)) asks)
+    (λ now. ⊎_elim
+    (λ asked. moves_put source told clocks input next old new clock after status reads all zero files q dir state words now.0 asked.0 asked.1.0 low now.1 asked.1.1 asked.1.2 asked.2)
+    (λ none. absurd (says_not_zero told old new status none.0 none.2 zero)) now.2)
+    (λ failed. absurd (says_not_zero told old new status whys.Clock failed.1 zero)) asks)
     (λ memory. absurd (says_not_zero told old new status whys.Memory memory.0 zero)) d
 prints source told clocks law (Give (inquiries.Import first)) input next old new clock after status d = λ reads all zero files q dir state low.
     ⊎_elim (λ asks. ⊎_elim
-        (λ now. ⊎_elim
-            (λ asked. mails_put source told clocks input next old new clock after status reads all zero files q dir state law first now.0 asked.0 asked.1.0 low now.1 asked.1.1 asked.1.2 asked.2)
-            (λ none. absurd (says_not_zero told old new status none.0 none.2 zero)) now.2)
-        (λ failed. absurd (says_not_zero told old new status whys.Clock failed.1 zero)) asks)
+    (λ now. ⊎_elim
+    (λ asked. mails_put source told clocks input next old new clock after status reads all zero files q dir state law first now.0 asked.0 asked.1.0 low now.1 asked.1.1 asked.1.2 asked.2)
+    (λ none. absurd (says_not_zero told old new status none.0 none.2 zero)) now.2)
+    (λ failed. absurd (says_not_zero told old new status whys.Clock failed.1 zero)) asks)
     (λ memory. absurd (says_not_zero told old new status whys.Memory memory.0 zero)) d
