@@ -1,5 +1,5 @@
 // Files that are read.
-ghost use Rattle.std.specs.Prelude.{◌≡◌, ◌≤◌, ℕ, Bool, IsTrue, IfOk, IsErrOf};
+ghost use Rattle.std.specs.Prelude.{◌≡◌, ◌≤◌, ℕ, Bool, IsTrue, IfOk, IsErrOf, is_some};
 ghost use Rattle.ml_base.specs.Dir.{Dir};
 ghost use Rattle.ml_base.specs.Faults.{Rose};
 ghost use Rattle.ml_base.specs.Name.{is_file};
@@ -53,6 +53,22 @@ pub trait Files {
         ensures kept { kept self.old self.new }
         ensures later { faults self.old ≤ faults self.new }
         ensures cause { IsErrOf result Fault → Rose (faults self.old) (faults self.new) };
+
+    /// Whether a file is there. The name is one of the table other than the log's.
+    /// Where a type can tell it without the file's bytes, it has a body of its own. `Fault` comes only where the count of faults rose
+    /// in this call.
+    fn has(&mut self, alloc: Global, name: Name) -> Result<bool, FilesError>
+        requires { IsTrue (is_file name) }
+        ensures value { IsTrue tells → IfOk result (λ there. there ≡ is_some (map self.old name)) }
+        ensures kept { kept self.old self.new }
+        ensures later { faults self.old ≤ faults self.new }
+        ensures cause { IsErrOf result Fault → Rose (faults self.old) (faults self.new) }
+    {
+        match self.get(alloc, name) {
+            Ok(found) => Ok(found.is_some()),
+            Err(error) => Err(error),
+        }
+    }
 
     /// A value is kept from itself.
     ghost kept_self: { (files : Self) → kept files files };

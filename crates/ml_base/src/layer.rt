@@ -1,5 +1,5 @@
 // Puts laid over files.
-ghost use Rattle.std.specs.Prelude.{◌≡◌, ◌≤◌, ◌++◌, true, IsTrue, IfOk, IsErrOf, OnOk, OnErr};
+ghost use Rattle.std.specs.Prelude.{◌≡◌, ◌≤◌, ◌++◌, true, IsTrue, IfOk, IsErrOf, OnOk, OnErr, is_some};
 ghost use Rattle.std.specs.Option.{option_copied};
 ghost use Rattle.ml_base.specs.Dir.{with_puts, newest_put, touches};
 ghost use Rattle.ml_base.specs.Faults.{Rose};
@@ -67,6 +67,21 @@ impl<F: Files> Files for Layer<F> {
         match newest(self.txn.as_slice(), name) {
             Some(put) => Ok(copied(alloc, put.bytes.as_ref())?),
             None => self.files.get(alloc, name),
+        }
+    }
+
+    /// Whether a file is there. Where a put names the file, the files below are not asked.
+    fn has(&mut self, alloc: Global, name: Name) -> Result<bool, FilesError>
+        requires { IsTrue (is_file name) }
+        ensures value { IsTrue F.tells → IfOk result (λ there. there ≡ is_some (with_puts (F.map (files_below self.old)) (puts_over self.old) name)) }
+        ensures kept { F.kept (files_below self.old) (files_below self.new) × (puts_over self.new ≡ puts_over self.old) }
+        ensures later { F.faults (files_below self.old) ≤ F.faults (files_below self.new) }
+        ensures cause { IsErrOf result Fault → Rose (F.faults (files_below self.old)) (F.faults (files_below self.new)) }
+        ensures above { touches (puts_over self.old) name ≡ true → files_below self.new ≡ files_below self.old }
+    {
+        match newest(self.txn.as_slice(), name) {
+            Some(put) => Ok(put.bytes.is_some()),
+            None => self.files.has(alloc, name),
         }
     }
 

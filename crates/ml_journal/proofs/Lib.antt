@@ -13,5 +13,7 @@ pub mod Keeping
 mod Settled
 pub mod Held
 mod Spent
+mod Handed
+mod Gathered
 mod Opened
 mod Examples

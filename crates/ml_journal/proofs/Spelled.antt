@@ -1,11 +1,12 @@
 -- Puts are spelled one after another.
-use Rattle.std.proofs.Common.{◌≡◌, ◌<◌, ℕ, ◌+◌, List, [], ◌∷◌, ◌++◌, length, take, get_or, sym, ◌∙◌, ap, arith, append_assoc, length-append}
-use Rattle.std.proofs.lemmas.List.{append-nil, take_more}
+use Rattle.std.proofs.Common.{◌≡◌, ◌<◌, ℕ, ◌+◌, List, [], ◌∷◌, ◌++◌, length, take, drop, get_or, Option, Some, None, refl, sym, ◌∙◌, ap, arith, append_assoc, length-append}
+use Rattle.std.proofs.lemmas.List.{append-nil, take_more, take-append-drop}
 use Rattle.std.specs.Fmt.{decimal}
 use Rattle.ml_base.specs.Bytes.{Text}
 use Rattle.ml_base.specs.Netstrings.{ns}
+use Rattle.ml_base.specs.declared.names.Name.{Name}
 use Rattle.ml_base.specs.declared.puts.Put.{Put}
-use Rattle.ml_journal.specs.Records.{spelled_put, spelled_puts}
+use Rattle.ml_journal.specs.Records.{spelled_as, spelled_head, spelled_name, spelled_put, spelled_puts}
 
 -- one put more
 pub spelled_more : (puts : List Put) (put : Put) → spelled_puts (puts ++ put ∷ []) ≡ spelled_puts puts ++ spelled_put put
@@ -22,8 +23,33 @@ size_next puts i d lt = ap length (spelled_next puts i d lt) ∙ length-append (
 pub ns_size : (content : Text) → length (ns content) ≡ length (decimal (length content)) + length content + 2
 ns_size content = omega (arith, length-append (decimal (length content) ++ 58 ∷ content) (44 ∷ []), length-append (decimal (length content)) (58 ∷ content))
 
--- one put more was added
-pub added : (puts : List Put) (i : ℕ) (d : Put) (start out new : Text) → i < length puts → out ≡ start ++ spelled_puts (take i puts) → new ≡ out ++ spelled_put (get_or puts i d) → new ≡ start ++ spelled_puts (take (i + 1) puts)
-added puts i d start out new lt so_far is =
-    is ∙ ap (λ (l : Text). l ++ spelled_put (get_or puts i d)) so_far ∙ append_assoc start (spelled_puts (take i puts)) (spelled_put (get_or puts i d))
-    ∙ ap (λ (l : Text). start ++ l) (sym (spelled_next puts i d lt))
+-- what stands behind what is before a put's content: the content and its comma
+abbrev pub spelled_tail : Option Text → Text
+spelled_tail (Some bytes) = bytes ++ 44 ∷ []
+spelled_tail None = []
+
+-- a put is what stands before its content, and the content with its comma
+pub put_parts : (name : Name) (bytes : Option Text) → spelled_head name bytes ++ spelled_tail bytes ≡ spelled_as name bytes
+put_parts name None = append-nil (88 ∷ spelled_name name)
+put_parts name (Some bytes) =
+    let front = 87 ∷ spelled_name name in
+    let digits = decimal (length bytes) in
+    append_assoc (front ++ digits) (58 ∷ []) (bytes ++ 44 ∷ [])
+    ∙ append_assoc front digits (58 ∷ (bytes ++ 44 ∷ []))
+    ∙ ap (λ (l : Text). front ++ l) (sym (append_assoc digits (58 ∷ bytes) (44 ∷ [])))
+
+-- a record and a closed gate, from what comes before its puts on
+pub record_parts : (gathered head content : Text) → gathered ≡ [] → head ≡ decimal (length content) ++ 58 ∷ [] → gathered ++ (head ++ content) ++ 44 ∷ 0 ∷ [] ≡ ns content ++ 0 ∷ []
+record_parts gathered head content none is =
+    let digits = decimal (length content) in
+    (λ i. none i ++ (is i ++ content) ++ 44 ∷ 0 ∷ [])
+    ∙ ap (λ (l : Text). l ++ 44 ∷ 0 ∷ []) (append_assoc digits (58 ∷ []) content)
+    ∙ sym (append_assoc (digits ++ 58 ∷ content) (44 ∷ []) (0 ∷ []))
+
+-- the puts up to the next place, and those behind it
+pub puts_parts : (puts : List Put) (i : ℕ) → spelled_puts (take i puts) ++ spelled_puts (drop i puts) ≡ spelled_puts puts
+puts_parts puts i = sym (joined (take i puts) (drop i puts)) ∙ ap spelled_puts (take-append-drop i puts)
+  where
+    joined : (one two : List Put) → spelled_puts (one ++ two) ≡ spelled_puts one ++ spelled_puts two
+    joined [] two = refl
+    joined (put ∷ one) two = ap (λ (l : Text). spelled_put put ++ l) (joined one two) ∙ sym (append_assoc (spelled_put put) (spelled_puts one) (spelled_puts two))

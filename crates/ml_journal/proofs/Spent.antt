@@ -57,10 +57,8 @@ module _ {S : Type 0} (told : Ghosts S) where
   }
 
   -- what a commit spends, told by the log that it leaves
-  pub spends_grown : (size : ℕ) (txn puts : List Put) (old new : S) → puts ≡ txn → txn ≢ [] → Spends told (size + length (spelled_record puts) + 1) (content_size puts) old new → Spends told (grown size txn) (content_size txn) old new
-  spends_grown size txn puts old new same some spends = subst (λ (n : ℕ). Spends told n (content_size txn) old new) (sym (grown_some size txn some))
-      (subst (λ (l : List Put). Spends told (size + length (spelled_record l) + 1) (content_size l) old new) same spends)
+  pub spends_grown : (size : ℕ) (txn : List Put) (old new : S) → txn ≢ [] → Spends told (size + length (spelled_record txn) + 1) (content_size txn) old new → Spends told (grown size txn) (content_size txn) old new
+  spends_grown size txn old new some spends = subst (λ (n : ℕ). Spends told n (content_size txn) old new) (sym (grown_some size txn some)) spends
 
-  pub refused_grown : (size : ℕ) (txn puts : List Put) (old new : S) → puts ≡ txn → txn ≢ [] → SpendsAtMost told (size + length (spelled_record puts) + 1) old new → SpendsAtMost told (grown size txn) old new
-  refused_grown size txn puts old new same some spends = subst (λ (n : ℕ). SpendsAtMost told n old new) (sym (grown_some size txn some))
-      (subst (λ (l : List Put). SpendsAtMost told (size + length (spelled_record l) + 1) old new) same spends)
+  pub refused_grown : (size : ℕ) (txn : List Put) (old new : S) → txn ≢ [] → SpendsAtMost told (size + length (spelled_record txn) + 1) old new → SpendsAtMost told (grown size txn) old new
+  refused_grown size txn old new some spends = subst (λ (n : ℕ). SpendsAtMost told n old new) (sym (grown_some size txn some)) spends

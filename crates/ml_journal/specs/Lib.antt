@@ -7,6 +7,8 @@ pub mod Table
 pub mod Laying
 pub mod Moments
 pub mod Calls
+pub mod Handing
+pub mod Gathering
 pub mod Spending
 pub mod Errors
 pub mod Stores

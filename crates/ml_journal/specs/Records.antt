@@ -22,6 +22,11 @@ spelled_as name None = 88 ∷ spelled_name name
 abbrev pub spelled_put : Put → Text
 spelled_put put = spelled_as put.name put.bytes
 
+-- what stands before a put's content, or all of one that removes
+abbrev pub spelled_head : Name → Option Text → Text
+spelled_head name (Some bytes) = 87 ∷ spelled_name name ++ decimal (length bytes) ++ 58 ∷ []
+spelled_head name None = 88 ∷ spelled_name name
+
 -- puts in a row
 abbrev pub spelled_puts : List Put → Text
 spelled_puts [] = []

@@ -1,13 +1,10 @@
 -- A log as the journal keeps it: open records, and a closed gate behind them.
-use Rattle.std.specs.Prelude.{◌≡◌, ◌≢◌, ◌⊎◌, ◌<◌, ◌≤◌, ℕ, List, [], ◌∷◌, ◌++◌, length, Option, Some}
+use Rattle.std.specs.Prelude.{◌≡◌, ◌≢◌, ◌⊎◌, ◌<◌, ◌≤◌, ℕ, List, [], ◌∷◌, ◌++◌, length, Some}
 use Rattle.ml_base.specs.Bytes.{Text}
-use Rattle.std.specs.BTreeMap.{BTreeMap}
-use Rattle.ml_base.specs.Dir.{Dir, with_puts}
-use Rattle.ml_base.specs.declared.names.Name.{Name}
+use Rattle.ml_base.specs.Dir.{Dir}
 use Rattle.ml_base.specs.declared.puts.Put.{Put}
 use Rattle.ml_journal.specs.Records.{record_at}
 use Rattle.ml_journal.specs.Log.{log_puts, laid_over}
-use Rattle.ml_journal.specs.Newest.{with_newest}
 
 -- open records that make this change of a directory, whatever stands behind them
 abbrev pub IsRow : Text → (Dir → Dir) → Type 0
@@ -44,9 +41,3 @@ pub record Lays (log : Text) (change : Dir → Dir) : Type 0 where
 -- the first gate is closed, or last, or there is none
 abbrev pub IsShut : Text → Type 0
 IsShut log = (length log ≤ 1) ⊎ ((gate : ℕ) × (behind : Text) × (log ≡ gate ∷ behind) × (gate ≢ 1))
-
--- records at rest, and the table of their newest puts with those of a txn set in turn
-pub record Grows (log : Text) (end : ℕ) (puts : BTreeMap Name (Option Text)) (txn : List Put) : Type 0 where
-  pub change : Dir → Dir
-  pub rests : Rests log end change
-  pub grown : (dir : Dir) → with_newest puts dir ≡ with_puts (change dir) txn

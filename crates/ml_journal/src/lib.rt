@@ -13,6 +13,7 @@ mod reading;
 mod settle;
 mod spelling;
 mod store;
+mod writer;
 
 pub use adding::LAY;
 pub use errors::{CommitError, OpenError};

@@ -1,12 +1,12 @@
 // The newest put of each file that a log names.
 ghost use Rattle.std.specs.Prelude.{◌≡◌, IsSome, IsTrue, OnOk, OnErr, option_map};
 ghost use Rattle.std.specs.Option.{option_copied};
-ghost use Rattle.ml_base.specs.Dir.{Dir, with_file};
+ghost use Rattle.ml_base.specs.Dir.{Dir, are_files, with_file, with_puts};
 ghost use Rattle.ml_base.specs.Name.{is_file};
 ghost use Rattle.ml_base.specs.declared.names.Name.{Name as TheName};
 ghost use Rattle.ml_journal.specs.Newest.{newest_of, with_newest, Sets};
 
-use ml_base::{Bytes, Name};
+use ml_base::{Bytes, Name, Txn};
 use std::alloc::{AllocError, Global};
 use std::collections::BTreeMap;
 
@@ -40,6 +40,17 @@ impl Newest {
         } else {
             Err(AllocError)
         }
+    }
+
+    /// Sets the puts of a txn in turn. Their bytes are moved. After an error some of them are set.
+    pub(crate) fn set_all(&mut self, txn: Txn) -> Result<(), AllocError>
+        requires { IsTrue (are_files txn) }
+        ensures { OnOk result ((dir : Dir) → with_newest self.new.puts dir ≡ with_puts (with_newest self.old.puts dir) txn) }
+    {
+        for put in txn.into_vec() {
+            self.set(put.name, put.bytes)?;
+        }
+        Ok(())
     }
 
     /// The bytes that the newest put gives a file, of which None is a removal; or None where no put is of it.

@@ -1,60 +1,108 @@
 // Records are written.
 ghost use Rattle.std.specs.Prelude.{◌≡◌, ◌≤◌, ◌<◌, ◌+◌, ◌^◌, ◌++◌, [], ◌∷◌, IsTrue, IfOk, IfSome, OnOk, length};
 ghost use Rattle.std.specs.Fmt.{decimal};
-ghost use Rattle.ml_base.specs.Dir.{are_files};
 ghost use Rattle.ml_base.specs.Netstrings.{ns};
-ghost use Rattle.ml_journal.specs.Records.{spelled_name, spelled_put, spelled_puts, spelled_record};
-ghost use Rattle.ml_journal.specs.Rows.{IsRecord};
+ghost use Rattle.ml_journal.specs.Gathering.{Gathers};
+ghost use Rattle.ml_journal.specs.Handing.{Hands};
+ghost use Rattle.ml_journal.specs.Records.{spelled_head, spelled_name, spelled_put, spelled_puts, spelled_record};
 
+use crate::writer::LogWriter;
 use ml_base::{Bytes, Name, Put, push_netstring, write_number};
+use ml_site::{Site, SiteError};
 use std::alloc::{AllocError, Global};
 
 // A netstring has a length of at most 18 digits.
 const LARGEST: usize = 999_999_999_999_999_999;
 
-/// The record of these puts, each of a file of the table, and a closed gate behind it.
-/// What it takes is reserved at once, and the bytes of each put are copied once.
-pub(crate) fn write_record(alloc: Global, puts: &[Put]) -> Result<Bytes, AllocError>
-    requires { IsTrue (are_files puts.now) }
-    ensures bytes { IfOk result (λ bytes. bytes ≡ spelled_record puts.now ++ 0 ∷ []) }
-    ensures reads { OnOk result (IsRecord (spelled_record puts.now) puts.now) }
+// The length of a record and its colon are shorter, and so is what stands before a put's content.
+const HEAD: usize = 72;
+
+/// Hands the record of puts that take so many bytes to the log from this place on, and a closed gate behind it.
+pub(crate) fn write_record<S: Site>(
+    alloc: Global,
+    site: &mut S,
+    at: u64,
+    puts: &[Put],
+    size: usize,
+) -> Result<(), SiteError>
+    requires size { size ≡ length (spelled_puts puts.now) }
+    requires small { size < 10 ^ 18 }
+    requires low { at < 2 ^ 63 }
+    requires place { IsTrue S.tells_reads → at ≤ length (S.disk site.old).reads.log }
+    ensures { Hands ⟦<S as Site>⟧ result at (spelled_record puts.now ++ 0 ∷ []) site.old site.new }
 {
-    let Some(size) = puts_size(puts) else {
-        return Err(AllocError);
-    };
-    let mut out = Bytes::from_vec(Vec::with_capacity(alloc, size + 21)?);
-    add_digits(&mut out, size as u64)?;
-    out.push(b':')?;
-    add_puts(&mut out, puts)?;
-    out.push(b',')?;
-    out.push(0)?;
-    Ok(out)
+    let mut writer = LogWriter::new(alloc, at, size + HEAD)?;
+    let head = record_head(alloc, size as u64)?;
+    writer.add(alloc, site, head.as_slice())?;
+    add_puts(alloc, site, &mut writer, puts)?;
+    writer.finish(alloc, site)
 }
 
-#[tactic(auto, using(crate::proofs::Spelled::spelled_next))]
-fn add_puts(out: &mut Bytes, puts: &[Put]) -> Result<(), AllocError>
-    ensures { OnOk result (out.new ≡ out.old ++ spelled_puts puts.now) }
+fn add_puts<S: Site>(
+    alloc: Global,
+    site: &mut S,
+    writer: &mut LogWriter,
+    puts: &[Put],
+) -> Result<(), SiteError>
+    requires place { IsTrue S.tells_reads → writer.old.at ≤ length (S.disk site.old).reads.log }
+    requires fits { writer.old.at + length writer.old.gathered + length (spelled_puts puts.now) < 2 ^ 64 }
+    ensures { Gathers ⟦<S as Site>⟧ result (spelled_puts puts.now) writer.old writer.new site.old site.new }
 {
     for put in puts {
-        add_put(out, put)?;
+        add_put(alloc, site, writer, put)?;
     }
     Ok(())
 }
 
-fn add_put(out: &mut Bytes, put: &Put) -> Result<(), AllocError>
-    ensures { OnOk result (out.new ≡ out.old ++ spelled_put put.now) }
+fn add_put<S: Site>(
+    alloc: Global,
+    site: &mut S,
+    writer: &mut LogWriter,
+    put: &Put,
+) -> Result<(), SiteError>
+    requires place { IsTrue S.tells_reads → writer.old.at ≤ length (S.disk site.old).reads.log }
+    requires fits { writer.old.at + length writer.old.gathered + length (spelled_put put.now) < 2 ^ 64 }
+    ensures { Gathers ⟦<S as Site>⟧ result (spelled_put put.now) writer.old writer.new site.old site.new }
 {
+    let head = put_head(alloc, put)?;
+    writer.add(alloc, site, head.as_slice())?;
     match &put.bytes {
         Some(bytes) => {
-            out.push(b'W')?;
-            add_name(out, put.name)?;
-            push_netstring(out, bytes.as_slice())
+            writer.add(alloc, site, bytes.as_slice())?;
+            writer.add(alloc, site, b",")
+        }
+        None => Ok(()),
+    }
+}
+
+// What stands before the puts of a record.
+fn record_head(alloc: Global, size: u64) -> Result<Bytes, AllocError>
+    ensures { IfOk result (λ head. head ≡ decimal size ++ 58 ∷ []) }
+{
+    let mut head = Bytes::with_capacity(alloc, HEAD)?;
+    add_digits(&mut head, size)?;
+    head.push(b':')?;
+    Ok(head)
+}
+
+// What stands before a put's content, or all of one that removes.
+fn put_head(alloc: Global, put: &Put) -> Result<Bytes, AllocError>
+    ensures { IfOk result (λ head. head ≡ spelled_head put.now.name put.now.bytes) }
+{
+    let mut head = Bytes::with_capacity(alloc, HEAD)?;
+    match &put.bytes {
+        Some(bytes) => {
+            head.push(b'W')?;
+            add_name(&mut head, put.name)?;
+            add_digits(&mut head, bytes.len() as u64)?;
+            head.push(b':')?;
         }
         None => {
-            out.push(b'X')?;
-            add_name(out, put.name)
+            head.push(b'X')?;
+            add_name(&mut head, put.name)?;
         }
     }
+    Ok(head)
 }
 
 fn add_name(out: &mut Bytes, name: Name) -> Result<(), AllocError>
@@ -80,9 +128,9 @@ fn add_digits(out: &mut Bytes, number: u64) -> Result<(), AllocError>
     out.extend(&digits[..len])
 }
 
-// How many bytes the puts take in a record, or None where they are more than a netstring may have.
+/// How many bytes the puts take in a record, or None where they are more than a netstring may have.
 #[tactic(auto, using(crate::proofs::Spelled::size_next))]
-fn puts_size(puts: &[Put]) -> Option<usize>
+pub(crate) fn puts_size(puts: &[Put]) -> Option<usize>
     ensures { IfSome result (λ size. (size ≡ length (spelled_puts puts.now)) × (size < 10 ^ 18)) }
 {
     let mut size = 0;
@@ -122,7 +170,8 @@ fn number_size(number: u64) -> usize
     digits_size(digits as u64) + digits + 2
 }
 
-fn digits_size(number: u64) -> usize
+/// How many digits a number has.
+pub(crate) fn digits_size(number: u64) -> usize
     ensures size { result ≡ length (decimal number) }
     ensures small { result ≤ 20 }
 {

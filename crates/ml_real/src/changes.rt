@@ -2,7 +2,7 @@
 use crate::descriptors::{length_of, open_folder, open_to_sync};
 use crate::folder::barred_or;
 use crate::log::{FoundLog, find, new_log, open_log, remove_new_log, rename_new_log};
-use crate::places::{Paths, Place, path_text};
+use crate::places::{Paths, Place, depth_of};
 use ml_base::Name;
 use std::alloc::{AllocError, Global};
 use std::collections::{BTreeMap, BTreeSet};
@@ -163,7 +163,9 @@ impl Changes {
         if self.is_lost {
             return Err(ErrorKind::Other.into());
         }
-        // The files come first: until they are closed there may be no further descriptor for log and folders.
+        // The files come first: until they are closed there may be no further descriptor for log and folders. The log comes before the
+        // folders: where it takes its name anew, a crash behind a folder that was synced before could bring the old one back. Else the
+        // order loses nothing, since no sync is good before all of it is on the disk.
         self.sync_kept_files()?;
         self.sync_closed_files(rt, paths)?;
         self.sync_log(rt, paths, log)?;
@@ -340,18 +342,6 @@ fn renewed(
     settled(new.sync_data(), is_lost)?;
     rename_new_log(rt, paths)?;
     Ok(new)
-}
-
-// How many folders below the list's own stand on the way to a file.
-fn depth_of(name: Name) -> io::Result<u8> {
-    let mut room = [0u8; 48];
-    let mut depth: u8 = 0;
-    for byte in path_text(name, &mut room)? {
-        if *byte == b'/' {
-            depth = depth.saturating_add(1);
-        }
-    }
-    Ok(depth)
 }
 
 // Whether there is a configuration, which comes with the first change that a list's log had.

@@ -4,13 +4,14 @@ use crate::descriptors::{
     lacks_descriptor, length_of, make_folder, open_folder, open_to_read, open_to_write, remove_file,
 };
 use crate::log::LOG;
-use crate::places::{Paths, path_text};
+use crate::places::{Paths, Place, depth_of};
+use memchr::memchr_iter;
 use ml_base::{Bytes, Name};
 use std::alloc::{AllocError, Global};
 use std::fs::File;
+use std::io;
 use std::io::{ErrorKind, Read, Write};
 use std::os::unix::fs::FileExt;
-use std::{io, str};
 
 /// The folder of a list, which is made and locked at its first use. It counts no faults.
 #[derive(Drop)]
@@ -85,11 +86,11 @@ impl<'a> Folder<'a> {
     fn make_above(&mut self) -> io::Result<()> {
         let dir = self.dir;
         let mut is_first = true;
-        for (at, byte) in dir.as_bytes().iter().enumerate() {
-            if *byte != b'/' || at == 0 {
+        for at in memchr_iter(b'/', dir.as_bytes()) {
+            if at == 0 {
                 continue;
             }
-            let Ok(above) = str::from_utf8(&dir.as_bytes()[..at]) else {
+            let Some(above) = dir.get(..at) else {
                 return Err(ErrorKind::InvalidFilename.into());
             };
             if make_folder(self.rt, above)? {
@@ -156,6 +157,19 @@ impl<'a> Folder<'a> {
         }
     }
 
+    /// Whether a file is there, by its metadata.
+    pub fn has(&mut self, name: Name) -> io::Result<bool> {
+        self.ready()?;
+        if self.absent == Some(name) {
+            return Ok(false);
+        }
+        let there = length_of(self.rt, self.paths.file(name)?)?.is_some();
+        if !there {
+            self.absent = Some(name);
+        }
+        Ok(there)
+    }
+
     /// Gives a file these bytes. What is to be synced is noted first, so that want of memory writes nothing.
     pub fn write(&mut self, name: Name, bytes: &[u8]) -> io::Result<()> {
         self.ready()?;
@@ -209,12 +223,8 @@ impl<'a> Folder<'a> {
     }
 
     fn make_folders(&mut self, name: Name) -> io::Result<()> {
-        let mut room = [0u8; 48];
-        let rest = path_text(name, &mut room)?;
-        for (at, byte) in rest.iter().enumerate() {
-            if *byte == b'/' {
-                make_folder(self.rt, self.paths.below(&rest[..at])?)?;
-            }
+        for depth in 1..=depth_of(name)? {
+            make_folder(self.rt, self.paths.folder(Place::toward(name, depth))?)?;
         }
         Ok(())
     }

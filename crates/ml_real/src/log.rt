@@ -53,7 +53,7 @@ pub(crate) fn new_log(rt: &HostRuntime, paths: &mut Paths<'_>, log: &File) -> io
     Ok(new)
 }
 
-/// Gives the new file the log's name.
+/// Gives the new file the log's name. Its bytes are on the disk by then: else a crash could leave the log empty, or half of it.
 pub(crate) fn rename_new_log(rt: &HostRuntime, paths: &mut Paths<'_>) -> io::Result<()> {
     let (new, log) = paths.both(NEW_LOG, LOG)?;
     for _ in 0..u64::MAX {

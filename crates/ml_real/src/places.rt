@@ -1,4 +1,5 @@
 // The folders of a list, and the paths of its files.
+use memchr::memchr_iter;
 use ml_base::{Name, path};
 use std::alloc::{AllocError, Global};
 use std::io::ErrorKind;
@@ -116,8 +117,8 @@ fn set_path(text: &mut String, dir: &str, rest: &[u8]) -> io::Result<()> {
     Ok(())
 }
 
-/// The path of a file below the list's folder. A name outside the table has none.
-pub(crate) fn path_text(name: Name, room: &mut [u8; 48]) -> io::Result<&[u8]> {
+// The path of a file below the list's folder. A name outside the table has none.
+fn path_text(name: Name, room: &mut [u8; 48]) -> io::Result<&[u8]> {
     if !name.is_in_table() {
         return Err(ErrorKind::InvalidInput.into());
     }
@@ -125,19 +126,20 @@ pub(crate) fn path_text(name: Name, room: &mut [u8; 48]) -> io::Result<&[u8]> {
     Ok(&room[..len])
 }
 
+/// How many folders below the list's own stand on the way to a file.
+pub(crate) fn depth_of(name: Name) -> io::Result<u8> {
+    let mut room = [0u8; 48];
+    let depth = memchr_iter(b'/', path_text(name, &mut room)?).count();
+    Ok(u8::try_from(depth).unwrap_or(u8::MAX))
+}
+
 // What stands before the slash at this depth, counted from 1, and a dot at depth 0.
 fn front(rest: &[u8], depth: u8) -> &[u8] {
     if depth == 0 {
         return b".";
     }
-    let mut left = depth;
-    for (at, byte) in rest.iter().enumerate() {
-        if *byte == b'/' {
-            if left <= 1 {
-                return &rest[..at];
-            }
-            left -= 1;
-        }
-    }
-    rest
+    memchr_iter(b'/', rest)
+        .nth(depth as usize - 1)
+        .and_then(|at| rest.get(..at))
+        .unwrap_or(rest)
 }

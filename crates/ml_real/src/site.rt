@@ -136,6 +136,14 @@ impl<'a> Site for RealSite<'a> {
         }
     }
 
+    fn has_file(&mut self, _alloc: Global, name: Name) -> Result<bool, SiteError> {
+        count_call(&mut self.disk_calls);
+        match self.folder.has(name) {
+            Ok(there) => Ok(there),
+            Err(error) => Err(site_error(error, &mut self.disk_faults)),
+        }
+    }
+
     fn write_file(&mut self, _alloc: Global, name: Name, bytes: &[u8]) -> Result<(), SiteError> {
         count_call(&mut self.disk_calls);
         match self.folder.write(name, bytes) {

@@ -1,5 +1,5 @@
 // A disk and an output, as the program sees them.
-ghost use Rattle.std.specs.Prelude.{◌≡◌, ◌≤◌, ◌+◌, ◌++◌, ℕ, Bool, List, Option, Some, None, IsTrue, length, take, IfOk, OnOk, OnErr, IsErrOf};
+ghost use Rattle.std.specs.Prelude.{◌≡◌, ◌≤◌, ◌+◌, ◌++◌, ℕ, Bool, List, Option, Some, None, IsTrue, length, take, IfOk, OnOk, OnErr, IsErrOf, is_some};
 ghost use Rattle.ml_base.specs.Name.{is_file};
 ghost use Rattle.ml_base.specs.declared.names.Name.{Name};
 ghost use Rattle.ml_site.specs.declared.site.SiteError.TheVariants.{Memory, Failed as FailedCall};
@@ -120,6 +120,21 @@ pub trait Site {
         ensures keeps { OnDisk tells_all disk output moment left_since disk_faults output_faults disk_calls self.old self.new }
         ensures numbers { SameNumbers tells_all syncs log_bytes self.old self.new }
         ensures cause { IsErrOf result FailedCall → Rose (disk_faults self.old) (disk_faults self.new) };
+
+    /// Whether a file other than the log is there. Where a type can tell it without the file's bytes, it has a body of its own.
+    fn has_file(&mut self, alloc: Global, name: Name) -> Result<bool, SiteError>
+        requires { IsTrue (is_file name) }
+        ensures there { IsTrue tells_reads → IfOk result (λ there. there ≡ is_some ((disk self.old).reads.files name)) }
+        ensures same { SameDisk tells_reads tells_all disk self.old self.new }
+        ensures keeps { OnDisk tells_all disk output moment left_since disk_faults output_faults disk_calls self.old self.new }
+        ensures numbers { SameNumbers tells_all syncs log_bytes self.old self.new }
+        ensures cause { IsErrOf result FailedCall → Rose (disk_faults self.old) (disk_faults self.new) }
+    {
+        match self.read_file(alloc, name) {
+            Ok(found) => Ok(found.is_some()),
+            Err(error) => Err(error),
+        }
+    }
 
     /// Gives a file other than the log these bytes, in place of any that it had.
     /// The file is pending then, also where the call failed, and what reads give differs there at most.

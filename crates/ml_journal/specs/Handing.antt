@@ -1,0 +1,32 @@
+-- Bytes that are handed to the log in some writes, each behind the one before.
+use Rattle.std.specs.Prelude.{◌≡◌, ◌≤◌, ◌+◌, ℕ, IsTrue, IsErrOf, List, [], ◌∷◌, length, Result, OnOk}
+use Rattle.ml_base.specs.Bytes.{Text}
+use Rattle.ml_site.specs.Disk.{Contents, Part, Range, Cut, File, Disk, Changes, Elapses, log_with}
+use Rattle.ml_site.specs.Moments.{Within}
+use Rattle.ml_site.specs.declared.site.SiteError.{SiteError}
+use Rattle.ml_site.specs.declared.site.SiteError.TheVariants.{Failed as FailedCall}
+use Rattle.ml_site.specs.declared.site.Site.{Ghosts}
+use Rattle.ml_journal.specs.Calls.{Keeps}
+
+-- each part is a range of the log within this one
+abbrev pub AreWithin : ℕ → ℕ → List Part → Type 0
+AreWithin at size [] = Unit {0}
+AreWithin at size (Range from n ∷ parts) = (at ≤ from) × (from + n ≤ at + size) × AreWithin at size parts
+AreWithin at size (Cut n ∷ parts) = ⊥
+AreWithin at size (File name ∷ parts) = ⊥
+
+-- parts of this range alone are pending, over these contents
+pub record IsPendingIn (at size : ℕ) (old : Contents) (disk : Disk) : Type 0 where
+  pub settled : disk.settled ≡ old
+  pub pending : AreWithin at size disk.pending
+
+-- A text was handed to the log from this place on, in some writes. After an error nothing but its range differs. Where parts of a
+-- range alone were pending in which the text lies, it is so behind it too, and a crash in its course leaves nothing else.
+pub record Hands {S : Type 0} (told : Ghosts S) (result : Result (Unit {0}) SiteError) (at : ℕ) (text : Text) (old new : S) : Type 0 where
+  pub reads : IsTrue told.tells_reads → Changes result (Range at (length text)) (log_with (told.disk old).reads at text) (told.disk old).reads (told.disk new).reads
+  pub pends : IsTrue told.tells_all → (from size : ℕ) (base : Contents) → from ≤ at → at + length text ≤ from + size
+      → IsPendingIn from size base (told.disk old) → IsPendingIn from size base (told.disk new)
+  pub time : IsTrue told.tells_all → (from size : ℕ) (base : Contents) → from ≤ at → at + length text ≤ from + size
+      → IsPendingIn from size base (told.disk old) → Elapses (told.moment old) (told.moment new) (told.left_since old) (told.left_since new) (Within base (Range from size ∷ []) (told.output old))
+  pub log_bytes : IsTrue told.tells_all → OnOk result (told.log_bytes new ≡ told.log_bytes old + length text)
+  pub keeps : Keeps told 0 (IsErrOf result FailedCall) old new
