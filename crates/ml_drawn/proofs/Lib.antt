@@ -3,3 +3,4 @@ pub mod Drawings
 pub mod Stood
 pub mod Cutting
 pub mod Rising
+pub mod Numbered

@@ -38,6 +38,11 @@ abbrev pub IsNextThere : Dir → Series → ℕ → ℕ → Option Found → Typ
 IsNextThere dir series from next None = NoneThere dir series from next
 IsNextThere dir series from next (Some found) = IsFirst dir series from next found
 
+-- the number of the first file under the numbers from one on and below another, or None where none is there
+abbrev pub IsNextNumber : Dir → Series → ℕ → ℕ → Option ℕ → Type 0
+IsNextNumber dir series from next None = NoneThere dir series from next
+IsNextNumber dir series from next (Some n) = (bytes : Text) × IsFirst dir series from next (record { number = n; bytes = bytes })
+
 -- the put of a counter
 abbrev pub counter_put : Series → ℕ → ℕ → Put
 counter_put series low next = record { name = counter_name series; bytes = Some (counter_text low next) }

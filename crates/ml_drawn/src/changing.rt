@@ -11,7 +11,7 @@ ghost use Rattle.ml_drawn.specs.Answers.{IsNoCounter, IsDrawing, IsTaking, IsMov
 ghost use Rattle.ml_drawn.specs.Answers as answers;
 
 use crate::counter::{counter_of, write_counter};
-use crate::{Series, next_there};
+use crate::{Series, next_number};
 use ml_base::{Bytes, Files, LAST_DRAWN, PartError, Put, Txn};
 use std::alloc::{AllocError, Global};
 
@@ -85,8 +85,8 @@ fn moved<F: Files>(
     ensures named { IfErr result (λ e. OnDamaged e (λ _. ⊥)) }
     ensures reads { IsReading ⟦<F as Files>⟧ files.old files.new result }
 {
-    match next_there(alloc, files, series, low + 1, next)? {
-        Some(found) => Ok(counter_put(alloc, series, found.number, next)?),
+    match next_number(alloc, files, series, low + 1, next)? {
+        Some(number) => Ok(counter_put(alloc, series, number, next)?),
         None => Ok(counter_put(alloc, series, next, next)?),
     }
 }

@@ -8,5 +8,5 @@ mod series;
 
 pub use changing::{draw, take_out};
 pub use counter::{Counter, counter_of};
-pub use search::{Found, file_of, next_there};
+pub use search::{Found, file_of, is_there, next_number, next_there};
 pub use series::Series;

@@ -1,11 +1,11 @@
 // Which numbers of a series have a file.
-ghost use Rattle.std.specs.Prelude.{◌≡◌, ◌≤◌, ◌<◌, ℕ, Some, None, IsTrue, IfOk, IfSome, IsErrOf, if◌then◌else◌};
+ghost use Rattle.std.specs.Prelude.{◌≡◌, ◌≤◌, ◌<◌, ℕ, Some, None, true, is_some, IsTrue, IfOk, IfSome, IsErrOf, if◌then◌else◌};
 ghost use Rattle.ml_base.specs.Faults.{Rose};
 ghost use Rattle.ml_base.specs.ReadFiles.{AreKept};
 ghost use Rattle.ml_base.specs.Ranges as ranges;
 ghost use Rattle.ml_base.specs.declared.files.FilesError.TheVariants.{Fault};
 ghost use Rattle.ml_drawn.specs.Names.{thing_name};
-ghost use Rattle.ml_drawn.specs.Answers.{IsNextThere};
+ghost use Rattle.ml_drawn.specs.Answers.{IsNextNumber, IsNextThere};
 
 use crate::Series;
 use ml_base::{Bytes, Files, FilesError, LAST_DRAWN, is_drawn};
@@ -34,6 +34,51 @@ pub fn file_of<F: Files>(
         return Ok(None);
     }
     files.get(alloc, series.name(n))
+}
+
+/// Whether something is there under a number. Nothing is under a number that is never drawn. Where the files can tell it without, no byte of
+/// it is read.
+pub fn is_there<F: Files>(
+    alloc: Global,
+    files: &mut F,
+    series: Series,
+    n: u64,
+) -> Result<bool, FilesError>
+    ensures value { IsTrue F.tells → IfOk result (λ there. there ≡ is_some (if ranges.is_drawn n then F.map files.old (thing_name series n) else None)) }
+    ensures drawn { IfOk result (λ there. there ≡ true → IsTrue (ranges.is_drawn n)) }
+    ensures are_kept { AreKept ⟦<F as Files>⟧ files.old files.new }
+    ensures cause { IsErrOf result Fault → Rose (F.faults files.old) (F.faults files.new) }
+{
+    if !is_drawn(n) {
+        return Ok(false);
+    }
+    files.has(alloc, series.name(n))
+}
+
+/// The first number from `from` on, below `next`, under which a file is there, or None where none is. It looks at one number after the
+/// other, and reads no file where the files can tell without that one is there.
+pub fn next_number<F: Files>(
+    alloc: Global,
+    files: &mut F,
+    series: Series,
+    from: u64,
+    next: u64,
+) -> Result<Option<u64>, FilesError>
+    requires { 1 ≤ from }
+    ensures value { IsTrue F.tells → IfOk result (IsNextNumber (F.map files.old) series from next) }
+    ensures ranges { IfOk result (λ found. IfSome found (λ n. (from ≤ n) × (n < next) × IsTrue (ranges.is_drawn n))) }
+    ensures are_kept { AreKept ⟦<F as Files>⟧ files.old files.new }
+    ensures cause { IsErrOf result Fault → Rose (F.faults files.old) (F.faults files.new) }
+{
+    let end = next.min(LAST_DRAWN + 1);
+    let mut number = from;
+    while number < end {
+        if is_there(alloc, files, series, number)? {
+            return Ok(Some(number));
+        }
+        number += 1;
+    }
+    Ok(None)
 }
 
 /// The first number from `from` on, below `next`, under which a file is there, with its bytes; or None where none is.

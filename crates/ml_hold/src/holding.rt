@@ -1,5 +1,5 @@
 // Posts that are held, looked at and taken out.
-ghost use Rattle.std.specs.Prelude.{◌≡◌, ◌≤◌, true, ℕ, IsTrue, IfOk, IfErr, IsErrOf, IfSome, length, ◌⊎◌};
+ghost use Rattle.std.specs.Prelude.{◌≡◌, ◌≤◌, true, ℕ, Some, IsTrue, IfOk, IfErr, IsErrOf, IfSome, length, ◌⊎◌};
 ghost use Rattle.ml_base.specs.Dir.{with_puts, touches_only};
 ghost use Rattle.ml_base.specs.Drawn.{IsCounter};
 ghost use Rattle.ml_base.specs.Name.{is_file};
@@ -8,9 +8,10 @@ ghost use Rattle.ml_base.specs.PartErrors.{OnDamaged};
 ghost use Rattle.ml_base.specs.ReadFiles.{IsReading, NamesDamaged};
 ghost use Rattle.ml_drawn.specs.declared.series.Series.TheVariants.{Tickets};
 ghost use Rattle.ml_drawn.specs.Names.{is_of_series};
-ghost use Rattle.ml_drawn.specs.Answers.{IsDrawing};
+ghost use Rattle.ml_drawn.specs.Answers.{IsDrawing, IsTaking};
 ghost use Rattle.ml_hold.specs.Held.{Pending, IsPending, held_text, held_post};
 ghost use Rattle.ml_hold.specs.Held as spec;
+ghost use Rattle.ml_hold.specs.declared.posts.Held.{Held as TheHeld};
 ghost use Rattle.ml_hold.specs.Answers.{Breaks, LooksBy, TakesBy, IsPostName, IsTaken, IsCountedPending, tickets_name, puts_of};
 
 use crate::Held;
@@ -76,6 +77,21 @@ pub fn take<F: Files>(
     };
     let txn = take_out(alloc, files, Series::Tickets, ticket)?;
     Ok(Some((held, txn)))
+}
+
+/// Takes out the post of a ticket that was looked at: the puts that do it. It doesn't read the post again. Where it is the lowest ticket, it
+/// looks for the next one that is there, one file after the other.
+pub fn release<F: Files>(alloc: Global, files: &mut F, ticket: u64) -> Result<Txn, PartError>
+    requires { IsTrue (is_drawn ticket) }
+    ensures value { IsTrue F.tells → IfOk result (λ txn. (pending : Pending) (held : TheHeld) → IsPending (F.map files.old) pending → held_post ticket pending ≡ Some held → IsPending (with_puts (F.map files.old) txn) (spec.without_ticket ticket pending)) }
+    ensures read { IsTrue F.tells → IfOk result (IsTaking (F.map files.old) Tickets ticket) }
+    ensures others { IfOk result (λ txn. touches_only (is_of_series Tickets) txn ≡ true) }
+    ensures files { IfOk result (λ txn. touches_only is_file txn ≡ true) }
+    ensures names { NamesDamaged ⟦<F as Files>⟧ (λ name. name ≡ tickets_name) (Breaks (F.map files.old)) result }
+    ensures sound { IsTrue F.tells → (pending : Pending) → IsPending (F.map files.old) pending → IfErr result (λ e. OnDamaged e (λ _. ⊥)) }
+    ensures reads { IsReading ⟦<F as Files>⟧ files.old files.new result }
+{
+    take_out(alloc, files, Series::Tickets, ticket)
 }
 
 /// The next ticket.

@@ -52,19 +52,16 @@ pub(crate) fn parts_of(text: &[u8]) -> Option<Parts<'_>>
     })
 }
 
-// The held post of these parts. Their sender is an address, so nothing but memory can be wanting.
+// The held post of these parts.
 pub(crate) fn held_of(alloc: Global, parts: Parts<'_>) -> Result<Held, AllocError>
     requires { IsHeld (told parts) }
     ensures { IfOk result (λ held. held ≡ told parts.entry) }
 {
-    match Address::parse(alloc, parts.sender) {
-        Ok(sender) => Ok(Held {
-            moment: parts.moment,
-            sender,
-            message: Bytes::from_slice(alloc, parts.message)?,
-        }),
-        Err(_) => Err(AllocError),
-    }
+    Ok(Held {
+        moment: parts.moment,
+        sender: Address::from_kept(alloc, parts.sender)?,
+        message: Bytes::from_slice(alloc, parts.message)?,
+    })
 }
 
 // The most bytes that the text of a held post has.

@@ -8,10 +8,11 @@ ghost use Rattle.ml_queue.specs.Answers.{BreaksCounted, IsCountedQueue, IsQueueN
 
 use crate::reading::read_out;
 use ml_base::{Files, Numbers, PartError};
-use ml_drawn::{Series, counter_of, next_there};
+use ml_drawn::{Series, counter_of, next_number, next_there};
 use std::alloc::Global;
 
-/// All ids, in order. It looks at one id after the other from the lowest on, and reads no text.
+/// All ids, in order. It looks at one id after the other from the lowest on, and reads no entry where the files can tell without that one is
+/// there.
 pub fn ids<F: Files>(alloc: Global, files: &mut F) -> Result<Numbers, PartError>
     ensures value { IsTrue F.tells → IfOk result (λ ids. (queue : Queue) → IsCountedQueue (F.map files.old) queue → ids ≡ spec.ids queue) }
     ensures names { NamesDamaged ⟦<F as Files>⟧ (λ name. name ≡ ids_name) (BreaksCounted (F.map files.old)) result }
@@ -21,9 +22,9 @@ pub fn ids<F: Files>(alloc: Global, files: &mut F) -> Result<Numbers, PartError>
     let counter = counter_of(alloc, files, Series::Ids)?;
     let mut ids = Numbers::new(alloc);
     let mut from = counter.low;
-    while let Some(found) = next_there(alloc, files, Series::Ids, from, counter.next)? {
-        ids.push(found.number)?;
-        from = found.number + 1;
+    while let Some(id) = next_number(alloc, files, Series::Ids, from, counter.next)? {
+        ids.push(id)?;
+        from = id + 1;
     }
     Ok(ids)
 }

@@ -8,17 +8,6 @@ ghost use Rattle.ml_queue.specs.Reading.{AreRecipients};
 use ml_base::{Address, AddressList, Bytes, is_below, is_kept, push_netstring, split_netstring};
 use std::alloc::{AllocError, Global};
 
-// The address of a text that is one as it is kept, so that nothing but memory can be wanting.
-fn address_of(alloc: Global, text: &[u8]) -> Result<Address, AllocError>
-    requires { IsAddress text.now }
-    ensures { IfOk result (λ address. address ≡ text.now) }
-{
-    match Address::parse(alloc, text) {
-        Ok(address) => Ok(address),
-        Err(_) => Err(AllocError),
-    }
-}
-
 // The recipients that a text spells, or None where it spells none in ascending order of key.
 pub(crate) fn recipients_of(alloc: Global, text: &[u8]) -> Result<Option<AddressList>, AllocError>
     ensures { IfOk result (AreRecipients text.now) }
@@ -36,7 +25,7 @@ pub(crate) fn recipients_of(alloc: Global, text: &[u8]) -> Result<Option<Address
         if !is_below(last, who) {
             return Ok(None);
         }
-        out.push(address_of(alloc, who)?)?;
+        out.push(Address::from_kept(alloc, who)?)?;
         last = who;
         rest = more;
     }

@@ -1,7 +1,7 @@
 use Rattle.std.proofs.Common.{arith, sym, ap, ◌∙◌, ◌+◌, ◌≤◌, ◌<◌, ◌++◌, List, ℕ, append-nil, IsTrue}
 use Rattle.ml_base.specs.Ranges.{is_drawn}
 use Rattle.ml_drawn.proofs.Drawings.{from_on}
-use Rattle.ml_queue.proofs.Walked.{numbers, first_at, none_at, some_is, ids_begin, ids_more, ids_end}
+use Rattle.ml_queue.proofs.Walked.{numbers, first_number, none_number, some_is, ids_begin, ids_more, ids_end}
 use Rattle.ml_queue.proofs.listing.ids.Goals as goal
 
 pub loop-ids-init : goal.loop-ids-init
@@ -19,20 +19,22 @@ loop-ids-preserved g c =
     let before = c.loop-ids.invariant in
     let up = before.up in
     let later = before.are_kept.later in
-    let next = c.in_ok-found.ensures in
+    let next = c.in_ok-id.ensures in
     let more = next.are_kept.later in
-    let range = some_is c.in_ok-found.field-0 c.in-Some.found (λ f. (c.loop-ids.from ≤ f.number) × (f.number < c.in_ok-counter.counter.next) × IsTrue (is_drawn f.number)) c.in-Some.is next.ranges in
+    let id = c.in-Some.id in
+    let range = some_is c.in_ok-id.field-0 id (λ n. (c.loop-ids.from ≤ n) × (n < c.in_ok-counter.counter.next) × IsTrue (is_drawn n)) c.in-Some.is next.ranges in
     let onward = range.0 in
     let below = range.1 in
     record {
-      are_kept = record { kept = g.met.F.Files.kept_then c.args.files.now c.loop-ids.files c.next_there.new.files before.are_kept.kept next.are_kept.kept; later = omega (arith, later, more) };
+      are_kept = record { kept = g.met.F.Files.kept_then c.args.files.now c.loop-ids.files c.next_number.new.files before.are_kept.kept next.are_kept.kept; later = omega (arith, later, more) };
       up = omega (arith, up, onward);
       within = omega (arith, below);
       value = λ tells queue is.
+          let dir = g.F.Files.map c.args.files.now in
           let same = g.met.F.Files.kept_map c.args.files.now c.loop-ids.files tells before.are_kept.kept in
-          let first = first_at (g.F.Files.map c.args.files.now) (g.F.Files.map c.loop-ids.files) c.loop-ids.from c.in_ok-counter.counter.next c.in_ok-found.field-0 c.in-Some.found same (next.value tells) c.in-Some.is in
-          ap (λ (t : List ℕ). t ++ numbers (from_on (c.in-Some.found.number + 1) queue.all)) c.in_ok-push.ensures.ok
-          ∙ sym (ids_more (g.F.Files.map c.args.files.now) c.in_ok-counter.counter.low c.in_ok-counter.counter.next c.loop-ids.from c.in-Some.found c.loop-ids.ids queue (c.in_ok-counter.ensures.value tells) is up first)
+          let first = first_number dir (g.F.Files.map c.loop-ids.files) c.loop-ids.from c.in_ok-counter.counter.next c.in_ok-id.field-0 id same (next.value tells) c.in-Some.is in
+          ap (λ (t : List ℕ). t ++ numbers (from_on (id + 1) queue.all)) c.in_ok-push.ensures.ok
+          ∙ sym (ids_more dir c.in_ok-counter.counter.low c.in_ok-counter.counter.next c.loop-ids.from (record { number = id; bytes = first.0 }) c.loop-ids.ids queue (c.in_ok-counter.ensures.value tells) is up first.1)
           ∙ before.value tells queue is;
     }
 
@@ -40,7 +42,7 @@ pub returns-clause-value : goal.returns-clause-value
 returns-clause-value g c tells queue is =
     let before = c.loop-ids.invariant in
     let same = g.met.F.Files.kept_map c.args.files.now c.loop-ids.files tells before.are_kept.kept in
-    let none = none_at (g.F.Files.map c.args.files.now) (g.F.Files.map c.loop-ids.files) c.loop-ids.from c.in_ok-counter.counter.next c.in_ok-found.field-0 same (c.in_ok-found.ensures.value tells) c.in_default.is in
+    let none = none_number (g.F.Files.map c.args.files.now) (g.F.Files.map c.loop-ids.files) c.loop-ids.from c.in_ok-counter.counter.next c.in_ok-id.field-0 same (c.in_ok-id.ensures.value tells) c.in_default.is in
     sym (append-nil c.loop-ids.ids)
     ∙ ap (λ (t : List ℕ). c.loop-ids.ids ++ t) (sym (ids_end (g.F.Files.map c.args.files.now) c.in_ok-counter.counter.low c.in_ok-counter.counter.next c.loop-ids.from queue (c.in_ok-counter.ensures.value tells) is none))
     ∙ before.value tells queue is
