@@ -1,11 +1,11 @@
 -- Which files an answer about numbered posts is read from.
-use Rattle.std.specs.Prelude.{◌≡◌, ◌≤◌, ◌/◌, ◌⊎◌, ℕ, List}
+use Rattle.std.specs.Prelude.{◌≡◌, ◌<◌, ◌≤◌, ◌+◌, ◌/◌, ◌⊎◌, ℕ, List}
 use Rattle.std.specs.List.{IsAmong}
 use Rattle.ml_base.specs.Bytes.{Text}
 use Rattle.ml_base.specs.Dir.{Dir}
 use Rattle.ml_base.specs.declared.names.Name.{Name}
 use Rattle.ml_archive.specs.Answers.{IsKeyByFiles, IsPostName, IsRowByFiles}
-use Rattle.ml_archive.specs.Archive.{index_name, number_name}
+use Rattle.ml_archive.specs.Archive.{IsNumberFile, index_name, number_name}
 use Rattle.ml_archive.specs.Threads.{thread_name, thread_place}
 
 -- a row of posts: the file that names them, and the index of each one's group
@@ -33,3 +33,8 @@ pub record IsOfSubject (dir : Dir) (prefix : Text) (n m : ℕ) : Type 0 where
 abbrev pub IsOfThread : Dir → Text → ℕ → Name → Type 0
 IsOfThread dir prefix n name =
     IsPostName n name ⊎ (((key : Text) × IsKeyByFiles dir prefix n key × (name ≡ thread_name (thread_place key))) ⊎ ((m : ℕ) × IsOfSubject dir prefix n m × (m ≤ 99_999_999) × (name ≡ index_name (m / 100))))
+
+-- a post of a subject key that is put last: the number of posts, the index of the next number's group, and the one thread file of the key
+abbrev pub IsOfNext : Dir → Text → Name → Type 0
+IsOfNext dir key name =
+    (name ≡ number_name) ⊎ (((count : ℕ) × IsNumberFile (dir number_name) count × (count < 99_999_999) × (name ≡ index_name ((count + 1) / 100))) ⊎ (name ≡ thread_name (thread_place key)))

@@ -1,5 +1,5 @@
 -- Numbers that are added under keys.
-use Rattle.std.proofs.Common.{◌≡◌, ◌≤◌, ◌+◌, ℕ, Bool, true, false, cond, List, [], ◌∷◌, ◌++◌, length, Option, Some, None, refl, sym, ap, ap₂, ◌∙◌, arith, append-nil}
+use Rattle.std.proofs.Common.{◌≡◌, ◌≤◌, ◌+◌, ℕ, Bool, true, false, cond, List, [], ◌∷◌, ◌++◌, length, Option, Some, None, refl, sym, ap, ap₂, ◌∙◌, subst, arith, append-nil}
 use Rattle.std.specs.Prelude.{unwrap_or, Vec}
 use Rattle.std.specs.BTreeMap.{insert_entry}
 use Rattle.std.specs.Map.{lookup, remove_entry}
@@ -17,7 +17,8 @@ use Rattle.ml_base.proofs.SortedLaws.{same_bytes}
 use Rattle.ml_archive.specs.Subjects.{subject_key}
 use Rattle.ml_archive.specs.declared.posts.Entry.{Entry}
 use Rattle.ml_archive_audit.specs.Counted.{first_of}
-use Rattle.ml_archive_audit.specs.Found.{AreKeyedBelow, IsWhole, Keys, joined, key_numbers, numbers_at}
+use Rattle.ml_archive_audit.specs.Found.{AreKeyedBelow, HasPlace, IsWhole, Keys, joined, key_numbers, numbers_at}
+use Rattle.ml_archive_audit.specs.declared.keys.Places.{Places}
 use Rattle.ml_archive_audit.proofs.Sized.{begins, more_entries}
 
 abbrev Pairs : Type 0
@@ -121,11 +122,19 @@ joined_twice [] ys = refl
 joined_twice (x ∷ xs) [] = ap (λ (t : List ℕ). Some (x ∷ t)) (sym (append-nil xs))
 joined_twice (x ∷ xs) (y ∷ ys) = refl
 
-pub keyed_more : (dir : Dir) (prefix : Text) (count g first : ℕ) (keys new : Keys) (entries slice : List Entry) → first_of g ≤ count → AreKeyedBelow dir prefix count g keys → IsWhole dir count g entries → slice ≡ entries → first ≡ first_of g
-    → ((k : Text) → numbers_at k new ≡ joined (numbers_at k keys) (key_numbers prefix k first slice)) → AreKeyedBelow dir prefix count (g + 1) new
-keyed_more dir prefix count g first keys new entries slice there (es, are, keyed) whole same begun more = (
+-- a key whose file is none of these is none of theirs
+pub apart : (places : Places) (key k : Text) → ¬ HasPlace places key → HasPlace places k → bytes_eq key k ≡ false
+apart places key k out inside = go (bytes_eq key k) refl
+  where
+    go : (t : Bool) → bytes_eq key k ≡ t → bytes_eq key k ≡ false
+    go false e = e
+    go true e = absurd (out (subst (λ (t : Text). HasPlace places t) (sym ((bytes_eq-Decides key k).0 e)) inside))
+
+pub keyed_more : (dir : Dir) (prefix : Text) (places : Places) (count g first : ℕ) (keys new : Keys) (entries slice : List Entry) → first_of g ≤ count → AreKeyedBelow dir prefix places count g keys → IsWhole dir count g entries → slice ≡ entries → first ≡ first_of g
+    → ((k : Text) → HasPlace places k → numbers_at k new ≡ joined (numbers_at k keys) (key_numbers prefix k first slice)) → AreKeyedBelow dir prefix places count (g + 1) new
+keyed_more dir prefix places count g first keys new entries slice there (es, are, keyed) whole same begun more = (
   es ++ entries,
   more_entries dir count g es entries there are whole,
-  λ k. more k ∙ ap₂ (λ (o : Option (List ℕ)) (ns : List ℕ). joined o ns) (keyed k) (ap₂ (λ (n : ℕ) (xs : List Entry). key_numbers prefix k n xs) begun same)
+  λ k inside. more k inside ∙ ap₂ (λ (o : Option (List ℕ)) (ns : List ℕ). joined o ns) (keyed k inside) (ap₂ (λ (n : ℕ) (xs : List Entry). key_numbers prefix k n xs) begun same)
       ∙ joined_twice (key_numbers prefix k 1 es) (key_numbers prefix k (first_of g) entries) ∙ ap (joined None) (sym (numbers_on prefix k 1 (first_of g) es entries (begins dir count g es entries there are whole))),
 )

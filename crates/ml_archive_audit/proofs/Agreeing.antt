@@ -11,18 +11,21 @@ use Rattle.ml_base.specs.declared.names.Name.{Name}
 use Rattle.ml_archive.specs.Answers.{IsOtherSize}
 use Rattle.ml_archive.specs.Archive.{ArePosts, IsIndexFile, IsNumberFile, index_name, number_name, post_name}
 use Rattle.ml_archive.specs.Posts.{Numbered, entry, index_of, group, numbers, of_key, post_at}
-use Rattle.ml_archive.specs.Threads.{IsArchive, numbers_under, thread_name, thread_place}
+use Rattle.ml_archive.specs.Threads.{IsArchive, IsThreadFile, numbers_under, thread_name, thread_place}
+use Rattle.ml_archive.specs.declared.posts.Thread.{Thread}
 use Rattle.ml_archive.specs.declared.posts.Entry.{Entry}
 use Rattle.ml_archive.specs.declared.posts.Post.{Post}
 use Rattle.ml_archive.proofs.ByFiles.{IsOne, filtered_ones}
 use Rattle.ml_archive.proofs.Exact.{count_one, index_one}
 use Rattle.ml_archive.proofs.Looking.{group_in_table}
 use Rattle.ml_archive.proofs.Standing.{in_table, posts_one}
-use Rattle.ml_archive_audit.specs.Breaks.{Breaks, HasAll, IsBadGroup}
+use Rattle.ml_archive_audit.specs.Breaks.{Breaks, HasAll, HasThreads, IsBadGroup}
 use Rattle.ml_archive_audit.specs.Counted.{AreCountedPosts, IsCountedArchive, first_of, up_to}
-use Rattle.ml_archive_audit.specs.Found.{AreKeyedBelow, AreOrdered, HasOtherText, Keys, groups_of, text_at, threads_at}
+use Rattle.ml_archive_audit.specs.declared.keys.Places.{Places}
+use Rattle.ml_archive_audit.specs.Found.{AreEntries, AreKeyedBelow, AreOrdered, ArePosted, HasOtherText, IsPlace, Keys, groups_of, text_at, threads_at}
 use Rattle.ml_archive_audit.proofs.Keyed.{no_other, thread_file, under_keys}
-use Rattle.ml_archive_audit.proofs.Posted.{index_full, index_none, keys_made, kept_index, kept_post, no_index, past_index, past_post, post_past, posts_filed, posts_long, posts_of, total}
+use Rattle.ml_archive_audit.proofs.Sized.{all_entries}
+use Rattle.ml_archive_audit.proofs.Posted.{group_there, index_full, index_none, keys_made, kept_index, kept_post, no_index, past_index, past_post, post_past, posts_filed, posts_long, posts_of, total}
 
 -- an archive that stands whole stands up to its number
 pub whole_counted : (dir : Dir) (prefix : Text) (posts : List Post) → IsArchive dir prefix posts → IsCountedArchive dir prefix posts
@@ -114,28 +117,64 @@ no_breaks dir prefix posts is name (inr (inr (n, less, named, (others, are, none
     none ((is.threaded).threads n) ((is.threaded).files n less)
     (λ k place. ap (λ (m : ℕ). numbers_under k ((is.threaded).threads m)) (sym place) ∙ (is.threaded).joined k ∙ ap (λ (ps : List Post). numbers (of_key prefix k ps)) (sym same))
 
--- what an audit finds
-module _ (dir : Dir) (prefix : Text) (count : ℕ) (keys : Keys) (counted : IsNumberFile (dir number_name) count) (below : AreKeyedBelow dir prefix count (groups_of count) keys) (ordered : AreOrdered keys) where
+-- what an audit finds of a few thread files
+module _ (dir : Dir) (prefix : Text) (count : ℕ) (places : Places) (keys : Keys) (counted : IsNumberFile (dir number_name) count) (below : AreKeyedBelow dir prefix places count (groups_of count) keys) (ordered : AreOrdered keys) where
   few_entries : length below.0 ≤ 99_999_999
   few_entries = let same = total dir count below.0 counted below.1 in let long = posts_long dir 1 below.0 in let small = counted.few in omega (arith, same, long, small)
 
-  pub all_right : ((n : ℕ) → n < 256 → unwrap_or (dir (thread_name n)) [] ≡ text_at n keys.entries) → (posts : List Post) × IsCountedArchive dir prefix posts
-  all_right right = (
+  pub right_text : (n : ℕ) → IsPlace places n → unwrap_or (dir (thread_name n)) [] ≡ text_at n keys.entries → HasThreads dir prefix n
+  right_text n inside right = (
     posts_of dir 1 below.0,
+    posts_filed dir count below.0 counted below.1,
+    (
+      threads_at n keys.entries,
+      thread_file prefix below.0 places keys (below.1).numbered few_entries below.2 ordered n (dir (thread_name n)) inside right,
+      λ k place. under_keys prefix below.0 places keys (below.1).numbered few_entries below.2 ordered n k inside place ∙ keys_made dir prefix k 1 below.0,
+    ),
+  )
+
+  pub other_text : places.to ≤ 256 → (name : Name) → HasOtherText dir places keys name → Breaks dir prefix name
+  other_text all name (n, inside, named, other) = inr (inr (
+    n,
+    (let up = inside.1 in omega (arith, up, all)),
+    named,
+    (posts_of dir 1 below.0, posts_filed dir count below.0 counted below.1, no_other prefix below.0 places keys (below.1).numbered few_entries below.2 ordered dir n (dir (thread_name n)) inside other),
+  ))
+
+-- posts whose groups are whole and whose thread files are right are an archive
+module _ (dir : Dir) (prefix : Text) (count : ℕ) (are : ArePosted dir count) (right : (n : ℕ) → n < 256 → HasThreads dir prefix n) where
+  abbrev entries : (es : List Entry) × AreEntries dir count (groups_of count) es
+  entries = all_entries dir count (groups_of count) (λ g less. group_there count g (groups_of count) refl less) are.groups
+
+  abbrev posts : List Post
+  posts = posts_of dir 1 entries.0
+
+  filed : AreCountedPosts dir posts
+  filed = posts_filed dir count entries.0 are.counted entries.1
+
+  file_at : (n : ℕ) → ((n < 256) ⊎ (256 ≤ n)) → List Thread
+  file_at n (inl less) = (right n less).2.0
+  file_at n (inr up) = []
+
+  there : (n : ℕ) (o : (n < 256) ⊎ (256 ≤ n)) → n < 256 → IsThreadFile n (dir (thread_name n)) (file_at n o)
+  unfolding file_at
+  there n (inl less) small = (right n less).2.1
+  there n (inr up) small = absurd (omega (arith, up, small))
+
+  under : (n : ℕ) (o : (n < 256) ⊎ (256 ≤ n)) (k : Text) → n < 256 → thread_place k ≡ n → numbers_under k (file_at n o) ≡ numbers (of_key prefix k posts)
+  unfolding file_at
+  under n (inl less) k small place = (right n less).2.2 k place ∙ ap (λ (ps : List Post). numbers (of_key prefix k ps)) (same_posts dir posts filed (right n less).0 (right n less).1)
+  under n (inr up) k small place = absurd (omega (arith, up, small))
+
+  pub all_right : (posts : List Post) × IsCountedArchive dir prefix posts
+  all_right = (
+    posts,
     record {
-      filed = posts_filed dir count below.0 counted below.1;
+      filed = filed;
       threaded = record {
-        threads = λ n. threads_at n keys.entries;
-        files = λ n less. thread_file prefix below.0 keys (below.1).numbered few_entries below.2 ordered n (dir (thread_name n)) (right n less);
-        joined = λ k. under_keys prefix below.0 keys (below.1).numbered few_entries below.2 ordered (thread_place k) k refl ∙ keys_made dir prefix k 1 below.0;
+        threads = λ n. file_at n (cases_lt n 256);
+        files = λ n less. there n (cases_lt n 256) less;
+        joined = λ k. under (thread_place k) (cases_lt (thread_place k) 256) k (omega arith) refl;
       };
     },
   )
-
-  pub other_text : (name : Name) → HasOtherText dir keys name → Breaks dir prefix name
-  other_text name (n, less, named, other) = inr (inr (
-    n,
-    less,
-    named,
-    (posts_of dir 1 below.0, posts_filed dir count below.0 counted below.1, no_other prefix below.0 keys (below.1).numbered few_entries below.2 ordered dir n (dir (thread_name n)) other),
-  ))

@@ -24,7 +24,8 @@ use Rattle.ml_archive.specs.declared.posts.Entry.{Entry}
 use Rattle.ml_archive.specs.declared.posts.Thread.{Thread}
 use Rattle.ml_archive.proofs.KeyLengths.{key_short}
 use Rattle.ml_archive_audit.specs.Breaks.{AreThreadsOf}
-use Rattle.ml_archive_audit.specs.Found.{AreKeyed, AreNumbered, AreOrdered, Keys, joined, key_numbers, text_at, threads_at, threads_of}
+use Rattle.ml_archive_audit.specs.declared.keys.Places.{Places}
+use Rattle.ml_archive_audit.specs.Found.{AreKeyed, AreNumbered, AreOrdered, IsPlace, Keys, joined, key_numbers, text_at, threads_at, threads_of}
 use Rattle.ml_archive_audit.proofs.Posted.{keys_made, posts_of}
 
 -- numbers that rise from one on, below another
@@ -220,23 +221,23 @@ placed n (t ∷ ts) = go (thread_place t.key == n) refl (placed n ts)
     go true e more = (eqb-true (thread_place t.key) n e, more)
     go false e more = more
 
-module _ (prefix : Text) (es : List Entry) (keys : Keys) (numbered : AreNumbered 1 es) (few : length es ≤ 99_999_999) (keyed : AreKeyed prefix es keys) (ordered : AreOrdered keys) where
+module _ (prefix : Text) (es : List Entry) (places : Places) (keys : Keys) (numbered : AreNumbered 1 es) (few : length es ≤ 99_999_999) (keyed : AreKeyed prefix places es keys) (ordered : AreOrdered keys) where
   order_at : (n : ℕ) → InOrder (threads_at n keys.entries)
   order_at n = order_left (λ (t : Thread). thread_place t.key == n) (threads_of keys.entries) (in_order keys.entries ordered)
 
-  numbers_found : (n : ℕ) (k : Text) → thread_place k ≡ n → option_map (λ (t : Thread). t.numbers) (find k (threads_at n keys.entries)) ≡ joined None (key_numbers prefix k 1 es)
-  numbers_found n k place = ap (option_map (λ (t : Thread). t.numbers)) (found_at n k (threads_of keys.entries) place) ∙ found k keys.entries ∙ keyed k
+  numbers_found : (n : ℕ) (k : Text) → IsPlace places n → thread_place k ≡ n → option_map (λ (t : Thread). t.numbers) (find k (threads_at n keys.entries)) ≡ joined None (key_numbers prefix k 1 es)
+  numbers_found n k inside place = ap (option_map (λ (t : Thread). t.numbers)) (found_at n k (threads_of keys.entries) place) ∙ found k keys.entries ∙ keyed k (subst (λ (m : ℕ). IsPlace places m) (sym place) inside)
 
-  pub under_keys : (n : ℕ) (k : Text) → thread_place k ≡ n → numbers_under k (threads_at n keys.entries) ≡ key_numbers prefix k 1 es
-  under_keys n k place = ap (λ (o : Option (List ℕ)). unwrap_or o []) (numbers_found n k place) ∙ joined_none (key_numbers prefix k 1 es)
+  pub under_keys : (n : ℕ) (k : Text) → IsPlace places n → thread_place k ≡ n → numbers_under k (threads_at n keys.entries) ≡ key_numbers prefix k 1 es
+  under_keys n k inside place = ap (λ (o : Option (List ℕ)). unwrap_or o []) (numbers_found n k inside place) ∙ joined_none (key_numbers prefix k 1 es)
 
-  each_at : (n : ℕ) → AllByRecursion (IsThread n) (threads_at n keys.entries)
-  each_at n = all_found (IsThread n) (threads_at n keys.entries) (order_at n) (λ k t there. go k t there (found_is byte_cmp (λ (t : Thread). t.key) (λ (t : Thread). thread_place t.key ≡ n) k t (threads_at n keys.entries) (placed n (threads_of keys.entries)) there))
+  each_at : (n : ℕ) → IsPlace places n → AllByRecursion (IsThread n) (threads_at n keys.entries)
+  each_at n inside = all_found (IsThread n) (threads_at n keys.entries) (order_at n) (λ k t there. go k t there (found_is byte_cmp (λ (t : Thread). t.key) (λ (t : Thread). thread_place t.key ≡ n) k t (threads_at n keys.entries) (placed n (threads_of keys.entries)) there))
     where
       go : (k : Text) (t : Thread) → find k (threads_at n keys.entries) ≡ Some t → (thread_place t.key ≡ n) × (byte_cmp k t.key ≡ Equal) → IsThread n t
       go k t there (place, tied) =
           let same = same_bytes k t.key tied in
-          let own = joined_some (key_numbers prefix k 1 es) t.numbers (sym (ap (option_map (λ (t : Thread). t.numbers)) there) ∙ numbers_found n k (ap thread_place same ∙ place)) in
+          let own = joined_some (key_numbers prefix k 1 es) t.numbers (sym (ap (option_map (λ (t : Thread). t.numbers)) there) ∙ numbers_found n k inside (ap thread_place same ∙ place)) in
           let rise = subst (λ (ns : List ℕ). Rising 1 (length es + 1) ns) (sym own.0) (numbers_rise prefix k 1 (length es + 1) es (omega arith)) in
           let short = key_is_short prefix k 1 es numbered own.1 in
           let size = ap length own.0 in
@@ -249,11 +250,11 @@ module _ (prefix : Text) (es : List Entry) (keys : Keys) (numbered : AreNumbered
             ascending = rising_sorted 1 (length es + 1) t.numbers rise;
           }
 
-  pub thread_file : (n : ℕ) (file : Option Text) → unwrap_or file [] ≡ text_at n keys.entries → IsThreadFile n file (threads_at n keys.entries)
-  thread_file n file is = record { each = each_at n; sorted = order_at n; spelled = is }
+  pub thread_file : (n : ℕ) (file : Option Text) → IsPlace places n → unwrap_or file [] ≡ text_at n keys.entries → IsThreadFile n file (threads_at n keys.entries)
+  thread_file n file inside is = record { each = each_at n inside; sorted = order_at n; spelled = is }
 
-  pub no_other : (dir : Dir) (n : ℕ) (file : Option Text) → unwrap_or file [] ≢ text_at n keys.entries → (threads : List Thread) → IsThreadFile n file threads → AreThreadsOf prefix n (posts_of dir 1 es) threads → ⊥
-  no_other dir n file other threads is are =
+  pub no_other : (dir : Dir) (n : ℕ) (file : Option Text) → IsPlace places n → unwrap_or file [] ≢ text_at n keys.entries → (threads : List Thread) → IsThreadFile n file threads → AreThreadsOf prefix n (posts_of dir 1 es) threads → ⊥
+  no_other dir n file inside other threads is are =
       let same : threads ≡ threads_at n keys.entries =
-      same_threads n threads (threads_at n keys.entries) is.sorted (order_at n) is.each (each_at n) (λ k place. are k place ∙ sym (keys_made dir prefix k 1 es) ∙ sym (under_keys n k place)) in
+      same_threads n threads (threads_at n keys.entries) is.sorted (order_at n) is.each (each_at n inside) (λ k place. are k place ∙ sym (keys_made dir prefix k 1 es) ∙ sym (under_keys n k inside place)) in
       other (is.spelled ∙ ap (flat_map thread_text) same)

@@ -1,5 +1,5 @@
 -- The entries of groups, one after the other, each with its post.
-use Rattle.std.proofs.Common.{◌≡◌, ◌≢◌, ◌<◌, ◌≤◌, ◌+◌, ◌/◌, ℕ, suc, cond, ◌==◌, List, [], ◌∷◌, ◌++◌, length, map, filter, refl, sym, ap, ◌∙◌, subst, arith, append-nil, length-append, ◌⊎◌, inl, inr}
+use Rattle.std.proofs.Common.{◌≡◌, ◌≢◌, ◌<◌, ◌≤◌, ◌+◌, ◌/◌, ℕ, zero, suc, cond, ◌==◌, List, [], ◌∷◌, ◌++◌, length, map, filter, refl, sym, ap, ◌∙◌, subst, arith, append-nil, length-append, ◌⊎◌, inl, inr}
 use Rattle.std.specs.List.{AllByRecursion, IsAmong, range_with_len}
 use Rattle.std.proofs.lemmas.Bool.{cases_lt, eq-eqb, ne_eqb}
 use Rattle.std.proofs.lemmas.List.Elements.{filter-append}
@@ -10,7 +10,8 @@ use Rattle.ml_archive.specs.Archive.{IsEntry, IsIndexFile, index_name}
 use Rattle.ml_archive.specs.declared.posts.Entry.{Entry}
 use Rattle.ml_archive_audit.specs.Breaks.{IsBadGroup}
 use Rattle.ml_archive_audit.specs.Counted.{first_of}
-use Rattle.ml_archive_audit.specs.Found.{AreEntries, AreNumbered, HaveSizes, IsWhole, LacksSize}
+use Rattle.ml_archive.proofs.Exact.{index_one}
+use Rattle.ml_archive_audit.specs.Found.{AreEntries, AreNumbered, AreWhole, HasWhole, HaveSizes, IsWhole, LacksSize}
 
 -- an index has its group's numbers
 pub index_numbered : (k : ℕ) (es : List Entry) → AllByRecursion IsEntry es → map (λ (e : Entry). e.number) es ≡ range_with_len k (length es) → AreNumbered k es
@@ -96,6 +97,19 @@ module _ (dir : Dir) (count g : ℕ) (es new : List Entry) (there : first_of g �
           subst (λ (t : List Entry). IsIndexFile h (dir (index_name h)) (t ++ in_group h new)) (sym (none_of h 1 es before.numbered (λ n low high e. let own = in_old n low high in omega (arith, own, e, up))))
           (subst (λ (t : List Entry). IsIndexFile h (dir (index_name h)) t) (sym (all_of h (first_of g) new numbers (λ n low high. in_new n low high ∙ sym same)))
           (subst (λ (j : ℕ). IsIndexFile j (dir (index_name j)) new) (sym same) whole.index))
+
+-- the entries of all groups below one
+pub all_entries : (dir : Dir) (count g : ℕ) → ((h : ℕ) → h < g → first_of h ≤ count) → AreWhole dir count g → (es : List Entry) × AreEntries dir count g es
+all_entries dir count zero there whole = ([], no_entries dir count)
+all_entries dir count (suc g) there whole =
+    let before = all_entries dir count g (λ h less. there h (omega (arith, less))) (λ h less. whole h (omega (arith, less))) in
+    let here = whole g (omega arith) in
+    let next : g + 1 ≡ suc g = omega arith in
+    (before.0 ++ here.0, subst (λ (n : ℕ). AreEntries dir count n (before.0 ++ here.0)) next (more_entries dir count g before.0 here.0 (there g (omega arith)) before.1 here.1))
+
+-- an index that has been read is that of its whole group
+pub whole_read : (dir : Dir) (count g : ℕ) (es : List Entry) → HasWhole dir count g → IsIndexFile g (dir (index_name g)) es → IsWhole dir count g es
+whole_read dir count g es (entries, whole) index = subst (λ (t : List Entry). IsWhole dir count g t) (index_one g (dir (index_name g)) entries es whole.index index) whole
 
 -- an index that has been read
 pub index_read : (dir : Dir) (count g : ℕ) (es : List Entry) → first_of g ≤ count → count ≤ 99_999_999 → IsIndexByFiles dir g es → IsIndexFile g (dir (index_name g)) es

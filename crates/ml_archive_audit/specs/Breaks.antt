@@ -34,6 +34,11 @@ abbrev pub HasOtherThreads : Dir → Text → ℕ → Type 0
 HasOtherThreads dir prefix n =
     (posts : List Post) × AreCountedPosts dir posts × ((threads : List Thread) → IsThreadFile n (dir (thread_name n)) threads → ¬ AreThreadsOf prefix n posts threads)
 
+-- the same, and this thread file is that of these posts
+abbrev pub HasThreads : Dir → Text → ℕ → Type 0
+HasThreads dir prefix n =
+    (posts : List Post) × AreCountedPosts dir posts × ((threads : List Thread) × IsThreadFile n (dir (thread_name n)) threads × AreThreadsOf prefix n posts threads)
+
 -- the files that tell of a group, and when one of them is damaged, by the number of posts
 abbrev pub IsGroupName : ℕ → Name → Type 0
 IsGroupName g name = (name ≡ number_name) ⊎ (name ≡ index_name g)

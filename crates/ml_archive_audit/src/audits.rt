@@ -24,6 +24,6 @@ pub fn audit<F: Files>(alloc: Global, files: &mut F, prefix: &[u8]) -> Result<()
     ensures reads { IsReading ⟦<F as Files>⟧ files.old files.new result }
 {
     let count = count(alloc, files)?;
-    let keys = audit_groups(alloc, files, prefix, count)?;
-    audit_threads(alloc, files, &keys)
+    audit_groups(alloc, files, count)?;
+    audit_threads(alloc, files, prefix, count)
 }

@@ -3,19 +3,19 @@ ghost use Rattle.std.specs.Prelude.{◌≡◌, ◌<◌, ◌≤◌, ◌+◌, ◌*
 ghost use Rattle.ml_base.specs.ReadFiles.{IsReading, NamesDamaged};
 ghost use Rattle.ml_archive.specs.Answers.{IsOtherSize};
 ghost use Rattle.ml_archive.specs.Archive as archive;
+ghost use Rattle.ml_archive.specs.Archive.{IsIndexFile};
 ghost use Rattle.ml_archive_audit.specs.Breaks.{HasAll, IsGroupName, IsBadGroup, AreGroupNames, AreBadGroups};
 ghost use Rattle.ml_archive_audit.specs.Counted.{first_of};
 ghost use Rattle.ml_archive_audit.specs.Found as found;
-ghost use Rattle.ml_archive_audit.specs.Found.{AreKeyedBelow, AreOrdered, HasSize, HaveSizes, IsWhole, LacksSize};
+ghost use Rattle.ml_archive_audit.specs.Found.{AreWhole, HasSize, HasWhole, HaveSizes, LacksSize};
 
 use crate::files::{NUMBER, index_name, post_name};
-use crate::keys::{Keys, add_entries};
 use ml_archive::{Entries, Entry, index};
 use ml_base::{Files, PartError};
 use std::alloc::Global;
 
 // The number of a group's first post.
-fn first_number(group: u64) -> u64
+pub(crate) fn first_number(group: u64) -> u64
     requires { group < 1_000_000 }
     ensures { result ≡ first_of group }
 {
@@ -74,8 +74,8 @@ fn audit_sizes<F: Files>(
     Ok(())
 }
 
-// The entries of a group, one for each of its posts and with that post's size.
-fn audit_group<F: Files>(
+// The entries of a group, one for each of its posts.
+pub(crate) fn full_index<F: Files>(
     alloc: Global,
     files: &mut F,
     count: u64,
@@ -83,50 +83,57 @@ fn audit_group<F: Files>(
 ) -> Result<Entries, PartError>
     requires group { first_of group ≤ count }
     requires count { count ≤ 99_999_999 }
-    ensures value { IsTrue F.tells → IfOk result (IsWhole (F.map files.old) count group) }
+    ensures index { IsTrue F.tells → IfOk result (λ entries. IsIndexFile group (F.map files.old (archive.index_name group)) entries) }
     ensures all { IfOk result (HasAll count group) }
     ensures names { NamesDamaged ⟦<F as Files>⟧ (IsGroupName group) (IsBadGroup (F.map files.old) count group) result }
     ensures reads { IsReading ⟦<F as Files>⟧ files.old files.new result }
 {
     let entries = index(alloc, files, group)?;
-    if entries.as_slice().len() as u64 != group_len(group, count) {
-        return Err(PartError::Damaged(NUMBER));
+    if entries.as_slice().len() as u64 == group_len(group, count) {
+        Ok(entries)
+    } else {
+        Err(PartError::Damaged(NUMBER))
     }
-    audit_sizes(alloc, files, group, entries.as_slice())?;
-    Ok(entries)
+}
+
+// Whether a group has an entry for each of its posts, with that post's size.
+fn audit_group<F: Files>(
+    alloc: Global,
+    files: &mut F,
+    count: u64,
+    group: u64,
+) -> Result<(), PartError>
+    requires group { first_of group ≤ count }
+    requires count { count ≤ 99_999_999 }
+    ensures value { IsTrue F.tells → OnOk result (HasWhole (F.map files.old) count group) }
+    ensures names { NamesDamaged ⟦<F as Files>⟧ (IsGroupName group) (IsBadGroup (F.map files.old) count group) result }
+    ensures reads { IsReading ⟦<F as Files>⟧ files.old files.new result }
+{
+    let entries = full_index(alloc, files, count, group)?;
+    audit_sizes(alloc, files, group, entries.as_slice())
 }
 
 // How many groups so many posts are in.
-fn groups_of(count: u64) -> u64
+pub(crate) fn groups_of(count: u64) -> u64
     requires { count ≤ 99_999_999 }
     ensures { result ≡ found.groups_of count }
 {
     if count == 0 { 0 } else { count / 100 + 1 }
 }
 
-// The numbers of the posts under the keys of their subjects, by the entries of all groups.
+// Whether each group that has a post has an entry for each of its posts, with that post's size.
 pub(crate) fn audit_groups<F: Files>(
     alloc: Global,
     files: &mut F,
-    prefix: &[u8],
     count: u64,
-) -> Result<Keys, PartError>
+) -> Result<(), PartError>
     requires { count ≤ 99_999_999 }
-    ensures value { IsTrue F.tells → IfOk result (AreKeyedBelow (F.map files.old) prefix.now count (found.groups_of count)) }
-    ensures ordered { IfOk result AreOrdered }
+    ensures value { IsTrue F.tells → OnOk result (AreWhole (F.map files.old) count (found.groups_of count)) }
     ensures names { NamesDamaged ⟦<F as Files>⟧ AreGroupNames (AreBadGroups (F.map files.old) count) result }
     ensures reads { IsReading ⟦<F as Files>⟧ files.old files.new result }
 {
-    let mut keys = Keys::new(alloc);
     for group in 0..groups_of(count) {
-        let entries = audit_group(alloc, files, count, group)?;
-        add_entries(
-            alloc,
-            &mut keys,
-            prefix,
-            first_number(group),
-            entries.as_slice(),
-        )?;
+        audit_group(alloc, files, count, group)?;
     }
-    Ok(keys)
+    Ok(())
 }

@@ -1,27 +1,26 @@
 // What the thread files must be, by keys with numbers.
-ghost use Rattle.std.specs.Prelude.{◌≡◌, ◌≢◌, ◌<◌, ◌++◌, ◌%◌, [], length, get_or, ℕ, OnOk, IfOk, IsTrue, unwrap_or, replicate};
+ghost use Rattle.std.specs.Prelude.{◌≡◌, ◌≢◌, ◌<◌, ◌≤◌, ◌++◌, [], length, get_or, ℕ, OnOk, IfOk, IsTrue, unwrap_or, replicate};
 ghost use Rattle.std.specs.Fmt.{decimal};
 ghost use Rattle.ml_base.specs.ReadFiles.{IsReading, NamesDamaged};
 ghost use Rattle.ml_rows.specs.Values.{comma_text};
 ghost use Rattle.ml_archive.specs.Threads as threads;
-ghost use Rattle.ml_archive.specs.Threads.{thread_text, thread_place};
-ghost use Rattle.ml_archive_audit.specs.Breaks.{IsThreadsName};
-ghost use Rattle.ml_archive_audit.specs.Found.{HasOtherText, text_at};
+ghost use Rattle.ml_archive.specs.Threads.{thread_place, thread_text};
+ghost use Rattle.ml_archive_audit.specs.Breaks.{Breaks, HasThreads, IsAuditName, IsThreadsName};
+ghost use Rattle.ml_archive_audit.specs.Found.{ArePosted, HasOtherText, IsPlace, text_at};
 
 use crate::files::{text_of, thread_name};
-use crate::keys::Keys;
-use ml_base::{Bytes, Files, PartError, hash, push_netstring, write_number};
+use crate::keys::{Keys, Places, keys_of, place_of};
+use ml_base::{Bytes, Files, PartError, push_netstring, write_number};
 use std::alloc::{AllocError, Global};
 
 // How many thread files there are.
 const FILES: usize = 256;
 
-// The number of the file that has a key.
-fn place_of(key: &[u8]) -> u8
-    ensures { result ≡ thread_place key.now }
-{
-    (hash(key) % 256) as u8
-}
+// Of how many posts the keys are kept at a time, about.
+const POSTS: u64 = 4_096;
+
+// How many thread files are compared at a time at least.
+const FEW: u64 = 16;
 
 // Adds a number in decimal.
 fn push_number(out: &mut Bytes, number: u64) -> Result<(), AllocError>
@@ -103,19 +102,70 @@ fn audit_file<F: Files>(alloc: Global, files: &mut F, n: u8, text: &[u8]) -> Res
     }
 }
 
-// Whether each thread file is what the keys make.
-pub(crate) fn audit_threads<F: Files>(
+// Whether each of these thread files is what the keys make.
+fn audit_files<F: Files>(
     alloc: Global,
     files: &mut F,
     keys: &Keys,
+    places: Places,
 ) -> Result<(), PartError>
-    ensures value { IsTrue F.tells → OnOk result ((n : ℕ) → n < 256 → unwrap_or (F.map files.old (threads.thread_name n)) [] ≡ text_at n keys.now.entries) }
-    ensures names { NamesDamaged ⟦<F as Files>⟧ IsThreadsName (HasOtherText (F.map files.old) keys.now) result }
+    requires { places.to ≤ 256 }
+    ensures value { IsTrue F.tells → OnOk result ((n : ℕ) → IsPlace places n → unwrap_or (F.map files.old (threads.thread_name n)) [] ≡ text_at n keys.now.entries) }
+    ensures names { NamesDamaged ⟦<F as Files>⟧ IsThreadsName (HasOtherText (F.map files.old) places keys.now) result }
     ensures reads { IsReading ⟦<F as Files>⟧ files.old files.new result }
 {
     let texts = texts_of(alloc, keys)?;
-    for n in 0..FILES {
+    for n in places.from..places.to {
         audit_file(alloc, files, n as u8, texts[n].as_slice())?;
+    }
+    Ok(())
+}
+
+// Whether these thread files are those of the posts.
+fn audit_places<F: Files>(
+    alloc: Global,
+    files: &mut F,
+    prefix: &[u8],
+    count: u64,
+    places: Places,
+) -> Result<(), PartError>
+    requires few { count ≤ 99_999_999 }
+    requires places { places.to ≤ 256 }
+    requires posted { IsTrue F.tells → ArePosted (F.map files.old) count }
+    ensures value { IsTrue F.tells → OnOk result ((n : ℕ) → IsPlace places n → HasThreads (F.map files.old) prefix.now n) }
+    ensures names { NamesDamaged ⟦<F as Files>⟧ IsAuditName (Breaks (F.map files.old) prefix.now) result }
+    ensures reads { IsReading ⟦<F as Files>⟧ files.old files.new result }
+{
+    let keys = keys_of(alloc, files, prefix, count, places)?;
+    audit_files(alloc, files, &keys, places)
+}
+
+// How many thread files are compared at a time: the fewer, the more posts there are.
+fn files_at_once(count: u64) -> usize
+    ensures { 1 ≤ result }
+{
+    (POSTS * FILES as u64 / count.max(1)).clamp(FEW, FILES as u64) as usize
+}
+
+// Whether the thread files are those of the posts.
+pub(crate) fn audit_threads<F: Files>(
+    alloc: Global,
+    files: &mut F,
+    prefix: &[u8],
+    count: u64,
+) -> Result<(), PartError>
+    requires few { count ≤ 99_999_999 }
+    requires posted { IsTrue F.tells → ArePosted (F.map files.old) count }
+    ensures value { IsTrue F.tells → OnOk result ((n : ℕ) → n < 256 → HasThreads (F.map files.old) prefix.now n) }
+    ensures names { NamesDamaged ⟦<F as Files>⟧ IsAuditName (Breaks (F.map files.old) prefix.now) result }
+    ensures reads { IsReading ⟦<F as Files>⟧ files.old files.new result }
+{
+    let step = files_at_once(count);
+    let mut from = 0;
+    while from < FILES {
+        let to = FILES.min(from.saturating_add(step));
+        audit_places(alloc, files, prefix, count, Places { from, to })?;
+        from = to;
     }
     Ok(())
 }

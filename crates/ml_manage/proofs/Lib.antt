@@ -5,4 +5,4 @@ pub mod Requests
 mod Sending
 mod Senders
 pub mod Others
-mod OfThreads
+mod OfArchive

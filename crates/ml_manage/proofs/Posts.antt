@@ -120,7 +120,7 @@ pub row_read : (a b : ℕ) (ns : List ℕ) (name : Name) → AllByRecursion (IsW
 row_read a b ns name all (inl e) = range_read a b name (inl e)
 row_read a b ns name all (inr (m, among, few, e)) = let within = each_among (IsWithin a b) ns m all among in range_read a b name (inr (m, within.0, within.1, few, e))
 
-among_at : (ns : List ℕ) (i : ℕ) → i < length ns → IsAmong ns (get_or ns i 0)
+pub among_at : (ns : List ℕ) (i : ℕ) → i < length ns → IsAmong ns (get_or ns i 0)
 among_at [] i low = absurd (omega (arith, low))
 among_at (n ∷ ns) zero low = (0, (omega arith, refl))
 among_at (n ∷ ns) (suc i) low = let more = among_at ns i (omega (arith, low)) in (suc more.0, (let less = more.1.0 in omega (arith, less), more.1.1))

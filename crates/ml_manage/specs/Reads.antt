@@ -1,5 +1,5 @@
 -- Which files mail to the list's other addresses may read.
-use Rattle.std.specs.Prelude.{◌≡◌, ◌/◌, ℕ, Bool, true, false, ◌||◌, ◌&&◌, nat_le, nat_lt, Option, Some, None, unwrap_or}
+use Rattle.std.specs.Prelude.{◌≡◌, ◌/◌, ℕ, List, Bool, true, false, ◌||◌, ◌&&◌, nat_le, nat_lt, Option, Some, None, unwrap_or}
 use Rattle.ml_base.specs.Address.{key, address_of}
 use Rattle.ml_base.specs.Bytes.{Text}
 use Rattle.ml_base.specs.Dir.{Dir, same_name}
@@ -8,7 +8,8 @@ use Rattle.ml_base.specs.declared.names.Set.{Set}
 use Rattle.ml_base.specs.declared.names.Set.TheVariants as sets
 use Rattle.ml_address.specs.Requests.{PlainRequest, Post, Other, Owner, Subscribe, Unsubscribe, Confirm, Members, Get, Index, Thread, Accept, Reject, Bounce, WarnBounce, ProbeBounce, ReplyBounce, is_in_range}
 use Rattle.ml_archive.specs.Archive.{number_name, index_name}
-use Rattle.ml_archive.specs.Reads.{IsOfThread}
+use Rattle.ml_archive.specs.Answers.{IsBadForPost}
+use Rattle.ml_archive.specs.Threads.{is_of_archive}
 use Rattle.ml_config.specs.KeyFile.{key_name}
 use Rattle.ml_config.specs.declared.configuration.Config.{Config}
 use Rattle.ml_digest.specs.Due.{mark_name}
@@ -16,6 +17,7 @@ use Rattle.ml_joining.specs.Deeds.{asked_of}
 use Rattle.ml_joining.specs.Reads.{is_read_to_confirm, is_read_to_subscribe, is_read_to_unsubscribe}
 use Rattle.ml_plain.specs.Bouncing.{address_named}
 use Rattle.ml_subs.specs.Subscribers.{is_touched}
+use Rattle.ml_acts.specs.Asked.{IsBadAmong, IsBadFor, Count, Group, Range, ThreadOf}
 use Rattle.ml_acts.specs.Damaged.{IsDamaged}
 use Rattle.ml_acts.specs.Doing.{is_bucket, is_bucket_of, is_entry_of, is_index, is_thread_file}
 use Rattle.ml_queue.specs.Answers.{ids_name}
@@ -97,13 +99,25 @@ is_managed (Reject ticket cookie) = false
 is_managed Other = true
 is_managed request = is_in_range request
 
--- A file of the archive that is named for a thread is one that it is looked up in, by what the files have of it: the number of posts, the index
--- of the post's group, the one thread file of its key, and the indexes of the posts there. Nothing else that is asked looks a thread up.
-abbrev pub IsThreaded : Dir → Config → PlainRequest → Name → Type 0
-IsThreaded dir c (Thread at) name = is_of_thread name ≡ true → IsOfThread dir c.prefix at name
-IsThreaded dir c _ name = Unit {0}
+-- What a request asks of the archive: a file of it that is named is damaged for the posts of its range, the index of its post's group, its
+-- thread, or how many posts there are. Nothing else that is asked reads the archive.
+abbrev pub IsForRequest : Dir → Config → PlainRequest → Name → Type 0
+IsForRequest dir c (Get from to) name = is_of_archive name ≡ true → IsBadFor dir (Range from (unwrap_or to from)) name
+IsForRequest dir c (Index at) name = is_of_archive name ≡ true → IsBadFor dir (Group (at / 100)) name
+IsForRequest dir c (Thread at) name = is_of_archive name ≡ true → IsBadFor dir (ThreadOf c.prefix at) name
+IsForRequest dir c (Bounce set number who) name = is_of_archive name ≡ true → IsBadFor dir Count name
+IsForRequest dir c _ name = Unit {0}
 
--- a file that is damaged, where it is the archive's for a thread that is asked for, one of this thread's
+-- a damaged file: one of the archive is damaged for what the request asks of it
 pub record IsDamagedFor (dir : Dir) (c : Config) (request : PlainRequest) (name : Name) : Type 0 where
   pub damaged : IsDamaged dir name
-  pub threaded : IsThreaded dir c request name
+  pub own : IsForRequest dir c request name
+
+-- a damaged file, for a post, and for one of a row
+pub record IsDamagedPost (dir : Dir) (n : ℕ) (name : Name) : Type 0 where
+  pub damaged : IsDamaged dir name
+  pub bad : IsBadForPost dir n name
+
+pub record IsDamagedAmong (dir : Dir) (row : List ℕ) (name : Name) : Type 0 where
+  pub damaged : IsDamaged dir name
+  pub bad : IsBadAmong dir row name

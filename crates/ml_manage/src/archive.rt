@@ -1,6 +1,5 @@
 // Answers from the archive: to whom it is open, and what they are.
-ghost use Rattle.std.specs.Prelude.{◌≡◌, ◌&&◌, ◌||◌, ◌++◌, not, true, unwrap_or, IsTrue, IfOk, OnOk};
-ghost use Rattle.ml_address.specs.Requests.{Thread};
+ghost use Rattle.std.specs.Prelude.{◌≡◌, ◌/◌, ◌&&◌, ◌||◌, ◌++◌, not, true, unwrap_or, IsTrue, IfOk, OnOk};
 ghost use Rattle.ml_archive.specs.Answers.{IsPostName};
 ghost use Rattle.ml_archive.specs.Archive.{number_name};
 ghost use Rattle.ml_archive.specs.Reads.{IsOfRow};
@@ -16,9 +15,10 @@ ghost use Rattle.ml_plain.specs.KeptFiles.{is_kept};
 ghost use Rattle.ml_plain.specs.Managing as spec;
 ghost use Rattle.ml_plain.specs.Plain.{Plain, is_in};
 ghost use Rattle.ml_queue.specs.Answers.{ids_name};
+ghost use Rattle.ml_acts.specs.Asked.{Group, IsDamagedOf, Range, ThreadOf};
 ghost use Rattle.ml_acts.specs.Damaged.{IsDamaged};
 ghost use Rattle.ml_acts.specs.Doing.{DoesList, HasIds, is_bucket_of};
-ghost use Rattle.ml_manage.specs.Reads.{IsDamagedFor, is_of_index, is_of_posts, is_of_reader, is_of_thread};
+ghost use Rattle.ml_manage.specs.Reads.{IsDamagedAmong, IsDamagedPost, is_of_index, is_of_posts, is_of_reader, is_of_thread};
 ghost use Rattle.ml_manage.specs.Texts as words;
 
 use crate::members::is_member;
@@ -48,7 +48,7 @@ pub(crate) fn get<F: Files>(
     ensures own { IfOk result (λ done. touches_only is_of_list done.0 ≡ true) }
     ensures files { IfOk result (λ done. IsTrue (are_files done.0)) }
     ensures reply { IfOk result (λ done. is_kept done.1 ≡ true) }
-    ensures names { NamesDamaged ⟦<F as Files>⟧ (λ name. (is_of_reader config.now sender.now name || is_of_posts from (unwrap_or to from) name || same_name name ids_name) ≡ true) (IsDamaged (F.map files.old)) result }
+    ensures names { NamesDamaged ⟦<F as Files>⟧ (λ name. (is_of_reader config.now sender.now name || is_of_posts from (unwrap_or to from) name || same_name name ids_name) ≡ true) (IsDamagedOf (F.map files.old) (Range from (unwrap_or to from))) result }
     ensures reads { IsReading ⟦<F as Files>⟧ files.old files.new result }
 {
     if !may_read(alloc, files, config, sender)? {
@@ -74,7 +74,7 @@ pub(crate) fn thread_of<F: Files>(
     ensures own { IfOk result (λ done. touches_only is_of_list done.0 ≡ true) }
     ensures files { IfOk result (λ done. IsTrue (are_files done.0)) }
     ensures reply { IfOk result (λ done. is_kept done.1 ≡ true) }
-    ensures names { NamesDamaged ⟦<F as Files>⟧ (λ name. (is_of_reader config.now sender.now name || is_of_thread name || same_name name ids_name) ≡ true) (IsDamagedFor (F.map files.old) config.now (Thread at)) result }
+    ensures names { NamesDamaged ⟦<F as Files>⟧ (λ name. (is_of_reader config.now sender.now name || is_of_thread name || same_name name ids_name) ≡ true) (IsDamagedOf (F.map files.old) (ThreadOf config.now.prefix at)) result }
     ensures reads { IsReading ⟦<F as Files>⟧ files.old files.new result }
 {
     if !may_read(alloc, files, config, sender)? {
@@ -99,7 +99,7 @@ pub(crate) fn index_of<F: Files>(
     ensures own { IfOk result (λ done. touches_only is_of_list done.0 ≡ true) }
     ensures files { IfOk result (λ done. IsTrue (are_files done.0)) }
     ensures reply { IfOk result (λ done. is_kept done.1 ≡ true) }
-    ensures names { NamesDamaged ⟦<F as Files>⟧ (λ name. (is_of_reader config.now sender.now name || is_of_index at name || same_name name ids_name) ≡ true) (IsDamaged (F.map files.old)) result }
+    ensures names { NamesDamaged ⟦<F as Files>⟧ (λ name. (is_of_reader config.now sender.now name || is_of_index at name || same_name name ids_name) ≡ true) (IsDamagedOf (F.map files.old) (Group (at / 100))) result }
     ensures reads { IsReading ⟦<F as Files>⟧ files.old files.new result }
 {
     if !may_read(alloc, files, config, sender)? {
@@ -202,7 +202,7 @@ fn get_text<F: Files>(
     to: Option<u64>,
 ) -> Result<Bytes, PartError>
     ensures value { IsTrue F.tells → IfOk result (λ text. (p : Plain) → IsList (F.map files.old) p → p.config ≡ config.now → text ≡ texts.get_text p from to) }
-    ensures names { NamesDamaged ⟦<F as Files>⟧ (λ name. is_of_posts from (unwrap_or to from) name ≡ true) (IsDamaged (F.map files.old)) result }
+    ensures names { NamesDamaged ⟦<F as Files>⟧ (λ name. is_of_posts from (unwrap_or to from) name ≡ true) (IsDamagedOf (F.map files.old) (Range from (unwrap_or to from))) result }
     ensures reads { IsReading ⟦<F as Files>⟧ files.old files.new result }
 {
     let numbers = range(alloc, files, from, to.unwrap_or(from))?;
@@ -218,7 +218,7 @@ fn thread_text<F: Files>(
 ) -> Result<Bytes, PartError>
     requires { IsTrue F.tells → IsConfigFile (F.map files.now config_name) config.now }
     ensures value { IsTrue F.tells → IfOk result (λ text. (p : Plain) → IsList (F.map files.old) p → p.config ≡ config.now → text ≡ texts.thread_text p at) }
-    ensures names { NamesDamaged ⟦<F as Files>⟧ (λ name. is_of_thread name ≡ true) (IsDamagedFor (F.map files.old) config.now (Thread at)) result }
+    ensures names { NamesDamaged ⟦<F as Files>⟧ (λ name. is_of_thread name ≡ true) (IsDamagedOf (F.map files.old) (ThreadOf config.now.prefix at)) result }
     ensures reads { IsReading ⟦<F as Files>⟧ files.old files.new result }
 {
     let numbers = thread(alloc, files, config.prefix.as_slice(), at)?;
@@ -228,7 +228,7 @@ fn thread_text<F: Files>(
 // The text of the index of a post's group.
 fn index_text<F: Files>(alloc: Global, files: &mut F, at: u64) -> Result<Bytes, PartError>
     ensures value { IsTrue F.tells → IfOk result (λ text. (p : Plain) → IsList (F.map files.old) p → text ≡ texts.index_text p at) }
-    ensures names { NamesDamaged ⟦<F as Files>⟧ (λ name. is_of_index at name ≡ true) (IsDamaged (F.map files.old)) result }
+    ensures names { NamesDamaged ⟦<F as Files>⟧ (λ name. is_of_index at name ≡ true) (IsDamagedOf (F.map files.old) (Group (at / 100))) result }
     ensures reads { IsReading ⟦<F as Files>⟧ files.old files.new result }
 {
     let entries = index(alloc, files, at / 100)?;
@@ -243,7 +243,7 @@ fn posts_text<F: Files>(
     numbers: &[u64],
 ) -> Result<Bytes, PartError>
     ensures value { IsTrue F.tells → IfOk result (λ text. (p : Plain) → IsList (F.map files.old) p → p.config ≡ config.now → text ≡ words.posts_text p numbers.now) }
-    ensures names { NamesDamaged ⟦<F as Files>⟧ (IsOfRow number_name numbers.now) (IsDamaged (F.map files.old)) result }
+    ensures names { NamesDamaged ⟦<F as Files>⟧ (IsOfRow number_name numbers.now) (IsDamagedAmong (F.map files.old) numbers.now) result }
     ensures reads { IsReading ⟦<F as Files>⟧ files.old files.new result }
 {
     if numbers.is_empty() {
@@ -260,7 +260,7 @@ fn all_posts<F: Files>(
     numbers: &[u64],
 ) -> Result<Bytes, PartError>
     ensures value { IsTrue F.tells → IfOk result (λ text. (p : Plain) → IsList (F.map files.old) p → p.config ≡ config.now → text ≡ flat_map (words.post_text p) numbers.now) }
-    ensures names { NamesDamaged ⟦<F as Files>⟧ (IsOfRow number_name numbers.now) (IsDamaged (F.map files.old)) result }
+    ensures names { NamesDamaged ⟦<F as Files>⟧ (IsOfRow number_name numbers.now) (IsDamagedAmong (F.map files.old) numbers.now) result }
     ensures reads { IsReading ⟦<F as Files>⟧ files.old files.new result }
 {
     let mut out = Bytes::new(alloc);
@@ -279,7 +279,7 @@ fn add_one<F: Files>(
     out: &mut Bytes,
 ) -> Result<(), PartError>
     ensures value { IsTrue F.tells → OnOk result ((p : Plain) → IsList (F.map files.old) p → p.config ≡ config.now → out.new ≡ out.old ++ words.post_text p number) }
-    ensures names { NamesDamaged ⟦<F as Files>⟧ (IsPostName number) (IsDamaged (F.map files.old)) result }
+    ensures names { NamesDamaged ⟦<F as Files>⟧ (IsPostName number) (IsDamagedPost (F.map files.old) number) result }
     ensures reads { IsReading ⟦<F as Files>⟧ files.old files.new result }
 {
     match post(alloc, files, number)? {

@@ -18,6 +18,7 @@ ghost use Rattle.ml_plain.specs.Plain.{Plain, is_in, ledger_of, removed};
 ghost use Rattle.ml_archive.specs.Archive.{number_name};
 ghost use Rattle.ml_digest.specs.Due.{mark_name};
 ghost use Rattle.ml_subs.specs.Subscribers.{is_touched};
+ghost use Rattle.ml_acts.specs.Asked.{Count, IsDamagedOf};
 ghost use Rattle.ml_acts.specs.Damaged.{IsDamaged};
 ghost use Rattle.ml_acts.specs.Doing.{DoesList, is_bucket_of, is_entry_of};
 ghost use Rattle.ml_manage.specs.Leaving.{change_reply, of_probe, of_warning};
@@ -50,7 +51,7 @@ pub(crate) fn bounced<F: Files>(
     ensures own { IfOk result (λ done. touches_only is_of_list done.0 ≡ true) }
     ensures files { IfOk result (λ done. IsTrue (are_files done.0)) }
     ensures reply { IfOk result (λ done. is_kept done.1 ≡ true) }
-    ensures names { NamesDamaged ⟦<F as Files>⟧ (λ name. is_of_bounce set x.now name ≡ true) (IsDamaged (F.map files.old)) result }
+    ensures names { NamesDamaged ⟦<F as Files>⟧ (λ name. is_of_bounce set x.now name ≡ true) (IsDamagedOf (F.map files.old) Count) result }
     ensures reads { IsReading ⟦<F as Files>⟧ files.old files.new result }
 {
     if !was_mailed(alloc, files, set, number, x)? {
@@ -68,7 +69,7 @@ fn was_mailed<F: Files>(
     x: &Address,
 ) -> Result<bool, PartError>
     ensures value { IsTrue F.tells → IfOk result (λ is. (p : Plain) → IsList (F.map files.old) p → is ≡ (is_in p set x.now && spec.is_used p set number)) }
-    ensures names { NamesDamaged ⟦<F as Files>⟧ (λ name. is_of_bounce set x.now name ≡ true) (IsDamaged (F.map files.old)) result }
+    ensures names { NamesDamaged ⟦<F as Files>⟧ (λ name. is_of_bounce set x.now name ≡ true) (IsDamagedOf (F.map files.old) Count) result }
     ensures reads { IsReading ⟦<F as Files>⟧ files.old files.new result }
 {
     if !is_member(alloc, files, set, x)? {
@@ -80,7 +81,7 @@ fn was_mailed<F: Files>(
 // Whether a number of a set was used.
 fn is_used<F: Files>(alloc: Global, files: &mut F, set: Set, number: u64) -> Result<bool, PartError>
     ensures value { IsTrue F.tells → IfOk result (λ is. (p : Plain) → IsList (F.map files.old) p → is ≡ spec.is_used p set number) }
-    ensures names { NamesDamaged ⟦<F as Files>⟧ (λ name. is_counted_in set name ≡ true) (IsDamaged (F.map files.old)) result }
+    ensures names { NamesDamaged ⟦<F as Files>⟧ (λ name. is_counted_in set name ≡ true) (IsDamagedOf (F.map files.old) Count) result }
     ensures reads { IsReading ⟦<F as Files>⟧ files.old files.new result }
 {
     match set {
@@ -92,7 +93,7 @@ fn is_used<F: Files>(alloc: Global, files: &mut F, set: Set, number: u64) -> Res
 // Whether a number is one of a digest that was sent.
 fn is_issue<F: Files>(alloc: Global, files: &mut F, number: u64) -> Result<bool, PartError>
     ensures value { IsTrue F.tells → IfOk result (λ is. (p : Plain) → IsList (F.map files.old) p → is ≡ spec.is_used p sets.Digest number) }
-    ensures names { NamesDamaged ⟦<F as Files>⟧ (λ name. same_name name mark_name ≡ true) (IsDamaged (F.map files.old)) result }
+    ensures names { NamesDamaged ⟦<F as Files>⟧ (λ name. same_name name mark_name ≡ true) (IsDamagedOf (F.map files.old) Count) result }
     ensures reads { IsReading ⟦<F as Files>⟧ files.old files.new result }
 {
     let mark = mark(alloc, files)?;
@@ -102,7 +103,7 @@ fn is_issue<F: Files>(alloc: Global, files: &mut F, number: u64) -> Result<bool,
 // Whether a number is one of a post that was sent.
 fn is_post<F: Files>(alloc: Global, files: &mut F, number: u64) -> Result<bool, PartError>
     ensures value { IsTrue F.tells → IfOk result (λ is. (p : Plain) → IsList (F.map files.old) p → is ≡ spec.is_used p sets.List number) }
-    ensures names { NamesDamaged ⟦<F as Files>⟧ (λ name. same_name name number_name ≡ true) (IsDamaged (F.map files.old)) result }
+    ensures names { NamesDamaged ⟦<F as Files>⟧ (λ name. same_name name number_name ≡ true) (IsDamagedOf (F.map files.old) Count) result }
     ensures reads { IsReading ⟦<F as Files>⟧ files.old files.new result }
 {
     let count = count(alloc, files)?;

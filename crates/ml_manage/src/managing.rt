@@ -16,6 +16,7 @@ ghost use Rattle.ml_plain.specs.Directory.{IsList, is_of_list};
 ghost use Rattle.ml_plain.specs.KeptFiles.{is_kept};
 ghost use Rattle.ml_plain.specs.Managing as spec;
 ghost use Rattle.ml_plain.specs.Plain.{Plain};
+ghost use Rattle.ml_acts.specs.Asked.{Count, IsDamagedOf};
 ghost use Rattle.ml_acts.specs.Configured.{with_config};
 ghost use Rattle.ml_acts.specs.Damaged.{IsDamaged};
 ghost use Rattle.ml_acts.specs.Doing.{DoesList, HasRoom};
@@ -125,7 +126,7 @@ fn of_bounce<F: Files>(
     ensures own { IfOk result (λ done. touches_only is_of_list done.0 ≡ true) }
     ensures files { IfOk result (λ done. IsTrue (are_files done.0)) }
     ensures reply { IfOk result (λ done. is_kept done.1 ≡ true) }
-    ensures names { NamesDamaged ⟦<F as Files>⟧ (λ name. is_of_bounce set (address_named (who_view who.now)) name ≡ true) (IsDamaged (F.map files.old)) result }
+    ensures names { NamesDamaged ⟦<F as Files>⟧ (λ name. is_of_bounce set (address_named (who_view who.now)) name ≡ true) (IsDamagedOf (F.map files.old) Count) result }
     ensures reads { IsReading ⟦<F as Files>⟧ files.old files.new result }
 {
     let x = named(alloc, who)?;

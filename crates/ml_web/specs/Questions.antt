@@ -1,14 +1,17 @@
 -- What is asked of an archive for the web: its pages, and the list of them.
-use Rattle.std.specs.Prelude.{◌≡◌, ◌⊎◌, Bool, true, false, List}
-use Rattle.ml_archive.specs.Answers.{IsBadForThread, IsThreadName}
+use Rattle.std.specs.Prelude.{◌≡◌, ◌⊎◌, Bool, true, false, List, Option, None}
+use Rattle.ml_archive.specs.Answers.{IsBadForThread, IsThreadName, IsWholeAnswer}
 use Rattle.ml_archive.specs.Threads.{IsArchive}
 use Rattle.ml_archive.specs.declared.posts.Post.{Post}
+use Rattle.ml_archive.specs.declared.posts.Thread.{Thread}
+use Rattle.ml_base.specs.Bytes.{Text}
 use Rattle.ml_base.specs.Dir.{Dir}
 use Rattle.ml_base.specs.declared.names.Name.{Name}
 use Rattle.ml_config.specs.declared.configuration.Config.{Config}
 use Rattle.ml_pages.specs.Counting.{months_of, threads_of}
 use Rattle.ml_pages.specs.Pages.{list_text, month_page, thread_page}
-use Rattle.ml_pages.specs.Reads.{IsBadIndexes, IsBadThreadFile, IsIndexesName, IsThreadsName}
+use Rattle.ml_pages.specs.Parts.{IsPageFound, may_be_there}
+use Rattle.ml_pages.specs.Reads.{AreIndexesRead, AreThreadsRead, IsBadIndexes, IsBadThreadFile, IsIndexesName, IsThreadsName}
 use Rattle.ml_reading.specs.Meanings.{Meaning}
 use Rattle.ml_reading.specs.Queries.{text_or_absent}
 use Rattle.ml_reading.specs.declared.question.Answer.{Answer}
@@ -22,9 +25,18 @@ answer_of queries.List c posts = answers.Text (list_text (months_of posts) (thre
 answer_of (queries.Month year month page) c posts = text_or_absent (month_page c year month page posts)
 answer_of (queries.Thread first page) c posts = text_or_absent (thread_page c first page posts)
 
--- the same, by files that stand for posts
+-- How files are read, whatever they hold. The list of pages is given only where all its files are in their grammar; a month's page is absent only where
+-- the number of posts and the indexes are; and a thread's exactly by the thread that the files have of the post.
+abbrev pub IsRead : PageQuery → Config → Dir → Answer → Type 0
+IsRead queries.List c dir answer = AreIndexesRead dir × AreThreadsRead dir
+IsRead (queries.Month year month page) c dir answer =
+    (text : Option Text) × (answer ≡ text_or_absent text) × (text ≡ None → may_be_there year month page ≡ true → AreIndexesRead dir)
+IsRead (queries.Thread first page) c dir answer =
+    (text : Option Text) × (answer ≡ text_or_absent text) × (found : Option Thread) × IsWholeAnswer dir c.prefix first found × IsPageFound first page found text
+
+-- what answers a page query of files: that of the posts for which they stand, read so
 abbrev pub IsAnswer : PageQuery → Config → Dir → Answer → Type 0
-IsAnswer query c dir answer = (posts : List Post) → IsArchive dir c.prefix posts → answer ≡ answer_of query c posts
+IsAnswer query c dir answer = ((posts : List Post) → IsArchive dir c.prefix posts → answer ≡ answer_of query c posts) × IsRead query c dir answer
 
 -- the number of posts, the indexes and the thread files
 abbrev pub IsListName : Name → Type 0

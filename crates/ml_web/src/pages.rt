@@ -6,6 +6,7 @@ ghost use Rattle.ml_base.specs.PartErrors.{OnDamaged};
 ghost use Rattle.ml_base.specs.ReadFiles.{IsReading, NamesDamaged};
 ghost use Rattle.ml_pages.specs.Counting.{months_of, threads_of};
 ghost use Rattle.ml_pages.specs.Pages as spec;
+ghost use Rattle.ml_pages.specs.Reads.{AreIndexesRead, AreThreadsRead};
 ghost use Rattle.ml_reading.specs.Meanings.{IsKnown};
 ghost use Rattle.ml_reading.specs.Queries.{text_or_absent};
 ghost use Rattle.ml_web.specs.Questions.{IsAnswer, IsBadFile, IsListName, IsBadForList, MayRead, page_meaning};
@@ -67,6 +68,7 @@ fn page_of<F: Files>(
 // The lines of the months and of the threads.
 fn pages_list<F: Files>(alloc: Global, config: &Config, files: &mut F) -> Result<Bytes, PartError>
     ensures value { IsTrue F.tells → IfOk result (λ text. (posts : List ThePost) → IsArchive (F.map files.old) config.now.prefix posts → text ≡ spec.list_text (months_of posts) (threads_of config.now.prefix posts)) }
+    ensures read { IsTrue F.tells → IfOk result (λ _. AreIndexesRead (F.map files.old) × AreThreadsRead (F.map files.old)) }
     ensures names { NamesDamaged ⟦<F as Files>⟧ IsListName (IsBadForList (F.map files.old)) result }
     ensures sound { IsTrue F.tells → (posts : List ThePost) → IsArchive (F.map files.old) config.now.prefix posts → IfErr result (λ e. OnDamaged e (λ _. ⊥)) }
     ensures reads { IsReading ⟦<F as Files>⟧ files.old files.new result }

@@ -1,18 +1,17 @@
-use Rattle.std.proofs.Common.{◌<◌, subst, rules, arith}
+use Rattle.std.proofs.Common.{◌<◌, subst, rules, arith, below_more}
 use Rattle.ml_base.specs.Dir.{Dir}
 use Rattle.ml_base.specs.PartErrors.{OnDamaged}
 use Rattle.ml_base.proofs.DamagedNames.{on_damaged}
 use Rattle.ml_base.proofs.ReadingLemmas.{kept_then, kept_read}
 use Rattle.ml_archive_audit.specs.Breaks.{AreBadGroups, AreGroupNames, IsBadGroup, IsGroupName}
-use Rattle.ml_archive_audit.specs.Found.{IsWhole}
-use Rattle.ml_archive_audit.proofs.Adding.{keyed_more}
+use Rattle.ml_archive_audit.specs.Found.{HasWhole}
 use Rattle.ml_archive_audit.proofs.Posted.{group_there}
 use Rattle.ml_archive_audit.proofs.groups.audit_groups.Goals as goal
 
-pub returns-in_err-entries-clause-names : goal.returns-in_err-entries-clause-names
-returns-in_err-entries-clause-names g c =
-    let e = c.in_err-entries.field-0.0 in
-    let failed = c.in_err-entries.ensures.names in
+pub returns-in_err-audit_group-clause-names : goal.returns-in_err-audit_group-clause-names
+returns-in_err-audit_group-clause-names g c =
+    let e = c.in_err-audit_group.field-0.0 in
+    let failed = c.in_err-audit_group.ensures.names in
     let group = c.loop-group.group in
     let there = group_there c.args.count group c.groups_of-group-end.result c.groups_of-group-end.ensures c.loop-group-test.true in
     let few = c.requires in
@@ -33,12 +32,8 @@ loop-group-preserved g c =
     let group = c.loop-group.group in
     record {
       read = kept_then g.F.Files g.met.F.Files.kept_then c.args.files.now c.loop-group.files c.audit_group.new.files before.read (kept_read g.F.Files c.loop-group.files c.audit_group.new.files c.audit_group.result c.audit_group.ensures.reads);
-      ordered = c.in_ok-add_entries.ensures.ordered before.ordered;
-      below = λ told.
+      whole = λ told.
           let dir = g.F.Files.map c.args.files.now in
           let same = g.met.F.Files.kept_map c.args.files.now c.loop-group.files told before.read.kept in
-          let whole = subst (λ (d : Dir). IsWhole d c.args.count group c.in_ok-entries.entries) same (c.in_ok-entries.ensures.value told) in
-          let there = group_there c.args.count group c.groups_of-group-end.result c.groups_of-group-end.ensures c.loop-group-test.true in
-          keyed_more dir c.args.prefix.now c.args.count group c.first_number.result c.loop-group.keys c.add_entries.new.keys c.in_ok-entries.entries c.as_slice.result.now there (before.below told) whole c.as_slice.ensures c.first_number.ensures
-          c.in_ok-add_entries.ensures.value;
+          below_more (λ h. HasWhole dir c.args.count h) group (before.whole told) (subst (λ (d : Dir). HasWhole d c.args.count group) same (c.in_ok-audit_group.ensures.value told));
     }

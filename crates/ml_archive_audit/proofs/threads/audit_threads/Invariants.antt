@@ -1,13 +1,14 @@
-use Rattle.std.proofs.Common.{◌≡◌, ◌<◌, ℕ, []}
-use Rattle.std.specs.Prelude.{unwrap_or}
+use Rattle.std.proofs.Common.{◌<◌, ◌-◌, ℕ}
 use Rattle.std.specs.Bool.{IsTrue}
 use Rattle.ml_base.specs.ReadFiles.{AreKept}
-use Rattle.ml_archive.specs.Threads.{thread_name}
-use Rattle.ml_archive_audit.specs.Found.{text_at}
+use Rattle.ml_archive_audit.specs.Breaks.{HasThreads}
 use Rattle.ml_archive_audit.proofs.threads.audit_threads.Given as goal
 
-abbrev pub invariant-loop-n : goal.invariant-loop-n
-invariant-loop-n g l = record {
+abbrev pub invariant-loop-from : goal.invariant-loop-from
+invariant-loop-from g l = record {
   read : AreKept g.F.Files l.fn.files l.files;
-  right : IsTrue g.F.Files.tells → (m : ℕ) → m < l.n → unwrap_or (g.F.Files.map l.fn.files (thread_name m)) [] ≡ text_at m l.keys.entries;
+  right : IsTrue g.F.Files.tells → (n : ℕ) → n < l.from → HasThreads (g.F.Files.map l.fn.files) l.fn.prefix n;
 }
+
+abbrev pub decreases-loop-from : goal.decreases-loop-from
+decreases-loop-from g l = 256 - l.from

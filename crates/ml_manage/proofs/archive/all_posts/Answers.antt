@@ -7,9 +7,9 @@ use Rattle.ml_archive.specs.Answers.{IsPostName}
 use Rattle.ml_archive.specs.Archive.{number_name}
 use Rattle.ml_archive.specs.Reads.{IsOfRow}
 use Rattle.ml_plain.specs.Directory.{IsList}
-use Rattle.ml_acts.specs.Damaged.{IsDamaged}
+use Rattle.ml_manage.specs.Reads.{IsDamagedAmong, IsDamagedPost}
 use Rattle.ml_manage.specs.Texts.{post_text}
-use Rattle.ml_manage.proofs.Posts.{one_more, one_of_row}
+use Rattle.ml_manage.proofs.Posts.{among_at, one_more, one_of_row}
 use Rattle.ml_manage.proofs.archive.all_posts.Goals as goal
 
 pub loop-number-preserved : goal.loop-number-preserved
@@ -33,6 +33,9 @@ returns-in_err-add_one-clause-names g c =
       named = let own : OnDamaged e (IsOfRow number_name ns) = on_damaged e (IsPostName (get_or ns i 0)) (IsOfRow number_name ns) (λ name is. one_of_row ns i name (omega arith) is) failed.named in search rules;
       damaged = λ told.
           let same = g.met.F.Files.kept_map c.args.files.now c.loop-number.files told c.loop-number.invariant.read.kept in
-          let bad : OnDamaged e (IsDamaged (g.F.Files.map c.args.files.now)) = subst (λ (d : Dir). OnDamaged e (IsDamaged d)) same (failed.damaged told) in
+          let dir = g.F.Files.map c.args.files.now in
+          let n = get_or ns i 0 in
+          let bad : OnDamaged e (IsDamagedAmong dir ns) =
+          on_damaged e (IsDamagedPost dir n) (IsDamagedAmong dir ns) (λ name is. record { damaged = is.damaged; bad = (n, among_at ns i (omega arith), is.bad) }) (subst (λ (d : Dir). OnDamaged e (IsDamagedPost d n)) same (failed.damaged told)) in
           search rules;
     }

@@ -1,18 +1,19 @@
-use Rattle.std.proofs.Common.{◌≡◌, ◌∙◌, ℕ, true, List, IfErr, sym, ap, subst, rules}
+use Rattle.std.proofs.Common.{◌≡◌, inl, inr, ◌∙◌, ℕ, true, List, IfErr, sym, ap, subst, rules}
 use Rattle.std.specs.List.{AllByRecursion}
 use Rattle.std.specs.Prelude.{unwrap_or}
 use Rattle.std.proofs.lemmas.Result.{IfOk-weaker}
 use Rattle.ml_base.specs.Dir.{Dir}
 use Rattle.ml_base.specs.PartErrors.{OnDamaged}
 use Rattle.ml_base.proofs.DamagedNames.{err_damaged}
-use Rattle.ml_archive.specs.Answers.{IsBadForRange}
+use Rattle.ml_archive.specs.Answers.{IsBadForRange, IsRangeByFiles}
 use Rattle.ml_archive.specs.Archive.{ArePosts, number_name}
 use Rattle.ml_archive.specs.Posts.{cut, in_range, numbers}
 use Rattle.ml_archive.specs.Reads.{IsOfRange, IsOfRow, IsWithin}
 use Rattle.ml_plain.specs.Directory.{IsList}
-use Rattle.ml_acts.specs.Damaged.{IsDamaged, range}
+use Rattle.ml_acts.specs.Asked.{IsBadAmong, IsDamagedOf, Range}
+use Rattle.ml_acts.specs.Damaged.{range}
 use Rattle.ml_acts.proofs.Damages.{named_of}
-use Rattle.ml_manage.specs.Reads.{is_of_posts}
+use Rattle.ml_manage.specs.Reads.{IsDamagedAmong, is_of_posts}
 use Rattle.ml_manage.specs.Texts.{posts_text}
 use Rattle.ml_manage.proofs.Posts.{posts_are, range_ones, range_read, row_read}
 use Rattle.ml_manage.proofs.archive.get_text.Goals as goal
@@ -23,23 +24,31 @@ returns-in_err-numbers-clause-names g c =
     let a = c.args.from in
     let b = c.unwrap_or.result in
     let last : b ≡ unwrap_or c.args.to a = search rules in
-    let names = named_of g.F.Files (λ name. is_of_posts a (unwrap_or c.args.to a) name ≡ true) _ (ArePosts dir) (IsOfRange a b) (IsBadForRange dir a b) (IsDamaged dir)
-    (λ name e. subst (λ (n : ℕ). is_of_posts a n name ≡ true) last (range_read a b name e)) (λ name bad no. range a b bad no) c.in_err-numbers.ensures.sound c.in_err-numbers.ensures.names in
+    let names = named_of g.F.Files (λ name. is_of_posts a (unwrap_or c.args.to a) name ≡ true) _ (ArePosts dir) (IsOfRange a b) (IsBadForRange dir a b) (IsDamagedOf dir (Range a (unwrap_or c.args.to a)))
+    (λ name e. subst (λ (n : ℕ). is_of_posts a n name ≡ true) last (range_read a b name e))
+    (λ name bad no. record { damaged = range a b bad no; own = λ of. inl (subst (λ (n : ℕ). IsBadForRange dir a n name) last bad) }) c.in_err-numbers.ensures.sound c.in_err-numbers.ensures.names in
     search rules
 
 pub returns-clause-names : goal.returns-clause-names
 returns-clause-names g c =
+    let dir = g.F.Files.map c.args.files.now in
     let a = c.args.from in
     let b = c.unwrap_or.result in
     let ns = c.as_slice.result.now in
+    let numbers = c.in_ok-numbers.numbers in
+    let r = c.posts_text.result in
     let last : b ≡ unwrap_or c.args.to a = search rules in
+    let asked = Range a (unwrap_or c.args.to a) in
     record {
-      named = err_damaged c.posts_text.result (IsOfRow number_name ns) (λ name. is_of_posts a (unwrap_or c.args.to a) name ≡ true)
+      named = err_damaged r (IsOfRow number_name ns) (λ name. is_of_posts a (unwrap_or c.args.to a) name ≡ true)
           (λ name own. subst (λ (n : ℕ). is_of_posts a n name ≡ true) last (row_read a b ns name (subst (λ (t : List ℕ). AllByRecursion (IsWithin a b) t) (sym c.as_slice.ensures) c.in_ok-numbers.ensures.within) own))
           c.posts_text.ensures.names.named;
       damaged = λ told.
           let same = g.met.F.Files.kept_map c.args.files.now c.range.new.files told c.range.ensures.reads.kept in
-          subst (λ (d : Dir). IfErr c.posts_text.result (λ e. OnDamaged e (IsDamaged d))) same (c.posts_text.ensures.names.damaged told);
+          let read : IsRangeByFiles dir a (unwrap_or c.args.to a) numbers = subst (λ (n : ℕ). IsRangeByFiles dir a n numbers) last (c.in_ok-numbers.ensures.read told) in
+          err_damaged r (IsDamagedAmong dir ns) (IsDamagedOf dir asked)
+          (λ name bad. record { damaged = bad.damaged; own = λ of. inr (numbers, read, subst (λ (t : List ℕ). IsBadAmong dir t name) c.as_slice.ensures bad.bad) })
+          (subst (λ (d : Dir). IfErr r (λ e. OnDamaged e (IsDamagedAmong d ns))) same (c.posts_text.ensures.names.damaged told));
     }
 
 pub returns-clause-value : goal.returns-clause-value

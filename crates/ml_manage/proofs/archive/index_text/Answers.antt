@@ -1,5 +1,5 @@
 use Rattle.std.proofs.Common.{◌≡◌, ◌∙◌, ◌/◌, true, ap, rules}
-use Rattle.ml_acts.proofs.Damages.{index_named}
+use Rattle.ml_acts.proofs.Asked.{group_named}
 use Rattle.ml_manage.specs.Reads.{is_of_index}
 use Rattle.ml_manage.specs.Texts.{entries_text}
 use Rattle.ml_manage.proofs.Posts.{index_is, index_read}
@@ -9,7 +9,7 @@ pub returns-in_err-entries-clause-names : goal.returns-in_err-entries-clause-nam
 returns-in_err-entries-clause-names g c =
     let dir = g.F.Files.map c.args.files.now in
     let at = c.args.at in
-    let names = index_named g.F.Files (λ name. is_of_index at name ≡ true) _ dir (at / 100) (index_read at) c.in_err-entries.ensures.sound c.in_err-entries.ensures.table c.in_err-entries.ensures.names in
+    let names = group_named g.F.Files (λ name. is_of_index at name ≡ true) _ dir (at / 100) (index_read at) c.in_err-entries.ensures.sound c.in_err-entries.ensures.table c.in_err-entries.ensures.names in
     search rules
 
 pub returns-clause-value : goal.returns-clause-value

@@ -1,21 +1,18 @@
-use Rattle.std.proofs.Common.{◌≡◌, ◌∙◌, ◌||◌, true, IfErr, sym, subst, rules}
+use Rattle.std.proofs.Common.{◌≡◌, ◌∙◌, ◌||◌, true, refl, sym, subst, rules}
 use Rattle.std.proofs.lemmas.Bool.{or_left, or_right}
 use Rattle.std.proofs.lemmas.Result.{IfOk-weaker}
-use Rattle.ml_address.specs.Requests.{Thread}
 use Rattle.ml_base.specs.Dir.{Dir, same_name}
-use Rattle.ml_base.specs.PartErrors.{OnDamaged}
-use Rattle.ml_base.proofs.DamagedNames.{err_both_damaged, err_damaged, on_damaged}
 use Rattle.ml_config.specs.ConfigFile.{IsConfigFile, config_name}
 use Rattle.ml_plain.specs.ArchiveText.{thread_text}
 use Rattle.ml_plain.specs.Directory.{IsList}
 use Rattle.ml_plain.specs.Managing.{from_archive, may_read}
 use Rattle.ml_plain.specs.Plain.{Plain}
 use Rattle.ml_queue.specs.Answers.{ids_name}
-use Rattle.ml_acts.specs.Damaged.{IsDamaged}
+use Rattle.ml_acts.specs.Asked.{ThreadOf}
 use Rattle.ml_acts.specs.Doing.{DoesList, HasIds}
-use Rattle.ml_acts.proofs.Damages.{named_so}
-use Rattle.ml_manage.specs.Reads.{IsDamagedFor, is_of_reader, is_of_thread}
-use Rattle.ml_manage.proofs.OfThreads.{ids_not, reader_not}
+use Rattle.ml_acts.proofs.Asked.{ids_other, named_beside}
+use Rattle.ml_manage.specs.Reads.{is_of_reader, is_of_thread}
+use Rattle.ml_manage.proofs.OfArchive.{reader_other}
 use Rattle.ml_manage.proofs.Sending.{closed, opened}
 use Rattle.ml_manage.proofs.archive.thread_of.Goals as goal
 
@@ -51,42 +48,14 @@ returns-in_err-may_read-clause-names g c =
     let dir = g.F.Files.map c.args.files.now in
     let conf = c.args.config.now in
     let sender = c.args.sender.now in
-    let names = named_so g.F.Files (λ name. (is_of_reader conf sender name || is_of_thread name || same_name name ids_name) ≡ true) _ (λ name. is_of_reader conf sender name ≡ true) (IsDamaged dir) (IsDamagedFor dir conf (Thread c.args.at))
-    (λ name e. or_left (is_of_reader conf sender name || is_of_thread name) (same_name name ids_name) (or_left (is_of_reader conf sender name) (is_of_thread name) e))
-    (λ name e bad. record { damaged = bad; threaded = λ of. absurd (reader_not name of conf sender e) }) c.in_err-may_read.ensures.names in
+    let names = named_beside g.F.Files (λ name. (is_of_reader conf sender name || is_of_thread name || same_name name ids_name) ≡ true) _ dir dir (ThreadOf conf.prefix c.args.at) (λ name. is_of_reader conf sender name ≡ true) (λ told. refl)
+    (λ name e. or_left (is_of_reader conf sender name || is_of_thread name) (same_name name ids_name) (or_left (is_of_reader conf sender name) (is_of_thread name) e)) (λ name e of. reader_other name conf sender e of) c.in_err-may_read.ensures.names in
     search rules
-
-pub returns-in_err-lines-clause-names : goal.returns-in_err-lines-clause-names
-returns-in_err-lines-clause-names g c =
-    let conf = c.args.config.now in
-    let sender = c.args.sender.now in
-    let at = c.args.at in
-    let e = c.in_err-lines.field-0.0 in
-    let failed = c.in_err-lines.ensures.names in
-    record {
-      named = let own : OnDamaged e (λ name. (is_of_reader conf sender name || is_of_thread name || same_name name ids_name) ≡ true) =
-          on_damaged e (λ name. is_of_thread name ≡ true) (λ name. (is_of_reader conf sender name || is_of_thread name || same_name name ids_name) ≡ true)
-          (λ name of. or_left (is_of_reader conf sender name || is_of_thread name) (same_name name ids_name) (or_right (is_of_reader conf sender name) (is_of_thread name) of)) failed.named in
-          search rules;
-      damaged = λ told.
-          let dir = g.F.Files.map c.args.files.now in
-          let first = g.met.F.Files.kept_map c.args.files.now c.may_read.new.files told c.may_read.ensures.reads.kept in
-          let bad : OnDamaged e (IsDamagedFor dir conf (Thread at)) = subst (λ (d : Dir). OnDamaged e (IsDamagedFor d conf (Thread at))) first (failed.damaged told) in
-          search rules;
-    }
 
 pub returns-clause-names : goal.returns-clause-names
 returns-clause-names g c =
-    let dir = g.F.Files.map c.args.files.now in
     let conf = c.args.config.now in
     let sender = c.args.sender.now in
-    let r = c.sent.result in
-    record {
-      named = err_damaged r (λ name. same_name name ids_name ≡ true) (λ name. (is_of_reader conf sender name || is_of_thread name || same_name name ids_name) ≡ true)
-          (λ name e. or_right (is_of_reader conf sender name || is_of_thread name) (same_name name ids_name) e) c.sent.ensures.names.named;
-      damaged = λ told.
-          let first = g.met.F.Files.kept_map c.args.files.now c.may_read.new.files told c.may_read.ensures.reads.kept in
-          let all = g.met.F.Files.kept_map c.may_read.new.files c.thread_text.new.files told c.thread_text.ensures.reads.kept ∙ first in
-          err_both_damaged r (λ name. same_name name ids_name ≡ true) (IsDamaged dir) (IsDamagedFor dir conf (Thread c.args.at)) (λ name e bad. record { damaged = bad; threaded = λ of. absurd (ids_not name of e) }) c.sent.ensures.names.named
-          (subst (λ (d : Dir). IfErr r (λ e. OnDamaged e (IsDamaged d))) all (c.sent.ensures.names.damaged told));
-    }
+    named_beside g.F.Files (λ name. (is_of_reader conf sender name || is_of_thread name || same_name name ids_name) ≡ true) c.sent.result (g.F.Files.map c.args.files.now) (g.F.Files.map c.thread_text.new.files) (ThreadOf conf.prefix c.args.at) (λ name. same_name name ids_name ≡ true)
+    (λ told. g.met.F.Files.kept_map c.may_read.new.files c.thread_text.new.files told c.thread_text.ensures.reads.kept ∙ g.met.F.Files.kept_map c.args.files.now c.may_read.new.files told c.may_read.ensures.reads.kept)
+    (λ name e. or_right (is_of_reader conf sender name || is_of_thread name) (same_name name ids_name) e) (λ name e of. ids_other name e of) c.sent.ensures.names

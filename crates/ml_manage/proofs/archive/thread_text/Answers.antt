@@ -1,22 +1,23 @@
-use Rattle.std.proofs.Common.{◌≡◌, ◌∙◌, ℕ, true, List, IfErr, sym, ap, subst, rules}
+use Rattle.std.proofs.Common.{◌≡◌, ◌∙◌, inl, inr, ℕ, true, List, IfErr, sym, ap, subst, rules}
 use Rattle.std.specs.List.{IsAmong}
 use Rattle.std.proofs.lemmas.Result.{IfOk-weaker}
-use Rattle.ml_address.specs.Requests.{Thread}
 use Rattle.ml_base.specs.Bytes.{Text}
 use Rattle.ml_base.specs.Dir.{Dir}
-use Rattle.ml_archive.specs.Answers.{IsBadForThread, IsThreadName}
+use Rattle.ml_archive.specs.Answers.{IsBadForThread, IsThreadAnswer, IsThreadName}
 use Rattle.ml_archive.specs.Archive.{number_name}
 use Rattle.ml_archive.specs.Reads.{IsOfRow, IsOfSubject, IsOfThread}
 use Rattle.ml_archive.specs.Posts.{cut, in_thread, numbers}
 use Rattle.ml_archive.specs.Threads.{IsArchive}
 use Rattle.ml_config.specs.declared.configuration.Config.{Config}
 use Rattle.ml_plain.specs.Directory.{IsList}
-use Rattle.ml_acts.specs.Damaged.{IsDamaged, thread}
+use Rattle.ml_base.specs.declared.names.Name.{Name}
+use Rattle.ml_acts.specs.Asked.{IsBadAmong, IsDamagedOf, ThreadOf}
+use Rattle.ml_acts.specs.Damaged.{thread}
 use Rattle.ml_acts.proofs.Damages.{on_all}
 use Rattle.ml_base.proofs.DamagedNames.{err_both_damaged, err_damaged, on_both, on_damaged}
 use Rattle.ml_base.specs.PartErrors.{OnDamaged}
 use Rattle.ml_archive.specs.declared.posts.Post.{Post}
-use Rattle.ml_manage.specs.Reads.{IsDamagedFor, is_of_thread}
+use Rattle.ml_manage.specs.Reads.{IsDamagedAmong, is_of_thread}
 use Rattle.ml_manage.specs.Texts.{posts_text}
 use Rattle.ml_manage.proofs.Posts.{posts_are, row_of_thread, row_thread_read, thread_ones, thread_read}
 use Rattle.ml_manage.proofs.archive.thread_text.Goals as goal
@@ -32,11 +33,11 @@ returns-in_err-numbers-clause-names g c =
     record {
       named = let own : OnDamaged e (λ name. is_of_thread name ≡ true) = on_damaged e IsThreadName (λ name. is_of_thread name ≡ true) thread_read failed.named in search rules;
       damaged = λ told.
-          let bad : OnDamaged e (IsDamagedFor dir conf (Thread n)) =
-          on_both e (λ name. IsBadForThread dir c.as_slice.result.now n name × IsOfThread dir c.as_slice.result.now n name) (λ _. (posts : List Post) → IsArchive dir conf.prefix posts → ⊥) (IsDamagedFor dir conf (Thread n))
+          let bad : OnDamaged e (IsDamagedOf dir (ThreadOf conf.prefix n)) =
+          on_both e (λ name. IsBadForThread dir c.as_slice.result.now n name × IsOfThread dir c.as_slice.result.now n name) (λ _. (posts : List Post) → IsArchive dir conf.prefix posts → ⊥) (IsDamagedOf dir (ThreadOf conf.prefix n))
           (λ name bad none. record {
             damaged = thread conf n (c.requires told) (subst (λ (t : Text). IsBadForThread dir t n name) prefix bad.0) none;
-            threaded = λ _. subst (λ (t : Text). IsOfThread dir t n name) prefix bad.1;
+            own = λ of. (subst (λ (t : Text). IsOfThread dir t n name) prefix bad.1, inl (subst (λ (t : Text). IsBadForThread dir t n name) prefix bad.0));
           }) (failed.damaged told)
           (on_all e (IsArchive dir conf.prefix) (λ posts is. c.in_err-numbers.ensures.sound told posts (subst (λ (t : Text). IsArchive dir t posts) (sym prefix) is))) in
           search rules;
@@ -54,9 +55,13 @@ returns-clause-names g c =
       named = err_damaged r (IsOfRow number_name ns) (λ name. is_of_thread name ≡ true) (λ name own. row_thread_read ns name own) c.posts_text.ensures.names.named;
       damaged = λ told.
           let same = g.met.F.Files.kept_map c.args.files.now c.thread.new.files told c.thread.ensures.reads.kept in
-          err_both_damaged r (IsOfRow number_name ns) (IsDamaged dir) (IsDamagedFor dir conf (Thread n))
-          (λ name own bad. record { damaged = bad; threaded = λ _. row_of_thread dir conf.prefix n ns name (λ m among. subst (λ (t : Text). IsOfSubject dir t n m) prefix (c.in_ok-numbers.ensures.among told m (subst (λ (t : List ℕ). IsAmong t m) c.as_slice-2.ensures among))) own })
-          c.posts_text.ensures.names.named (subst (λ (d : Dir). IfErr r (λ e. OnDamaged e (IsDamaged d))) same (c.posts_text.ensures.names.damaged told));
+          let numbers = c.in_ok-numbers.numbers in
+          let read : IsThreadAnswer dir conf.prefix n numbers = subst (λ (t : Text). IsThreadAnswer dir t n numbers) prefix (c.in_ok-numbers.ensures.read told) in
+          let answered : (name : Name) → IsOfRow number_name ns name → IsOfThread dir conf.prefix n name =
+          λ name own. row_of_thread dir conf.prefix n ns name (λ m among. subst (λ (t : Text). IsOfSubject dir t n m) prefix (c.in_ok-numbers.ensures.among told m (subst (λ (t : List ℕ). IsAmong t m) c.as_slice-2.ensures among))) own in
+          err_both_damaged r (IsOfRow number_name ns) (IsDamagedAmong dir ns) (IsDamagedOf dir (ThreadOf conf.prefix n))
+          (λ name own bad. record { damaged = bad.damaged; own = λ of. (answered name own, inr (numbers, read, subst (λ (t : List ℕ). IsBadAmong dir t name) c.as_slice-2.ensures bad.bad)) })
+          c.posts_text.ensures.names.named (subst (λ (d : Dir). IfErr r (λ e. OnDamaged e (IsDamagedAmong d ns))) same (c.posts_text.ensures.names.damaged told));
     }
 
 pub returns-clause-value : goal.returns-clause-value

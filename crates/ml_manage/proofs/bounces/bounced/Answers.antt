@@ -1,4 +1,5 @@
-use Rattle.std.proofs.Common.{◌∙◌, sym, subst}
+use Rattle.std.proofs.Common.{◌≡◌, ◌||◌, true, ◌∙◌, sym, subst}
+use Rattle.std.proofs.lemmas.Bool.{or_right}
 use Rattle.std.specs.Prelude.{◌&&◌}
 use Rattle.ml_base.specs.Address.{key}
 use Rattle.ml_base.specs.Dir.{Dir}
@@ -7,7 +8,10 @@ use Rattle.ml_plain.specs.Bouncing.{if_changed, is_used}
 use Rattle.ml_plain.specs.Directory.{IsList}
 use Rattle.ml_plain.specs.Plain.{Plain, is_in, ledger_of}
 use Rattle.std.proofs.lemmas.Result.{IfOk-weaker}
-use Rattle.ml_acts.specs.Doing.{DoesList}
+use Rattle.ml_acts.specs.Asked.{Count}
+use Rattle.ml_acts.specs.Doing.{DoesList, is_bucket_of, is_entry_of}
+use Rattle.ml_acts.proofs.Asked.{entry_other, named_beside}
+use Rattle.ml_manage.specs.Reads.{is_counted_in, is_of_bounce}
 use Rattle.ml_manage.proofs.Bounced.{not_noted, noted}
 use Rattle.ml_manage.proofs.bounces.bounced.Goals as goal
 
@@ -30,3 +34,11 @@ returns-clause-value g c told =
     (sym (c.in_ok-was_mailed.ensures.value told p is) ∙ c.if-not-branch.false)
     (subst (λ (d : Dir). (q : Plain) → IsList d q → DoesList d done (if_changed q set (note (key x) c.args.number c.args.now (ledger_of q set)))) same does p is))
     (c.noted.ensures.value told)
+
+pub returns-clause-names : goal.returns-clause-names
+returns-clause-names g c =
+    let set = c.args.set in
+    let x = c.args.x.now in
+    named_beside g.F.Files (λ name. is_of_bounce set x name ≡ true) c.noted.result (g.F.Files.map c.args.files.now) (g.F.Files.map c.was_mailed.new.files) Count (λ name. is_entry_of set x name ≡ true)
+    (λ told. g.met.F.Files.kept_map c.args.files.now c.was_mailed.new.files told c.was_mailed.ensures.reads.kept)
+    (λ name e. or_right (is_bucket_of set x name || is_counted_in set name) (is_entry_of set x name) e) (λ name e of. entry_other name set x e of) c.noted.ensures.names

@@ -1,14 +1,16 @@
-use Rattle.std.proofs.Common.{◌≡◌, true, sym, subst, rules}
+use Rattle.std.proofs.Common.{◌≡◌, true, refl, sym, subst, rules}
 use Rattle.ml_base.specs.Dir.{same_name}
 use Rattle.ml_base.specs.declared.names.Name.{Name}
 use Rattle.ml_digest.specs.Due.{IsNoMark, mark_name}
-use Rattle.ml_acts.specs.Damaged.{IsDamaged, mark}
-use Rattle.ml_acts.proofs.Damages.{named_so, same_self}
+use Rattle.ml_acts.specs.Asked.{Count, IsDamagedOf}
+use Rattle.ml_acts.specs.Damaged.{mark}
+use Rattle.ml_acts.proofs.Asked.{named_as, other_name}
+use Rattle.ml_acts.proofs.Damages.{same_self}
 use Rattle.ml_manage.proofs.bounces.is_issue.Goals as goal
 
 pub returns-in_err-mark-clause-names : goal.returns-in_err-mark-clause-names
 returns-in_err-mark-clause-names g c =
     let dir = g.F.Files.map c.args.files.now in
-    let names = named_so g.F.Files (λ name. same_name name mark_name ≡ true) _ (λ name. name ≡ mark_name) (λ _. IsNoMark dir) (IsDamaged dir)
-    (λ name e. subst (λ (a : Name). same_name a mark_name ≡ true) (sym e) (same_self mark_name)) (λ name e no. mark e no) c.in_err-mark.ensures.names in
+    let names = named_as g.F.Files (λ name. same_name name mark_name ≡ true) _ dir dir (λ name. name ≡ mark_name) (λ d _. IsNoMark d) (IsDamagedOf dir Count) (λ told. refl)
+    (λ name e. subst (λ (a : Name). same_name a mark_name ≡ true) (sym e) (same_self mark_name)) (λ name e no. record { damaged = mark e no; own = λ of. absurd (other_name name mark_name refl e of) }) c.in_err-mark.ensures.names in
     search rules

@@ -11,7 +11,7 @@ use Rattle.ml_plain.specs.declared.Reply.{Reply}
 use Rattle.ml_acts.proofs.Damages.{fewer_named}
 use Rattle.ml_manage.specs.Reads.{IsDamagedFor, is_read_for, may_read}
 use Rattle.ml_manage.proofs.Others.{may_read_other, of_sender}
-use Rattle.ml_manage.proofs.OfThreads.{for_other}
+use Rattle.ml_manage.proofs.OfArchive.{for_asked, for_other}
 use Rattle.ml_manage.proofs.managing.by_request.Goals as goal
 
 pub returns-in-Bounce-clause-value : goal.returns-in-Bounce-clause-value
@@ -22,8 +22,10 @@ returns-in-Bounce-clause-value g c told =
 
 pub returns-in-Bounce-clause-names : goal.returns-in-Bounce-clause-names
 returns-in-Bounce-clause-names g c =
-    subst (λ (r : Request). NamesDamaged g.F.Files (λ name. may_read c.args.config.now c.args.sender.now (request_view r) name ≡ true) (IsDamagedFor (g.F.Files.map c.args.files.now) c.args.config.now (request_view r)) c.of_bounce.result) (sym c.in-Bounce.is)
-    (for_other g.F.Files _ c.of_bounce.result (g.F.Files.map c.args.files.now) c.args.config.now _ (λ name. tt) c.of_bounce.ensures.names)
+    let dir = g.F.Files.map c.args.files.now in
+    let conf = c.args.config.now in
+    subst (λ (r : Request). NamesDamaged g.F.Files (λ name. may_read conf c.args.sender.now (request_view r) name ≡ true) (IsDamagedFor dir conf (request_view r)) c.of_bounce.result) (sym c.in-Bounce.is)
+    (for_asked g.F.Files _ c.of_bounce.result dir conf _ _ (λ name own. own) c.of_bounce.ensures.names)
 
 pub returns-in-WarnBounce-clause-value : goal.returns-in-WarnBounce-clause-value
 returns-in-WarnBounce-clause-value g c told =

@@ -11,11 +11,12 @@ use Rattle.ml_base.specs.Dir.{same_name}
 use Rattle.ml_plain.specs.Plain.{Plain}
 use Rattle.ml_plain.specs.declared.Reply.{Reply}
 use Rattle.ml_queue.specs.Answers.{ids_name}
+use Rattle.ml_acts.proofs.Asked.{ids_other}
 use Rattle.ml_acts.proofs.Damages.{named_so}
 use Rattle.ml_acts.proofs.HeldConfig.{listed, named_held}
 use Rattle.ml_manage.specs.Reads.{IsDamagedFor, is_asked_of, is_managed}
 use Rattle.ml_manage.proofs.Others.{is_asked_other, of_nothing}
-use Rattle.ml_manage.proofs.OfThreads.{for_other, threaded_other}
+use Rattle.ml_manage.proofs.OfArchive.{beside_request, for_asked, for_other}
 use Rattle.ml_manage.proofs.Sending.{room_ids}
 use Rattle.ml_manage.proofs.managing.managed.Goals as goal
 
@@ -45,7 +46,7 @@ returns-in-Get-clause-value g c told =
 pub returns-in-Get-clause-names : goal.returns-in-Get-clause-names
 returns-in-Get-clause-names g c =
     subst (λ (r : Request). NamesDamaged g.F.Files (λ name. is_asked_of c.args.config.now c.args.sender.now (request_view r) name ≡ true) (IsDamagedFor (g.F.Files.map c.args.files.now) c.args.config.now (request_view r)) c.get.result) (sym c.in-Get.is)
-    (for_other g.F.Files _ c.get.result (g.F.Files.map c.args.files.now) c.args.config.now _ (λ name. tt) c.get.ensures.names)
+    (for_asked g.F.Files _ c.get.result (g.F.Files.map c.args.files.now) c.args.config.now _ _ (λ name own. own) c.get.ensures.names)
 
 pub index_of-requires-clause-room : goal.index_of-requires-clause-room
 index_of-requires-clause-room g c told = room_ids (g.F.Files.map c.args.files.now) (c.requires.room told)
@@ -59,7 +60,7 @@ returns-in-Index-clause-value g c told =
 pub returns-in-Index-clause-names : goal.returns-in-Index-clause-names
 returns-in-Index-clause-names g c =
     subst (λ (r : Request). NamesDamaged g.F.Files (λ name. is_asked_of c.args.config.now c.args.sender.now (request_view r) name ≡ true) (IsDamagedFor (g.F.Files.map c.args.files.now) c.args.config.now (request_view r)) c.index_of.result) (sym c.in-Index.is)
-    (for_other g.F.Files _ c.index_of.result (g.F.Files.map c.args.files.now) c.args.config.now _ (λ name. tt) c.index_of.ensures.names)
+    (for_asked g.F.Files _ c.index_of.result (g.F.Files.map c.args.files.now) c.args.config.now _ _ (λ name own. own) c.index_of.ensures.names)
 
 pub thread_of-requires-clause-room : goal.thread_of-requires-clause-room
 thread_of-requires-clause-room g c told = room_ids (g.F.Files.map c.args.files.now) (c.requires.room told)
@@ -73,7 +74,7 @@ returns-in-Thread-clause-value g c told =
 pub returns-in-Thread-clause-names : goal.returns-in-Thread-clause-names
 returns-in-Thread-clause-names g c =
     subst (λ (r : Request). NamesDamaged g.F.Files (λ name. is_asked_of c.args.config.now c.args.sender.now (request_view r) name ≡ true) (IsDamagedFor (g.F.Files.map c.args.files.now) c.args.config.now (request_view r)) c.thread_of.result) (sym c.in-Thread.is)
-    c.thread_of.ensures.names
+    (for_asked g.F.Files _ c.thread_of.result (g.F.Files.map c.args.files.now) c.args.config.now _ _ (λ name own. own) c.thread_of.ensures.names)
 
 pub helped-requires-clause-room : goal.helped-requires-clause-room
 helped-requires-clause-room g c told = room_ids (g.F.Files.map c.args.files.now) (c.requires.room told)
@@ -95,7 +96,7 @@ returns-in_default-clause-names g c =
     let dir = g.F.Files.map c.args.files.now in
     named_so g.F.Files (λ name. is_asked_of conf sender (request_view r) name ≡ true) c.helped.result (λ name. same_name name ids_name ≡ true) (IsDamaged dir) (IsDamagedFor dir conf (request_view r))
     (λ name e. is_asked_other conf sender name r c.in_default.not-Subscribe c.in_default.not-Unsubscribe c.in_default.not-Members c.in_default.not-Confirm c.in_default.not-Get c.in_default.not-Index c.in_default.not-Thread c.requires.request ∙ e)
-    (λ name e bad. record { damaged = bad; threaded = threaded_other dir conf name r c.in_default.not-Thread }) c.helped.ensures.names
+    (λ name e bad. record { damaged = bad; own = beside_request dir conf name (λ of. ids_other name e of) (request_view r) }) c.helped.ensures.names
 
 -- the parts of a request
 in_range : (r s : Request) → r ≡ s → is_managed (request_view r) ≡ true → is_managed (request_view s) ≡ true

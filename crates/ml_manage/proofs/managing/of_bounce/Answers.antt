@@ -4,7 +4,7 @@ use Rattle.ml_base.specs.Bytes.{Text}
 use Rattle.ml_base.specs.ReadFiles.{NamesDamaged}
 use Rattle.ml_plain.specs.Directory.{IsList}
 use Rattle.ml_plain.specs.Plain.{Plain}
-use Rattle.ml_acts.specs.Damaged.{IsDamaged}
+use Rattle.ml_acts.specs.Asked.{Count, IsDamagedOf}
 use Rattle.ml_acts.specs.Doing.{DoesList}
 use Rattle.ml_plain.specs.Bouncing.{bounced}
 use Rattle.ml_manage.specs.Reads.{is_of_bounce}
@@ -26,4 +26,4 @@ returns-clause-value g c told =
 
 pub returns-clause-names : goal.returns-clause-names
 returns-clause-names g c =
-    subst (λ (x : Text). NamesDamaged g.F.Files (λ name. is_of_bounce c.args.set x name ≡ true) (IsDamaged (g.F.Files.map c.args.files.now)) c.bounced.result) c.in_ok-x.ensures (c.bounced.ensures.names)
+    subst (λ (x : Text). NamesDamaged g.F.Files (λ name. is_of_bounce c.args.set x name ≡ true) (IsDamagedOf (g.F.Files.map c.args.files.now) Count) c.bounced.result) c.in_ok-x.ensures (c.bounced.ensures.names)

@@ -61,5 +61,5 @@ returns-clause-value g c told =
       bytes = bytes;
       there = sym (ap (λ (m : ℕ). dir (post_name m)) same) ∙ c.in_ok-message.ensures.read told;
       size = c.in_ok-message.ensures.size;
-      added = c.in_ok-push_mail.ensures ∙ ap (λ (m : Mailed). c.args.out.now ++ mail_text m) mail;
+      added = c.in_ok-push_mail.ensures.ok ∙ ap (λ (m : Mailed). c.args.out.now ++ mail_text m) mail;
     }

@@ -12,7 +12,7 @@ returns-clause-complete g c told q state =
     let config = c.args.config.now in
     let query = c.args.self.now in
     IfOk-weaker c.page_of.result _ _
-    (λ answer is. is q.plain.posts (archive dir config (c.requires.config told) q state) ∙ ap (λ (d : Config). answer_of query d q.plain.posts) (sym (same_config dir config (c.requires.config told) q state)))
+    (λ answer is. is.0 q.plain.posts (archive dir config (c.requires.config told) q state) ∙ ap (λ (d : Config). answer_of query d q.plain.posts) (sym (same_config dir config (c.requires.config told) q state)))
     (c.page_of.ensures.value told)
 
 pub returns-clause-sound : goal.returns-clause-sound
