@@ -54,6 +54,9 @@ module _ (c d : Config) (old dir : Dir) (same : d ≡ c) (kept : dir ≡ old) wh
       subst (λ (x : Dir). DoesList x done (step p)) over (value p (subst (λ (x : Dir). IsList x p) (sym over) list) (config_of c old p is list))
 
   module _ {T : Type 0} (r : Result T PartError) where
+    pub named_under : (Bad : Dir → Name → Type 0) → IfErr r (λ e. OnDamaged e (Bad (with_config d dir))) → IfErr r (λ e. OnDamaged e (Bad (with_config c old)))
+    named_under Bad bad = subst (λ (x : Dir). IfErr r (λ e. OnDamaged e (Bad x))) over bad
+
     pub bad_under : IfErr r (λ e. OnDamaged e (IsDamaged (with_config d dir))) → IfErr r (λ e. OnDamaged e (IsDamaged (with_config c old)))
     bad_under bad = subst (λ (x : Dir). IfErr r (λ e. OnDamaged e (IsDamaged x))) over bad
 

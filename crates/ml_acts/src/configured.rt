@@ -1,5 +1,5 @@
 // Files as they read under a configuration.
-ghost use Rattle.std.specs.Prelude.{◌≡◌, ◌≤◌, IsTrue, IfOk, IsErrOf};
+ghost use Rattle.std.specs.Prelude.{◌≡◌, ◌≤◌, IsTrue, IfOk, IsErrOf, is_some};
 ghost use Rattle.ml_base.specs.Faults.{Rose};
 ghost use Rattle.ml_base.specs.Name.{is_file};
 ghost use Rattle.ml_base.specs.declared.files.FilesError.TheVariants.{Fault};
@@ -7,7 +7,7 @@ ghost use Rattle.ml_acts.specs.Configured.{with_config};
 ghost use Rattle.std.proofs.Common.{refl, ap, ◌∙◌};
 
 use ml_base::{Bytes, Files, FilesError, Name};
-use ml_config::Config;
+use ml_config::{Config, write_config};
 use std::alloc::Global;
 
 // The file of the configuration.
@@ -40,7 +40,7 @@ impl<F: Files> Files for Configured<'_, F> {
 
     ghost kept = { λ a b. F.kept a.files.now b.files.now × (b.config.now ≡ a.config.now) × (b.files.ghost_name ≡ a.files.ghost_name) };
 
-    /// The bytes of a file, or None where it is absent. The configuration is at hand and not read: for its file there is no memory.
+    /// The bytes of a file, or None where it is absent. The configuration is at hand and not read: its file is what it is spelled as.
     fn get(&mut self, alloc: Global, name: Name) -> Result<Option<Bytes>, FilesError>
         requires { IsTrue (is_file name) }
         ensures value { IsTrue F.tells → IfOk result (λ found. found ≡ with_config self.old.config.now (F.map self.old.files.now) name) }
@@ -49,9 +49,23 @@ impl<F: Files> Files for Configured<'_, F> {
         ensures cause { IsErrOf result Fault → Rose (F.faults self.old.files.now) (F.faults self.new.files.now) }
     {
         if name == CONFIG {
-            return Err(FilesError::Memory);
+            return Ok(Some(write_config(alloc, self.config)?));
         }
         self.files.get(alloc, name)
+    }
+
+    /// Whether a file is there. The configuration is.
+    fn has(&mut self, alloc: Global, name: Name) -> Result<bool, FilesError>
+        requires { IsTrue (is_file name) }
+        ensures value { IsTrue F.tells → IfOk result (λ there. there ≡ is_some (with_config self.old.config.now (F.map self.old.files.now) name)) }
+        ensures kept { F.kept self.old.files.now self.new.files.now × (self.new.config.now ≡ self.old.config.now) × (self.new.files.ghost_name ≡ self.old.files.ghost_name) }
+        ensures later { F.faults self.old.files.now ≤ F.faults self.new.files.now }
+        ensures cause { IsErrOf result Fault → Rose (F.faults self.old.files.now) (F.faults self.new.files.now) }
+    {
+        if name == CONFIG {
+            return Ok(true);
+        }
+        self.files.has(alloc, name)
     }
 
     ghost kept_self = { λ c. (F.kept_self c.files.now, refl, refl) };

@@ -7,11 +7,14 @@ use Rattle.ml_address.specs.Reading.{request_of}
 use Rattle.ml_address.specs.Requests.{PlainRequest, Post, Accept, Reject}
 use Rattle.ml_config.specs.ConfigFile.{IsConfigFile, config_name}
 use Rattle.ml_config.specs.declared.configuration.Config.{Config}
+use Rattle.ml_archive.specs.Threads.{is_of_archive}
+use Rattle.ml_acts.specs.Asked.{IsBadFor, Next}
 use Rattle.ml_acts.specs.Damaged.{IsDamaged}
 use Rattle.ml_hold.specs.Answers.{tickets_name}
-use Rattle.ml_manage.specs.Reads.{IsThreaded, may_read}
-use Rattle.ml_post.specs.Answering.{is_answered_by}
+use Rattle.ml_manage.specs.Reads.{IsForRequest, may_read}
+use Rattle.ml_post.specs.Answering.{IsBadForTicket, is_answered_by}
 use Rattle.ml_post.specs.Posting.{is_posted_by}
+use Rattle.ml_post.specs.Publishing.{sent_key}
 use Rattle.ml_queue.specs.Answers.{ids_name}
 
 -- the counters that are looked at before anything else
@@ -25,22 +28,32 @@ is_requested c sender (Accept ticket cookie) name = is_answered_by ticket true n
 is_requested c sender (Reject ticket cookie) name = is_answered_by ticket false name
 is_requested c sender request name = may_read c sender request name
 
--- A file that a request may read, where there is one: none is read for a recipient who isn't the list's.
-abbrev pub IsRequested : Dir → Config → Text → Option PlainRequest → Name → Type 0
-IsRequested dir c sender None name = ⊥
-IsRequested dir c sender (Some request) name = (is_requested c sender request name ≡ true) × IsThreaded dir c request name
+-- What a request asks of the archive with the message that came: a post, or one that waits under a ticket, a place behind the last one, by the key of
+-- its own subject; any other what it says.
+abbrev pub IsForMail : Dir → Config → Text → PlainRequest → Name → Type 0
+IsForMail dir c m Post name = is_of_archive name ≡ true → IsBadFor dir (Next (sent_key c m)) name
+IsForMail dir c m (Accept ticket cookie) name = is_of_archive name ≡ true → IsBadForTicket dir c ticket name
+IsForMail dir c m (Reject ticket cookie) name = is_of_archive name ≡ true → IsBadForTicket dir c ticket name
+IsForMail dir c m request name = IsForRequest dir c request name
+
+-- A file that a request may read, where there is one, and of the archive one that is damaged for what it asks: none is read for a recipient who
+-- isn't the list's.
+abbrev pub IsRequested : Dir → Config → Text → Text → Option PlainRequest → Name → Type 0
+IsRequested dir c sender m None name = ⊥
+IsRequested dir c sender m (Some request) name = (is_requested c sender request name ≡ true) × IsForMail dir c m request name
 
 -- a counter that is looked at first, or a file that the request may read
-abbrev pub IsServed : Dir → Config → Text → Option PlainRequest → Name → Type 0
-IsServed dir c sender request name = (is_of_worn name ≡ true) ⊎ IsRequested dir c sender request name
+abbrev pub IsServed : Dir → Config → Text → Text → Option PlainRequest → Name → Type 0
+IsServed dir c sender m request name = (is_of_worn name ≡ true) ⊎ IsRequested dir c sender m request name
 
 -- a damaged one
-pub record IsDamagedServed (dir : Dir) (c : Config) (sender : Text) (request : Option PlainRequest) (name : Name) : Type 0 where
+pub record IsDamagedServed (dir : Dir) (c : Config) (sender m : Text) (request : Option PlainRequest) (name : Name) : Type 0 where
   pub damaged : IsDamaged dir name
-  pub served : IsServed dir c sender request name
+  pub served : IsServed dir c sender m request name
 
--- A file that a delivery may read: by the configuration that the files hold, under which its recipient is a request, of certain numbers.
-pub record IsDelivered (dir : Dir) (sender recipient : Text) (name : Name) : Type 0 where
+-- A file that a delivery may read: by the configuration that the files hold, under which its recipient is a request, of certain numbers. One of
+-- the archive is damaged for what this asks of it.
+pub record IsDelivered (dir : Dir) (sender recipient m : Text) (name : Name) : Type 0 where
   pub config : Config
   pub held : IsConfigFile (dir config_name) config
-  pub served : IsServed dir config sender (request_of config.local config.host recipient) name
+  pub served : IsServed dir config sender m (request_of config.local config.host recipient) name

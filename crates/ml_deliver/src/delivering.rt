@@ -33,8 +33,9 @@ use std::alloc::Global;
 /// Where ids or tickets are worn out it is `full`. Else the recipient decides: one that isn't the list's is `notours`, the list's own address
 /// takes posts, and its other addresses take requests, bounces and moderators' answers. `Damaged` names a file that is outside its grammar, or
 /// names what isn't there, and that the delivery may read: a counter that is looked at first, or what the request reads, by its own numbers,
-/// which the recipient is under the configuration that the files hold. `Fault` comes only where a read failed. The configuration is there: who
-/// asks has looked at it, and where it isn't, there is no memory.
+/// which the recipient is under the configuration that the files hold. A file of the archive is damaged for these numbers, or for the post's own
+/// place and subject. `Fault` comes only where a read failed. The configuration is there: who asks has looked at it, and where it isn't, there
+/// is no memory.
 ///
 /// `now` is in seconds since 1970. The memo is what an earlier delivery left, or nothing.
 pub fn deliver<F: Files>(
@@ -51,7 +52,7 @@ pub fn deliver<F: Files>(
     ensures own { IfOk result (λ done. touches_only is_of_list done.0 ≡ true) }
     ensures files { IfOk result (λ done. IsTrue (are_files done.0)) }
     ensures reply { IfOk result (λ done. is_kept done.1 ≡ true) }
-    ensures names { NamesDamaged ⟦<F as Files>⟧ (λ name. is_of_acts name ≡ true) (λ name. IsDamaged (F.map files.old) name × IsDelivered (F.map files.old) sender.now recipient.now name) result }
+    ensures names { NamesDamaged ⟦<F as Files>⟧ (λ name. is_of_acts name ≡ true) (λ name. IsDamaged (F.map files.old) name × IsDelivered (F.map files.old) sender.now recipient.now message.now name) result }
     ensures reads { IsReading ⟦<F as Files>⟧ files.old files.new result }
 {
     let config = configuration(alloc, files)?;
@@ -76,7 +77,7 @@ fn unless_worn<F: Files>(
     ensures own { IfOk result (λ done. touches_only is_of_list done.0 ≡ true) }
     ensures files { IfOk result (λ done. IsTrue (are_files done.0)) }
     ensures reply { IfOk result (λ done. is_kept done.1 ≡ true) }
-    ensures names { NamesDamaged ⟦<F as Files>⟧ (λ name. is_of_acts name ≡ true) (IsDamagedServed (F.map files.old) config.now sender.now (request_of config.now.local config.now.host recipient.now)) result }
+    ensures names { NamesDamaged ⟦<F as Files>⟧ (λ name. is_of_acts name ≡ true) (IsDamagedServed (F.map files.old) config.now sender.now message.now (request_of config.now.local config.now.host recipient.now)) result }
     ensures reads { IsReading ⟦<F as Files>⟧ files.old files.new result }
 {
     if is_worn(alloc, files)? {
@@ -119,7 +120,7 @@ fn by_recipient<F: Files>(
     ensures own { IfOk result (λ done. touches_only is_of_list done.0 ≡ true) }
     ensures files { IfOk result (λ done. IsTrue (are_files done.0)) }
     ensures reply { IfOk result (λ done. is_kept done.1 ≡ true) }
-    ensures names { NamesDamaged ⟦<F as Files>⟧ (λ name. is_of_acts name ≡ true) (λ name. IsDamaged (F.map files.old) name × IsRequested (F.map files.old) config.now sender.now (request_of config.now.local config.now.host recipient.now) name) result }
+    ensures names { NamesDamaged ⟦<F as Files>⟧ (λ name. is_of_acts name ≡ true) (λ name. IsDamaged (F.map files.old) name × IsRequested (F.map files.old) config.now sender.now message.now (request_of config.now.local config.now.host recipient.now) name) result }
     ensures reads { IsReading ⟦<F as Files>⟧ files.old files.new result }
 {
     let local = config.local.as_slice();
@@ -152,7 +153,7 @@ fn by_request<F: Files>(
     ensures own { IfOk result (λ done. touches_only is_of_list done.0 ≡ true) }
     ensures files { IfOk result (λ done. IsTrue (are_files done.0)) }
     ensures reply { IfOk result (λ done. is_kept done.1 ≡ true) }
-    ensures names { NamesDamaged ⟦<F as Files>⟧ (λ name. is_of_acts name ≡ true) (λ name. IsDamaged (F.map files.old) name × IsRequested (F.map files.old) config.now sender.now (Some (request_view request.now)) name) result }
+    ensures names { NamesDamaged ⟦<F as Files>⟧ (λ name. is_of_acts name ≡ true) (λ name. IsDamaged (F.map files.old) name × IsRequested (F.map files.old) config.now sender.now message.now (Some (request_view request.now)) name) result }
     ensures reads { IsReading ⟦<F as Files>⟧ files.old files.new result }
 {
     match request {

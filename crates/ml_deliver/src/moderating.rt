@@ -12,9 +12,8 @@ ghost use Rattle.ml_plain.specs.Directory.{IsList, is_of_list};
 ghost use Rattle.ml_plain.specs.KeptFiles.{is_kept};
 ghost use Rattle.ml_plain.specs.Managing as spec;
 ghost use Rattle.ml_plain.specs.Plain.{Plain};
-ghost use Rattle.ml_acts.specs.Damaged.{IsDamaged};
 ghost use Rattle.ml_acts.specs.Doing.{DoesList, HasIds};
-ghost use Rattle.ml_post.specs.Answering.{is_answered_by};
+ghost use Rattle.ml_post.specs.Answering.{IsDamagedOfTicket, is_answered_by};
 ghost use Rattle.ml_deliver.specs.Moderating.{answer_to};
 
 use crate::delivering::plain;
@@ -45,7 +44,7 @@ pub(crate) fn moderated<F: Files>(
     ensures own { IfOk result (λ done. touches_only is_of_list done.0 ≡ true) }
     ensures files { IfOk result (λ done. IsTrue (are_files done.0)) }
     ensures reply { IfOk result (λ done. is_kept done.1 ≡ true) }
-    ensures names { NamesDamaged ⟦<F as Files>⟧ (λ name. is_answered_by ticket accept name ≡ true) (IsDamaged (F.map files.old)) result }
+    ensures names { NamesDamaged ⟦<F as Files>⟧ (λ name. is_answered_by ticket accept name ≡ true) (IsDamagedOfTicket (F.map files.old) config.now ticket) result }
     ensures reads { IsReading ⟦<F as Files>⟧ files.old files.new result }
 {
     if !is_usable(sender) {

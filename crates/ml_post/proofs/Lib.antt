@@ -7,3 +7,5 @@ mod Waiting
 mod Fates
 mod Moderated
 mod Fitting
+mod Beside
+mod Sought

@@ -1,12 +1,18 @@
 -- What moderators answer about posts that wait.
-use Rattle.std.specs.Prelude.{ℕ, Bool, true, false, ◌&&◌, ◌||◌}
-use Rattle.ml_base.specs.Dir.{same_name}
+use Rattle.std.specs.Prelude.{◌≡◌, ℕ, Bool, true, false, ◌&&◌, ◌||◌}
+use Rattle.ml_archive.specs.Threads.{is_of_archive}
+use Rattle.ml_base.specs.Dir.{Dir, same_name}
 use Rattle.ml_base.specs.Ranges.{is_drawn}
 use Rattle.ml_base.specs.declared.names.Name.{Name}
 use Rattle.ml_config.specs.KeyFile.{key_name}
+use Rattle.ml_config.specs.declared.configuration.Config.{Config}
 use Rattle.ml_hold.specs.Answers.{post_name, tickets_name}
+use Rattle.ml_hold.specs.Held.{IsHeldFile}
+use Rattle.ml_hold.specs.declared.posts.Held.{Held}
 use Rattle.ml_queue.specs.Answers.{ids_name}
-use Rattle.ml_post.specs.Publishing.{is_published_by}
+use Rattle.ml_acts.specs.Asked.{IsBadFor, Next}
+use Rattle.ml_acts.specs.Damaged.{IsDamaged}
+use Rattle.ml_post.specs.Publishing.{is_published_by, sent_key}
 
 -- the files that are read where a post is taken out: its own, where its ticket can be drawn, and the next ticket
 abbrev pub is_taken_by : ℕ → Name → Bool
@@ -26,3 +32,12 @@ is_followed_by ticket false name = is_rejected_by ticket name
 -- the files that an answer may read: these, and the keys
 abbrev pub is_answered_by : ℕ → Bool → Name → Bool
 is_answered_by ticket accept name = same_name name key_name || is_followed_by ticket accept name
+
+-- damaged for the post that waits under a ticket, which is to be put last
+abbrev pub IsBadForTicket : Dir → Config → ℕ → Name → Type 0
+IsBadForTicket dir c ticket name = (held : Held) × IsHeldFile (dir (post_name ticket)) held × IsBadFor dir (Next (sent_key c held.message)) name
+
+-- a damaged file: one of the archive is damaged for the post of the ticket, and no other
+pub record IsDamagedOfTicket (dir : Dir) (c : Config) (ticket : ℕ) (name : Name) : Type 0 where
+  pub damaged : IsDamaged dir name
+  pub own : is_of_archive name ≡ true → IsBadForTicket dir c ticket name

@@ -5,3 +5,4 @@ pub mod Publishing
 pub mod Holding
 pub mod Posting
 pub mod Answering
+pub mod Places

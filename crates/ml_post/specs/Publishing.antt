@@ -5,8 +5,10 @@ use Rattle.ml_base.specs.Dir.{Dir, same_name, with_puts}
 use Rattle.ml_base.specs.declared.names.Name.{Name}
 use Rattle.ml_base.specs.declared.names.Set.TheVariants as sets
 use Rattle.ml_archive.specs.Archive.{number_name}
+use Rattle.ml_archive.specs.Subjects.{subject, subject_key}
 use Rattle.ml_archive.specs.declared.posts.Appended.{Appended}
 use Rattle.ml_archive.specs.declared.posts.Appended.TheVariants.{At, Full}
+use Rattle.ml_config.specs.declared.configuration.Config.{Config}
 use Rattle.ml_plain.specs.Directory.{IsList, held_kinds}
 use Rattle.ml_plain.specs.Plain.{Plain, is_archive_full}
 use Rattle.ml_plain.specs.Posting.{sent_text, with_text}
@@ -31,3 +33,7 @@ is_beside_held name = not (held_kinds name.kind)
 -- the files that are read where a post is taken: those of the set list, the next id, the number of posts, an index and a file of threads
 abbrev pub is_published_by : Name → Bool
 is_published_by name = is_mailed_by sets.List name || same_name name number_name || is_index name || is_thread_file name
+
+-- the key of the subject of the text that the list sends of a message
+abbrev pub sent_key : Config → Text → Text
+sent_key c m = subject_key c.prefix (subject (sent_text c m))

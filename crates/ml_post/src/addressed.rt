@@ -1,12 +1,13 @@
 // Whether a message is addressed to the list.
-ghost use Rattle.std.specs.Prelude.{◌≡◌, true, IfOk, None};
+ghost use Rattle.std.specs.Prelude.{◌≡◌, ◌≤◌, ◌<◌, ◌+◌, ◌&&◌, length, slice_get, IfOk, None};
 ghost use Rattle.ml_base.specs.Bytes.{lower};
 ghost use Rattle.ml_base.specs.Texts.{post_address};
 ghost use Rattle.ml_header.specs.Places.{text_of};
-ghost use Rattle.ml_header.specs.Lines.{begins_with};
 ghost use Rattle.ml_plain.specs.Verdicts as spec;
 ghost use Rattle.ml_post.specs.Recipients.{recipients};
+ghost use Rattle.ml_post.specs.Places as places;
 
+use memchr::memmem;
 use ml_base::Bytes;
 use ml_config::Config;
 use ml_header::{Field, Message};
@@ -50,6 +51,7 @@ fn is_recipient(field: &Field<'_>) -> bool
 
 // Whether a value has an address, which is in lower case, at some place where it goes on to neither side.
 fn has_lowered(alloc: Global, address: &[u8], value: &[u8]) -> Result<bool, AllocError>
+    requires { 0 < length address.now }
     ensures { IfOk result (λ has. has ≡ spec.has_address address.now None (lower value.now)) }
 {
     let text = value.to_ascii_lowercase(alloc)?;
@@ -58,18 +60,37 @@ fn has_lowered(alloc: Global, address: &[u8], value: &[u8]) -> Result<bool, Allo
 
 // Whether a text has an address at some place where it goes on to neither side.
 fn has_address(address: &[u8], text: &[u8]) -> bool
+    requires { 0 < length address.now }
     ensures { result ≡ spec.has_address address.now None text.now }
 {
     let mut before: Option<u8> = None;
     let mut rest = text;
-    while let [first, more @ ..] = rest {
-        if is_free_left(before) && begins_with_address(address, rest) {
+    while let Some(at) = memmem::find(rest, address) {
+        if stands_alone(address, before, rest, at) {
             return true;
         }
-        before = Some(*first);
-        rest = more;
+        let found = &rest[at..];
+        before = Some(found[0]);
+        rest = &found[1..];
     }
     false
+}
+
+// Whether an address that stands at a place of a text goes on to neither side. `before` stands in front of the text.
+fn stands_alone(address: &[u8], before: Option<u8>, text: &[u8], at: usize) -> bool
+    requires { at + length address.now ≤ length text.now }
+    ensures { result ≡ (spec.is_free spec.goes_on_left (places.byte_before before text.now at) && spec.is_free spec.goes_on_right (slice_get text.now (at + length address.now))) }
+{
+    is_free_left(byte_before(before, text, at))
+        && is_free_right(text.get(at + address.len()).copied())
+}
+
+// The byte before a place of a text, of which `before` stands in front.
+fn byte_before(before: Option<u8>, text: &[u8], at: usize) -> Option<u8>
+    requires { at ≤ length text.now }
+    ensures { result ≡ places.byte_before before text.now at }
+{
+    if at == 0 { before } else { Some(text[at - 1]) }
 }
 
 // Whether an address may begin behind a byte, or behind none.
@@ -87,13 +108,6 @@ fn goes_on_right(byte: u8) -> bool
     ensures { result ≡ spec.goes_on_right byte }
 {
     byte.is_ascii_alphanumeric() || byte == b'-' || byte == b'.'
-}
-
-// Whether a text begins with an address, which doesn't go on behind it.
-fn begins_with_address(address: &[u8], text: &[u8]) -> bool
-    ensures { result ≡ spec.begins_with_address address.now text.now }
-{
-    text.starts_with(address) && is_free_right(text.get(address.len()).copied())
 }
 
 // Whether an address may end before a byte, or at the end.

@@ -3,7 +3,7 @@ ghost use Rattle.std.specs.Prelude.{◌≡◌, true, false, Some, IsTrue, IfOk, 
 ghost use Rattle.std.specs.Fmt.{decimal};
 ghost use Rattle.ml_base.specs.Dir.{are_files, touches_only, with_puts};
 ghost use Rattle.ml_base.specs.PartErrors.{OnDamaged};
-ghost use Rattle.ml_base.specs.Ranges.{IsMoment};
+ghost use Rattle.ml_base.specs.Ranges.{IsMoment, is_drawn};
 ghost use Rattle.ml_base.specs.ReadFiles.{IsReading, NamesDamaged};
 ghost use Rattle.ml_base.specs.declared.names.Set.TheVariants as sets;
 ghost use Rattle.ml_hold.specs.Held.{held_post, without_ticket};
@@ -16,10 +16,11 @@ ghost use Rattle.ml_plain.specs.Mailing as mailing;
 ghost use Rattle.ml_plain.specs.Managing as spec;
 ghost use Rattle.ml_plain.specs.Plain.{Plain, is_archive_full};
 ghost use Rattle.ml_config.specs.Configuration.{IsConfig};
+ghost use Rattle.ml_acts.specs.Asked.{IsDamagedOf, Next};
 ghost use Rattle.ml_acts.specs.Configured.{with_config};
-ghost use Rattle.ml_acts.specs.Damaged.{IsDamaged};
 ghost use Rattle.ml_acts.specs.Doing.{DoesList, HasIds};
-ghost use Rattle.ml_post.specs.Answering.{is_accepted_by, is_answered_by, is_followed_by, is_rejected_by, is_taken_by};
+ghost use Rattle.ml_post.specs.Publishing.{sent_key};
+ghost use Rattle.ml_post.specs.Answering.{IsDamagedOfTicket, is_accepted_by, is_answered_by, is_followed_by, is_rejected_by, is_taken_by};
 
 use crate::holding::list_keys;
 use crate::posting::{plain, posted};
@@ -28,7 +29,7 @@ use ml_acts::{Configured, Memo, is_cookie, with_mail};
 use ml_archive::Appended;
 use ml_base::{Bytes, Files, PartError, Set, Txn, write_number};
 use ml_config::{Config, Keys};
-use ml_hold::{Held, look, take};
+use ml_hold::{Held, look, release};
 use ml_plain::Reply;
 use ml_reply::Mail;
 use std::alloc::{AllocError, Global};
@@ -37,7 +38,8 @@ use std::alloc::{AllocError, Global};
 ///
 /// `gone` where no post waits under the ticket, and `badcookie` where the letters aren't its cookie. A post that is accepted is posted
 /// and waits no longer; `full` where the archive is full, and then it still waits. One that is rejected goes back to its sender. All
-/// this is said of the files with the configuration in the place of theirs.
+/// this is said of the files with the configuration in the place of theirs. Of the archive `Damaged` names the number of posts, the index of
+/// the next number's group, or the thread file of the subject key of the post that waits.
 pub fn answer<F: Files>(
     alloc: Global,
     files: &mut F,
@@ -53,7 +55,7 @@ pub fn answer<F: Files>(
     ensures own { IfOk result (λ done. touches_only is_of_list done.0 ≡ true) }
     ensures files { IfOk result (λ done. IsTrue (are_files done.0)) }
     ensures reply { IfOk result (λ done. is_kept done.1 ≡ true) }
-    ensures names { NamesDamaged ⟦<F as Files>⟧ (λ name. is_answered_by ticket accept name ≡ true) (IsDamaged (with_config config.now (F.map files.old))) result }
+    ensures names { NamesDamaged ⟦<F as Files>⟧ (λ name. is_answered_by ticket accept name ≡ true) (IsDamagedOfTicket (with_config config.now (F.map files.old)) config.now ticket) result }
     ensures sound { IsTrue F.tells → (p : Plain) → IsList (with_config config.now (F.map files.old)) p → IfErr result (λ e. OnDamaged e (λ _. ⊥)) }
     ensures reads { IsReading ⟦<F as Files>⟧ files.old files.new result }
 {
@@ -77,7 +79,7 @@ fn answer_ticket<F: Files>(
     ensures own { IfOk result (λ done. touches_only is_of_list done.0 ≡ true) }
     ensures files { IfOk result (λ done. IsTrue (are_files done.0)) }
     ensures reply { IfOk result (λ done. is_kept done.1 ≡ true) }
-    ensures names { NamesDamaged ⟦<F as Files>⟧ (λ name. is_answered_by ticket accept name ≡ true) (IsDamaged (F.map files.old)) result }
+    ensures names { NamesDamaged ⟦<F as Files>⟧ (λ name. is_answered_by ticket accept name ≡ true) (IsDamagedOfTicket (F.map files.old) config.now ticket) result }
     ensures reads { IsReading ⟦<F as Files>⟧ files.old files.new result }
 {
     let Some(held) = look(alloc, files, ticket)? else {
@@ -98,12 +100,13 @@ fn answer_held<F: Files>(
     accept: bool,
 ) -> Result<(Txn, Reply), PartError>
     requires moment { IsMoment now }
+    requires drawn { IsTrue (is_drawn ticket) }
     requires room { IsTrue F.tells → HasIds (F.map files.now) }
     ensures value { IsTrue F.tells → IfOk result (λ done. (p : Plain) → IsList (F.map files.old) p → p.config ≡ config.now → held_post ticket p.held ≡ Some held.now → DoesList (F.map files.old) done (spec.answer_held now ticket letters.now p accept (Some held.now))) }
     ensures own { IfOk result (λ done. touches_only is_of_list done.0 ≡ true) }
     ensures files { IfOk result (λ done. IsTrue (are_files done.0)) }
     ensures reply { IfOk result (λ done. is_kept done.1 ≡ true) }
-    ensures names { NamesDamaged ⟦<F as Files>⟧ (λ name. is_answered_by ticket accept name ≡ true) (IsDamaged (F.map files.old)) result }
+    ensures names { NamesDamaged ⟦<F as Files>⟧ (λ name. is_answered_by ticket accept name ≡ true) (IsDamagedOf (F.map files.old) (Next (sent_key config.now held.now.message))) result }
     ensures reads { IsReading ⟦<F as Files>⟧ files.old files.new result }
 {
     let keys = list_keys(alloc, files)?;
@@ -140,12 +143,13 @@ fn follow<F: Files>(
     accept: bool,
 ) -> Result<(Txn, Reply), PartError>
     requires moment { IsMoment now }
+    requires drawn { IsTrue (is_drawn ticket) }
     requires room { IsTrue F.tells → HasIds (F.map files.now) }
     ensures value { IsTrue F.tells → IfOk result (λ done. (p : Plain) → IsList (F.map files.old) p → p.config ≡ config.now → held_post ticket p.held ≡ Some held.now → DoesList (F.map files.old) done (spec.answered now ticket held.now p accept)) }
     ensures own { IfOk result (λ done. touches_only is_of_list done.0 ≡ true) }
     ensures files { IfOk result (λ done. IsTrue (are_files done.0)) }
     ensures reply { IfOk result (λ done. is_kept done.1 ≡ true) }
-    ensures names { NamesDamaged ⟦<F as Files>⟧ (λ name. is_followed_by ticket accept name ≡ true) (IsDamaged (F.map files.old)) result }
+    ensures names { NamesDamaged ⟦<F as Files>⟧ (λ name. is_followed_by ticket accept name ≡ true) (IsDamagedOf (F.map files.old) (Next (sent_key config.now held.now.message))) result }
     ensures reads { IsReading ⟦<F as Files>⟧ files.old files.new result }
 {
     if accept {
@@ -165,12 +169,13 @@ fn accepted<F: Files>(
     held: &Held,
 ) -> Result<(Txn, Reply), PartError>
     requires moment { IsMoment now }
+    requires drawn { IsTrue (is_drawn ticket) }
     requires room { IsTrue F.tells → HasIds (F.map files.now) }
     ensures value { IsTrue F.tells → IfOk result (λ done. (p : Plain) → IsList (F.map files.old) p → p.config ≡ config.now → held_post ticket p.held ≡ Some held.now → DoesList (F.map files.old) done (spec.accepted now ticket held.now p (is_archive_full p))) }
     ensures own { IfOk result (λ done. touches_only is_of_list done.0 ≡ true) }
     ensures files { IfOk result (λ done. IsTrue (are_files done.0)) }
     ensures reply { IfOk result (λ done. is_kept done.1 ≡ true) }
-    ensures names { NamesDamaged ⟦<F as Files>⟧ (λ name. is_accepted_by ticket name ≡ true) (IsDamaged (F.map files.old)) result }
+    ensures names { NamesDamaged ⟦<F as Files>⟧ (λ name. is_accepted_by ticket name ≡ true) (IsDamagedOf (F.map files.old) (Next (sent_key config.now held.now.message))) result }
     ensures reads { IsReading ⟦<F as Files>⟧ files.old files.new result }
 {
     let message = held.message.as_slice();
@@ -196,12 +201,13 @@ fn rejected<F: Files>(
     held: &Held,
 ) -> Result<(Txn, Reply), PartError>
     requires moment { IsMoment now }
+    requires drawn { IsTrue (is_drawn ticket) }
     requires room { IsTrue F.tells → HasIds (F.map files.now) }
     ensures value { IsTrue F.tells → IfOk result (λ done. (p : Plain) → IsList (F.map files.old) p → p.config ≡ config.now → held_post ticket p.held ≡ Some held.now → DoesList (F.map files.old) done (spec.answered now ticket held.now p false)) }
     ensures own { IfOk result (λ done. touches_only is_of_list done.0 ≡ true) }
     ensures files { IfOk result (λ done. IsTrue (are_files done.0)) }
     ensures reply { IfOk result (λ done. is_kept done.1 ≡ true) }
-    ensures names { NamesDamaged ⟦<F as Files>⟧ (λ name. is_rejected_by ticket name ≡ true) (IsDamaged (F.map files.old)) result }
+    ensures names { NamesDamaged ⟦<F as Files>⟧ (λ name. is_rejected_by ticket name ≡ true) (IsDamagedOf (F.map files.old) (Next (sent_key config.now held.now.message))) result }
     ensures reads { IsReading ⟦<F as Files>⟧ files.old files.new result }
 {
     let txn = taken(alloc, files, ticket)?;
@@ -221,14 +227,13 @@ fn rejection(alloc: Global, held: &Held) -> Result<Mail, AllocError>
 
 // The puts by which the post of a ticket waits no longer.
 fn taken<F: Files>(alloc: Global, files: &mut F, ticket: u64) -> Result<Txn, PartError>
+    requires { IsTrue (is_drawn ticket) }
     ensures value { IsTrue F.tells → IfOk result (λ txn. (p : Plain) (held : TheHeld) → IsList (F.map files.old) p → held_post ticket p.held ≡ Some held → IsList (with_puts (F.map files.old) txn) (record p { held = without_ticket ticket p.held })) }
     ensures own { IfOk result (λ txn. touches_only (λ name. held_kinds name.kind) txn ≡ true) }
     ensures files { IfOk result (λ txn. IsTrue (are_files txn)) }
     ensures names { NamesDamaged ⟦<F as Files>⟧ (λ name. is_taken_by ticket name ≡ true) (waiting.Breaks (F.map files.old)) result }
     ensures reads { IsReading ⟦<F as Files>⟧ files.old files.new result }
 {
-    match take(alloc, files, ticket)? {
-        Some((_, txn)) => Ok(txn),
-        None => Ok(Txn::new(alloc)),
-    }
+    let txn = release(alloc, files, ticket)?;
+    Ok(txn)
 }

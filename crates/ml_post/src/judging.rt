@@ -11,8 +11,8 @@ ghost use Rattle.ml_archive.specs.Archive.{number_name};
 ghost use Rattle.ml_base.specs.Dir.{same_name};
 ghost use Rattle.ml_base.specs.declared.names.Set.TheVariants as sets;
 ghost use Rattle.ml_config.specs.Configuration.{IsConfig};
+ghost use Rattle.ml_acts.specs.Asked.{Count, IsDamagedOf};
 ghost use Rattle.ml_acts.specs.Configured.{with_config};
-ghost use Rattle.ml_acts.specs.Damaged.{IsDamaged};
 ghost use Rattle.ml_post.specs.Judging.{row_of, is_judged_by, is_bucket_of, is_of_user};
 ghost use Rattle.ml_post.specs.Judging as rows;
 ghost use Rattle.ml_post.specs.declared.verdicts.Verdict.TheVariants.{TooBig};
@@ -44,7 +44,7 @@ pub fn verdict<F: Files>(
 ) -> Result<Verdict, PartError>
     ensures value { IsTrue F.tells → IsConfig config.now → IfOk result (λ found. (p : Plain) → IsList (with_config config.now (F.map files.old)) p → row_of found ≡ spec.verdict p sender.now message.now) }
     ensures fits { IfOk result (λ found. found ≢ TooBig → length message.now ≤ config.now.max) }
-    ensures names { NamesDamaged ⟦<F as Files>⟧ (λ name. is_judged_by config.now sender.now name ≡ true) (IsDamaged (with_config config.now (F.map files.old))) result }
+    ensures names { NamesDamaged ⟦<F as Files>⟧ (λ name. is_judged_by config.now sender.now name ≡ true) (IsDamagedOf (with_config config.now (F.map files.old)) Count) result }
     ensures sound { IsTrue F.tells → (p : Plain) → IsList (with_config config.now (F.map files.old)) p → IfErr result (λ e. OnDamaged e (λ _. ⊥)) }
     ensures reads { IsReading ⟦<F as Files>⟧ files.old files.new result }
 {
@@ -62,7 +62,7 @@ pub(crate) fn judged<F: Files>(
 ) -> Result<Verdict, PartError>
     ensures value { IsTrue F.tells → IfOk result (λ found. (p : Plain) → IsList (F.map files.old) p → p.config ≡ config.now → row_of found ≡ spec.verdict p sender.now message.now) }
     ensures fits { IfOk result (λ found. found ≢ TooBig → length message.now ≤ config.now.max) }
-    ensures names { NamesDamaged ⟦<F as Files>⟧ (λ name. is_judged_by config.now sender.now name ≡ true) (IsDamaged (F.map files.old)) result }
+    ensures names { NamesDamaged ⟦<F as Files>⟧ (λ name. is_judged_by config.now sender.now name ≡ true) (IsDamagedOf (F.map files.old) Count) result }
     ensures reads { IsReading ⟦<F as Files>⟧ files.old files.new result }
 {
     if message.bytes().len() as u64 > config.max {
@@ -97,7 +97,7 @@ fn of_sender<F: Files>(
     message: &Message<'_>,
 ) -> Result<Verdict, PartError>
     ensures value { IsTrue F.tells → IfOk result (λ found. (p : Plain) → IsList (F.map files.old) p → p.config ≡ config.now → row_of found ≡ rows.of_sender p who.now message.now) }
-    ensures names { NamesDamaged ⟦<F as Files>⟧ (λ name. is_judged_by config.now who.now name ≡ true) (IsDamaged (F.map files.old)) result }
+    ensures names { NamesDamaged ⟦<F as Files>⟧ (λ name. is_judged_by config.now who.now name ≡ true) (IsDamagedOf (F.map files.old) Count) result }
     ensures sound { IsTrue F.tells → (p : Plain) → IsList (F.map files.old) p → IfErr result (λ e. OnDamaged e (λ _. ⊥)) }
     ensures reads { IsReading ⟦<F as Files>⟧ files.old files.new result }
 {
@@ -115,7 +115,7 @@ fn is_denied<F: Files>(
     who: &Address,
 ) -> Result<bool, PartError>
     ensures value { IsTrue F.tells → IfOk result (λ is. (p : Plain) → IsList (F.map files.old) p → p.config ≡ config.now → is ≡ (p.config.flags.k && is_in p sets.Deny who.now)) }
-    ensures names { NamesDamaged ⟦<F as Files>⟧ (λ name. is_judged_by config.now who.now name ≡ true) (IsDamaged (F.map files.old)) result }
+    ensures names { NamesDamaged ⟦<F as Files>⟧ (λ name. is_judged_by config.now who.now name ≡ true) (IsDamagedOf (F.map files.old) Count) result }
     ensures sound { IsTrue F.tells → (p : Plain) → IsList (F.map files.old) p → IfErr result (λ e. OnDamaged e (λ _. ⊥)) }
     ensures reads { IsReading ⟦<F as Files>⟧ files.old files.new result }
 {
@@ -134,7 +134,7 @@ fn of_text<F: Files>(
     message: &Message<'_>,
 ) -> Result<Verdict, PartError>
     ensures value { IsTrue F.tells → IfOk result (λ found. (p : Plain) → IsList (F.map files.old) p → p.config ≡ config.now → row_of found ≡ rows.of_text p who.now message.now) }
-    ensures names { NamesDamaged ⟦<F as Files>⟧ (λ name. is_judged_by config.now who.now name ≡ true) (IsDamaged (F.map files.old)) result }
+    ensures names { NamesDamaged ⟦<F as Files>⟧ (λ name. is_judged_by config.now who.now name ≡ true) (IsDamagedOf (F.map files.old) Count) result }
     ensures sound { IsTrue F.tells → (p : Plain) → IsList (F.map files.old) p → IfErr result (λ e. OnDamaged e (λ _. ⊥)) }
     ensures reads { IsReading ⟦<F as Files>⟧ files.old files.new result }
 {
@@ -170,7 +170,7 @@ fn of_user<F: Files>(
     who: &Address,
 ) -> Result<Verdict, PartError>
     ensures value { IsTrue F.tells → IfOk result (λ found. (p : Plain) → IsList (F.map files.old) p → p.config ≡ config.now → row_of found ≡ rows.of_user p who.now) }
-    ensures names { NamesDamaged ⟦<F as Files>⟧ (λ name. is_judged_by config.now who.now name ≡ true) (IsDamaged (F.map files.old)) result }
+    ensures names { NamesDamaged ⟦<F as Files>⟧ (λ name. is_judged_by config.now who.now name ≡ true) (IsDamagedOf (F.map files.old) Count) result }
     ensures sound { IsTrue F.tells → (p : Plain) → IsList (F.map files.old) p → IfErr result (λ e. OnDamaged e (λ _. ⊥)) }
     ensures reads { IsReading ⟦<F as Files>⟧ files.old files.new result }
 {
@@ -188,7 +188,7 @@ fn is_stranger<F: Files>(
     who: &Address,
 ) -> Result<bool, PartError>
     ensures value { IsTrue F.tells → IfOk result (λ is. (p : Plain) → IsList (F.map files.old) p → p.config ≡ config.now → is ≡ (p.config.flags.u && not (spec.is_user p who.now))) }
-    ensures names { NamesDamaged ⟦<F as Files>⟧ (λ name. is_judged_by config.now who.now name ≡ true) (IsDamaged (F.map files.old)) result }
+    ensures names { NamesDamaged ⟦<F as Files>⟧ (λ name. is_judged_by config.now who.now name ≡ true) (IsDamagedOf (F.map files.old) Count) result }
     ensures sound { IsTrue F.tells → (p : Plain) → IsList (F.map files.old) p → IfErr result (λ e. OnDamaged e (λ _. ⊥)) }
     ensures reads { IsReading ⟦<F as Files>⟧ files.old files.new result }
 {
@@ -202,7 +202,7 @@ fn is_stranger<F: Files>(
 // Whether an address is in one of the sets whose members are users.
 fn is_user<F: Files>(alloc: Global, files: &mut F, who: &Address) -> Result<bool, PartError>
     ensures value { IsTrue F.tells → IfOk result (λ is. (p : Plain) → IsList (F.map files.old) p → is ≡ (spec.is_user p who.now)) }
-    ensures names { NamesDamaged ⟦<F as Files>⟧ (λ name. is_of_user who.now name ≡ true) (IsDamaged (F.map files.old)) result }
+    ensures names { NamesDamaged ⟦<F as Files>⟧ (λ name. is_of_user who.now name ≡ true) (IsDamagedOf (F.map files.old) Count) result }
     ensures sound { IsTrue F.tells → (p : Plain) → IsList (F.map files.old) p → IfErr result (λ e. OnDamaged e (λ _. ⊥)) }
     ensures reads { IsReading ⟦<F as Files>⟧ files.old files.new result }
 {
@@ -221,7 +221,7 @@ fn is_in_either<F: Files>(
     who: &Address,
 ) -> Result<bool, PartError>
     ensures value { IsTrue F.tells → IfOk result (λ is. (p : Plain) → IsList (F.map files.old) p → is ≡ (is_in p first who.now || is_in p second who.now)) }
-    ensures names { NamesDamaged ⟦<F as Files>⟧ (λ name. (is_bucket_of first who.now name || is_bucket_of second who.now name) ≡ true) (IsDamaged (F.map files.old)) result }
+    ensures names { NamesDamaged ⟦<F as Files>⟧ (λ name. (is_bucket_of first who.now name || is_bucket_of second who.now name) ≡ true) (IsDamagedOf (F.map files.old) Count) result }
     ensures sound { IsTrue F.tells → (p : Plain) → IsList (F.map files.old) p → IfErr result (λ e. OnDamaged e (λ _. ⊥)) }
     ensures reads { IsReading ⟦<F as Files>⟧ files.old files.new result }
 {
@@ -239,7 +239,7 @@ fn is_member<F: Files>(
     who: &Address,
 ) -> Result<bool, PartError>
     ensures value { IsTrue F.tells → IfOk result (λ is. (p : Plain) → IsList (F.map files.old) p → is ≡ (is_in p set who.now)) }
-    ensures names { NamesDamaged ⟦<F as Files>⟧ (λ name. is_bucket_of set who.now name ≡ true) (IsDamaged (F.map files.old)) result }
+    ensures names { NamesDamaged ⟦<F as Files>⟧ (λ name. is_bucket_of set who.now name ≡ true) (IsDamagedOf (F.map files.old) Count) result }
     ensures sound { IsTrue F.tells → (p : Plain) → IsList (F.map files.old) p → IfErr result (λ e. OnDamaged e (λ _. ⊥)) }
     ensures reads { IsReading ⟦<F as Files>⟧ files.old files.new result }
 {
@@ -249,7 +249,7 @@ fn is_member<F: Files>(
 // What is found of a post that its sender may send: whether it waits, and whether there is room for it.
 fn of_room<F: Files>(alloc: Global, files: &mut F, config: &Config) -> Result<Verdict, PartError>
     ensures value { IsTrue F.tells → IfOk result (λ found. (p : Plain) → IsList (F.map files.old) p → p.config ≡ config.now → row_of found ≡ rows.of_room p) }
-    ensures names { NamesDamaged ⟦<F as Files>⟧ (λ name. same_name name number_name ≡ true) (IsDamaged (F.map files.old)) result }
+    ensures names { NamesDamaged ⟦<F as Files>⟧ (λ name. same_name name number_name ≡ true) (IsDamagedOf (F.map files.old) Count) result }
     ensures sound { IsTrue F.tells → (p : Plain) → IsList (F.map files.old) p → IfErr result (λ e. OnDamaged e (λ _. ⊥)) }
     ensures reads { IsReading ⟦<F as Files>⟧ files.old files.new result }
 {

@@ -13,12 +13,13 @@ ghost use Rattle.ml_plain.specs.KeptFiles.{is_kept};
 ghost use Rattle.ml_plain.specs.Plain.{Plain, is_archive_full};
 ghost use Rattle.ml_plain.specs.Posting as spec;
 ghost use Rattle.ml_plain.specs.Verdicts as verdicts;
+ghost use Rattle.ml_acts.specs.Asked.{IsDamagedOf, Next};
 ghost use Rattle.ml_acts.specs.Configured.{with_config};
 ghost use Rattle.ml_acts.specs.Damaged.{IsDamaged};
 ghost use Rattle.ml_acts.specs.Doing.{DoesList, HasIds, HasRoom};
 ghost use Rattle.ml_post.specs.Holding.{is_held_by};
 ghost use Rattle.ml_post.specs.Posting.{fate_of, is_posted_by, reply_of};
-ghost use Rattle.ml_post.specs.Publishing.{is_published_by};
+ghost use Rattle.ml_post.specs.Publishing.{is_published_by, sent_key};
 
 use crate::Verdict;
 use crate::holding::hold_post;
@@ -35,7 +36,8 @@ use std::alloc::Global;
 /// What a message does that comes to the list's own address: it is posted, or held for the moderators, who are asked, or refused, by its verdict.
 ///
 /// A post goes last into the archive, and the queue gets it for the members of the set list as they are. `now` is in seconds since 1970. What
-/// it does is said of the files with the configuration in the place of theirs.
+/// it does is said of the files with the configuration in the place of theirs. Of the archive `Damaged` names the number of posts, the index
+/// of the next number's group, or the thread file of the post's own subject key.
 /// `Memory` comes also where no memory could hold the text that is sent, of 2^32 bytes or more.
 pub fn post<F: Files>(
     alloc: Global,
@@ -52,7 +54,7 @@ pub fn post<F: Files>(
     ensures own { IfOk result (λ done. touches_only is_of_list done.0 ≡ true) }
     ensures files { IfOk result (λ done. IsTrue (are_files done.0)) }
     ensures reply { IfOk result (λ done. is_kept done.1 ≡ true) }
-    ensures names { NamesDamaged ⟦<F as Files>⟧ (λ name. is_posted_by config.now sender.now name ≡ true) (IsDamaged (with_config config.now (F.map files.old))) result }
+    ensures names { NamesDamaged ⟦<F as Files>⟧ (λ name. is_posted_by config.now sender.now name ≡ true) (IsDamagedOf (with_config config.now (F.map files.old)) (Next (sent_key config.now message.now))) result }
     ensures sound { IsTrue F.tells → (p : Plain) → IsList (with_config config.now (F.map files.old)) p → IfErr result (λ e. OnDamaged e (λ _. ⊥)) }
     ensures reads { IsReading ⟦<F as Files>⟧ files.old files.new result }
 {
@@ -77,7 +79,7 @@ pub fn post_with_memo<F: Files>(
     ensures own { IfOk result (λ done. touches_only is_of_list done.0 ≡ true) }
     ensures files { IfOk result (λ done. IsTrue (are_files done.0)) }
     ensures reply { IfOk result (λ done. is_kept done.1 ≡ true) }
-    ensures names { NamesDamaged ⟦<F as Files>⟧ (λ name. is_posted_by config.now sender.now name ≡ true) (IsDamaged (with_config config.now (F.map files.old))) result }
+    ensures names { NamesDamaged ⟦<F as Files>⟧ (λ name. is_posted_by config.now sender.now name ≡ true) (IsDamagedOf (with_config config.now (F.map files.old)) (Next (sent_key config.now message.now))) result }
     ensures reads { IsReading ⟦<F as Files>⟧ files.old files.new result }
 {
     let mut under = Configured::new(files, config);
@@ -101,7 +103,7 @@ fn post_judged<F: Files>(
     ensures own { IfOk result (λ done. touches_only is_of_list done.0 ≡ true) }
     ensures files { IfOk result (λ done. IsTrue (are_files done.0)) }
     ensures reply { IfOk result (λ done. is_kept done.1 ≡ true) }
-    ensures names { NamesDamaged ⟦<F as Files>⟧ (λ name. is_posted_by config.now sender.now name ≡ true) (IsDamaged (F.map files.old)) result }
+    ensures names { NamesDamaged ⟦<F as Files>⟧ (λ name. is_posted_by config.now sender.now name ≡ true) (IsDamagedOf (F.map files.old) (Next (sent_key config.now message.now))) result }
     ensures reads { IsReading ⟦<F as Files>⟧ files.old files.new result }
 {
     let found = judged(alloc, files, config, sender, &Message::scan(message))?;
@@ -181,7 +183,7 @@ fn post_message<F: Files>(
     ensures own { IfOk result (λ done. touches_only is_of_list done.0 ≡ true) }
     ensures files { IfOk result (λ done. IsTrue (are_files done.0)) }
     ensures reply { IfOk result (λ done. is_kept done.1 ≡ true) }
-    ensures names { NamesDamaged ⟦<F as Files>⟧ (λ name. is_published_by name ≡ true) (IsDamaged (F.map files.old)) result }
+    ensures names { NamesDamaged ⟦<F as Files>⟧ (λ name. is_published_by name ≡ true) (IsDamagedOf (F.map files.old) (Next (sent_key config.now message.now))) result }
     ensures reads { IsReading ⟦<F as Files>⟧ files.old files.new result }
 {
     let Some(who) = usable(alloc, sender)? else {

@@ -11,9 +11,10 @@ ghost use Rattle.ml_plain.specs.Directory.{IsList, is_of_list};
 ghost use Rattle.ml_plain.specs.Mailing as mailing;
 ghost use Rattle.ml_plain.specs.Plain.{Plain, addresses};
 ghost use Rattle.ml_plain.specs.Posting as spec;
+ghost use Rattle.ml_acts.specs.Asked.{IsDamagedOf, Next};
 ghost use Rattle.ml_acts.specs.Damaged.{IsDamaged};
 ghost use Rattle.ml_acts.specs.Doing.{Alike, HasIds, is_mailed_by, is_of_queue, is_with_queue};
-ghost use Rattle.ml_post.specs.Publishing.{Publishes, is_beside_held, is_published_by, number_of};
+ghost use Rattle.ml_post.specs.Publishing.{Publishes, is_beside_held, is_published_by, number_of, sent_key};
 
 use crate::sending::sent_text;
 use ml_acts::{Memo, post_path, send_to_list};
@@ -42,7 +43,7 @@ pub(crate) fn publish<F: Files>(
     ensures own { IfOk result (λ answer. touches_only is_of_list (puts_of answer) ≡ true) }
     ensures files { IfOk result (λ answer. IsTrue (are_files (puts_of answer))) }
     ensures number { IfOk result (λ answer. number_of answer ≤ 99_999_999) }
-    ensures names { NamesDamaged ⟦<F as Files>⟧ (λ name. is_published_by name ≡ true) (IsDamaged (F.map files.old)) result }
+    ensures names { NamesDamaged ⟦<F as Files>⟧ (λ name. is_published_by name ≡ true) (IsDamagedOf (F.map files.old) (Next (sent_key config.now message.now))) result }
     ensures reads { IsReading ⟦<F as Files>⟧ files.old files.new result }
 {
     let count = count(alloc, files)?;

@@ -131,7 +131,7 @@ sizes_second last g posts e =
     ap (map (λ (e : Entry). e.size)) (entries_after last g posts ∙ ap (map entry) (group_past g (last + 1) (drop last posts) (omega (arith, e))))
     ∙ sizes_are (100 * g) (take 100 (drop few (drop last posts))) ∙ sym (take-map bytes_of 100 (drop few (drop last posts))) ∙ ap (take 100) (sym (drop-map bytes_of few (drop last posts)))
 
-front_of_front : {A : Type 0} (n m : ℕ) (xs : List A) → n ≤ m → take n (take m xs) ≡ take n xs
+pub front_of_front : {A : Type 0} (n m : ℕ) (xs : List A) → n ≤ m → take n (take m xs) ≡ take n xs
 front_of_front zero m xs low = refl
 front_of_front (suc n) zero xs low = absurd (omega (arith, low))
 front_of_front (suc n) (suc m) [] low = refl

@@ -5,3 +5,5 @@ mod Layered
 mod Issued
 mod Posted
 mod Runs
+mod Within
+pub mod Short

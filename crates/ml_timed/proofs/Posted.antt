@@ -1,13 +1,14 @@
 -- The posts of a digest, one behind the other, and which files tell of them.
-use Rattle.std.proofs.Common.{◌≡◌, inl, inr, ◌≤◌, ◌+◌, ◌-◌, ◌/◌, ◌<◌, ℕ, zero, suc, true, List, [], ◌∷◌, ◌++◌, map, take, drop, Option, Some, None, refl, sym, ap, ap₂, ◌∙◌, subst, arith}
+use Rattle.std.proofs.Common.{◌≡◌, inl, inr, ⊎_elim, ◌≤◌, ◌+◌, ◌-◌, ◌/◌, ℕ, zero, suc, true, List, [], ◌∷◌, ◌++◌, map, take, drop, Option, Some, None, refl, sym, ap, ap₂, ◌∙◌, subst, arith}
 use Rattle.std.specs.Prelude.{slice_get}
 use Rattle.std.proofs.lemmas.Bool.{or_right}
-use Rattle.ml_base.specs.Dir.{same_name}
+use Rattle.ml_base.specs.Dir.{Dir, same_name}
 use Rattle.ml_base.specs.declared.names.Name.{Name}
-use Rattle.ml_archive.specs.Answers.{IsPostName}
-use Rattle.ml_archive.specs.Archive.{number_name}
+use Rattle.ml_archive.specs.Answers.{IsPostByFiles, IsPostName}
+use Rattle.ml_archive.specs.Archive.{IsNumberFile, number_name}
 use Rattle.ml_archive.specs.Posts.{post_at}
 use Rattle.ml_archive.specs.declared.posts.Post.{Post}
+use Rattle.ml_archive.proofs.Exact.{count_one}
 use Rattle.ml_digest.specs.declared.posts.DigestPost.{DigestPost}
 use Rattle.ml_plain.specs.Timing.{digest_post}
 use Rattle.ml_acts.specs.Doing.{is_index}
@@ -46,3 +47,9 @@ one_more posts first (suc n) row new found low up before is e =
     e ∙ ap₂ (λ (a : List DigestPost) (b : DigestPost). a ++ b ∷ []) before is.2 ∙ sym (map_on digest_post (take (suc n - first) (drop (first - 1) posts)) is.0)
     ∙ ap (map digest_post) (sym (taken_more (first - 1) (suc n - first) posts is.0 (ap (slice_get posts) (sym at) ∙ is.1)))
     ∙ ap (λ k. map digest_post (take k (drop (first - 1) posts))) one
+
+-- a post that the number of posts counts is there
+pub not_there : (dir : Dir) (n : ℕ) → IsPostByFiles dir n None → 1 ≤ n → (count : ℕ) × IsNumberFile (dir number_name) count × (n ≤ count) → ⊥
+not_there dir n (other, is, out) low (count, counted, high) =
+    let same = count_one (dir number_name) count other counted is in
+    ⊎_elim (λ zero. omega (arith, zero, low)) (λ over. omega (arith, over, high, same)) out

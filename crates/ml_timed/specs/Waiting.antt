@@ -1,5 +1,6 @@
 -- Posts that are in no digest yet, as indexes tell of them.
-use Rattle.std.specs.Prelude.{ℕ, nat_lt, List, map, filter, find}
+use Rattle.std.specs.Prelude.{ℕ, Bool, nat_lt, List, map, filter, find}
+use Rattle.std.specs.List.{list_all}
 use Rattle.std.specs.Option.{option_map_or}
 use Rattle.ml_archive.specs.declared.posts.Entry.{Entry}
 
@@ -10,3 +11,10 @@ sizes_behind last entries = map (λ e. e.size) (filter (λ e. nat_lt last e.numb
 -- the moment of the first of them, or 0
 abbrev pub moment_behind : ℕ → List Entry → ℕ
 moment_behind last entries = option_map_or (λ e. e.moment) (find (λ e. nat_lt last e.number) entries) 0
+
+-- a size that a post may have, and entries of such sizes
+abbrev pub is_short : ℕ → Bool
+is_short size = nat_lt size 4_294_967_296
+
+abbrev pub are_short : List Entry → Bool
+are_short entries = list_all (λ e. is_short e.size) entries

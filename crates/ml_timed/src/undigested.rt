@@ -1,18 +1,23 @@
 // The posts that are in no digest yet, as the indexes tell of them.
 ghost use Rattle.std.specs.Option.{option_copied};
-ghost use Rattle.std.specs.Prelude.{◌≡◌, find, nat_lt, ◌<◌, ◌≤◌, ◌++◌, true, take, drop, map, length, IsTrue, IfOk, OnOk};
+ghost use Rattle.std.specs.Prelude.{◌≡◌, find, nat_lt, ◌<◌, ◌≤◌, ◌+◌, ◌++◌, true, take, drop, map, length, IsTrue, IfOk, OnOk};
 ghost use Rattle.ml_base.specs.ReadFiles.{IsReading, NamesDamaged};
 ghost use Rattle.ml_archive.specs.Posts as archive;
 ghost use Rattle.ml_plain.specs.Directory.{IsList};
 ghost use Rattle.ml_plain.specs.Plain.{Plain};
 ghost use Rattle.ml_plain.specs.Timing.{moment_of_first};
-ghost use Rattle.ml_acts.specs.Damaged.{IsDamaged};
+ghost use Rattle.ml_timed.specs.Digesting.{IsDamagedGroup, IsDamagedWithin};
 ghost use Rattle.ml_timed.specs.Reads.{is_of_posts_told};
-ghost use Rattle.ml_timed.specs.Waiting.{moment_behind, sizes_behind};
+ghost use Rattle.ml_timed.specs.Waiting.{is_short, moment_behind, sizes_behind};
+ghost use Rattle.ml_timed.specs.Waiting as waiting;
+ghost use Rattle.std.specs.List.{list_all};
 
 use ml_archive::{Entries, Entry, index};
-use ml_base::{Files, Numbers, PartError};
+use ml_base::{Files, Name, Numbers, PartError};
 use std::alloc::{AllocError, Global};
+
+// A post has fewer bytes.
+const TOO_LONG: u64 = 4_294_967_296;
 
 // The posts that are in no digest yet, as far as one may take them.
 #[derive(Drop)]
@@ -34,7 +39,8 @@ pub(crate) fn posts_behind<F: Files>(
     requires few { count ≤ 99_999_999 }
     ensures sizes { IsTrue F.tells → IfOk result (λ found. (p : Plain) → IsList (F.map files.old) p → count ≡ length p.posts → take 100 found.sizes ≡ take 100 (map (λ post. length post.bytes) (drop last p.posts))) }
     ensures oldest { IsTrue F.tells → IfOk result (λ found. (p : Plain) → IsList (F.map files.old) p → count ≡ length p.posts → found.oldest ≡ moment_of_first (drop last p.posts)) }
-    ensures names { NamesDamaged ⟦<F as Files>⟧ (λ name. is_of_posts_told name ≡ true) (IsDamaged (F.map files.old)) result }
+    ensures short { IfOk result (λ found. list_all is_short found.sizes ≡ true) }
+    ensures names { NamesDamaged ⟦<F as Files>⟧ (λ name. is_of_posts_told name ≡ true) (IsDamagedWithin (F.map files.old) (last + 1) count) result }
     ensures reads { IsReading ⟦<F as Files>⟧ files.old files.new result }
 {
     let group = (last + 1) / 100;
@@ -58,13 +64,28 @@ fn group_of<F: Files>(
 ) -> Result<Entries, PartError>
     requires { count ≤ 99_999_999 }
     ensures value { IsTrue F.tells → IfOk result (λ entries. (p : Plain) → IsList (F.map files.old) p → count ≡ length p.posts → entries ≡ archive.index_of group p.posts) }
-    ensures names { NamesDamaged ⟦<F as Files>⟧ (λ name. is_of_posts_told name ≡ true) (IsDamaged (F.map files.old)) result }
+    ensures short { IfOk result (λ entries. waiting.are_short entries ≡ true) }
+    ensures names { NamesDamaged ⟦<F as Files>⟧ (λ name. is_of_posts_told name ≡ true) (IsDamagedGroup (F.map files.old) group count) result }
     ensures reads { IsReading ⟦<F as Files>⟧ files.old files.new result }
 {
     if group > count / 100 {
         return Ok(Entries::new(alloc));
     }
-    index(alloc, files, group)
+    let entries = index(alloc, files, group)?;
+    if !are_short(entries.as_slice()) {
+        return Err(PartError::Damaged(Name {
+            kind: 10,
+            at: group,
+        }));
+    }
+    Ok(entries)
+}
+
+// Whether each entry has a size that a post may have.
+fn are_short(entries: &[Entry]) -> bool
+    ensures { result ≡ waiting.are_short entries.now }
+{
+    entries.iter().all(|entry| entry.size < TOO_LONG)
 }
 
 // Adds the sizes of the posts of an index behind a number.

@@ -13,4 +13,4 @@ returns-clause-names g c =
     let config = c.args.config.now in
     let dir = g.F.Files.map c.args.files.now in
     let read : request_of config.local config.host c.args.recipient.now ≡ Some (request_view c.in-Some.request) = search rules in
-    subst (λ (o : Option PlainRequest). NamesDamaged g.F.Files (λ name. is_of_acts name ≡ true) (λ name. IsDamaged dir name × IsRequested dir config c.args.sender.now o name) c.by_request.result) (sym read) c.by_request.ensures.names
+    subst (λ (o : Option PlainRequest). NamesDamaged g.F.Files (λ name. is_of_acts name ≡ true) (λ name. IsDamaged dir name × IsRequested dir config c.args.sender.now c.args.message.now o name) c.by_request.result) (sym read) c.by_request.ensures.names

@@ -1,17 +1,44 @@
-use Rattle.std.proofs.Common.{◌≡◌, true, ap, ◌∙◌, subst, sym}
+use Rattle.std.proofs.Common.{◌≡◌, true, refl, ap, ◌∙◌, subst, sym, rules}
+use Rattle.std.proofs.lemmas.Bool.{or_left, or_right}
 use Rattle.ml_base.specs.Bytes.{Text}
 use Rattle.ml_base.specs.Dir.{Dir, touches_only, with_puts}
 use Rattle.ml_archive.specs.Answers.{puts_of}
 use Rattle.ml_archive.specs.declared.posts.Appended.{Appended}
 use Rattle.ml_archive.specs.declared.posts.Appended.TheVariants.{At}
+use Rattle.ml_hold.specs.Answers.{Breaks}
 use Rattle.ml_hold.specs.Held.{without_ticket}
 use Rattle.ml_plain.specs.Directory.{IsList, held_kinds, is_of_list}
 use Rattle.ml_plain.specs.Plain.{Plain}
+use Rattle.ml_acts.specs.Asked.{IsDamagedOf, Next}
+use Rattle.ml_acts.specs.Damaged.{waiting}
+use Rattle.ml_acts.proofs.Asked.{named_as}
 use Rattle.ml_acts.proofs.Queued.{touches_both, touches_weaker}
-use Rattle.ml_post.specs.Publishing.{Publishes}
+use Rattle.ml_post.specs.Answering.{is_accepted_by, is_taken_by}
+use Rattle.ml_post.specs.Publishing.{Publishes, is_published_by, sent_key}
+use Rattle.ml_post.proofs.Beside.{taken_other}
 use Rattle.ml_post.proofs.Moderated.{accepts}
 use Rattle.ml_post.proofs.Waiting.{beside_held, held_listed}
 use Rattle.ml_post.proofs.answering.accepted.Goals as goal
+
+pub returns-in_err-answer-clause-names : goal.returns-in_err-answer-clause-names
+returns-in_err-answer-clause-names g c =
+    let dir = g.F.Files.map c.args.files.now in
+    let config = c.args.config.now in
+    let ticket = c.args.ticket in
+    let names = named_as g.F.Files (λ name. is_accepted_by ticket name ≡ true) _ dir dir (λ name. is_published_by name ≡ true) (λ d. IsDamagedOf d (Next (sent_key config c.as_slice-message.result.now)))
+    (IsDamagedOf dir (Next (sent_key config c.args.held.now.message))) (λ told. refl) (λ name e. or_left (is_published_by name) (is_taken_by ticket name) e)
+    (λ name e bad. subst (λ (m : Text). IsDamagedOf dir (Next (sent_key config m)) name) c.as_slice-message.ensures bad) c.in_err-answer.ensures.names in
+    search rules
+
+pub returns-in_err-txn-in-At-clause-names : goal.returns-in_err-txn-in-At-clause-names
+returns-in_err-txn-in-At-clause-names g c =
+    let dir = g.F.Files.map c.args.files.now in
+    let ticket = c.args.ticket in
+    let asked = Next (sent_key c.args.config.now c.args.held.now.message) in
+    let names = named_as g.F.Files (λ name. is_accepted_by ticket name ≡ true) _ dir (g.F.Files.map c.publish.new.files) (λ name. is_taken_by ticket name ≡ true) Breaks (IsDamagedOf dir asked)
+    (λ told. g.met.F.Files.kept_map c.args.files.now c.publish.new.files told c.publish.ensures.reads.kept) (λ name e. or_right (is_published_by name) (is_taken_by ticket name) e)
+    (λ name e bad. record { damaged = waiting bad; own = λ of. absurd (taken_other name ticket e of) }) c.in_err-txn-in-At.ensures.names in
+    search rules
 
 pub returns-in_ok-join-in-At-clause-own : goal.returns-in_ok-join-in-At-clause-own
 returns-in_ok-join-in-At-clause-own g c =

@@ -1,10 +1,9 @@
-use Rattle.std.proofs.Common.{◌≡◌, Bool, true, false, IfOk, IfErr, Some, refl, sym, ap, ◌∙◌, subst, codes, rules}
+use Rattle.std.proofs.Common.{◌≡◌, Bool, true, false, IfOk, Some, refl, sym, ap, ◌∙◌, subst, codes, rules}
 use Rattle.std.specs.Fmt.{decimal}
 use Rattle.std.proofs.lemmas.Bool.{or_left, or_right}
 use Rattle.ml_base.specs.Dir.{Dir, same_name}
-use Rattle.ml_base.specs.PartErrors.{OnDamaged}
+use Rattle.ml_base.specs.declared.names.Name.{Name}
 use Rattle.ml_base.specs.declared.names.Set.TheVariants as sets
-use Rattle.ml_base.proofs.DamagedNames.{err_damaged}
 use Rattle.ml_base.proofs.ReadingLemmas.{kept_read, reading_then}
 use Rattle.ml_config.specs.KeyFile.{key_name}
 use Rattle.ml_hold.specs.Held.{held_post}
@@ -13,18 +12,26 @@ use Rattle.ml_plain.specs.Directory.{IsList}
 use Rattle.ml_plain.specs.Mailing.{is_cookie}
 use Rattle.ml_plain.specs.Managing.{answered, if_signed}
 use Rattle.ml_plain.specs.Plain.{Plain}
-use Rattle.ml_acts.specs.Damaged.{IsDamaged}
+use Rattle.ml_acts.specs.Asked.{IsDamagedOf, Next}
+use Rattle.ml_acts.specs.Damaged.{IsNoKeys, keys}
 use Rattle.ml_acts.specs.Doing.{DoesList}
-use Rattle.ml_acts.proofs.Damages.{keys_named, same_self}
+use Rattle.ml_acts.proofs.Asked.{named_as, other_name}
+use Rattle.ml_acts.proofs.Damages.{same_self}
 use Rattle.ml_post.specs.Answering.{is_answered_by, is_followed_by}
+use Rattle.ml_post.specs.Publishing.{sent_key}
 use Rattle.ml_post.proofs.Damages.{ok_then}
 use Rattle.ml_post.proofs.Fates.{does_nothing}
 use Rattle.ml_post.proofs.answering.answer_held.Goals as goal
 
 pub returns-in_err-keys-clause-names : goal.returns-in_err-keys-clause-names
 returns-in_err-keys-clause-names g c =
-    let names = keys_named g.F.Files (λ name. is_answered_by c.args.ticket c.args.accept name ≡ true) _ (g.F.Files.map c.args.files.now)
-    (or_left (same_name key_name key_name) (is_followed_by c.args.ticket c.args.accept key_name) (same_self key_name)) c.in_err-keys.ensures.names in
+    let dir = g.F.Files.map c.args.files.now in
+    let ticket = c.args.ticket in
+    let accept = c.args.accept in
+    let asked = Next (sent_key c.args.config.now c.args.held.now.message) in
+    let names = named_as g.F.Files (λ name. is_answered_by ticket accept name ≡ true) _ dir dir (λ name. name ≡ key_name) (λ d _. IsNoKeys d) (IsDamagedOf dir asked) (λ told. refl)
+    (λ name e. or_left (same_name name key_name) (is_followed_by ticket accept name) (subst (λ (a : Name). same_name a key_name ≡ true) (sym e) (same_self key_name)))
+    (λ name e none. record { damaged = keys e none; own = λ of. absurd (other_name name key_name refl e of) }) c.in_err-keys.ensures.names in
     search rules
 
 pub returns-then-not-is_signed-clause-value : goal.returns-then-not-is_signed-clause-value
@@ -53,12 +60,13 @@ returns-clause-value g c told =
     subst (λ (b : Bool). DoesList dir done (if_signed c.args.now c.args.ticket held p c.args.accept b)) (sym right) (does p is same found)) value
 
 pub returns-clause-names : goal.returns-clause-names
-returns-clause-names g c = record {
-  named = err_damaged c.follow.result (λ name. is_followed_by c.args.ticket c.args.accept name ≡ true) (λ name. is_answered_by c.args.ticket c.args.accept name ≡ true)
-      (λ name e. or_right (same_name name key_name) (is_followed_by c.args.ticket c.args.accept name) e) c.follow.ensures.names.named;
-  damaged = λ told.
-      subst (λ (d : Dir). IfErr c.follow.result (λ e. OnDamaged e (IsDamaged d))) (g.met.F.Files.kept_map c.args.files.now c.list_keys.new.files told c.list_keys.ensures.reads.kept) (c.follow.ensures.names.damaged told);
-}
+returns-clause-names g c =
+    let dir = g.F.Files.map c.args.files.now in
+    let ticket = c.args.ticket in
+    let accept = c.args.accept in
+    let asked = Next (sent_key c.args.config.now c.args.held.now.message) in
+    named_as g.F.Files (λ name. is_answered_by ticket accept name ≡ true) c.follow.result dir (g.F.Files.map c.list_keys.new.files) (λ name. is_followed_by ticket accept name ≡ true) (λ d. IsDamagedOf d asked) (IsDamagedOf dir asked)
+    (λ told. g.met.F.Files.kept_map c.args.files.now c.list_keys.new.files told c.list_keys.ensures.reads.kept) (λ name e. or_right (same_name name key_name) (is_followed_by ticket accept name) e) (λ name e bad. bad) c.follow.ensures.names
 
 pub returns-clause-reads : goal.returns-clause-reads
 returns-clause-reads g c =

@@ -1,8 +1,11 @@
 use Rattle.std.proofs.Common.{ap, ap₂, sym, subst}
 use Rattle.ml_base.specs.Dir.{Dir}
 use Rattle.ml_plain.specs.Directory.{IsList}
+use Rattle.ml_base.proofs.DamagedNames.{err_damaged}
+use Rattle.ml_acts.specs.Asked.{Count, IsDamagedOf}
 use Rattle.ml_acts.specs.Configured.{with_config}
-use Rattle.ml_acts.proofs.UnderConfig.{bad_under, config_of, sound_under}
+use Rattle.ml_acts.specs.Damaged.{IsDamaged}
+use Rattle.ml_acts.proofs.UnderConfig.{config_of, named_under, sound_under}
 use Rattle.ml_post.proofs.Damages.{ok_then}
 use Rattle.ml_post.proofs.judging.verdict.Goals as goal
 
@@ -17,9 +20,11 @@ returns-clause-value g c told allowed =
 pub returns-clause-names : goal.returns-clause-names
 returns-clause-names g c = record {
   named = c.judged.ensures.names.named;
-  damaged = λ told. bad_under c.args.config.now c.new-under.result.config.now (g.F.Files.map c.args.files.now) (g.F.Files.map c.new-under.result.files.now) c.new-under.ensures.config (ap g.F.Files.map c.new-under.ensures.files) c.judged.result (c.judged.ensures.names.damaged told);
+  damaged = λ told. named_under c.args.config.now c.new-under.result.config.now (g.F.Files.map c.args.files.now) (g.F.Files.map c.new-under.result.files.now) c.new-under.ensures.config (ap g.F.Files.map c.new-under.ensures.files) c.judged.result (λ d. IsDamagedOf d Count) (c.judged.ensures.names.damaged told);
 }
 
 pub returns-clause-sound : goal.returns-clause-sound
 returns-clause-sound g c told p is =
-    sound_under c.args.config.now c.new-under.result.config.now (g.F.Files.map c.args.files.now) (g.F.Files.map c.new-under.result.files.now) c.new-under.ensures.config (ap g.F.Files.map c.new-under.ensures.files) c.judged.result p is (c.judged.ensures.names.damaged told)
+    let there = with_config c.new-under.result.config.now (g.F.Files.map c.new-under.result.files.now) in
+    sound_under c.args.config.now c.new-under.result.config.now (g.F.Files.map c.args.files.now) (g.F.Files.map c.new-under.result.files.now) c.new-under.ensures.config (ap g.F.Files.map c.new-under.ensures.files) c.judged.result p is
+    (err_damaged c.judged.result (IsDamagedOf there Count) (IsDamaged there) (λ name bad. bad.damaged) (c.judged.ensures.names.damaged told))

@@ -1,20 +1,20 @@
-use Rattle.std.proofs.Common.{◌≡◌, ◌≤◌, ◌||◌, length, true, false, IfOk, IfErr, ap, ◌∙◌, subst, sym}
+use Rattle.std.proofs.Common.{◌≡◌, ◌≤◌, ◌||◌, length, true, false, IfOk, refl, ap, ◌∙◌, subst, sym, rules}
 use Rattle.std.proofs.lemmas.Bool.{or_left, or_right}
 use Rattle.ml_base.specs.Address.{as_address}
 use Rattle.ml_base.specs.Bytes.{Text}
 use Rattle.ml_base.specs.Dir.{Dir}
-use Rattle.ml_base.specs.PartErrors.{OnDamaged}
-use Rattle.ml_base.proofs.DamagedNames.{err_damaged}
 use Rattle.ml_plain.specs.Directory.{IsList}
 use Rattle.ml_plain.specs.Plain.{Plain, is_archive_full}
 use Rattle.ml_plain.specs.Posting.{held_now, posted_now}
 use Rattle.ml_plain.specs.Verdicts.{is_usable, verdict}
-use Rattle.ml_acts.specs.Damaged.{IsDamaged}
+use Rattle.ml_acts.specs.Asked.{Count, IsDamagedOf, Next}
 use Rattle.ml_acts.specs.Doing.{DoesList}
+use Rattle.ml_acts.proofs.Asked.{asked_as, count_next, named_as, named_beside}
 use Rattle.ml_post.specs.Holding.{is_held_by}
 use Rattle.ml_post.specs.Judging.{is_judged_by}
 use Rattle.ml_post.specs.Posting.{is_posted_by}
-use Rattle.ml_post.specs.Publishing.{is_published_by}
+use Rattle.ml_post.specs.Publishing.{is_published_by, sent_key}
+use Rattle.ml_post.proofs.Beside.{held_other}
 use Rattle.ml_post.proofs.Damages.{ok_then}
 use Rattle.ml_post.proofs.Fates.{follows_held, follows_posted}
 use Rattle.ml_post.proofs.Fitting.{held_fits, holdable}
@@ -32,16 +32,24 @@ returns-in-Held-clause-value g c told =
     ok_then c.hold_message.result (λ done does p is same.
     follows_held dir p c.args.now sender message c.in_ok-found.found done (sym c.follows.ensures ∙ c.in-Held.is) (c.in_ok-found.ensures.value told p is same ∙ ap (verdict p sender) c.scan.ensures) (does p is same)) value
 
+pub returns-in_err-found-clause-names : goal.returns-in_err-found-clause-names
+returns-in_err-found-clause-names g c =
+    let dir = g.F.Files.map c.args.files.now in
+    let config = c.args.config.now in
+    let sender = c.args.sender.now in
+    let key = sent_key config c.args.message.now in
+    let names = named_as g.F.Files (λ name. is_posted_by config sender name ≡ true) _ dir dir (λ name. is_judged_by config sender name ≡ true) (λ d. IsDamagedOf d Count) (IsDamagedOf dir (Next key)) (λ told. refl)
+    (λ name e. or_left (is_judged_by config sender name || is_held_by name) (is_published_by name) (or_left (is_judged_by config sender name) (is_held_by name) e)) (λ name e bad. asked_as dir Count (Next key) name (count_next dir key name) bad)
+    c.in_err-found.ensures.names in
+    search rules
+
 pub returns-in-Held-clause-names : goal.returns-in-Held-clause-names
 returns-in-Held-clause-names g c =
     let config = c.args.config.now in
     let sender = c.args.sender.now in
-    record {
-      named = err_damaged c.hold_message.result (λ name. is_held_by name ≡ true) (λ name. is_posted_by config sender name ≡ true)
-          (λ name e. or_left (is_judged_by config sender name || is_held_by name) (is_published_by name) (or_right (is_judged_by config sender name) (is_held_by name) e)) c.hold_message.ensures.names.named;
-      damaged = λ told.
-          subst (λ (d : Dir). IfErr c.hold_message.result (λ e. OnDamaged e (IsDamaged d))) (g.met.F.Files.kept_map c.args.files.now c.judged.new.files told c.judged.ensures.reads.kept) (c.hold_message.ensures.names.damaged told);
-    }
+    named_beside g.F.Files (λ name. is_posted_by config sender name ≡ true) c.hold_message.result (g.F.Files.map c.args.files.now) (g.F.Files.map c.judged.new.files) (Next (sent_key config c.args.message.now)) (λ name. is_held_by name ≡ true)
+    (λ told. g.met.F.Files.kept_map c.args.files.now c.judged.new.files told c.judged.ensures.reads.kept)
+    (λ name e. or_left (is_judged_by config sender name || is_held_by name) (is_published_by name) (or_right (is_judged_by config sender name) (is_held_by name) e)) held_other c.hold_message.ensures.names
 
 pub returns-in-Posted-clause-value : goal.returns-in-Posted-clause-value
 returns-in-Posted-clause-value g c told =
@@ -59,12 +67,11 @@ pub returns-in-Posted-clause-names : goal.returns-in-Posted-clause-names
 returns-in-Posted-clause-names g c =
     let config = c.args.config.now in
     let sender = c.args.sender.now in
-    record {
-      named = err_damaged c.post_message.result (λ name. is_published_by name ≡ true) (λ name. is_posted_by config sender name ≡ true)
-          (λ name e. or_right (is_judged_by config sender name || is_held_by name) (is_published_by name) e) c.post_message.ensures.names.named;
-      damaged = λ told.
-          subst (λ (d : Dir). IfErr c.post_message.result (λ e. OnDamaged e (IsDamaged d))) (g.met.F.Files.kept_map c.args.files.now c.judged.new.files told c.judged.ensures.reads.kept) (c.post_message.ensures.names.damaged told);
-    }
+    let dir = g.F.Files.map c.args.files.now in
+    let key = sent_key config c.args.message.now in
+    named_as g.F.Files (λ name. is_posted_by config sender name ≡ true) c.post_message.result dir (g.F.Files.map c.judged.new.files) (λ name. is_published_by name ≡ true) (λ d. IsDamagedOf d (Next key)) (IsDamagedOf dir (Next key))
+    (λ told. g.met.F.Files.kept_map c.args.files.now c.judged.new.files told c.judged.ensures.reads.kept)
+    (λ name e. or_right (is_judged_by config sender name || is_held_by name) (is_published_by name) e) (λ name e bad. bad) c.post_message.ensures.names
 
 pub hold_message-requires-clause-size : goal.hold_message-requires-clause-size
 hold_message-requires-clause-size g c =

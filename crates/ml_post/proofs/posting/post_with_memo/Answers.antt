@@ -1,8 +1,10 @@
 use Rattle.std.proofs.Common.{ap, sym, subst}
 use Rattle.ml_base.specs.Dir.{Dir}
 use Rattle.ml_plain.specs.Posting.{post}
+use Rattle.ml_acts.specs.Asked.{IsDamagedOf, Next}
 use Rattle.ml_acts.specs.Doing.{HasRoom}
-use Rattle.ml_acts.proofs.UnderConfig.{bad_under, done_under, room_under}
+use Rattle.ml_acts.proofs.UnderConfig.{done_under, named_under, room_under}
+use Rattle.ml_post.specs.Publishing.{sent_key}
 use Rattle.ml_post.proofs.posting.post_with_memo.Goals as goal
 
 pub post_judged-requires-clause-room : goal.post_judged-requires-clause-room
@@ -16,5 +18,7 @@ returns-clause-value g c told =
 pub returns-clause-names : goal.returns-clause-names
 returns-clause-names g c = record {
   named = c.post_judged.ensures.names.named;
-  damaged = λ told. bad_under c.args.config.now c.new-under.result.config.now (g.F.Files.map c.args.files.now) (g.F.Files.map c.new-under.result.files.now) c.new-under.ensures.config (ap g.F.Files.map c.new-under.ensures.files) c.post_judged.result (c.post_judged.ensures.names.damaged told);
+  damaged = λ told.
+      named_under c.args.config.now c.new-under.result.config.now (g.F.Files.map c.args.files.now) (g.F.Files.map c.new-under.result.files.now) c.new-under.ensures.config (ap g.F.Files.map c.new-under.ensures.files) c.post_judged.result
+      (λ d. IsDamagedOf d (Next (sent_key c.args.config.now c.args.message.now))) (c.post_judged.ensures.names.damaged told);
 }

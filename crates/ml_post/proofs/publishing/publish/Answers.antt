@@ -1,17 +1,33 @@
-use Rattle.std.proofs.Common.{◌≡◌, ◌<◌, true, arith, rules, sym, ap, ◌∙◌, subst}
-use Rattle.ml_base.specs.Dir.{Dir, touches_only}
+use Rattle.std.proofs.Common.{◌≡◌, ◌<◌, ◌||◌, inl, true, arith, rules, refl, sym, ap, ap₂, ◌∙◌, subst}
+use Rattle.std.proofs.lemmas.Bool.{or_left}
+use Rattle.ml_base.specs.Bytes.{Text}
+use Rattle.ml_base.specs.Dir.{Dir, same_name, touches_only}
 use Rattle.ml_base.specs.PartErrors.{OnDamaged}
 use Rattle.ml_base.specs.declared.names.Set.TheVariants as sets
 use Rattle.ml_base.proofs.DamagedNames.{on_damaged}
 use Rattle.ml_base.proofs.ReadingLemmas.{kept_then, kept_read, reading_then}
-use Rattle.ml_archive.specs.Answers.{IsAppendName, IsBadForAppend, puts_of}
+use Rattle.ml_archive.specs.Answers.{IsAppendName, IsBadForAppend, IsNoNumber, puts_of}
+use Rattle.ml_archive.specs.Archive.{number_name}
+use Rattle.ml_archive.specs.Reads.{IsOfNext}
+use Rattle.ml_archive.specs.Subjects.{subject, subject_key}
 use Rattle.ml_archive.specs.Threads.{is_of_archive}
 use Rattle.ml_archive.specs.declared.posts.Appended.{Appended}
 use Rattle.ml_archive.specs.declared.posts.Appended.TheVariants.{At, Full}
-use Rattle.ml_acts.specs.Damaged.{IsDamaged, append}
-use Rattle.ml_post.specs.Publishing.{is_published_by}
+use Rattle.ml_acts.specs.Asked.{IsDamagedOf, Next}
+use Rattle.ml_acts.specs.Damaged.{append, number}
+use Rattle.ml_acts.specs.Doing.{is_index, is_mailed_by, is_thread_file}
+use Rattle.ml_acts.proofs.Asked.{count_next, mailed_other, named_as, named_beside}
+use Rattle.ml_post.specs.Publishing.{is_published_by, sent_key}
 use Rattle.ml_post.proofs.Posts.{append_read, appends_so, full_here, needs_none_held, no_archive, publishes}
 use Rattle.ml_post.proofs.publishing.publish.Goals as goal
+
+pub returns-in_err-count-clause-names : goal.returns-in_err-count-clause-names
+returns-in_err-count-clause-names g c =
+    let dir = g.F.Files.map c.args.files.now in
+    let key = sent_key c.args.config.now c.args.message.now in
+    let names = named_as g.F.Files (λ name. is_published_by name ≡ true) _ dir dir (λ name. name ≡ number_name) (λ d _. IsNoNumber d) (IsDamagedOf dir (Next key)) (λ told. refl) (λ name e. append_read name (inl e))
+    (λ name e none. record { damaged = number e none; own = λ of. count_next dir key name (e, none) }) c.in_err-count.ensures.names in
+    search rules
 
 pub returns-in_err-append-clause-names : goal.returns-in_err-append-clause-names
 returns-in_err-append-clause-names g c =
@@ -20,6 +36,9 @@ returns-in_err-append-clause-names g c =
     let few = c.in_ok-count.ensures.few in
     let last = c.if-count-eq-LAST_POST_NUMBER.false in
     let less : c.in_ok-count.count < 99_999_999 = omega (arith, few, last) in
+    let key = sent_key c.args.config.now c.args.message.now in
+    let own_key = subject_key c.as_slice-prefix.result.now (subject c.as_slice.result.now) in
+    let key_is : own_key ≡ key = ap₂ (λ (p t : Text). subject_key p (subject t)) c.as_slice-prefix.ensures (c.as_slice.ensures ∙ c.in_ok-text.ensures.text) in
     record {
       named =
           let own : OnDamaged e (λ name. is_published_by name ≡ true) = on_damaged e IsAppendName (λ name. is_published_by name ≡ true) append_read failed.named in
@@ -27,11 +46,24 @@ returns-in_err-append-clause-names g c =
       damaged = λ told.
           let dir = g.F.Files.map c.args.files.now in
           let same = g.met.F.Files.kept_map c.args.files.now c.count.new.files told c.count.ensures.reads.kept in
-          let bad : OnDamaged e (IsDamaged dir) =
-          on_damaged e (IsBadForAppend dir) (IsDamaged dir) (λ name is. append is (no_archive dir name c.in_ok-count.count (c.in_ok-count.ensures.read told) less is))
-          (subst (λ (d : Dir). OnDamaged e (IsBadForAppend d)) same (failed.damaged told)) in
+          let bad : OnDamaged e (IsDamagedOf dir (Next key)) =
+          on_damaged e (λ name. IsBadForAppend dir name × IsOfNext dir own_key name) (IsDamagedOf dir (Next key))
+          (λ name is. record { damaged = append is.0 (no_archive dir name c.in_ok-count.count (c.in_ok-count.ensures.read told) less is.0); own = λ of. (subst (λ (k : Text). IsOfNext dir k name) key_is is.1, is.0) })
+          (subst (λ (d : Dir). OnDamaged e (λ name. IsBadForAppend d name × IsOfNext d own_key name)) same (failed.damaged told)) in
           search rules;
     }
+
+pub returns-in_err-txn-in-At-clause-names : goal.returns-in_err-txn-in-At-clause-names
+returns-in_err-txn-in-At-clause-names g c =
+    let dir = g.F.Files.map c.args.files.now in
+    let mailed = is_mailed_by sets.List in
+    let names = named_beside g.F.Files (λ name. is_published_by name ≡ true) _ dir (g.F.Files.map c.append.new.files) (Next (sent_key c.args.config.now c.args.message.now)) (λ name. mailed name ≡ true)
+    (λ told. g.met.F.Files.kept_map c.count.new.files c.append.new.files told c.append.ensures.reads.kept ∙ g.met.F.Files.kept_map c.args.files.now c.count.new.files told c.count.ensures.reads.kept)
+    (λ name e.
+    or_left (mailed name || same_name name number_name || is_index name) (is_thread_file name)
+    (or_left (mailed name || same_name name number_name) (is_index name) (or_left (mailed name) (same_name name number_name) e)))
+    (λ name e of. mailed_other name sets.List e of) c.in_err-txn-in-At.ensures.names in
+    search rules
 
 pub returns-in-Full-clause-value : goal.returns-in-Full-clause-value
 returns-in-Full-clause-value g c told dir p alike is same =

@@ -1,11 +1,16 @@
-use Rattle.std.proofs.Common.{◌≡◌, ◌+◌, ◌-◌, ℕ, map, take, drop, length, [], ◌∷◌, List, sym, ap, ◌∙◌, subst, arith, rules}
+use Rattle.std.proofs.Common.{◌≡◌, true, ◌+◌, ◌-◌, ℕ, map, take, drop, length, [], ◌∷◌, List, sym, ap, ◌∙◌, subst, arith, rules}
 use Rattle.std.proofs.lemmas.List.{length-append}
 use Rattle.ml_base.specs.Dir.{Dir}
 use Rattle.ml_base.proofs.ReadingLemmas.{kept_read, kept_self, kept_then}
+use Rattle.ml_archive.specs.Archive.{IsNumberFile, number_name}
 use Rattle.ml_digest.specs.declared.posts.DigestPost.{DigestPost}
 use Rattle.ml_plain.specs.Directory.{IsList}
 use Rattle.ml_plain.specs.Timing.{digest_post}
+use Rattle.ml_acts.proofs.Asked.{named_as}
+use Rattle.ml_timed.specs.Digesting.{IsDamagedWithin}
+use Rattle.ml_timed.specs.Reads.{is_of_posts_told}
 use Rattle.ml_timed.proofs.Posted.{one_more}
+use Rattle.ml_timed.proofs.Within.{within_more}
 use Rattle.ml_timed.proofs.digesting.posts_in.Goals as goal
 
 pub loop-number-init : goal.loop-number-init
@@ -55,3 +60,22 @@ returns-clause-value g c told p is =
     let past = c.loop-number-test.false in
     let same : c.loop-number.number ≡ c.args.range.last + 1 = omega (arith, up, past) in
     c.loop-number.invariant.posts told p is ∙ ap (λ (k : ℕ). map digest_post (take (k - c.args.range.first) (drop (c.args.range.first - 1) p.posts))) same
+
+pub returns-in_err-post_of-clause-names : goal.returns-in_err-post_of-clause-names
+returns-in_err-post_of-clause-names g c =
+    let dir = g.F.Files.map c.args.files.now in
+    let n = c.loop-number.number in
+    let range = c.args.range in
+    let from = c.loop-number.invariant.from in
+    let here = c.loop-number-test.true in
+    let names = named_as g.F.Files (λ name. is_of_posts_told name ≡ true) _ dir (g.F.Files.map c.loop-number.files) (λ name. is_of_posts_told name ≡ true) (λ d. IsDamagedWithin d n n) (IsDamagedWithin dir range.first range.last)
+    (λ told. g.met.F.Files.kept_map c.args.files.now c.loop-number.files told c.loop-number.invariant.read.kept) (λ name e. e) (λ name e bad. within_more dir n range.first range.last name from here bad) c.in_err-post_of.ensures.names in
+    search rules
+
+pub post_of-requires-clause-counted : goal.post_of-requires-clause-counted
+post_of-requires-clause-counted g c told =
+    let same = g.met.F.Files.kept_map c.args.files.now c.loop-number.files told c.loop-number.invariant.read.kept in
+    let there = c.requires.counted told in
+    let here = c.loop-number-test.true in
+    let up = there.2 in
+    (there.0, subst (λ (d : Dir). IsNumberFile (d number_name) there.0) (sym same) there.1, omega (arith, here, up))

@@ -1,19 +1,40 @@
-use Rattle.std.proofs.Common.{◌≡◌, ◌<◌, ◌/◌, true, arith, ◌∙◌}
-use Rattle.std.proofs.lemmas.Bool.{or_right}
+use Rattle.std.proofs.Common.{◌≡◌, true, ◌∙◌, refl, sym, ap, arith, rules}
+use Rattle.std.proofs.lemmas.Bool.{false≢true, or_right}
 use Rattle.ml_base.specs.Dir.{same_name}
+use Rattle.ml_base.specs.declared.names.Name.{Name}
 use Rattle.ml_archive.specs.Archive.{number_name}
+use Rattle.ml_acts.specs.Asked.{Group, IsDamagedOf}
 use Rattle.ml_acts.specs.Doing.{is_index}
-use Rattle.ml_acts.proofs.Damages.{index_named}
+use Rattle.ml_acts.proofs.Asked.{group_named}
+use Rattle.ml_acts.proofs.Damages.{named_so}
 use Rattle.ml_acts.proofs.Placed.{index_placed}
+use Rattle.ml_timed.specs.Digesting.{IsDamagedGroup}
 use Rattle.ml_timed.specs.Reads.{is_of_posts_told}
+use Rattle.ml_timed.specs.Waiting.{are_short}
 use Rattle.ml_timed.proofs.Behind.{no_group}
+use Rattle.ml_timed.proofs.Short.{index_short}
 use Rattle.ml_timed.proofs.undigested.group_of.Goals as goal
 
 pub returns-then-group-count-clause-value : goal.returns-then-group-count-clause-value
 returns-then-group-count-clause-value g c told p is size = c.new.ensures ∙ no_group c.args.group c.args.count p.posts size c.if-group-count.true
 
-pub returns-clause-names : goal.returns-clause-names
-returns-clause-names g c =
+pub returns-in_err-entries-clause-names : goal.returns-in_err-entries-clause-names
+returns-in_err-entries-clause-names g c =
+    let dir = g.F.Files.map c.args.files.now in
     let group = c.args.group in
-    index_named g.F.Files (λ name. is_of_posts_told name ≡ true) c.index.result (g.F.Files.map c.args.files.now) group
-    (λ name less e. or_right (same_name name number_name) (is_index name) (index_placed group name less e)) c.index.ensures.sound c.index.ensures.table c.index.ensures.names
+    let names = named_so g.F.Files (λ name. is_of_posts_told name ≡ true) _ (λ name. is_of_posts_told name ≡ true) (IsDamagedOf dir (Group group)) (IsDamagedGroup dir group c.args.count) (λ name e. e)
+    (λ name e bad. record { damaged = bad; few = c.if-group-count.false })
+    (group_named g.F.Files (λ name. is_of_posts_told name ≡ true) _ dir group (λ name less e. or_right (same_name name number_name) (is_index name) (index_placed group name less e)) c.in_err-entries.ensures.sound c.in_err-entries.ensures.table c.in_err-entries.ensures.names) in
+    search rules
+
+pub returns-then-not-are_short-clause-names : goal.returns-then-not-are_short-clause-names
+returns-then-not-are_short-clause-names g c =
+    let dir = g.F.Files.map c.args.files.now in
+    let group = c.args.group in
+    let few = c.requires in
+    let up = c.if-group-count.false in
+    let name : Name = record { kind = 10; at = group } in
+    record {
+      named = or_right (same_name name number_name) (is_index name) (index_placed group name (omega (arith, few, up)) refl);
+      damaged = λ told. absurd (false≢true (sym c.if-not-are_short.true ∙ c.are_short.ensures ∙ ap are_short c.as_slice.ensures ∙ index_short dir group c.in_ok-entries.entries (c.in_ok-entries.ensures.read told)));
+    }

@@ -1,0 +1,54 @@
+-- What acts ask of the archive, and which of its files are damaged for that.
+use Rattle.std.specs.Prelude.{◌≡◌, ◌+◌, ◌≤◌, ◌⊎◌, ℕ, true, List}
+use Rattle.std.specs.List.{IsAmong}
+use Rattle.ml_base.specs.Bytes.{Text}
+use Rattle.ml_base.specs.Dir.{Dir}
+use Rattle.ml_base.specs.declared.names.Name.{Name}
+use Rattle.ml_archive.specs.Answers.{IsBadForAppend, IsBadForPost, IsBadForRange, IsBadForThread, IsNoIndex, IsNoNumber, IsRangeByFiles, IsThreadAnswer}
+use Rattle.ml_archive.specs.Archive.{IsNumberFile, index_name, number_name}
+use Rattle.ml_archive.specs.Reads.{IsOfNext, IsOfThread}
+use Rattle.ml_archive.specs.Threads.{is_of_archive}
+use Rattle.ml_digest.specs.Due.{IsMark}
+use Rattle.ml_digest.specs.declared.posts.Mark.{Mark}
+use Rattle.ml_acts.specs.Damaged.{IsDamaged}
+
+-- what is asked of the archive, by the numbers of who asks
+pub data Asked : Type 0 where
+  -- how many posts there are
+  Count : Asked
+  -- the posts a to b
+  Range : ℕ → ℕ → Asked
+  -- the index of a group
+  Group : ℕ → Asked
+  -- the thread of a post, on a list with a prefix
+  ThreadOf : Text → ℕ → Asked
+  -- a place behind the last post, for one of a subject key
+  Next : Text → Asked
+  -- the posts that are in no digest yet
+  Undigested : Asked
+
+-- damaged for a post of a row, for one of the posts a to b, and for one behind the mark of the digests
+abbrev pub IsBadAmong : Dir → List ℕ → Name → Type 0
+IsBadAmong dir row name = (n : ℕ) × IsAmong row n × IsBadForPost dir n name
+
+abbrev pub IsBadWithin : Dir → ℕ → ℕ → Name → Type 0
+IsBadWithin dir a b name = (n : ℕ) × (a ≤ n) × (n ≤ b) × IsBadForPost dir n name
+
+abbrev pub IsBadBehind : Dir → Name → Type 0
+IsBadBehind dir name = (mark : Mark) × IsMark dir mark × (count : ℕ) × IsNumberFile (dir number_name) count × IsBadWithin dir (mark.last + 1) count name
+
+-- A file of the archive that is damaged for what is asked: the number of posts, outside its grammar; a range, or one of the posts that it
+-- answers; the one index; the thread, or one of the posts that it answers; what a new post of the key is put behind or into; and the number of
+-- posts, or one of those behind the mark.
+abbrev pub IsBadFor : Dir → Asked → Name → Type 0
+IsBadFor dir Count name = (name ≡ number_name) × IsNoNumber dir
+IsBadFor dir (Range a b) name = IsBadForRange dir a b name ⊎ ((row : List ℕ) × IsRangeByFiles dir a b row × IsBadAmong dir row name)
+IsBadFor dir (Group g) name = (name ≡ index_name g) × IsNoIndex dir g
+IsBadFor dir (ThreadOf prefix n) name = IsOfThread dir prefix n name × (IsBadForThread dir prefix n name ⊎ ((row : List ℕ) × IsThreadAnswer dir prefix n row × IsBadAmong dir row name))
+IsBadFor dir (Next key) name = IsOfNext dir key name × IsBadForAppend dir name
+IsBadFor dir Undigested name = ((name ≡ number_name) × IsNoNumber dir) ⊎ IsBadBehind dir name
+
+-- a damaged file: one of the archive is damaged for what is asked of it, and no other
+pub record IsDamagedOf (dir : Dir) (asked : Asked) (name : Name) : Type 0 where
+  pub damaged : IsDamaged dir name
+  pub own : is_of_archive name ≡ true → IsBadFor dir asked name
