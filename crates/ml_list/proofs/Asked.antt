@@ -1,5 +1,5 @@
 -- Which damaged files an item may name.
-use Rattle.std.proofs.Common.{◌≡◌, inl, inr, true, Result, subst}
+use Rattle.std.proofs.Common.{◌≡◌, true, Result, subst}
 use Rattle.ml_base.specs.Bytes.{Text}
 use Rattle.ml_base.specs.Dir.{Dir}
 use Rattle.ml_base.specs.ReadFiles.{NamesDamaged}
@@ -7,11 +7,12 @@ use Rattle.ml_base.specs.declared.files.Files.{Ghosts}
 use Rattle.ml_base.specs.declared.names.Name.{Name}
 use Rattle.ml_base.specs.declared.part.PartError.{PartError}
 use Rattle.ml_plain.specs.declared.Act.{Act}
-use Rattle.ml_plain.specs.declared.Act.TheVariants.{Deliver}
+use Rattle.ml_plain.specs.declared.Act.TheVariants.{Deliver, Timed}
+use Rattle.ml_acts.specs.Asked.{IsDamagedOf, Undigested}
 use Rattle.ml_acts.specs.Damaged as acts
 use Rattle.ml_acts.proofs.Damages.{named_so}
 use Rattle.ml_deliver.specs.Asked.{IsDelivered}
-use Rattle.ml_deliver.specs.Reads.{is_of_acts}
+use Rattle.ml_deliver.specs.Reads.{is_of_acts, is_of_timed}
 use Rattle.ml_list.specs.Asked.{IsDamagedForAct, IsReadByAct}
 use Rattle.ml_list.specs.Damage.{IsDamaged, is_read_by, part}
 
@@ -23,11 +24,17 @@ module _ {F T : Type 0} (told : Ghosts F) (r : Result T PartError) (dir : Dir) w
       named_so told (λ name. is_read_by act name ≡ true) r (λ name. is_read_by act name ≡ true) (IsDamaged dir) (IsDamagedForAct dir act) (λ name e. e) (λ name e bad. record { damaged = bad; read = read name e }) is
 
   -- a delivery
-  pub delivered_named : (sender recipient message from to : Text) → from ≡ sender → to ≡ recipient → NamesDamaged told (λ name. is_of_acts name ≡ true) (λ name. acts.IsDamaged dir name × IsDelivered dir from to name) r
+  pub delivered_named : (sender recipient message from to text : Text) → from ≡ sender → to ≡ recipient → text ≡ message → NamesDamaged told (λ name. is_of_acts name ≡ true) (λ name. acts.IsDamaged dir name × IsDelivered dir from to text name) r
       → NamesDamaged told (λ name. is_read_by (Deliver sender recipient message) name ≡ true) (IsDamagedForAct dir (Deliver sender recipient message)) r
-  delivered_named sender recipient message from to same_sender same_recipient is =
-      named_so told (λ name. is_read_by (Deliver sender recipient message) name ≡ true) r (λ name. is_of_acts name ≡ true) (λ name. acts.IsDamaged dir name × IsDelivered dir from to name) (IsDamagedForAct dir (Deliver sender recipient message)) (λ name e. e)
+  delivered_named sender recipient message from to text same_sender same_recipient same_message is =
+      named_so told (λ name. is_read_by (Deliver sender recipient message) name ≡ true) r (λ name. is_of_acts name ≡ true) (λ name. acts.IsDamaged dir name × IsDelivered dir from to text name) (IsDamagedForAct dir (Deliver sender recipient message)) (λ name e. e)
       (λ name e bad. record {
         damaged = part bad.0;
-        read = subst (λ (x : Text). IsDelivered dir x recipient name) same_sender (subst (λ (x : Text). IsDelivered dir from x name) same_recipient bad.1);
+        read = subst (λ (x : Text). IsDelivered dir x recipient message name) same_sender
+            (subst (λ (x : Text). IsDelivered dir from x message name) same_recipient (subst (λ (x : Text). IsDelivered dir from to x name) same_message bad.1));
       }) is
+
+  -- a timed run
+  pub timed_named : NamesDamaged told (λ name. is_of_timed name ≡ true) (IsDamagedOf dir Undigested) r → NamesDamaged told (λ name. is_read_by Timed name ≡ true) (IsDamagedForAct dir Timed) r
+  timed_named is =
+      named_so told (λ name. is_read_by Timed name ≡ true) r (λ name. is_of_timed name ≡ true) (IsDamagedOf dir Undigested) (IsDamagedForAct dir Timed) (λ name e. e) (λ name e bad. record { damaged = part bad.damaged; read = (e, bad) }) is

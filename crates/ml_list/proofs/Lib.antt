@@ -8,3 +8,4 @@ pub mod LookedUp
 pub mod States
 pub mod Named
 pub mod Asked
+pub mod Told

@@ -3,17 +3,20 @@ use Rattle.std.specs.Prelude.{◌≡◌, ◌⊎◌, true}
 use Rattle.ml_base.specs.Dir.{Dir}
 use Rattle.ml_base.specs.declared.names.Name.{Name}
 use Rattle.ml_plain.specs.declared.Act.{Act}
-use Rattle.ml_plain.specs.declared.Act.TheVariants.{Deliver}
+use Rattle.ml_plain.specs.declared.Act.TheVariants.{Deliver, Timed}
 use Rattle.ml_plain.specs.declared.Item.{Item}
+use Rattle.ml_acts.specs.Asked.{IsDamagedOf, Undigested}
 use Rattle.ml_deliver.specs.Asked.{IsDelivered}
 use Rattle.ml_list.specs.Damage.{IsDamaged, is_looked_up, is_read_by}
 
--- The files that an act may read: those of a delivery go by the configuration that the files hold, and by the numbers of its request.
+-- The files that an act may read: those of a delivery go by the configuration that the files hold, and by the numbers of its request. One of the
+-- archive is damaged for what is asked of it, and for a timed run this is the posts that are in no digest yet.
 abbrev pub IsReadByAct : Dir → Act → Name → Type 0
-IsReadByAct dir (Deliver sender recipient message) name = IsDelivered dir sender recipient name
+IsReadByAct dir (Deliver sender recipient message) name = IsDelivered dir sender recipient message name
+IsReadByAct dir Timed name = (is_read_by Timed name ≡ true) × IsDamagedOf dir Undigested name
 IsReadByAct dir act name = is_read_by act name ≡ true
 
--- the files that an item may read: before it counts, and by its act
+-- the files that an item may read, of the archive those that are damaged for what it asks: before it counts, and by its act
 abbrev pub IsReadBy : Dir → Item → Name → Type 0
 IsReadBy dir item name = (is_looked_up item.number name ≡ true) ⊎ IsReadByAct dir item.act name
 

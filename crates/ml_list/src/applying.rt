@@ -5,6 +5,7 @@ ghost use Rattle.ml_base.specs.Dir.{Dir, are_files, newest_put, with_puts};
 ghost use Rattle.ml_base.specs.ReadFiles.{IsReading, NamesDamaged};
 ghost use Rattle.ml_base.specs.declared.part.PartError.TheVariants.{Memory};
 ghost use Rattle.ml_base.specs.PartErrors.{OnDamaged};
+ghost use Rattle.ml_plain.specs.declared.Act.TheVariants.{Timed};
 ghost use Rattle.ml_plain.specs.Items.{IsItem, IsAct};
 ghost use Rattle.ml_plain.specs.Replies.{is_code};
 ghost use Rattle.ml_plain.specs.Answers.{stale as stale_reply};
@@ -21,6 +22,7 @@ ghost use Rattle.ml_list.specs.Damage.{IsDamaged, is_looked_up, is_read_by, may_
 use crate::changing::{add_member, change_key, remove_member};
 use crate::floors::floor;
 use crate::memo::Memo;
+use crate::once::Once;
 use crate::rising::raise;
 use crate::slots::{Found, Known, keep, kept_reply, replies_name};
 use ml_base::{Bytes, Files, Name, PartError, Put, Txn, copied};
@@ -34,7 +36,7 @@ use std::alloc::{AllocError, Global};
 /// An item whose number isn't 0 and is below the floor is answered `stale`, one whose number has a kept reply is answered
 /// with it, and neither changes anything. The reply of any other item is kept for its number, where that isn't 0.
 /// `Damaged` names a file that the item may read, a delivery by the numbers of what its recipient asks under the configuration that the
-/// files hold, and that is outside its grammar. `Fault` comes only where a read failed.
+/// files hold, and that is outside its grammar; one of the archive is damaged for what is asked. `Fault` comes only where a read failed.
 ///
 /// The item is in its ranges. The configuration is there, which `load` tells.
 pub fn apply<F: Files>(alloc: Global, files: F, item: &Item) -> (F, Result<(Txn, Reply), PartError>)
@@ -51,6 +53,25 @@ pub fn apply<F: Files>(alloc: Global, files: F, item: &Item) -> (F, Result<(Txn,
 
 /// What `apply` does, for one of many items: the memo is what an earlier one left, or nothing.
 pub fn apply_with_memo<F: Files>(
+    alloc: Global,
+    files: F,
+    memo: &mut Memo,
+    item: &Item,
+) -> (F, Result<(Txn, Reply), PartError>)
+    requires item { IsItem item.now }
+    ensures value { IsTrue F.tells → IfOk result.1 (λ done. (q : State) → IsState (F.map files) q → Does (F.map files) done (step q item.now)) }
+    ensures reply { IfOk result.1 (λ done. IsTrue (is_code done.1.code)) }
+    ensures files { IfOk result.1 (λ done. IsTrue (are_files done.0)) }
+    ensures names { NamesDamaged ⟦<F as Files>⟧ (λ name. may_read item.now name ≡ true) (IsDamagedFor (F.map files) item.now) result.1 }
+    ensures sound { IsTrue F.tells → (q : State) → IsState (F.map files) q → IfErr result.1 (λ e. OnDamaged e (λ _. ⊥)) }
+    ensures reads { IsReading ⟦<F as Files>⟧ files result.0 result.1 }
+{
+    let (once, answer) = answered(alloc, Once::new(alloc, files), memo, item);
+    (once.into_files(), answer)
+}
+
+// What an item is answered, whether its number is new or not.
+fn answered<F: Files>(
     alloc: Global,
     files: F,
     memo: &mut Memo,
@@ -190,6 +211,7 @@ fn change<F: Files>(
     known: &Known,
 ) -> Result<(Txn, Reply), PartError>
     requires item { IsItem item.now }
+    requires act { item.now.act ≢ Timed }
     requires known { IsTrue F.tells → IsRead (F.map files.old) item.now.number known.now }
     requires range { IsInRange known.now.floor }
     ensures value { IsTrue F.tells → IfOk result (λ done. (q : State) → IsState (F.map files.old) q → Does (F.map files.old) done (steps.effect q item.now)) }
@@ -217,8 +239,7 @@ fn change<F: Files>(
         Act::Sent { id } => sent_entry(alloc, files, *id),
         Act::Rekey { key } => change_key(alloc, files, key, item.moment),
         Act::Floor { at } => raise(alloc, files, item.number, *at, known),
-        // It takes the files, and doesn't come here.
-        Act::Timed => Err(PartError::Memory),
+        Act::Timed => unreachable!(),
     }
 }
 
@@ -262,7 +283,7 @@ fn left_behind(
 }
 
 // The newest put of a file.
-fn newest(puts: &[Put], name: Name) -> Option<&Put>
+pub(crate) fn newest(puts: &[Put], name: Name) -> Option<&Put>
     ensures { option_copied result ≡ newest_put puts.now name }
 {
     puts.iter().rev().find(|put| put.name == name)

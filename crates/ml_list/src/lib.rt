@@ -7,6 +7,7 @@ mod floors;
 mod laws;
 mod loading;
 mod memo;
+mod once;
 mod rising;
 mod slots;
 

@@ -30,7 +30,7 @@ pub returns-in-Deliver-clause-names : goal.returns-in-Deliver-clause-names
 returns-in-Deliver-clause-names g c =
     let dir = g.F.Files.map c.args.files.now in
     subst (λ (a : Act). NamesDamaged g.F.Files (λ name. is_read_by a name ≡ true) (IsDamagedForAct dir a) c.deliver.result) (sym c.in-Deliver.is)
-    (delivered_named g.F.Files c.deliver.result dir _ _ _ _ _ c.as_slice.ensures c.as_slice-in-Deliver.ensures c.deliver.ensures.names)
+    (delivered_named g.F.Files c.deliver.result dir _ _ _ _ _ _ c.as_slice.ensures c.as_slice-in-Deliver.ensures c.as_slice-in-Deliver-2.ensures c.deliver.ensures.names)
 
 pub returns-in-Sent-clause-value : goal.returns-in-Sent-clause-value
 returns-in-Sent-clause-value g c told =

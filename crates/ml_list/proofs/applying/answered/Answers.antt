@@ -13,7 +13,7 @@ use Rattle.ml_list.specs.Damage.{IsDamaged, is_looked_up, is_read_by, may_read}
 use Rattle.ml_list.specs.Lookups.{answer_of}
 use Rattle.ml_list.proofs.Damages.{none_damaged, sound_by}
 use Rattle.ml_list.proofs.Steps.{answered_does, new_does}
-use Rattle.ml_list.proofs.applying.apply_with_memo.Goals as goal
+use Rattle.ml_list.proofs.applying.answered.Goals as goal
 
 pub returns-in-Ok-Answered-clause-value : goal.returns-in-Ok-Answered-clause-value
 returns-in-Ok-Answered-clause-value g c told q is =
