@@ -1,5 +1,5 @@
 -- What is printed where words ask for a stream.
-use Rattle.std.proofs.Common.{◌≡◌, ◌⊎◌, ⊎_elim, ℕ, ◌≤◌, Bool, true, false, cond, IsTrue, List, [], ◌∷◌, ◌++◌, length, map, filter, Option, Some, None, Result, Ok, Err, option_map, refl, sym, ap, ◌∙◌, subst, arith}
+use Rattle.std.proofs.Common.{◌≡◌, ⊎_elim, ℕ, ◌≤◌, Bool, true, false, cond, IsTrue, List, [], ◌∷◌, ◌++◌, length, map, filter, Option, Some, None, Result, Ok, Err, option_map, refl, sym, ap, ◌∙◌, subst, arith}
 use Rattle.std.proofs.lemmas.List.{length-map}
 use Rattle.std.specs.List.{AllByRecursion, find}
 use Rattle.ml_base.specs.Address.{IsAddress}
@@ -17,7 +17,7 @@ use Rattle.ml_ending.specs.Endings.{Says}
 use Rattle.ml_ending.specs.Stops.{status_of_why}
 use Rattle.ml_ending.specs.declared.lines.Why.{Why}
 use Rattle.ml_ending.specs.declared.lines.Why.TheVariants as whys
-use Rattle.ml_input.specs.Asking.{AsksAt, IsMomentOf}
+use Rattle.ml_input.specs.Asking.{IsMomentOf}
 use Rattle.ml_input.specs.Input.{IsInput}
 use Rattle.ml_journal.specs.Log.{directory}
 use Rattle.ml_mbox.specs.Importing.{acts_of}
@@ -26,7 +26,6 @@ use Rattle.ml_mbox.specs.declared.mails.Boxed.{Boxed}
 use Rattle.ml_plain.specs.Directory.{IsState}
 use Rattle.ml_plain.specs.Histories.{State}
 use Rattle.ml_plain.specs.Items.{AreNumbers, numbered}
-use Rattle.ml_porting.specs.Imports.{import_answer, mails_of}
 use Rattle.ml_porting.specs.Numbers.{IsFirst}
 use Rattle.ml_porting.specs.Questions.{importing_meaning, importing_of}
 use Rattle.ml_porting.specs.declared.importing.Importing.{Importing}
@@ -40,7 +39,7 @@ use Rattle.ml_site.specs.declared.site.Site.{Ghosts}
 use Rattle.ml_site.specs.declared.source.Clock.{Ghosts as ClockGhosts}
 use Rattle.ml_site.specs.declared.source.Source.{Ghosts as SourceGhosts}
 use Rattle.ml_split.specs.Moves.{moves}
-use Rattle.ml_split.specs.Parts.{goes_to, names, part_named, parts}
+use Rattle.ml_split.specs.Parts.{goes_to, names, part_named}
 use Rattle.ml_split.specs.Reading.{rules_in}
 use Rattle.ml_split.specs.Steps.{is_named}
 use Rattle.ml_split.specs.declared.parts.Part.{Part}

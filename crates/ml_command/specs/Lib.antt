@@ -4,7 +4,6 @@ pub mod Delivering
 pub mod Exercising
 pub mod Giving
 pub mod Inquiries
-pub mod ItemSource
 pub mod Making
 pub mod Printing
 pub mod Single

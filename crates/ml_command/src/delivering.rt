@@ -149,7 +149,7 @@ fn deliver_message<S: Site>(
     match delivery(alloc, sender, recipient, message) {
         Ok(act) => answer_item(
             alloc,
-            &Item {
+            Item {
                 number,
                 moment,
                 act,

@@ -6,7 +6,6 @@ mod commands;
 mod delivering;
 mod exercising;
 mod giving;
-mod item_source;
 mod making;
 mod single;
 mod spooling;

@@ -2,17 +2,15 @@
 ghost use Rattle.std.specs.Prelude.{◌≡◌, ◌⊎◌, ◌≤◌, None};
 ghost use Rattle.ml_plain.specs.Items.{IsItem};
 ghost use Rattle.ml_ending.specs.Endings.{Says};
-ghost use Rattle.ml_stream.specs.Writing.{IsTyped, spelled_item};
+ghost use Rattle.ml_stream.specs.Writing.{IsTyped};
 ghost use Rattle.ml_ending.specs.declared.lines.Why.TheVariants as whys;
 ghost use Rattle.ml_command.specs.Single.{AnswersItem, DoesSingle, IsGiven};
 ghost use Rattle.ml_command.specs.Commands.{AskedWithoutInput, ReadsClock};
 ghost use Rattle.ml_command.specs.Words.{texts, single_of};
 
 use crate::asking::item_of_words;
-use crate::item_source::ItemSource;
-use ml_base::Bytes;
 use ml_plain::{Act, Item};
-use ml_run::{Why, law_items, run, stop, write_item};
+use ml_run::{Why, run_item, stop};
 use ml_site::{Clock, Site};
 use std::alloc::Global;
 
@@ -42,14 +40,13 @@ fn answer_now<S: Site, K: Clock>(
     clock: &mut K,
 ) -> (u8, S)
     requires { IsGiven number act }
-    ensures does { DoesSingle ⟦<K as Clock>⟧ ⟦<S as Site>⟧ number act clock.old clock.new site result.1 result.0
-        ⊎ Says ⟦<S as Site>⟧ site result.1 result.0 None whys.Memory }
+    ensures does { DoesSingle ⟦<K as Clock>⟧ ⟦<S as Site>⟧ number act clock.old clock.new site result.1 result.0 }
     ensures clock { K.faults clock.old ≤ K.faults clock.new }
 {
     match clock.now() {
         Ok(moment) => answer_item(
             alloc,
-            &Item {
+            Item {
                 number,
                 moment,
                 act,
@@ -61,26 +58,11 @@ fn answer_now<S: Site, K: Clock>(
 }
 
 /// Answers one item.
-pub(crate) fn answer_item<S: Site>(alloc: Global, item: &Item, site: S) -> (u8, S)
-    requires ranges { IsItem item.now }
-    requires read { IsTyped item.now.act }
-    ensures { AnswersItem ⟦<S as Site>⟧ item.now site result.1 result.0 ⊎ Says ⟦<S as Site>⟧ site result.1 result.0 None whys.Memory }
+pub(crate) fn answer_item<S: Site>(alloc: Global, item: Item, site: S) -> (u8, S)
+    requires ranges { IsItem item }
+    requires typed { IsTyped item.act }
+    ensures { AnswersItem ⟦<S as Site>⟧ item site result.1 result.0 }
 {
-    match write_item(alloc, item) {
-        Ok(bytes) => answer_bytes(alloc, item, bytes, site),
-        Err(_) => stop(site, Why::Memory),
-    }
-}
-
-// Answers one item, of which these are the bytes.
-fn answer_bytes<S: Site>(alloc: Global, item: &Item, bytes: Bytes, site: S) -> (u8, S)
-    requires ranges { IsItem item.now }
-    requires read { IsTyped item.now.act }
-    requires spelled { bytes ≡ spelled_item item.now }
-    ensures { AnswersItem ⟦<S as Site>⟧ item.now site result.1 result.0 }
-{
-    law_items();
-    let mut input = ItemSource::new(alloc, bytes);
-    let (ending, site) = run(alloc, 1, &mut input, site);
+    let (ending, site) = run_item(alloc, item, site);
     (ending.status, site)
 }

@@ -1,5 +1,5 @@
 -- An exercise of a list, behind the look at its configuration.
-use Rattle.std.proofs.Common.{◌≡◌, ◌⊎◌, inl, inr, ⊎_elim, ℕ, IsTrue, List, [], ◌++◌, take, drop, Option, None, ap, sym, refl, subst, ◌∙◌}
+use Rattle.std.proofs.Common.{◌≡◌, inl, inr, ⊎_elim, ℕ, IsTrue, List, [], ◌++◌, take, drop, Option, None, ap, sym, refl, subst, ◌∙◌}
 use Rattle.std.specs.Prelude.{IsSome}
 use Rattle.std.proofs.lemmas.List.{append-nil, take-append-drop}
 use Rattle.ml_base.specs.Bytes.{Text}
@@ -13,7 +13,7 @@ use Rattle.ml_site.specs.Moments.{LeavesOnly}
 use Rattle.ml_site.specs.declared.site.Site.{Ghosts}
 use Rattle.ml_site.proofs.Steps.{joins, rest_contents, weaker}
 use Rattle.ml_journal.specs.Log.{directory}
-use Rattle.ml_ending.specs.Endings.{IsUnopened, Opens, SaysAtMost, TellsAtMost}
+use Rattle.ml_ending.specs.Endings.{IsUnopened, Opens, SaysAtMost}
 use Rattle.ml_ending.specs.Lines.{stop_text}
 use Rattle.ml_ending.specs.Stops.{status_of_why}
 use Rattle.ml_ending.proofs.Finished.{rose_earlier}
@@ -23,27 +23,23 @@ use Rattle.ml_run.specs.Leaving.{HasState, IsAfterSome}
 use Rattle.ml_run.proofs.Leaving.{other_list, same_state, some_answered}
 use Rattle.ml_run.proofs.Missing.{misses_before}
 use Rattle.ml_stream.specs.Stream.{End}
-use Rattle.ml_exercise.specs.Exercising.{answered, Ends, Exercises, ExercisesList, IsExercising, IsOfItem, items_of, two_lines}
+use Rattle.ml_exercise.specs.Exercising.{answered_all, behind, Ends, Exercises, ExercisesList, IsExercising, IsOfItem, items_of}
 use Rattle.ml_exercise.specs.Finding.{Finds}
+use Rattle.ml_exercise.proofs.SummedUp.{tells_before}
 
 -- the same over an output that was the same before
-ends_before : (told : Type 0) (status : ℕ) (held : Contents) (output : Text) (q : State) (count : ℕ) (old new : Text) → (told → old ≡ new) → Ends told status held output q count old → Ends told status held output q count new
-ends_before told status held output q count old new same (inl e) =
-    inl (record { status_is = e.status_is; state = e.state; put = λ t. subst (λ (b : Text). output ≡ answered q count b ++ two_lines q count) (same t) (e.put t) })
-ends_before told status held output q count old new same (inr (inl u)) = inr (inl (record {
-  state = u.state;
-  put = ⊎_elim
-      (λ w. inl (w.0, w.1, w.2, λ t. subst (λ (b : Text). output ≡ answered q count b ++ stop_text None status w.0) (same t) (w.3 t)))
-      (λ c. inr (c.0, λ t. subst (λ (b : Text). SaysAtMost (answered q count b) output ⊎ TellsAtMost (two_lines q count) (answered q count b) output) (same t) (c.1 t)))
-      u.put;
-}))
-ends_before told status held output q count old new same (inr (inr early)) = inr (inr (record {
-  items = early.items;
+ends_before : (told : Type 0) (status answered : ℕ) (held : Contents) (output : Text) (q : State) (count : ℕ) (old new : Text) → (told → old ≡ new) → Ends told status answered held output q count old → Ends told status answered held output q count new
+ends_before told status answered held output q count old new same (inl done) = inl (record {
+  all = done.all;
+  state = done.state;
+  put = tells_before told status count (behind q count).plain (answered_all q count old) (answered_all q count new) output (λ t. ap (λ (b : Text). answered_all q count b) (same t)) done.put;
+})
+ends_before told status answered held output q count old new same (inr early) = inr (record {
   end = ⊎_elim (λ s. inl (stopped s)) (λ c. inr (cut c)) early.end;
   hindered = early.hindered;
-}))
+})
   where
-    stopped : Stopped told ⊥ status count early.items held output (items_of q count) End q old → Stopped told ⊥ status count early.items held output (items_of q count) End q new
+    stopped : Stopped told ⊥ status count answered held output (items_of q count) End q old → Stopped told ⊥ status count answered held output (items_of q count) End q new
     stopped s = record {
       why = s.why;
       who = s.who;
@@ -57,7 +53,7 @@ ends_before told status held output q count old new same (inr (inr early)) = inr
       put = λ t. subst (λ (b : Text). output ≡ (b ++ text q s.done) ++ stop_text s.who status s.why) (same t) (s.put t);
     }
 
-    cut : CutOff told status count early.items held output (items_of q count) q old → CutOff told status count early.items held output (items_of q count) q new
+    cut : CutOff told status count answered held output (items_of q count) q old → CutOff told status count answered held output (items_of q count) q new
     cut c = record {
       status_is = c.status_is;
       done = c.done;
@@ -116,15 +112,16 @@ module _ {S : Type 0} (told : Ghosts S) (reads_told : IsTrue told.tells_all → 
     pub found_then : Exercises told count old new status
     found_then = record {
       does = record {
+        answered = list.answered;
         known = list.known;
-        whole = λ r q state. ends_before (IsTrue told.tells_all) status (told.disk new).reads (told.output new) q count (told.output mid) (told.output old) finds.output (list.whole r q (state_at r q state));
+        whole = λ r q state. ends_before (IsTrue told.tells_all) status list.answered (told.disk new).reads (told.output new) q count (told.output mid) (told.output old) finds.output (list.whole r q (state_at r q state));
         at_rest = λ rest q state t. opens_rest old new (IsExercising q count (told.output old)) rest
             (λ left out same said. inl (none_done q (items_of q count) (directory (told.disk old).reads) (told.output old) out left state same said)) (opens t q state) t;
         rest = λ none one two t. list.rest (λ rose. none (rose_earlier (told.disk_faults old) (told.disk_faults mid) (told.disk_faults new) finds.disk_later rose)) one two t;
         gate = λ some one two three r. list.gate (subst (λ (d : Option Dir). IsSome d) (sym (finds.same r)) some) one two three r;
         of_disk = λ e. rose_earlier (told.disk_faults old) (told.disk_faults mid) (told.disk_faults new) finds.disk_later (list.of_disk e);
         of_output = λ e. rose_earlier (told.output_faults old) (told.output_faults mid) (told.output_faults new) finds.output_later (list.of_output e);
-        named = λ r e. ⊎_elim (λ n. inl (subst (λ (d : Option Dir). Names (IsTrue told.tells_all) (IsOfItem d count) d (directory (told.disk new).reads) (told.output new)) (finds.same r) n)) (λ n. inr n) (list.named r e);
+        named = λ r e. ⊎_elim (λ n. inl (subst (λ (d : Option Dir). Names (IsTrue told.tells_all) (IsOfItem d count list.answered) d (directory (told.disk new).reads) (told.output new)) (finds.same r) n)) (λ n. inr n) (list.named r e);
         nolist = λ r files is none. misses_before (IsTrue told.tells_all) status (told.output mid) (told.output old) (told.output new) finds.output (list.nolist r files (finds.same r ∙ is) none);
       };
       moments = opens;

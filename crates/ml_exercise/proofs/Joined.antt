@@ -1,10 +1,9 @@
 -- A run of the items of an exercise, and the reading behind it, as one.
-use Rattle.std.proofs.Common.{◌≡◌, inl, inr, ⊎_elim, ℕ, Bool, true, false, IsTrue, List, [], ◌∷◌, ◌++◌, length, ◌≤◌, Option, Some, None, ap, sym, refl, subst, ◌∙◌, ◌||◌, ◌&&◌, arith}
+use Rattle.std.proofs.Common.{◌≡◌, inl, inr, ℕ, true, false, IsTrue, List, [], ◌∷◌, length, ◌≤◌, Option, Some, None, ap, sym, refl, subst, ◌∙◌, arith}
 use Rattle.std.specs.Prelude.{IsSome}
 use Rattle.ml_base.specs.Bytes.{Text}
 use Rattle.ml_base.specs.Dir.{Dir}
 use Rattle.ml_base.specs.declared.names.Name.{Name}
-use Rattle.ml_check.specs.Checking.{exercised_meaning}
 use Rattle.ml_config.specs.ConfigFile.{config_name, config_text}
 use Rattle.ml_config.specs.Configuration.{IsConfig}
 use Rattle.ml_config.specs.declared.configuration.Config.{Config}
@@ -18,23 +17,22 @@ use Rattle.ml_site.proofs.Steps.{joins, weaker}
 use Rattle.ml_journal.specs.Calls.{Leaves}
 use Rattle.ml_journal.specs.Log.{directory}
 use Rattle.ml_journal.specs.Stores.{the_dir}
-use Rattle.ml_ending.specs.Lines.{stop_text}
 use Rattle.ml_ending.proofs.Finished.{rose_earlier}
-use Rattle.ml_reading.specs.Giving.{GivesAnswer}
-use Rattle.ml_reading.specs.Readings.{IsReading, IsRefusal, Reads, is_reading_status}
 use Rattle.ml_run.specs.Endings.{Brings, Ended, Names, Runs}
 use Rattle.ml_run.specs.Groups.{IsOfNext}
 use Rattle.ml_run.specs.Leaving.{HasState, IsAfterSome}
+use Rattle.ml_run.proofs.Leaving.{same_state}
 use Rattle.ml_run.proofs.Named.{names_map}
 use Rattle.ml_run.proofs.Settled.{settled_not}
 use Rattle.ml_stream.specs.Stream.{End}
 use Rattle.ml_stream.specs.Writing.{stream_text}
-use Rattle.ml_exercise.specs.Exercising.{behind, ExercisesList, IsExercising, IsOfItem, items_of, NamesWhole, two_lines}
+use Rattle.ml_exercise.specs.Exercising.{answered_all, behind, ExercisesList, IsExercising, IsOfItem, items_of}
 use Rattle.ml_exercise.specs.Finding.{HasConfig}
 use Rattle.ml_exercise.specs.Running.{items_for, RunsItems}
+use Rattle.ml_exercise.specs.Summing.{IsLooking, IsSummingUp, SumsUp}
 use Rattle.ml_exercise.proofs.Lists.{count_is, items_same}
 use Rattle.ml_exercise.proofs.Statuses.{all_ended, early, early_known}
-use Rattle.ml_exercise.proofs.Telling.{is_telling, told_ends}
+use Rattle.ml_exercise.proofs.SummedUp.{tells_before}
 
 -- a log of one closed gate has a directory
 gate_some : (held : Contents) → held.log ≡ 0 ∷ [] → IsSome (directory held)
@@ -42,10 +40,6 @@ gate_some held is = gate held.log is
   where
     gate : (log : Text) → log ≡ 0 ∷ [] → IsSome (directory (record { log = log; files = held.files }))
     gate log one = subst (λ (l : Text). IsSome (directory (record { log = l; files = held.files }))) (sym one) refl
-
-plain_known : (b : Bool) → (b || (false && true) || (false && true)) ≡ true → b ≡ true
-plain_known true is = refl
-plain_known false is = is
 
 some_none : (t : Text) → ◌≡◌ {A = Option Text} None (Some t) → ⊥
 some_none t e = cc
@@ -58,7 +52,7 @@ has_one dir config files found is none =
 
 -- an item that a stop line names is one of those of the list
 item_named : (dir : Option Dir) (config : Config) (count n : ℕ) (files : Dir) (who : Option ℕ) (name : Name) → HasConfig dir config → IsConfig config → count ≤ 999_999
-    → IsOfNext (Brings (Some (stream_text (items_for config count)))) n files who name → IsOfItem dir count files who name
+    → IsOfNext (Brings (Some (stream_text (items_for config count)))) n files who name → IsOfItem dir count n files who name
 item_named dir config count n files who name found range few is =
     let next = is.next (items_for config count) End (record { bytes = stream_text (items_for config count); left_is = refl; stream = items_read 0 config.local config.host 1 count range.local range.host (omega (arith, few)) }) in record {
       config = config;
@@ -67,6 +61,7 @@ item_named dir config count n files who name found range few is =
       before = next.0;
       behind = next.1;
       split = next.2;
+      place = next.3;
       number = is.number;
       reads = is.reads;
       asked = is.asked;
@@ -88,17 +83,18 @@ module _ {S : Type 0} (told : Ghosts S) (reads_told : IsTrue told.tells_all → 
   some_moments t q state = subst (λ (items : List Item). Leaves told old mid (IsAfterSome q items (told.output old)))
       (items_same (directory (told.disk old).reads) config q count (found (reads_told t)) state) (runs.at_rest (rest t) q state)
 
-  run_named : IsTrue told.tells_reads → run ≡ 75 → Names (IsTrue told.tells_all) (IsOfItem (directory (told.disk old).reads) count) (directory (told.disk old).reads) (directory (told.disk mid).reads) (told.output mid)
-  run_named r is = names_map (IsTrue told.tells_all) (IsOfNext (Brings (Some (stream_text (items_for config count)))) runs.answered) (IsOfItem (directory (told.disk old).reads) count) (directory (told.disk old).reads) (directory (told.disk mid).reads) (told.output mid)
+  run_named : IsTrue told.tells_reads → run ≡ 75 → Names (IsTrue told.tells_all) (IsOfItem (directory (told.disk old).reads) count runs.answered) (directory (told.disk old).reads) (directory (told.disk mid).reads) (told.output mid)
+  run_named r is = names_map (IsTrue told.tells_all) (IsOfNext (Brings (Some (stream_text (items_for config count)))) runs.answered) (IsOfItem (directory (told.disk old).reads) count runs.answered) (directory (told.disk old).reads) (directory (told.disk mid).reads) (told.output mid)
       (λ files who name next. item_named (directory (told.disk old).reads) config count runs.answered files who name (found r) range few next) (runs.named r is)
 
   -- it has ended early
   pub early_list : is_status run ≡ false → ExercisesList told count old mid run
   early_list is = record {
+    answered = runs.answered;
     known = early_known run runs.known is;
     whole = λ r q state.
         let e = early (IsTrue told.tells_all) ⊥ run count runs.answered (told.disk mid).reads (told.output mid) (items_of q count) q (told.output old) (as_many r q state) runs.known is (runs_list r q state) in
-        inr (inr (record { items = runs.answered; end = e.0; hindered = e.1 }));
+        inr (record { end = e.0; hindered = e.1 });
     at_rest = λ _ q state t. weaker told.moment told.left_since told.disk told.output old mid (IsAfterSome q (items_of q count) (told.output old)) (IsExercising q count (told.output old)) (some_moments t q state t)
         (λ left out p. inl p);
     rest = runs.rest;
@@ -110,43 +106,36 @@ module _ {S : Type 0} (told : Ghosts S) (reads_told : IsTrue told.tells_all → 
   }
 
   -- all is answered, and the list is looked over
-  module _ (new : S) (status : ℕ) (gives : GivesAnswer told (exercised_meaning count) mid new status) (is : is_status run ≡ true) where
+  module _ (new : S) (status : ℕ) (sums : SumsUp told count mid new status) (is : is_status run ≡ true) where
     ended : IsTrue told.tells_reads → (q : State) → HasState (directory (told.disk old).reads) q
         → Ended (IsTrue told.tells_all) run count runs.answered (told.disk mid).reads (told.output mid) (items_of q count) End q (told.output old)
     ended r q state = all_ended (IsTrue told.tells_all) ⊥ run count runs.answered (told.disk mid).reads (told.output mid) (items_of q count) q (told.output old) (as_many r q state) is (runs_list r q state)
 
-    read_named : IsTrue told.tells_reads → status ≡ 75 → NamesWhole (IsTrue told.tells_all) (directory (told.disk new).reads) count (told.output new)
-    read_named r e = go (gives.given r)
-      where
-        go : Reads (IsTrue told.tells_all) status (exercised_meaning count) (directory (told.disk mid).reads) (told.output mid) (told.output new) → NamesWhole (IsTrue told.tells_all) (directory (told.disk new).reads) count (told.output new)
-        go (inl whole) = absurd (omega (arith, whole.status_is, e))
-        go (inr (inl refused)) = record {
-          why = refused.why;
-          before = told.output mid;
-          put = λ t. refused.put t ∙ ap (λ (n : ℕ). told.output mid ++ stop_text None n refused.why) e;
-          refusal = subst (λ (d : Option Dir). IsRefusal refused.why (exercised_meaning count) d) (sym (gives.same r)) refused.refusal;
-        }
-        go (inr (inr cut)) = absurd (omega (arith, cut.status_is, e))
-
     pub joined_list : ExercisesList told count old new status
     joined_list = record {
-      known = plain_known (is_reading_status status) gives.known;
+      answered = runs.answered;
+      known = sums.known;
       whole = λ r q state.
           let e = ended r q state in
-          ⊎_elim (λ done. inl done) (λ stopped. inr (inl stopped))
-          (told_ends (IsTrue told.tells_all) status (directory (told.disk mid).reads) (told.disk new).reads q count (told.output old) (told.output mid) (two_lines q count) (told.output new) e.state (gives.same r) e.put
-          (gives.complete r e.state.files (behind q count) e.state.is e.state.stands) (gives.given r));
+          inl (record {
+            all = e.count ∙ as_many r q state;
+            state = same_state (directory (told.disk mid).reads) (directory (told.disk new).reads) (behind q count) (sums.same r) e.state;
+            put = tells_before (IsTrue told.tells_all) status count (behind q count).plain (told.output mid) (answered_all q count (told.output old)) (told.output new) e.put (sums.given r (behind q count) e.state);
+          });
       at_rest = λ _ q state t.
           let e = ended (reads_told t) q state in
-          joins told.moment told.left_since told.disk told.output old mid new (IsAfterSome q (items_of q count) (told.output old)) (IsReading (exercised_meaning count) (directory (told.disk mid).reads) (told.output mid)) (IsExercising q count (told.output old))
-          (some_moments t q state t) (gives.at_rest (runs.settled is t) t) (λ left out p. inl p)
-          (λ left out p. inr (is_telling (directory (told.disk mid).reads) q count (told.output old) (told.output mid) left out e.state (e.put t) p));
-      rest = λ none one two. gives.rest (λ rose. none (rose_earlier (told.disk_faults old) (told.disk_faults mid) (told.disk_faults new) runs.disk_later rose)) one two;
+          joins told.moment told.left_since told.disk told.output old mid new (IsAfterSome q (items_of q count) (told.output old)) (IsLooking (directory (told.disk mid).reads) count (behind q count).plain (told.output mid)) (IsExercising q count (told.output old))
+          (some_moments t q state t) (sums.at_rest (runs.settled is t) (behind q count) e.state t) (λ left out p. inl p)
+          (λ left out p. inr (record {
+            state = same_state (directory (told.disk mid).reads) (directory left) (behind q count) p.0 e.state;
+            put = subst (λ (b : Text). IsSummingUp count (behind q count).plain b out) (e.put t) p.1;
+          }));
+      rest = λ none one two. sums.rest (λ rose. none (rose_earlier (told.disk_faults old) (told.disk_faults mid) (told.disk_faults new) runs.disk_later rose)) one two;
       gate = λ some one two three r.
           let here = runs.gate some (λ e. settled_not run 71 refl is e) (λ e. settled_not run 73 refl is e) (λ e. settled_not run 111 refl is e) r in
-          gives.gate (gate_some (told.disk mid).reads here) one two three r;
-      of_disk = λ e. rose_earlier (told.disk_faults old) (told.disk_faults mid) (told.disk_faults new) runs.disk_later (gives.of_disk e);
-      of_output = λ e. rose_earlier (told.output_faults old) (told.output_faults mid) (told.output_faults new) runs.output_later (gives.of_output e);
-      named = λ r e. inr (read_named r e);
+          sums.gate (gate_some (told.disk mid).reads here) one two three r;
+      of_disk = λ e. rose_earlier (told.disk_faults old) (told.disk_faults mid) (told.disk_faults new) runs.disk_later (sums.of_disk e);
+      of_output = λ e. rose_earlier (told.output_faults old) (told.output_faults mid) (told.output_faults new) runs.output_later (sums.of_output e);
+      named = λ r e. inr (sums.named r e);
       nolist = λ r files dir none. absurd (has_one (directory (told.disk old).reads) config files (found r) dir none);
     }

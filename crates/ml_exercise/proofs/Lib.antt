@@ -1,6 +1,6 @@
 pub mod Lists
 pub mod Statuses
-pub mod Telling
+pub mod SummedUp
 pub mod Joined
 pub mod Missed
 pub mod Found

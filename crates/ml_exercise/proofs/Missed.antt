@@ -3,7 +3,7 @@ use Rattle.std.proofs.Common.{◌≡◌, ◌⊎◌, inl, inr, ⊎_elim, ℕ, tru
 use Rattle.ml_base.specs.Bytes.{Text}
 use Rattle.ml_base.specs.Dir.{Dir}
 use Rattle.ml_base.specs.Faults.{Rose}
-use Rattle.ml_check.specs.Checking.{exercised_meaning}
+use Rattle.ml_check.specs.Checking.{check_meaning}
 use Rattle.ml_config.specs.ConfigFile.{config_name, IsConfigFile}
 use Rattle.ml_plain.specs.Histories.{State}
 use Rattle.ml_plain.specs.Replies.{is_status}
@@ -24,9 +24,10 @@ use Rattle.ml_run.specs.Leaving.{HasState, IsAfterSome}
 use Rattle.ml_run.proofs.Missing.{said_misses}
 use Rattle.ml_run.proofs.Opening.{early_runs, from_rest, opened_said}
 use Rattle.ml_stream.specs.Stream.{End}
-use Rattle.ml_exercise.specs.Exercising.{Exercises, ExercisesList, IsExercising, items_of, NamesWhole}
+use Rattle.ml_exercise.specs.Exercising.{Exercises, ExercisesList, IsExercising, items_of}
 use Rattle.ml_exercise.specs.Finding.{IsMiss, IsUnfound, Misses}
 use Rattle.ml_exercise.specs.Running.{is_items_status}
+use Rattle.ml_exercise.specs.Summing.{NamesWhole}
 use Rattle.ml_exercise.proofs.Lists.{many}
 use Rattle.ml_exercise.proofs.Statuses.{early}
 
@@ -81,22 +82,22 @@ known_why whys.Input is = absurd is
 known_why whys.There is = absurd is
 known_why whys.Absent is = absurd is
 
-refusal : (why : Why) (count : ℕ) (dir : Option Dir) → IsUnfound why dir → IsRefusal why (exercised_meaning count) dir
-refusal whys.NoList count dir is = is
-refusal (whys.At name) count dir (inl log) = inl log
-refusal (whys.At name) count dir (inr config) = inr (config.0, config.1, inl (config.2, config.3))
-refusal whys.Memory count dir is = tt
-refusal whys.Disk count dir is = tt
-refusal whys.Usage count dir is = absurd is
-refusal (whys.Bad at) count dir is = absurd is
-refusal (whys.Short at) count dir is = absurd is
-refusal whys.Words count dir is = absurd is
-refusal whys.Long count dir is = absurd is
-refusal whys.Clock count dir is = absurd is
-refusal whys.More count dir is = absurd is
-refusal whys.Input count dir is = absurd is
-refusal whys.There count dir is = absurd is
-refusal whys.Absent count dir is = absurd is
+refusal : (why : Why) (dir : Option Dir) → IsUnfound why dir → IsRefusal why check_meaning dir
+refusal whys.NoList dir is = is
+refusal (whys.At name) dir (inl log) = inl log
+refusal (whys.At name) dir (inr config) = inr (config.0, config.1, inl (config.2, config.3))
+refusal whys.Memory dir is = tt
+refusal whys.Disk dir is = tt
+refusal whys.Usage dir is = absurd is
+refusal (whys.Bad at) dir is = absurd is
+refusal (whys.Short at) dir is = absurd is
+refusal whys.Words dir is = absurd is
+refusal whys.Long dir is = absurd is
+refusal whys.Clock dir is = absurd is
+refusal whys.More dir is = absurd is
+refusal whys.Input dir is = absurd is
+refusal whys.There dir is = absurd is
+refusal whys.Absent dir is = absurd is
 
 -- without a configuration none is damaged
 without : (why : Why) (dir : Option Dir) (files : Dir) → dir ≡ Some files → files config_name ≡ None → IsUnfound why dir → (why ≡ whys.NoList) ⊎ ((why ≡ whys.Memory) ⊎ (why ≡ whys.Disk))
@@ -146,11 +147,12 @@ module _ {S : Type 0} (told : Ghosts S) (reads_told : IsTrue told.tells_all → 
 
   missed_list : ExercisesList told count old new status
   missed_list = record {
+    answered = 0;
     known = known (λ n. is_reading_status n ≡ true) (λ k. k.reading) refl;
     whole = λ r q state.
         let e = early (IsTrue told.tells_all) ⊥ status count 0 (told.disk new).reads (told.output new) (items_of q count) q (told.output old) (many q count) (known (λ n. is_items_status n ≡ true) (λ k. k.items) refl)
         (known (λ n. is_status n ≡ false) (λ k. k.none) refl) (runs r q state) in
-        inr (inr (record { items = 0; end = e.0; hindered = e.1 }));
+        inr (record { end = e.0; hindered = e.1 });
     at_rest = λ rest q state t. weaker told.moment told.left_since told.disk told.output old new (IsAfterSome q (items_of q count) (told.output old)) (IsExercising q count (told.output old))
         (from_rest told old new q (items_of q count) state rest (after_some t q state)) (λ left out p. inl p);
     rest = λ none one two t. subst (λ (d : Disk). IsAtRest d) (sym (says.disk_is t)) (miss.rest (λ e. memory_status told mid new status None why says e one two)
@@ -163,13 +165,13 @@ module _ {S : Type 0} (told : Ghosts S) (reads_told : IsTrue told.tells_all → 
     nolist = λ r files is none. ⊎_elim (λ w. no_list r w) (λ w. said_misses told mid new (told.output old) status None why w says) (without why (directory (told.disk old).reads) files is none (miss.reason r));
   }
     where
-      named : IsTrue told.tells_reads → status ≡ 75 → NamesWhole (IsTrue told.tells_all) (directory (told.disk new).reads) count (told.output new)
+      named : IsTrue told.tells_reads → status ≡ 75 → NamesWhole (IsTrue told.tells_all) (directory (told.disk new).reads) (told.output new)
       named r e = ⊎_elim
           (λ whole. record {
             why = why;
             before = told.output mid;
             put = λ t. whole.1 t ∙ ap (λ (n : ℕ). told.output mid ++ stop_text None n why) (sym whole.0 ∙ e);
-            refusal = subst (λ (d : Option Dir). IsRefusal why (exercised_meaning count) d) (sym (ap directory (says.reads r) ∙ miss.same r)) (refusal why count (directory (told.disk old).reads) (miss.reason r));
+            refusal = subst (λ (d : Option Dir). IsRefusal why check_meaning d) (sym (ap directory (says.reads r) ∙ miss.same r)) (refusal why (directory (told.disk old).reads) (miss.reason r));
           })
           (λ cut. absurd (omega (arith, e, cut.0)))
           says.line

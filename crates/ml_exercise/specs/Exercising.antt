@@ -1,11 +1,9 @@
 -- What an exercise does.
-use Rattle.std.specs.Prelude.{◌≡◌, ◌⊎◌, ℕ, IsTrue, IsSome, List, [], ◌∷◌, ◌++◌, Option, Some, None, true}
+use Rattle.std.specs.Prelude.{◌≡◌, ◌⊎◌, ℕ, IsTrue, IsSome, List, [], ◌∷◌, ◌++◌, length, Option, Some, None, true}
 use Rattle.ml_base.specs.Bytes.{Text}
 use Rattle.ml_base.specs.Dir.{Dir}
 use Rattle.ml_base.specs.Faults.{Rose}
 use Rattle.ml_base.specs.declared.names.Name.{Name}
-use Rattle.ml_check.specs.Checking.{exercised_meaning}
-use Rattle.ml_check.specs.Sizes.{exercised_lines, sizes_of}
 use Rattle.ml_config.specs.ConfigFile.{config_name}
 use Rattle.ml_config.specs.declared.configuration.Config.{Config}
 use Rattle.ml_generated.specs.Items.{generated}
@@ -17,15 +15,13 @@ use Rattle.ml_site.specs.Disk.{Contents, IsAtRest}
 use Rattle.ml_site.specs.declared.site.Site.{Ghosts}
 use Rattle.ml_journal.specs.Calls.{Leaves}
 use Rattle.ml_journal.specs.Log.{directory}
-use Rattle.ml_ending.specs.declared.lines.Why.{Why}
-use Rattle.ml_ending.specs.Endings.{MissesList, Opens, SaysAtMost, TellsAtMost}
-use Rattle.ml_ending.specs.Lines.{stop_text}
-use Rattle.ml_ending.specs.Stops.{status_of_why}
-use Rattle.ml_reading.specs.Readings.{IsHindered, IsRefusal, is_reading_status}
+use Rattle.ml_ending.specs.Endings.{MissesList, Opens}
+use Rattle.ml_reading.specs.Readings.{IsHindered, is_reading_status}
 use Rattle.ml_run.specs.Endings.{CutOff, Names, Stopped}
 use Rattle.ml_run.specs.Leaving.{HasState, IsAfterSome}
 use Rattle.ml_stream.specs.Stream.{End}
 use Rattle.ml_exercise.specs.Finding.{HasConfig}
+use Rattle.ml_exercise.specs.Summing.{IsSummingUp, NamesWhole, TellsOf}
 
 -- the items of an exercise of a list
 abbrev pub items_of : State → ℕ → List Item
@@ -35,72 +31,56 @@ items_of q count = generated q.plain.config.local q.plain.config.host count
 abbrev pub behind : State → ℕ → State
 behind q count = fold q (items_of q count)
 
--- what is out before the last reading: what was before, and all answers
-abbrev pub answered : State → ℕ → Text → Text
-answered q count before = before ++ text q (items_of q count)
+-- what is out behind all answers, and what was before
+abbrev pub answered_all : State → ℕ → Text → Text
+answered_all q count before = before ++ text q (items_of q count)
 
--- the two lines behind the answers: how many items there were, and the sizes of the list behind them
-abbrev pub two_lines : State → ℕ → Text
-two_lines q count = exercised_lines count (sizes_of (behind q count).plain)
-
--- All items are done and answered, and some first bytes of the two lines are out, or of one stop line in their place.
+-- All items are done and answered, and some first bytes of the two lines are out; or the first of them, and some first bytes of one stop line in
+-- place of the second.
 pub record IsTelling (q : State) (count : ℕ) (before : Text) (left : Contents) (out : Text) : Type 0 where
   pub state : HasState (directory left) (behind q count)
-  pub put : SaysAtMost (answered q count before) out ⊎ TellsAtMost (two_lines q count) (answered q count before) out
+  pub put : IsSummingUp count (behind q count).plain (answered_all q count before) out
 
 -- At each moment: as in a run of the items, or behind them all.
 abbrev pub IsExercising : State → ℕ → Text → Contents → Text → Type 0
 IsExercising q count before left out = IsAfterSome q (items_of q count) before left out ⊎ IsTelling q count before left out
 
--- all items are done and answered, and the two lines are out
-pub record Exercised (told : Type 0) (status : ℕ) (held : Contents) (output : Text) (q : State) (count : ℕ) (before : Text) : Type 0 where
-  pub status_is : status ≡ 0
+-- All items are done and answered. Behind the answers are the two lines, with status 0; or the first of them, and one stop line in place of
+-- the second; or the output failed.
+pub record IsDone (told : Type 0) (status answered : ℕ) (held : Contents) (output : Text) (q : State) (count : ℕ) (before : Text) : Type 0 where
+  pub all : answered ≡ count
   pub state : HasState (directory held) (behind q count)
-  pub put : told → output ≡ answered q count before ++ two_lines q count
+  pub put : TellsOf told status count (behind q count).plain (answered_all q count before) output
 
--- All items are done and answered, and in place of the two lines one stop line is out, as that of a command that looks the list over;
--- or the output failed, and some first bytes of it or of the two lines are out.
-pub record Untold (told : Type 0) (status : ℕ) (held : Contents) (output : Text) (q : State) (count : ℕ) (before : Text) : Type 0 where
-  pub state : HasState (directory held) (behind q count)
-  pub put : ((why : Why) × (status ≡ status_of_why why) × IsHindered status × (told → output ≡ answered q count before ++ stop_text None status why))
-      ⊎ ((status ≡ 73) × (told → SaysAtMost (answered q count before) output ⊎ TellsAtMost (two_lines q count) (answered q count before) output))
-
--- the run of the items ended early
-pub record EndsEarly (told : Type 0) (status : ℕ) (held : Contents) (output : Text) (q : State) (count : ℕ) (before : Text) : Type 0 where
-  pub items : ℕ
-  pub end : Stopped told ⊥ status count items held output (items_of q count) End q before ⊎ CutOff told status count items held output (items_of q count) q before
+-- the run of the items ended early, behind so many answers
+pub record EndsEarly (told : Type 0) (status answered : ℕ) (held : Contents) (output : Text) (q : State) (count : ℕ) (before : Text) : Type 0 where
+  pub end : Stopped told ⊥ status count answered held output (items_of q count) End q before ⊎ CutOff told status count answered held output (items_of q count) q before
   pub hindered : IsHindered status
 
--- how an exercise of a list ends
-abbrev pub Ends : Type 0 → ℕ → Contents → Text → State → ℕ → Text → Type 0
-Ends told status held output q count before =
-    Exercised told status held output q count before ⊎ (Untold told status held output q count before ⊎ EndsEarly told status held output q count before)
+-- how an exercise of a list ends that answered so many items
+abbrev pub Ends : Type 0 → ℕ → ℕ → Contents → Text → State → ℕ → Text → Type 0
+Ends told status answered held output q count before = IsDone told status answered held output q count before ⊎ EndsEarly told status answered held output q count before
 
--- One of the items of an exercise of a list of this configuration: a stop line begins with its number, and it may read this file of a directory,
--- by the configuration that is there and the numbers of what it asks.
-pub record IsOfItem (dir : Option Dir) (count : ℕ) (files : Dir) (who : Option ℕ) (name : Name) : Type 0 where
+-- The item of an exercise of a list of this configuration that is behind so many: a stop line begins with its number, and it may read this file
+-- of a directory, by the configuration that is there and the numbers of what it asks.
+pub record IsOfItem (dir : Option Dir) (count answered : ℕ) (files : Dir) (who : Option ℕ) (name : Name) : Type 0 where
   pub config : Config
   pub has : HasConfig dir config
   pub item : Item
   pub before : List Item
   pub behind : List Item
   pub split : generated config.local config.host count ≡ before ++ item ∷ behind
+  pub place : answered ≡ length before
   pub number : who ≡ Some item.number
   pub reads : may_read item name ≡ true
   pub asked : IsReadBy files item name
 
--- a stop line of status 75 is one that a look at the whole list gives, and the output ends in it
-pub record NamesWhole (told : Type 0) (dir : Option Dir) (count : ℕ) (output : Text) : Type 0 where
-  pub why : Why
-  pub before : Text
-  pub put : told → output ≡ before ++ stop_text None 75 why
-  pub refusal : IsRefusal why (exercised_meaning count) dir
-
--- What an exercise of so many items does, but for the moments of its opening.
+-- What an exercise of so many items does that answers these first ones of them, but for the moments of its opening.
 pub record ExercisesList {S : Type 0} (told : Ghosts S) (count : ℕ) (old new : S) (status : ℕ) : Type 0 where
+  pub answered : ℕ
   pub known : IsTrue (is_reading_status status)
   pub whole : IsTrue told.tells_reads → (q : State) → HasState (directory (told.disk old).reads) q
-      → Ends (IsTrue told.tells_all) status (told.disk new).reads (told.output new) q count (told.output old)
+      → Ends (IsTrue told.tells_all) status answered (told.disk new).reads (told.output new) q count (told.output old)
   pub at_rest : IsAtRest (told.disk old) → (q : State) → HasState (directory (told.disk old).reads) q
       → Leaves told old new (IsExercising q count (told.output old))
   pub rest : (Rose (told.disk_faults old) (told.disk_faults new) → ⊥) → (status ≡ 71 → ⊥) → (status ≡ 73 → ⊥) → IsTrue told.tells_all → IsAtRest (told.disk new)
@@ -108,8 +88,8 @@ pub record ExercisesList {S : Type 0} (told : Ghosts S) (count : ℕ) (old new :
   pub of_disk : status ≡ 111 → Rose (told.disk_faults old) (told.disk_faults new)
   pub of_output : status ≡ 73 → Rose (told.output_faults old) (told.output_faults new)
   pub named : IsTrue told.tells_reads → status ≡ 75
-      → Names (IsTrue told.tells_all) (IsOfItem (directory (told.disk old).reads) count) (directory (told.disk old).reads) (directory (told.disk new).reads) (told.output new)
-      ⊎ NamesWhole (IsTrue told.tells_all) (directory (told.disk new).reads) count (told.output new)
+      → Names (IsTrue told.tells_all) (IsOfItem (directory (told.disk old).reads) count answered) (directory (told.disk old).reads) (directory (told.disk new).reads) (told.output new)
+      ⊎ NamesWhole (IsTrue told.tells_all) (directory (told.disk new).reads) (told.output new)
   pub nolist : IsTrue told.tells_reads → (files : Dir) → directory (told.disk old).reads ≡ Some files → files config_name ≡ None → MissesList (IsTrue told.tells_all) status (told.output old) (told.output new)
 
 -- What an exercise of so many items does. At each moment it is as `IsExercising` says, where something is pending at the start from the

@@ -1,3 +1,4 @@
 pub mod Finding
+pub mod Summing
 pub mod Exercising
 pub mod Running

@@ -9,9 +9,8 @@ ghost use Rattle.ml_exercise.specs.Finding.{HasConfig};
 ghost use Rattle.ml_exercise.specs.Running.{items_for, RunsItems};
 
 use crate::finding::find;
-use ml_check::Exercised;
+use crate::summing::sum_up;
 use ml_config::Config;
-use ml_reading::read_list;
 use ml_run::{Generated, run, stop};
 use ml_site::Site;
 use std::alloc::Global;
@@ -20,7 +19,7 @@ use std::alloc::Global;
 ///
 /// The answers of all items are given, then the line `exercised` with the count, and the line of a list that is whole: the status is 0.
 /// Else one stop line tells why not all is given, in place of what is missing: 71 (out of memory), 75 (there is no list, or a file is
-/// damaged) or 111 (the disk failed). It is 73 where the output failed.
+/// damaged) or 111 (the disk failed). Where the list can't be looked over it stands in place of the last line. It is 73 where the output failed.
 pub fn exercise<S: Site>(alloc: Global, count: u64, site: S) -> (u8, S)
     requires { count ≤ 999_999 }
     ensures { Exercises ⟦<S as Site>⟧ count site result.1 result.0 }
@@ -43,7 +42,7 @@ fn exercise_list<S: Site>(alloc: Global, config: &Config, count: u64, site: S) -
     let (status, site) = run_items(alloc, config, count, site);
     let answered = is_reply_status(status);
     if answered {
-        read_list(alloc, &Exercised { count }, site)
+        sum_up(alloc, count, site)
     } else {
         (status, site)
     }

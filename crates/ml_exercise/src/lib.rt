@@ -3,5 +3,6 @@
 
 mod exercising;
 mod finding;
+mod summing;
 
 pub use exercising::exercise;

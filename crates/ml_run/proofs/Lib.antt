@@ -18,3 +18,4 @@ pub mod Taken
 pub mod Streamed
 pub mod Settled
 pub mod Unfailing
+pub mod InHand

@@ -1,5 +1,5 @@
 -- A run that ends behind its last item, or with a stop line that its stream gives it, leaves nothing pending.
-use Rattle.std.proofs.Common.{◌≡◌, ⊎_elim, ℕ, true, IsTrue, [], Option, Some, None, ap, sym, refl, subst, ◌∙◌, arith}
+use Rattle.std.proofs.Common.{◌≡◌, ⊎_elim, ℕ, true, IsTrue, Option, Some, None, ap, sym, refl, subst, ◌∙◌, arith}
 use Rattle.std.proofs.lemmas.Bool.Decides.{nat_tests}
 use Rattle.ml_site.specs.Disk.{Disk, IsAtRest}
 use Rattle.ml_site.specs.declared.site.Site.{Ghosts}

@@ -138,6 +138,10 @@ few_none before bytes status limit is other =
 pub nothing_taken : (before : Option Text) (bytes : Text) (P : List Item → Type 0) → before ≡ Some bytes → P [] → FromTaken before before P
 nothing_taken before bytes P is p = record { taken = []; rest = bytes; before_is = is; after_is = is; items = []; ending = End; stream = refl; holds = p }
 
+-- the same of equal bytes
+pub taken_same : (before before' after after' : Option Text) (P : List Item → Type 0) → before' ≡ before → after' ≡ after → FromTaken before' after' P → FromTaken before after P
+taken_same before before' after after' P one two t = subst (λ (o : Option Text). FromTaken before o P) two (subst (λ (o : Option Text). FromTaken o after' P) one t)
+
 pub taken_map : (before after : Option Text) (P Q : List Item → Type 0) → FromTaken before after P → ((items : List Item) → P items → Q items) → FromTaken before after Q
 taken_map before after P Q t f = record { taken = t.taken; rest = t.rest; before_is = t.before_is; after_is = t.after_is; items = t.items; ending = t.ending; stream = t.stream; holds = f t.items t.holds }
 

@@ -4,3 +4,6 @@ pub mod Leaving
 pub mod Endings
 pub mod Making
 pub mod Spending
+pub mod Feeds
+pub mod Held
+pub mod Single

@@ -2,6 +2,8 @@
 #![tactic(auto)]
 
 mod adding;
+mod feed;
+mod feeding;
 mod gathering;
 mod groups;
 mod laws;
@@ -18,4 +20,4 @@ pub use making::make;
 pub use ml_ending::{Ending, Why, stop, stop_line};
 pub use ml_generated::{Generated, law_generated};
 pub use ml_stream::{Items, StreamError, law_fronts, law_items, law_streams, write_item};
-pub use running::run;
+pub use running::{run, run_item};

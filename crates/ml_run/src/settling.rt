@@ -25,36 +25,36 @@ use std::alloc::Global;
 pub(crate) fn settle<S: Site>(
     alloc: Global,
     store: Store<S>,
-    txn: &Txn,
+    txn: Txn,
     lines: &[u8],
 ) -> Result<Store<S>, (Option<Why>, S)>
-    requires files { IsTrue (are_files txn.now) }
+    requires files { IsTrue (are_files txn) }
     ensures done { IsTrue S.tells_reads → IfOk result (λ settled.
-        directory (S.disk (site_of settled)).reads ≡ with_txn txn.now (directory (S.disk (site_of store)).reads)) }
+        directory (S.disk (site_of settled)).reads ≡ with_txn txn (directory (S.disk (site_of store)).reads)) }
     ensures whole { IsTrue S.tells_reads → IsSome (directory (S.disk (site_of store)).reads) }
-    ensures map { IsTrue S.tells_reads → IfOk result (λ settled. the_dir (directory (S.disk (site_of settled)).reads) ≡ with_puts (the_dir (directory (S.disk (site_of store)).reads)) txn.now) }
+    ensures map { IsTrue S.tells_reads → IfOk result (λ settled. the_dir (directory (S.disk (site_of settled)).reads) ≡ with_puts (the_dir (directory (S.disk (site_of store)).reads)) txn) }
     ensures output { IsTrue S.tells_all → IfOk result (λ settled. S.output (site_of settled) ≡ S.output (site_of store) ++ lines.now) }
     ensures moments { IfOk result (λ settled. Leaves ⟦<S as Site>⟧ (site_of store) (site_of settled)
-        (IsSettling (directory (S.disk (site_of store)).reads) txn.now lines.now (S.output (site_of store)))) }
+        (IsSettling (directory (S.disk (site_of store)).reads) txn lines.now (S.output (site_of store)))) }
     ensures moments_err { IfErr result (λ e. Leaves ⟦<S as Site>⟧ (site_of store) e.1
-        (IsSettling (directory (S.disk (site_of store)).reads) txn.now lines.now (S.output (site_of store)))) }
+        (IsSettling (directory (S.disk (site_of store)).reads) txn lines.now (S.output (site_of store)))) }
     ensures any { IsTrue S.tells_reads → IfErr result (λ e. (directory (S.disk e.1).reads ≡ directory (S.disk (site_of store)).reads)
-        ⊎ (directory (S.disk e.1).reads ≡ with_txn txn.now (directory (S.disk (site_of store)).reads))) }
+        ⊎ (directory (S.disk e.1).reads ≡ with_txn txn (directory (S.disk (site_of store)).reads))) }
     ensures committed { IsTrue S.tells_reads → IfErr result (λ e. e.0 ≡ None →
-        directory (S.disk e.1).reads ≡ with_txn txn.now (directory (S.disk (site_of store)).reads)) }
+        directory (S.disk e.1).reads ≡ with_txn txn (directory (S.disk (site_of store)).reads)) }
     ensures quiet { IsTrue S.tells_all → IfErr result (λ e. IsSome e.0 → S.output e.1 ≡ S.output (site_of store)) }
     ensures cut { IsTrue S.tells_all → IfErr result (λ e. (n : ℕ) × (S.output e.1 ≡ S.output (site_of store) ++ take n lines.now)) }
     ensures refused { IfErr result (λ e. IsRefused e.0 (Rose (S.disk_faults (site_of store)) (S.disk_faults e.1)) (Rose (S.output_faults (site_of store)) (S.output_faults e.1))) }
-    ensures some { IfErr result (λ e. IsSome e.0 → txn.now ≢ []) }
+    ensures some { IfErr result (λ e. IsSome e.0 → txn ≢ []) }
     ensures faults { IfOk result (λ settled. S.disk_faults (site_of store) ≤ S.disk_faults (site_of settled)) }
     ensures faults_err { IfErr result (λ e. S.disk_faults (site_of store) ≤ S.disk_faults e.1) }
     ensures others { IfOk result (λ settled. S.output_faults (site_of store) ≤ S.output_faults (site_of settled)) }
     ensures others_err { IfErr result (λ e. S.output_faults (site_of store) ≤ S.output_faults e.1) }
     ensures spends { IsTrue S.tells_all → IfOk result (λ settled. Spends ⟦<S as Site>⟧
-        (grown (length (S.disk (site_of store)).reads.log) txn.now) (content_size txn.now) (site_of store) (site_of settled)) }
+        (grown (length (S.disk (site_of store)).reads.log) txn) (content_size txn) (site_of store) (site_of settled)) }
     ensures spends_err { IsTrue S.tells_all → IfErr result (λ e. CostsAtMost 5 (S.syncs (site_of store)) (S.syncs e.1) (S.log_bytes (site_of store)) (S.log_bytes e.1)) }
 {
-    match store.commit(alloc, txn) {
+    match store.commit_owned(alloc, txn) {
         Ok(committed) => answer(committed, lines),
         Err((error, site)) => Err((Some(why_refused(error)), site)),
     }

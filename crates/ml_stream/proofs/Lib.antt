@@ -1,3 +1,4 @@
+pub mod Fronts
 pub mod Filling
 pub mod Bytewise
 pub mod Elements

@@ -10,4 +10,4 @@ mod writing;
 pub use items::Items;
 pub use laws::{law_fronts, law_items, law_numbered, law_streams};
 pub use stream::StreamError;
-pub use writing::write_item;
+pub use writing::{push_item, write_item};

@@ -1,5 +1,5 @@
 // Items, as a stream spells them.
-ghost use Rattle.std.specs.Prelude.{◌≡◌, ◌++◌, IfOk, OnOk};
+ghost use Rattle.std.specs.Prelude.{◌≡◌, ◌++◌, take, length, IfOk, OnOk, OnErr};
 ghost use Rattle.std.specs.Fmt.{decimal};
 ghost use Rattle.hex.specs.Hex.{encode_lower};
 ghost use Rattle.ml_base.specs.Netstrings.{ns};
@@ -11,6 +11,10 @@ use ml_base::{Bytes, push_netstring, write_number};
 use ml_plain::{Act, Item};
 use std::alloc::{AllocError, Global};
 
+// The most bytes that a delivery has in a stream beside its sender, its recipient and its message: a letter, two numbers, and three
+// lengths, each of at most 20 digits.
+const BESIDE_TEXTS: usize = 115;
+
 /// The bytes that stand for an item in a stream. They are read again as that item where it is in its ranges: a number of at
 /// most 12 digits, a moment in seconds since 1970 that is before the year 10000, a sender and a recipient of at most 1,000
 /// bytes each, a message of at most 33,554,432, an id of 1 to 10^15, and a floor of 1 to 999,999,999,999.
@@ -18,11 +22,49 @@ pub fn write_item(alloc: Global, item: &Item) -> Result<Bytes, AllocError>
     ensures { IfOk result (λ bytes. bytes ≡ spelled_item item.now) }
 {
     let mut out = Bytes::new(alloc);
-    out.push(letter(&item.act))?;
-    push_number(&mut out, item.number)?;
-    push_number(&mut out, item.moment)?;
-    push_act(&mut out, &item.act)?;
+    push_item(&mut out, item)?;
     Ok(out)
+}
+
+/// Adds the bytes that stand for an item in a stream at the end of a text, as `write_item` has them. An error changes nothing.
+pub fn push_item(text: &mut Bytes, item: &Item) -> Result<(), AllocError>
+    ensures ok { OnOk result (text.new ≡ text.old ++ spelled_item item.now) }
+    ensures err { OnErr result (text.new ≡ text.old) }
+{
+    let used = text.len();
+    if add_item(text, item).is_err() {
+        text.truncate(used);
+        return Err(AllocError);
+    }
+    Ok(())
+}
+
+// Adds an item at the end. An error leaves a part of it there.
+fn add_item(text: &mut Bytes, item: &Item) -> Result<(), AllocError>
+    ensures ok { OnOk result (text.new ≡ text.old ++ spelled_item item.now) }
+    ensures front { take (length text.old) text.new ≡ text.old }
+{
+    text.reserve(room(&item.act))?;
+    text.push(letter(&item.act))?;
+    push_number(text, item.number)?;
+    push_number(text, item.moment)?;
+    push_act(text, &item.act)
+}
+
+// The room that an item takes in a stream: of a delivery the most that it can have.
+fn room(act: &Act) -> usize {
+    match act {
+        Act::Deliver {
+            sender,
+            recipient,
+            message,
+        } => message
+            .len()
+            .saturating_add(sender.len())
+            .saturating_add(recipient.len())
+            .saturating_add(BESIDE_TEXTS),
+        _ => BESIDE_TEXTS,
+    }
 }
 
 fn letter(act: &Act) -> u8
@@ -41,7 +83,8 @@ fn letter(act: &Act) -> u8
 
 // Adds the netstring of a number's digits at the end. An error changes nothing.
 fn push_number(out: &mut Bytes, number: u64) -> Result<(), AllocError>
-    ensures { OnOk result (out.new ≡ out.old ++ ns (decimal number)) }
+    ensures ok { OnOk result (out.new ≡ out.old ++ ns (decimal number)) }
+    ensures err { OnErr result (out.new ≡ out.old) }
 {
     let mut digits = [0u8; 20];
     let len = write_number(number, &mut digits);
@@ -50,7 +93,8 @@ fn push_number(out: &mut Bytes, number: u64) -> Result<(), AllocError>
 
 // Adds what an act is about at the end. An error leaves a part of it there.
 fn push_act(out: &mut Bytes, act: &Act) -> Result<(), AllocError>
-    ensures { OnOk result (out.new ≡ out.old ++ spelled_act act.now) }
+    ensures ok { OnOk result (out.new ≡ out.old ++ spelled_act act.now) }
+    ensures front { take (length out.old) out.new ≡ out.old }
 {
     match act {
         Act::Deliver {
@@ -75,11 +119,12 @@ fn push_act(out: &mut Bytes, act: &Act) -> Result<(), AllocError>
 
 // Adds the netstring of a key's 64 digits at the end. An error changes nothing.
 fn push_key(out: &mut Bytes, key: &[u8; 32]) -> Result<(), AllocError>
-    ensures { OnOk result (out.new ≡ out.old ++ ns (encode_lower key.now)) }
+    ensures ok { OnOk result (out.new ≡ out.old ++ ns (encode_lower key.now)) }
+    ensures err { OnErr result (out.new ≡ out.old) }
 {
     let mut digits = [0u8; 64];
     match encode_to_slice(key.as_slice(), &mut digits) {
         Ok(()) => push_netstring(out, &digits),
-        Err(_) => Err(AllocError),
+        Err(_) => unreachable!(),
     }
 }

@@ -17,9 +17,9 @@ returns-in-Ok-clause-moments g c =
     let dir = directory (g.S.Site.disk old).reads in
     let before = g.S.Site.output old in
     IfOk-weaker c.answer.result _ _ (λ settled time told.
-    joins g.S.Site.moment g.S.Site.left_since g.S.Site.disk g.S.Site.output old mid (site_of settled) (IsOldOrNew dir c.args.txn.now before) (IsGiving (directory (g.S.Site.disk mid).reads) (g.S.Site.output mid) c.args.lines.now) (IsSettling dir c.args.txn.now c.args.lines.now before)
-    (subst (λ r. LeavesOnly g.S.Site.moment g.S.Site.left_since g.S.Site.disk g.S.Site.output old (site_after r) (IsOldOrNew dir c.args.txn.now before)) c.in-Ok.is (c.commit.ensures.directory.moments told)) (time told) (committing dir c.args.txn.now c.args.lines.now before)
-    (λ left out p. answering dir (directory (g.S.Site.disk mid).reads) c.args.txn.now c.args.lines.now before (g.S.Site.output mid) left out (c.in-Ok.ensures.done (g.met.S.Site.all_has_reads told)) (subst (λ r. g.S.Site.output (site_after r) ≡ before) c.in-Ok.is (c.commit.ensures.keeps.output told)) p))
+    joins g.S.Site.moment g.S.Site.left_since g.S.Site.disk g.S.Site.output old mid (site_of settled) (IsOldOrNew dir c.args.txn before) (IsGiving (directory (g.S.Site.disk mid).reads) (g.S.Site.output mid) c.args.lines.now) (IsSettling dir c.args.txn c.args.lines.now before)
+    (subst (λ r. LeavesOnly g.S.Site.moment g.S.Site.left_since g.S.Site.disk g.S.Site.output old (site_after r) (IsOldOrNew dir c.args.txn before)) c.in-Ok.is (c.commit_owned.ensures.directory.moments told)) (time told) (committing dir c.args.txn c.args.lines.now before)
+    (λ left out p. answering dir (directory (g.S.Site.disk mid).reads) c.args.txn c.args.lines.now before (g.S.Site.output mid) left out (c.in-Ok.ensures.done (g.met.S.Site.all_has_reads told)) (subst (λ r. g.S.Site.output (site_after r) ≡ before) c.in-Ok.is (c.commit_owned.ensures.keeps.output told)) p))
     c.answer.ensures.moments
 
 pub returns-in-Ok-clause-moments_err : goal.returns-in-Ok-clause-moments_err
@@ -29,9 +29,9 @@ returns-in-Ok-clause-moments_err g c =
     let dir = directory (g.S.Site.disk old).reads in
     let before = g.S.Site.output old in
     IfErr-weaker c.answer.result _ _ (λ e time told.
-    joins g.S.Site.moment g.S.Site.left_since g.S.Site.disk g.S.Site.output old mid e.1 (IsOldOrNew dir c.args.txn.now before) (IsGiving (directory (g.S.Site.disk mid).reads) (g.S.Site.output mid) c.args.lines.now) (IsSettling dir c.args.txn.now c.args.lines.now before)
-    (subst (λ r. LeavesOnly g.S.Site.moment g.S.Site.left_since g.S.Site.disk g.S.Site.output old (site_after r) (IsOldOrNew dir c.args.txn.now before)) c.in-Ok.is (c.commit.ensures.directory.moments told)) (time told) (committing dir c.args.txn.now c.args.lines.now before)
-    (λ left out p. answering dir (directory (g.S.Site.disk mid).reads) c.args.txn.now c.args.lines.now before (g.S.Site.output mid) left out (c.in-Ok.ensures.done (g.met.S.Site.all_has_reads told)) (subst (λ r. g.S.Site.output (site_after r) ≡ before) c.in-Ok.is (c.commit.ensures.keeps.output told)) p))
+    joins g.S.Site.moment g.S.Site.left_since g.S.Site.disk g.S.Site.output old mid e.1 (IsOldOrNew dir c.args.txn before) (IsGiving (directory (g.S.Site.disk mid).reads) (g.S.Site.output mid) c.args.lines.now) (IsSettling dir c.args.txn c.args.lines.now before)
+    (subst (λ r. LeavesOnly g.S.Site.moment g.S.Site.left_since g.S.Site.disk g.S.Site.output old (site_after r) (IsOldOrNew dir c.args.txn before)) c.in-Ok.is (c.commit_owned.ensures.directory.moments told)) (time told) (committing dir c.args.txn c.args.lines.now before)
+    (λ left out p. answering dir (directory (g.S.Site.disk mid).reads) c.args.txn c.args.lines.now before (g.S.Site.output mid) left out (c.in-Ok.ensures.done (g.met.S.Site.all_has_reads told)) (subst (λ r. g.S.Site.output (site_after r) ≡ before) c.in-Ok.is (c.commit_owned.ensures.keeps.output told)) p))
     c.answer.ensures.moments_err
 
 pub returns-in-Err-clause-moments_err : goal.returns-in-Err-clause-moments_err
@@ -39,8 +39,8 @@ returns-in-Err-clause-moments_err g c told =
     let old = site_of c.args.store in
     let dir = directory (g.S.Site.disk old).reads in
     let before = g.S.Site.output old in
-    weaker g.S.Site.moment g.S.Site.left_since g.S.Site.disk g.S.Site.output old c.in-Err.site (IsOldOrNew dir c.args.txn.now before) (IsSettling dir c.args.txn.now c.args.lines.now before)
-    (subst (λ r. LeavesOnly g.S.Site.moment g.S.Site.left_since g.S.Site.disk g.S.Site.output old (site_after r) (IsOldOrNew dir c.args.txn.now before)) c.in-Err.is (c.commit.ensures.directory.moments told)) (committing dir c.args.txn.now c.args.lines.now before)
+    weaker g.S.Site.moment g.S.Site.left_since g.S.Site.disk g.S.Site.output old c.in-Err.site (IsOldOrNew dir c.args.txn before) (IsSettling dir c.args.txn c.args.lines.now before)
+    (subst (λ r. LeavesOnly g.S.Site.moment g.S.Site.left_since g.S.Site.disk g.S.Site.output old (site_after r) (IsOldOrNew dir c.args.txn before)) c.in-Err.is (c.commit_owned.ensures.directory.moments told)) (committing dir c.args.txn c.args.lines.now before)
 
 pub returns-in-Err-clause-cut : goal.returns-in-Err-clause-cut
-returns-in-Err-clause-cut g c told = (0, subst (λ r. g.S.Site.output (site_after r) ≡ g.S.Site.output (site_of c.args.store)) c.in-Err.is (c.commit.ensures.keeps.output told) ∙ sym (append-nil (g.S.Site.output (site_of c.args.store))))
+returns-in-Err-clause-cut g c told = (0, subst (λ r. g.S.Site.output (site_after r) ≡ g.S.Site.output (site_of c.args.store)) c.in-Err.is (c.commit_owned.ensures.keeps.output told) ∙ sym (append-nil (g.S.Site.output (site_of c.args.store))))

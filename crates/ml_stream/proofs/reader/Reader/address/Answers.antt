@@ -2,7 +2,7 @@ use Rattle.std.proofs.Common.{inr, ◌∙◌, ap, sym, ◌≡◌, subst}
 use Rattle.ml_base.specs.Address.{address_of}
 use Rattle.ml_stream.proofs.Elements.{element_ok}
 use Rattle.ml_stream.specs.Reading.{Breaks, Fails}
-use Rattle.ml_stream.specs.Stream.{content_at, closed, element_at}
+use Rattle.ml_stream.specs.Stream.{content_at, element_at}
 use Rattle.ml_stream.specs.declared.stream.StreamError.{StreamError}
 use Rattle.ml_stream.specs.declared.stream.StreamError.TheVariants.{Bad, Memory}
 use Rattle.ml_stream.proofs.Cuts.{at_exit, breaks_element, breaks_got, breaks_comma, breaks_read, bad_not, element_unfinished}

@@ -1,5 +1,5 @@
 use Rattle.std.proofs.Common.{◌∙◌, ap, sym, ◌≡◌, subst}
-use Rattle.ml_stream.specs.Stream.{key_of, content_at, closed, element_at}
+use Rattle.ml_stream.specs.Stream.{key_of, content_at, element_at}
 use Rattle.ml_stream.proofs.Elements.{element_ok}
 use Rattle.ml_stream.specs.Reading.{Breaks, Fails}
 use Rattle.ml_stream.specs.declared.stream.StreamError.{StreamError}

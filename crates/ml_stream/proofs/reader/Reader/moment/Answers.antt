@@ -1,6 +1,6 @@
 use Rattle.std.proofs.Common.{◌∙◌, ap, sym, arith, ◌≡◌, subst}
 use Rattle.ml_base.proofs.NumberLaws.{number_spelled}
-use Rattle.ml_stream.specs.Stream.{moment_of, content_at, closed, element_at}
+use Rattle.ml_stream.specs.Stream.{moment_of, content_at, element_at}
 use Rattle.ml_stream.proofs.Elements.{element_ok}
 use Rattle.ml_stream.specs.Reading.{Breaks, Fails}
 use Rattle.ml_stream.specs.declared.stream.StreamError.{StreamError}

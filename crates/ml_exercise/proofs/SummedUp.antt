@@ -1,0 +1,181 @@
+-- What is told behind all answers of an exercise.
+use Rattle.std.proofs.Common.{◌≡◌, inl, inr, ⊎_elim, ℕ, Bool, true, false, IsTrue, ◌+◌, ◌++◌, length, ◌≤◌, take, min, Option, None, ap, ap₂, sym, refl, subst, ◌∙◌, ◌||◌, ◌&&◌, arith}
+use Rattle.std.specs.Prelude.{IsSome}
+use Rattle.std.proofs.Math.Seq.{take-append-add}
+use Rattle.std.proofs.lemmas.List.{append-nil, append_assoc, take_min, take-append-le}
+use Rattle.ml_base.specs.Bytes.{Text}
+use Rattle.ml_base.specs.Dir.{Dir}
+use Rattle.ml_base.specs.Faults.{Rose}
+use Rattle.ml_check.specs.Checking.{check_meaning, IsFound}
+use Rattle.ml_check.specs.Sizes.{sizes_of, whole_line}
+use Rattle.ml_check.proofs.Answered.{sizes_are}
+use Rattle.ml_plain.specs.Directory.{IsState}
+use Rattle.ml_plain.specs.Histories.{State}
+use Rattle.ml_plain.specs.Plain.{Plain}
+use Rattle.ml_site.specs.Disk.{Disk, Giving, IsAtRest, IsImage}
+use Rattle.ml_site.specs.Moments.{LeavesOnly}
+use Rattle.ml_site.specs.declared.site.Site.{Ghosts}
+use Rattle.ml_site.proofs.Steps.{at_start, goes_on, joins, rest_contents}
+use Rattle.ml_journal.specs.Calls.{OnlyNow}
+use Rattle.ml_journal.specs.Log.{directory}
+use Rattle.ml_journal.specs.Stores.{the_dir}
+use Rattle.ml_ending.specs.declared.lines.Why.{Why}
+use Rattle.ml_ending.specs.declared.lines.Why.TheVariants as whys
+use Rattle.ml_ending.specs.Endings.{SaysAtMost, Tells, TellsAtMost}
+use Rattle.ml_ending.specs.Lines.{stop_text}
+use Rattle.ml_ending.specs.Stops.{status_of_why}
+use Rattle.ml_ending.proofs.Finished.{rose_earlier}
+use Rattle.ml_ending.proofs.Said.{tells_front}
+use Rattle.ml_reading.specs.declared.question.Answer.TheVariants as answers
+use Rattle.ml_reading.specs.Giving.{GivesAnswer}
+use Rattle.ml_reading.specs.Readings.{GivesText, IsAnswer, IsFront, IsReading, IsRefusal, Reads, is_reading_status}
+use Rattle.ml_run.specs.Leaving.{HasState}
+use Rattle.ml_run.proofs.Leaving.{same_state}
+use Rattle.ml_exercise.specs.Summing.{exercised_line, IsLooking, IsSummingUp, NamesWhole, SumsUp, TellsOf, two_lines}
+
+-- the text of a check is the line of the list
+text_is : (dir : Option Dir) (q : State) (text : Text) → HasState dir q → IsAnswer check_meaning dir text → text ≡ whole_line (sizes_of q.plain)
+text_is dir q text state answer =
+    let same : state.files ≡ answer.files = ap the_dir (sym state.is ∙ answer.is) in
+    let found : IsFound answer.files (answers.Text text) = answer.text_is.2 in
+    found.2
+    ∙ ap whole_line (sizes_are answer.files q found.0 (sizes_of found.0.plain) (subst (λ (d : Dir). IsState d q) same state.stands) found.1 refl)
+
+-- some first bytes of a text are some of a longer one
+front_longer : (line more before out : Text) → TellsAtMost line before out → TellsAtMost (line ++ more) before out
+front_longer line more before out front =
+    let n = min front.0 (length line) in
+    let few : n ≤ length line = omega arith in
+    (n, front.1 ∙ ap (λ (o : Text). before ++ o) (sym (take-append-le n line more few ∙ take_min front.0 line)))
+
+-- some first bytes behind a text are some of both
+front_behind : (line more before out : Text) → TellsAtMost more (before ++ line) out → TellsAtMost (line ++ more) before out
+front_behind line more before out front =
+    (length line + front.0, front.1 ∙ append_assoc before line (take front.0 more) ∙ ap (λ (o : Text). before ++ o) (sym (take-append-add line more front.0)))
+
+nothing_out : (lines before out : Text) → out ≡ before → TellsAtMost lines before out
+nothing_out lines before out is = (0, is ∙ sym (append-nil before))
+
+-- what is out of a check, behind the line of how many items there were
+front_is : (dir : Option Dir) (q : State) (count : ℕ) (before now out : Text) → HasState dir q → now ≡ before ++ exercised_line count → IsFront check_meaning dir now out → IsSummingUp count q.plain before out
+front_is dir q count before now out state is front = ⊎_elim
+    (λ said. inr (subst (λ (b : Text). SaysAtMost b out) is said))
+    (λ given. inl (front_behind (exercised_line count) (whole_line (sizes_of q.plain)) before out
+    (subst (λ (t : Text). TellsAtMost t (before ++ exercised_line count) out) (text_is dir q given.0 state given.1) (subst (λ (b : Text). TellsAtMost given.0 b out) is given.2))))
+    front
+
+-- no stop line has the status 0
+never_zero : (why : Why) → status_of_why why ≡ 0 → ⊥
+never_zero whys.Usage is = omega (arith, is)
+never_zero (whys.Bad at) is = omega (arith, is)
+never_zero (whys.Short at) is = omega (arith, is)
+never_zero whys.Words is = omega (arith, is)
+never_zero whys.Long is = omega (arith, is)
+never_zero whys.Clock is = omega (arith, is)
+never_zero whys.Memory is = omega (arith, is)
+never_zero whys.More is = omega (arith, is)
+never_zero whys.Input is = omega (arith, is)
+never_zero whys.NoList is = omega (arith, is)
+never_zero (whys.At name) is = omega (arith, is)
+never_zero whys.There is = omega (arith, is)
+never_zero whys.Absent is = omega (arith, is)
+never_zero whys.Disk is = omega (arith, is)
+
+-- what a check gives behind that line
+tells_of : (told : Type 0) (status : ℕ) (dir : Option Dir) (q : State) (count : ℕ) (before now output : Text) → HasState dir q → (told → now ≡ before ++ exercised_line count)
+    → GivesText told status (whole_line (sizes_of q.plain)) now output → Reads told status check_meaning dir now output → TellsOf told status count q.plain before output
+tells_of told status dir q count before now output state is gives (inl whole) = inl (
+  whole.status_is,
+  λ t. whole.put t ∙ ap₂ (λ (b l : Text). b ++ l) (is t) (text_is dir q whole.text state whole.answer) ∙ append_assoc before (exercised_line count) (whole_line (sizes_of q.plain)),
+)
+tells_of told status dir q count before now output state is gives (inr (inl refused)) = inr (inl (
+  refused.why,
+  refused.status_is,
+  ⊎_elim (λ zero. absurd (never_zero refused.why (sym refused.status_is ∙ zero.0))) (λ h. h) gives,
+  λ t. refused.put t ∙ ap (λ (b : Text). b ++ stop_text None status refused.why) (is t),
+))
+tells_of told status dir q count before now output state is gives (inr (inr cut)) = inr (inr (cut.status_is, λ t. front_is dir q count before now output state (is t) (cut.put t)))
+
+-- the same behind what was put out before
+pub tells_before : (told : Type 0) (status count : ℕ) (list : Plain) (old new output : Text) → (told → old ≡ new) → TellsOf told status count list old output → TellsOf told status count list new output
+tells_before told status count list old new output same (inl whole) = inl (whole.0, λ t. whole.1 t ∙ ap (λ (b : Text). b ++ two_lines count list) (same t))
+tells_before told status count list old new output same (inr (inl line)) =
+    inr (inl (line.0, line.1, line.2, λ t. line.3 t ∙ ap (λ (b : Text). (b ++ exercised_line count) ++ stop_text None status line.0) (same t)))
+tells_before told status count list old new output same (inr (inr cut)) = inr (inr (cut.0, λ t. subst (λ (b : Text). IsSummingUp count list b output) (same t) (cut.1 t)))
+
+plain_known : (b : Bool) → (b || (false && true) || (false && true)) ≡ true → b ≡ true
+plain_known true is = refl
+plain_known false is = is
+
+module _ {S : Type 0} (told : Ghosts S) (reads_told : IsTrue told.tells_all → IsTrue told.tells_reads) (only_now : OnlyNow told) (count : ℕ) (old mid : S) (line : ℕ) (tells : Tells told old mid line (exercised_line count)) where
+  state_at : IsTrue told.tells_reads → (q : State) → HasState (directory (told.disk old).reads) q → HasState (directory (told.disk mid).reads) q
+  state_at r q state = same_state (directory (told.disk old).reads) (directory (told.disk mid).reads) q (ap directory (tells.reads r)) state
+
+  -- the moments of the line of how many items there were
+  line_moments : IsAtRest (told.disk old) → (q : State) → IsTrue told.tells_all
+      → LeavesOnly told.moment told.left_since told.disk told.output old mid (IsLooking (directory (told.disk old).reads) count q.plain (told.output old))
+  line_moments rest q t =
+      let lines = two_lines count q.plain in
+      let P = IsLooking (directory (told.disk old).reads) count q.plain (told.output old) in
+      goes_on told.moment told.left_since told.disk told.output old old mid P (Giving (told.disk old) (told.output old) (exercised_line count))
+      (at_start told.moment told.left_since told.disk told.output (λ site left out l. only_now site left out t l) old P rest (λ left is out put. (ap directory is, inl (nothing_out lines (told.output old) out put))))
+      (tells.time t)
+      (λ left out g. (ap directory (rest_contents (told.disk old) left rest g.0), inl (front_longer (exercised_line count) (whole_line (sizes_of q.plain)) (told.output old) out g.1)))
+      (λ left image. (subst (λ (d : Disk). IsImage d left) (tells.disk_is t) image, tells_front told old mid line (exercised_line count) tells t))
+
+  -- the output failed before the list was looked over
+  pub cut_short : (line ≡ 0 → ⊥) → SumsUp told count old mid line
+  cut_short bad = ⊎_elim (λ whole. absurd (bad whole.0)) go tells.line_is
+    where
+      go : ((line ≡ 73) × Rose (told.output_faults old) (told.output_faults mid) × (IsTrue told.tells_all → (n : ℕ) × (told.output mid ≡ told.output old ++ take n (exercised_line count)))) → SumsUp told count old mid line
+      go cut = record {
+        known = subst (λ (n : ℕ). is_reading_status n ≡ true) (sym cut.0) refl;
+        same = λ r. ap directory (tells.reads r);
+        given = λ r q state. inr (inr (cut.0, λ t. inl (front_longer (exercised_line count) (whole_line (sizes_of q.plain)) (told.output old) (told.output mid) (cut.2 t))));
+        at_rest = λ rest q state t. line_moments rest q t;
+        rest = λ none one two. absurd (two cut.0);
+        gate = λ some one two three. absurd (two cut.0);
+        of_disk = λ e. let is = cut.0 in absurd (omega (arith, e, is));
+        of_output = λ e. cut.1;
+        named = λ r e. let is = cut.0 in absurd (omega (arith, e, is));
+      }
+
+  -- the list was looked over
+  module _ (new : S) (status : ℕ) (gives : GivesAnswer told check_meaning mid new status) (zero : line ≡ 0) where
+    line_out : IsTrue told.tells_all → told.output mid ≡ told.output old ++ exercised_line count
+    line_out t = ⊎_elim (λ whole. whole.1 t) (λ cut. let is = cut.0 in absurd (omega (arith, zero, is))) tells.line_is
+
+    read_named : IsTrue told.tells_reads → status ≡ 75 → NamesWhole (IsTrue told.tells_all) (directory (told.disk new).reads) (told.output new)
+    read_named r e = go (gives.given r)
+      where
+        go : Reads (IsTrue told.tells_all) status check_meaning (directory (told.disk mid).reads) (told.output mid) (told.output new) → NamesWhole (IsTrue told.tells_all) (directory (told.disk new).reads) (told.output new)
+        go (inl whole) = absurd (omega (arith, whole.status_is, e))
+        go (inr (inl refused)) = record {
+          why = refused.why;
+          before = told.output mid;
+          put = λ t. refused.put t ∙ ap (λ (n : ℕ). told.output mid ++ stop_text None n refused.why) e;
+          refusal = subst (λ (d : Option Dir). IsRefusal refused.why check_meaning d) (sym (gives.same r)) refused.refusal;
+        }
+        go (inr (inr cut)) = absurd (omega (arith, cut.status_is, e))
+
+    pub looked_over : SumsUp told count old new status
+    looked_over = record {
+      known = plain_known (is_reading_status status) gives.known;
+      same = λ r. gives.same r ∙ ap directory (tells.reads r);
+      given = λ r q state.
+          let here = state_at r q state in
+          tells_of (IsTrue told.tells_all) status (directory (told.disk mid).reads) q count (told.output old) (told.output mid) (told.output new) here line_out
+          (gives.complete r here.files q here.is here.stands) (gives.given r);
+      at_rest = λ rest q state t.
+          let r = reads_told t in
+          let here = state_at r q state in
+          let still : IsAtRest (told.disk mid) = subst (λ (d : Disk). IsAtRest d) (sym (tells.disk_is t)) rest in
+          joins told.moment told.left_since told.disk told.output old mid new (IsLooking (directory (told.disk old).reads) count q.plain (told.output old)) (IsReading check_meaning (directory (told.disk mid).reads) (told.output mid))
+          (IsLooking (directory (told.disk old).reads) count q.plain (told.output old)) (line_moments rest q t) (gives.at_rest still t) (λ left out p. p)
+          (λ left out p. (p.0 ∙ ap directory (tells.reads r), front_is (directory (told.disk mid).reads) q count (told.output old) (told.output mid) out here (line_out t) p.1));
+      rest = λ none one two. gives.rest (λ rose. none (subst (λ (n : ℕ). Rose n (told.disk_faults new)) tells.disk_faults rose)) one two;
+      gate = λ some one two three r. gives.gate (subst (λ (d : Option Dir). IsSome d) (sym (ap directory (tells.reads r))) some) one two three r;
+      of_disk = λ e. subst (λ (n : ℕ). Rose n (told.disk_faults new)) tells.disk_faults (gives.of_disk e);
+      of_output = λ e. rose_earlier (told.output_faults old) (told.output_faults mid) (told.output_faults new) tells.output_faults (gives.of_output e);
+      named = read_named;
+    }

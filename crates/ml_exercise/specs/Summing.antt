@@ -1,0 +1,64 @@
+-- What is told behind the answers of an exercise: how many items there were, and what a check of the list tells.
+use Rattle.std.specs.Prelude.{◌≡◌, ◌⊎◌, ℕ, IsTrue, IsSome, [], ◌∷◌, ◌++◌, Option, None, codes}
+use Rattle.std.specs.Fmt.{decimal}
+use Rattle.ml_base.specs.Bytes.{Text}
+use Rattle.ml_base.specs.Dir.{Dir}
+use Rattle.ml_base.specs.Faults.{Rose}
+use Rattle.ml_check.specs.Checking.{check_meaning}
+use Rattle.ml_check.specs.Sizes.{sizes_of, whole_line}
+use Rattle.ml_plain.specs.Histories.{State}
+use Rattle.ml_plain.specs.Plain.{Plain}
+use Rattle.ml_site.specs.Disk.{Contents, IsAtRest}
+use Rattle.ml_site.specs.declared.site.Site.{Ghosts}
+use Rattle.ml_journal.specs.Calls.{Leaves}
+use Rattle.ml_journal.specs.Log.{directory}
+use Rattle.ml_ending.specs.declared.lines.Why.{Why}
+use Rattle.ml_ending.specs.Endings.{SaysAtMost, TellsAtMost}
+use Rattle.ml_ending.specs.Lines.{stop_text}
+use Rattle.ml_ending.specs.Stops.{status_of_why}
+use Rattle.ml_reading.specs.Readings.{IsHindered, IsRefusal, is_reading_status}
+use Rattle.ml_run.specs.Leaving.{HasState}
+
+-- the line of how many items there were
+abbrev pub exercised_line : ℕ → Text
+exercised_line count = codes "exercised " ++ decimal count ++ 10 ∷ []
+
+-- the two lines behind the answers: that one, and that of a check of this list
+abbrev pub two_lines : ℕ → Plain → Text
+two_lines count list = exercised_line count ++ whole_line (sizes_of list)
+
+-- Some first bytes of the two lines are out; or the first of them, and some first bytes of one stop line in place of the second.
+abbrev pub IsSummingUp : ℕ → Plain → Text → Text → Type 0
+IsSummingUp count list before out = TellsAtMost (two_lines count list) before out ⊎ SaysAtMost (before ++ exercised_line count) out
+
+-- What is told of a list: the two lines; or the first of them, and one stop line in place of the second, where memory was wanting or the disk
+-- failed; or the output failed.
+abbrev pub TellsOf : Type 0 → ℕ → ℕ → Plain → Text → Text → Type 0
+TellsOf told status count list before output =
+    ((status ≡ 0) × (told → output ≡ before ++ two_lines count list))
+    ⊎ (((why : Why) × (status ≡ status_of_why why) × IsHindered status × (told → output ≡ (before ++ exercised_line count) ++ stop_text None status why))
+    ⊎ ((status ≡ 73) × (told → IsSummingUp count list before output)))
+
+-- the directory is this one, and what is out is as `IsSummingUp` says
+abbrev pub IsLooking : Option Dir → ℕ → Plain → Text → Contents → Text → Type 0
+IsLooking dir count list before left out = (directory left ≡ dir) × IsSummingUp count list before out
+
+-- a stop line of status 75 is one that a look at the whole list gives, and the output ends in it
+pub record NamesWhole (told : Type 0) (dir : Option Dir) (output : Text) : Type 0 where
+  pub why : Why
+  pub before : Text
+  pub put : told → output ≡ before ++ stop_text None 75 why
+  pub refusal : IsRefusal why check_meaning dir
+
+-- How many items there were was told, and the list looked over; its directory stays.
+pub record SumsUp {S : Type 0} (told : Ghosts S) (count : ℕ) (old new : S) (status : ℕ) : Type 0 where
+  pub known : IsTrue (is_reading_status status)
+  pub same : IsTrue told.tells_reads → directory (told.disk new).reads ≡ directory (told.disk old).reads
+  pub given : IsTrue told.tells_reads → (q : State) → HasState (directory (told.disk old).reads) q → TellsOf (IsTrue told.tells_all) status count q.plain (told.output old) (told.output new)
+  pub at_rest : IsAtRest (told.disk old) → (q : State) → HasState (directory (told.disk old).reads) q
+      → Leaves told old new (IsLooking (directory (told.disk old).reads) count q.plain (told.output old))
+  pub rest : (Rose (told.disk_faults old) (told.disk_faults new) → ⊥) → (status ≡ 71 → ⊥) → (status ≡ 73 → ⊥) → IsTrue told.tells_all → IsAtRest (told.disk new)
+  pub gate : IsSome (directory (told.disk old).reads) → (status ≡ 71 → ⊥) → (status ≡ 73 → ⊥) → (status ≡ 111 → ⊥) → IsTrue told.tells_reads → (told.disk new).reads.log ≡ 0 ∷ []
+  pub of_disk : status ≡ 111 → Rose (told.disk_faults old) (told.disk_faults new)
+  pub of_output : status ≡ 73 → Rose (told.output_faults old) (told.output_faults new)
+  pub named : IsTrue told.tells_reads → status ≡ 75 → NamesWhole (IsTrue told.tells_all) (directory (told.disk new).reads) (told.output new)

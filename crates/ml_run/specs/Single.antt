@@ -1,0 +1,52 @@
+-- What a run does whose stream is one item.
+use Rattle.std.specs.Prelude.{◌≡◌, ◌≤◌, ◌+◌, ◌-◌, ◌/◌, ℕ, Bool, ◌==◌, ◌||◌, IsTrue, IsSome, List, [], ◌∷◌, Some, None}
+use Rattle.ml_base.specs.Dir.{Dir}
+use Rattle.ml_base.specs.Faults.{Rose}
+use Rattle.ml_config.specs.ConfigFile.{config_name}
+use Rattle.ml_site.specs.Disk.{IsAtRest}
+use Rattle.ml_site.specs.declared.site.Site.{Ghosts}
+use Rattle.ml_journal.specs.Calls.{Leaves}
+use Rattle.ml_journal.specs.Log.{directory}
+use Rattle.ml_plain.specs.Histories.{State}
+use Rattle.ml_plain.specs.Replies.{is_status}
+use Rattle.ml_plain.specs.declared.Item.{Item}
+use Rattle.ml_ending.specs.Endings.{Opens, MissesList}
+use Rattle.ml_ending.specs.declared.closing.Ending.{Ending}
+use Rattle.ml_stream.specs.Stream.{StreamEnd, End}
+use Rattle.ml_run.specs.Groups.{IsOfNext}
+use Rattle.ml_run.specs.Endings.{AnswersAll, AnswersEach, Runs, Names}
+use Rattle.ml_run.specs.Leaving.{HasState, IsAfterSome}
+
+-- the items of a stream are this one alone, and then it ends
+abbrev pub IsAlone : Item → List Item → StreamEnd → Type 0
+IsAlone item all ending = (all ≡ item ∷ []) × (ending ≡ End)
+
+-- the statuses of a run whose stream is one item: it is never bad, has no more items and can always be read
+abbrev pub is_item_status : ℕ → Bool
+is_item_status status = status == 0 || status == 71 || status == 73 || status == 75 || status == 100 || status == 111
+
+-- What is done of one item: what a run does whose stream is this item, which is read whole whatever fails.
+pub record RunsItem {S : Type 0} (told : Ghosts S) (item : Item) (old new : S) (ending : Ending) : Type 0 where
+  pub known : IsTrue (is_item_status ending.status)
+  pub few : ending.answered ≤ 1
+  pub done : IsTrue (is_status ending.status) → ending.answered ≡ 1
+  pub whole : IsTrue told.tells_reads → (q : State) → HasState (directory (told.disk old).reads) q
+      → Runs (IsTrue told.tells_all) ⊥ ending.status 1 ending.answered (told.disk new).reads (told.output new) (item ∷ []) End q (told.output old)
+  pub complete : IsTrue told.tells_reads → (q : State) → HasState (directory (told.disk old).reads) q
+      → AnswersAll (IsTrue told.tells_all) ending.status 1 ending.answered (told.disk new).reads (told.output new) (item ∷ []) q (told.output old)
+  pub moments : IsTrue told.tells_all → (q : State) → HasState (directory (told.disk old).reads) q
+      → Opens told old new (IsAfterSome q (item ∷ []) (told.output old))
+  pub at_rest : IsAtRest (told.disk old) → (q : State) → HasState (directory (told.disk old).reads) q
+      → Leaves told old new (IsAfterSome q (item ∷ []) (told.output old))
+  pub answers : IsTrue (is_status ending.status) → AnswersEach (IsTrue told.tells_all) ending.status (item ∷ []) (told.output old) (told.output new)
+  pub rest : (Rose (told.disk_faults old) (told.disk_faults new) → ⊥) → (ending.status ≡ 71 → ⊥) → (ending.status ≡ 73 → ⊥) → IsTrue told.tells_all → IsAtRest (told.disk new)
+  pub settled : IsTrue (is_status ending.status) → IsTrue told.tells_all → IsAtRest (told.disk new)
+  pub gate : IsSome (directory (told.disk old).reads) → (ending.status ≡ 71 → ⊥) → (ending.status ≡ 73 → ⊥) → (ending.status ≡ 111 → ⊥) → IsTrue told.tells_reads → (told.disk new).reads.log ≡ 0 ∷ []
+  pub nolist : IsTrue told.tells_reads → (files : Dir) → directory (told.disk old).reads ≡ Some files → files config_name ≡ None → MissesList (IsTrue told.tells_all) ending.status (told.output old) (told.output new)
+  pub named : IsTrue told.tells_reads → ending.status ≡ 75
+      → Names (IsTrue told.tells_all) (IsOfNext (IsAlone item) ending.answered) (directory (told.disk old).reads) (directory (told.disk new).reads) (told.output new)
+  pub of_disk : ending.status ≡ 111 → Rose (told.disk_faults old) (told.disk_faults new)
+  pub of_output : ending.status ≡ 73 → Rose (told.output_faults old) (told.output_faults new)
+  pub disk_later : told.disk_faults old ≤ told.disk_faults new
+  pub output_later : told.output_faults old ≤ told.output_faults new
+  pub syncs : IsTrue told.tells_all → told.syncs new ≤ told.syncs old + 16 + (told.log_bytes new - told.log_bytes old) / 1_048_576
