@@ -26,8 +26,10 @@ pub enum Posts {
     None,
     /// So many posts, appended one after another, these messages in turn.
     Appended(u64, &'static [&'static [u8]]),
-    /// The indexes of so many posts, whose entries are all this one.
+    /// The indexes of so many posts, whose entries are all this one. A file that the start has stands in their place.
     Indexed(u64, &'static [u8]),
+    /// The same, and the posts, which are all this text.
+    Filed(u64, &'static [u8], &'static [u8]),
 }
 
 /// The archive of a start, whose reads of this number fail: 0 for none.
@@ -44,11 +46,16 @@ pub fn started(alloc: Global, start: &Start, failing: u64) -> Result<Archive, Pa
 // The files of a start.
 fn files_of(alloc: Global, start: &Start) -> Result<BTreeMap<Name, Bytes>, AllocError> {
     let mut map = BTreeMap::new(alloc);
+    match start.posts {
+        Posts::Indexed(count, entry) => put_indexes(alloc, &mut map, count, entry)?,
+        Posts::Filed(count, entry, post) => {
+            put_indexes(alloc, &mut map, count, entry)?;
+            put_posts(alloc, &mut map, count, post)?;
+        }
+        _ => {}
+    }
     for (name, text) in start.files {
         map.insert(*name, made(alloc, text)?)?;
-    }
-    if let Posts::Indexed(count, entry) = start.posts {
-        put_indexes(alloc, &mut map, count, entry)?;
     }
     Ok(map)
 }
@@ -66,6 +73,19 @@ fn put_indexes(
         let mut text = Bytes::new(alloc);
         push_lines(&mut text, first, last, entry)?;
         map.insert(Name { kind: 10, at }, text)?;
+    }
+    Ok(())
+}
+
+// Adds posts from 1 on.
+fn put_posts(
+    alloc: Global,
+    map: &mut BTreeMap<Name, Bytes>,
+    count: u64,
+    post: &[u8],
+) -> Result<(), AllocError> {
+    for at in 1..=count {
+        map.insert(Name { kind: 9, at }, Bytes::from_slice(alloc, post)?)?;
     }
     Ok(())
 }

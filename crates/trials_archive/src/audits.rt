@@ -2,7 +2,7 @@
 use crate::archives::{HELLO_THREAD, INDEX, NUMBER, Posts, Start};
 use crate::calls::Call;
 use crate::cases::{Case, NONE, UNCHANGED, differences};
-use crate::texts::Text::{self, Of};
+use crate::texts::Text::{self, Each, Of};
 use ml_base::Name;
 use std::test::Fail;
 
@@ -220,17 +220,17 @@ const CASES: &[Case] = &[
         calls: &[(Call::Audit(b""), Of(b"damaged 20/99"))],
     },
     Case {
-        title: "each read fails: of the number, an index, four posts and 256 thread files",
+        title: "each read fails: of the number, an index, four posts, the index again and 256 thread files",
         start: &FOUR,
         changes: UNCHANGED,
-        failing: (1, 262),
+        failing: (1, 263),
         calls: &[(Call::Audit(b"[list]"), Of(b"fault"))],
     },
     Case {
         title: "there is no read behind the last",
         start: &FOUR,
         changes: UNCHANGED,
-        failing: (263, 263),
+        failing: (264, 264),
         calls: IS_SOUND,
     },
     Case {
@@ -360,9 +360,82 @@ const CASES: &[Case] = &[
     },
 ];
 
+// Posts 1 to 99 have the key `other`, and those behind them `hello`. The first 174 thread files are compared before the others.
+const LONG: Start = Start {
+    files: &[
+        (NUMBER, Of(b"6000\n")),
+        (
+            INDEX,
+            Each(b"", 1, 99, b"10:1000000000,3:g@h,1:3,5:other,\n", b""),
+        ),
+        (OTHER, Each(b"5:other,287:1", 2, 99, b",#", b",")),
+        (
+            HELLO_THREAD,
+            Each(b"5:hello,28604:100", 101, 6000, b",#", b","),
+        ),
+    ],
+    posts: Posts::Filed(6000, b"10:1000000000,3:g@h,1:3,5:hello,\n", b"hi\n"),
+};
+
+const LAST_OF_FIRST: Name = Name { kind: 20, at: 173 };
+
+const FIRST_OF_SECOND: Name = Name { kind: 20, at: 174 };
+
+const LONG_CASES: &[Case] = &[
+    Case {
+        title: "6,000 posts, in two turns",
+        start: &LONG,
+        changes: UNCHANGED,
+        failing: NONE,
+        calls: IS_SOUND,
+    },
+    Case {
+        title: "a thread file of the first turn",
+        start: &LONG,
+        changes: &[(OTHER, b"-"), (OTHER, b"5:other,1:1,")],
+        failing: NONE,
+        calls: &[(Call::Audit(b"[list]"), Of(b"damaged 20/161"))],
+    },
+    Case {
+        title: "a thread file of the second turn",
+        start: &LONG,
+        changes: &[(HELLO_THREAD, b"-")],
+        failing: NONE,
+        calls: &[(Call::Audit(b"[list]"), Of(b"damaged 20/231"))],
+    },
+    Case {
+        title: "the last thread file of the first turn",
+        start: &LONG,
+        changes: &[(LAST_OF_FIRST, b"0:,1:1,")],
+        failing: NONE,
+        calls: &[(Call::Audit(b"[list]"), Of(b"damaged 20/173"))],
+    },
+    Case {
+        title: "the first thread file of the second turn",
+        start: &LONG,
+        changes: &[(FIRST_OF_SECOND, b"5:other,1:1,")],
+        failing: NONE,
+        calls: &[(Call::Audit(b"[list]"), Of(b"damaged 20/174"))],
+    },
+    Case {
+        title: "the last post is shorter",
+        start: &LONG,
+        changes: &[(Name { kind: 9, at: 6000 }, b"hi")],
+        failing: NONE,
+        calls: &[(Call::Audit(b"[list]"), Of(b"damaged 10/60"))],
+    },
+];
+
 #[test]
 fn audits(rt: HostRuntime) -> Result<(), Fail> {
     let found = differences(rt.alloc(), CASES)?;
+    assert!(rt; found.is_empty(), "{found}");
+    Ok(())
+}
+
+#[test]
+fn long_audits(rt: HostRuntime) -> Result<(), Fail> {
+    let found = differences(rt.alloc(), LONG_CASES)?;
     assert!(rt; found.is_empty(), "{found}");
     Ok(())
 }

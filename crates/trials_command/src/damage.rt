@@ -119,6 +119,30 @@ list run make -u --key {key} list ex.org o@own.org => {made} | put allow/subscri
 input {deliver} | run spool => 75 30 75 allow/subscribers/]\n | same
 list run make -m --key {key} list ex.org o@own.org => {made} | put mod/subscribers/] Ta@b
 input {deliver} | run spool => 75 30 75 mod/subscribers/]\n | same
+# What is at odds with posts that are not asked for is no damage to what is: their number, indexes, threads, and what is in no digest.
+let some D2:30,10:1000000200,3:g@h,19:list-get.5_7@ex.org,{message}
+let past D2:30,10:1000000200,3:g@h,23:list-get.115_125@ex.org,{message}
+let index D2:30,10:1000000200,3:g@h,19:list-index.5@ex.org,{message}
+let fifth D2:30,10:1000000200,3:g@h,20:list-thread.5@ex.org,{message}
+list run make -d --key {key} list ex.org o@own.org => {made} | input {three} | run spool => 0 {added} | input {1..120:D1:0,10:1000000100,3:a@b,11:list@ex.org,45:From: a@b\nTo: list@ex.org\nSubject: hello\n\nhi\n,} | run spool => 0 {1..120:0 0 posted %\n}
+put num 200\n | input {some} | run spool => 0 30 0 archive\n
+put num 200\n | input {past} | run spool => 75 30 75 num\n | same
+put num 200\n | input {bounce} | run spool => 0 30 0 bounce\n
+put num 200\n | input {index} | run spool => 0 30 0 archive\n
+put num 200\n | input {fifth} | run spool => 0 30 0 archive\n
+put num 200\n | input {deliver} | run spool => 75 30 75 num\n | same
+cut archive/0/09 | input {some} | run spool => 0 30 0 archive\n
+cut archive/0/06 | input {some} | run spool => 75 30 75 archive/0/index\n | same
+cut archive/0/06 | input {index} | run spool => 0 30 0 archive\n
+put archive/1/index x | input {some} | run spool => 0 30 0 archive\n
+put archive/1/index x | input {index} | run spool => 0 30 0 archive\n
+put archive/1/index x | input {past} | run spool => 75 30 75 archive/1/index\n | same
+put archive/0/index x | input {deliver} | run spool => 0 30 0 posted 121\n
+put archive/1/index x | input {deliver} | run spool => 75 30 75 archive/1/index\n | same
+put archive/threads/0 x | input {deliver} | run spool => 0 30 0 posted 121\n
+put archive/threads/0 x | input {fifth} | run spool => 0 30 0 archive\n
+put dig 110:1\n | put archive/0/index x | input {timed} | run spool => 0 30 0 timed 0\n
+put dig 90:1\n | put archive/0/index x | input {timed} | run spool => 75 30 75 archive/0/index\n | same
 # The answers to items before it stand.
 list run make --key {key} list ex.org o@own.org => {made} | put subscribers/L Tc@d
 input {three} | run spool => 75 1 0 subscribed\n2 75 subscribers/L\n | has counts/list 1\n

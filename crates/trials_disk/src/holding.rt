@@ -27,14 +27,18 @@ pub(crate) const THIRD: Name = Name { kind: 9, at: 3 };
 pub(crate) enum Step {
     // The site is opened, also that of a store that is left.
     Open,
-    // At most two puts are committed.
+    // At most two puts are committed, in a txn that is given away.
     Commit(&'static [Given]),
+    // The same, in a txn that is lent.
+    CommitLent(&'static [Given]),
     Close,
     Give(&'static [u8]),
     // The bytes of files of the store, each with a bar behind it, and `-` for one that is absent.
     Show(&'static [Name]),
     // The store is left, and the site's log is read.
     ReadLog,
+    // The store is left, and the site's log is read: `done` where it is these texts in a row.
+    LogIs(&'static [Text]),
     // The store is left, and a file of the site is read.
     ReadFile(Name),
     // What the site put out.
@@ -117,10 +121,16 @@ fn commit(
     alloc: Global,
     store: Store<MemSite>,
     given: &[Given],
+    is_lent: bool,
     out: &mut Bytes,
 ) -> Result<Held, AllocError> {
     let txn = txn_of(alloc, given)?;
-    match store.commit(alloc, &txn) {
+    let committed = if is_lent {
+        store.commit(alloc, &txn)
+    } else {
+        store.commit_owned(alloc, txn)
+    };
+    match committed {
         Ok(store) => {
             out.extend(b"done")?;
             Ok(Held::Store(store))
@@ -179,7 +189,8 @@ fn on_store(
 ) -> Result<Held, Fail> {
     let mut store = store;
     match step {
-        Step::Commit(given) => return Ok(commit(alloc, store, given, out)?),
+        Step::Commit(given) => return Ok(commit(alloc, store, given, false, out)?),
+        Step::CommitLent(given) => return Ok(commit(alloc, store, given, true, out)?),
         Step::Close => return Ok(close(alloc, store, out)?),
         Step::Give(bytes) => match store.give(bytes) {
             Ok(()) => out.extend(b"done")?,
@@ -217,6 +228,26 @@ fn read_file(
     Ok(())
 }
 
+// Adds `done` where a site's log is these texts in a row, else how long it is.
+fn compare_log(
+    alloc: Global,
+    site: &mut MemSite,
+    texts: &[Text],
+    out: &mut Bytes,
+) -> Result<(), Fail> {
+    let mut wanted = Bytes::new(alloc);
+    for text in texts {
+        wanted.extend(repeated(alloc, *text)?.as_slice())?;
+    }
+    let log = site.read_log(alloc)?;
+    if log.as_slice() == wanted.as_slice() {
+        out.extend(b"done")?;
+    } else {
+        out.extend(format!(in alloc; "{} bytes", log.len())?.as_bytes())?;
+    }
+    Ok(())
+}
+
 // When a crash comes, and what it leaves of what no sync has settled.
 #[derive(Clone, Copy)]
 pub(crate) struct Plan {
@@ -235,6 +266,7 @@ fn on_site(
     let mut site = site;
     match step {
         Step::ReadLog => out.extend(site.read_log(alloc)?.as_slice())?,
+        Step::LogIs(texts) => compare_log(alloc, &mut site, texts, out)?,
         Step::ReadFile(name) => read_file(alloc, &mut site, name, out)?,
         Step::Output => out.extend(site.output())?,
         Step::Left => {
@@ -260,9 +292,10 @@ pub(crate) fn stepped(
 ) -> Result<Held, Fail> {
     match (step, held) {
         (Step::Open, held) => Ok(open(alloc, held, out)?),
-        (Step::Commit(_) | Step::Close | Step::Give(_) | Step::Show(_), Held::Store(store)) => {
-            on_store(alloc, store, step, out)
-        }
+        (
+            Step::Commit(_) | Step::CommitLent(_) | Step::Close | Step::Give(_) | Step::Show(_),
+            Held::Store(store),
+        ) => on_store(alloc, store, step, out),
         (_, held) => Ok(Held::Site(on_site(alloc, site_of(held), plan, step, out)?)),
     }
 }

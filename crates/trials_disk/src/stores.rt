@@ -1,6 +1,6 @@
 // Stores over sites in memory: what a crash leaves of commits, and calls that fail.
 use crate::holding::Step::{
-    Close, Commit, Crash, Give, Left, Open, Output, ReadFile, ReadLog, Show,
+    Close, Commit, CommitLent, Crash, Give, Left, LogIs, Open, Output, ReadFile, ReadLog, Show,
 };
 use crate::holding::{FIRST, Given, Plan, SECOND, Step, THIRD, Text, repeated, site, stepped};
 use ml_base::{Bytes, Name};
@@ -76,6 +76,44 @@ const LONG: Text = (
 
 const LONG_PUT: &[Given] = &[(FIRST, Some(LONG))];
 
+// Contents of 64 KiB, of a byte less and of a byte more. What is gathered of a record has less room: each goes to the log by itself,
+// between a write of what stands before it and one of what stands behind it.
+const WHOLE: Text = (
+    1_024,
+    b"7777777777777777777777777777777777777777777777777777777777777777",
+);
+
+const LESS: Text = (
+    1_285,
+    b"777777777777777777777777777777777777777777777777777",
+);
+
+const MORE: Text = (65_537, b"8");
+
+const WHOLE_PUT: &[Given] = &[(FIRST, Some(WHOLE))];
+
+const LESS_PUT: &[Given] = &[(FIRST, Some(LESS))];
+
+const MORE_PUT: &[Given] = &[(FIRST, Some(MORE))];
+
+const BOTH_PUTS: &[Given] = &[(FIRST, Some(WHOLE)), (SECOND, Some(MORE))];
+
+const COMMIT_WHOLE: (Step, Text) = (Commit(WHOLE_PUT), DONE);
+
+const COMMIT_BOTH: (Step, Text) = (Commit(BOTH_PUTS), DONE);
+
+const READ_WHOLE: (Step, Text) = (ReadFile(FIRST), WHOLE);
+
+const READ_MORE: (Step, Text) = (ReadFile(SECOND), MORE);
+
+// Contents of which the first makes a record of 64 KiB with the gate behind it, which is one write, and the other is a byte longer.
+const FITTING: Text = (
+    862,
+    b"7777777777777777777777777777777777777777777777777777777777777777777777777777",
+);
+
+const UNFITTING: Text = (1_337, b"7777777777777777777777777777777777777777777777777");
+
 // A bucket that is written, and a floor that is removed.
 const TWO_PUTS: &[Given] = &[
     (Name { kind: 3, at: 29 }, Some((1, b"Ta@b\0"))),
@@ -84,7 +122,7 @@ const TWO_PUTS: &[Given] = &[
 
 // An opening makes two calls. A commit writes its record, syncs, writes its gate and syncs; a gate that is written and not synced counts
 // when it is read again.
-const STORES: [Stores; 24] = [
+const STORES: [Stores; 40] = [
     Stores {
         name: "commits lie in the log until the store is closed",
         calls: 14,
@@ -399,7 +437,7 @@ const STORES: [Stores; 24] = [
     },
     Stores {
         name: "a long record is laid down at once",
-        calls: 14,
+        calls: 16,
         room: 0,
         failing: (0, 0),
         moments: (99, 99),
@@ -448,6 +486,208 @@ const STORES: [Stores; 24] = [
             (Commit(TWO_PUTS), DONE),
             (ReadLog, (1, b"\x0128:W1:3,2:29,5:Ta@b\0,X2:21,1:0,,\0")),
         ],
+    },
+    Stores {
+        name: "a txn that is lent is committed as one that is given",
+        calls: 7,
+        room: 0,
+        failing: (0, 0),
+        moments: (99, 99),
+        fills: OLD,
+        steps: &[
+            OPENED,
+            (CommitLent(TWO_PUTS), DONE),
+            (ReadLog, (1, b"\x0128:W1:3,2:29,5:Ta@b\0,X2:21,1:0,,\0")),
+        ],
+    },
+    Stores {
+        name: "an empty txn that is lent makes no call",
+        calls: 2,
+        room: 0,
+        failing: (0, 0),
+        moments: (99, 99),
+        fills: OLD,
+        steps: &[OPENED, (CommitLent(&[]), DONE), (Close, DONE)],
+    },
+    Stores {
+        name: "a record of 64 KiB is one write",
+        calls: 7,
+        room: 0,
+        failing: (0, 0),
+        moments: (99, 99),
+        fills: OLD,
+        steps: &[
+            OPENED,
+            (Commit(&[(FIRST, Some(FITTING))]), DONE),
+            (
+                LogIs(&[(1, b"\x0165528:W1:9,1:1,65512:"), FITTING, (1, b",,\0")]),
+                DONE,
+            ),
+        ],
+    },
+    Stores {
+        name: "a longer record is more writes",
+        calls: 9,
+        room: 0,
+        failing: (0, 0),
+        moments: (99, 99),
+        fills: OLD,
+        steps: &[
+            OPENED,
+            (Commit(&[(FIRST, Some(UNFITTING))]), DONE),
+            (
+                LogIs(&[(1, b"\x0165529:W1:9,1:1,65513:"), UNFITTING, (1, b",,\0")]),
+                DONE,
+            ),
+        ],
+    },
+    Stores {
+        name: "a content of a byte less than 64 KiB is a write of its own",
+        calls: 9,
+        room: 0,
+        failing: (0, 0),
+        moments: (99, 99),
+        fills: OLD,
+        steps: &[
+            OPENED,
+            (Commit(LESS_PUT), DONE),
+            (
+                LogIs(&[(1, b"\x0165551:W1:9,1:1,65535:"), LESS, (1, b",,\0")]),
+                DONE,
+            ),
+        ],
+    },
+    Stores {
+        name: "a content of 64 KiB is a write of its own",
+        calls: 9,
+        room: 0,
+        failing: (0, 0),
+        moments: (99, 99),
+        fills: OLD,
+        steps: &[
+            OPENED,
+            COMMIT_WHOLE,
+            (
+                LogIs(&[(1, b"\x0165552:W1:9,1:1,65536:"), WHOLE, (1, b",,\0")]),
+                DONE,
+            ),
+        ],
+    },
+    Stores {
+        name: "a content of a byte more than 64 KiB is a write of its own",
+        calls: 9,
+        room: 0,
+        failing: (0, 0),
+        moments: (99, 99),
+        fills: OLD,
+        steps: &[
+            OPENED,
+            (Commit(MORE_PUT), DONE),
+            (
+                LogIs(&[(1, b"\x0165553:W1:9,1:1,65537:"), MORE, (1, b",,\0")]),
+                DONE,
+            ),
+        ],
+    },
+    Stores {
+        name: "two long contents are five writes",
+        calls: 11,
+        room: 0,
+        failing: (0, 0),
+        moments: (99, 99),
+        fills: OLD,
+        steps: &[
+            OPENED,
+            COMMIT_BOTH,
+            (
+                LogIs(&[
+                    (1, b"\x01131105:W1:9,1:1,65536:"),
+                    WHOLE,
+                    (1, b",W1:9,1:2,65537:"),
+                    MORE,
+                    (1, b",,\0"),
+                ]),
+                DONE,
+            ),
+        ],
+    },
+    Stores {
+        name: "a failed write of a long content leaves the old directory",
+        calls: 60,
+        room: 0,
+        failing: (3, 7),
+        moments: (99, 99),
+        fills: OLD,
+        steps: &[OPENED, (Commit(WHOLE_PUT), FAULT), OPENED, NONE],
+    },
+    Stores {
+        name: "a failed write of a long content leaves the old directory",
+        calls: 60,
+        room: 0,
+        failing: (8, 8),
+        moments: (99, 99),
+        fills: OLD,
+        steps: &[OPENED, (Commit(WHOLE_PUT), FAULT), OPENED, READ_WHOLE],
+    },
+    Stores {
+        name: "a failed write of two long contents leaves the old directory",
+        calls: 60,
+        room: 0,
+        failing: (3, 9),
+        moments: (99, 99),
+        fills: OLD,
+        steps: &[OPENED, (Commit(BOTH_PUTS), FAULT), OPENED, NONE],
+    },
+    Stores {
+        name: "a failed write of two long contents leaves the old directory",
+        calls: 60,
+        room: 0,
+        failing: (10, 10),
+        moments: (99, 99),
+        fills: OLD,
+        steps: &[
+            OPENED,
+            (Commit(BOTH_PUTS), FAULT),
+            OPENED,
+            READ_WHOLE,
+            READ_MORE,
+        ],
+    },
+    Stores {
+        name: "a crash leaves two long contents whole or not at all",
+        calls: 10,
+        room: 0,
+        failing: (0, 0),
+        moments: (3, 8),
+        fills: OPENING,
+        steps: &[OPENED, COMMIT_BOTH, CRASHED, OPENED, NONE],
+    },
+    Stores {
+        name: "a crash leaves two long contents whole or not at all",
+        calls: 10,
+        room: 0,
+        failing: (0, 0),
+        moments: (9, 9),
+        fills: NOT_OPENING,
+        steps: &[OPENED, COMMIT_BOTH, CRASHED, OPENED, NONE],
+    },
+    Stores {
+        name: "a crash leaves two long contents whole or not at all",
+        calls: 10,
+        room: 0,
+        failing: (0, 0),
+        moments: (9, 9),
+        fills: OPENING,
+        steps: &[OPENED, COMMIT_BOTH, CRASHED, OPENED, READ_WHOLE, READ_MORE],
+    },
+    Stores {
+        name: "a crash leaves two long contents whole or not at all",
+        calls: 10,
+        room: 0,
+        failing: (0, 0),
+        moments: (10, 10),
+        fills: EVERY,
+        steps: &[OPENED, COMMIT_BOTH, CRASHED, OPENED, READ_WHOLE, READ_MORE],
     },
 ];
 

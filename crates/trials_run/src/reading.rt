@@ -7,7 +7,7 @@ use crate::texts::spelled;
 use ml_base::{Bytes, Numbers};
 use ml_plain::{Act, Item};
 use ml_site::{MemSource, Source};
-use ml_stream::{Items, StreamError, write_item};
+use ml_stream::{Items, StreamError, push_item, write_item};
 use std::alloc::{AllocError, Global};
 use std::test::Fail;
 use trials_lists::same;
@@ -231,15 +231,16 @@ fn push_act(alloc: Global, out: &mut Bytes, act: &Act) -> Result<(), AllocError>
     }
 }
 
-// Adds an item: its parts too, if these are asked for, and its bytes as they are written.
-fn push_item(alloc: Global, out: &mut Bytes, ask: Ask, item: &Item) -> Result<(), AllocError> {
-    if matches!(ask, Ask::Next) {
-        let front = format!(in alloc; "{} {} ", item.number, item.moment)?;
-        out.extend(front.as_bytes())?;
-        push_act(alloc, out, &item.act)?;
-        out.extend(b": ")?;
+// Adds an item: its parts and its bytes, as they are added to a text, if these are asked for, or else its bytes, as they are written.
+fn push_found(alloc: Global, out: &mut Bytes, ask: Ask, item: &Item) -> Result<(), AllocError> {
+    if !matches!(ask, Ask::Next) {
+        return out.extend(write_item(alloc, item)?.as_slice());
     }
-    out.extend(write_item(alloc, item)?.as_slice())
+    let front = format!(in alloc; "{} {} ", item.number, item.moment)?;
+    out.extend(front.as_bytes())?;
+    push_act(alloc, out, &item.act)?;
+    out.extend(b": ")?;
+    push_item(out, item)
 }
 
 // The words for an error.
@@ -266,7 +267,7 @@ fn next(
     };
     match items.next(alloc, input) {
         Ok(None) => out.extend(b"end")?,
-        Ok(Some(item)) => push_item(alloc, out, ask, &item)?,
+        Ok(Some(item)) => push_found(alloc, out, ask, &item)?,
         Err(error) => {
             out.extend(error_words(alloc, error)?.as_bytes())?;
             return Ok(Reader::Failed(items));

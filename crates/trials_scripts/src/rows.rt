@@ -1,5 +1,5 @@
 // The lines of a table.
-use crate::stage::{Program, Stage, beginning, empty};
+use crate::stage::{Program, Stage, beginning, empty, run};
 use crate::steps::step;
 use crate::texts::{Named, number_of, spelled_with};
 use std::alloc::Global;
@@ -51,11 +51,25 @@ fn keep(alloc: Global, named: &mut Named, text: &str) -> Result<(), Fail> {
     Ok(())
 }
 
+// Keeps under a name what a command puts out over the list: `NAME WORDS`.
+fn keep_output<P: Program>(
+    alloc: Global,
+    named: &mut Named,
+    list: &Stage,
+    text: &str,
+) -> Result<(), Fail> {
+    let (name, words) = text.split_once(' ').unwrap_or((text, ""));
+    let mut stage = beginning(alloc, list)?;
+    let (_, output) = run::<P>(alloc, named, &mut stage, words)?;
+    named.push((String::from_str(alloc, name)?, output))?;
+    Ok(())
+}
+
 /// Tries the rows of a table, and fails at the first that doesn't come out as it says, with the number of its line from 0, of its step and
 /// of its turn.
 ///
 /// Each line is a row, but for empty ones and those that begin with `#`. `let NAME TEXT` keeps a text, and `list STEPS` makes the list that
-/// the rows behind it begin with. `then STEPS` goes on where the row before ended, and `turns FIRST LAST | STEPS` is tried once for each of
+/// the rows behind it begin with. `told NAME WORDS` keeps what a command puts out over that list. `then STEPS` goes on where the row before ended, and `turns FIRST LAST | STEPS` is tried once for each of
 /// these numbers.
 pub fn hold<P: Program>(alloc: Global, table: &str, text: &str) -> Result<(), Fail> {
     let mut named = Vec::new(alloc);
@@ -69,6 +83,8 @@ pub fn hold<P: Program>(alloc: Global, table: &str, text: &str) -> Result<(), Fa
         }
         if let Some(text) = line.strip_prefix("let ") {
             keep(alloc, &mut named, text)?;
+        } else if let Some(text) = line.strip_prefix("told ") {
+            keep_output::<P>(alloc, &mut named, &list, text)?;
         } else if let Some(steps) = line.strip_prefix("list ") {
             list = empty(alloc);
             row::<P>(alloc, &named, name, &mut list, steps, 0)?;

@@ -19,14 +19,15 @@ pub trait Program {
     ) -> Result<(u8, MemSite), Fail>;
 }
 
-// What the next command meets: the moment that the clock shows, if it does, the input, the read of it that fails, the call on the disk that
-// fails, the room for its output, and the call behind which it is stopped.
+// What the next command meets: the moment that the clock shows, if it does, the input, the read of it that fails, the call that fails, the
+// room for calls and for its output, and the call behind which it is stopped.
 #[derive(Drop)]
 pub(crate) struct Next {
     pub(crate) moment: Option<u64>,
     pub(crate) input: Bytes,
     pub(crate) read: u64,
     pub(crate) call: u64,
+    pub(crate) calls: usize,
     pub(crate) room: usize,
     pub(crate) stop: u64,
 }
@@ -52,8 +53,9 @@ fn plain(alloc: Global, moment: Option<u64>) -> Next {
         input: Bytes::new(alloc),
         read: 0,
         call: 0,
+        calls: CALLS,
         room: ROOM,
-        stop: CALLS as u64,
+        stop: u64::MAX,
     }
 }
 
@@ -145,7 +147,7 @@ pub(crate) fn run<P: Program>(
 ) -> Result<(u8, Bytes), Fail> {
     let words = words_of(alloc, named, words)?;
     let next = &stage.next;
-    let mut site = MemSite::new(alloc, copied(alloc, &stage.image)?, CALLS, next.room)?;
+    let mut site = MemSite::new(alloc, copied(alloc, &stage.image)?, next.calls, next.room)?;
     site.fail(alloc, &[next.call])?;
     let mut input = source(alloc, next)?;
     let mut clock = clock(alloc, next.moment)?;

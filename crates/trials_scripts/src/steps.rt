@@ -17,7 +17,7 @@ fn number_or(text: &str, turn: u64) -> Result<u64, Fail> {
     }
 }
 
-// Does a step, if it says what the next command meets: `at`, `input`, `read`, `fail`, `room` or `stop`.
+// Does a step, if it says what the next command meets: `at`, `input`, `read`, `fail`, `calls`, `room` or `stop`.
 fn prepare(
     alloc: Global,
     named: &Named,
@@ -38,6 +38,8 @@ fn prepare(
         stage.next.call = number_or(rest, turn)?;
     } else if verb == "stop" {
         stage.next.stop = number_or(rest, turn)?;
+    } else if verb == "calls" {
+        stage.next.calls = number_of(rest)? as usize;
     } else if verb == "room" {
         stage.next.room = number_of(rest)? as usize;
     } else {
@@ -140,25 +142,79 @@ fn told(alloc: Global, status: u8, output: &[u8]) -> Result<Bytes, Fail> {
     Ok(text)
 }
 
-// Whether a command of which a call failed says so: by 73 where it put out nothing or all, or by a stop line that is alone, or under the
-// number of its answer, or behind its answer.
+// Whether an output ends behind some first lines of an answer as that of a command does of which a call failed: by 73 and nothing more, or
+// by a stop line of 111, alone or under the number of the line in whose place it stands.
 fn says_so(status: u8, output: &[u8], answer: &[u8]) -> bool {
-    if status == 73 {
-        return output.is_empty() || output == answer;
+    let mut rest = output;
+    for line in answer.split(|byte| *byte == b'\n') {
+        match rest.strip_prefix(line) {
+            Some([b'\n', more @ ..]) => rest = more,
+            _ => return is_stop(status, rest, line),
+        }
     }
-    let rest = match split_first(b' ', answer) {
-        Some((number, _)) => output.strip_prefix(number),
-        None => None,
-    };
-    let disk = b"- 111 disk\n".as_slice();
-    status == 111
-        && (output == disk
-            || output.strip_prefix(answer) == Some(disk)
-            || rest == Some(b" 111 disk\n".as_slice()))
+    false
 }
 
-// Fails where a command doesn't end as it is to: `run WORDS => STATUS OUTPUT`, with further endings behind `||`; and `may` for a command of
-// which a call may fail.
+fn is_stop(status: u8, rest: &[u8], line: &[u8]) -> bool {
+    let (number, _) = split_first(b' ', line).unwrap_or((line, line));
+    (status == 73 && rest.is_empty())
+        || (status == 111
+            && (rest == b"- 111 disk\n".as_slice()
+                || rest.strip_prefix(number) == Some(b" 111 disk\n".as_slice())))
+}
+
+// Whether a text is these pieces in order, of which a `*` between two stands for any bytes.
+fn is_like(text: &[u8], pattern: &[u8]) -> bool {
+    let Some((first, behind)) = split_first(b'*', pattern) else {
+        return text == pattern;
+    };
+    let Some(mut rest) = text.strip_prefix(first) else {
+        return false;
+    };
+    let mut last: &[u8] = &[];
+    for piece in behind.split(|byte| *byte == b'*') {
+        match behind_piece(rest, piece) {
+            Some(more) => rest = more,
+            None => return false,
+        }
+        last = piece;
+    }
+    rest.is_empty() || text.ends_with(last)
+}
+
+// What is behind the first place at which a text has this piece.
+fn behind_piece<'a>(text: &'a [u8], piece: &[u8]) -> Option<&'a [u8]> {
+    for from in 0..=text.len() {
+        if let Some(rest) = text[from..].strip_prefix(piece) {
+            return Some(rest);
+        }
+    }
+    None
+}
+
+// Whether a command ended as a text says, by the verb before it: `run` as it stands, `like` with any bytes for each `*`, and `may` also as
+// one of which a call failed.
+fn is_ending(
+    alloc: Global,
+    verb: &str,
+    status: u8,
+    output: &[u8],
+    wanted: &[u8],
+) -> Result<bool, Fail> {
+    let came = told(alloc, status, output)?;
+    let answer = match split_first(b' ', wanted) {
+        Some((_, answer)) => answer,
+        None => &[],
+    };
+    Ok(
+        came.as_slice() == wanted
+            || (verb == "like" && is_like(came.as_slice(), wanted))
+            || (verb == "may" && says_so(status, output, answer)),
+    )
+}
+
+// Fails where a command doesn't end as it is to: `run WORDS => STATUS OUTPUT`, with further endings behind `||`; `like` and `may` for other
+// endings too.
 fn command<P: Program>(
     alloc: Global,
     named: &Named,
@@ -171,21 +227,16 @@ fn command<P: Program>(
         return Err(Fail::new(format_args!("{place}: no ending")));
     };
     let (status, output) = run::<P>(alloc, named, stage, words)?;
-    let came = told(alloc, status, output.as_slice())?;
     let mut wanted = Bytes::new(alloc);
     for ending in endings.split(" || ") {
         wanted = spelled_with(alloc, named, ending)?;
-        if wanted.as_slice() == came.as_slice() {
+        if is_ending(alloc, verb, status, output.as_slice(), wanted.as_slice())? {
             return Ok(());
         }
     }
-    if let Some((_, answer)) = split_first(b' ', wanted.as_slice())
-        && verb == "may"
-        && says_so(status, output.as_slice(), answer)
-    {
-        return Ok(());
-    }
-    same(alloc, place, 0, came.as_slice(), wanted.as_slice())
+    let came = told(alloc, status, output.as_slice())?;
+    same(alloc, place, 0, came.as_slice(), wanted.as_slice())?;
+    Err(Fail::new(format_args!("{place}: no such ending")))
 }
 
 // Fails where the last command left a list that isn't as it was.
@@ -218,7 +269,7 @@ pub(crate) fn step<P: Program>(
     turn: u64,
 ) -> Result<(), Fail> {
     let (verb, rest) = text.split_once(' ').unwrap_or((text, ""));
-    if verb == "run" || verb == "may" {
+    if verb == "run" || verb == "like" || verb == "may" {
         command::<P>(alloc, named, place, stage, verb, rest)
     } else if verb == "members" {
         add_members(alloc, &mut stage.image.files, Set::List, number_of(rest)?)?;

@@ -1,0 +1,374 @@
+// The program stopped after each of its calls, and with each of them failing: the next run over the same items makes it good.
+use crate::scripts::{BOUNCES, EXERCISE, MAKE, MAKE_MODERATED, REQUESTS, SETTINGS};
+use ml_base::{Bytes, Name, Numbers, read_number, split_first};
+use ml_command::ezmlm_main;
+use ml_site::{Fill, Image, MemClock, MemSite, MemSource};
+use std::alloc::{AllocError, Global};
+use std::collections::BTreeMap;
+use std::test::Fail;
+use trials_scripts::spelled;
+
+// The room for calls and for output.
+const CALLS: u64 = 2000;
+
+const OUTPUT: usize = 4000;
+
+// A log of one closed gate.
+const CLOSED: &[u8] = &[0];
+
+// The answers to items, each with its LF.
+type Answers = Vec<Bytes>;
+
+// A site over an image.
+fn site(alloc: Global, image: Image) -> Result<MemSite, AllocError> {
+    MemSite::new(alloc, image, CALLS as usize, OUTPUT)
+}
+
+// What a site holds as it reads.
+fn held(alloc: Global, site: &MemSite) -> Result<Image, AllocError> {
+    site.crash(alloc, CALLS, Fill::New)
+}
+
+// Runs the program with these words, with single spaces between them, over a site.
+fn run_words(
+    alloc: Global,
+    words: &str,
+    stream: &[u8],
+    site: MemSite,
+) -> Result<(u8, MemSite), Fail> {
+    let mut owned = Vec::new(alloc);
+    for word in words.split(' ') {
+        owned.push(String::from_str(alloc, word)?)?;
+    }
+    let mut input = MemSource::new(Bytes::from_slice(alloc, stream)?, Numbers::new(alloc));
+    let mut clock = MemClock::new(1_000_000_000, Numbers::new(alloc));
+    Ok(ezmlm_main(alloc, &owned, &mut input, site, &mut clock))
+}
+
+// What is behind the answer to an item in an output, where it is this one; for a number below the floor it is another one.
+fn behind_answer<'a>(output: &'a [u8], answer: &[u8], floor: u64) -> Option<&'a [u8]> {
+    let (number, _) = split_first(b' ', answer)?;
+    if read_number(number)? < floor {
+        output
+            .strip_prefix(number)?
+            .strip_prefix(b" 100 stale\n".as_slice())
+    } else {
+        output.strip_prefix(answer)
+    }
+}
+
+// Whether an output is all of these answers, over a list with this floor.
+fn answers_all(answers: &Answers, output: &[u8], floor: u64) -> bool {
+    let mut rest = output;
+    for answer in answers.iter() {
+        match behind_answer(rest, answer.as_slice(), floor) {
+            Some(more) => rest = more,
+            None => return false,
+        }
+    }
+    rest.is_empty()
+}
+
+// Whether what is left of an output is some front of an answer, or a stop line in its place.
+fn is_cut_off(rest: &[u8], answer: &[u8]) -> bool {
+    let deferral = match split_first(b' ', answer) {
+        Some((number, _)) => rest.strip_prefix(number),
+        None => None,
+    };
+    answer.starts_with(rest)
+        || rest == b"- 111 disk\n".as_slice()
+        || deferral == Some(b" 111 disk\n".as_slice())
+}
+
+// Whether an output is some first answers, and behind them some front of the next one or of a stop line.
+fn is_front(answers: &Answers, output: &[u8]) -> bool {
+    let mut rest = output;
+    for answer in answers.iter() {
+        match rest.strip_prefix(answer.as_slice()) {
+            Some(more) => rest = more,
+            None => return is_cut_off(rest, answer.as_slice()),
+        }
+    }
+    rest.is_empty() || rest == b"- 111 disk\n".as_slice()
+}
+
+// The floor that stands in the files of an image, or 0.
+fn floor_in(image: &Image) -> u64 {
+    match image.files.get(&Name { kind: 21, at: 0 }) {
+        Some(bytes) => split_first(b'\n', bytes.as_slice())
+            .and_then(|(digits, _)| read_number(digits))
+            .unwrap_or(0),
+        None => 0,
+    }
+}
+
+// The floor of the list on a site, as a run of no items leaves its files.
+fn floor_of(alloc: Global, found: &MemSite) -> Result<u64, Fail> {
+    let (_, opened) = run_words(alloc, "spool", b"", site(alloc, held(alloc, found)?)?)?;
+    Ok(floor_in(&held(alloc, &opened)?))
+}
+
+// Whether two images have the same bytes.
+fn is_same(image: &Image, other: &Image) -> bool {
+    let mut same = image.files.len() == other.files.len();
+    for (name, bytes) in &image.files {
+        let there = match other.files.get(name) {
+            Some(found) => found.as_slice() == bytes.as_slice(),
+            None => false,
+        };
+        same = same && there;
+    }
+    same && image.log.as_slice() == other.log.as_slice()
+}
+
+// A stream with its answers, the list on which it is run, and what a run leaves that nothing stops.
+#[derive(Drop)]
+struct Trial {
+    stream: Bytes,
+    answers: Answers,
+    start: MemSite,
+    end: Image,
+}
+
+// The stream of some first items of a script, and their answers.
+fn read_script(alloc: Global, script: &str, most: usize) -> Result<(Bytes, Answers), Fail> {
+    let mut stream = Bytes::new(alloc);
+    let mut answers = Vec::new(alloc);
+    for line in script.lines() {
+        if let Some((item, answer)) = line.split_once(" => ")
+            && answers.len() < most
+        {
+            stream.extend(spelled(alloc, item)?.as_slice())?;
+            let mut line = Bytes::from_slice(alloc, answer.as_bytes())?;
+            line.push(b'\n')?;
+            answers.push(line)?;
+        }
+    }
+    Ok((stream, answers))
+}
+
+// A run over a list that stops after so many calls.
+fn stopped_run(
+    alloc: Global,
+    stream: &[u8],
+    start: &MemSite,
+    calls: u64,
+) -> Result<(u8, MemSite), Fail> {
+    let mut stopping = site(alloc, held(alloc, start)?)?;
+    stopping.stop_after(calls);
+    run_words(alloc, "spool", stream, stopping)
+}
+
+fn trial_of(alloc: Global, make: &str, script: &str, most: usize) -> Result<Trial, Fail> {
+    let (stream, answers) = read_script(alloc, script, most)?;
+    let nothing = Image {
+        log: Bytes::new(alloc),
+        files: BTreeMap::new(alloc),
+    };
+    let (_, start) = run_words(alloc, make, b"", site(alloc, nothing)?)?;
+    let (_, plain) = stopped_run(alloc, stream.as_slice(), &start, u64::MAX)?;
+    if !answers_all(&answers, plain.output(), 0) {
+        return Err("the plain run has other answers".into());
+    }
+    let end = held(alloc, &plain)?;
+    Ok(Trial {
+        stream,
+        answers,
+        start,
+        end,
+    })
+}
+
+// Whether the next run over a site, behind a first one that put this out, answers all and leaves the files of the plain run. Numbers below
+// a floor are refused exactly where it stands then, and it does where its answer is out. What the site had put out before that run is in
+// front of its answers.
+fn is_made_good(
+    alloc: Global,
+    trial: &Trial,
+    first: &[u8],
+    before: &[u8],
+    found: MemSite,
+) -> Result<bool, Fail> {
+    let end = floor_in(&trial.end);
+    let floor = if end == 0 {
+        0
+    } else {
+        floor_of(alloc, &found)?
+    };
+    let (status, again) = run_words(alloc, "spool", trial.stream.as_slice(), found)?;
+    let told = match again.output().strip_prefix(before) {
+        Some(second) => answers_all(&trial.answers, second, floor),
+        None => false,
+    };
+    let done = !answers_all(&trial.answers, first, 0) || floor == end;
+    let left = held(alloc, &again)?;
+    Ok(status == 0 && told && done && is_same(&left, &trial.end) && left.log.as_slice() == CLOSED)
+}
+
+// What no sync has settled when the program stops: what was there before, or what was written, or these bytes.
+const FILLS: [Fill; 5] = [
+    Fill::Old,
+    Fill::New,
+    Fill::Byte(0),
+    Fill::Byte(1),
+    Fill::Byte(7),
+];
+
+// What a stop left with one of these fills, and what the stopped run had put out. The next run follows from these.
+#[derive(Drop)]
+struct Left {
+    image: Image,
+    first: Bytes,
+}
+
+// Fails where the next run doesn't make good a stop after so many calls, and says so. Answers whether the run was at its end by then. What
+// a fill left behind the call before, in BEFORE, isn't tried again.
+fn hold_stop(
+    alloc: Global,
+    trial: &Trial,
+    calls: u64,
+    before: &mut Vec<Left>,
+) -> Result<bool, Fail> {
+    let (status, stopped) = stopped_run(alloc, trial.stream.as_slice(), &trial.start, calls)?;
+    let first = stopped.output();
+    let mut tried = Vec::new(alloc);
+    for (at, fill) in FILLS.iter().enumerate() {
+        let image = stopped.crash(alloc, calls, *fill)?;
+        let again = match before.get(at) {
+            Some(left) => is_same(&left.image, &image) && left.first.as_slice() == first,
+            None => false,
+        };
+        let next = site(alloc, stopped.crash(alloc, calls, *fill)?)?;
+        if !again
+            && !(is_front(&trial.answers, first) && is_made_good(alloc, trial, first, b"", next)?)
+        {
+            return Err(Fail::new(format_args!("a stop after call {calls}, left {fill:?}")));
+        }
+        let first = Bytes::from_slice(alloc, first)?;
+        tried.push(Left { image, first })?;
+    }
+    *before = tried;
+    Ok(status == 0)
+}
+
+// Fails where a call that fails alone doesn't end the run, or the next one over the same site doesn't make it good, and names the call.
+fn hold_failure(alloc: Global, trial: &Trial, call: u64) -> Result<(), Fail> {
+    let mut failing = site(alloc, held(alloc, &trial.start)?)?;
+    failing.fail(alloc, &[call])?;
+    let (status, found) = run_words(alloc, "spool", trial.stream.as_slice(), failing)?;
+    let first = Bytes::from_slice(alloc, found.output())?;
+    let first = first.as_slice();
+    if status == 0
+        || !is_front(&trial.answers, first)
+        || !is_made_good(alloc, trial, first, first, found)?
+    {
+        return Err(Fail::new(format_args!("a failure of call {call}")));
+    }
+    Ok(())
+}
+
+// Fails where the next run doesn't make good a failure of one of the calls from FIRST on, or a stop after it, before LAST or the end of the
+// run. It is an error that the run has no end before the room for calls is taken.
+fn hold_calls(
+    alloc: Global,
+    make: &str,
+    script: &str,
+    most: usize,
+    first: u64,
+    last: u64,
+) -> Result<(), Fail> {
+    let trial = trial_of(alloc, make, script, most)?;
+    let mut left = Vec::new(alloc);
+    for calls in first..last {
+        if calls > 0 {
+            hold_failure(alloc, &trial, calls)?;
+        }
+        if hold_stop(alloc, &trial, calls, &mut left)? {
+            return Ok(());
+        }
+    }
+    if last == CALLS {
+        return Err("a run has no end".into());
+    }
+    Ok(())
+}
+
+// The same of so many first items of an exercise and the floor behind it.
+fn hold_exercise(alloc: Global, most: usize, first: u64, last: u64) -> Result<(), Fail> {
+    hold_calls(alloc, MAKE, EXERCISE, most, first, last)
+}
+
+#[test]
+fn an_exercise_is_made_good_from_call_0_on(rt: HostRuntime) -> Result<(), Fail> {
+    hold_exercise(rt.alloc(), 30, 0, 100)
+}
+
+#[test]
+fn an_exercise_is_made_good_from_call_100_on(rt: HostRuntime) -> Result<(), Fail> {
+    hold_exercise(rt.alloc(), 30, 100, 200)
+}
+
+#[test]
+fn an_exercise_is_made_good_from_call_200_on(rt: HostRuntime) -> Result<(), Fail> {
+    hold_exercise(rt.alloc(), 30, 200, 300)
+}
+
+#[test]
+fn an_exercise_is_made_good_from_call_300_on(rt: HostRuntime) -> Result<(), Fail> {
+    hold_exercise(rt.alloc(), 30, 300, 400)
+}
+
+#[test]
+fn an_exercise_is_made_good_from_call_400_on(rt: HostRuntime) -> Result<(), Fail> {
+    hold_exercise(rt.alloc(), 30, 400, 500)
+}
+
+#[test]
+fn an_exercise_is_made_good_from_call_500_on(rt: HostRuntime) -> Result<(), Fail> {
+    hold_exercise(rt.alloc(), 30, 500, CALLS)
+}
+
+#[test]
+fn an_exercise_and_a_floor_are_made_good_from_call_0_on(rt: HostRuntime) -> Result<(), Fail> {
+    hold_exercise(rt.alloc(), 31, 0, 100)
+}
+
+#[test]
+fn an_exercise_and_a_floor_are_made_good_from_call_100_on(rt: HostRuntime) -> Result<(), Fail> {
+    hold_exercise(rt.alloc(), 31, 100, 200)
+}
+
+#[test]
+fn an_exercise_and_a_floor_are_made_good_from_call_200_on(rt: HostRuntime) -> Result<(), Fail> {
+    hold_exercise(rt.alloc(), 31, 200, 300)
+}
+
+#[test]
+fn an_exercise_and_a_floor_are_made_good_from_call_300_on(rt: HostRuntime) -> Result<(), Fail> {
+    hold_exercise(rt.alloc(), 31, 300, 400)
+}
+
+#[test]
+fn an_exercise_and_a_floor_are_made_good_from_call_400_on(rt: HostRuntime) -> Result<(), Fail> {
+    hold_exercise(rt.alloc(), 31, 400, 500)
+}
+
+#[test]
+fn an_exercise_and_a_floor_are_made_good_from_call_500_on(rt: HostRuntime) -> Result<(), Fail> {
+    hold_exercise(rt.alloc(), 31, 500, CALLS)
+}
+
+#[test]
+fn settings_are_made_good(rt: HostRuntime) -> Result<(), Fail> {
+    hold_calls(rt.alloc(), MAKE, SETTINGS, 100, 0, CALLS)
+}
+
+#[test]
+fn requests_are_made_good(rt: HostRuntime) -> Result<(), Fail> {
+    hold_calls(rt.alloc(), MAKE_MODERATED, REQUESTS, 100, 0, CALLS)
+}
+
+#[test]
+fn bounces_are_made_good(rt: HostRuntime) -> Result<(), Fail> {
+    hold_calls(rt.alloc(), MAKE, BOUNCES, 100, 0, CALLS)
+}
