@@ -53,7 +53,7 @@ def found(chosen):
 async def lists(chosen, addresses):
     """What is wrong with the lists, each named."""
     runs = program.Program(chosen.program, 1)
-    status, _ = await runs.run('/nonexistent', 'usage')
+    status, _ = await runs.run('/', 'usage')
     if status != 64:
         return [f'{chosen.program} is not the program: status {status}']
     wrong = []

@@ -149,7 +149,7 @@ class MailingList:
         return mails
 
     async def begin(self):
-        """Opens the notes; no number is drawn that the list has answered. Where there is no list the program would begin a folder."""
+        """Opens the notes; no number is drawn that the list has answered. The program isn't run where there is no list."""
         if (address := folder.address(self.folder)) is None:
             raise Refused('there is no list')
         if self.notes is not None:

@@ -59,10 +59,11 @@ def answer_of(line):
 
 
 class Program:
-    """The program, run a few times at once."""
+    """The program, run a few times at once. Each run goes in the list's folder: where that is gone there is no run, and none makes another
+    one in its place."""
 
     def __init__(self, path, runs):
-        self.path = path
+        self.path = os.path.abspath(path) if '/' in path else path
         self.threads = concurrent.futures.ThreadPoolExecutor(runs, 'program')
         self.free = asyncio.Semaphore(runs)
 
@@ -76,7 +77,7 @@ class Program:
 
     def run_now(self, folder, words, given):
         try:
-            done = subprocess.run([self.path, os.fspath(folder), *words], input=given, stdout=subprocess.PIPE, timeout=LONGEST_RUN)
+            done = subprocess.run([self.path, '.', *words], cwd=folder, input=given, stdout=subprocess.PIPE, timeout=LONGEST_RUN)
         except subprocess.TimeoutExpired as ended:
             return 71, ended.stdout or b''
         except OSError as error:
@@ -88,8 +89,8 @@ class Program:
         the items that got none, and why the run ended before them."""
         async with self.free:
             try:
-                words = self.path, os.fspath(folder), 'spool'
-                process = await asyncio.create_subprocess_exec(*words, stdin=subprocess.PIPE, stdout=subprocess.PIPE)
+                words = self.path, '.', 'spool'
+                process = await asyncio.create_subprocess_exec(*words, cwd=folder, stdin=subprocess.PIPE, stdout=subprocess.PIPE)
             except OSError as error:
                 return items, Ending(71, str(error))
             run = Run(process)

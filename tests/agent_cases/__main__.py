@@ -54,8 +54,8 @@ def main():
     parser.add_argument('--long', action='store_true')
     words = parser.parse_args()
     program = pathlib.Path(words.program).resolve()
-    if not os.access(program, os.X_OK):
-        sys.exit(f'agent: {program} is no program')
+    if not program.is_file() or not os.access(program, os.X_OK):
+        sys.exit(f'agent: there is no program {program}: tools/install and .ci/run prove and build it, tests/quick without proof')
     if words.long:
         killed.STRIDE[0], trouble.HELD[0] = 1, 60
     failed, names = 0, [name for name in cases() if words.k in name]

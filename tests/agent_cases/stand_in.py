@@ -47,6 +47,8 @@ def says(file):
 
 
 if WORDS[1:] == ['spool']:
+    if is_told('move'):
+        pathlib.Path.cwd().rename(PLACE / 'aside')
     if (PLACE / 'says').exists():
         says(PLACE / 'says')
     if is_told('lose'):

@@ -136,6 +136,22 @@ def case_missing_list(world):
         begins(world.post(5, to=to), '451', 'where all lists are gone')
 
 
+def case_list_that_goes(world):
+    """A list whose folder goes while a run of the program begins is the same list where it is then, and nothing is made in its place."""
+    folder = world.list()
+    world.stands_in()
+    world.begin()
+    same(world.post(1), '250 2.0.0 posted 1', 'a post')
+    check(world.is_out(3), 'it did not go out')
+    (world.place / 'move').touch()
+    same(world.post(2), '250 2.0.0 posted 2', 'a post while the folder goes')
+    check(not folder.exists(), 'a folder was made')
+    begins(world.post(3), '451', 'a list that is gone')
+    (world.place / 'aside').rename(folder)
+    same(world.post(3), '250 2.0.0 posted 3', 'the list that is back')
+    check(world.is_out(9), f'{len(world.sink.copies)} copies')
+
+
 def case_copied_list(world):
     """A copy of a list's folder beside it is no list: mail goes to the one that was served, and nothing goes out twice."""
     folder = world.list()

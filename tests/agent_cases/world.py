@@ -123,9 +123,10 @@ class World:
 
     def is_alone(self):
         """Whether no process is left that the agent began."""
-        for line in pathlib.Path('/proc').glob('[0-9]*/cmdline'):
+        for process in pathlib.Path('/proc').glob('[0-9]*'):
             with contextlib.suppress(OSError):
-                if os.fsencode(self.place) in line.read_bytes():
+                # A run of the program has the list's folder as its own.
+                if str(self.place) in os.readlink(process / 'cwd') or os.fsencode(self.place) in (process / 'cmdline').read_bytes():
                     return False
         return True
 
