@@ -11,8 +11,6 @@ use ml_config::{Config, write_config};
 use std::alloc::Global;
 
 // The file of the configuration.
-const CONFIG: Name = Name { kind: 1, at: 0 };
-
 /// Files with a configuration in the place of theirs, whatever that is: what an act does under it is said over these.
 #[derive(Drop)]
 pub struct Configured<'a, F: Files> {
@@ -48,7 +46,7 @@ impl<F: Files> Files for Configured<'_, F> {
         ensures later { F.faults self.old.files.now ≤ F.faults self.new.files.now }
         ensures cause { IsErrOf result Fault → Rose (F.faults self.old.files.now) (F.faults self.new.files.now) }
     {
-        if name == CONFIG {
+        if name == Name::CONFIG {
             return Ok(Some(write_config(alloc, self.config)?));
         }
         self.files.get(alloc, name)
@@ -62,7 +60,7 @@ impl<F: Files> Files for Configured<'_, F> {
         ensures later { F.faults self.old.files.now ≤ F.faults self.new.files.now }
         ensures cause { IsErrOf result Fault → Rose (F.faults self.old.files.now) (F.faults self.new.files.now) }
     {
-        if name == CONFIG {
+        if name == Name::CONFIG {
             return Ok(true);
         }
         self.files.has(alloc, name)

@@ -3,6 +3,7 @@ use Rattle.std.specs.Prelude.{ℕ, ◌*◌, max, Bool, ◌&&◌, ◌||◌, ◌==
 use Rattle.ml_base.specs.Bytes.{Text}
 use Rattle.ml_base.specs.Dir.{Dir}
 use Rattle.ml_base.specs.declared.names.Name.{Name}
+use Rattle.ml_base.specs.Kinds.{post_kind, index_kind}
 use Rattle.ml_archive.specs.Archive.{ArePosts}
 use Rattle.ml_archive.specs.Threads.{IsArchive}
 use Rattle.ml_archive.specs.declared.posts.Post.{Post}
@@ -13,7 +14,7 @@ first_of g = max 1 (100 * g)
 
 -- whether a file is of a post past a number, or is the index of a group whose first post is past it
 abbrev pub is_past : ℕ → Name → Bool
-is_past count name = (name.kind == 9 && nat_lt count name.at) || (name.kind == 10 && nat_lt count (first_of name.at))
+is_past count name = (name.kind == post_kind && nat_lt count name.at) || (name.kind == index_kind && nat_lt count (first_of name.at))
 
 -- a directory without these files
 abbrev pub up_to : ℕ → Dir → Dir

@@ -9,9 +9,8 @@ ghost use Rattle.ml_archive_audit.specs.Counted.{first_of};
 ghost use Rattle.ml_archive_audit.specs.Found as found;
 ghost use Rattle.ml_archive_audit.specs.Found.{AreWhole, HasSize, HasWhole, HaveSizes, LacksSize};
 
-use crate::files::{NUMBER, index_name, post_name};
 use ml_archive::{Entries, Entry, index};
-use ml_base::{Files, PartError};
+use ml_base::{Files, Name, PartError};
 use std::alloc::Global;
 
 // The number of a group's first post.
@@ -45,9 +44,9 @@ fn audit_size<F: Files>(
     ensures names { NamesDamaged ⟦<F as Files>⟧ (λ name. name ≡ archive.index_name group) (λ _. IsOtherSize (F.map files.old) number size) result }
     ensures reads { IsReading ⟦<F as Files>⟧ files.old files.new result }
 {
-    match files.get(alloc, post_name(number))? {
+    match files.get(alloc, Name::post(number))? {
         Some(bytes) if bytes.len() as u64 == size => Ok(()),
-        _ => Err(PartError::Damaged(index_name(group))),
+        _ => Err(PartError::Damaged(Name::index(group))),
     }
 }
 
@@ -92,7 +91,7 @@ pub(crate) fn full_index<F: Files>(
     if entries.as_slice().len() as u64 == group_len(group, count) {
         Ok(entries)
     } else {
-        Err(PartError::Damaged(NUMBER))
+        Err(PartError::Damaged(Name::NUMBER))
     }
 }
 

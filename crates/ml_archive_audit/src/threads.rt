@@ -8,9 +8,9 @@ ghost use Rattle.ml_archive.specs.Threads.{thread_place, thread_text};
 ghost use Rattle.ml_archive_audit.specs.Breaks.{Breaks, HasThreads, IsAuditName, IsThreadsName};
 ghost use Rattle.ml_archive_audit.specs.Found.{ArePosted, HasOtherText, IsPlace, text_at};
 
-use crate::files::{text_of, thread_name};
+use crate::files::text_of;
 use crate::keys::{Keys, Places, keys_of, place_of};
-use ml_base::{Bytes, Files, PartError, push_netstring, write_number};
+use ml_base::{Bytes, Files, Name, PartError, push_netstring, write_number};
 use std::alloc::{AllocError, Global};
 
 // How many thread files there are.
@@ -93,7 +93,7 @@ fn audit_file<F: Files>(alloc: Global, files: &mut F, n: u8, text: &[u8]) -> Res
     ensures names { NamesDamaged ⟦<F as Files>⟧ (λ name. name ≡ threads.thread_name n) (λ _. unwrap_or (F.map files.old (threads.thread_name n)) [] ≢ text.now) result }
     ensures reads { IsReading ⟦<F as Files>⟧ files.old files.new result }
 {
-    let name = thread_name(n);
+    let name = Name::threads(n);
     let file = files.get(alloc, name)?;
     if text_of(&file) == text {
         Ok(())

@@ -1,6 +1,7 @@
 // Names of files, and the five sets.
-ghost use Rattle.std.specs.Prelude.{◌≡◌, ◌≤◌, length};
-ghost use Rattle.ml_base.specs.Name.{set_kind, set_word, set_of};
+ghost use Rattle.std.specs.Prelude.{◌≡◌, ◌<◌, ◌≤◌, IsTrue, length};
+ghost use Rattle.ml_base.specs.Kinds as kinds;
+ghost use Rattle.ml_base.specs.Name.{is_file, set_kind, set_word, set_of};
 ghost use Rattle.ml_base.specs.Name as spec;
 
 /// A set of addresses that a list keeps.
@@ -73,9 +74,151 @@ pub struct Name {
     pub at: u64,
 }
 
+/// The table of files. The numbers of kinds stand in this file and in that of paths alone.
 impl Name {
     /// The log.
     pub const LOG: Name = Name { kind: 0, at: 0 };
+
+    /// The configuration.
+    pub const CONFIG: Name = Name { kind: 1, at: 0 };
+
+    /// The key, and the one before it.
+    pub const KEY: Name = Name { kind: 2, at: 0 };
+
+    /// The number of posts.
+    pub const NUMBER: Name = Name { kind: 11, at: 0 };
+
+    /// How far the digests have come.
+    pub const MARK: Name = Name { kind: 12, at: 0 };
+
+    /// The counter of the tickets of held posts.
+    pub const TICKETS: Name = Name { kind: 14, at: 0 };
+
+    /// The counter of the ids of queue entries.
+    pub const IDS: Name = Name { kind: 18, at: 0 };
+
+    /// The floor under kept replies.
+    pub const FLOOR: Name = Name { kind: 21, at: 0 };
+
+    /// The kind of the buckets of the set digest.
+    pub const DIGEST: u8 = 4;
+
+    /// The kind of posts.
+    pub const POST: u8 = 9;
+
+    /// The kind of the indexes of posts.
+    pub const INDEX: u8 = 10;
+
+    /// The kind of the buckets of the bounces of digests.
+    pub const DIGEST_BOUNCES: u8 = 16;
+
+    /// The kind of the files of threads.
+    pub const THREADS: u8 = 20;
+
+    /// One of the 53 buckets of a set.
+    pub fn bucket(set: Set, n: u8) -> Name
+        ensures name { result ≡ kinds.bucket_name set n }
+        ensures file { n < 53 → IsTrue (is_file result) }
+    {
+        Name {
+            kind: set.kind(),
+            at: n as u64,
+        }
+    }
+
+    /// How many members a set has.
+    pub fn count(set: Set) -> Name
+        ensures name { result ≡ kinds.count_name set }
+        ensures file { IsTrue (is_file result) }
+    {
+        Name {
+            kind: 8,
+            at: (set.kind() - 3) as u64,
+        }
+    }
+
+    /// A post, by its number.
+    pub fn post(number: u64) -> Name
+        ensures name { result ≡ kinds.post_name number }
+        ensures file { 1 ≤ number → number ≤ 99_999_999 → IsTrue (is_file result) }
+    {
+        Name {
+            kind: 9,
+            at: number,
+        }
+    }
+
+    /// The index of a group of 100 posts.
+    pub fn index(group: u64) -> Name
+        ensures name { result ≡ kinds.index_name group }
+        ensures file { group < 1_000_000 → IsTrue (is_file result) }
+    {
+        Name {
+            kind: 10,
+            at: group,
+        }
+    }
+
+    /// A held post, by its ticket.
+    pub fn held(ticket: u64) -> Name
+        ensures { result ≡ kinds.held_name ticket }
+    {
+        Name {
+            kind: 13,
+            at: ticket,
+        }
+    }
+
+    /// One of the 53 buckets of the list's bounces.
+    pub fn bounces(n: u8) -> Name
+        ensures name { result ≡ kinds.bounces_name n }
+        ensures file { n < 53 → IsTrue (is_file result) }
+    {
+        Name {
+            kind: 15,
+            at: n as u64,
+        }
+    }
+
+    /// One of the 53 buckets of the bounces of digests.
+    pub fn digest_bounces(n: u8) -> Name
+        ensures name { result ≡ kinds.digest_bounces_name n }
+        ensures file { n < 53 → IsTrue (is_file result) }
+    {
+        Name {
+            kind: 16,
+            at: n as u64,
+        }
+    }
+
+    /// A queue entry, by its id.
+    pub fn entry(id: u64) -> Name
+        ensures { result ≡ kinds.entry_name id }
+    {
+        Name { kind: 17, at: id }
+    }
+
+    /// The kept replies of a group of 512 numbers.
+    pub fn replies(group: u64) -> Name
+        ensures name { result ≡ kinds.replies_name group }
+        ensures file { group ≤ 1_953_124_999 → IsTrue (is_file result) }
+    {
+        Name {
+            kind: 19,
+            at: group,
+        }
+    }
+
+    /// One of the 256 files of threads.
+    pub fn threads(n: u8) -> Name
+        ensures name { result ≡ kinds.thread_name n }
+        ensures file { IsTrue (is_file result) }
+    {
+        Name {
+            kind: 20,
+            at: n as u64,
+        }
+    }
 
     /// Whether the table of files has this name: kinds 0 to 21, each with its places.
     pub fn is_in_table(self) -> bool

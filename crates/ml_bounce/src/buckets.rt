@@ -34,12 +34,11 @@ pub(crate) fn file_name(set: Set, n: u8) -> Name
     ensures name { result ≡ ledger_name (ledger_kind set) n }
     ensures file { n < 53 → IsTrue (is_file result) }
 {
-    let kind = match set {
-        Set::List => 15,
-        Set::Digest => 16,
+    match set {
+        Set::List => Name::bounces(n),
+        Set::Digest => Name::digest_bounces(n),
         _ => unreachable!(),
-    };
-    Name { kind, at: n as u64 }
+    }
 }
 
 // The put that writes the file of a key, or removes it.

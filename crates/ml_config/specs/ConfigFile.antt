@@ -6,6 +6,7 @@ use Rattle.ml_base.specs.declared.names.Name.{Name}
 use Rattle.ml_config.specs.Configuration.{IsConfig}
 use Rattle.ml_config.specs.declared.configuration.Config.{Config}
 use Rattle.ml_config.specs.declared.configuration.Flags.{Flags}
+pub use Rattle.ml_base.specs.Kinds.{config_name}
 
 -- the letter of an option: in lower case where it is set, and in upper case where it is clear
 abbrev pub letter : ℕ → Bool → ℕ
@@ -48,10 +49,6 @@ config_text c = values_text (values_of c)
 pub record Spells (bytes : Text) (c : Config) : Type 0 where
   pub is : IsConfig c
   pub text : bytes ≡ config_text c
-
--- the file of the configuration
-abbrev pub config_name : Name
-config_name = record { kind = 1; at = 0 }
 
 -- a file that holds this configuration
 pub record IsConfigFile (file : Option Text) (c : Config) : Type 0 where

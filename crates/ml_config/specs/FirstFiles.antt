@@ -4,6 +4,7 @@ use Rattle.std.specs.List.{range_with_len}
 use Rattle.ml_base.specs.Bytes.{Text}
 use Rattle.ml_base.specs.Dir.{Dir}
 use Rattle.ml_base.specs.declared.puts.Put.{Put}
+use Rattle.ml_base.specs.Kinds.{config_kind, key_kind, count_kind, number_kind, mark_kind, tickets_kind, ids_kind}
 use Rattle.ml_config.specs.ConfigFile.{config_text}
 use Rattle.ml_config.specs.declared.configuration.Config.{Config}
 
@@ -17,13 +18,13 @@ file_put kind at bytes = record { name = record { kind = kind; at = at }; bytes 
 
 -- what writes the count of a set without members
 abbrev pub empty_count : ℕ → Put
-empty_count set = file_put 8 set (with_lf (codes "0"))
+empty_count set = file_put count_kind set (with_lf (codes "0"))
 
 -- a put for each file of a new list
 unfoldable pub first_puts : Config → Text → List Put
 first_puts c key =
-    file_put 1 0 (config_text c) ∷ file_put 2 0 key ∷ map empty_count (range_with_len 0 5)
-    ++ (file_put 11 0 (with_lf (codes "0")) ∷ file_put 12 0 (with_lf (codes "0:0")) ∷ file_put 14 0 (with_lf (codes "1:1")) ∷ file_put 18 0 (with_lf (codes "1:1")) ∷ [])
+    file_put config_kind 0 (config_text c) ∷ file_put key_kind 0 key ∷ map empty_count (range_with_len 0 5)
+    ++ (file_put number_kind 0 (with_lf (codes "0")) ∷ file_put mark_kind 0 (with_lf (codes "0:0")) ∷ file_put tickets_kind 0 (with_lf (codes "1:1")) ∷ file_put ids_kind 0 (with_lf (codes "1:1")) ∷ [])
 
 -- a directory without any file
 abbrev pub no_files : Dir
@@ -33,10 +34,10 @@ no_files name = None
 -- and no digest, and neither a held post nor a queue entry, of which the next are number 1. No other file is there.
 abbrev pub first_files : Config → Text → Dir
 first_files c key name =
-    if name.kind == 1 && name.at == 0 then Some (config_text c)
-    else (if name.kind == 2 && name.at == 0 then Some key
-    else (if name.kind == 8 && nat_le name.at 4 then Some (with_lf (codes "0"))
-    else (if name.kind == 11 && name.at == 0 then Some (with_lf (codes "0"))
-    else (if name.kind == 12 && name.at == 0 then Some (with_lf (codes "0:0"))
-    else (if (name.kind == 14 || name.kind == 18) && name.at == 0 then Some (with_lf (codes "1:1"))
+    if name.kind == config_kind && name.at == 0 then Some (config_text c)
+    else (if name.kind == key_kind && name.at == 0 then Some key
+    else (if name.kind == count_kind && nat_le name.at 4 then Some (with_lf (codes "0"))
+    else (if name.kind == number_kind && name.at == 0 then Some (with_lf (codes "0"))
+    else (if name.kind == mark_kind && name.at == 0 then Some (with_lf (codes "0:0"))
+    else (if (name.kind == tickets_kind || name.kind == ids_kind) && name.at == 0 then Some (with_lf (codes "1:1"))
     else None)))))

@@ -7,6 +7,7 @@ use Rattle.ml_base.specs.declared.names.Name.{Name}
 use Rattle.ml_base.specs.declared.puts.Put.{Put}
 use Rattle.ml_config.specs.declared.key_file.Former.{Former}
 use Rattle.ml_config.specs.declared.key_file.Keys.{Keys}
+pub use Rattle.ml_base.specs.Kinds.{key_name}
 
 -- a former key of 32 bytes that was changed at a moment, in seconds since 1970 and before the year 10000
 pub record IsFormer (f : Former) : Type 0 where
@@ -26,10 +27,6 @@ former_text (Some f) = f.key ++ to_be_bytes w64 f.changed
 -- the bytes of the keys' file
 abbrev pub keys_text : Keys → Text
 keys_text keys = keys.key ++ former_text keys.former
-
--- the file of the keys
-abbrev pub key_name : Name
-key_name = record { kind = 2; at = 0 }
 
 -- a file that holds these keys
 pub record IsKeyFile (file : Option Text) (keys : Keys) : Type 0 where

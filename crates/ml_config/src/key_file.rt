@@ -13,8 +13,6 @@ ghost use Rattle.ml_config.specs.declared.key_file.Keys.{Keys};
 use ml_base::{Bytes, Files, Name, PartError, Put, Txn, is_moment};
 use std::alloc::{AllocError, Global};
 
-const KEY: Name = Name { kind: 2, at: 0 };
-
 /// A key that another has replaced. A key is a secret, so it has no `Debug`.
 #[derive(Clone, Copy, PartialEq, Eq)]
 pub struct Former {
@@ -39,10 +37,10 @@ pub fn key<F: Files>(alloc: Global, files: &mut F) -> Result<Keys, PartError>
     ensures sound { IsTrue F.tells → (keys : Keys) → IsKeyFile (F.map files.old key_name) keys → IfErr result (λ e. OnDamaged e (λ _. ⊥)) }
     ensures reads { IsReading ⟦<F as Files>⟧ files.old files.new result }
 {
-    let file = files.get(alloc, KEY)?;
+    let file = files.get(alloc, Name::KEY)?;
     match keys_of(file.as_ref()) {
         Some(keys) => Ok(keys),
-        None => Err(PartError::Damaged(KEY)),
+        None => Err(PartError::Damaged(Name::KEY)),
     }
 }
 
@@ -100,7 +98,7 @@ pub fn set_keys(alloc: Global, keys: &Keys) -> Result<Txn, AllocError>
     let keys = *keys;
     let mut txn = Txn::new(alloc);
     txn.push(Put {
-        name: KEY,
+        name: Name::KEY,
         bytes: Some(write_keys(alloc, keys)?),
     })?;
     Ok(txn)

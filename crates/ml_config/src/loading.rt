@@ -11,8 +11,6 @@ use crate::{Config, read_config};
 use ml_base::{Bytes, Files, Name, PartError};
 use std::alloc::Global;
 
-const CONFIG: Name = Name { kind: 1, at: 0 };
-
 /// The configuration that the list's files hold, or None exactly where its file is absent. `Damaged` names that file and
 /// comes only where it is there and holds no configuration. `Fault` comes only where a read failed.
 pub fn load<F: Files>(alloc: Global, files: &mut F) -> Result<Option<Config>, PartError>
@@ -23,7 +21,7 @@ pub fn load<F: Files>(alloc: Global, files: &mut F) -> Result<Option<Config>, Pa
     ensures sound { IsTrue F.tells → (c : Config) → IsConfigFile (F.map files.old config_name) c → IfErr result (λ e. OnDamaged e (λ _. ⊥)) }
     ensures reads { IsReading ⟦<F as Files>⟧ files.old files.new result }
 {
-    let file = files.get(alloc, CONFIG)?;
+    let file = files.get(alloc, Name::CONFIG)?;
     loaded(alloc, file)
 }
 
@@ -42,6 +40,6 @@ fn loaded(alloc: Global, file: Option<Bytes>) -> Result<Option<Config>, PartErro
     };
     match read_config(alloc, bytes.as_slice())? {
         Some(config) => Ok(Some(config)),
-        None => Err(PartError::Damaged(CONFIG)),
+        None => Err(PartError::Damaged(Name::CONFIG)),
     }
 }

@@ -13,8 +13,6 @@ use crate::writing::add_number;
 use ml_base::{Bytes, Files, Name, PartError, Put, Txn, number_within, split_first};
 use std::alloc::{AllocError, Global};
 
-const MARK: Name = Name { kind: 12, at: 0 };
-
 // The largest number of a post.
 const LAST_POST: u64 = 99_999_999;
 
@@ -28,10 +26,10 @@ pub fn mark<F: Files>(alloc: Global, files: &mut F) -> Result<Mark, PartError>
     ensures sound { IsTrue F.tells → (mark : Mark) → IsMark (F.map files.old) mark → IfErr result (λ e. OnDamaged e (λ _. ⊥)) }
     ensures reads { IsReading ⟦<F as Files>⟧ files.old files.new result }
 {
-    let file = files.get(alloc, MARK)?;
+    let file = files.get(alloc, Name::MARK)?;
     match read_mark(&file) {
         Some(mark) => Ok(mark),
-        None => Err(PartError::Damaged(MARK)),
+        None => Err(PartError::Damaged(Name::MARK)),
     }
 }
 
@@ -72,7 +70,7 @@ pub fn set_mark(alloc: Global, mark: &Mark) -> Result<Txn, AllocError>
 {
     let mut txn = Txn::new(alloc);
     txn.push(Put {
-        name: MARK,
+        name: Name::MARK,
         bytes: Some(write_mark(alloc, mark)?),
     })?;
     Ok(txn)

@@ -19,8 +19,8 @@ impl Series {
         ensures { result ≡ thing_name self n }
     {
         match self {
-            Series::Tickets => Name { kind: 13, at: n },
-            Series::Ids => Name { kind: 17, at: n },
+            Series::Tickets => Name::held(n),
+            Series::Ids => Name::entry(n),
         }
     }
 
@@ -29,8 +29,8 @@ impl Series {
         ensures { result ≡ counter_name self }
     {
         match self {
-            Series::Tickets => Name { kind: 14, at: 0 },
-            Series::Ids => Name { kind: 18, at: 0 },
+            Series::Tickets => Name::TICKETS,
+            Series::Ids => Name::IDS,
         }
     }
 }

@@ -9,6 +9,7 @@ use Rattle.ml_journal.specs.declared.errors.OpenError.{OpenError}
 use Rattle.ml_journal.specs.declared.errors.OpenError.TheVariants as opens
 use Rattle.ml_ending.specs.declared.lines.Why.{Why}
 use Rattle.ml_ending.specs.declared.lines.Why.TheVariants as whys
+pub use Rattle.ml_base.specs.Kinds.{log_name}
 
 -- the status of a run that ends early
 abbrev pub status_of_why : Why → ℕ
@@ -37,10 +38,6 @@ why_of_part (parts.Damaged name) = whys.At name
 abbrev pub why_of_commit : CommitError → Why
 why_of_commit commits.Fault = whys.Disk
 why_of_commit commits.Memory = whys.Memory
-
--- the file of the log
-abbrev pub log_name : Name
-log_name = record { kind = 0; at = 0 }
 
 -- why a run ends whose store was not opened
 abbrev pub why_of_open : OpenError → Why

@@ -22,7 +22,7 @@ pub fn not_opened(error: OpenError) -> Why
 {
     match error {
         OpenError::Fault => Why::Disk,
-        OpenError::Damaged => Why::At(Name { kind: 0, at: 0 }),
+        OpenError::Damaged => Why::At(Name::LOG),
         OpenError::Memory => Why::Memory,
     }
 }

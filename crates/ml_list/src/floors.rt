@@ -10,8 +10,6 @@ ghost use Rattle.ml_list.specs.Lookups.{IsInRange};
 use ml_base::{Bytes, Files, Name, PartError, number_within, write_number};
 use std::alloc::{AllocError, Global};
 
-pub(crate) const FLOOR: Name = Name { kind: 21, at: 0 };
-
 const MAX_NUMBER: u64 = 999_999_999_999;
 
 /// The floor under the kept replies: the number in its file, or 1 where that is absent. It reads that file alone.
@@ -23,10 +21,10 @@ pub fn floor<F: Files>(alloc: Global, files: &mut F) -> Result<u64, PartError>
     ensures sound { IsTrue F.tells → (n : ℕ) → IsFloorFile (F.map files.old floor_name) n → IfErr result (λ e. OnDamaged e (λ _. ⊥)) }
     ensures reads { IsReading ⟦<F as Files>⟧ files.old files.new result }
 {
-    let file = files.get(alloc, FLOOR)?;
+    let file = files.get(alloc, Name::FLOOR)?;
     match read_floor(&file) {
         Some(floor) => Ok(floor),
-        None => Err(PartError::Damaged(FLOOR)),
+        None => Err(PartError::Damaged(Name::FLOOR)),
     }
 }
 

@@ -19,7 +19,7 @@ ghost use Rattle.ml_list.specs.Rising.{removals, rise_puts};
 ghost use Rattle.ml_plain.specs.declared.Act.TheVariants as acts;
 ghost use Rattle.ml_plain.specs.KeptFiles.{IsEmptied};
 
-use crate::floors::{FLOOR, floor_of, floor_text};
+use crate::floors::{floor_of, floor_text};
 use crate::slots::{Known, SIZE, SLOTS, replies_name};
 use ml_base::{Bytes, Files, Name, PartError, Put, Txn, copied, put_piece};
 use ml_plain::Reply;
@@ -146,7 +146,7 @@ fn rise_txn(
     remove_files(&mut txn, floor / SLOTS, at / SLOTS)?;
     txn.push(Put { name, bytes })?;
     txn.push(Put {
-        name: FLOOR,
+        name: Name::FLOOR,
         bytes: Some(floor_text(alloc, at)?),
     })?;
     Ok(txn)
@@ -159,10 +159,7 @@ fn remove_files(txn: &mut Txn, from: u64, to: u64) -> Result<(), AllocError>
 {
     for group in from..to {
         txn.push(Put {
-            name: Name {
-                kind: 19,
-                at: group,
-            },
+            name: Name::replies(group),
             bytes: None,
         })?;
     }

@@ -30,10 +30,7 @@ pub(crate) fn replies_name(number: u64) -> Name
     ensures name { result ≡ states.replies_name (number / 512) }
     ensures file { IsTrue (is_file result) }
 {
-    Name {
-        kind: 19,
-        at: number / SLOTS,
-    }
+    Name::replies(number / SLOTS)
 }
 
 // Whether a slot may hold a reply.

@@ -6,6 +6,7 @@ ghost use Rattle.ml_base.specs.Dir.{Dir, with_file, with_puts, touches_only};
 ghost use Rattle.ml_base.specs.declared.names.Name.{Name};
 ghost use Rattle.ml_base.specs.declared.names.Set.{Set};
 ghost use Rattle.ml_base.specs.declared.puts.Put.{Put};
+ghost use Rattle.ml_base.specs.Kinds.{bounces_kind, digest_bounces_kind};
 ghost use Rattle.ml_archive.specs.Threads.{IsArchive};
 ghost use Rattle.ml_archive.specs.declared.posts.Post.{Post};
 ghost use Rattle.ml_bounce.specs.Files.{IsLedger};
@@ -106,9 +107,9 @@ pub fn law_parts()
     ensures held { (dir : Dir) (p : Plain) (puts : List Put) (held : Pending) → IsList dir p → touches_only (λ name. held_kinds name.kind) puts ≡ true →
         IsPending (with_puts dir puts) held → IsList (with_puts dir puts) (record p { held = held }) }
     ensures list_ledger { (dir : Dir) (p : Plain) (puts : List Put) (ledger : Ledger) → IsList dir p → touches_only (λ name. list_ledger_kinds name.kind) puts ≡ true →
-        IsLedger (with_puts dir puts) 15 ledger → IsList (with_puts dir puts) (record p { list_ledger = ledger }) }
+        IsLedger (with_puts dir puts) bounces_kind ledger → IsList (with_puts dir puts) (record p { list_ledger = ledger }) }
     ensures digest_ledger { (dir : Dir) (p : Plain) (puts : List Put) (ledger : Ledger) → IsList dir p → touches_only (λ name. digest_ledger_kinds name.kind) puts ≡ true →
-        IsLedger (with_puts dir puts) 16 ledger → IsList (with_puts dir puts) (record p { digest_ledger = ledger }) }
+        IsLedger (with_puts dir puts) digest_bounces_kind ledger → IsList (with_puts dir puts) (record p { digest_ledger = ledger }) }
     ensures queue { (dir : Dir) (p : Plain) (puts : List Put) (queue : Queue) → IsList dir p → touches_only (λ name. queue_kinds name.kind) puts ≡ true →
         IsQueue (with_puts dir puts) queue → IsList (with_puts dir puts) (record p { queue = queue }) }
     ensures mark { (dir : Dir) (p : Plain) (puts : List Put) (mark : Mark) → IsList dir p → touches_only (λ name. mark_kinds name.kind) puts ≡ true →

@@ -13,9 +13,6 @@ use ml_base::{Bytes, Files, LAST_MOMENT, Name, PartError};
 use ml_mbox::push_mail;
 use std::alloc::Global;
 
-// The number of posts.
-const NUMBER: Name = Name { kind: 11, at: 0 };
-
 // An index that was read.
 #[derive(Drop)]
 struct Index {
@@ -67,7 +64,7 @@ fn push_post<F: Files>(
     ensures reads { IsReading ⟦<F as Files>⟧ files.old files.new result }
 {
     let Some(entry) = entry_for(entries, number) else {
-        return Err(PartError::Damaged(NUMBER));
+        return Err(PartError::Damaged(Name::NUMBER));
     };
     let message = message_of(alloc, files, entry)?;
     push_mail(

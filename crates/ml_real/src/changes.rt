@@ -14,8 +14,6 @@ use std::io::ErrorKind;
 const MOST_KEPT: usize = 256;
 
 // The configuration of a list.
-const CONFIG: Name = Name { kind: 1, at: 0 };
-
 /// The log, files and folders that were changed since the last good sync.
 #[derive(Drop)]
 pub(crate) struct Changes {
@@ -346,7 +344,7 @@ fn renewed(
 
 // Whether there is a configuration, which comes with the first change that a list's log had.
 fn has_config(rt: &HostRuntime, paths: &mut Paths<'_>) -> bool {
-    match paths.file(CONFIG) {
+    match paths.file(Name::CONFIG) {
         Ok(path) => matches!(length_of(rt, path), Ok(Some(_))),
         Err(_) => false,
     }

@@ -1,6 +1,6 @@
 // The folders of a list, and the paths of its files.
 use memchr::memchr_iter;
-use ml_base::{Name, path};
+use ml_base::{Name, Set, path};
 use std::alloc::{AllocError, Global};
 use std::io::ErrorKind;
 use std::{io, str};
@@ -29,13 +29,10 @@ impl Place {
             return Place::LIST;
         }
         let file = match name.kind {
-            9 | 10 | 20 if depth == 1 => Name { kind: 20, at: 1 },
-            4 | 16 if depth == 1 => Name { kind: 4, at: 1 },
-            9 => Name {
-                kind: 10,
-                at: name.at / 100,
-            },
-            10 => name,
+            Name::POST | Name::INDEX | Name::THREADS if depth == 1 => Name::threads(1),
+            Name::DIGEST | Name::DIGEST_BOUNCES if depth == 1 => Name::bucket(Set::Digest, 1),
+            Name::POST => Name::index(name.at / 100),
+            Name::INDEX => name,
             kind => Name { kind, at: 1 },
         };
         Place { depth, file }

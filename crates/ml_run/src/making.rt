@@ -26,8 +26,6 @@ use ml_site::Site;
 use std::alloc::{AllocError, Global};
 
 // The file of the configuration.
-const CONFIG: Name = Name { kind: 1, at: 0 };
-
 /// Makes a list with this configuration and this key on a site, and hands the site back. The list's files are written in one
 /// commit, the store is closed, and `made LOCAL@HOST` is given.
 ///
@@ -110,7 +108,7 @@ fn made<S: Site>(alloc: Global, store: Store<S>, txn: &Txn, line: &[u8]) -> (u8,
     ensures output_later { S.output_faults (site_of store) ≤ S.output_faults result.1 }
 {
     let mut store = store;
-    match store.get(alloc, CONFIG) {
+    match store.get(alloc, Name::CONFIG) {
         Ok(Some(_)) => unmade(alloc, store, Why::There),
         Ok(None) => committed(alloc, store, txn, line),
         Err(FilesError::Fault) => unmade(alloc, store, Why::Disk),

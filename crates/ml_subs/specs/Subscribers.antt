@@ -10,14 +10,7 @@ use Rattle.ml_subs.specs.declared.lists.Spelling.{Spelling}
 use Rattle.ml_subs.specs.declared.member_list.Member.{Member}
 use Rattle.ml_subs.specs.Members.{member_of, has_key, IsOrdered}
 use Rattle.ml_subs.specs.Buckets.{bucket_of, IsBucketFile}
-
--- the name of one bucket's file
-abbrev pub bucket_name : Set → ℕ → Name
-bucket_name set n = record { kind = set_kind set; at = n }
-
--- the name of the file with a set's count
-abbrev pub count_name : Set → Name
-count_name set = record { kind = 8; at = set_number set }
+pub use Rattle.ml_base.specs.Kinds.{bucket_name, count_name}
 
 -- a count in decimal, and LF
 abbrev pub count_text : ℕ → Text

@@ -10,10 +10,9 @@ ghost use Rattle.ml_subs.specs.Subscribers as spec;
 ghost use Rattle.ml_subs.specs.Reading.{counted};
 
 use crate::counts::count_of;
-use crate::names::{bucket_name, count_name};
 use crate::places::split_layout;
 use crate::records::count_members;
-use ml_base::{Bytes, Files, PartError, Set};
+use ml_base::{Bytes, Files, Name, PartError, Set};
 use std::alloc::Global;
 
 // How many members a bucket's file has, or None where it is outside its grammar.
@@ -37,7 +36,7 @@ fn audit_bucket<F: Files>(alloc: Global, files: &mut F, set: Set, n: u8) -> Resu
     ensures names { NamesDamaged ⟦<F as Files>⟧ (λ name. name ≡ spec.bucket_name set n) (λ _. IsNoBucket (F.map files.old) set n) result }
     ensures reads { IsReading ⟦<F as Files>⟧ files.old files.new result }
 {
-    let name = bucket_name(set, n);
+    let name = Name::bucket(set, n);
     let file = files.get(alloc, name)?;
     match count_bucket(n, &file) {
         Some(count) => Ok(count as u64),
@@ -69,7 +68,7 @@ fn audit_set<F: Files>(alloc: Global, files: &mut F, set: Set) -> Result<(), Par
     if found == count {
         Ok(())
     } else {
-        Err(PartError::Damaged(count_name(set)))
+        Err(PartError::Damaged(Name::count(set)))
     }
 }
 

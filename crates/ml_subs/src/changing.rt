@@ -4,8 +4,7 @@ ghost use Rattle.std.specs.Option.{option_map};
 ghost use Rattle.ml_subs.specs.Answers as answers;
 
 use crate::counts::write_count;
-use crate::names::{bucket_name, count_name};
-use ml_base::{Bytes, Put, Set, Txn};
+use ml_base::{Bytes, Name, Put, Set, Txn};
 use std::alloc::{AllocError, Global};
 
 /// What adding an address to a set answers.
@@ -31,11 +30,11 @@ pub(crate) fn changes(
 {
     let mut txn = Txn::new(alloc);
     txn.push(Put {
-        name: bucket_name(set, n),
+        name: Name::bucket(set, n),
         bytes,
     })?;
     txn.push(Put {
-        name: count_name(set),
+        name: Name::count(set),
         bytes: Some(write_count(alloc, count)?),
     })?;
     Ok(txn)

@@ -4,8 +4,7 @@ ghost use Rattle.ml_base.specs.ReadFiles.{IsReading, NamesDamaged};
 ghost use Rattle.ml_subs.specs.Subscribers.{count_text, IsNoCount};
 ghost use Rattle.ml_subs.specs.Subscribers as spec;
 
-use crate::names::count_name;
-use ml_base::{Bytes, Files, PartError, Set, number_within, write_number};
+use ml_base::{Bytes, Files, Name, PartError, Set, number_within, write_number};
 use std::alloc::{AllocError, Global};
 
 pub(crate) const MAX_MEMBERS: u64 = 100_000;
@@ -47,7 +46,7 @@ pub(crate) fn count_of<F: Files>(
     ensures names { NamesDamaged ⟦<F as Files>⟧ (λ name. name ≡ spec.count_name set) (λ _. IsNoCount (F.map files.old) set least) result }
     ensures reads { IsReading ⟦<F as Files>⟧ files.old files.new result }
 {
-    let name = count_name(set);
+    let name = Name::count(set);
     let file = files.get(alloc, name)?;
     let Some(count) = read_count(&file) else {
         return Err(PartError::Damaged(name));

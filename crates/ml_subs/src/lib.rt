@@ -11,7 +11,6 @@ mod keyed;
 mod laws;
 mod lists;
 mod member_list;
-mod names;
 mod places;
 mod records;
 mod rewriting;

@@ -13,11 +13,10 @@ ghost use Rattle.ml_subs.specs.Subscribers.{AreSubscribers, AreJoined, AreBucket
 ghost use Rattle.ml_subs.specs.Reading.{AreRead, gathered, AreAdded};
 
 use crate::keyed::Keyed;
-use crate::names::bucket_name;
 use crate::places::split_layout;
 use crate::records::{Layout, next_member};
 use crate::{Member, MemberList};
-use ml_base::{AddressList, Bytes, Files, PartError, Row, Set};
+use ml_base::{AddressList, Bytes, Files, Name, PartError, Row, Set};
 use std::alloc::{AllocError, Global};
 
 // Adds the members that bytes spell. False where they spell none of the bucket in order.
@@ -72,7 +71,7 @@ fn read_files<F: Files>(
 {
     let mut texts = Row::new(alloc);
     for n in 0..53 {
-        let file = files.get(alloc, bucket_name(set, n))?;
+        let file = files.get(alloc, Name::bucket(set, n))?;
         texts.push(file)?;
     }
     Ok(texts)
@@ -93,7 +92,7 @@ fn spelled_members<'a>(
     for n in 0..53 {
         let file = &texts.as_slice()[n as usize];
         if !add_bucket(n, file, &mut found)? {
-            return Err(PartError::Damaged(bucket_name(set, n)));
+            return Err(PartError::Damaged(Name::bucket(set, n)));
         }
     }
     Ok(found)

@@ -73,10 +73,7 @@ fn group_of<F: Files>(
     }
     let entries = index(alloc, files, group)?;
     if !are_short(entries.as_slice()) {
-        return Err(PartError::Damaged(Name {
-            kind: 10,
-            at: group,
-        }));
+        return Err(PartError::Damaged(Name::index(group)));
     }
     Ok(entries)
 }

@@ -47,13 +47,13 @@ returns-then-found-count-clause-value g c told =
 
 pub returns-else-found-count-clause-names : goal.returns-else-found-count-clause-names
 returns-else-found-count-clause-names g c = record {
-  named = count_of_set c.args.set c.count_name.result c.count_name.ensures;
+  named = count_of_set c.args.set c.count.result c.count.ensures.name;
   damaged = λ told.
       let found = c.in_ok-found.ensures.value told in
       let count = c.in_ok-count.ensures.value told in
       let same = g.met.F.Files.kept_map c.args.files.now c.audit_buckets.new.files told c.audit_buckets.ensures.reads.kept in
       inr (
-        c.count_name.ensures,
+        c.count.ensures.name,
         (found.0, found.1),
         uncounted_set (g.F.Files.map c.args.files.now) c.args.set c.in_ok-found.found c.in_ok-count.count found count.1 (sym (ap (λ (dir : Dir). dir (count_name c.args.set)) same) ∙ count.2) c.if-found-count.false,
       );

@@ -19,7 +19,7 @@ pub returns-then-is_some-clause-read : goal.returns-then-is_some-clause-read
 returns-then-is_some-clause-read g c told =
     let place = c.in-Some.ensures.some in (
       joined place.0,
-      bucket_there (g.F.Files.map c.args.files.now) c.args.set (key c.args.a.now) c.bucket-n.result c.bucket_name-name.result c.in_ok-file.file (joined place.0) c.bucket-n.ensures.value c.bucket_name-name.ensures (c.in_ok-file.ensures.value told) place.1,
+      bucket_there (g.F.Files.map c.args.files.now) c.args.set (key c.args.a.now) c.bucket-n.result c.bucket-name.result c.in_ok-file.file (joined place.0) c.bucket-n.ensures.value c.bucket-name.ensures.name (c.in_ok-file.ensures.value told) place.1,
       sides_has c.in-Some.place.here place.0 ∙ sym c.is_some.ensures ∙ c.if-is_some.true,
     )
 
@@ -34,7 +34,7 @@ returns-then-count-eq-MAX_MEMBERS-clause-read g c told =
     let count = c.in_ok-count.ensures.value told in
     let same = g.met.F.Files.kept_map c.args.files.now c.get.new.self told c.get.ensures.kept in (
       joined place.0,
-      bucket_there (g.F.Files.map c.args.files.now) c.args.set (key c.args.a.now) c.bucket-n.result c.bucket_name-name.result c.in_ok-file.file (joined place.0) c.bucket-n.ensures.value c.bucket_name-name.ensures (c.in_ok-file.ensures.value told) place.1,
+      bucket_there (g.F.Files.map c.args.files.now) c.args.set (key c.args.a.now) c.bucket-n.result c.bucket-name.result c.in_ok-file.file (joined place.0) c.bucket-n.ensures.value c.bucket-name.ensures.name (c.in_ok-file.ensures.value told) place.1,
       (
         sides_has c.in-Some.place.here place.0 ∙ sym c.is_some.ensures ∙ c.if-is_some.false,
         sym (ap (λ (dir : Dir). dir (count_name c.args.set)) same) ∙ count.2 ∙ ap (λ n. Some (count_text n)) c.if-count-eq-MAX_MEMBERS.true,
@@ -66,7 +66,7 @@ returns-clause-read g c told =
     let m = member_by c.args.a.now c.args.now in
     let text = ap Some (c.in_ok-text.ensures.text (place.0).below (place.0).above (place.0).around) ∙ sym (file_with (place.0).below (place.0).above m) ∙ sym (ap bucket_file (sides_with m c.in-Some.place.here place.0 (sym c.is_some.ensures ∙ c.if-is_some.false))) in (
       joined place.0,
-      bucket_there (g.F.Files.map c.args.files.now) c.args.set (key c.args.a.now) c.bucket-n.result c.bucket_name-name.result c.in_ok-file.file (joined place.0) c.bucket-n.ensures.value c.bucket_name-name.ensures (c.in_ok-file.ensures.value told) place.1,
+      bucket_there (g.F.Files.map c.args.files.now) c.args.set (key c.args.a.now) c.bucket-n.result c.bucket-name.result c.in_ok-file.file (joined place.0) c.bucket-n.ensures.value c.bucket-name.ensures.name (c.in_ok-file.ensures.value told) place.1,
       (
         sides_has c.in-Some.place.here place.0 ∙ sym c.is_some.ensures ∙ c.if-is_some.false,
         (
@@ -93,7 +93,7 @@ returns-in_err-count-clause-names g c =
           let dir = g.F.Files.map c.args.files.now in
           let place = c.in-Some.ensures.some in
           let same = g.met.F.Files.kept_map c.args.files.now c.get.new.self told c.get.ensures.kept in
-          let there = bucket_there dir c.args.set (key c.args.a.now) c.bucket-n.result c.bucket_name-name.result c.in_ok-file.file (joined place.0) c.bucket-n.ensures.value c.bucket_name-name.ensures (c.in_ok-file.ensures.value told) place.1 in
+          let there = bucket_there dir c.args.set (key c.args.a.now) c.bucket-n.result c.bucket-name.result c.in_ok-file.file (joined place.0) c.bucket-n.ensures.value c.bucket-name.ensures.name (c.in_ok-file.ensures.value told) place.1 in
           let none = subst (λ (d : Dir). OnDamaged e (λ _. IsNoCount d c.args.set 0)) same (failed.damaged told) in
           let unread : OnDamaged e (IsUnread dir c.args.set (key c.args.a.now) false) =
           on_both e (λ name. name ≡ count_name c.args.set) (λ _. IsNoCount dir c.args.set 0) (IsUnread dir c.args.set (key c.args.a.now) false) (unread_count dir c.args.set (key c.args.a.now) false (joined place.0) there (sides_has c.in-Some.place.here place.0 ∙ sym c.is_some.ensures ∙ c.if-is_some.false)) failed.named none in

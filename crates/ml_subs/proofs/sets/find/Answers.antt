@@ -10,7 +10,7 @@ pub returns-in-Some-here-clause-read : goal.returns-in-Some-here-clause-read
 returns-in-Some-here-clause-read g c told =
     let place = c.in-Some.ensures.some in (
       joined place.0,
-      bucket_there (g.F.Files.map c.args.files.now) c.args.set (key c.args.a.now) c.bucket-n.result c.bucket_name-name.result c.in_ok-file.file (joined place.0) c.bucket-n.ensures.value c.bucket_name-name.ensures (c.in_ok-file.ensures.value told) place.1,
+      bucket_there (g.F.Files.map c.args.files.now) c.args.set (key c.args.a.now) c.bucket-n.result c.bucket-name.result c.in_ok-file.file (joined place.0) c.bucket-n.ensures.value c.bucket-name.ensures.name (c.in_ok-file.ensures.value told) place.1,
       ap Some c.in_ok-member_from-in-Some-here.ensures ∙ sym (ap (option_map as_member) c.in-Some-here.is) ∙ sym (sides_found place.0),
     )
 
@@ -23,7 +23,7 @@ pub returns-clause-read : goal.returns-clause-read
 returns-clause-read g c told =
     let place = c.in-Some.ensures.some in (
       joined place.0,
-      bucket_there (g.F.Files.map c.args.files.now) c.args.set (key c.args.a.now) c.bucket-n.result c.bucket_name-name.result c.in_ok-file.file (joined place.0) c.bucket-n.ensures.value c.bucket_name-name.ensures (c.in_ok-file.ensures.value told) place.1,
+      bucket_there (g.F.Files.map c.args.files.now) c.args.set (key c.args.a.now) c.bucket-n.result c.bucket-name.result c.in_ok-file.file (joined place.0) c.bucket-n.ensures.value c.bucket-name.ensures.name (c.in_ok-file.ensures.value told) place.1,
       sym (ap (option_map as_member) c.in-None.is) ∙ sym (sides_found place.0),
     )
 
