@@ -2,7 +2,7 @@
 use Rattle.std.specs.Prelude.{◌≡◌, ◌<◌, ◌+◌, ◌++◌, take, drop, is_ok, ℕ, Bool, not, ◌&&◌, ◌||◌, ◌==◌, nat_lt, nat_le, [], ◌∷◌, length, Option, Some, None, Result, Ok, Err, if◌then◌else◌}
 use Rattle.std.specs.List.{list_all}
 use Rattle.std.specs.Char.{is_ascii_alphabetic, is_ascii_digit}
-use Rattle.ml_base.specs.Bytes.{Text, lower, is_empty, split_last}
+use Rattle.ml_base.specs.Bytes.{Text, lower, is_empty, split_last, at_sign, hyphen}
 use Rattle.ml_base.specs.declared.address.AddressFault.{AddressFault}
 use Rattle.ml_base.specs.declared.address.AddressFault.TheVariants.{TooLong, NoAt, EmptyPart, BadByte}
 use Rattle.ml_base.specs.declared.address.AddressError.{AddressError}
@@ -14,11 +14,11 @@ key address = lower address
 
 -- 33 to 126, without `@`
 abbrev pub is_local_byte : ℕ → Bool
-is_local_byte b = nat_le 33 b && nat_le b 126 && not (b == 64)
+is_local_byte b = nat_le 33 b && nat_le b 126 && not (b == at_sign)
 
 -- a letter, a digit, `-`, `_` or `.`
 abbrev pub is_host_byte : ℕ → Bool
-is_host_byte b = is_ascii_alphabetic b || is_ascii_digit b || b == 45 || b == 95 || b == 46
+is_host_byte b = is_ascii_alphabetic b || is_ascii_digit b || b == hyphen || b == 95 || b == 46
 
 abbrev pub check_bytes : Text → Text → Result (Unit {0}) AddressFault
 check_bytes local host = if list_all is_local_byte local && list_all is_host_byte host then Ok tt else Err BadByte
@@ -33,11 +33,11 @@ are_parts local host = nat_lt (length local + length host) 400 && not (is_empty 
 
 -- whether a text, split at its last `@`, is an address, and else the first of the four faults that it has
 abbrev pub address_check : Text → Result (Unit {0}) AddressFault
-address_check text = if nat_lt 400 (length text) then Err TooLong else check_parts (split_last 64 text)
+address_check text = if nat_lt 400 (length text) then Err TooLong else check_parts (split_last at_sign text)
 
 -- whether two parts make an address with an `@` between them
 abbrev pub make_address : Text → Text → Bool
-make_address local host = is_ok (address_check (local ++ 64 ∷ host))
+make_address local host = is_ok (address_check (local ++ at_sign ∷ host))
 
 -- the part before the last `@`
 abbrev pub before_at : Option (Text × Text) → Text
@@ -50,14 +50,14 @@ behind_at None = []
 behind_at (Some parts) = parts.1
 
 abbrev pub local_of : Text → Text
-local_of address = before_at (split_last 64 address)
+local_of address = before_at (split_last at_sign address)
 
 abbrev pub host_of : Text → Text
-host_of address = behind_at (split_last 64 address)
+host_of address = behind_at (split_last at_sign address)
 
 -- the spelling that is kept: the host in lower case
 abbrev pub as_address : Text → Text
-as_address text = local_of text ++ 64 ∷ lower (host_of text)
+as_address text = local_of text ++ at_sign ∷ lower (host_of text)
 
 -- the address that a text spells, as it is kept
 abbrev pub address_of : Text → Option Text
@@ -77,4 +77,4 @@ IsFaultOf errors.Memory text = Unit {0}
 pub record IsAddressAt (address : Text) (at : ℕ) : Type 0 where
   pub is : IsAddress address
   pub within : at < length address
-  pub parts : split_last 64 address ≡ Some (take at address, drop (at + 1) address)
+  pub parts : split_last at_sign address ≡ Some (take at address, drop (at + 1) address)

@@ -5,6 +5,40 @@ use Rattle.std.specs.Str.{str_to_ascii_lowercase}
 abbrev pub Text : Type 0
 Text = List ℕ
 
+-- bytes by their names
+abbrev pub nul : ℕ
+nul = 0
+
+abbrev pub tab : ℕ
+tab = 9
+
+abbrev pub line_feed : ℕ
+line_feed = 10
+
+abbrev pub carriage_return : ℕ
+carriage_return = 13
+
+abbrev pub space : ℕ
+space = 32
+
+abbrev pub comma : ℕ
+comma = 44
+
+abbrev pub hyphen : ℕ
+hyphen = 45
+
+abbrev pub slash : ℕ
+slash = 47
+
+abbrev pub colon : ℕ
+colon = 58
+
+abbrev pub greater_than : ℕ
+greater_than = 62
+
+abbrev pub at_sign : ℕ
+at_sign = 64
+
 -- the bytes with ASCII's capital letters in lower case
 abbrev pub lower : Text → Text
 lower text = str_to_ascii_lowercase text
@@ -26,4 +60,4 @@ split_last byte (x ∷ xs) = onto_split x (x == byte) xs (split_last byte xs)
 
 -- the zero byte, which separates the records of some files
 abbrev pub is_nul : ℕ → Bool
-is_nul b = b == 0
+is_nul b = b == nul

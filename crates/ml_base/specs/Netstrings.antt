@@ -2,18 +2,18 @@
 use Rattle.std.specs.Prelude.{ℕ, suc, ◌+◌, ◌-◌, ◌*◌, true, false, ◌==◌, nat_lt, [], ◌∷◌, ◌++◌, length, take, drop, Option, Some, None, if◌then◌else◌}
 use Rattle.std.specs.Option.{option_and_then}
 use Rattle.std.specs.Fmt.{decimal}
-use Rattle.ml_base.specs.Bytes.{Text}
+use Rattle.ml_base.specs.Bytes.{Text, colon, comma}
 use Rattle.ml_base.specs.Numbers.{is_next_digit}
 
 -- the netstring of a content
 abbrev pub ns : Text → Text
-ns content = decimal (length content) ++ 58 ∷ content ++ 44 ∷ []
+ns content = decimal (length content) ++ colon ∷ content ++ comma ∷ []
 
 -- the length up to a limit, and the bytes behind its colon; so many digits of this value stand before
 abbrev pub length_from : ℕ → ℕ → ℕ → Text → Option (ℕ × Text)
 length_from limit count n [] = None
 length_from limit count n (b ∷ bs) =
-    elim (b == 58) [
+    elim (b == colon) [
       | true ↦ if count == 0 then None else Some (n, bs)
       | false ↦ elim (is_next_digit limit count n b) [ true ↦ length_from limit (suc count) (10 * n + (b - 48)) bs | false ↦ None ]
     ]
@@ -21,7 +21,7 @@ length_from limit count n (b ∷ bs) =
 -- a content and the bytes behind its comma
 abbrev pub before_comma : Text → Text → Option (Text × Text)
 before_comma content [] = None
-before_comma content (b ∷ rest) = if b == 44 then Some (content, rest) else None
+before_comma content (b ∷ rest) = if b == comma then Some (content, rest) else None
 
 -- a content of this length, and the bytes behind its comma
 abbrev pub content_of : ℕ → Text → Option (Text × Text)

@@ -1,7 +1,7 @@
 -- Where a text is split: at a byte, and into lines.
 use Rattle.std.specs.Prelude.{◌≡◌, ℕ, ◌<◌, ◌^◌, Bool, false, ◌==◌, List, [], ◌∷◌, ◌++◌, length, Option, Some, None, if◌then◌else◌}
 use Rattle.std.specs.List.{list_any, AllByRecursion}
-use Rattle.ml_base.specs.Bytes.{Text}
+use Rattle.ml_base.specs.Bytes.{Text, line_feed, nul}
 use Rattle.ml_base.specs.Netstrings.{ns}
 
 -- whether a text has a byte
@@ -26,12 +26,12 @@ onto_line b (line ∷ more) = (b ∷ line) ∷ more
 -- the lines of a text: each ends behind its LF, and the last where the text ends
 abbrev pub lines : Text → List Text
 lines [] = []
-lines (b ∷ bs) = if b == 10 then (b ∷ []) ∷ lines bs else onto_line b (lines bs)
+lines (b ∷ bs) = if b == line_feed then (b ∷ []) ∷ lines bs else onto_line b (lines bs)
 
 -- texts in a row, each with a NUL behind it
 abbrev pub nul_row : List Text → Text
 nul_row [] = []
-nul_row (text ∷ texts) = text ++ 0 ∷ nul_row texts
+nul_row (text ∷ texts) = text ++ nul ∷ nul_row texts
 
 -- none of the texts has a NUL
 abbrev pub HaveNoNul : List Text → Type 0

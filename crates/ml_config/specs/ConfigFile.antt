@@ -1,7 +1,7 @@
 -- The file of the configuration: a line for each value.
 use Rattle.std.specs.Prelude.{◌≡◌, ◌≢◌, ℕ, ◌-◌, Bool, if◌then◌else◌, [], ◌∷◌, ◌++◌, codes, Option, Some, None}
 use Rattle.std.specs.Fmt.{decimal}
-use Rattle.ml_base.specs.Bytes.{Text}
+use Rattle.ml_base.specs.Bytes.{Text, line_feed}
 use Rattle.ml_base.specs.declared.names.Name.{Name}
 use Rattle.ml_config.specs.Configuration.{IsConfig}
 use Rattle.ml_config.specs.declared.configuration.Config.{Config}
@@ -33,7 +33,7 @@ values_of c = record { flags = flags_text c.flags; local = c.local; host = c.hos
 
 -- a name and its space, a value and an LF
 abbrev pub line : Text → Text → Text
-line name value = name ++ value ++ 10 ∷ []
+line name value = name ++ value ++ line_feed ∷ []
 
 -- six lines, one for each value
 abbrev pub values_text : Values → Text

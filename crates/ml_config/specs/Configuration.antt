@@ -1,7 +1,7 @@
 -- Configurations: which values they have, and how they are spelled.
 use Rattle.std.specs.Prelude.{◌≡◌, ◌≤◌, ℕ, ◌-◌, Bool, false, not, ◌&&◌, ◌||◌, ◌==◌, nat_le, IsTrue, is_ok, if◌then◌else◌, [], ◌∷◌, ◌++◌, length, slice_index, Option, Some, None}
 use Rattle.std.specs.List.{list_all}
-use Rattle.ml_base.specs.Bytes.{Text, lower, is_empty}
+use Rattle.ml_base.specs.Bytes.{Text, lower, is_empty, at_sign, space}
 use Rattle.ml_base.specs.Address.{IsAddress, address_check, address_of}
 use Rattle.ml_base.specs.Own.{is_own}
 use Rattle.ml_config.specs.declared.configuration.Config.{Config}
@@ -15,7 +15,7 @@ is_prefix_byte b = nat_le 32 b && nat_le b 126
 abbrev pub is_prefix_text : Text → Bool
 is_prefix_text text =
     nat_le 1 (length text) && nat_le (length text) 62 && list_all is_prefix_byte text
-    && not (slice_index text 0 == 32) && not (slice_index text (length text - 1) == 32)
+    && not (slice_index text 0 == space) && not (slice_index text (length text - 1) == space)
 
 -- the prefix of a list that marks subjects, or that doesn't: such a text, or nothing where subjects aren't marked
 abbrev pub is_prefix : Bool → Text → Bool
@@ -27,14 +27,14 @@ is_max n = nat_le 1 n && nat_le n 16_777_216
 
 -- a local part of at most 60 bytes and a host of at most 255 that make an address
 abbrev pub is_list : Text → Text → Bool
-is_list local host = nat_le (length local) 60 && nat_le (length host) 255 && is_ok (address_check (local ++ 64 ∷ host))
+is_list local host = nat_le (length local) 60 && nat_le (length host) 255 && is_ok (address_check (local ++ at_sign ∷ host))
 
 -- a configuration whose values are in their ranges: LOCAL@HOST and the owner are addresses, their hosts are in lower
 -- case, and the owner's is not one of the list's own addresses
 pub record IsConfig (c : Config) : Type 0 where
   pub local : length c.local ≤ 60
   pub host : length c.host ≤ 255
-  pub list : IsAddress (c.local ++ 64 ∷ c.host)
+  pub list : IsAddress (c.local ++ at_sign ∷ c.host)
   pub owner : IsAddress c.owner
   pub foreign : is_own c.local c.host c.owner ≡ false
   pub prefix : IsTrue (is_prefix c.flags.f c.prefix)

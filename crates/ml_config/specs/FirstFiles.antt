@@ -1,7 +1,7 @@
 -- The files of a new list.
 use Rattle.std.specs.Prelude.{ℕ, ◌&&◌, ◌||◌, ◌==◌, nat_le, if◌then◌else◌, codes, map, List, ◌∷◌, ◌++◌, [], Some, None}
 use Rattle.std.specs.List.{range_with_len}
-use Rattle.ml_base.specs.Bytes.{Text}
+use Rattle.ml_base.specs.Bytes.{Text, line_feed}
 use Rattle.ml_base.specs.Dir.{Dir}
 use Rattle.ml_base.specs.declared.puts.Put.{Put}
 use Rattle.ml_base.specs.Kinds.{config_kind, key_kind, count_kind, number_kind, mark_kind, tickets_kind, ids_kind}
@@ -10,7 +10,7 @@ use Rattle.ml_config.specs.declared.configuration.Config.{Config}
 
 -- a text and an LF
 abbrev pub with_lf : Text → Text
-with_lf text = text ++ 10 ∷ []
+with_lf text = text ++ line_feed ∷ []
 
 -- what writes a file
 abbrev pub file_put : ℕ → ℕ → Text → Put

@@ -2,7 +2,7 @@
 use Rattle.std.specs.Prelude.{◌==◌, length, take, drop, if◌then◌else◌, codes, Option, Some, None}
 use Rattle.std.specs.Str.{bytes_eq}
 use Rattle.std.specs.Option.{option_and_then}
-use Rattle.ml_base.specs.Bytes.{Text}
+use Rattle.ml_base.specs.Bytes.{Text, line_feed}
 use Rattle.ml_base.specs.Splits.{split_first}
 use Rattle.ml_config.specs.ConfigFile.{Values}
 use Rattle.ml_config.specs.declared.reading.Lines.{Lines}
@@ -18,7 +18,7 @@ behind name text = if bytes_eq (take (length name) text) name then Some (drop (l
 
 -- the value of the line that a text begins with, where the line has this name, and the text behind its LF
 unfoldable pub value_at : Text → Text → Option (Text × Text)
-value_at name text = option_and_then (split_first 10) (behind name text)
+value_at name text = option_and_then (split_first line_feed) (behind name text)
 
 -- the six values, where no text is left behind them
 abbrev pub with_end : Values → Text → Option Values

@@ -1,7 +1,7 @@
 -- What a reader finds of a digest, step by step.
 use Rattle.std.specs.Prelude.{◌≡◌, ◌-◌, ◌<◌, ◌≤◌, ℕ, List, [], ◌∷◌, ◌++◌, length, map, codes, get_or}
 use Rattle.std.specs.List.{flat_map, AllByRecursion}
-use Rattle.ml_base.specs.Bytes.{Text}
+use Rattle.ml_base.specs.Bytes.{Text, line_feed}
 use Rattle.ml_base.specs.Texts.{lf, lines_text, with_last_line_end}
 use Rattle.ml_digest.specs.Burst.{IsLine, HaveNo, IsMessage, message_lines}
 use Rattle.ml_digest.specs.Digest.{issue_title, preamble_rule}
@@ -13,7 +13,7 @@ pub record IsCut (wanted barred text before behind : Text) : Type 0 where
   pub none_wanted : HaveNo wanted rows
   pub none_barred : HaveNo barred rows
   pub front : before ≡ lines_text rows
-  pub whole : text ≡ lines_text rows ++ (wanted ++ 10 ∷ behind)
+  pub whole : text ≡ lines_text rows ++ (wanted ++ line_feed ∷ behind)
 
 -- the line wanted doesn't come, or the one barred comes before it
 abbrev pub HasNoCut : Text → Text → Text → Type 0
@@ -40,7 +40,7 @@ pub record IsHeader (text last rest : Text) : Type 0 where
   pub rows : List Text
   pub each : AllByRecursion IsFilled rows
   pub ends : last ≡ last_of rows
-  pub whole : text ≡ lines_text rows ++ 10 ∷ rest
+  pub whole : text ≡ lines_text rows ++ line_feed ∷ rest
 
 -- lines with some byte each were passed, and this is left
 pub record IsBegun (text last rest : Text) : Type 0 where
@@ -61,7 +61,7 @@ pub record IsPreface (text rest : Text) : Type 0 where
   pub rows : List Text
   pub each : AllByRecursion IsLine rows
   pub none : HaveNo preamble_rule rows
-  pub whole : text ≡ lines_text rows ++ (preamble_rule ++ 10 ∷ 10 ∷ rest)
+  pub whole : text ≡ lines_text rows ++ (preamble_rule ++ line_feed ∷ line_feed ∷ rest)
 
 -- nothing, or a text that ends in an LF
 abbrev pub IsEnded : Text → Type 0

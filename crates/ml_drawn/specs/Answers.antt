@@ -1,7 +1,7 @@
 -- What is read of a series, and what changes it.
 use Rattle.std.specs.Prelude.{◌≡◌, ◌<◌, ◌≤◌, ◌+◌, ℕ, Bool, true, false, ◌==◌, IsTrue, List, [], ◌∷◌, ◌++◌, Option, Some, None}
 use Rattle.std.specs.Fmt.{decimal}
-use Rattle.ml_base.specs.Bytes.{Text}
+use Rattle.ml_base.specs.Bytes.{Text, colon}
 use Rattle.ml_base.specs.Dir.{Dir}
 use Rattle.ml_base.specs.Drawn.{IsCounter, counter_text}
 use Rattle.ml_base.specs.Ranges.{is_drawn}
@@ -15,7 +15,7 @@ pub record IsPair (line : Text) (low next : ℕ) : Type 0 where
   pub from_one : 1 ≤ low
   pub up_to_next : low ≤ next
   pub fits : next ≤ 999_999_999_999_999_999
-  pub spelled : line ≡ decimal low ++ 58 ∷ decimal next
+  pub spelled : line ≡ decimal low ++ colon ∷ decimal next
 
 -- the file of the counter is outside its grammar
 abbrev pub IsNoCounter : Dir → Series → Type 0

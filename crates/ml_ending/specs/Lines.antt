@@ -1,7 +1,7 @@
 -- The line that ends a run early.
 use Rattle.std.specs.Prelude.{ℕ, Option, Some, None, [], ◌∷◌, ◌++◌, IsTrue, codes}
 use Rattle.std.specs.Fmt.{decimal}
-use Rattle.ml_base.specs.Bytes.{Text}
+use Rattle.ml_base.specs.Bytes.{Text, line_feed, space}
 use Rattle.ml_base.specs.Name.{is_in_table, path_of}
 use Rattle.ml_ending.specs.declared.lines.Why.{Why}
 use Rattle.ml_ending.specs.declared.lines.Why.TheVariants as whys
@@ -35,4 +35,4 @@ number_text (Some number) = decimal number
 
 -- the line that ends a run early
 abbrev pub stop_text : Option ℕ → ℕ → Why → Text
-stop_text number status why = number_text number ++ 32 ∷ decimal status ++ 32 ∷ why_text why ++ 10 ∷ []
+stop_text number status why = number_text number ++ space ∷ decimal status ++ space ∷ why_text why ++ line_feed ∷ []

@@ -1,6 +1,6 @@
 -- What is found of a list's configuration.
 use Rattle.std.specs.Prelude.{◌≡◌, ◌⊎◌, ◌≤◌, IsTrue, IsSome, [], ◌∷◌, Option, Some, None}
-use Rattle.ml_base.specs.Bytes.{Text}
+use Rattle.ml_base.specs.Bytes.{Text, nul}
 use Rattle.ml_base.specs.Dir.{Dir}
 use Rattle.ml_base.specs.Faults.{Rose}
 use Rattle.ml_config.specs.ConfigFile.{config_name, IsConfigFile, IsDamagedConfig}
@@ -72,7 +72,7 @@ pub record Misses {S : Type 0} (told : Ghosts S) (old new : S) (why : Why) : Typ
   pub moments : IsTrue told.tells_all → BeforeFirstSync told.moment told.left_since told.disk told.output told.syncs old new (Now (told.disk old) (told.output old))
       ⊎ FromFirstSync told.moment told.left_since told.disk told.output told.syncs old new (Now (told.disk old) (told.output old)) (IsOld (directory (told.disk old).reads) (told.output old))
   pub rest : (why ≡ whys.Memory → ⊥) → (why ≡ whys.Disk → ⊥) → IsTrue told.tells_all → IsAtRest (told.disk new)
-  pub gate : (why ≡ whys.Memory → ⊥) → (why ≡ whys.Disk → ⊥) → IsSome (directory (told.disk old).reads) → IsTrue told.tells_reads → (told.disk new).reads.log ≡ 0 ∷ []
+  pub gate : (why ≡ whys.Memory → ⊥) → (why ≡ whys.Disk → ⊥) → IsSome (directory (told.disk old).reads) → IsTrue told.tells_reads → (told.disk new).reads.log ≡ nul ∷ []
   pub cause : why ≡ whys.Disk → Rose (told.disk_faults old) (told.disk_faults new)
   pub disk_later : told.disk_faults old ≤ told.disk_faults new
   pub output_later : told.output_faults old ≤ told.output_faults new

@@ -1,5 +1,6 @@
 -- What a run of the items of an exercise does.
 use Rattle.std.specs.Prelude.{◌≡◌, ◌≤◌, ℕ, Bool, ◌==◌, ◌||◌, IsTrue, IsSome, List, [], ◌∷◌, Some}
+use Rattle.ml_base.specs.Bytes.{nul}
 use Rattle.ml_base.specs.Faults.{Rose}
 use Rattle.ml_config.specs.declared.configuration.Config.{Config}
 use Rattle.ml_generated.specs.Items.{generated}
@@ -33,7 +34,7 @@ pub record RunsItems {S : Type 0} (told : Ghosts S) (items : List Item) (count :
   pub at_rest : IsAtRest (told.disk old) → (q : State) → HasState (directory (told.disk old).reads) q → Leaves told old new (IsAfterSome q items (told.output old))
   pub settled : IsTrue (is_status status) → IsTrue told.tells_all → IsAtRest (told.disk new)
   pub rest : (Rose (told.disk_faults old) (told.disk_faults new) → ⊥) → (status ≡ 71 → ⊥) → (status ≡ 73 → ⊥) → IsTrue told.tells_all → IsAtRest (told.disk new)
-  pub gate : IsSome (directory (told.disk old).reads) → (status ≡ 71 → ⊥) → (status ≡ 73 → ⊥) → (status ≡ 111 → ⊥) → IsTrue told.tells_reads → (told.disk new).reads.log ≡ 0 ∷ []
+  pub gate : IsSome (directory (told.disk old).reads) → (status ≡ 71 → ⊥) → (status ≡ 73 → ⊥) → (status ≡ 111 → ⊥) → IsTrue told.tells_reads → (told.disk new).reads.log ≡ nul ∷ []
   pub of_disk : status ≡ 111 → Rose (told.disk_faults old) (told.disk_faults new)
   pub of_output : status ≡ 73 → Rose (told.output_faults old) (told.output_faults new)
   pub named : IsTrue told.tells_reads → status ≡ 75

@@ -1,7 +1,7 @@
 -- What is told behind the answers of an exercise: how many items there were, and what a check of the list tells.
 use Rattle.std.specs.Prelude.{◌≡◌, ◌⊎◌, ℕ, IsTrue, IsSome, [], ◌∷◌, ◌++◌, Option, None, codes}
 use Rattle.std.specs.Fmt.{decimal}
-use Rattle.ml_base.specs.Bytes.{Text}
+use Rattle.ml_base.specs.Bytes.{Text, line_feed, nul}
 use Rattle.ml_base.specs.Dir.{Dir}
 use Rattle.ml_base.specs.Faults.{Rose}
 use Rattle.ml_check.specs.Checking.{check_meaning}
@@ -21,7 +21,7 @@ use Rattle.ml_run.specs.Leaving.{HasState}
 
 -- the line of how many items there were
 abbrev pub exercised_line : ℕ → Text
-exercised_line count = codes "exercised " ++ decimal count ++ 10 ∷ []
+exercised_line count = codes "exercised " ++ decimal count ++ line_feed ∷ []
 
 -- the two lines behind the answers: that one, and that of a check of this list
 abbrev pub two_lines : ℕ → Plain → Text
@@ -58,7 +58,7 @@ pub record SumsUp {S : Type 0} (told : Ghosts S) (count : ℕ) (old new : S) (st
   pub at_rest : IsAtRest (told.disk old) → (q : State) → HasState (directory (told.disk old).reads) q
       → Leaves told old new (IsLooking (directory (told.disk old).reads) count q.plain (told.output old))
   pub rest : (Rose (told.disk_faults old) (told.disk_faults new) → ⊥) → (status ≡ 71 → ⊥) → (status ≡ 73 → ⊥) → IsTrue told.tells_all → IsAtRest (told.disk new)
-  pub gate : IsSome (directory (told.disk old).reads) → (status ≡ 71 → ⊥) → (status ≡ 73 → ⊥) → (status ≡ 111 → ⊥) → IsTrue told.tells_reads → (told.disk new).reads.log ≡ 0 ∷ []
+  pub gate : IsSome (directory (told.disk old).reads) → (status ≡ 71 → ⊥) → (status ≡ 73 → ⊥) → (status ≡ 111 → ⊥) → IsTrue told.tells_reads → (told.disk new).reads.log ≡ nul ∷ []
   pub of_disk : status ≡ 111 → Rose (told.disk_faults old) (told.disk_faults new)
   pub of_output : status ≡ 73 → Rose (told.output_faults old) (told.output_faults new)
   pub named : IsTrue told.tells_reads → status ≡ 75 → NamesWhole (IsTrue told.tells_all) (directory (told.disk new).reads) (told.output new)

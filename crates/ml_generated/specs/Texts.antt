@@ -1,7 +1,7 @@
 -- The texts in the items of an exercise.
 use Rattle.std.specs.Prelude.{ℕ, ◌*◌, ◌/◌, ◌%◌, max, [], ◌∷◌, ◌++◌, codes}
 use Rattle.std.specs.Fmt.{decimal}
-use Rattle.ml_base.specs.Bytes.{Text}
+use Rattle.ml_base.specs.Bytes.{Text, at_sign, line_feed}
 
 -- whom an item is about, one of 97 people
 abbrev pub person : ℕ → ℕ
@@ -13,11 +13,11 @@ address i = codes "u" ++ decimal (person i) ++ codes "@ex.com"
 
 -- the address of a list with this local part and host
 abbrev pub list_address : Text → Text → Text
-list_address local host = local ++ 64 ∷ host
+list_address local host = local ++ at_sign ∷ host
 
 -- the address of the list to which somebody writes who wants to join
 abbrev pub request_address : Text → Text → Text
-request_address local host = local ++ codes "-subscribe" ++ 64 ∷ host
+request_address local host = local ++ codes "-subscribe" ++ at_sign ∷ host
 
 -- the post that bounces: a tenth of the item's number, and at least 1
 abbrev pub bounced_post : ℕ → ℕ
@@ -26,11 +26,11 @@ bounced_post i = max 1 (i / 10)
 -- the envelope sender under which that post was sent to the item's person
 abbrev pub bounce_address : Text → Text → ℕ → Text
 bounce_address local host i =
-    local ++ codes "-return-" ++ decimal (bounced_post i) ++ codes "-u" ++ decimal (person i) ++ codes "=ex.com" ++ 64 ∷ host
+    local ++ codes "-return-" ++ decimal (bounced_post i) ++ codes "-u" ++ decimal (person i) ++ codes "=ex.com" ++ at_sign ∷ host
 
 -- a line with its end
 abbrev pub line : Text → Text
-line text = text ++ 10 ∷ []
+line text = text ++ line_feed ∷ []
 
 -- a message of the item's person to the list, under one of seven subjects
 abbrev pub message : Text → Text → ℕ → Text

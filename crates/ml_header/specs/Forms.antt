@@ -1,7 +1,7 @@
 -- What a message is made of: fields, and behind them nothing, or an empty line and a body, or a body alone.
 use Rattle.std.specs.Prelude.{◌≡◌, Bool, true, false, not, ◌&&◌, ◌||◌, ◌==◌, ◌⊎◌, List, [], ◌∷◌, ◌++◌, Option, None, filter}
 use Rattle.std.specs.List.{flat_map, AllByRecursion}
-use Rattle.ml_base.specs.Bytes.{Text, is_empty}
+use Rattle.ml_base.specs.Bytes.{Text, is_empty, colon, line_feed}
 use Rattle.ml_base.specs.Splits.{lines, has_byte}
 use Rattle.ml_base.specs.Texts.{with_line_end}
 use Rattle.ml_header.specs.Lines.{begins_blank, is_empty_line}
@@ -9,18 +9,18 @@ use Rattle.ml_header.specs.Fields.{FieldText, is_name, field_line}
 use Rattle.ml_header.specs.Rewriting.{names_of, is_among, prefixed}
 
 abbrev pub EndsInLf : Text → Type 0
-EndsInLf text = (front : Text) × (text ≡ front ++ 10 ∷ [])
+EndsInLf text = (front : Text) × (text ≡ front ++ line_feed ∷ [])
 
 -- behind each LF, but for one at the end, a space or a tab stands
 abbrev pub is_folded : Text → Bool
 is_folded [] = true
-is_folded (b ∷ bs) = (not (b == 10) || is_empty bs || begins_blank bs) && is_folded bs
+is_folded (b ∷ bs) = (not (b == line_feed) || is_empty bs || begins_blank bs) && is_folded bs
 
 -- a field by itself: its lines are a name of bytes 33 to 126 without a colon, a colon, and a value that is folded
 pub record IsField (f : FieldText) : Type 0 where
   pub named : is_name f.name ≡ true
   pub no_colon : has_byte 58 f.name ≡ false
-  pub whole : f.lines ≡ f.name ++ 58 ∷ f.value
+  pub whole : f.lines ≡ f.name ++ colon ∷ f.value
   pub folded : is_folded f.value ≡ true
 
 -- each of the fields ends in an LF, but for a last one with nothing behind it

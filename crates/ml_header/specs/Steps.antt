@@ -3,7 +3,7 @@ use Rattle.std.specs.Prelude.{◌≡◌, Bool, not, ◌&&◌, List, [], ◌∷�
 use Rattle.std.specs.List.{flat_map, AllByRecursion}
 use Rattle.std.specs.Option.{option_map}
 use Rattle.std.specs.Str.{bytes_eq}
-use Rattle.ml_base.specs.Bytes.{Text, lower}
+use Rattle.ml_base.specs.Bytes.{Text, lower, colon}
 use Rattle.ml_base.specs.Texts.{with_line_end, with_last_line_end}
 use Rattle.ml_header.specs.Lines.{begins_with}
 use Rattle.ml_header.specs.Fields.{FieldText, has_name}
@@ -12,7 +12,7 @@ use Rattle.ml_header.specs.Rewriting.{has_part, names_of, is_among, with_prefix}
 
 -- a field's lines are its name, a colon and its value
 abbrev pub IsWhole : FieldText → Type 0
-IsWhole f = f.lines ≡ f.name ++ 58 ∷ f.value
+IsWhole f = f.lines ≡ f.name ++ colon ∷ f.value
 
 abbrev pub AreWhole : List FieldText → Type 0
 AreWhole fs = AllByRecursion IsWhole fs

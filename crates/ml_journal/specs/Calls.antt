@@ -1,6 +1,6 @@
 -- What a call of the journal leaves of its site.
 use Rattle.std.specs.Prelude.{◌≡◌, ◌⊎◌, ◌≤◌, ◌+◌, ℕ, IsTrue, List, [], ◌∷◌, Result, OnOk}
-use Rattle.ml_base.specs.Bytes.{Text}
+use Rattle.ml_base.specs.Bytes.{Text, nul}
 use Rattle.ml_base.specs.Faults.{Rose}
 use Rattle.ml_base.specs.declared.puts.Put.{Put}
 use Rattle.ml_site.specs.Disk.{Contents, Part, Changes, Now, IsAtRest}
@@ -50,7 +50,7 @@ pub record ChangesDirectory {S : Type 0} (told : Ghosts S) (txn : List Put) (old
 
 -- the log is one closed gate, and nothing is pending
 pub record IsClean {S : Type 0} (told : Ghosts S) (site : S) : Type 0 where
-  pub log : IsTrue told.tells_reads → (told.disk site).reads.log ≡ 0 ∷ []
+  pub log : IsTrue told.tells_reads → (told.disk site).reads.log ≡ nul ∷ []
   pub rest : IsTrue told.tells_all → IsAtRest (told.disk site)
 
 -- a part of a disk at rest was changed and settled: at each moment, and after an error, nothing else differs

@@ -2,7 +2,7 @@
 use Rattle.std.specs.Prelude.{ℕ, zero, suc, ◌+◌, ◌==◌, List, [], ◌∷◌, ◌++◌, length, Option, Some, None, option_map, if◌then◌else◌}
 use Rattle.std.specs.Option.{option_and_then}
 use Rattle.std.specs.Fmt.{decimal}
-use Rattle.ml_base.specs.Bytes.{Text}
+use Rattle.ml_base.specs.Bytes.{Text, colon}
 use Rattle.ml_base.specs.Name.{is_file}
 use Rattle.ml_base.specs.Netstrings.{netstring_at, ns}
 use Rattle.ml_base.specs.Numbers.{number_of}
@@ -24,7 +24,7 @@ spelled_put put = spelled_as put.name put.bytes
 
 -- what stands before a put's content, or all of one that removes
 abbrev pub spelled_head : Name → Option Text → Text
-spelled_head name (Some bytes) = 87 ∷ spelled_name name ++ decimal (length bytes) ++ 58 ∷ []
+spelled_head name (Some bytes) = 87 ∷ spelled_name name ++ decimal (length bytes) ++ colon ∷ []
 spelled_head name None = 88 ∷ spelled_name name
 
 -- puts in a row

@@ -1,6 +1,6 @@
 -- A log as the journal keeps it: open records, and a closed gate behind them.
 use Rattle.std.specs.Prelude.{◌≡◌, ◌≢◌, ◌⊎◌, ◌<◌, ◌≤◌, ℕ, List, [], ◌∷◌, ◌++◌, length, Some}
-use Rattle.ml_base.specs.Bytes.{Text}
+use Rattle.ml_base.specs.Bytes.{Text, nul}
 use Rattle.ml_base.specs.Dir.{Dir}
 use Rattle.ml_base.specs.declared.puts.Put.{Put}
 use Rattle.ml_journal.specs.Records.{record_at}
@@ -17,7 +17,7 @@ IsRecord text puts = (rest : Text) → record_at (text ++ rest) ≡ Some (puts, 
 -- open records that make this change up to this place, and a closed gate behind them
 pub record Rests (log : Text) (end : ℕ) (change : Dir → Dir) : Type 0 where
   pub row : Text
-  pub split : log ≡ row ++ 0 ∷ []
+  pub split : log ≡ row ++ nul ∷ []
   pub size : length row ≡ end
   pub is_row : IsRow row change
   pub first : (row ≡ []) ⊎ ((behind : Text) × (row ≡ 1 ∷ behind))
@@ -25,7 +25,7 @@ pub record Rests (log : Text) (end : ℕ) (change : Dir → Dir) : Type 0 where
 -- the same with a whole record behind the closed gate
 pub record Staged (log : Text) (end : ℕ) (body : Text) (change : Dir → Dir) : Type 0 where
   pub row : Text
-  pub split : log ≡ row ++ 0 ∷ (body ++ 0 ∷ [])
+  pub split : log ≡ row ++ nul ∷ (body ++ nul ∷ [])
   pub size : length row ≡ end
   pub is_row : IsRow row change
   pub first : (row ≡ []) ⊎ ((behind : Text) × (row ≡ 1 ∷ behind))

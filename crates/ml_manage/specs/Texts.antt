@@ -2,7 +2,7 @@
 use Rattle.std.specs.Prelude.{min, ℕ, List, [], ◌∷◌, ◌++◌, codes, Option, Some, None}
 use Rattle.std.specs.Fmt.{decimal}
 use Rattle.std.specs.List.{flat_map}
-use Rattle.ml_base.specs.Bytes.{Text}
+use Rattle.ml_base.specs.Bytes.{Text, tab}
 use Rattle.ml_base.specs.Texts.{lines_text}
 use Rattle.ml_archive.specs.Posts.{post_at}
 use Rattle.ml_archive.specs.declared.posts.Entry.{Entry}
@@ -33,7 +33,7 @@ posts_text p (n ∷ ns) = flat_map (post_text p) (n ∷ ns)
 -- the two lines of an entry; a moment past the year 9999 counts as its last
 abbrev pub entry_text : Entry → Text
 entry_text e =
-    lines_text ((decimal e.number ++ codes ": " ++ date_text (min e.moment 253_402_300_799) ++ codes "; " ++ e.sender) ∷ (9 ∷ e.subject) ∷ [])
+    lines_text ((decimal e.number ++ codes ": " ++ date_text (min e.moment 253_402_300_799) ++ codes "; " ++ e.sender) ∷ (tab ∷ e.subject) ∷ [])
 
 -- those of a row of entries, or a line that there are none
 abbrev pub entries_text : List Entry → Text

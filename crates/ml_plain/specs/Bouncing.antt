@@ -1,6 +1,6 @@
 -- What bounces do.
 use Rattle.std.specs.Prelude.{ℕ, Bool, ◌&&◌, nat_le, ◌∷◌, ◌++◌, length, Option, Some, None, if◌then◌else◌, codes}
-use Rattle.ml_base.specs.Bytes.{Text, lower}
+use Rattle.ml_base.specs.Bytes.{Text, lower, at_sign}
 use Rattle.ml_base.specs.Address.{key}
 use Rattle.ml_base.specs.declared.names.Set.{Set}
 use Rattle.ml_base.specs.declared.names.Set.TheVariants as sets
@@ -14,7 +14,7 @@ use Rattle.ml_plain.specs.Plain.{Plain, is_in, ledger_of, with_ledger_of, remove
 
 -- the address that a request names, its host in lower case
 abbrev pub address_named : PlainWho → Text
-address_named w = w.local ++ 64 ∷ lower w.host
+address_named w = w.local ++ at_sign ∷ lower w.host
 
 -- the number was used: it is one of a post, or for the digest set one of an issue up to the mark; 0 is none
 abbrev pub is_used : Plain → Set → ℕ → Bool

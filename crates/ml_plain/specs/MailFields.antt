@@ -1,6 +1,6 @@
 -- The fields that the header of a mail of the list has.
 use Rattle.std.specs.Prelude.{◌≡◌, ℕ, false, List, [], ◌∷◌, ◌++◌, Option, Some, None, IfSome, codes}
-use Rattle.ml_base.specs.Bytes.{Text}
+use Rattle.ml_base.specs.Bytes.{Text, colon, space}
 use Rattle.ml_base.specs.Splits.{has_byte}
 use Rattle.ml_base.specs.Texts.{lf, list_address}
 use Rattle.ml_config.specs.declared.configuration.Config.{Config}
@@ -11,7 +11,7 @@ use Rattle.ml_reply.specs.declared.mails.Mail.{Mail}
 
 -- a field of one line: its value is what was put behind the colon and a space, and the line's LF
 abbrev pub one_line : Text → Text → FieldText
-one_line name text = record { name = name; value = 32 ∷ text ++ lf; lines = name ++ 58 ∷ (32 ∷ text ++ lf) }
+one_line name text = record { name = name; value = space ∷ text ++ lf; lines = name ++ colon ∷ (space ∷ text ++ lf) }
 
 abbrev pub reply_field : Option Text → List FieldText
 reply_field None = []

@@ -2,7 +2,7 @@
 use Rattle.std.specs.Prelude.{ℕ, Bool, true, false, List, [], ◌∷◌, ◌++◌, codes}
 use Rattle.std.specs.Option.{option_map, option_map_or}
 use Rattle.std.specs.Fmt.{decimal}
-use Rattle.ml_base.specs.Bytes.{Text}
+use Rattle.ml_base.specs.Bytes.{Text, hyphen}
 use Rattle.ml_base.specs.Address.{key, local_of, host_of}
 use Rattle.ml_base.specs.Name.{set_word}
 use Rattle.ml_base.specs.Texts.{list_address}
@@ -23,7 +23,7 @@ use Rattle.ml_plain.specs.Plain.{Plain, addresses}
 
 -- the path of what begins with this behind LOCAL and a hyphen
 abbrev pub path : Config → Text → Bool → Path
-path c base each = record { base = c.local ++ 45 ∷ base; host = c.host; each = each }
+path c base each = record { base = c.local ++ hyphen ∷ base; host = c.host; each = each }
 
 -- the path of post n
 abbrev pub post_path : Config → ℕ → Path

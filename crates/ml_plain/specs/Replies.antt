@@ -1,7 +1,7 @@
 -- The codes of replies, and their lines.
 use Rattle.std.specs.Prelude.{ℕ, ◌-◌, Bool, true, false, ◌&&◌, ◌||◌, nat_le, ◌==◌, if◌then◌else◌, List, [], ◌∷◌, ◌++◌, codes}
 use Rattle.std.specs.Fmt.{decimal}
-use Rattle.ml_base.specs.Bytes.{Text}
+use Rattle.ml_base.specs.Bytes.{Text, line_feed, space}
 use Rattle.ml_plain.specs.declared.Reply.{Reply}
 
 -- what a code says: its word, its exit status, and whether the reply's number is written
@@ -94,8 +94,8 @@ is_numbered code = (kind_of code).numbered
 
 -- what stands behind the word: a space and the number, where the code has one
 abbrev pub number_part : Reply → Text
-number_part reply = if is_numbered reply.code then 32 ∷ decimal reply.number else []
+number_part reply = if is_numbered reply.code then space ∷ decimal reply.number else []
 
 -- the line that answers an item
 abbrev pub line : ℕ → Reply → Text
-line number reply = decimal number ++ 32 ∷ decimal (status_of reply.code) ++ 32 ∷ word_of reply.code ++ number_part reply ++ 10 ∷ []
+line number reply = decimal number ++ space ∷ decimal (status_of reply.code) ++ space ∷ word_of reply.code ++ number_part reply ++ line_feed ∷ []

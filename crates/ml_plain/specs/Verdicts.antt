@@ -3,7 +3,7 @@ use Rattle.std.specs.Prelude.{ℕ, Bool, true, false, not, ◌&&◌, ◌||◌, �
 use Rattle.std.specs.List.{list_any}
 use Rattle.std.specs.Char.{is_ascii_alphanumeric}
 use Rattle.std.specs.Str.{bytes_eq}
-use Rattle.ml_base.specs.Bytes.{Text, lower, is_empty}
+use Rattle.ml_base.specs.Bytes.{Text, lower, is_empty, hyphen}
 use Rattle.ml_base.specs.Address.{address_check}
 use Rattle.ml_base.specs.Texts.{post_address}
 use Rattle.ml_base.specs.declared.names.Set.TheVariants as sets
@@ -37,7 +37,7 @@ is_command text = list_any (bytes_eq text) (codes "subscribe" ∷ codes "unsubsc
 
 -- a byte that goes on an address to its right: a letter, a digit, `-` or `.`
 abbrev pub goes_on_right : ℕ → Bool
-goes_on_right b = is_ascii_alphanumeric b || b == 45 || b == 46
+goes_on_right b = is_ascii_alphanumeric b || b == hyphen || b == 46
 
 -- a byte that goes on an address to its left: one of these, or `_`, `+` or `=`
 abbrev pub goes_on_left : ℕ → Bool

@@ -1,5 +1,6 @@
 -- What a command does that asks something of a list.
 use Rattle.std.specs.Prelude.{◌≡◌, ◌≤◌, ◌+◌, ℕ, IsTrue, IsSome, [], ◌∷◌, Some, None}
+use Rattle.ml_base.specs.Bytes.{nul}
 use Rattle.ml_base.specs.Dir.{Dir}
 use Rattle.ml_base.specs.Faults.{Rose}
 use Rattle.ml_config.specs.ConfigFile.{config_name}
@@ -26,7 +27,7 @@ pub record GivesAnswer {S : Type 0} (told : Ghosts S) (asked : Meaning) (old new
   pub at_rest : IsAtRest (told.disk old) → Leaves told old new (IsReading asked (directory (told.disk old).reads) (told.output old))
   -- Nothing is pending then, but after a fault or want of memory, and the log is one closed gate.
   pub rest : (Rose (told.disk_faults old) (told.disk_faults new) → ⊥) → (status ≡ 71 → ⊥) → (status ≡ 73 → ⊥) → IsTrue told.tells_all → IsAtRest (told.disk new)
-  pub gate : IsSome (directory (told.disk old).reads) → (status ≡ 71 → ⊥) → (status ≡ 73 → ⊥) → (status ≡ 111 → ⊥) → IsTrue told.tells_reads → (told.disk new).reads.log ≡ 0 ∷ []
+  pub gate : IsSome (directory (told.disk old).reads) → (status ≡ 71 → ⊥) → (status ≡ 73 → ⊥) → (status ≡ 111 → ⊥) → IsTrue told.tells_reads → (told.disk new).reads.log ≡ nul ∷ []
   -- Which statuses there are, where the counts rose, and how many syncs it makes.
   pub known : IsTrue (is_status_of asked status)
   pub of_disk : status ≡ 111 → Rose (told.disk_faults old) (told.disk_faults new)

@@ -5,7 +5,7 @@ use Rattle.std.specs.Option.{option_and_then}
 use Rattle.std.specs.Fmt.{decimal}
 use Rattle.std.specs.Str.{bytes_eq}
 use Rattle.ml_base.specs.Address.{address_check, as_address}
-use Rattle.ml_base.specs.Bytes.{Text, is_empty}
+use Rattle.ml_base.specs.Bytes.{Text, is_empty, comma, line_feed}
 use Rattle.ml_base.specs.Numbers.{number_within}
 use Rattle.ml_base.specs.Splits.{split_first, onto_line}
 use Rattle.ml_rows.specs.Rows.{onto}
@@ -20,15 +20,15 @@ address_in text = if is_ok (address_check text) && bytes_eq (as_address text) te
 
 -- a number in decimal, and LF
 abbrev pub number_line : ℕ → Text
-number_line n = decimal n ++ 10 ∷ []
+number_line n = decimal n ++ line_feed ∷ []
 
 -- the number up to a limit that a text spells with an LF behind it, at the text's end
 abbrev pub line_number : ℕ → Text → Option ℕ
-line_number limit text = option_and_then (λ parts. if is_empty parts.1 then number_within limit parts.0 else None) (split_first 10 text)
+line_number limit text = option_and_then (λ parts. if is_empty parts.1 then number_within limit parts.0 else None) (split_first line_feed text)
 
 -- numbers in decimal, joined by commas
 abbrev pub comma_text : List ℕ → Text
-comma_text numbers = join_by decimal (44 ∷ []) numbers
+comma_text numbers = join_by decimal (comma ∷ []) numbers
 
 -- the texts before, between and behind all places of a byte: one more than there are places
 abbrev pub split_all : ℕ → Text → List Text

@@ -4,7 +4,7 @@ use Rattle.std.specs.Fmt.{decimal}
 use Rattle.std.proofs.lemmas.Fmt.{length-decimal-le}
 use Rattle.hex.specs.Hex.{encode_lower, lower_digits}
 use Rattle.hex.proofs.HexLemmas.{length-encode_with}
-use Rattle.ml_base.specs.Bytes.{Text}
+use Rattle.ml_base.specs.Bytes.{Text, colon, comma}
 use Rattle.ml_base.specs.Name.{set_word}
 use Rattle.ml_base.specs.Netstrings.{ns}
 use Rattle.ml_base.specs.declared.names.Set.{Set}
@@ -21,7 +21,7 @@ use Rattle.ml_run.specs.Feeds.{IsHeld, bytes_held}
 ns_short : (x : Text) → length x ≤ 33_554_432 → length (ns x) ≤ length x + 10
 ns_short x fits =
     let digits : length (decimal (length x)) ≤ 8 = length-decimal-le 8 (length x) (omega arith) (omega (arith, fits)) (omega (arith, fits)) in
-    omega (arith, digits, length-append (decimal (length x) ++ (58 ∷ x)) (44 ∷ []), length-append (decimal (length x)) (58 ∷ x))
+    omega (arith, digits, length-append (decimal (length x) ++ (colon ∷ x)) (comma ∷ []), length-append (decimal (length x)) (colon ∷ x))
 
 number_short : (n : ℕ) → n < 10 ^ 16 → length (ns (decimal n)) ≤ 26
 number_short n small =

@@ -1,6 +1,6 @@
 -- How a new list is made.
 use Rattle.std.specs.Prelude.{◌≡◌, ◌≢◌, ◌⊎◌, ℕ, Bool, ◌==◌, ◌||◌, IsSome, List, [], ◌∷◌, ◌++◌, codes, Option, Some, None}
-use Rattle.ml_base.specs.Bytes.{Text}
+use Rattle.ml_base.specs.Bytes.{Text, at_sign, line_feed}
 use Rattle.ml_base.specs.Dir.{Dir}
 use Rattle.ml_base.specs.declared.puts.Put.{Put}
 use Rattle.ml_config.specs.ConfigFile.{config_name}
@@ -16,7 +16,7 @@ use Rattle.ml_ending.specs.Stops.{status_of_why, log_name}
 
 -- the line that tells that a list was made
 abbrev pub made_text : Config → Text
-made_text c = codes "made " ++ c.local ++ 64 ∷ c.host ++ 10 ∷ []
+made_text c = codes "made " ++ c.local ++ at_sign ∷ c.host ++ line_feed ∷ []
 
 -- a directory is the one before, or the whole new one
 abbrev pub IsOneOf : Option Dir → List Put → Option Dir → Type 0

@@ -1,5 +1,6 @@
 -- What a run does whose stream is one item.
 use Rattle.std.specs.Prelude.{◌≡◌, ◌≤◌, ◌+◌, ◌-◌, ◌/◌, ℕ, Bool, ◌==◌, ◌||◌, IsTrue, IsSome, List, [], ◌∷◌, Some, None}
+use Rattle.ml_base.specs.Bytes.{nul}
 use Rattle.ml_base.specs.Dir.{Dir}
 use Rattle.ml_base.specs.Faults.{Rose}
 use Rattle.ml_config.specs.ConfigFile.{config_name}
@@ -41,7 +42,7 @@ pub record RunsItem {S : Type 0} (told : Ghosts S) (item : Item) (old new : S) (
   pub answers : IsTrue (is_status ending.status) → AnswersEach (IsTrue told.tells_all) ending.status (item ∷ []) (told.output old) (told.output new)
   pub rest : (Rose (told.disk_faults old) (told.disk_faults new) → ⊥) → (ending.status ≡ 71 → ⊥) → (ending.status ≡ 73 → ⊥) → IsTrue told.tells_all → IsAtRest (told.disk new)
   pub settled : IsTrue (is_status ending.status) → IsTrue told.tells_all → IsAtRest (told.disk new)
-  pub gate : IsSome (directory (told.disk old).reads) → (ending.status ≡ 71 → ⊥) → (ending.status ≡ 73 → ⊥) → (ending.status ≡ 111 → ⊥) → IsTrue told.tells_reads → (told.disk new).reads.log ≡ 0 ∷ []
+  pub gate : IsSome (directory (told.disk old).reads) → (ending.status ≡ 71 → ⊥) → (ending.status ≡ 73 → ⊥) → (ending.status ≡ 111 → ⊥) → IsTrue told.tells_reads → (told.disk new).reads.log ≡ nul ∷ []
   pub nolist : IsTrue told.tells_reads → (files : Dir) → directory (told.disk old).reads ≡ Some files → files config_name ≡ None → MissesList (IsTrue told.tells_all) ending.status (told.output old) (told.output new)
   pub named : IsTrue told.tells_reads → ending.status ≡ 75
       → Names (IsTrue told.tells_all) (IsOfNext (IsAlone item) ending.answered) (directory (told.disk old).reads) (directory (told.disk new).reads) (told.output new)

@@ -3,7 +3,7 @@ use Rattle.std.specs.Prelude.{◌≡◌, ℕ, suc, ◌+◌, ◌-◌, ◌*◌, tr
 use Rattle.std.specs.Str.{bytes_eq}
 use Rattle.hex.specs.Hex.{decode_sized, encode_lower}
 use Rattle.hex.specs.declared.error.FromHexError.{FromHexError}
-use Rattle.ml_base.specs.Bytes.{Text}
+use Rattle.ml_base.specs.Bytes.{Text, colon, comma}
 use Rattle.ml_base.specs.Numbers.{number_within, is_next_digit}
 use Rattle.ml_base.specs.Name.{set_of}
 use Rattle.ml_base.specs.declared.names.Set.{Set}
@@ -39,7 +39,7 @@ and_then (Err e) next = Err e
 abbrev pub length_at : ℕ → ℕ → ℕ → ℕ → ℕ → Text → Read ℕ
 length_at start limit count n place [] = Err (Short start)
 length_at start limit count n place (b ∷ bs) =
-    elim (b == 58) [
+    elim (b == colon) [
       | true ↦ if count == 0 then Err (Bad start) else got n (place + 1) bs
       | false ↦ elim (is_next_digit limit count n b) [ true ↦ length_at start limit (suc count) (10 * n + (b - 48)) (place + 1) bs | false ↦ Err (Bad start) ]
     ]
@@ -55,12 +55,12 @@ content_at start limit bs = and_then (length_at start limit 0 0 start bs) (bytes
 -- the comma behind a content
 abbrev pub comma_at : ℕ → ℕ → Text → Read (Unit {0})
 comma_at start place [] = Err (Short start)
-comma_at start place (b ∷ bs) = if b == 44 then got tt (place + 1) bs else Err (Bad start)
+comma_at start place (b ∷ bs) = if b == comma then got tt (place + 1) bs else Err (Bad start)
 
 -- a content that is allowed, and a comma
 abbrev pub closed : {X : Type 0} → ℕ → Option X → ℕ → Text → Read X
 closed start None place bs = Err (Bad start)
-closed start (Some x) place bs = and_then (comma_at start place bs) (λ comma. got x comma.place comma.rest)
+closed start (Some x) place bs = and_then (comma_at start place bs) (λ behind. got x behind.place behind.rest)
 
 -- an element: a netstring whose length is within the limit, and whose content is read so
 abbrev pub element_at : {X : Type 0} → ℕ → (Text → Option X) → ℕ → Text → Read X

@@ -1,7 +1,7 @@
 -- A set of subscribers, spread over 53 files and a count.
 use Rattle.std.specs.Prelude.{◌≡◌, ◌≢◌, ◌<◌, ◌≤◌, ℕ, Bool, true, false, ◌&&◌, ◌||◌, ◌==◌, nat_lt, List, [], ◌∷◌, ◌++◌, length, map, Option, Some, None, ◌⊎◌, slice_index_or}
 use Rattle.std.specs.Fmt.{decimal}
-use Rattle.ml_base.specs.Bytes.{Text}
+use Rattle.ml_base.specs.Bytes.{Text, line_feed}
 use Rattle.ml_base.specs.Dir.{Dir, same_name}
 use Rattle.ml_base.specs.Name.{set_kind, set_number}
 use Rattle.ml_base.specs.declared.names.Name.{Name}
@@ -14,7 +14,7 @@ pub use Rattle.ml_base.specs.Kinds.{bucket_name, count_name}
 
 -- a count in decimal, and LF
 abbrev pub count_text : ℕ → Text
-count_text n = decimal n ++ 10 ∷ []
+count_text n = decimal n ++ line_feed ∷ []
 
 -- each of a set's 53 files has the members of its bucket
 abbrev pub AreBuckets : Dir → Set → (ℕ → List Member) → Type 0
