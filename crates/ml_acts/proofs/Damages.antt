@@ -29,8 +29,8 @@ use Rattle.ml_config.specs.KeyFile.{key_name}
 use Rattle.ml_config.specs.declared.configuration.Config.{Config}
 use Rattle.ml_digest.specs.declared.posts.Mark.{Mark}
 use Rattle.ml_digest.proofs.Marks.{mark_one}
-use Rattle.ml_hold.proofs.Alone as held
-use Rattle.ml_queue.proofs.Alone as queues
+use Rattle.ml_hold.proofs.OfFiles as held
+use Rattle.ml_queue.proofs.OfFiles as queues
 use Rattle.ml_queue.specs.Answers.{Breaks, ids_name}
 use Rattle.ml_subs.specs.Buckets.{bucket_of}
 use Rattle.ml_subs.specs.Subscribers.{IsBadBucket, IsBucketName, IsNoBucket, IsUnread, bucket_name, is_touched}

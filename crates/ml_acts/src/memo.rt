@@ -23,11 +23,11 @@ use std::marker::Model;
 /// The files of the set list as they read when a mail last went to its members, and the addresses that they spell: while they read so, these
 /// are neither checked nor sorted again. No answer shows what it holds.
 #[derive(Drop)]
-pub struct Memo {
+pub struct MailMemo {
     last: Option<Spelling>,
 }
 
-impl Model for Memo {
+impl Model for MailMemo {
     ghost use Rattle.std.specs.Prelude.{IfSome};
     ghost use Rattle.ml_base.specs.declared.names.Set.TheVariants as sets;
     ghost use Rattle.ml_subs.specs.Subscribers.{IsSpelled};
@@ -39,10 +39,10 @@ impl Model for Memo {
     ghost invariant = { λ m. IfSome m.last (IsSpelled sets.List) };
 }
 
-impl Memo {
+impl MailMemo {
     /// Nothing yet. It takes no memory.
-    pub fn new() -> Memo {
-        Memo { last: None }
+    pub fn new() -> MailMemo {
+        MailMemo { last: None }
     }
 }
 
@@ -67,7 +67,7 @@ fn members_again<F: Files>(
 pub fn send_to_list<F: Files>(
     alloc: Global,
     files: &mut F,
-    memo: &mut Memo,
+    memo: &mut MailMemo,
     way: Path,
     body: Bytes,
 ) -> Result<Txn, PartError>

@@ -12,7 +12,7 @@ use Rattle.ml_archive.specs.declared.posts.Entry.{Entry}
 use Rattle.ml_archive.specs.declared.posts.Post.{Post}
 use Rattle.ml_archive.proofs.ByFiles.{IsOne, filtered_ones}
 use Rattle.ml_archive.proofs.Looking.{bytes_are}
-use Rattle.ml_archive.proofs.Standing.{in_table}
+use Rattle.ml_archive.proofs.Represented.{in_table}
 
 -- an entry of posts is made of one of them
 entry_of_one : (posts : List Post) (xs : List Numbered) (e : Entry) → AllByRecursion (IsOne posts) xs → IsAmong (map entry xs) e → (i : ℕ) × ((p : Post) × (slice_get posts i ≡ Some p) × (e ≡ entry (suc i, p)))

@@ -17,7 +17,7 @@ use Rattle.ml_base.proofs.SortedLaws.{same_bytes}
 use Rattle.ml_archive.specs.Subjects.{subject_key}
 use Rattle.ml_archive.specs.declared.posts.Entry.{Entry}
 use Rattle.ml_archive_audit.specs.Counted.{first_of}
-use Rattle.ml_archive_audit.specs.Found.{AreKeyedBelow, HasPlace, IsWhole, Keys, joined, key_numbers, numbers_at}
+use Rattle.ml_archive_audit.specs.Found.{AreKeyedBelow, HasPlace, IsWhole, Keys, with_numbers, key_numbers, numbers_at}
 use Rattle.ml_archive_audit.specs.declared.keys.Places.{Places}
 use Rattle.ml_archive_audit.proofs.Sized.{begins, more_entries}
 
@@ -88,13 +88,13 @@ put_at k q v (p ∷ ps) = go (byte_cmp q.items p.0.items) refl (put_at k q v ps)
         absurd (cc))
 
 pub added : (old mid new : Pairs) (key k : Text) (q : Vec ℕ Global) (v ns : List ℕ) (n : ℕ) (o : Option (List ℕ)) → q.items ≡ key → mid ≡ without key old → new ≡ insert_entry order mid q v → o ≡ at key old → ns ≡ unwrap_or o [] → v ≡ ns ++ n ∷ []
-    → at k new ≡ cond (bytes_eq key k) (joined (at k old) (n ∷ [])) (at k old)
+    → at k new ≡ cond (bytes_eq key k) (with_numbers (at k old) (n ∷ [])) (at k old)
 added old mid new key k q v ns n o is gone put was before more = go (bytes_eq key k) refl
   where
     there : at k new ≡ cond (is_eq (byte_cmp k key)) (Some v) (at k mid)
     there = ap (at k) put ∙ put_at k q v mid ∙ ap (λ (t : Text). cond (is_eq (byte_cmp k t)) (Some v) (at k mid)) is
 
-    go : (t : Bool) → bytes_eq key k ≡ t → at k new ≡ cond t (joined (at k old) (n ∷ [])) (at k old)
+    go : (t : Bool) → bytes_eq key k ≡ t → at k new ≡ cond t (with_numbers (at k old) (n ∷ [])) (at k old)
     go true e =
         let same : key ≡ k = (bytes_eq-Decides key k).0 e in
         there ∙ ap (λ t. cond t (Some v) (at k mid)) (tested key k true e)
@@ -117,7 +117,7 @@ numbers_on prefix k n m (x ∷ xs) ys e = go (bytes_eq (subject_key prefix x.sub
     go true later = ap (λ (t : List ℕ). n ∷ t) later
     go false later = later
 
-joined_twice : (xs ys : List ℕ) → joined (joined None xs) ys ≡ joined None (xs ++ ys)
+joined_twice : (xs ys : List ℕ) → with_numbers (with_numbers None xs) ys ≡ with_numbers None (xs ++ ys)
 joined_twice [] ys = refl
 joined_twice (x ∷ xs) [] = ap (λ (t : List ℕ). Some (x ∷ t)) (sym (append-nil xs))
 joined_twice (x ∷ xs) (y ∷ ys) = refl
@@ -131,10 +131,10 @@ apart places key k out inside = go (bytes_eq key k) refl
     go true e = absurd (out (subst (λ (t : Text). HasPlace places t) (sym ((bytes_eq-Decides key k).0 e)) inside))
 
 pub keyed_more : (dir : Dir) (prefix : Text) (places : Places) (count g first : ℕ) (keys new : Keys) (entries slice : List Entry) → first_of g ≤ count → AreKeyedBelow dir prefix places count g keys → IsWhole dir count g entries → slice ≡ entries → first ≡ first_of g
-    → ((k : Text) → HasPlace places k → numbers_at k new ≡ joined (numbers_at k keys) (key_numbers prefix k first slice)) → AreKeyedBelow dir prefix places count (g + 1) new
+    → ((k : Text) → HasPlace places k → numbers_at k new ≡ with_numbers (numbers_at k keys) (key_numbers prefix k first slice)) → AreKeyedBelow dir prefix places count (g + 1) new
 keyed_more dir prefix places count g first keys new entries slice there (es, are, keyed) whole same begun more = (
   es ++ entries,
   more_entries dir count g es entries there are whole,
-  λ k inside. more k inside ∙ ap₂ (λ (o : Option (List ℕ)) (ns : List ℕ). joined o ns) (keyed k inside) (ap₂ (λ (n : ℕ) (xs : List Entry). key_numbers prefix k n xs) begun same)
-      ∙ joined_twice (key_numbers prefix k 1 es) (key_numbers prefix k (first_of g) entries) ∙ ap (joined None) (sym (numbers_on prefix k 1 (first_of g) es entries (begins dir count g es entries there are whole))),
+  λ k inside. more k inside ∙ ap₂ (λ (o : Option (List ℕ)) (ns : List ℕ). with_numbers o ns) (keyed k inside) (ap₂ (λ (n : ℕ) (xs : List Entry). key_numbers prefix k n xs) begun same)
+      ∙ joined_twice (key_numbers prefix k 1 es) (key_numbers prefix k (first_of g) entries) ∙ ap (with_numbers None) (sym (numbers_on prefix k 1 (first_of g) es entries (begins dir count g es entries there are whole))),
 )

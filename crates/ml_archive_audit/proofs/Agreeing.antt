@@ -18,7 +18,7 @@ use Rattle.ml_archive.specs.declared.posts.Post.{Post}
 use Rattle.ml_archive.proofs.ByFiles.{IsOne, filtered_ones}
 use Rattle.ml_archive.proofs.Exact.{count_one, index_one}
 use Rattle.ml_archive.proofs.Looking.{group_in_table}
-use Rattle.ml_archive.proofs.Standing.{in_table, posts_one}
+use Rattle.ml_archive.proofs.Represented.{in_table, posts_one}
 use Rattle.ml_archive_audit.specs.Breaks.{Breaks, HasAll, HasThreads, IsBadGroup}
 use Rattle.ml_archive_audit.specs.Counted.{AreCountedPosts, IsCountedArchive, first_of, up_to}
 use Rattle.ml_archive_audit.specs.declared.keys.Places.{Places}

@@ -25,7 +25,7 @@ use Rattle.ml_archive.specs.declared.posts.Thread.{Thread}
 use Rattle.ml_archive.proofs.KeyLengths.{key_short}
 use Rattle.ml_archive_audit.specs.Breaks.{AreThreadsOf}
 use Rattle.ml_archive_audit.specs.declared.keys.Places.{Places}
-use Rattle.ml_archive_audit.specs.Found.{AreKeyed, AreNumbered, AreOrdered, IsPlace, Keys, joined, key_numbers, text_at, threads_at, threads_of}
+use Rattle.ml_archive_audit.specs.Found.{AreKeyed, AreNumbered, AreOrdered, IsPlace, Keys, with_numbers, key_numbers, text_at, threads_at, threads_of}
 use Rattle.ml_archive_audit.proofs.Posted.{keys_made, posts_of}
 
 -- numbers that rise from one on, below another
@@ -204,11 +204,11 @@ same_threads n ts us one two all each same = same_lists byte_cmp (λ (t : Thread
         let thread : t ≡ u = λ i. record { key = keys i; numbers = numbers i } in
         p ∙ ap Some thread ∙ sym q
 
-joined_none : (ns : List ℕ) → unwrap_or (joined None ns) [] ≡ ns
+joined_none : (ns : List ℕ) → unwrap_or (with_numbers None ns) [] ≡ ns
 joined_none [] = refl
 joined_none (n ∷ ns) = refl
 
-joined_some : (ns ms : List ℕ) → Some ms ≡ joined None ns → (ms ≡ ns) × (0 < length ns)
+joined_some : (ns ms : List ℕ) → Some ms ≡ with_numbers None ns → (ms ≡ ns) × (0 < length ns)
 joined_some [] ms is = absurd (cc)
 joined_some (n ∷ ns) ms is = ((cc), omega arith)
 
@@ -225,7 +225,7 @@ module _ (prefix : Text) (es : List Entry) (places : Places) (keys : Keys) (numb
   order_at : (n : ℕ) → InOrder (threads_at n keys.entries)
   order_at n = order_left (λ (t : Thread). thread_place t.key == n) (threads_of keys.entries) (in_order keys.entries ordered)
 
-  numbers_found : (n : ℕ) (k : Text) → IsPlace places n → thread_place k ≡ n → option_map (λ (t : Thread). t.numbers) (find k (threads_at n keys.entries)) ≡ joined None (key_numbers prefix k 1 es)
+  numbers_found : (n : ℕ) (k : Text) → IsPlace places n → thread_place k ≡ n → option_map (λ (t : Thread). t.numbers) (find k (threads_at n keys.entries)) ≡ with_numbers None (key_numbers prefix k 1 es)
   numbers_found n k inside place = ap (option_map (λ (t : Thread). t.numbers)) (found_at n k (threads_of keys.entries) place) ∙ found k keys.entries ∙ keyed k (subst (λ (m : ℕ). IsPlace places m) (sym place) inside)
 
   pub under_keys : (n : ℕ) (k : Text) → IsPlace places n → thread_place k ≡ n → numbers_under k (threads_at n keys.entries) ≡ key_numbers prefix k 1 es

@@ -71,9 +71,9 @@ abbrev pub AreOrdered : Keys → Type 0
 AreOrdered keys = IsOrdered (λ x y. byte_cmp x.items y.items) keys
 
 -- numbers behind those that are there, if any are
-abbrev pub joined : Option (List ℕ) → List ℕ → Option (List ℕ)
-joined old [] = old
-joined old (n ∷ ns) = Some (unwrap_or old [] ++ n ∷ ns)
+abbrev pub with_numbers : Option (List ℕ) → List ℕ → Option (List ℕ)
+with_numbers old [] = old
+with_numbers old (n ∷ ns) = Some (unwrap_or old [] ++ n ∷ ns)
 
 -- the numbers, from one on, of entries whose subject has a key
 abbrev pub key_numbers : Text → Text → ℕ → List Entry → List ℕ
@@ -90,7 +90,7 @@ HasPlace places k = IsPlace places (thread_place k)
 
 -- under each key of these thread files stand the numbers of its entries
 abbrev pub AreKeyed : Text → Places → List Entry → Keys → Type 0
-AreKeyed prefix places entries keys = (k : Text) → HasPlace places k → numbers_at k keys ≡ joined None (key_numbers prefix k 1 entries)
+AreKeyed prefix places entries keys = (k : Text) → HasPlace places k → numbers_at k keys ≡ with_numbers None (key_numbers prefix k 1 entries)
 
 -- how many groups so many posts are in
 abbrev pub groups_of : ℕ → ℕ

@@ -7,7 +7,7 @@ ghost use Rattle.ml_archive.specs.Threads.{thread_place};
 ghost use Rattle.ml_archive_audit.specs.Breaks.{AreBadGroups, AreGroupNames};
 ghost use Rattle.ml_archive_audit.specs.Counted.{first_of};
 ghost use Rattle.ml_archive_audit.specs.Found as found;
-ghost use Rattle.ml_archive_audit.specs.Found.{AreKeyedBelow, AreOrdered, AreWhole, HasPlace, joined, key_numbers, numbers_at};
+ghost use Rattle.ml_archive_audit.specs.Found.{AreKeyedBelow, AreOrdered, AreWhole, HasPlace, with_numbers, key_numbers, numbers_at};
 
 use crate::groups::{first_number, full_index, groups_of};
 use ml_archive::{Entry, subject_key};
@@ -45,7 +45,7 @@ pub(crate) type Keys = BTreeMap<Vec<u8>, Numbers>;
 // Adds a number under a key, behind those that are there.
 fn add_number(alloc: Global, keys: &mut Keys, key: &[u8], number: u64) -> Result<(), AllocError>
     ensures ordered { OnOk result (AreOrdered keys.new) }
-    ensures value { OnOk result ((k : Text) → numbers_at k keys.new ≡ (if bytes_eq key.now k then joined (numbers_at k keys.old) (number ∷ []) else numbers_at k keys.old)) }
+    ensures value { OnOk result ((k : Text) → numbers_at k keys.new ≡ (if bytes_eq key.now k then with_numbers (numbers_at k keys.old) (number ∷ []) else numbers_at k keys.old)) }
 {
     let mut numbers = match keys.remove(key) {
         Some(numbers) => numbers,
@@ -65,7 +65,7 @@ fn add_placed(
     number: u64,
 ) -> Result<(), AllocError>
     ensures ordered { AreOrdered keys.old → OnOk result (AreOrdered keys.new) }
-    ensures value { OnOk result ((k : Text) → HasPlace places k → numbers_at k keys.new ≡ (if bytes_eq key.now k then joined (numbers_at k keys.old) (number ∷ []) else numbers_at k keys.old)) }
+    ensures value { OnOk result ((k : Text) → HasPlace places k → numbers_at k keys.new ≡ (if bytes_eq key.now k then with_numbers (numbers_at k keys.old) (number ∷ []) else numbers_at k keys.old)) }
 {
     if !places.have(key) {
         return Ok(());
@@ -84,7 +84,7 @@ fn add_entries(
 ) -> Result<(), AllocError>
     requires { length entries.now + first ≤ 100_000_000 }
     ensures ordered { AreOrdered keys.old → OnOk result (AreOrdered keys.new) }
-    ensures value { OnOk result ((k : Text) → HasPlace places k → numbers_at k keys.new ≡ joined (numbers_at k keys.old) (key_numbers prefix.now k first entries.now)) }
+    ensures value { OnOk result ((k : Text) → HasPlace places k → numbers_at k keys.new ≡ with_numbers (numbers_at k keys.old) (key_numbers prefix.now k first entries.now)) }
 {
     let mut number = first;
     let mut rest = entries;

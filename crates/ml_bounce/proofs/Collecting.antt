@@ -19,7 +19,7 @@ use Rattle.ml_bounce.specs.Changes.{due_entries, is_due}
 use Rattle.ml_bounce.specs.Files.{IsLedger, IsLedgerFile, IsEntry, ledger_name, ledger_place}
 use Rattle.ml_bounce.specs.Ledger.{Ledger, LedgerEntry, find_entry}
 use Rattle.ml_bounce.proofs.Changed.{found_there}
-use Rattle.ml_bounce.proofs.Gathered.{IsOrdered, entry_key, merged, merged_ordered, found_merged, sorted_joined, all_above_none, tied}
+use Rattle.ml_bounce.proofs.Union.{IsOrdered, entry_key, merged, merged_ordered, found_merged, sorted_joined, all_above_none, tied}
 use Rattle.ml_bounce.proofs.Ledgers.{no_bad_file, place_below}
 
 -- one file more

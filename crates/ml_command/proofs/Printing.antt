@@ -45,7 +45,7 @@ use Rattle.ml_split.specs.Steps.{is_named}
 use Rattle.ml_split.specs.declared.parts.Part.{Part}
 use Rattle.ml_split.specs.declared.rules.Rule.{Rule}
 use Rattle.ml_stream.specs.Stream.{IsStream, End}
-use Rattle.ml_subs.proofs.Standing.{subscribers_each}
+use Rattle.ml_subs.proofs.Represented.{subscribers_each}
 use Rattle.ml_subs.specs.Subscribers.{AreSubscribers}
 use Rattle.ml_subs.specs.declared.member_list.Member.{Member}
 use Rattle.ml_command.specs.Commands.{Does}

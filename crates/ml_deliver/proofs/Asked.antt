@@ -7,12 +7,12 @@ use Rattle.ml_base.specs.Bytes.{Text}
 use Rattle.ml_base.specs.Dir.{Dir}
 use Rattle.ml_base.specs.declared.names.Name.{Name}
 use Rattle.ml_config.specs.declared.configuration.Config.{Config}
-use Rattle.ml_manage.specs.Reads.{IsForRequest, may_read}
+use Rattle.ml_manage.specs.Reads.{IsForRequest, is_read_for_sender}
 use Rattle.ml_deliver.specs.Asked.{IsForMail, is_requested}
 
 -- one that is neither a post nor a moderator's answer
 pub requested_other : (c : Config) (sender : Text) (name : Name) (r : Request) → (r ≡ requests.Post → ⊥) → ((ticket : ℕ) (cookie : List ℕ) → r ≡ requests.Accept ticket cookie → ⊥) → ((ticket : ℕ) (cookie : List ℕ) → r ≡ requests.Reject ticket cookie → ⊥)
-    → may_read c sender (request_view r) name ≡ true → is_requested c sender (request_view r) name ≡ true
+    → is_read_for_sender c sender (request_view r) name ≡ true → is_requested c sender (request_view r) name ≡ true
 requested_other c sender name requests.Post n0 n1 n2 e = absurd (n0 refl)
 requested_other c sender name requests.Help n0 n1 n2 e = e
 requested_other c sender name requests.Owner n0 n1 n2 e = e

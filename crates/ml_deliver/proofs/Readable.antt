@@ -25,13 +25,13 @@ use Rattle.ml_hold.specs.Answers.{post_name, tickets_name}
 use Rattle.ml_queue.specs.Answers.{ids_name}
 use Rattle.ml_subs.specs.Buckets.{bucket_of}
 use Rattle.ml_subs.specs.Subscribers.{bucket_name, count_name, is_touched}
-use Rattle.ml_subs.proofs.Standing.{below_53}
+use Rattle.ml_subs.proofs.Represented.{below_53}
 use Rattle.ml_plain.specs.Bouncing.{address_named}
 use Rattle.ml_acts.specs.Doing.{is_bucket, is_bucket_of, is_entry_of, is_held_post, is_index, is_mailed_by, is_thread_file}
-use Rattle.ml_joining.specs.Deeds.{asked_of}
+use Rattle.ml_joining.specs.Operations.{asked_of}
 use Rattle.ml_joining.specs.Reads.{asks_rank, is_for_mail, is_read_to_confirm, is_read_to_join, is_read_to_leave}
 use Rattle.ml_following.specs.Reads.{is_followed_by as is_followed_in, is_ledger, is_of_following}
-use Rattle.ml_manage.specs.Reads.{is_asked_of, is_counted_in, is_of_bounce, is_of_index, is_of_members, is_of_posts, is_of_probe, is_of_range, is_of_reader, is_of_signed, is_of_thread, is_of_warning, is_read_for, may_read}
+use Rattle.ml_manage.specs.Reads.{is_asked_of, is_counted_in, is_of_bounce, is_of_index, is_of_members, is_of_posts, is_of_probe, is_of_range, is_of_reader, is_of_signed, is_of_thread, is_of_warning, is_read_for, is_read_for_sender}
 use Rattle.ml_post.specs.Answering.{is_answered_by, is_followed_by, is_taken_by}
 use Rattle.ml_post.specs.Holding.{is_asked_by, is_held_by}
 use Rattle.ml_post.specs.Judging.{is_judged_by, is_of_user}
@@ -294,7 +294,7 @@ module _ (name : Name) where
   asked_by c None request e = absurd (let bad : false ≡ true = e in cc)
   asked_by c (Some who) request e = asked c who request e
 
-  pub of_managed : (c : Config) (sender : Text) (request : PlainRequest) → may_read c sender request name ≡ true → is_of_acts name ≡ true
+  pub of_managed : (c : Config) (sender : Text) (request : PlainRequest) → is_read_for_sender c sender request name ≡ true → is_of_acts name ≡ true
   of_managed c sender (Bounce set number who) e = of_bounce set (address_named who) e
   of_managed c sender (WarnBounce set s) e = of_warning set (address_named s.who) e
   of_managed c sender (ProbeBounce set s) e = of_probe set (address_named s.who) e

@@ -11,7 +11,7 @@ use Rattle.ml_archive.specs.Threads.{is_of_archive}
 use Rattle.ml_acts.specs.Asked.{IsBadFor, Next}
 use Rattle.ml_acts.specs.Damaged.{IsDamaged}
 use Rattle.ml_hold.specs.Answers.{tickets_name}
-use Rattle.ml_manage.specs.Reads.{IsForRequest, may_read}
+use Rattle.ml_manage.specs.Reads.{IsForRequest, is_read_for_sender}
 use Rattle.ml_post.specs.Answering.{IsBadForTicket, is_answered_by}
 use Rattle.ml_post.specs.Posting.{is_posted_by}
 use Rattle.ml_post.specs.Publishing.{sent_key}
@@ -26,7 +26,7 @@ abbrev pub is_requested : Config → Text → PlainRequest → Name → Bool
 is_requested c sender Post name = is_posted_by c sender name
 is_requested c sender (Accept ticket cookie) name = is_answered_by ticket true name
 is_requested c sender (Reject ticket cookie) name = is_answered_by ticket false name
-is_requested c sender request name = may_read c sender request name
+is_requested c sender request name = is_read_for_sender c sender request name
 
 -- What a request asks of the archive with the message that came: a post, or one that waits under a ticket, a place behind the last one, by the key of
 -- its own subject; any other what it says.

@@ -19,7 +19,7 @@ ghost use Rattle.ml_deliver.specs.Asked.{IsDamagedServed, IsDelivered, IsRequest
 ghost use Rattle.ml_deliver.specs.Reads.{is_of_acts};
 
 use crate::moderating::moderated;
-use ml_acts::{Memo, is_worn};
+use ml_acts::{MailMemo, is_worn};
 use ml_address::{Request, read_request};
 use ml_base::{Files, PartError, Txn};
 use ml_config::{Config, load};
@@ -41,7 +41,7 @@ use std::alloc::Global;
 pub fn deliver<F: Files>(
     alloc: Global,
     files: &mut F,
-    memo: &mut Memo,
+    memo: &mut MailMemo,
     now: u64,
     sender: &[u8],
     recipient: &[u8],
@@ -63,7 +63,7 @@ pub fn deliver<F: Files>(
 fn unless_worn<F: Files>(
     alloc: Global,
     files: &mut F,
-    memo: &mut Memo,
+    memo: &mut MailMemo,
     config: &Config,
     now: u64,
     sender: &[u8],
@@ -105,7 +105,7 @@ pub(crate) fn configuration<F: Files>(alloc: Global, files: &mut F) -> Result<Co
 fn by_recipient<F: Files>(
     alloc: Global,
     files: &mut F,
-    memo: &mut Memo,
+    memo: &mut MailMemo,
     config: &Config,
     now: u64,
     sender: &[u8],
@@ -136,7 +136,7 @@ fn by_recipient<F: Files>(
 fn by_request<F: Files>(
     alloc: Global,
     files: &mut F,
-    memo: &mut Memo,
+    memo: &mut MailMemo,
     config: &Config,
     now: u64,
     sender: &[u8],

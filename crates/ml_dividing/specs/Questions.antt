@@ -21,7 +21,7 @@ set_meaning set may_miss IsAnswer answer_of = record {
   of_list = λ list. answer_of (list.sets set);
   may_miss = may_miss;
   may_exceed = false;
-  may_read = IsBucketName set;
+  is_read = IsBucketName set;
   is_bad = λ config dir name. IsBadBucket dir set name;
 }
 

@@ -2,7 +2,7 @@
 use Rattle.std.proofs.Common.{◌≤◌, ◌<◌, ℕ, ◌⊎◌, inl, inr, List, [], ◌∷◌, arith}
 use Rattle.ml_base.specs.Drawn.{Drawing, with_next}
 use Rattle.ml_drawn.specs.Later.{after}
-use Rattle.ml_drawn.specs.Standing.{without_number}
+use Rattle.ml_drawn.specs.Represented.{without_number}
 
 pub next_kept : {E : Type 0} (d : Drawing E) (later : List (E ⊎ ℕ)) → d.next ≤ (after d later).next
 next_kept d [] = omega arith

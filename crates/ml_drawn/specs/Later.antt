@@ -2,7 +2,7 @@
 use Rattle.std.specs.Prelude.{◌⊎◌, ℕ, List, [], ◌∷◌}
 use Rattle.std.proofs.Common.{inl, inr}
 use Rattle.ml_base.specs.Drawn.{Drawing, with_next}
-use Rattle.ml_drawn.specs.Standing.{without_number}
+use Rattle.ml_drawn.specs.Represented.{without_number}
 
 -- after these changes, in order: a thing is drawn, or that of a number is taken out
 abbrev pub after : {E : Type 0} → Drawing E → List (E ⊎ ℕ) → Drawing E

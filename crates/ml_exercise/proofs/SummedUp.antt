@@ -28,7 +28,7 @@ use Rattle.ml_ending.proofs.Finished.{rose_earlier}
 use Rattle.ml_ending.proofs.Said.{tells_front}
 use Rattle.ml_reading.specs.declared.question.Answer.TheVariants as answers
 use Rattle.ml_reading.specs.Giving.{GivesAnswer}
-use Rattle.ml_reading.specs.Readings.{GivesText, IsAnswer, IsFront, IsReading, IsRefusal, Reads, is_reading_status}
+use Rattle.ml_reading.specs.Readings.{GivesText, IsAnswer, IsFront, IsLeftByReading, IsRefusal, Reads, is_reading_status}
 use Rattle.ml_run.specs.Leaving.{HasState}
 use Rattle.ml_run.proofs.Leaving.{same_state}
 use Rattle.ml_exercise.specs.Summing.{exercised_line, IsLooking, IsSummingUp, NamesWhole, SumsUp, TellsOf, two_lines}
@@ -170,7 +170,7 @@ module _ {S : Type 0} (told : Ghosts S) (reads_told : IsTrue told.tells_all → 
           let r = reads_told t in
           let here = state_at r q state in
           let still : IsAtRest (told.disk mid) = subst (λ (d : Disk). IsAtRest d) (sym (tells.disk_is t)) rest in
-          joins told.moment told.left_since told.disk told.output old mid new (IsLooking (directory (told.disk old).reads) count q.plain (told.output old)) (IsReading check_meaning (directory (told.disk mid).reads) (told.output mid))
+          joins told.moment told.left_since told.disk told.output old mid new (IsLooking (directory (told.disk old).reads) count q.plain (told.output old)) (IsLeftByReading check_meaning (directory (told.disk mid).reads) (told.output mid))
           (IsLooking (directory (told.disk old).reads) count q.plain (told.output old)) (line_moments rest q t) (gives.at_rest still t) (λ left out p. p)
           (λ left out p. (p.0 ∙ ap directory (tells.reads r), front_is (directory (told.disk mid).reads) q count (told.output old) (told.output mid) out here (line_out t) p.1));
       rest = λ none one two. gives.rest (λ rose. none (subst (λ (n : ℕ). Rose n (told.disk_faults new)) tells.disk_faults rose)) one two;

@@ -8,7 +8,7 @@ use Rattle.ml_config.specs.ConfigFile.{config_name}
 use Rattle.ml_config.specs.declared.configuration.Config.{Config}
 use Rattle.ml_generated.specs.Items.{generated}
 use Rattle.ml_list.specs.Asked.{IsReadBy}
-use Rattle.ml_list.specs.Damage.{may_read}
+use Rattle.ml_list.specs.Damage.{is_read_by_item}
 use Rattle.ml_plain.specs.Histories.{State, fold, text}
 use Rattle.ml_plain.specs.declared.Item.{Item}
 use Rattle.ml_site.specs.Disk.{Contents, IsAtRest}
@@ -72,7 +72,7 @@ pub record IsOfItem (dir : Option Dir) (count answered : ℕ) (files : Dir) (who
   pub split : generated config.local config.host count ≡ before ++ item ∷ behind
   pub place : answered ≡ length before
   pub number : who ≡ Some item.number
-  pub reads : may_read item name ≡ true
+  pub reads : is_read_by_item item name ≡ true
   pub asked : IsReadBy files item name
 
 -- What an exercise of so many items does that answers these first ones of them, but for the moments of its opening.

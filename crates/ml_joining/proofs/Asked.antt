@@ -11,7 +11,7 @@ use Rattle.ml_subs.specs.declared.member_list.Member.{Member}
 use Rattle.ml_plain.specs.Managing.{subject_of}
 use Rattle.ml_plain.specs.Plain.{Plain, is_in, spelled_in}
 use Rattle.ml_plain.proofs.Leaving.{key_spelled}
-use Rattle.ml_joining.specs.Deeds.{IsSubject, asked_of}
+use Rattle.ml_joining.specs.Operations.{IsSubject, asked_of}
 use Rattle.ml_joining.specs.declared.subjects.Subject.{Subject}
 
 -- the address of two parts that make one

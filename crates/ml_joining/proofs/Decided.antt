@@ -10,17 +10,17 @@ use Rattle.ml_base.specs.declared.names.Set.TheVariants as sets
 use Rattle.ml_address.specs.declared.Word.TheVariants as words
 use Rattle.ml_config.specs.declared.configuration.Config.{Config}
 use Rattle.ml_plain.specs.Answers as answers
-use Rattle.ml_plain.specs.Managing.{Deed, Only, TellAlready, TellAbsent, AskSender, AskSubject, AskModerators, Join, Leave, is_admin, is_closed, is_same, subscribing, unsubscribing, confirming}
+use Rattle.ml_plain.specs.Managing.{Operation, Only, TellAlready, TellAbsent, AskSender, AskSubject, AskModerators, Join, Leave, is_admin, is_closed, is_same, subscribing, unsubscribing, confirming}
 use Rattle.ml_plain.specs.Plain.{Plain, first_row, is_in, is_moderator}
 use Rattle.ml_joining.specs.Cases as cases
 use Rattle.ml_joining.specs.declared.deciding.Facts.{Facts}
 
 -- the tables, by each case's test
-join_by : Bool → Bool → Bool → Bool → Bool → Bool → Bool → Deed
+join_by : Bool → Bool → Bool → Bool → Bool → Bool → Bool → Operation
 join_by closed out member admin h own s =
     first_row ((closed, Only answers.private) ∷ (out, Only answers.private) ∷ (member, TellAlready) ∷ (admin, AskSender words.Tc) ∷ (h && own && not s, Join) ∷ (h && own && s, AskModerators) ∷ []) (AskSubject words.Sc)
 
-leave_by : Bool → Bool → Bool → Bool → Bool → Deed
+leave_by : Bool → Bool → Bool → Bool → Bool → Operation
 leave_by closed member admin j own =
     first_row ((closed, Only answers.private) ∷ (not member, TellAbsent) ∷ (admin, AskSender words.Uc) ∷ (j && own, Leave) ∷ []) (AskSubject words.Uc)
 

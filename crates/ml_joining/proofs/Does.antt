@@ -20,12 +20,12 @@ use Rattle.ml_subs.specs.Subscribers.{is_touched}
 use Rattle.ml_subs.specs.declared.changing.AddAnswer.TheVariants.{Added, Full}
 use Rattle.ml_plain.specs.declared.Reply.{Reply}
 use Rattle.ml_plain.specs.Directory.{IsList}
-use Rattle.ml_plain.specs.Managing.{Deed, done, joined}
+use Rattle.ml_plain.specs.Managing.{Operation, done, joined}
 use Rattle.ml_plain.specs.Plain.{Plain, added, is_full, ledger_of, removed, with_ledger_of, with_members}
 use Rattle.ml_plain.proofs.Changes.{members_changed}
 use Rattle.ml_acts.specs.Doing.{DoesList, HasIds, HasRoom}
 use Rattle.ml_acts.specs.Damaged.{IsDamaged}
-use Rattle.ml_joining.specs.Deeds.{IsSubject}
+use Rattle.ml_joining.specs.Operations.{IsSubject}
 use Rattle.ml_joining.specs.declared.subjects.Subject.{Subject}
 
 -- an answer of a call on the files as they were kept, behind no puts
@@ -73,12 +73,12 @@ asked_by old dir (Ok answer) c set s step other same whom f value = λ p is e.
     subst (λ (d : Dir). DoesList d answer (other p)) same
     (subst (λ (t : Plain × Reply). DoesList dir answer t) (f p is e about) (value p (subst (λ (d : Dir). IsList d p) (sym same) is) e about))
 
--- the same of a deed that is this one
-pub deed_is : {D : Type 0} (dir : Dir) (r : Result (List Put × Reply) PartError) (c : Config) (now : ℕ) (set : Set) (sender : Text) (s : Subject) (view : D → Deed) (deed arm : D) → deed ≡ arm
+-- the same of a operation that is this one
+pub deed_is : {D : Type 0} (dir : Dir) (r : Result (List Put × Reply) PartError) (c : Config) (now : ℕ) (set : Set) (sender : Text) (s : Subject) (view : D → Operation) (operation arm : D) → operation ≡ arm
     → IfOk r (λ answer. (p : Plain) → IsList dir p → p.config ≡ c → DoesList dir answer (done now set sender s.who p (view arm)))
-    → IfOk r (λ answer. (p : Plain) → IsList dir p → p.config ≡ c → IsSubject p set s → DoesList dir answer (done now set sender s.who p (view deed)))
-deed_is dir (Err e) c now set sender s view deed arm same value = tt
-deed_is {D = D} dir (Ok answer) c now set sender s view deed arm same value = λ p is e about. subst (λ (d : D). DoesList dir answer (done now set sender s.who p (view d))) (sym same) (value p is e)
+    → IfOk r (λ answer. (p : Plain) → IsList dir p → p.config ≡ c → IsSubject p set s → DoesList dir answer (done now set sender s.who p (view operation)))
+deed_is dir (Err e) c now set sender s view operation arm same value = tt
+deed_is {D = D} dir (Ok answer) c now set sender s view operation arm same value = λ p is e about. subst (λ (d : D). DoesList dir answer (done now set sender s.who p (view d))) (sym same) (value p is e)
 
 -- a call on files that were kept names what it may
 pub fewer_kept : {F T : Type 0} (told : Ghosts F) (old new : F) (May Few : Name → Type 0) (r : Result T PartError) → (IsTrue told.tells → told.map new ≡ told.map old) → ((name : Name) → Few name → May name)

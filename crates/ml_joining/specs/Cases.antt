@@ -5,7 +5,7 @@ use Rattle.ml_base.specs.declared.names.Set.TheVariants as sets
 use Rattle.ml_address.specs.declared.Word.TheVariants as words
 use Rattle.ml_config.specs.declared.configuration.Flags.{Flags}
 use Rattle.ml_plain.specs.Answers as answers
-use Rattle.ml_plain.specs.Managing.{Deed, Only, TellAlready, TellAbsent, AskSender, AskSubject, AskModerators, Join, Leave}
+use Rattle.ml_plain.specs.Managing.{Operation, Only, TellAlready, TellAbsent, AskSender, AskSubject, AskModerators, Join, Leave}
 use Rattle.ml_plain.specs.Plain.{first_row}
 use Rattle.ml_joining.specs.declared.deciding.Facts.{Facts}
 
@@ -18,7 +18,7 @@ is_reserved sets.Deny = true
 is_reserved sets.Moderators = true
 
 -- a request to join
-abbrev pub joining : Flags → Set → Facts → Deed
+abbrev pub joining : Flags → Set → Facts → Operation
 joining f set x =
     first_row (
     (is_reserved set && not (x.moderator && f.r), Only answers.private)
@@ -30,7 +30,7 @@ joining f set x =
     ∷ []) (AskSubject words.Sc)
 
 -- a request to leave
-abbrev pub leaving : Flags → Set → Facts → Deed
+abbrev pub leaving : Flags → Set → Facts → Operation
 leaving f set x =
     first_row (
     (is_reserved set && not (x.moderator && f.r), Only answers.private)
@@ -40,10 +40,10 @@ leaving f set x =
     ∷ []) (AskSubject words.Uc)
 
 -- a confirmation of joining, where `moderated` sends it to the moderators
-abbrev pub confirmed_joining : Bool → Bool → Bool → Deed
+abbrev pub confirmed_joining : Bool → Bool → Bool → Operation
 confirmed_joining moderated member good =
     first_row ((not good, Only answers.badcookie) ∷ (member, Only answers.already) ∷ (moderated, AskModerators) ∷ []) Join
 
 -- a confirmation of leaving
-abbrev pub confirmed_leaving : Bool → Bool → Deed
+abbrev pub confirmed_leaving : Bool → Bool → Operation
 confirmed_leaving member good = first_row ((not good, Only answers.badcookie) ∷ (not member, Only answers.absent) ∷ []) Leave

@@ -1,3 +1,3 @@
-pub mod Deeds
+pub mod Operations
 pub mod Cases
 pub mod Reads

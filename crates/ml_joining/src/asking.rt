@@ -17,7 +17,7 @@ ghost use Rattle.ml_acts.specs.Doing.{DoesList, HasIds, is_beside_queue, is_buck
 ghost use Rattle.ml_acts.specs.Damaged.{IsDamaged};
 ghost use Rattle.ml_joining.specs.Reads.{is_for_mail};
 
-use crate::deeds::plain;
+use crate::operations::plain;
 use ml_acts::{confirm_address, owner_address, with_mail, with_mail_to_moderators};
 use ml_address::Word;
 use ml_base::{Address, Bytes, Files, PartError, Set, Txn};

@@ -1,9 +1,9 @@
 // What follows from a request: the first case that applies.
 ghost use Rattle.std.specs.Prelude.{◌≡◌, ◌&&◌};
-ghost use Rattle.ml_joining.specs.Deeds.{MayJoin, MayLeave, joining_deed, leaving_deed};
+ghost use Rattle.ml_joining.specs.Operations.{MayJoin, MayLeave, joining_deed, leaving_deed};
 ghost use Rattle.ml_joining.specs.Cases as cases;
 
-use crate::deeds::{Answer, Joining, Leaving};
+use crate::operations::{Answer, Joining, Leaving};
 use ml_base::Set;
 use ml_config::{Config, Flags};
 
@@ -34,7 +34,7 @@ fn administers(flags: Flags, facts: Facts) -> bool
 
 // What is done where an address is to join a set.
 pub(crate) fn joining(config: &Config, set: Set, facts: Facts) -> Joining
-    ensures deed { joining_deed result ≡ cases.joining config.now.flags set facts }
+    ensures operation { joining_deed result ≡ cases.joining config.now.flags set facts }
     ensures fresh { MayJoin facts.member result }
 {
     let flags = config.flags;
@@ -63,7 +63,7 @@ pub(crate) fn joining(config: &Config, set: Set, facts: Facts) -> Joining
 
 // What is done where an address is to leave a set.
 pub(crate) fn leaving(config: &Config, set: Set, facts: Facts) -> Leaving
-    ensures deed { leaving_deed result ≡ cases.leaving config.now.flags set facts }
+    ensures operation { leaving_deed result ≡ cases.leaving config.now.flags set facts }
     ensures member { MayLeave facts.member result }
 {
     let flags = config.flags;
@@ -86,7 +86,7 @@ pub(crate) fn leaving(config: &Config, set: Set, facts: Facts) -> Leaving
 // What is done where somebody confirms that an address is to join a set, with letters of this goodness: moderated subscriptions
 // that the address itself confirms go to the moderators.
 pub(crate) fn confirmed_joining(moderated: bool, member: bool, good: bool) -> Joining
-    ensures deed { joining_deed result ≡ cases.confirmed_joining moderated member good }
+    ensures operation { joining_deed result ≡ cases.confirmed_joining moderated member good }
     ensures fresh { MayJoin member result }
 {
     if !good {
@@ -104,7 +104,7 @@ pub(crate) fn confirmed_joining(moderated: bool, member: bool, good: bool) -> Jo
 
 // What is done where somebody confirms that an address is to leave a set, with letters of this goodness.
 pub(crate) fn confirmed_leaving(member: bool, good: bool) -> Leaving
-    ensures deed { leaving_deed result ≡ cases.confirmed_leaving member good }
+    ensures operation { leaving_deed result ≡ cases.confirmed_leaving member good }
     ensures member { MayLeave member result }
 {
     if !good {

@@ -17,11 +17,11 @@ ghost use Rattle.ml_reply.specs.declared.mails.Mail.TheVariants as mails;
 ghost use Rattle.ml_subs.specs.Subscribers.{is_touched};
 ghost use Rattle.ml_acts.specs.Doing.{DoesList, HasIds};
 ghost use Rattle.ml_acts.specs.Damaged.{IsDamaged};
-ghost use Rattle.ml_joining.specs.Deeds.{IsSubject, MayJoin, joining_deed};
+ghost use Rattle.ml_joining.specs.Operations.{IsSubject, MayJoin, joining_deed};
 ghost use Rattle.ml_joining.specs.Reads.{is_read_to_join, is_touched_with_mail};
 
 use crate::asking::{ask, ask_moderators};
-use crate::deeds::{Joining, plain, reply_of};
+use crate::operations::{Joining, plain, reply_of};
 use crate::subjects::Subject;
 use ml_acts::with_mail;
 use ml_address::Word;
@@ -41,14 +41,14 @@ pub(crate) fn joined<F: Files>(
     set: Set,
     sender: &Address,
     x: &Subject,
-    deed: Joining,
+    operation: Joining,
 ) -> Result<(Txn, Reply), PartError>
     requires moment { IsMoment now }
     requires config { IsConfig config.now }
     requires asked { IsTrue (is_asked set) }
-    requires fresh { MayJoin x.now.member deed }
+    requires fresh { MayJoin x.now.member operation }
     requires room { IsTrue F.tells → HasIds (F.map files.now) }
-    ensures value { IsTrue F.tells → IfOk result (λ done. (p : Plain) → IsList (F.map files.old) p → p.config ≡ config.now → IsSubject p set x.now → DoesList (F.map files.old) done (spec.done now set sender.now x.now.who p (joining_deed deed))) }
+    ensures value { IsTrue F.tells → IfOk result (λ done. (p : Plain) → IsList (F.map files.old) p → p.config ≡ config.now → IsSubject p set x.now → DoesList (F.map files.old) done (spec.done now set sender.now x.now.who p (joining_deed operation))) }
     ensures own { IfOk result (λ done. touches_only is_of_list done.0 ≡ true) }
     ensures files { IfOk result (λ done. IsTrue (are_files done.0)) }
     ensures reply { IfOk result (λ done. is_kept done.1 ≡ true) }
@@ -56,7 +56,7 @@ pub(crate) fn joined<F: Files>(
     ensures reads { IsReading ⟦<F as Files>⟧ files.old files.new result }
 {
     let who = &x.who;
-    match deed {
+    match operation {
         Joining::Only(answer) => Ok((Txn::new(alloc), reply_of(answer))),
         Joining::TellAlready => tell_already(alloc, files, config, now, set, sender, who),
         Joining::AskSender => ask(alloc, files, config, now, Word::Tc, set, sender, who),

@@ -16,11 +16,11 @@ ghost use Rattle.ml_queue.specs.Answers.{ids_name};
 ghost use Rattle.ml_reply.specs.declared.mails.Mail.TheVariants as mails;
 ghost use Rattle.ml_acts.specs.Doing.{DoesList, HasIds, is_beside_queue};
 ghost use Rattle.ml_acts.specs.Damaged.{IsDamaged};
-ghost use Rattle.ml_joining.specs.Deeds.{IsSubject, MayLeave, leaving_deed};
+ghost use Rattle.ml_joining.specs.Operations.{IsSubject, MayLeave, leaving_deed};
 ghost use Rattle.ml_joining.specs.Reads.{is_read_to_leave};
 
 use crate::asking::ask;
-use crate::deeds::{Leaving, plain, reply_of};
+use crate::operations::{Leaving, plain, reply_of};
 use crate::subjects::Subject;
 use ml_acts::{remove_member, with_mail};
 use ml_address::Word;
@@ -39,14 +39,14 @@ pub(crate) fn left<F: Files>(
     set: Set,
     sender: &Address,
     x: &Subject,
-    deed: Leaving,
+    operation: Leaving,
 ) -> Result<(Txn, Reply), PartError>
     requires moment { IsMoment now }
     requires config { IsConfig config.now }
     requires asked { IsTrue (is_asked set) }
-    requires member { MayLeave x.now.member deed }
+    requires member { MayLeave x.now.member operation }
     requires room { IsTrue F.tells → HasIds (F.map files.now) }
-    ensures value { IsTrue F.tells → IfOk result (λ done. (p : Plain) → IsList (F.map files.old) p → p.config ≡ config.now → IsSubject p set x.now → DoesList (F.map files.old) done (spec.done now set sender.now x.now.who p (leaving_deed deed))) }
+    ensures value { IsTrue F.tells → IfOk result (λ done. (p : Plain) → IsList (F.map files.old) p → p.config ≡ config.now → IsSubject p set x.now → DoesList (F.map files.old) done (spec.done now set sender.now x.now.who p (leaving_deed operation))) }
     ensures own { IfOk result (λ done. touches_only is_of_list done.0 ≡ true) }
     ensures files { IfOk result (λ done. IsTrue (are_files done.0)) }
     ensures reply { IfOk result (λ done. is_kept done.1 ≡ true) }
@@ -54,7 +54,7 @@ pub(crate) fn left<F: Files>(
     ensures reads { IsReading ⟦<F as Files>⟧ files.old files.new result }
 {
     let who = &x.who;
-    match deed {
+    match operation {
         Leaving::Only(answer) => Ok((Txn::new(alloc), reply_of(answer))),
         Leaving::TellAbsent => tell_absent(alloc, files, config, now, set, sender, who),
         Leaving::AskSender => ask(alloc, files, config, now, Word::Uc, set, sender, who),

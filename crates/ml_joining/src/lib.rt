@@ -3,9 +3,9 @@
 
 mod asking;
 mod deciding;
-mod deeds;
 mod joining;
 mod leaving;
+mod operations;
 mod requests;
 mod subjects;
 

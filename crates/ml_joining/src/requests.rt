@@ -19,7 +19,7 @@ ghost use Rattle.ml_plain.specs.Plain.{Plain};
 ghost use Rattle.ml_acts.specs.Configured.{with_config};
 ghost use Rattle.ml_acts.specs.Doing.{DoesList, HasIds, HasRoom};
 ghost use Rattle.ml_acts.specs.Damaged.{IsDamaged};
-ghost use Rattle.ml_joining.specs.Deeds.{IsSubject, asked_of};
+ghost use Rattle.ml_joining.specs.Operations.{IsSubject, asked_of};
 ghost use Rattle.ml_joining.specs.Reads as reads;
 ghost use Rattle.ml_joining.specs.Reads.{is_read_to_confirm, is_read_to_subscribe, is_read_to_unsubscribe};
 
@@ -122,8 +122,8 @@ fn join_found<F: Files>(
         member: x.member,
         own: x.who.same(sender),
     };
-    let deed = joining(config, set, facts);
-    joined(alloc, files, config, now, set, sender, x, deed)
+    let operation = joining(config, set, facts);
+    joined(alloc, files, config, now, set, sender, x, operation)
 }
 
 /// A sender asks that an address leaves a set: the one that is named, or his own. The set is one that requests name. What it does is said
@@ -207,8 +207,8 @@ fn leave_found<F: Files>(
         member: x.member,
         own: x.who.same(sender),
     };
-    let deed = leaving(config, set, facts);
-    left(alloc, files, config, now, set, sender, x, deed)
+    let operation = leaving(config, set, facts);
+    left(alloc, files, config, now, set, sender, x, operation)
 }
 
 /// A sender confirms that an address joins a set or leaves it, with a cookie for the address. The set is one that requests name. What it
@@ -350,16 +350,16 @@ fn confirmed<F: Files>(
     let member = x.member;
     match word {
         Word::Uc => {
-            let deed = confirmed_leaving(member, good);
-            left(alloc, files, config, now, set, sender, x, deed)
+            let operation = confirmed_leaving(member, good);
+            left(alloc, files, config, now, set, sender, x, operation)
         }
         Word::Sc => {
-            let deed = confirmed_joining(config.flags.s, member, good);
-            joined(alloc, files, config, now, set, sender, x, deed)
+            let operation = confirmed_joining(config.flags.s, member, good);
+            joined(alloc, files, config, now, set, sender, x, operation)
         }
         Word::Tc => {
-            let deed = confirmed_joining(false, member, good);
-            joined(alloc, files, config, now, set, sender, x, deed)
+            let operation = confirmed_joining(false, member, good);
+            joined(alloc, files, config, now, set, sender, x, operation)
         }
     }
 }

@@ -12,7 +12,7 @@ ghost use Rattle.ml_plain.specs.Plain.{Plain, is_moderator};
 ghost use Rattle.std.specs.Prelude.{◌&&◌};
 ghost use Rattle.ml_acts.specs.Doing.{is_bucket_of};
 ghost use Rattle.ml_acts.specs.Damaged.{IsDamaged};
-ghost use Rattle.ml_joining.specs.Deeds.{IsSubject, asked_of};
+ghost use Rattle.ml_joining.specs.Operations.{IsSubject, asked_of};
 
 use ml_address::Who;
 use ml_base::{Address, Bytes, Files, PartError, Set};

@@ -14,6 +14,6 @@ mod Settled
 pub mod Held
 mod Spent
 mod Handed
-mod Gathered
+mod Buffered
 mod Opened
 mod Examples

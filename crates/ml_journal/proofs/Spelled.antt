@@ -39,8 +39,8 @@ put_parts name (Some bytes) =
     ∙ ap (λ (l : Text). front ++ l) (sym (append_assoc digits (58 ∷ bytes) (44 ∷ [])))
 
 -- a record and a closed gate, from what comes before its puts on
-pub record_parts : (gathered head content : Text) → gathered ≡ [] → head ≡ decimal (length content) ++ 58 ∷ [] → gathered ++ (head ++ content) ++ 44 ∷ 0 ∷ [] ≡ ns content ++ 0 ∷ []
-record_parts gathered head content none is =
+pub record_parts : (buffered head content : Text) → buffered ≡ [] → head ≡ decimal (length content) ++ 58 ∷ [] → buffered ++ (head ++ content) ++ 44 ∷ 0 ∷ [] ≡ ns content ++ 0 ∷ []
+record_parts buffered head content none is =
     let digits = decimal (length content) in
     (λ i. none i ++ (is i ++ content) ++ 44 ∷ 0 ∷ [])
     ∙ ap (λ (l : Text). l ++ 44 ∷ 0 ∷ []) (append_assoc digits (58 ∷ []) content)

@@ -8,7 +8,7 @@ pub mod Laying
 pub mod Moments
 pub mod Calls
 pub mod Handing
-pub mod Gathering
+pub mod Buffering
 pub mod Spending
 pub mod Errors
 pub mod Stores

@@ -2,7 +2,7 @@
 ghost use Rattle.std.specs.Prelude.{◌≡◌, ◌≤◌, ◌<◌, ◌+◌, ◌^◌, ◌++◌, [], ◌∷◌, IsTrue, IfOk, IfSome, OnOk, length};
 ghost use Rattle.std.specs.Fmt.{decimal};
 ghost use Rattle.ml_base.specs.Netstrings.{ns};
-ghost use Rattle.ml_journal.specs.Gathering.{Gathers};
+ghost use Rattle.ml_journal.specs.Buffering.{Buffers};
 ghost use Rattle.ml_journal.specs.Handing.{Hands};
 ghost use Rattle.ml_journal.specs.Records.{spelled_head, spelled_name, spelled_put, spelled_puts, spelled_record};
 
@@ -45,8 +45,8 @@ fn add_puts<S: Site>(
     puts: &[Put],
 ) -> Result<(), SiteError>
     requires place { IsTrue S.tells_reads → writer.old.at ≤ length (S.disk site.old).reads.log }
-    requires fits { writer.old.at + length writer.old.gathered + length (spelled_puts puts.now) < 2 ^ 64 }
-    ensures { Gathers ⟦<S as Site>⟧ result (spelled_puts puts.now) writer.old writer.new site.old site.new }
+    requires fits { writer.old.at + length writer.old.buffered + length (spelled_puts puts.now) < 2 ^ 64 }
+    ensures { Buffers ⟦<S as Site>⟧ result (spelled_puts puts.now) writer.old writer.new site.old site.new }
 {
     for put in puts {
         add_put(alloc, site, writer, put)?;
@@ -61,8 +61,8 @@ fn add_put<S: Site>(
     put: &Put,
 ) -> Result<(), SiteError>
     requires place { IsTrue S.tells_reads → writer.old.at ≤ length (S.disk site.old).reads.log }
-    requires fits { writer.old.at + length writer.old.gathered + length (spelled_put put.now) < 2 ^ 64 }
-    ensures { Gathers ⟦<S as Site>⟧ result (spelled_put put.now) writer.old writer.new site.old site.new }
+    requires fits { writer.old.at + length writer.old.buffered + length (spelled_put put.now) < 2 ^ 64 }
+    ensures { Buffers ⟦<S as Site>⟧ result (spelled_put put.now) writer.old writer.new site.old site.new }
 {
     let head = put_head(alloc, put)?;
     writer.add(alloc, site, head.as_slice())?;

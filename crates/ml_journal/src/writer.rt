@@ -1,4 +1,4 @@
-// Bytes for the log, gathered so that few writes are made of them.
+// Bytes for the log, buffered so that few writes are made of them.
 ghost use Rattle.std.specs.Prelude.{◌≡◌, ◌≤◌, ◌<◌, ◌+◌, ◌^◌, ◌++◌, [], ◌∷◌, IsTrue, IfOk, OnOk, length};
 ghost use Rattle.ml_journal.specs.Handing.{Hands};
 
@@ -6,17 +6,17 @@ use ml_base::Bytes;
 use ml_site::{Site, SiteError};
 use std::alloc::{AllocError, Global};
 
-// How many bytes are gathered at most. With the two that end a record they are 64 KiB.
+// How many bytes are buffered at most. With the two that end a record they are 64 KiB.
 const ROOM: usize = 65_534;
 
 /// Bytes on their way to the log. What fits the room that is left is copied there and goes to the log with what is behind it; a longer
 /// piece goes straight from where it stands.
 #[derive(Drop)]
 pub(crate) struct LogWriter {
-    // Where the gathered bytes go.
+    // Where the buffered bytes go.
     pub at: u64,
-    pub gathered: Bytes,
-    ghost small: { length gathered ≤ 65534 },
+    pub buffered: Bytes,
+    ghost small: { length buffered ≤ 65534 },
 }
 
 // Hands bytes to the log.
@@ -28,28 +28,28 @@ fn hand<S: Site>(alloc: Global, site: &mut S, at: u64, bytes: &[u8]) -> Result<(
 }
 
 impl LogWriter {
-    ghost use Rattle.ml_journal.specs.Gathering.{Gathers};
+    ghost use Rattle.ml_journal.specs.Buffering.{Buffers};
 
     /// Begins at this place of the log. The room that so many bytes need is taken at once.
     pub(crate) fn new(alloc: Global, at: u64, size: usize) -> Result<LogWriter, AllocError>
-        ensures { IfOk result (λ writer. (writer.at ≡ at) × (writer.gathered ≡ [])) }
+        ensures { IfOk result (λ writer. (writer.at ≡ at) × (writer.buffered ≡ [])) }
     {
         Ok(LogWriter {
             at,
-            gathered: Bytes::with_capacity(alloc, size.min(ROOM + 2))?,
+            buffered: Bytes::with_capacity(alloc, size.min(ROOM + 2))?,
         })
     }
 
-    // Hands the gathered bytes to the log.
+    // Hands the buffered bytes to the log.
     fn flush<S: Site>(&mut self, alloc: Global, site: &mut S) -> Result<(), SiteError>
         requires place { IsTrue S.tells_reads → self.old.at ≤ length (S.disk site.old).reads.log }
-        requires fits { self.old.at + length self.old.gathered < 2 ^ 64 }
-        ensures hands { Hands ⟦<S as Site>⟧ result self.old.at self.old.gathered site.old site.new }
-        ensures ok { OnOk result ((self.new.gathered ≡ []) × (self.new.at ≡ self.old.at + length self.old.gathered)) }
+        requires fits { self.old.at + length self.old.buffered < 2 ^ 64 }
+        ensures hands { Hands ⟦<S as Site>⟧ result self.old.at self.old.buffered site.old site.new }
+        ensures ok { OnOk result ((self.new.buffered ≡ []) × (self.new.at ≡ self.old.at + length self.old.buffered)) }
     {
-        hand(alloc, site, self.at, self.gathered.as_slice())?;
-        self.at += self.gathered.len() as u64;
-        self.gathered.truncate(0);
+        hand(alloc, site, self.at, self.buffered.as_slice())?;
+        self.at += self.buffered.len() as u64;
+        self.buffered.truncate(0);
         Ok(())
     }
 
@@ -61,11 +61,11 @@ impl LogWriter {
         piece: &[u8],
     ) -> Result<(), SiteError>
         requires place { IsTrue S.tells_reads → self.old.at ≤ length (S.disk site.old).reads.log }
-        requires fits { self.old.at + length self.old.gathered + length piece.now < 2 ^ 64 }
-        ensures { Gathers ⟦<S as Site>⟧ result piece.now self.old self.new site.old site.new }
+        requires fits { self.old.at + length self.old.buffered + length piece.now < 2 ^ 64 }
+        ensures { Buffers ⟦<S as Site>⟧ result piece.now self.old self.new site.old site.new }
     {
-        if piece.len() <= ROOM - self.gathered.len() {
-            self.gathered.extend(piece)?;
+        if piece.len() <= ROOM - self.buffered.len() {
+            self.buffered.extend(piece)?;
             return Ok(());
         }
         self.flush(alloc, site)?;
@@ -74,13 +74,13 @@ impl LogWriter {
         Ok(())
     }
 
-    /// Ends a record with its comma and a closed gate, and hands what is gathered to the log.
+    /// Ends a record with its comma and a closed gate, and hands what is buffered to the log.
     pub(crate) fn finish<S: Site>(self, alloc: Global, site: &mut S) -> Result<(), SiteError>
         requires { IsTrue S.tells_reads → self.at ≤ length (S.disk site.old).reads.log }
-        ensures { Hands ⟦<S as Site>⟧ result self.at (self.gathered ++ 44 ∷ 0 ∷ []) site.old site.new }
+        ensures { Hands ⟦<S as Site>⟧ result self.at (self.buffered ++ 44 ∷ 0 ∷ []) site.old site.new }
     {
-        let LogWriter { at, mut gathered } = self;
-        gathered.extend(b",\0")?;
-        hand(alloc, site, at, gathered.as_slice())
+        let LogWriter { at, mut buffered } = self;
+        buffered.extend(b",\0")?;
+        hand(alloc, site, at, buffered.as_slice())
     }
 }

@@ -14,14 +14,14 @@ use Rattle.ml_acts.proofs.Damages.{named_so}
 use Rattle.ml_deliver.specs.Asked.{IsDelivered}
 use Rattle.ml_deliver.specs.Reads.{is_of_acts, is_of_timed}
 use Rattle.ml_list.specs.Asked.{IsDamagedForAct, IsReadByAct}
-use Rattle.ml_list.specs.Damage.{IsDamaged, is_read_by, part}
+use Rattle.ml_list.specs.Damage.{IsDamagedInList, is_read_by, part}
 
 module _ {F T : Type 0} (told : Ghosts F) (r : Result T PartError) (dir : Dir) where
   -- an act whose files go by itself
-  pub acted_named : (act : Act) → ((name : Name) → is_read_by act name ≡ true → IsReadByAct dir act name) → NamesDamaged told (λ name. is_read_by act name ≡ true) (IsDamaged dir) r
+  pub acted_named : (act : Act) → ((name : Name) → is_read_by act name ≡ true → IsReadByAct dir act name) → NamesDamaged told (λ name. is_read_by act name ≡ true) (IsDamagedInList dir) r
       → NamesDamaged told (λ name. is_read_by act name ≡ true) (IsDamagedForAct dir act) r
   acted_named act read is =
-      named_so told (λ name. is_read_by act name ≡ true) r (λ name. is_read_by act name ≡ true) (IsDamaged dir) (IsDamagedForAct dir act) (λ name e. e) (λ name e bad. record { damaged = bad; read = read name e }) is
+      named_so told (λ name. is_read_by act name ≡ true) r (λ name. is_read_by act name ≡ true) (IsDamagedInList dir) (IsDamagedForAct dir act) (λ name e. e) (λ name e bad. record { damaged = bad; read = read name e }) is
 
   -- a delivery
   pub delivered_named : (sender recipient message from to text : Text) → from ≡ sender → to ≡ recipient → text ≡ message → NamesDamaged told (λ name. is_of_acts name ≡ true) (λ name. acts.IsDamaged dir name × IsDelivered dir from to text name) r

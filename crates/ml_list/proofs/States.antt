@@ -9,7 +9,7 @@ use Rattle.ml_plain.specs.declared.Item.{Item}
 use Rattle.ml_plain.specs.Directory.{IsState}
 use Rattle.ml_plain.specs.Histories.{State, step, fold, text, last_from}
 use Rattle.ml_plain.specs.Replies.{line, status_of}
-use Rattle.ml_list.specs.Damage.{IsDamaged}
+use Rattle.ml_list.specs.Damage.{IsDamagedInList}
 use Rattle.ml_list.specs.Loading.{HasConfig}
 use Rattle.ml_list.proofs.Damages.{none_damaged}
 
@@ -55,5 +55,5 @@ pub has_config : (dir : Dir) (q : State) → IsState dir q → HasConfig dir
 has_config dir q is = record { there = λ none. some_none (config_text (q.plain).config) (sym ((is.list).config).text ∙ none) }
 
 -- no file of a directory that stands for a list is damaged
-pub sound : (dir : Dir) (q : State) (name : Name) → IsState dir q → IsDamaged dir name → ⊥
+pub sound : (dir : Dir) (q : State) (name : Name) → IsState dir q → IsDamagedInList dir name → ⊥
 sound dir q name is damaged = none_damaged dir q name is damaged

@@ -7,7 +7,7 @@ use Rattle.ml_plain.specs.declared.Act.TheVariants.{Deliver, Timed}
 use Rattle.ml_plain.specs.declared.Item.{Item}
 use Rattle.ml_acts.specs.Asked.{IsDamagedOf, Undigested}
 use Rattle.ml_deliver.specs.Asked.{IsDelivered}
-use Rattle.ml_list.specs.Damage.{IsDamaged, is_looked_up, is_read_by}
+use Rattle.ml_list.specs.Damage.{IsDamagedInList, is_looked_up, is_read_by}
 
 -- The files that an act may read: those of a delivery go by the configuration that the files hold, and by the numbers of its request. One of the
 -- archive is damaged for what is asked of it, and for a timed run this is the posts that are in no digest yet.
@@ -22,9 +22,9 @@ IsReadBy dir item name = (is_looked_up item.number name ≡ true) ⊎ IsReadByAc
 
 -- a damaged file that an act may read, and one that an item may
 pub record IsDamagedForAct (dir : Dir) (act : Act) (name : Name) : Type 0 where
-  pub damaged : IsDamaged dir name
+  pub damaged : IsDamagedInList dir name
   pub read : IsReadByAct dir act name
 
 pub record IsDamagedFor (dir : Dir) (item : Item) (name : Name) : Type 0 where
-  pub damaged : IsDamaged dir name
+  pub damaged : IsDamagedInList dir name
   pub read : IsReadBy dir item name

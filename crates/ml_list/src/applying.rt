@@ -17,7 +17,7 @@ ghost use Rattle.ml_plain.specs.KeptFiles as states;
 ghost use Rattle.ml_list.specs.Applying.{Does, Repeats};
 ghost use Rattle.ml_list.specs.Lookups.{answer_of, IsNew, IsInRange, IsRead};
 ghost use Rattle.ml_list.specs.Asked.{IsDamagedFor, IsDamagedForAct};
-ghost use Rattle.ml_list.specs.Damage.{IsDamaged, is_looked_up, is_read_by, may_read};
+ghost use Rattle.ml_list.specs.Damage.{IsDamagedInList, is_looked_up, is_read_by, is_read_by_item};
 
 use crate::changing::{add_member, change_key, remove_member};
 use crate::floors::floor;
@@ -44,7 +44,7 @@ pub fn apply<F: Files>(alloc: Global, files: F, item: &Item) -> (F, Result<(Txn,
     ensures value { IsTrue F.tells → IfOk result.1 (λ done. (q : State) → IsState (F.map files) q → Does (F.map files) done (step q item.now)) }
     ensures reply { IfOk result.1 (λ done. IsTrue (is_code done.1.code)) }
     ensures files { IfOk result.1 (λ done. IsTrue (are_files done.0)) }
-    ensures names { NamesDamaged ⟦<F as Files>⟧ (λ name. may_read item.now name ≡ true) (IsDamagedFor (F.map files) item.now) result.1 }
+    ensures names { NamesDamaged ⟦<F as Files>⟧ (λ name. is_read_by_item item.now name ≡ true) (IsDamagedFor (F.map files) item.now) result.1 }
     ensures sound { IsTrue F.tells → (q : State) → IsState (F.map files) q → IfErr result.1 (λ e. OnDamaged e (λ _. ⊥)) }
     ensures reads { IsReading ⟦<F as Files>⟧ files result.0 result.1 }
 {
@@ -62,7 +62,7 @@ pub fn apply_with_memo<F: Files>(
     ensures value { IsTrue F.tells → IfOk result.1 (λ done. (q : State) → IsState (F.map files) q → Does (F.map files) done (step q item.now)) }
     ensures reply { IfOk result.1 (λ done. IsTrue (is_code done.1.code)) }
     ensures files { IfOk result.1 (λ done. IsTrue (are_files done.0)) }
-    ensures names { NamesDamaged ⟦<F as Files>⟧ (λ name. may_read item.now name ≡ true) (IsDamagedFor (F.map files) item.now) result.1 }
+    ensures names { NamesDamaged ⟦<F as Files>⟧ (λ name. is_read_by_item item.now name ≡ true) (IsDamagedFor (F.map files) item.now) result.1 }
     ensures sound { IsTrue F.tells → (q : State) → IsState (F.map files) q → IfErr result.1 (λ e. OnDamaged e (λ _. ⊥)) }
     ensures reads { IsReading ⟦<F as Files>⟧ files result.0 result.1 }
 {
@@ -81,7 +81,7 @@ fn answered<F: Files>(
     ensures value { IsTrue F.tells → IfOk result.1 (λ done. (q : State) → IsState (F.map files) q → Does (F.map files) done (step q item.now)) }
     ensures reply { IfOk result.1 (λ done. IsTrue (is_code done.1.code)) }
     ensures files { IfOk result.1 (λ done. IsTrue (are_files done.0)) }
-    ensures names { NamesDamaged ⟦<F as Files>⟧ (λ name. may_read item.now name ≡ true) (IsDamagedFor (F.map files) item.now) result.1 }
+    ensures names { NamesDamaged ⟦<F as Files>⟧ (λ name. is_read_by_item item.now name ≡ true) (IsDamagedFor (F.map files) item.now) result.1 }
     ensures sound { IsTrue F.tells → (q : State) → IsState (F.map files) q → IfErr result.1 (λ e. OnDamaged e (λ _. ⊥)) }
     ensures reads { IsReading ⟦<F as Files>⟧ files result.0 result.1 }
 {
@@ -109,7 +109,7 @@ fn look_up<F: Files>(alloc: Global, files: &mut F, number: u64) -> Result<Lookup
     ensures known { IsTrue F.tells → IfOk result (λ found. IsNew found (IsRead (F.map files.old) number)) }
     ensures range { IfOk result (λ found. IsNew found (λ known. IsInRange known.floor)) }
     ensures reply { IfOk result (λ found. IfSome (answer_of found) (λ r. IsTrue (is_code r.code))) }
-    ensures names { NamesDamaged ⟦<F as Files>⟧ (λ name. is_looked_up number name ≡ true) (IsDamaged (F.map files.old)) result }
+    ensures names { NamesDamaged ⟦<F as Files>⟧ (λ name. is_looked_up number name ≡ true) (IsDamagedInList (F.map files.old)) result }
     ensures reads { IsReading ⟦<F as Files>⟧ files.old files.new result }
 {
     if number == 0 {

@@ -13,7 +13,7 @@ ghost use Rattle.ml_plain.specs.Directory.{IsList, is_of_list};
 ghost use Rattle.ml_plain.specs.KeptFiles.{is_kept};
 ghost use Rattle.ml_acts.specs.Doing.{DoesList};
 ghost use Rattle.ml_list.specs.Applying.{addition_reply};
-ghost use Rattle.ml_list.specs.Damage.{IsDamaged, is_read_by};
+ghost use Rattle.ml_list.specs.Damage.{IsDamagedInList, is_read_by};
 
 use ml_acts::remove_member_with_memo;
 use ml_base::{Address, Files, PartError, Set, Txn, age};
@@ -39,7 +39,7 @@ pub(crate) fn add_member<F: Files>(
     ensures own { IfOk result (λ done. touches_only is_of_list done.0 ≡ true) }
     ensures files { IfOk result (λ done. IsTrue (are_files done.0)) }
     ensures reply { IfOk result (λ done. is_kept done.1 ≡ true) }
-    ensures names { NamesDamaged ⟦<F as Files>⟧ (λ name. is_read_by (acts.Add set who.now) name ≡ true) (IsDamaged (F.map files.old)) result }
+    ensures names { NamesDamaged ⟦<F as Files>⟧ (λ name. is_read_by (acts.Add set who.now) name ≡ true) (IsDamagedInList (F.map files.old)) result }
     ensures reads { IsReading ⟦<F as Files>⟧ files.old files.new result }
 {
     let answer = add_with_memo(alloc, files, memo, set, who, now)?;
@@ -70,7 +70,7 @@ pub(crate) fn remove_member<F: Files>(
     ensures own { IfOk result (λ done. touches_only is_of_list done.0 ≡ true) }
     ensures files { IfOk result (λ done. IsTrue (are_files done.0)) }
     ensures reply { IfOk result (λ done. is_kept done.1 ≡ true) }
-    ensures names { NamesDamaged ⟦<F as Files>⟧ (λ name. is_read_by (acts.Remove set who.now) name ≡ true) (IsDamaged (F.map files.old)) result }
+    ensures names { NamesDamaged ⟦<F as Files>⟧ (λ name. is_read_by (acts.Remove set who.now) name ≡ true) (IsDamagedInList (F.map files.old)) result }
     ensures reads { IsReading ⟦<F as Files>⟧ files.old files.new result }
 {
     match remove_member_with_memo(alloc, files, memo, set, who)? {
@@ -91,7 +91,7 @@ pub(crate) fn change_key<F: Files>(
     ensures own { IfOk result (λ done. touches_only is_of_list done.0 ≡ true) }
     ensures files { IfOk result (λ done. IsTrue (are_files done.0)) }
     ensures reply { IfOk result (λ done. is_kept done.1 ≡ true) }
-    ensures names { NamesDamaged ⟦<F as Files>⟧ (λ name. is_read_by (acts.Rekey new.now) name ≡ true) (IsDamaged (F.map files.old)) result }
+    ensures names { NamesDamaged ⟦<F as Files>⟧ (λ name. is_read_by (acts.Rekey new.now) name ≡ true) (IsDamagedInList (F.map files.old)) result }
     ensures reads { IsReading ⟦<F as Files>⟧ files.old files.new result }
 {
     let keys = key(alloc, files)?;

@@ -6,7 +6,7 @@ use std::alloc::Global;
 #[derive(Drop)]
 pub struct Memo {
     // The members of the set list, as mail last went to them.
-    pub(crate) mail: ml_acts::Memo,
+    pub(crate) mail: ml_acts::MailMemo,
     // The buckets of sets, as changes left them.
     pub(crate) sets: Checked,
 }
@@ -15,7 +15,7 @@ impl Memo {
     /// Nothing yet. It takes no memory.
     pub fn new(alloc: Global) -> Memo {
         Memo {
-            mail: ml_acts::Memo::new(),
+            mail: ml_acts::MailMemo::new(),
             sets: Checked::new(alloc),
         }
     }

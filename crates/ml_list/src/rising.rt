@@ -13,7 +13,7 @@ ghost use Rattle.ml_plain.specs.Directory.{IsState};
 ghost use Rattle.ml_plain.specs.KeptFiles.{IsRepliesFile, is_kept, floor_name};
 ghost use Rattle.ml_plain.specs.KeptFiles as states;
 ghost use Rattle.ml_list.specs.Applying.{Does};
-ghost use Rattle.ml_list.specs.Damage.{IsDamaged, IsNoReplies, is_read_by};
+ghost use Rattle.ml_list.specs.Damage.{IsDamagedInList, IsNoReplies, is_read_by};
 ghost use Rattle.ml_list.specs.Lookups.{IsInRange, IsRead};
 ghost use Rattle.ml_list.specs.Rising.{removals, rise_puts};
 ghost use Rattle.ml_plain.specs.declared.Act.TheVariants as acts;
@@ -42,7 +42,7 @@ pub(crate) fn raise<F: Files>(
     ensures value { IsTrue F.tells → IfOk result (λ done. (q : State) → IsState (F.map files.old) q → Does (F.map files.old) done (steps.raise q number at)) }
     ensures reply { IfOk result (λ done. is_kept done.1 ≡ true) }
     ensures files { IfOk result (λ done. IsTrue (are_files done.0)) }
-    ensures names { NamesDamaged ⟦<F as Files>⟧ (λ name. is_read_by (acts.Floor at) name ≡ true) (IsDamaged (F.map files.old)) result }
+    ensures names { NamesDamaged ⟦<F as Files>⟧ (λ name. is_read_by (acts.Floor at) name ≡ true) (IsDamagedInList (F.map files.old)) result }
     ensures reads { IsReading ⟦<F as Files>⟧ files.old files.new result }
 {
     let floor = floor_of(alloc, files, known.floor)?;

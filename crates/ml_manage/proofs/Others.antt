@@ -14,7 +14,7 @@ use Rattle.ml_queue.specs.Answers.{ids_name}
 use Rattle.ml_base.specs.Dir.{same_name}
 use Rattle.ml_plain.specs.Managing.{by_request, by_sender, helped, managed}
 use Rattle.ml_plain.specs.Plain.{Plain}
-use Rattle.ml_manage.specs.Reads.{is_asked_of, is_managed, is_read_for, may_read}
+use Rattle.ml_manage.specs.Reads.{is_asked_of, is_managed, is_read_for, is_read_for_sender}
 use Rattle.ml_manage.proofs.Requests.{is_other_than_posts}
 
 module _ (sender m : Text) (now : ℕ) (p : Plain) where
@@ -40,7 +40,7 @@ module _ (sender m : Text) (now : ℕ) (p : Plain) where
 
 module _ (c : Config) (sender : Text) (name : Name) where
   -- and so are the files that it may read
-  pub may_read_other : (r : Request) → (r ≡ requests.Owner → ⊥) → ((set : Set) (number : ℕ) (who : Who) → r ≡ requests.Bounce set number who → ⊥) → ((set : Set) (time : ℕ) (cookie : List ℕ) (who : Who) → r ≡ requests.WarnBounce set time cookie who → ⊥) → ((set : Set) (time : ℕ) (cookie : List ℕ) (who : Who) → r ≡ requests.ProbeBounce set time cookie who → ⊥) → ((set : Set) → r ≡ requests.ReplyBounce set → ⊥) → is_managed (request_view r) ≡ true → may_read c sender (request_view r) name ≡ is_read_for c (address_of sender) (request_view r) name
+  pub may_read_other : (r : Request) → (r ≡ requests.Owner → ⊥) → ((set : Set) (number : ℕ) (who : Who) → r ≡ requests.Bounce set number who → ⊥) → ((set : Set) (time : ℕ) (cookie : List ℕ) (who : Who) → r ≡ requests.WarnBounce set time cookie who → ⊥) → ((set : Set) (time : ℕ) (cookie : List ℕ) (who : Who) → r ≡ requests.ProbeBounce set time cookie who → ⊥) → ((set : Set) → r ≡ requests.ReplyBounce set → ⊥) → is_managed (request_view r) ≡ true → is_read_for_sender c sender (request_view r) name ≡ is_read_for c (address_of sender) (request_view r) name
   may_read_other requests.Post n0 n1 n2 n3 n4 managed = absurd (let bad : false ≡ true = managed in cc)
   may_read_other requests.Help n0 n1 n2 n3 n4 managed = refl
   may_read_other requests.Owner n0 n1 n2 n3 n4 managed = absurd (n0 refl)

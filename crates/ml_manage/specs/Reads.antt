@@ -13,7 +13,7 @@ use Rattle.ml_archive.specs.Threads.{is_of_archive}
 use Rattle.ml_config.specs.KeyFile.{key_name}
 use Rattle.ml_config.specs.declared.configuration.Config.{Config}
 use Rattle.ml_digest.specs.Due.{mark_name}
-use Rattle.ml_joining.specs.Deeds.{asked_of}
+use Rattle.ml_joining.specs.Operations.{asked_of}
 use Rattle.ml_joining.specs.Reads.{is_read_to_confirm, is_read_to_subscribe, is_read_to_unsubscribe}
 use Rattle.ml_plain.specs.Bouncing.{address_named}
 use Rattle.ml_subs.specs.Subscribers.{is_touched}
@@ -83,13 +83,13 @@ is_read_for c None request name = false
 is_read_for c (Some who) request name = is_asked_of c who request name
 
 -- the files that a sender's mail may read
-abbrev pub may_read : Config → Text → PlainRequest → Name → Bool
-may_read c sender (Bounce set number who) name = is_of_bounce set (address_named who) name
-may_read c sender (WarnBounce set s) name = is_of_warning set (address_named s.who) name
-may_read c sender (ProbeBounce set s) name = is_of_probe set (address_named s.who) name
-may_read c sender (ReplyBounce set) name = false
-may_read c sender Owner name = same_name name ids_name
-may_read c sender request name = is_read_for c (address_of sender) request name
+abbrev pub is_read_for_sender : Config → Text → PlainRequest → Name → Bool
+is_read_for_sender c sender (Bounce set number who) name = is_of_bounce set (address_named who) name
+is_read_for_sender c sender (WarnBounce set s) name = is_of_warning set (address_named s.who) name
+is_read_for_sender c sender (ProbeBounce set s) name = is_of_probe set (address_named s.who) name
+is_read_for_sender c sender (ReplyBounce set) name = false
+is_read_for_sender c sender Owner name = same_name name ids_name
+is_read_for_sender c sender request name = is_read_for c (address_of sender) request name
 
 -- what is done here is asked: neither a post nor a moderator's answer, with its parts in their ranges
 abbrev pub is_managed : PlainRequest → Bool

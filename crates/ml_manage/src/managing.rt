@@ -21,7 +21,7 @@ ghost use Rattle.ml_acts.specs.Configured.{with_config};
 ghost use Rattle.ml_acts.specs.Damaged.{IsDamaged};
 ghost use Rattle.ml_acts.specs.Doing.{DoesList, HasRoom};
 ghost use Rattle.ml_manage.specs.Leaving.{signed};
-ghost use Rattle.ml_manage.specs.Reads.{IsDamagedFor, is_asked_of, is_managed, is_of_bounce, is_of_probe, is_of_warning, is_read_for, may_read};
+ghost use Rattle.ml_manage.specs.Reads.{IsDamagedFor, is_asked_of, is_managed, is_of_bounce, is_of_probe, is_of_warning, is_read_for, is_read_for_sender};
 
 use crate::archive::{get, index_of, thread_of};
 use crate::bounces::{bounced, probe_bounced, warning_bounced};
@@ -61,7 +61,7 @@ pub fn manage<F: Files>(
     ensures own { IfOk result (λ done. touches_only is_of_list done.0 ≡ true) }
     ensures files { IfOk result (λ done. IsTrue (are_files done.0)) }
     ensures reply { IfOk result (λ done. is_kept done.1 ≡ true) }
-    ensures names { NamesDamaged ⟦<F as Files>⟧ (λ name. may_read config.now sender.now (request_view request.now) name ≡ true) (IsDamagedFor (with_config config.now (F.map files.old)) config.now (request_view request.now)) result }
+    ensures names { NamesDamaged ⟦<F as Files>⟧ (λ name. is_read_for_sender config.now sender.now (request_view request.now) name ≡ true) (IsDamagedFor (with_config config.now (F.map files.old)) config.now (request_view request.now)) result }
     ensures sound { IsTrue F.tells → (p : Plain) → IsList (with_config config.now (F.map files.old)) p → IfErr result (λ e. OnDamaged e (λ _. ⊥)) }
     ensures reads { IsReading ⟦<F as Files>⟧ files.old files.new result }
 {
@@ -88,7 +88,7 @@ fn by_request<F: Files>(
     ensures own { IfOk result (λ done. touches_only is_of_list done.0 ≡ true) }
     ensures files { IfOk result (λ done. IsTrue (are_files done.0)) }
     ensures reply { IfOk result (λ done. is_kept done.1 ≡ true) }
-    ensures names { NamesDamaged ⟦<F as Files>⟧ (λ name. may_read config.now sender.now (request_view request.now) name ≡ true) (IsDamagedFor (F.map files.old) config.now (request_view request.now)) result }
+    ensures names { NamesDamaged ⟦<F as Files>⟧ (λ name. is_read_for_sender config.now sender.now (request_view request.now) name ≡ true) (IsDamagedFor (F.map files.old) config.now (request_view request.now)) result }
     ensures reads { IsReading ⟦<F as Files>⟧ files.old files.new result }
 {
     match request {

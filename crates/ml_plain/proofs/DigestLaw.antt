@@ -110,7 +110,7 @@ joined_silent : (now : ℕ) (set : Set) (x : Text) (isfull : Bool) (p : Plain) �
 joined_silent now set x true p = silent_same p p refl refl refl
 joined_silent now set x false p = silent_then p (added set x now p) _ (silent_same p _ refl refl refl) (silent_to (added set x now p) x now (mails.Welcome x set x))
 
-done_silent : (now : ℕ) (set : Set) (sender x : Text) (p : Plain) (deed : managing.Deed) → Silent p (managing.done now set sender x p deed).0
+done_silent : (now : ℕ) (set : Set) (sender x : Text) (p : Plain) (operation : managing.Operation) → Silent p (managing.done now set sender x p operation).0
 done_silent now set sender x p (managing.Only reply) = silent_same p p refl refl refl
 done_silent now set sender x p managing.TellAlready = silent_to p sender now (mails.Already sender set x)
 done_silent now set sender x p managing.TellAbsent = silent_to p sender now (mails.Absent sender set x)

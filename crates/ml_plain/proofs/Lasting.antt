@@ -164,7 +164,7 @@ still_joined : (now : ℕ) (set : Set) (x : Text) (isfull : Bool) (p : Plain) �
 still_joined now set x true p = still_self p
 still_joined now set x false p = still_then p (added set x now p) _ (still_same p _ refl refl refl) (still_put (added set x now p) _)
 
-still_done : (now : ℕ) (set : Set) (sender x : Text) (p : Plain) (deed : managing.Deed) → Still p (managing.done now set sender x p deed).0
+still_done : (now : ℕ) (set : Set) (sender x : Text) (p : Plain) (operation : managing.Operation) → Still p (managing.done now set sender x p operation).0
 still_done now set sender x p (managing.Only reply) = still_self p
 still_done now set sender x p managing.TellAlready = still_put p _
 still_done now set sender x p managing.TellAbsent = still_put p _

@@ -138,7 +138,7 @@ timed_same now p =
 -- requests
 
 -- a licence to leave
-licensed : Type 0 → managing.Deed → Type 0
+licensed : Type 0 → managing.Operation → Type 0
 licensed L managing.Leave = L
 licensed L _ = Unit {0}
 
@@ -173,7 +173,7 @@ joined_by : (W : Set → Text → Type 0) (now : ℕ) (set : Set) (x : Text) (is
 joined_by W now set x true p = none W p p refl
 joined_by W now set x false p = record { by = λ s k there gone. absurd (true≢false (sym (none_added p set x now s k there) ∙ gone)) }
 
-done_by : (W : Set → Text → Type 0) (now : ℕ) (set : Set) (sender x : Text) (p : Plain) (deed : managing.Deed) → licensed (W set (key x)) deed → By W p (managing.done now set sender x p deed).0
+done_by : (W : Set → Text → Type 0) (now : ℕ) (set : Set) (sender x : Text) (p : Plain) (operation : managing.Operation) → licensed (W set (key x)) operation → By W p (managing.done now set sender x p operation).0
 unfolding licensed
 done_by W now set sender x p (managing.Only reply) h = none W p _ refl
 done_by W now set sender x p managing.TellAlready h = none W p _ refl

@@ -240,7 +240,7 @@ module _ (c : Config) (local : Clean c.local) (host : Clean c.host) where
   left_lines now set x p clean l =
       mail_lines (removed set x p) (reply_path (removed set x p).config) (mails.Goodbye x set x) now (x ∷ []) (removed_lines c p set x l) clean tt
 
-  done_lines : (now : ℕ) (set : Set) (sender x : Text) (p : Plain) (deed : managing.Deed) → Clean sender → Clean x → Lines c p → Lines c (managing.done now set sender x p deed).0
+  done_lines : (now : ℕ) (set : Set) (sender x : Text) (p : Plain) (operation : managing.Operation) → Clean sender → Clean x → Lines c p → Lines c (managing.done now set sender x p operation).0
   done_lines now set sender x p (managing.Only reply) s clean l = l
   done_lines now set sender x p managing.TellAlready s clean l = mail_lines p (reply_path p.config) (mails.Already sender set x) now (sender ∷ []) l s tt
   done_lines now set sender x p managing.TellAbsent s clean l = mail_lines p (reply_path p.config) (mails.Absent sender set x) now (sender ∷ []) l s tt

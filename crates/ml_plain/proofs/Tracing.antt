@@ -72,7 +72,7 @@ joined_traced : (now : ℕ) (set : Set) (x : Text) (isfull : Bool) (p : Plain) (
 joined_traced now set x true p item = calm_same p _ item refl refl refl
 joined_traced now set x false p item = calm_grown p _ item refl refl (none_added p set x now)
 
-done_traced : (now : ℕ) (set : Set) (sender x : Text) (p : Plain) (item : Item) (deed : managing.Deed) → Traced p (managing.done now set sender x p deed).0 item
+done_traced : (now : ℕ) (set : Set) (sender x : Text) (p : Plain) (item : Item) (operation : managing.Operation) → Traced p (managing.done now set sender x p operation).0 item
 done_traced now set sender x p item (managing.Only reply) = calm_same p _ item refl refl refl
 done_traced now set sender x p item managing.TellAlready = calm_same p _ item refl refl refl
 done_traced now set sender x p item managing.TellAbsent = calm_same p _ item refl refl refl

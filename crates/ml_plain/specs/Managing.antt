@@ -45,19 +45,19 @@ is_closed p sets.Deny sender = not (is_admin p sender)
 is_closed p sets.Moderators sender = not (is_admin p sender)
 
 -- what is done about an address X that is to join or leave a set
-pub data Deed : Type 0 where
+pub data Operation : Type 0 where
   -- only a reply
-  Only : (reply : Reply) → Deed
+  Only : (reply : Reply) → Operation
   -- the sender is told that X is a member, or is none
-  TellAlready : Deed
-  TellAbsent : Deed
+  TellAlready : Operation
+  TellAbsent : Operation
   -- the sender, X or the moderators are asked to confirm it
-  AskSender : (word : Word) → Deed
-  AskSubject : (word : Word) → Deed
-  AskModerators : Deed
+  AskSender : (word : Word) → Operation
+  AskSubject : (word : Word) → Operation
+  AskModerators : Operation
   -- X joins or leaves
-  Join : Deed
-  Leave : Deed
+  Join : Operation
+  Leave : Operation
 
 -- X joins the set, where it has room
 abbrev pub joined : ℕ → Set → Text → Bool → Plain → Plain × Reply
@@ -68,8 +68,8 @@ joined now set x false p = (mail_to x now (mails.Welcome x set x) (added set x n
 abbrev pub left : ℕ → Set → Text → Plain → Plain × Reply
 left now set x p = (mail_to x now (mails.Goodbye x set x) (removed set x p), answers.unsubscribed)
 
--- what each deed does, about an address X that the sender asks about, and what it is answered
-abbrev pub done : ℕ → Set → Text → Text → Plain → Deed → Plain × Reply
+-- what each operation does, about an address X that the sender asks about, and what it is answered
+abbrev pub done : ℕ → Set → Text → Text → Plain → Operation → Plain × Reply
 done now set sender x p (Only reply) = (p, reply)
 done now set sender x p TellAlready = (mail_to sender now (mails.Already sender set x) p, answers.already)
 done now set sender x p TellAbsent = (mail_to sender now (mails.Absent sender set x) p, answers.absent)
@@ -80,7 +80,7 @@ done now set sender x p Join = joined now set x (is_full p set) p
 done now set sender x p Leave = left now set x p
 
 -- the cases where X is to join a set, of which the first that applies decides
-abbrev pub subscribe_cases : Plain → Set → Text → Text → List (Bool × Deed)
+abbrev pub subscribe_cases : Plain → Set → Text → Text → List (Bool × Operation)
 subscribe_cases p set sender x =
     (is_closed p set sender, Only answers.private)
     ∷ (not p.config.flags.p && not (is_moderator p sender), Only answers.private)
@@ -91,7 +91,7 @@ subscribe_cases p set sender x =
     ∷ []
 
 -- the cases where X is to leave a set
-abbrev pub unsubscribe_cases : Plain → Set → Text → Text → List (Bool × Deed)
+abbrev pub unsubscribe_cases : Plain → Set → Text → Text → List (Bool × Operation)
 unsubscribe_cases p set sender x =
     (is_closed p set sender, Only answers.private)
     ∷ (not (is_in p set x), TellAbsent)
@@ -100,27 +100,27 @@ unsubscribe_cases p set sender x =
     ∷ []
 
 -- the cases where somebody confirms, with letters of this goodness, that X is to join a set or to leave it
-abbrev pub confirm_cases : Plain → Set → Text → Word → Bool → List (Bool × Deed)
+abbrev pub confirm_cases : Plain → Set → Text → Word → Bool → List (Bool × Operation)
 confirm_cases p set x words.Uc good = (not good, Only answers.badcookie) ∷ (not (is_in p set x), Only answers.absent) ∷ []
 confirm_cases p set x words.Sc good = (not good, Only answers.badcookie) ∷ (is_in p set x, Only answers.already) ∷ (p.config.flags.s, AskModerators) ∷ []
 confirm_cases p set x words.Tc good = (not good, Only answers.badcookie) ∷ (is_in p set x, Only answers.already) ∷ []
 
 -- what is confirmed
-abbrev pub confirmed : Word → Deed
+abbrev pub confirmed : Word → Operation
 confirmed words.Uc = Leave
 confirmed words.Sc = Join
 confirmed words.Tc = Join
 
 -- what is done where X is to join a set: the first case that applies, and else X is asked to confirm
-abbrev pub subscribing : Plain → Set → Text → Text → Deed
+abbrev pub subscribing : Plain → Set → Text → Text → Operation
 subscribing p set sender x = first_row (subscribe_cases p set sender x) (AskSubject words.Sc)
 
 -- what is done where X is to leave a set: the first case that applies, and else X is asked to confirm
-abbrev pub unsubscribing : Plain → Set → Text → Text → Deed
+abbrev pub unsubscribing : Plain → Set → Text → Text → Operation
 unsubscribing p set sender x = first_row (unsubscribe_cases p set sender x) (AskSubject words.Uc)
 
 -- what is done where somebody confirms: the first case that applies, and else what he confirms
-abbrev pub confirming : Plain → Set → Text → Word → Bool → Deed
+abbrev pub confirming : Plain → Set → Text → Word → Bool → Operation
 confirming p set x word good = first_row (confirm_cases p set x word good) (confirmed word)
 
 -- a sender asks that X joins a set

@@ -1,4 +1,4 @@
 pub mod Ranged
 pub mod Turns
-pub mod Standing
+pub mod Represented
 pub mod Imported

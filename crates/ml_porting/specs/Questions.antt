@@ -17,7 +17,7 @@ mbox_meaning query = record {
   of_list = λ list. answers.Text (range_mailbox query.first query.last list.posts);
   may_miss = false;
   may_exceed = false;
-  may_read = IsMailboxName query.first query.last;
+  is_read = IsMailboxName query.first query.last;
   is_bad = λ config dir name. IsBadForMailbox dir query.first query.last name;
 }
 
@@ -28,7 +28,7 @@ importing_meaning first moment text = record {
   of_list = λ list. import_answer list.config first moment (mails_of text);
   may_miss = false;
   may_exceed = true;
-  may_read = λ name. ⊥;
+  is_read = λ name. ⊥;
   is_bad = λ config dir name. ⊥;
 }
 

@@ -4,8 +4,8 @@ use Rattle.std.proofs.lemmas.Bool.{and_parts, leb-true}
 use Rattle.ml_base.specs.declared.part.PartError.{PartError}
 use Rattle.ml_config.specs.Configuration.{is_max}
 use Rattle.ml_plain.specs.Answers as answers
-use Rattle.ml_post.specs.Posting.{fate_of}
-use Rattle.ml_post.specs.declared.posting.Fate.TheVariants as fates
+use Rattle.ml_post.specs.Posting.{outcome_of}
+use Rattle.ml_post.specs.declared.posting.Outcome.TheVariants as fates
 use Rattle.ml_post.specs.declared.verdicts.Verdict.{Verdict as Found}
 use Rattle.ml_post.specs.declared.verdicts.Verdict.TheVariants as found
 
@@ -15,8 +15,8 @@ each_ok (Ok x) f = f x
 each_ok (Err e) f = tt
 
 -- one that is held isn't too big
-pub held_fits : (f : Found) → fate_of f ≡ fates.Held → f ≢ found.TooBig
-held_fits f held big = absurd (let bad : fates.Refused answers.toobig ≡ fates.Held = sym (ap fate_of big) ∙ held in cc)
+pub held_fits : (f : Found) → outcome_of f ≡ fates.Held → f ≢ found.TooBig
+held_fits f held big = absurd (let bad : fates.Refused answers.toobig ≡ fates.Held = sym (ap outcome_of big) ∙ held in cc)
 
 -- and so it can be held
 pub holdable : (size max : ℕ) → IsTrue (is_max max) → size ≤ max → size ≤ 33_554_432

@@ -4,7 +4,7 @@ mod Rows
 mod SentText
 mod Posts
 mod Waiting
-mod Fates
+mod Outcomes
 mod Moderated
 mod Fitting
 mod Beside

@@ -7,8 +7,8 @@ use Rattle.ml_archive.specs.declared.posts.Appended.TheVariants.{At, Full}
 use Rattle.ml_config.specs.declared.configuration.Config.{Config}
 use Rattle.ml_plain.specs.declared.Reply.{Reply}
 use Rattle.ml_plain.specs.Answers as answers
-use Rattle.ml_post.specs.declared.posting.Fate.{Fate}
-use Rattle.ml_post.specs.declared.posting.Fate.TheVariants as fates
+use Rattle.ml_post.specs.declared.posting.Outcome.{Outcome}
+use Rattle.ml_post.specs.declared.posting.Outcome.TheVariants as fates
 use Rattle.ml_post.specs.declared.verdicts.Verdict.{Verdict as Found}
 use Rattle.ml_post.specs.declared.verdicts.Verdict.TheVariants as found
 use Rattle.ml_post.specs.Holding.{is_held_by}
@@ -16,18 +16,18 @@ use Rattle.ml_post.specs.Judging.{is_judged_by}
 use Rattle.ml_post.specs.Publishing.{is_published_by}
 
 -- what follows each row of the table
-abbrev pub fate_of : Found → Fate
-fate_of found.TooBig = fates.Refused answers.toobig
-fate_of found.BounceSender = fates.Refused answers.nosender
-fate_of found.Looped = fates.Refused answers.looped
-fate_of found.Denied = fates.Refused answers.denied
-fate_of found.NoSubject = fates.Refused answers.nosubject
-fate_of found.CommandSubject = fates.Refused answers.command
-fate_of found.NotAddressed = fates.Refused answers.notaddressed
-fate_of found.UsersOnly = fates.Refused answers.usersonly
-fate_of found.Held = fates.Held
-fate_of found.Full = fates.Refused answers.full
-fate_of found.Posted = fates.Posted
+abbrev pub outcome_of : Found → Outcome
+outcome_of found.TooBig = fates.Refused answers.toobig
+outcome_of found.BounceSender = fates.Refused answers.nosender
+outcome_of found.Looped = fates.Refused answers.looped
+outcome_of found.Denied = fates.Refused answers.denied
+outcome_of found.NoSubject = fates.Refused answers.nosubject
+outcome_of found.CommandSubject = fates.Refused answers.command
+outcome_of found.NotAddressed = fates.Refused answers.notaddressed
+outcome_of found.UsersOnly = fates.Refused answers.usersonly
+outcome_of found.Held = fates.Held
+outcome_of found.Full = fates.Refused answers.full
+outcome_of found.Posted = fates.Posted
 
 -- the reply to a message that was to be posted
 abbrev pub reply_of : Appended → Reply

@@ -25,7 +25,7 @@ ghost use Rattle.ml_post.specs.Answering.{IsDamagedOfTicket, is_accepted_by, is_
 use crate::holding::list_keys;
 use crate::posting::{plain, posted};
 use crate::publishing::publish;
-use ml_acts::{Configured, Memo, is_cookie, with_mail};
+use ml_acts::{Configured, MailMemo, is_cookie, with_mail};
 use ml_archive::Appended;
 use ml_base::{Bytes, Files, PartError, Set, Txn, write_number};
 use ml_config::{Config, Keys};
@@ -180,7 +180,15 @@ fn accepted<F: Files>(
 {
     let message = held.message.as_slice();
     let sender = &held.sender;
-    let answer = publish(alloc, files, &mut Memo::new(), config, now, sender, message)?;
+    let answer = publish(
+        alloc,
+        files,
+        &mut MailMemo::new(),
+        config,
+        now,
+        sender,
+        message,
+    )?;
     match answer {
         Appended::Full => Ok((Txn::new(alloc), plain(Reply::FULL))),
         Appended::At(number, more) => {

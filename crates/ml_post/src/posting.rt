@@ -18,14 +18,14 @@ ghost use Rattle.ml_acts.specs.Configured.{with_config};
 ghost use Rattle.ml_acts.specs.Damaged.{IsDamaged};
 ghost use Rattle.ml_acts.specs.Doing.{DoesList, HasIds, HasRoom};
 ghost use Rattle.ml_post.specs.Holding.{is_held_by};
-ghost use Rattle.ml_post.specs.Posting.{fate_of, is_posted_by, reply_of};
+ghost use Rattle.ml_post.specs.Posting.{outcome_of, is_posted_by, reply_of};
 ghost use Rattle.ml_post.specs.Publishing.{is_published_by, sent_key};
 
 use crate::Verdict;
 use crate::holding::hold_post;
 use crate::judging::{judged, usable};
 use crate::publishing::publish;
-use ml_acts::{Configured, Memo};
+use ml_acts::{Configured, MailMemo};
 use ml_archive::Appended;
 use ml_base::{Files, PartError, Txn};
 use ml_config::Config;
@@ -58,7 +58,7 @@ pub fn post<F: Files>(
     ensures sound { IsTrue F.tells → (p : Plain) → IsList (with_config config.now (F.map files.old)) p → IfErr result (λ e. OnDamaged e (λ _. ⊥)) }
     ensures reads { IsReading ⟦<F as Files>⟧ files.old files.new result }
 {
-    let mut memo = Memo::new();
+    let mut memo = MailMemo::new();
     post_with_memo(alloc, files, &mut memo, config, now, sender, message)
 }
 
@@ -66,7 +66,7 @@ pub fn post<F: Files>(
 pub fn post_with_memo<F: Files>(
     alloc: Global,
     files: &mut F,
-    memo: &mut Memo,
+    memo: &mut MailMemo,
     config: &Config,
     now: u64,
     sender: &[u8],
@@ -90,7 +90,7 @@ pub fn post_with_memo<F: Files>(
 fn post_judged<F: Files>(
     alloc: Global,
     files: &mut F,
-    memo: &mut Memo,
+    memo: &mut MailMemo,
     config: &Config,
     now: u64,
     sender: &[u8],
@@ -108,36 +108,36 @@ fn post_judged<F: Files>(
 {
     let found = judged(alloc, files, config, sender, &Message::scan(message))?;
     match follows(found) {
-        Fate::Refused(reply) => Ok((Txn::new(alloc), reply)),
-        Fate::Held => hold_message(alloc, files, config, now, sender, message),
-        Fate::Posted => post_message(alloc, files, memo, config, now, sender, message),
+        Outcome::Refused(reply) => Ok((Txn::new(alloc), reply)),
+        Outcome::Held => hold_message(alloc, files, config, now, sender, message),
+        Outcome::Posted => post_message(alloc, files, memo, config, now, sender, message),
     }
 }
 
 // What follows a verdict.
 #[derive(Clone, Copy)]
-enum Fate {
+enum Outcome {
     Refused(Reply),
     Held,
     Posted,
 }
 
 // What follows a verdict.
-fn follows(found: Verdict) -> Fate
-    ensures { result ≡ fate_of found }
+fn follows(found: Verdict) -> Outcome
+    ensures { result ≡ outcome_of found }
 {
     match found {
-        Verdict::TooBig => Fate::Refused(plain(Reply::TOOBIG)),
-        Verdict::BounceSender => Fate::Refused(plain(Reply::NOSENDER)),
-        Verdict::Looped => Fate::Refused(plain(Reply::LOOPED)),
-        Verdict::Denied => Fate::Refused(plain(Reply::DENIED)),
-        Verdict::NoSubject => Fate::Refused(plain(Reply::NOSUBJECT)),
-        Verdict::CommandSubject => Fate::Refused(plain(Reply::COMMAND)),
-        Verdict::NotAddressed => Fate::Refused(plain(Reply::NOTADDRESSED)),
-        Verdict::UsersOnly => Fate::Refused(plain(Reply::USERSONLY)),
-        Verdict::Held => Fate::Held,
-        Verdict::Full => Fate::Refused(plain(Reply::FULL)),
-        Verdict::Posted => Fate::Posted,
+        Verdict::TooBig => Outcome::Refused(plain(Reply::TOOBIG)),
+        Verdict::BounceSender => Outcome::Refused(plain(Reply::NOSENDER)),
+        Verdict::Looped => Outcome::Refused(plain(Reply::LOOPED)),
+        Verdict::Denied => Outcome::Refused(plain(Reply::DENIED)),
+        Verdict::NoSubject => Outcome::Refused(plain(Reply::NOSUBJECT)),
+        Verdict::CommandSubject => Outcome::Refused(plain(Reply::COMMAND)),
+        Verdict::NotAddressed => Outcome::Refused(plain(Reply::NOTADDRESSED)),
+        Verdict::UsersOnly => Outcome::Refused(plain(Reply::USERSONLY)),
+        Verdict::Held => Outcome::Held,
+        Verdict::Full => Outcome::Refused(plain(Reply::FULL)),
+        Verdict::Posted => Outcome::Posted,
     }
 }
 
@@ -171,7 +171,7 @@ fn hold_message<F: Files>(
 fn post_message<F: Files>(
     alloc: Global,
     files: &mut F,
-    memo: &mut Memo,
+    memo: &mut MailMemo,
     config: &Config,
     now: u64,
     sender: &[u8],

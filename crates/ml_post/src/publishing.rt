@@ -17,7 +17,7 @@ ghost use Rattle.ml_acts.specs.Doing.{Alike, HasIds, is_mailed_by, is_of_queue, 
 ghost use Rattle.ml_post.specs.Publishing.{Publishes, is_beside_held, is_published_by, number_of, sent_key};
 
 use crate::sending::sent_text;
-use ml_acts::{Memo, post_path, send_to_list};
+use ml_acts::{MailMemo, post_path, send_to_list};
 use ml_archive::{Appended, append, count};
 use ml_base::{Address, Bytes, Files, LAST_POST_NUMBER, PartError, Txn};
 use ml_config::Config;
@@ -31,7 +31,7 @@ const TOO_LONG: u64 = 4_294_967_296;
 pub(crate) fn publish<F: Files>(
     alloc: Global,
     files: &mut F,
-    memo: &mut Memo,
+    memo: &mut MailMemo,
     config: &Config,
     now: u64,
     sender: &Address,
@@ -65,7 +65,7 @@ pub(crate) fn publish<F: Files>(
 fn with_mail<F: Files>(
     alloc: Global,
     files: &mut F,
-    memo: &mut Memo,
+    memo: &mut MailMemo,
     config: &Config,
     number: u64,
     text: Bytes,
@@ -102,7 +102,7 @@ fn text_to_send(alloc: Global, config: &Config, message: &[u8]) -> Result<Bytes,
 fn mail_members<F: Files>(
     alloc: Global,
     files: &mut F,
-    memo: &mut Memo,
+    memo: &mut MailMemo,
     config: &Config,
     number: u64,
     text: Bytes,

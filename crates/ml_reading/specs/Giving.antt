@@ -12,7 +12,7 @@ use Rattle.ml_journal.specs.Calls.{Leaves}
 use Rattle.ml_journal.specs.Log.{directory}
 use Rattle.ml_ending.specs.Endings.{MissesList, Opens}
 use Rattle.ml_reading.specs.Meanings.{Meaning}
-use Rattle.ml_reading.specs.Readings.{GivesFound, IsReading, Reads, is_status_of}
+use Rattle.ml_reading.specs.Readings.{GivesFound, IsLeftByReading, Reads, is_status_of}
 
 -- What a command does that asks this of a list: it gives the answer, or says why there is none, and leaves the directory.
 pub record GivesAnswer {S : Type 0} (told : Ghosts S) (asked : Meaning) (old new : S) (status : ℕ) : Type 0 where
@@ -23,8 +23,8 @@ pub record GivesAnswer {S : Type 0} (told : Ghosts S) (asked : Meaning) (old new
   pub nolist : IsTrue told.tells_reads → (files : Dir) → directory (told.disk old).reads ≡ Some files → files config_name ≡ None → MissesList (IsTrue told.tells_all) status (told.output old) (told.output new)
   -- The directory stays as it is, and so it is at every moment; where something is pending at the start from the first sync that succeeds.
   pub same : IsTrue told.tells_reads → directory (told.disk new).reads ≡ directory (told.disk old).reads
-  pub moments : IsTrue told.tells_all → Opens told old new (IsReading asked (directory (told.disk old).reads) (told.output old))
-  pub at_rest : IsAtRest (told.disk old) → Leaves told old new (IsReading asked (directory (told.disk old).reads) (told.output old))
+  pub moments : IsTrue told.tells_all → Opens told old new (IsLeftByReading asked (directory (told.disk old).reads) (told.output old))
+  pub at_rest : IsAtRest (told.disk old) → Leaves told old new (IsLeftByReading asked (directory (told.disk old).reads) (told.output old))
   -- Nothing is pending then, but after a fault or want of memory, and the log is one closed gate.
   pub rest : (Rose (told.disk_faults old) (told.disk_faults new) → ⊥) → (status ≡ 71 → ⊥) → (status ≡ 73 → ⊥) → IsTrue told.tells_all → IsAtRest (told.disk new)
   pub gate : IsSome (directory (told.disk old).reads) → (status ≡ 71 → ⊥) → (status ≡ 73 → ⊥) → (status ≡ 111 → ⊥) → IsTrue told.tells_reads → (told.disk new).reads.log ≡ nul ∷ []

@@ -12,7 +12,7 @@ use Rattle.ml_ending.specs.declared.lines.Why.TheVariants as whys
 use Rattle.ml_stream.specs.declared.stream.StreamError.{StreamError}
 use Rattle.ml_stream.specs.declared.stream.StreamError.TheVariants.{Bad, Short, Fault, Memory}
 use Rattle.ml_stream.specs.Stream.{got, Read, StreamEnd, End, Broken, IsStream, behind_letter, elements_at, item_at, letter_of}
-use Rattle.ml_stream.specs.Reading.{Breaks, IsNoItem, Tells}
+use Rattle.ml_stream.specs.Reading.{EndsEarly, IsNoItem, Tells}
 use Rattle.ml_stream.specs.Items.{HasLeft, place_of, ahead_of}
 use Rattle.ml_run.specs.Stops.{why_of_stream}
 use Rattle.ml_run.specs.Groups.{Spells, TakesTo, Takes, IsPartReason}
@@ -70,7 +70,7 @@ none_front place front rest bs e split is = let some = streams place front in go
         absurd (err_item e item s.0 (s.1 ++ rest) (sym is ∙ wide))
 
 -- where an error was answered, what was taken holds no item
-none_taken : (e : StreamError) (place : ℕ) (bs : Text) (left' : Option Text) → Tells e (item_at place bs) → (b : Breaks e left' bs (IsNoItem place)) → IsNoItem place b.front
+none_taken : (e : StreamError) (place : ℕ) (bs : Text) (left' : Option Text) → Tells e (item_at place bs) → (b : EndsEarly e left' bs (IsNoItem place)) → IsNoItem place b.front
 none_taken (Bad at) place bs left' tells b = none_front place b.front b.rest bs (Bad at) b.split tells
 none_taken (Short at) place bs left' tells b = none_front place b.front b.rest bs (Short at) b.split tells
 none_taken Fault place bs left' tells b = b.cut (inl refl)
@@ -84,7 +84,7 @@ stream_more Memory is = let bad : whys.Memory ≡ whys.More = is in cc
 
 -- an error was answered in place of an item
 pub takes_error : (e : StreamError) (place : ℕ) (bs : Text) (items : List Item) (more more' : ℕ) (reader new : Items) (left left' : Option Text) (t : Takes ends.Full place bs items more reader left)
-    → Tells e (item_at (place_of reader) t.rest) → Breaks e left' t.rest (IsNoItem (place_of reader)) → Takes (ends.Stopped None (why_of_stream e)) place bs items more' new left'
+    → Tells e (item_at (place_of reader) t.rest) → EndsEarly e left' t.rest (IsNoItem (place_of reader)) → Takes (ends.Stopped None (why_of_stream e)) place bs items more' new left'
 takes_error e place bs items more more' reader new left left' t tells b =
     let none = none_taken e (place_of reader) t.rest left' tells b in
     takes_more (ends.Stopped None (why_of_stream e)) place (place_of reader) bs t.front t.rest b.front b.rest items more' new left' [] none.0 t.split t.holds.0 b.split b.left_is none.1

@@ -9,7 +9,7 @@ ghost use Rattle.ml_plain.specs.declared.Act.TheVariants.{Timed};
 ghost use Rattle.ml_run.specs.Feeds.{IsFresh, IsHeld, bytes_held, reader_held};
 ghost use Rattle.ml_run.specs.Held.{held_room};
 ghost use Rattle.ml_stream.specs.Items.{HasLeft, NextRead, place_of, ahead_of, error_of};
-ghost use Rattle.ml_stream.specs.Reading.{Breaks, IsNoItem};
+ghost use Rattle.ml_stream.specs.Reading.{EndsEarly, IsNoItem};
 ghost use Rattle.ml_stream.specs.Stream.{item_at};
 ghost use Rattle.ml_stream.specs.declared.items.Items.{Items as TheItems};
 
@@ -42,7 +42,7 @@ pub(crate) trait Feed {
         ensures read { (bs : Text) → HasLeft (reader self.old) (left self.old) bs →
             NextRead result (reader self.new) (left self.new) (item_at (place_of (reader self.old)) bs) }
         ensures stops { (bs : Text) → HasLeft (reader self.old) (left self.old) bs →
-            IfErr result (λ e. Breaks e (left self.new) bs (IsNoItem (place_of (reader self.old)))) }
+            IfErr result (λ e. EndsEarly e (left self.new) bs (IsNoItem (place_of (reader self.old)))) }
         ensures ahead { OnOk result (ahead_of (reader self.new) ≡ None) }
         ensures sound { OnOk result (sound self.new) }
         ensures limits { IfOk result (λ found. IfSome found IsItem) }

@@ -10,7 +10,7 @@ use Rattle.ml_stream.specs.declared.reader.Letter.{Letter}
 use Rattle.ml_stream.specs.declared.stream.StreamError.{StreamError}
 use Rattle.ml_stream.specs.declared.stream.StreamError.TheVariants.{Bad, Short, Fault, Memory}
 use Rattle.ml_stream.specs.Stream.{Got, Read, got, and_then, length_at, bytes_at, content_at, comma_at, closed, element_at, item_number_of, moment_of, any_bytes, deliver_at, act_at, elements_at, letter_of, some_item, Broken}
-use Rattle.ml_stream.specs.Reading.{Stands, Breaks, Fails, IsCut, IsHindrance, IsNoItem, IsUnfinished}
+use Rattle.ml_stream.specs.Reading.{Stands, EndsEarly, Fails, IsCut, IsHindrance, IsNoItem, IsUnfinished}
 use Rattle.ml_stream.proofs.Locality.{IsLocal, length_local, content_local, element_local}
 use Rattle.ml_stream.proofs.Elements.{own_is, content_short, item_letter, sender_then, recipient_then, message_then}
 
@@ -44,15 +44,15 @@ byte_kept place ahead left after bs buf none one s c =
     c.left_is ∙ ap (λ (t : Text). Some t) (sym (own_is place ahead left bs none s ∙ c.split ∙ ap (λ (t : Text). t ++ c.rest) (empty c.front (omega (arith, c.few, one)))))
 
 -- nothing was taken
-pub breaks_none : (e : StreamError) (left : Option Text) (bs : Text) (P : Text → Type 0) → left ≡ Some bs → P [] → Breaks e left bs P
+pub breaks_none : (e : StreamError) (left : Option Text) (bs : Text) (P : Text → Type 0) → left ≡ Some bs → P [] → EndsEarly e left bs P
 breaks_none e left bs P is p = record { front = []; rest = bs; split = refl; left_is = is; cut = λ fault. p }
 
 -- a byte was taken, or the stream was at its end
-pub breaks_byte : (e : StreamError) (place : ℕ) (ahead b : Option ℕ) (left : Option Text) (bs rest : Text) (P : Text → Type 0) → bs ≡ option_to_list b ++ rest → ahead ≡ None → Stands place ahead left rest → (IsHindrance e → ⊥) → Breaks e left bs P
+pub breaks_byte : (e : StreamError) (place : ℕ) (ahead b : Option ℕ) (left : Option Text) (bs rest : Text) (P : Text → Type 0) → bs ≡ option_to_list b ++ rest → ahead ≡ None → Stands place ahead left rest → (IsHindrance e → ⊥) → EndsEarly e left bs P
 breaks_byte e place ahead b left bs rest P split none s other = record { front = option_to_list b; rest = rest; split = split; left_is = left_own place ahead left rest none s; cut = λ fault. absurd (other fault) }
 
 -- the same within a value that was read in part
-pub breaks_further : (e : StreamError) (left : Option Text) (bs front rest : Text) (Q P : Text → Type 0) → bs ≡ front ++ rest → Breaks e left rest Q → ((t : Text) → Q t → P (front ++ t)) → Breaks e left bs P
+pub breaks_further : (e : StreamError) (left : Option Text) (bs front rest : Text) (Q P : Text → Type 0) → bs ≡ front ++ rest → EndsEarly e left rest Q → ((t : Text) → Q t → P (front ++ t)) → EndsEarly e left bs P
 breaks_further e left bs front rest Q P split b f = record {
   front = front ++ b.front;
   rest = b.rest;
@@ -61,20 +61,20 @@ breaks_further e left bs front rest Q P split b f = record {
   cut = λ fault. f b.front (b.cut fault);
 }
 
-pub breaks_map : (e : StreamError) (left : Option Text) (bs : Text) (Q P : Text → Type 0) → Breaks e left bs Q → ((t : Text) → Q t → P t) → Breaks e left bs P
+pub breaks_map : (e : StreamError) (left : Option Text) (bs : Text) (Q P : Text → Type 0) → EndsEarly e left bs Q → ((t : Text) → Q t → P t) → EndsEarly e left bs P
 breaks_map e left bs Q P b f = record { front = b.front; rest = b.rest; split = b.split; left_is = b.left_is; cut = λ fault. f b.front (b.cut fault) }
 
 -- all was taken
-pub breaks_all : (e : StreamError) (left : Option Text) (bs : Text) (P : Text → Type 0) → left ≡ Some [] → (IsHindrance e → ⊥) → Breaks e left bs P
+pub breaks_all : (e : StreamError) (left : Option Text) (bs : Text) (P : Text → Type 0) → left ≡ Some [] → (IsHindrance e → ⊥) → EndsEarly e left bs P
 breaks_all e left bs P is other = record { front = bs; rest = []; split = sym (append-nil bs); left_is = is; cut = λ fault. absurd (other fault) }
 
 -- the first of two values was read in part
-pub breaks_first : {A B : Type 0} (e : StreamError) (left : Option Text) (bs : Text) (f : Text → Read A) (h : Got A → Read B) → Breaks e left bs (λ t. Fails (f t)) → Breaks e left bs (λ t. Fails (and_then (f t) h))
+pub breaks_first : {A B : Type 0} (e : StreamError) (left : Option Text) (bs : Text) (f : Text → Read A) (h : Got A → Read B) → EndsEarly e left bs (λ t. Fails (f t)) → EndsEarly e left bs (λ t. Fails (and_then (f t) h))
 breaks_first {A} {B} e left bs f h b = breaks_map e left bs (λ t. Fails (f t)) (λ t. Fails (and_then (f t) h)) b (λ t x. (x.0, ap (λ (r : Read A). and_then r h) x.1))
 
 -- the first of two values was read, and the second in part
 pub breaks_then : {A B : Type 0} (e : StreamError) (left : Option Text) (bs rest : Text) (f : Text → Read A) (h : Got A → Read B) (value : A) (place : ℕ) → IsLocal f → f bs ≡ got value place rest
-    → Breaks e left rest (λ t. Fails (h (record { value = value; place = place; rest = t }))) → Breaks e left bs (λ t. Fails (and_then (f t) h))
+    → EndsEarly e left rest (λ t. Fails (h (record { value = value; place = place; rest = t }))) → EndsEarly e left bs (λ t. Fails (and_then (f t) h))
 breaks_then {A} {B} e left bs rest f h value place local is b =
     let one = local bs (record { value = value; place = place; rest = rest }) is in
     breaks_further e left bs one.one rest (λ t. Fails (h (record { value = value; place = place; rest = t }))) (λ t. Fails (and_then (f t) h)) one.split b
@@ -82,14 +82,14 @@ breaks_then {A} {B} e left bs rest f h value place local is b =
 
 -- a value was read, and no more, for another reason than a fault
 pub breaks_got : {A : Type 0} (e : StreamError) (place : ℕ) (ahead : Option ℕ) (left : Option Text) (bs rest : Text) (f : Text → Read A) (value : A) (P : Text → Type 0) → IsLocal f → f bs ≡ got value place rest
-    → ahead ≡ None → Stands place ahead left rest → (IsHindrance e → ⊥) → Breaks e left bs P
+    → ahead ≡ None → Stands place ahead left rest → (IsHindrance e → ⊥) → EndsEarly e left bs P
 breaks_got {A} e place ahead left bs rest f value P local is none s other =
     let one = local bs (record { value = value; place = place; rest = rest }) is in
     record { front = one.one; rest = rest; split = one.split; left_is = left_own place ahead left rest none s; cut = λ fault. absurd (other fault) }
 
 -- the same where memory was wanting behind it
 pub breaks_read : {A : Type 0} (e : StreamError) (place : ℕ) (ahead : Option ℕ) (left : Option Text) (bs rest : Text) (f : Text → Read A) (value : A) (P : Text → Type 0) → IsLocal f → f bs ≡ got value place rest
-    → ahead ≡ None → Stands place ahead left rest → ((front : Text) → f front ≡ got value place [] → P front) → Breaks e left bs P
+    → ahead ≡ None → Stands place ahead left rest → ((front : Text) → f front ≡ got value place [] → P front) → EndsEarly e left bs P
 breaks_read {A} e place ahead left bs rest f value P local is none s all =
     let one = local bs (record { value = value; place = place; rest = rest }) is in
     record { front = one.one; rest = rest; split = one.split; left_is = left_own place ahead left rest none s; cut = λ h. all one.one (ap f (sym (append-nil one.one)) ∙ one.all []) }
@@ -113,12 +113,12 @@ element_unfinished {X} limit start read t u = ⊎_elim
     unclosed None place = (Bad start, refl)
     unclosed (Some x) place = (Short start, refl)
 
-pub breaks_element : {X : Type 0} (e : StreamError) (limit start : ℕ) (read : Text → Option X) (left : Option Text) (bs : Text) → Breaks e left bs (λ t. IsUnfinished (content_at start limit t)) → Breaks e left bs (λ t. Fails (element_at limit read start t))
+pub breaks_element : {X : Type 0} (e : StreamError) (limit start : ℕ) (read : Text → Option X) (left : Option Text) (bs : Text) → EndsEarly e left bs (λ t. IsUnfinished (content_at start limit t)) → EndsEarly e left bs (λ t. Fails (element_at limit read start t))
 breaks_element e limit start read left bs b = breaks_map e left bs (λ t. IsUnfinished (content_at start limit t)) (λ t. Fails (element_at limit read start t)) b (λ t u. element_unfinished limit start read t u)
 
 -- a content was read in part
 pub breaks_content : (e : StreamError) (start limit p n size : ℕ) (ahead : Option ℕ) (left after : Option Text) (bs own : Text) → length_at start limit 0 0 start bs ≡ got n p own → ahead ≡ None → (s : Stands p ahead left own) → size ≡ n → IsCut size s.own after
-    → Breaks e after bs (λ t. IsUnfinished (content_at start limit t))
+    → EndsEarly e after bs (λ t. IsUnfinished (content_at start limit t))
 breaks_content e start limit p n size ahead left after bs own is none s same c =
     let one = length_local start limit 0 0 start bs (record { value = n; place = p; rest = own }) is in record {
       front = one.one ++ c.front;
@@ -130,7 +130,7 @@ breaks_content e start limit p n size ahead left after bs own is none s same c =
 
 -- a content was read, and the comma behind it wasn't
 pub breaks_comma : {X : Type 0} (e : StreamError) (limit start p : ℕ) (read : Text → Option X) (left : Option Text) (bs content own : Text) (x : X) → content_at start limit bs ≡ got content p own → read content ≡ Some x
-    → Breaks e left own (λ t. Fails (comma_at start p t)) → Breaks e left bs (λ t. Fails (element_at limit read start t))
+    → EndsEarly e left own (λ t. Fails (comma_at start p t)) → EndsEarly e left bs (λ t. Fails (element_at limit read start t))
 breaks_comma {X} e limit start p read left bs content own x is value b =
     breaks_then e left bs own (λ t. content_at start limit t) (λ found. closed start (read found.value) found.place found.rest) content p (content_local start limit) is
     (breaks_map e left own (λ t. Fails (comma_at start p t)) (λ t. Fails (closed start (read content) p t)) b
@@ -141,7 +141,7 @@ pub length_cut : (start limit count n place old : ℕ) (front : Text) → ((more
 length_cut start limit count n place old front same = (Short start, ap (length_at start limit 0 0 old) (sym (append-nil front)) ∙ sym (same []))
 
 -- the elements of an item were read in part
-pub breaks_item : (e : StreamError) (p place b : ℕ) (letter : Letter) (left : Option Text) (bs rest : Text) → bs ≡ b ∷ rest → letter_of b ≡ Some letter → place ≡ p + 1 → Breaks e left rest (λ t. Fails (elements_at letter place t)) → Breaks e left bs (IsNoItem p)
+pub breaks_item : (e : StreamError) (p place b : ℕ) (letter : Letter) (left : Option Text) (bs rest : Text) → bs ≡ b ∷ rest → letter_of b ≡ Some letter → place ≡ p + 1 → EndsEarly e left rest (λ t. Fails (elements_at letter place t)) → EndsEarly e left bs (IsNoItem p)
 breaks_item e p place b letter left bs rest split is next b' =
     breaks_further e left bs (b ∷ []) rest (λ t. Fails (elements_at letter place t)) (IsNoItem p) split b'
     (λ t f. (Broken f.0, item_letter p place b letter t is next ∙ ap (λ (r : Read Item). and_then r some_item) f.1))
@@ -154,19 +154,19 @@ number_then letter number =
 abbrev moment_then : Letter → ℕ → Got ℕ → Read Item
 moment_then letter number moment = and_then (act_at letter moment.place moment.rest) (λ act. got (record { number = number; moment = moment.value; act = act.value }) act.place act.rest)
 
-pub elements_first : (e : StreamError) (left : Option Text) (bs : Text) (letter : Letter) (p : ℕ) → Breaks e left bs (λ t. Fails (element_at 12 item_number_of p t)) → Breaks e left bs (λ t. Fails (elements_at letter p t))
+pub elements_first : (e : StreamError) (left : Option Text) (bs : Text) (letter : Letter) (p : ℕ) → EndsEarly e left bs (λ t. Fails (element_at 12 item_number_of p t)) → EndsEarly e left bs (λ t. Fails (elements_at letter p t))
 unfolding elements_at
 elements_first e left bs letter p b = breaks_first e left bs (λ t. element_at 12 item_number_of p t) (number_then letter) b
 
 pub elements_second : (e : StreamError) (left : Option Text) (bs rest : Text) (letter : Letter) (p q number : ℕ) → element_at 12 item_number_of p bs ≡ got number q rest
-    → Breaks e left rest (λ t. Fails (element_at 12 moment_of q t)) → Breaks e left bs (λ t. Fails (elements_at letter p t))
+    → EndsEarly e left rest (λ t. Fails (element_at 12 moment_of q t)) → EndsEarly e left bs (λ t. Fails (elements_at letter p t))
 unfolding elements_at
 elements_second e left bs rest letter p q number is b =
     breaks_then e left bs rest (λ t. element_at 12 item_number_of p t) (number_then letter) number q (element_local 12 item_number_of p) is
     (breaks_first e left rest (λ t. element_at 12 moment_of q t) (moment_then letter number) b)
 
 pub elements_third : (e : StreamError) (left : Option Text) (bs rest last : Text) (letter : Letter) (p q r number moment : ℕ) → element_at 12 item_number_of p bs ≡ got number q rest → element_at 12 moment_of q rest ≡ got moment r last
-    → Breaks e left last (λ t. Fails (act_at letter r t)) → Breaks e left bs (λ t. Fails (elements_at letter p t))
+    → EndsEarly e left last (λ t. Fails (act_at letter r t)) → EndsEarly e left bs (λ t. Fails (elements_at letter p t))
 unfolding elements_at
 elements_third e left bs rest last letter p q r number moment is next b =
     breaks_then e left bs rest (λ t. element_at 12 item_number_of p t) (number_then letter) number q (element_local 12 item_number_of p) is
@@ -174,17 +174,17 @@ elements_third e left bs rest last letter p q r number moment is next b =
     (breaks_first e left last (λ t. act_at letter r t) (λ act. got (record { number = number; moment = moment; act = act.value }) act.place act.rest) b))
 
 -- the parts of a delivery were read in part
-pub deliver_first : (e : StreamError) (left : Option Text) (bs : Text) (p : ℕ) → Breaks e left bs (λ t. Fails (element_at 1000 any_bytes p t)) → Breaks e left bs (λ t. Fails (deliver_at p t))
+pub deliver_first : (e : StreamError) (left : Option Text) (bs : Text) (p : ℕ) → EndsEarly e left bs (λ t. Fails (element_at 1000 any_bytes p t)) → EndsEarly e left bs (λ t. Fails (deliver_at p t))
 deliver_first e left bs p b = breaks_first e left bs (λ t. element_at 1000 any_bytes p t) sender_then b
 
 pub deliver_second : (e : StreamError) (left : Option Text) (bs rest : Text) (p q : ℕ) (sender : Text) → element_at 1000 any_bytes p bs ≡ got sender q rest
-    → Breaks e left rest (λ t. Fails (element_at 1000 any_bytes q t)) → Breaks e left bs (λ t. Fails (deliver_at p t))
+    → EndsEarly e left rest (λ t. Fails (element_at 1000 any_bytes q t)) → EndsEarly e left bs (λ t. Fails (deliver_at p t))
 deliver_second e left bs rest p q sender is b =
     breaks_then e left bs rest (λ t. element_at 1000 any_bytes p t) sender_then sender q (element_local 1000 any_bytes p) is
     (breaks_first e left rest (λ t. element_at 1000 any_bytes q t) (recipient_then sender) b)
 
 pub deliver_third : (e : StreamError) (left : Option Text) (bs rest last : Text) (p q r : ℕ) (sender recipient : Text) → element_at 1000 any_bytes p bs ≡ got sender q rest → element_at 1000 any_bytes q rest ≡ got recipient r last
-    → Breaks e left last (λ t. Fails (element_at 33_554_432 any_bytes r t)) → Breaks e left bs (λ t. Fails (deliver_at p t))
+    → EndsEarly e left last (λ t. Fails (element_at 33_554_432 any_bytes r t)) → EndsEarly e left bs (λ t. Fails (deliver_at p t))
 deliver_third e left bs rest last p q r sender recipient is next b =
     breaks_then e left bs rest (λ t. element_at 1000 any_bytes p t) sender_then sender q (element_local 1000 any_bytes p) is
     (breaks_then e left rest last (λ t. element_at 1000 any_bytes q t) (recipient_then sender) recipient r (element_local 1000 any_bytes q) next

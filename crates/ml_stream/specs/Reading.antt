@@ -58,7 +58,7 @@ abbrev pub IsHindrance : StreamError → Type 0
 IsHindrance e = (e ≡ Fault) ⊎ (e ≡ Memory)
 
 -- An error was answered: some bytes were taken from the front, and where it doesn't tell of the stream, this holds of these alone.
-pub record Breaks (e : StreamError) (left : Option Text) (bs : Text) (P : Text → Type 0) : Type 0 where
+pub record EndsEarly (e : StreamError) (left : Option Text) (bs : Text) (P : Text → Type 0) : Type 0 where
   pub front : Text
   pub rest : Text
   pub split : bs ≡ front ++ rest

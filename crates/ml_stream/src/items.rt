@@ -5,7 +5,7 @@ ghost use Rattle.ml_base.specs.Bytes.{Text, is_empty};
 ghost use Rattle.ml_plain.specs.Items.{IsItem};
 ghost use Rattle.ml_stream.specs.Stream.{item_at};
 ghost use Rattle.ml_stream.specs.Items.{HasLeft, NextRead, place_of, ahead_of, error_of};
-ghost use Rattle.ml_stream.specs.Reading.{Breaks, IsNoItem};
+ghost use Rattle.ml_stream.specs.Reading.{EndsEarly, IsNoItem};
 ghost use Rattle.ml_stream.specs.declared.stream.StreamError.{StreamError as TheError};
 
 use crate::StreamError;
@@ -50,7 +50,7 @@ impl Items {
         ensures read { error_of self.old ≡ None → (bs : Text) → HasLeft self.old (I.left input.old) bs →
             NextRead result self.new (I.left input.new) (item_at (place_of self.old) bs) }
         ensures stops { error_of self.old ≡ None → (bs : Text) → HasLeft self.old (I.left input.old) bs →
-            IfErr result (λ e. Breaks e (I.left input.new) bs (IsNoItem (place_of self.old))) }
+            IfErr result (λ e. EndsEarly e (I.left input.new) bs (IsNoItem (place_of self.old))) }
         ensures again { (e : TheError) → error_of self.old ≡ Some e → IsErrOf result e }
         ensures no_more { (e : TheError) → error_of self.old ≡ Some e → input.new ≡ input.old }
         ensures ahead { OnOk result (ahead_of self.new ≡ None) }

@@ -5,7 +5,7 @@ ghost use Rattle.ml_base.specs.Bytes.{Text};
 ghost use Rattle.ml_base.specs.Name.{set_of};
 ghost use Rattle.ml_base.specs.Address.{address_of};
 ghost use Rattle.ml_stream.specs.Stream.{length_at, content_at, comma_at, element_at, item_number_of, moment_of, positive_within, key_of, any_bytes, add_at, remove_at, deliver_at, sent_at, floor_at, rekey_at, act_at, elements_at, item_at, letter_of};
-ghost use Rattle.ml_stream.specs.Reading.{Stands, Reads, Steps, Breaks, Fails, IsCut, IsNoItem, IsUnfinished};
+ghost use Rattle.ml_stream.specs.Reading.{Stands, Reads, Steps, EndsEarly, Fails, IsCut, IsNoItem, IsUnfinished};
 ghost use Rattle.ml_plain.specs.Items.{IsAct, IsItem};
 
 use crate::StreamError;
@@ -114,7 +114,7 @@ impl Reader {
         ensures read { (bs : List ℕ) → Stands self.old.place self.old.ahead (I.left input.old) bs →
             Reads result self.new.place self.new.ahead (I.left input.new) (length_at start limit 0 0 self.old.place bs) }
         ensures stops { (bs : List ℕ) → Stands self.old.place self.old.ahead (I.left input.old) bs →
-            IfErr result (λ e. Breaks e (I.left input.new) bs (λ t. Fails (length_at start limit 0 0 self.old.place t))) }
+            IfErr result (λ e. EndsEarly e (I.left input.new) bs (λ t. Fails (length_at start limit 0 0 self.old.place t))) }
         ensures ahead { OnOk result (self.new.ahead ≡ None) }
         ensures limit { IfOk result (λ n. n ≤ limit) }
         ensures later { I.faults input.old ≤ I.faults input.new }
@@ -152,7 +152,7 @@ impl Reader {
         ensures read { (bs : List ℕ) → Stands self.old.place self.old.ahead (I.left input.old) bs →
             Reads result self.new.place self.new.ahead (I.left input.new) (content_at self.old.place limit bs) }
         ensures stops { (bs : List ℕ) → Stands self.old.place self.old.ahead (I.left input.old) bs →
-            IfErr result (λ e. Breaks e (I.left input.new) bs (λ t. IsUnfinished (content_at self.old.place limit t))) }
+            IfErr result (λ e. EndsEarly e (I.left input.new) bs (λ t. IsUnfinished (content_at self.old.place limit t))) }
         ensures ahead { OnOk result (self.new.ahead ≡ None) }
         ensures limit { IfOk result (λ text. length text ≤ limit) }
         ensures later { I.faults input.old ≤ I.faults input.new }
@@ -173,7 +173,7 @@ impl Reader {
         ensures read { (bs : List ℕ) → Stands self.old.place self.old.ahead (I.left input.old) bs →
             Reads result self.new.place self.new.ahead (I.left input.new) (comma_at start self.old.place bs) }
         ensures stops { (bs : List ℕ) → Stands self.old.place self.old.ahead (I.left input.old) bs →
-            IfErr result (λ e. Breaks e (I.left input.new) bs (λ t. Fails (comma_at start self.old.place t))) }
+            IfErr result (λ e. EndsEarly e (I.left input.new) bs (λ t. Fails (comma_at start self.old.place t))) }
         ensures ahead { OnOk result (self.new.ahead ≡ None) }
         ensures later { I.faults input.old ≤ I.faults input.new }
         ensures cause { IsErrOf result StreamError.Fault → Rose (I.faults input.old) (I.faults input.new) }
@@ -193,7 +193,7 @@ impl Reader {
         ensures read { (bs : List ℕ) → Stands self.old.place self.old.ahead (I.left input.old) bs →
             Reads result self.new.place self.new.ahead (I.left input.new) (element_at 12 item_number_of self.old.place bs) }
         ensures stops { (bs : List ℕ) → Stands self.old.place self.old.ahead (I.left input.old) bs →
-            IfErr result (λ e. Breaks e (I.left input.new) bs (λ t. Fails (element_at 12 item_number_of self.old.place t))) }
+            IfErr result (λ e. EndsEarly e (I.left input.new) bs (λ t. Fails (element_at 12 item_number_of self.old.place t))) }
         ensures ahead { OnOk result (self.new.ahead ≡ None) }
         ensures limit { IfOk result (λ number. number ≤ 999_999_999_999) }
         ensures later { I.faults input.old ≤ I.faults input.new }
@@ -213,7 +213,7 @@ impl Reader {
         ensures read { (bs : List ℕ) → Stands self.old.place self.old.ahead (I.left input.old) bs →
             Reads result self.new.place self.new.ahead (I.left input.new) (element_at 12 moment_of self.old.place bs) }
         ensures stops { (bs : List ℕ) → Stands self.old.place self.old.ahead (I.left input.old) bs →
-            IfErr result (λ e. Breaks e (I.left input.new) bs (λ t. Fails (element_at 12 moment_of self.old.place t))) }
+            IfErr result (λ e. EndsEarly e (I.left input.new) bs (λ t. Fails (element_at 12 moment_of self.old.place t))) }
         ensures ahead { OnOk result (self.new.ahead ≡ None) }
         ensures limit { IfOk result (λ moment. moment < 253_402_300_800) }
         ensures later { I.faults input.old ≤ I.faults input.new }
@@ -233,7 +233,7 @@ impl Reader {
         ensures read { (bs : List ℕ) → Stands self.old.place self.old.ahead (I.left input.old) bs →
             Reads result self.new.place self.new.ahead (I.left input.new) (element_at 6 set_of self.old.place bs) }
         ensures stops { (bs : List ℕ) → Stands self.old.place self.old.ahead (I.left input.old) bs →
-            IfErr result (λ e. Breaks e (I.left input.new) bs (λ t. Fails (element_at 6 set_of self.old.place t))) }
+            IfErr result (λ e. EndsEarly e (I.left input.new) bs (λ t. Fails (element_at 6 set_of self.old.place t))) }
         ensures ahead { OnOk result (self.new.ahead ≡ None) }
         ensures later { I.faults input.old ≤ I.faults input.new }
         ensures cause { IsErrOf result StreamError.Fault → Rose (I.faults input.old) (I.faults input.new) }
@@ -252,7 +252,7 @@ impl Reader {
         ensures read { (bs : List ℕ) → Stands self.old.place self.old.ahead (I.left input.old) bs →
             Reads result self.new.place self.new.ahead (I.left input.new) (element_at 400 address_of self.old.place bs) }
         ensures stops { (bs : List ℕ) → Stands self.old.place self.old.ahead (I.left input.old) bs →
-            IfErr result (λ e. Breaks e (I.left input.new) bs (λ t. Fails (element_at 400 address_of self.old.place t))) }
+            IfErr result (λ e. EndsEarly e (I.left input.new) bs (λ t. Fails (element_at 400 address_of self.old.place t))) }
         ensures ahead { OnOk result (self.new.ahead ≡ None) }
         ensures later { I.faults input.old ≤ I.faults input.new }
         ensures cause { IsErrOf result StreamError.Fault → Rose (I.faults input.old) (I.faults input.new) }
@@ -271,7 +271,7 @@ impl Reader {
         ensures read { (bs : List ℕ) → Stands self.old.place self.old.ahead (I.left input.old) bs →
             Reads result self.new.place self.new.ahead (I.left input.new) (add_at self.old.place bs) }
         ensures stops { (bs : List ℕ) → Stands self.old.place self.old.ahead (I.left input.old) bs →
-            IfErr result (λ e. Breaks e (I.left input.new) bs (λ t. Fails (add_at self.old.place t))) }
+            IfErr result (λ e. EndsEarly e (I.left input.new) bs (λ t. Fails (add_at self.old.place t))) }
         ensures ahead { OnOk result (self.new.ahead ≡ None) }
         ensures limit { IfOk result IsAct }
         ensures later { I.faults input.old ≤ I.faults input.new }
@@ -287,7 +287,7 @@ impl Reader {
         ensures read { (bs : List ℕ) → Stands self.old.place self.old.ahead (I.left input.old) bs →
             Reads result self.new.place self.new.ahead (I.left input.new) (remove_at self.old.place bs) }
         ensures stops { (bs : List ℕ) → Stands self.old.place self.old.ahead (I.left input.old) bs →
-            IfErr result (λ e. Breaks e (I.left input.new) bs (λ t. Fails (remove_at self.old.place t))) }
+            IfErr result (λ e. EndsEarly e (I.left input.new) bs (λ t. Fails (remove_at self.old.place t))) }
         ensures ahead { OnOk result (self.new.ahead ≡ None) }
         ensures limit { IfOk result IsAct }
         ensures later { I.faults input.old ≤ I.faults input.new }
@@ -311,7 +311,7 @@ impl Reader {
         ensures read { (bs : List ℕ) → Stands self.old.place self.old.ahead (I.left input.old) bs →
             Reads result self.new.place self.new.ahead (I.left input.new) (element_at digits (positive_within most) self.old.place bs) }
         ensures stops { (bs : List ℕ) → Stands self.old.place self.old.ahead (I.left input.old) bs →
-            IfErr result (λ e. Breaks e (I.left input.new) bs (λ t. Fails (element_at digits (positive_within most) self.old.place t))) }
+            IfErr result (λ e. EndsEarly e (I.left input.new) bs (λ t. Fails (element_at digits (positive_within most) self.old.place t))) }
         ensures ahead { OnOk result (self.new.ahead ≡ None) }
         ensures limit { IfOk result (λ n. (1 ≤ n) × (n ≤ most)) }
         ensures later { I.faults input.old ≤ I.faults input.new }
@@ -337,7 +337,7 @@ impl Reader {
         ensures read { (bs : List ℕ) → Stands self.old.place self.old.ahead (I.left input.old) bs →
             Reads result self.new.place self.new.ahead (I.left input.new) (element_at limit any_bytes self.old.place bs) }
         ensures stops { (bs : List ℕ) → Stands self.old.place self.old.ahead (I.left input.old) bs →
-            IfErr result (λ e. Breaks e (I.left input.new) bs (λ t. Fails (element_at limit any_bytes self.old.place t))) }
+            IfErr result (λ e. EndsEarly e (I.left input.new) bs (λ t. Fails (element_at limit any_bytes self.old.place t))) }
         ensures ahead { OnOk result (self.new.ahead ≡ None) }
         ensures limit { IfOk result (λ text. length text ≤ limit) }
         ensures later { I.faults input.old ≤ I.faults input.new }
@@ -354,7 +354,7 @@ impl Reader {
         ensures read { (bs : List ℕ) → Stands self.old.place self.old.ahead (I.left input.old) bs →
             Reads result self.new.place self.new.ahead (I.left input.new) (deliver_at self.old.place bs) }
         ensures stops { (bs : List ℕ) → Stands self.old.place self.old.ahead (I.left input.old) bs →
-            IfErr result (λ e. Breaks e (I.left input.new) bs (λ t. Fails (deliver_at self.old.place t))) }
+            IfErr result (λ e. EndsEarly e (I.left input.new) bs (λ t. Fails (deliver_at self.old.place t))) }
         ensures ahead { OnOk result (self.new.ahead ≡ None) }
         ensures limit { IfOk result IsAct }
         ensures later { I.faults input.old ≤ I.faults input.new }
@@ -375,7 +375,7 @@ impl Reader {
         ensures read { (bs : List ℕ) → Stands self.old.place self.old.ahead (I.left input.old) bs →
             Reads result self.new.place self.new.ahead (I.left input.new) (sent_at self.old.place bs) }
         ensures stops { (bs : List ℕ) → Stands self.old.place self.old.ahead (I.left input.old) bs →
-            IfErr result (λ e. Breaks e (I.left input.new) bs (λ t. Fails (sent_at self.old.place t))) }
+            IfErr result (λ e. EndsEarly e (I.left input.new) bs (λ t. Fails (sent_at self.old.place t))) }
         ensures ahead { OnOk result (self.new.ahead ≡ None) }
         ensures limit { IfOk result IsAct }
         ensures later { I.faults input.old ≤ I.faults input.new }
@@ -390,7 +390,7 @@ impl Reader {
         ensures read { (bs : List ℕ) → Stands self.old.place self.old.ahead (I.left input.old) bs →
             Reads result self.new.place self.new.ahead (I.left input.new) (floor_at self.old.place bs) }
         ensures stops { (bs : List ℕ) → Stands self.old.place self.old.ahead (I.left input.old) bs →
-            IfErr result (λ e. Breaks e (I.left input.new) bs (λ t. Fails (floor_at self.old.place t))) }
+            IfErr result (λ e. EndsEarly e (I.left input.new) bs (λ t. Fails (floor_at self.old.place t))) }
         ensures ahead { OnOk result (self.new.ahead ≡ None) }
         ensures limit { IfOk result IsAct }
         ensures later { I.faults input.old ≤ I.faults input.new }
@@ -405,7 +405,7 @@ impl Reader {
         ensures read { (bs : List ℕ) → Stands self.old.place self.old.ahead (I.left input.old) bs →
             Reads result self.new.place self.new.ahead (I.left input.new) (element_at 64 key_of self.old.place bs) }
         ensures stops { (bs : List ℕ) → Stands self.old.place self.old.ahead (I.left input.old) bs →
-            IfErr result (λ e. Breaks e (I.left input.new) bs (λ t. Fails (element_at 64 key_of self.old.place t))) }
+            IfErr result (λ e. EndsEarly e (I.left input.new) bs (λ t. Fails (element_at 64 key_of self.old.place t))) }
         ensures ahead { OnOk result (self.new.ahead ≡ None) }
         ensures later { I.faults input.old ≤ I.faults input.new }
         ensures cause { IsErrOf result StreamError.Fault → Rose (I.faults input.old) (I.faults input.new) }
@@ -424,7 +424,7 @@ impl Reader {
         ensures read { (bs : List ℕ) → Stands self.old.place self.old.ahead (I.left input.old) bs →
             Reads result self.new.place self.new.ahead (I.left input.new) (rekey_at self.old.place bs) }
         ensures stops { (bs : List ℕ) → Stands self.old.place self.old.ahead (I.left input.old) bs →
-            IfErr result (λ e. Breaks e (I.left input.new) bs (λ t. Fails (rekey_at self.old.place t))) }
+            IfErr result (λ e. EndsEarly e (I.left input.new) bs (λ t. Fails (rekey_at self.old.place t))) }
         ensures ahead { OnOk result (self.new.ahead ≡ None) }
         ensures limit { IfOk result IsAct }
         ensures later { I.faults input.old ≤ I.faults input.new }
@@ -444,7 +444,7 @@ impl Reader {
         ensures read { (bs : List ℕ) → Stands self.old.place self.old.ahead (I.left input.old) bs →
             Reads result self.new.place self.new.ahead (I.left input.new) (act_at letter self.old.place bs) }
         ensures stops { (bs : List ℕ) → Stands self.old.place self.old.ahead (I.left input.old) bs →
-            IfErr result (λ e. Breaks e (I.left input.new) bs (λ t. Fails (act_at letter self.old.place t))) }
+            IfErr result (λ e. EndsEarly e (I.left input.new) bs (λ t. Fails (act_at letter self.old.place t))) }
         ensures ahead { self.old.ahead ≡ None → OnOk result (self.new.ahead ≡ None) }
         ensures limit { IfOk result IsAct }
         ensures later { I.faults input.old ≤ I.faults input.new }
@@ -472,7 +472,7 @@ impl Reader {
         ensures read { (bs : List ℕ) → Stands self.old.place self.old.ahead (I.left input.old) bs →
             Reads result self.new.place self.new.ahead (I.left input.new) (elements_at letter self.old.place bs) }
         ensures stops { (bs : List ℕ) → Stands self.old.place self.old.ahead (I.left input.old) bs →
-            IfErr result (λ e. Breaks e (I.left input.new) bs (λ t. Fails (elements_at letter self.old.place t))) }
+            IfErr result (λ e. EndsEarly e (I.left input.new) bs (λ t. Fails (elements_at letter self.old.place t))) }
         ensures ahead { OnOk result (self.new.ahead ≡ None) }
         ensures limits { IfOk result IsItem }
         ensures later { I.faults input.old ≤ I.faults input.new }
@@ -497,7 +497,7 @@ impl Reader {
         ensures read { (bs : List ℕ) → Stands self.old.place self.old.ahead (I.left input.old) bs →
             Reads result self.new.place self.new.ahead (I.left input.new) (item_at self.old.place bs) }
         ensures stops { (bs : List ℕ) → Stands self.old.place self.old.ahead (I.left input.old) bs →
-            IfErr result (λ e. Breaks e (I.left input.new) bs (IsNoItem self.old.place)) }
+            IfErr result (λ e. EndsEarly e (I.left input.new) bs (IsNoItem self.old.place)) }
         ensures ahead { OnOk result (self.new.ahead ≡ None) }
         ensures limits { IfOk result (λ found. IfSome found IsItem) }
         ensures later { I.faults input.old ≤ I.faults input.new }

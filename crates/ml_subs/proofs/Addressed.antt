@@ -11,7 +11,7 @@ use Rattle.ml_subs.specs.declared.lists.Spelling.{Spelling}
 use Rattle.ml_subs.specs.Members.{member_key}
 use Rattle.ml_subs.specs.Subscribers.{AreFiles, AreSubscribers, IsSpelled}
 use Rattle.ml_subs.proofs.Gathering.{joined_in}
-use Rattle.ml_subs.proofs.Standing.{joined_one}
+use Rattle.ml_subs.proofs.Represented.{joined_one}
 
 pub sorted_addresses : (ms : List Member) → is_sorted byte_cmp key (map (λ m. m.who) ms) ≡ is_sorted byte_cmp member_key ms
 sorted_addresses [] = refl

@@ -17,8 +17,8 @@ use Rattle.ml_subs.specs.Subscribers.{AreFiles, file_in, AreBuckets, AreJoined, 
 use Rattle.ml_subs.specs.Reading.{gathered, counted}
 use Rattle.ml_base.proofs.DamagedNames.{on_damaged}
 use Rattle.ml_subs.proofs.Rewritten.{count_one, some_one}
-use Rattle.ml_subs.proofs.Standing.{bucket_hashed, bucket_ordered, bucket_own, count_own, below_53, broken, made_of, counted_one}
-use Rattle.ml_subs.proofs.Together.{sorted_joined}
+use Rattle.ml_subs.proofs.Represented.{bucket_hashed, bucket_ordered, bucket_own, count_own, below_53, broken, made_of, counted_one}
+use Rattle.ml_subs.proofs.Union.{sorted_joined}
 
 -- the first buckets of a set
 abbrev pub AreFirst : Dir → Set → ℕ → (ℕ → List Member) → Type 0

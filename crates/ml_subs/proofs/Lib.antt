@@ -6,8 +6,8 @@ pub mod Placed
 pub mod Known
 pub mod Starts
 pub mod Rewritten
-pub mod Together
-pub mod Standing
+pub mod Union
+pub mod Represented
 pub mod Answering
 pub mod Gathering
 pub mod Addressed

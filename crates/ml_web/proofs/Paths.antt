@@ -3,7 +3,7 @@ use Rattle.std.proofs.Common.{◌≡◌, ◌<◌, inl, inr, ℕ, IsTrue, Result,
 use Rattle.std.specs.Prelude.{IfErr}
 use Rattle.ml_archive.specs.Threads.{thread_name}
 use Rattle.ml_archive.proofs.Looking.{group_in_table}
-use Rattle.ml_archive.proofs.Standing.{in_table}
+use Rattle.ml_archive.proofs.Represented.{in_table}
 use Rattle.ml_base.specs.Name.{is_in_table}
 use Rattle.ml_base.specs.PartErrors.{OnDamaged}
 use Rattle.ml_base.specs.declared.names.Name.{Name}

@@ -70,6 +70,6 @@ page_meaning query = record {
   of_list = λ list. answer_of query list.config list.posts;
   may_miss = asks_for_one query;
   may_exceed = false;
-  may_read = MayRead query;
+  is_read = MayRead query;
   is_bad = IsBadFile query;
 }

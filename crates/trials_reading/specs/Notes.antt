@@ -25,7 +25,7 @@ note_meaning name moment input = record {
   of_list = λ list. note name moment input (length list.posts);
   may_miss = true;
   may_exceed = true;
-  may_read = λ name. name ≡ number_name;
+  is_read = λ name. name ≡ number_name;
   is_bad = λ config dir name. IsNoNumber dir;
 }
 

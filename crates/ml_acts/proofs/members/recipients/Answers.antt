@@ -1,6 +1,6 @@
 use Rattle.std.proofs.Common.{rules, sym}
 use Rattle.ml_subs.proofs.Gathering.{ok_from}
-use Rattle.ml_subs.proofs.Standing.{own_files}
+use Rattle.ml_subs.proofs.Represented.{own_files}
 use Rattle.ml_acts.proofs.Damages.{members_named}
 use Rattle.ml_acts.proofs.members.recipients.Goals as goal
 

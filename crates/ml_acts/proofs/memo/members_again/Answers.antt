@@ -1,7 +1,7 @@
 use Rattle.std.proofs.Common.{rules, sym}
 use Rattle.ml_base.specs.declared.names.Set.TheVariants as sets
 use Rattle.ml_subs.proofs.Gathering.{ok_from}
-use Rattle.ml_subs.proofs.Standing.{own_files}
+use Rattle.ml_subs.proofs.Represented.{own_files}
 use Rattle.ml_acts.proofs.Damages.{members_named}
 use Rattle.ml_acts.proofs.memo.members_again.Goals as goal
 

@@ -1,4 +1,4 @@
-use Rattle.ml_bounce.proofs.Standing.{ledger_one, ledger_own, ledger_broken, ledger_nothing}
+use Rattle.ml_bounce.proofs.Represented.{ledger_one, ledger_own, ledger_broken, ledger_nothing}
 use Rattle.ml_bounce.proofs.laws.law_ledger.Goals as goal
 
 pub returns-clause-one : goal.returns-clause-one

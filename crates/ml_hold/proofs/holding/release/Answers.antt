@@ -1,4 +1,4 @@
-use Rattle.ml_hold.proofs.Standing.{released_by}
+use Rattle.ml_hold.proofs.Represented.{released_by}
 use Rattle.ml_hold.proofs.holding.release.Goals as goal
 
 pub returns-clause-value : goal.returns-clause-value

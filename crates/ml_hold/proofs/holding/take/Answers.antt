@@ -5,7 +5,7 @@ use Rattle.ml_base.specs.PartErrors.{OnDamaged}
 use Rattle.ml_base.specs.ReadFiles.{IsReading}
 use Rattle.ml_base.proofs.ReadingLemmas.{kept_read, reading_then}
 use Rattle.ml_hold.specs.Answers.{tickets_name}
-use Rattle.ml_hold.proofs.Standing.{taking, taken_some}
+use Rattle.ml_hold.proofs.Represented.{taking, taken_some}
 use Rattle.ml_hold.proofs.holding.take.Goals as goal
 
 pub returns-clause-read : goal.returns-clause-read

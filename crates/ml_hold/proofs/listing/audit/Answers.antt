@@ -3,7 +3,7 @@ use Rattle.ml_base.specs.Ranges.{is_drawn}
 use Rattle.ml_hold.specs.Answers.{IsSpelled}
 use Rattle.ml_hold.specs.Reading.{told}
 use Rattle.ml_hold.specs.declared.posts.Held.{Held}
-use Rattle.ml_hold.proofs.Alone.{broken_counted}
+use Rattle.ml_hold.proofs.OfFiles.{broken_counted}
 use Rattle.ml_hold.proofs.Aged.{first_at, none_at, spelled_there, spelled_not, no_post, some_is, audit_more, audit_end}
 use Rattle.ml_hold.proofs.listing.audit.Goals as goal
 

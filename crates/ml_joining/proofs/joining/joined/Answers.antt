@@ -4,9 +4,9 @@ use Rattle.ml_plain.specs.Managing as spec
 use Rattle.ml_plain.specs.Plain.{is_full}
 use Rattle.ml_acts.specs.Doing.{DoesList}
 use Rattle.ml_acts.proofs.Damages.{ok_then}
-use Rattle.ml_joining.specs.Deeds.{MayJoin, answer_reply, joining_deed}
-use Rattle.ml_joining.specs.declared.deeds.Joining.{Joining}
-use Rattle.ml_joining.specs.declared.deeds.Joining.TheVariants as joins
+use Rattle.ml_joining.specs.Operations.{MayJoin, answer_reply, joining_deed}
+use Rattle.ml_joining.specs.declared.operations.Joining.{Joining}
+use Rattle.ml_joining.specs.declared.operations.Joining.TheVariants as joins
 use Rattle.ml_joining.proofs.Asked.{unspelled}
 use Rattle.ml_joining.proofs.Does.{deed_is, only_reply}
 use Rattle.ml_joining.proofs.joining.joined.Goals as goal
@@ -19,19 +19,19 @@ returns-in-Only-clause-value g c told p is e about =
 
 pub returns-in-TellAlready-clause-value : goal.returns-in-TellAlready-clause-value
 returns-in-TellAlready-clause-value g c told =
-    deed_is (g.F.Files.map c.args.files.now) c.tell_already.result c.args.config.now c.args.now c.args.set c.args.sender.now c.args.x.now joining_deed c.args.deed joins.TellAlready c.in-TellAlready.is (c.tell_already.ensures.value told)
+    deed_is (g.F.Files.map c.args.files.now) c.tell_already.result c.args.config.now c.args.now c.args.set c.args.sender.now c.args.x.now joining_deed c.args.operation joins.TellAlready c.in-TellAlready.is (c.tell_already.ensures.value told)
 
 pub returns-in-AskSender-clause-value : goal.returns-in-AskSender-clause-value
 returns-in-AskSender-clause-value g c told =
-    deed_is (g.F.Files.map c.args.files.now) c.ask.result c.args.config.now c.args.now c.args.set c.args.sender.now c.args.x.now joining_deed c.args.deed joins.AskSender c.in-AskSender.is (c.ask.ensures.value told)
+    deed_is (g.F.Files.map c.args.files.now) c.ask.result c.args.config.now c.args.now c.args.set c.args.sender.now c.args.x.now joining_deed c.args.operation joins.AskSender c.in-AskSender.is (c.ask.ensures.value told)
 
 pub returns-in-AskSubject-clause-value : goal.returns-in-AskSubject-clause-value
 returns-in-AskSubject-clause-value g c told =
-    deed_is (g.F.Files.map c.args.files.now) c.ask-in-AskSubject.result c.args.config.now c.args.now c.args.set c.args.sender.now c.args.x.now joining_deed c.args.deed joins.AskSubject c.in-AskSubject.is (c.ask-in-AskSubject.ensures.value told)
+    deed_is (g.F.Files.map c.args.files.now) c.ask-in-AskSubject.result c.args.config.now c.args.now c.args.set c.args.sender.now c.args.x.now joining_deed c.args.operation joins.AskSubject c.in-AskSubject.is (c.ask-in-AskSubject.ensures.value told)
 
 pub returns-in-AskModerators-clause-value : goal.returns-in-AskModerators-clause-value
 returns-in-AskModerators-clause-value g c told =
-    deed_is (g.F.Files.map c.args.files.now) c.ask_moderators.result c.args.config.now c.args.now c.args.set c.args.sender.now c.args.x.now joining_deed c.args.deed joins.AskModerators c.in-AskModerators.is (c.ask_moderators.ensures.value told)
+    deed_is (g.F.Files.map c.args.files.now) c.ask_moderators.result c.args.config.now c.args.now c.args.set c.args.sender.now c.args.x.now joining_deed c.args.operation joins.AskModerators c.in-AskModerators.is (c.ask_moderators.ensures.value told)
 
 pub returns-in-Join-clause-value : goal.returns-in-Join-clause-value
 returns-in-Join-clause-value g c told =

@@ -2,10 +2,10 @@ use Rattle.std.proofs.Common.{◌≡◌, true, sym, subst}
 use Rattle.ml_plain.specs.Managing as spec
 use Rattle.ml_acts.specs.Doing.{DoesList}
 use Rattle.ml_acts.proofs.Damages.{fewer_named, ok_then}
-use Rattle.ml_joining.specs.Deeds.{answer_reply, leaving_deed}
+use Rattle.ml_joining.specs.Operations.{answer_reply, leaving_deed}
 use Rattle.ml_joining.specs.Reads.{is_for_mail, is_read_to_leave}
-use Rattle.ml_joining.specs.declared.deeds.Leaving.{Leaving}
-use Rattle.ml_joining.specs.declared.deeds.Leaving.TheVariants as leaves
+use Rattle.ml_joining.specs.declared.operations.Leaving.{Leaving}
+use Rattle.ml_joining.specs.declared.operations.Leaving.TheVariants as leaves
 use Rattle.ml_joining.proofs.Does.{deed_is, only_reply}
 use Rattle.ml_joining.proofs.Ways.{mail_to_leave}
 use Rattle.ml_joining.proofs.leaving.left.Goals as goal
@@ -18,15 +18,15 @@ returns-in-Only-clause-value g c told p is e about =
 
 pub returns-in-TellAbsent-clause-value : goal.returns-in-TellAbsent-clause-value
 returns-in-TellAbsent-clause-value g c told =
-    deed_is (g.F.Files.map c.args.files.now) c.tell_absent.result c.args.config.now c.args.now c.args.set c.args.sender.now c.args.x.now leaving_deed c.args.deed leaves.TellAbsent c.in-TellAbsent.is (c.tell_absent.ensures.value told)
+    deed_is (g.F.Files.map c.args.files.now) c.tell_absent.result c.args.config.now c.args.now c.args.set c.args.sender.now c.args.x.now leaving_deed c.args.operation leaves.TellAbsent c.in-TellAbsent.is (c.tell_absent.ensures.value told)
 
 pub returns-in-AskSender-clause-value : goal.returns-in-AskSender-clause-value
 returns-in-AskSender-clause-value g c told =
-    deed_is (g.F.Files.map c.args.files.now) c.ask.result c.args.config.now c.args.now c.args.set c.args.sender.now c.args.x.now leaving_deed c.args.deed leaves.AskSender c.in-AskSender.is (c.ask.ensures.value told)
+    deed_is (g.F.Files.map c.args.files.now) c.ask.result c.args.config.now c.args.now c.args.set c.args.sender.now c.args.x.now leaving_deed c.args.operation leaves.AskSender c.in-AskSender.is (c.ask.ensures.value told)
 
 pub returns-in-AskSubject-clause-value : goal.returns-in-AskSubject-clause-value
 returns-in-AskSubject-clause-value g c told =
-    deed_is (g.F.Files.map c.args.files.now) c.ask-in-AskSubject.result c.args.config.now c.args.now c.args.set c.args.sender.now c.args.x.now leaving_deed c.args.deed leaves.AskSubject c.in-AskSubject.is (c.ask-in-AskSubject.ensures.value told)
+    deed_is (g.F.Files.map c.args.files.now) c.ask-in-AskSubject.result c.args.config.now c.args.now c.args.set c.args.sender.now c.args.x.now leaving_deed c.args.operation leaves.AskSubject c.in-AskSubject.is (c.ask-in-AskSubject.ensures.value told)
 
 pub returns-in-AskSender-clause-names : goal.returns-in-AskSender-clause-names
 returns-in-AskSender-clause-names g c = fewer_named g.F.Files (λ name. is_read_to_leave c.args.set c.args.x.now.named name ≡ true) c.ask.result (λ name. is_for_mail name ≡ true) _ (mail_to_leave c.args.set c.args.x.now.named) c.ask.ensures.names

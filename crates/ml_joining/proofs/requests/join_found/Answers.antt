@@ -7,7 +7,7 @@ use Rattle.ml_plain.specs.Managing as spec
 use Rattle.ml_plain.specs.Plain.{is_moderator}
 use Rattle.ml_acts.specs.Doing.{DoesList, is_bucket_of}
 use Rattle.ml_acts.proofs.Damages.{fewer_named, ok_then}
-use Rattle.ml_joining.specs.Deeds.{joining_deed}
+use Rattle.ml_joining.specs.Operations.{joining_deed}
 use Rattle.ml_joining.specs.Reads.{asks_rank, is_read_to_subscribe, is_read_to_join}
 use Rattle.ml_joining.proofs.Asked.{who_there}
 use Rattle.ml_joining.proofs.Decided.{joining_is, own_is}
@@ -37,7 +37,7 @@ returns-clause-value g c told =
     let same = g.met.F.Files.kept_map c.args.files.now c.moderates.new.files told c.moderates.ensures.reads.kept in
     ok_then c.joined.result
     (λ done value p is e about.
-    let deed = c.joining-deed.ensures.deed ∙ joining_is p config set sender x.who (record { moderator = c.in_ok-moderator.moderator; member = x.member; own = c.same.result }) e (who_there p set x about) (own_is c.same.result x.who sender c.same.ensures) (c.in_ok-moderator.ensures.value told p is ∙ ap (λ (a : Bool). a && is_moderator p sender) c.asks_rank.ensures) in
-    subst (λ (d : spec.Deed). DoesList old done (spec.done c.args.now set sender x.who p d)) deed
-    (subst (λ (d : Dir). DoesList d done (spec.done c.args.now set sender x.who p (joining_deed c.joining-deed.result))) same (value p (subst (λ (d : Dir). IsList d p) (sym same) is) e about)))
+    let operation = c.joining-operation.ensures.operation ∙ joining_is p config set sender x.who (record { moderator = c.in_ok-moderator.moderator; member = x.member; own = c.same.result }) e (who_there p set x about) (own_is c.same.result x.who sender c.same.ensures) (c.in_ok-moderator.ensures.value told p is ∙ ap (λ (a : Bool). a && is_moderator p sender) c.asks_rank.ensures) in
+    subst (λ (d : spec.Operation). DoesList old done (spec.done c.args.now set sender x.who p d)) operation
+    (subst (λ (d : Dir). DoesList d done (spec.done c.args.now set sender x.who p (joining_deed c.joining-operation.result))) same (value p (subst (λ (d : Dir). IsList d p) (sym same) is) e about)))
     (c.joined.ensures.value told)

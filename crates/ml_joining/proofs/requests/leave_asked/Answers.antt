@@ -6,7 +6,7 @@ use Rattle.ml_base.proofs.ReadingLemmas.{kept_read, reading_then}
 use Rattle.ml_plain.specs.Managing as spec
 use Rattle.ml_acts.specs.Doing.{is_bucket_of}
 use Rattle.ml_acts.proofs.Damages.{fewer_named}
-use Rattle.ml_joining.specs.Deeds.{asked_of}
+use Rattle.ml_joining.specs.Operations.{asked_of}
 use Rattle.ml_joining.specs.Reads.{is_read_to_unsubscribe}
 use Rattle.ml_joining.proofs.Asked.{subject_is}
 use Rattle.ml_joining.proofs.Does.{asked_by, fewer_kept}

@@ -6,7 +6,7 @@ use Rattle.ml_plain.specs.Directory.{IsList}
 use Rattle.ml_plain.specs.Managing as spec
 use Rattle.ml_acts.specs.Doing.{DoesList, is_bucket_of}
 use Rattle.ml_acts.proofs.Damages.{fewer_named, ok_then}
-use Rattle.ml_joining.specs.Deeds.{leaving_deed}
+use Rattle.ml_joining.specs.Operations.{leaving_deed}
 use Rattle.ml_joining.specs.Reads.{is_read_to_unsubscribe, is_read_to_leave}
 use Rattle.ml_joining.proofs.Asked.{who_there}
 use Rattle.ml_joining.proofs.Decided.{leaving_is, own_is}
@@ -36,7 +36,7 @@ returns-clause-value g c told =
     let same = g.met.F.Files.kept_map c.args.files.now c.moderates.new.files told c.moderates.ensures.reads.kept in
     ok_then c.left.result
     (λ done value p is e about.
-    let deed = c.leaving-deed.ensures.deed ∙ leaving_is p config set sender x.who (record { moderator = c.in_ok-moderator.moderator; member = x.member; own = c.same.result }) e (who_there p set x about) (own_is c.same.result x.who sender c.same.ensures) (c.in_ok-moderator.ensures.value told p is) in
-    subst (λ (d : spec.Deed). DoesList old done (spec.done c.args.now set sender x.who p d)) deed
-    (subst (λ (d : Dir). DoesList d done (spec.done c.args.now set sender x.who p (leaving_deed c.leaving-deed.result))) same (value p (subst (λ (d : Dir). IsList d p) (sym same) is) e about)))
+    let operation = c.leaving-operation.ensures.operation ∙ leaving_is p config set sender x.who (record { moderator = c.in_ok-moderator.moderator; member = x.member; own = c.same.result }) e (who_there p set x about) (own_is c.same.result x.who sender c.same.ensures) (c.in_ok-moderator.ensures.value told p is) in
+    subst (λ (d : spec.Operation). DoesList old done (spec.done c.args.now set sender x.who p d)) operation
+    (subst (λ (d : Dir). DoesList d done (spec.done c.args.now set sender x.who p (leaving_deed c.leaving-operation.result))) same (value p (subst (λ (d : Dir). IsList d p) (sym same) is) e about)))
     (c.left.ensures.value told)

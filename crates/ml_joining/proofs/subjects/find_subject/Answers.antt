@@ -4,7 +4,7 @@ use Rattle.ml_base.specs.Bytes.{Text}
 use Rattle.ml_address.specs.Views.{who_view}
 use Rattle.ml_acts.specs.Doing.{is_bucket_of}
 use Rattle.ml_acts.proofs.Damages.{bucket_named}
-use Rattle.ml_joining.specs.Deeds.{asked_of}
+use Rattle.ml_joining.specs.Operations.{asked_of}
 use Rattle.ml_joining.proofs.subjects.find_subject.Goals as goal
 
 pub returns-in_err-member-clause-names : goal.returns-in_err-member-clause-names

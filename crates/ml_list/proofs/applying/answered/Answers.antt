@@ -9,7 +9,7 @@ use Rattle.ml_plain.specs.Directory.{IsState}
 use Rattle.ml_list.specs.declared.applying.Lookup.{Lookup}
 use Rattle.ml_list.specs.Applying.{Does, Repeats}
 use Rattle.ml_list.specs.Asked.{IsDamagedFor, IsDamagedForAct}
-use Rattle.ml_list.specs.Damage.{IsDamaged, is_looked_up, is_read_by, may_read}
+use Rattle.ml_list.specs.Damage.{IsDamagedInList, is_looked_up, is_read_by, is_read_by_item}
 use Rattle.ml_list.specs.Lookups.{answer_of}
 use Rattle.ml_list.proofs.Damages.{none_damaged, sound_by}
 use Rattle.ml_list.proofs.Steps.{answered_does, new_does}
@@ -33,7 +33,7 @@ returns-in-Ok-New-clause-value g c told =
 pub returns-in-Err-clause-sound : goal.returns-in-Err-clause-sound
 returns-in-Err-clause-sound g c told q is =
     let dir = g.F.Files.map c.args.files in
-    on_damaged c.in-Err.error (IsDamaged dir) (λ _. ⊥) (λ name bad. none_damaged dir q name is bad) (c.in-Err.ensures.names.damaged told)
+    on_damaged c.in-Err.error (IsDamagedInList dir) (λ _. ⊥) (λ name bad. none_damaged dir q name is bad) (c.in-Err.ensures.names.damaged told)
 
 pub returns-in-Ok-New-clause-sound : goal.returns-in-Ok-New-clause-sound
 returns-in-Ok-New-clause-sound g c told q is =
@@ -41,7 +41,7 @@ returns-in-Ok-New-clause-sound g c told q is =
     let item = c.args.item.now in
     let same = g.met.F.Files.kept_map c.args.files c.look_up.new.files told c.look_up.ensures.reads.kept in
     let r = c.count.result.1 in
-    sound_by dir q r is (err_damaged r (IsDamagedForAct dir item.act) (IsDamaged dir) (λ name bad. bad.damaged) (subst (λ (d : Dir). IfErr r (λ e. OnDamaged e (IsDamagedForAct d item.act))) same (c.count.ensures.names.damaged told)))
+    sound_by dir q r is (err_damaged r (IsDamagedForAct dir item.act) (IsDamagedInList dir) (λ name bad. bad.damaged) (subst (λ (d : Dir). IfErr r (λ e. OnDamaged e (IsDamagedForAct d item.act))) same (c.count.ensures.names.damaged told)))
 
 pub returns-in-Err-clause-names : goal.returns-in-Err-clause-names
 returns-in-Err-clause-names g c =
@@ -50,8 +50,8 @@ returns-in-Err-clause-names g c =
     let e = c.in-Err.error in
     let failed = c.in-Err.ensures.names in
     record {
-      named = on_damaged e (λ name. is_looked_up item.number name ≡ true) (λ name. may_read item name ≡ true) (λ name l. or_left (is_looked_up item.number name) (is_read_by item.act name) l) failed.named;
-      damaged = λ told. on_both e (λ name. is_looked_up item.number name ≡ true) (IsDamaged dir) (IsDamagedFor dir item) (λ name l bad. record { damaged = bad; read = inl l }) failed.named (failed.damaged told);
+      named = on_damaged e (λ name. is_looked_up item.number name ≡ true) (λ name. is_read_by_item item name ≡ true) (λ name l. or_left (is_looked_up item.number name) (is_read_by item.act name) l) failed.named;
+      damaged = λ told. on_both e (λ name. is_looked_up item.number name ≡ true) (IsDamagedInList dir) (IsDamagedFor dir item) (λ name l bad. record { damaged = bad; read = inl l }) failed.named (failed.damaged told);
     }
 
 pub returns-in-Ok-New-clause-names : goal.returns-in-Ok-New-clause-names
@@ -60,7 +60,7 @@ returns-in-Ok-New-clause-names g c =
     let item = c.args.item.now in
     let r = c.count.result.1 in
     record {
-      named = err_damaged r (λ name. is_read_by item.act name ≡ true) (λ name. may_read item name ≡ true) (λ name e. or_right (is_looked_up item.number name) (is_read_by item.act name) e) c.count.ensures.names.named;
+      named = err_damaged r (λ name. is_read_by item.act name ≡ true) (λ name. is_read_by_item item name ≡ true) (λ name e. or_right (is_looked_up item.number name) (is_read_by item.act name) e) c.count.ensures.names.named;
       damaged = λ told.
           let same = g.met.F.Files.kept_map c.args.files c.look_up.new.files told c.look_up.ensures.reads.kept in
           err_damaged r (IsDamagedForAct dir item.act) (IsDamagedFor dir item) (λ name bad. record { damaged = bad.damaged; read = inr bad.read })

@@ -5,7 +5,7 @@ use Rattle.ml_plain.specs.declared.Reply.{Reply}
 use Rattle.ml_plain.specs.KeptFiles.{IsFloorFile, IsRepliesFile, floor_name, replies_name}
 use Rattle.ml_list.specs.Lookups.{IsInRange}
 use Rattle.ml_list.specs.Applying.{Repeats}
-use Rattle.ml_list.specs.Damage.{IsDamaged, IsNoReplies, is_looked_up, replies}
+use Rattle.ml_list.specs.Damage.{IsDamagedInList, IsNoReplies, is_looked_up, replies}
 use Rattle.ml_list.proofs.Damages.{one_named}
 use Rattle.ml_list.proofs.Named.{looks_up_replies}
 use Rattle.ml_list.proofs.LookedUp.{is_new_weaker}
@@ -46,6 +46,6 @@ returns-in_err-found-clause-names g c =
     let n = c.args.number in
     let most = c.requires in
     let group = div_below n 512 1_953_125_000 (omega arith) (omega (arith, most)) in
-    let names = one_named g.F.Files (λ name. is_looked_up n name ≡ true) _ (replies_name (n / 512)) (IsNoReplies (g.F.Files.map c.floor.new.files) (n / 512)) (IsDamaged dir) (looks_up_replies n c.if-number-eq0.false)
+    let names = one_named g.F.Files (λ name. is_looked_up n name ≡ true) _ (replies_name (n / 512)) (IsNoReplies (g.F.Files.map c.floor.new.files) (n / 512)) (IsDamagedInList dir) (looks_up_replies n c.if-number-eq0.false)
     (λ told none. replies (n / 512) group refl (subst (λ (d : Dir). IsNoReplies d (n / 512)) (g.met.F.Files.kept_map c.args.files.now c.floor.new.files told c.floor.ensures.reads.kept) none)) c.in_err-found.ensures.names in
     search rules

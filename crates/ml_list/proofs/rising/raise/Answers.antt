@@ -3,7 +3,7 @@ use Rattle.std.proofs.lemmas.Nat.{div_below}
 use Rattle.ml_base.specs.Dir.{Dir}
 use Rattle.ml_plain.specs.Histories.{Kept, from_floor}
 use Rattle.ml_plain.specs.KeptFiles.{IsRepliesFile, replies_name}
-use Rattle.ml_list.specs.Damage.{IsDamaged, IsNoReplies, is_read_by, replies}
+use Rattle.ml_list.specs.Damage.{IsDamagedInList, IsNoReplies, is_read_by, replies}
 use Rattle.ml_list.proofs.Damages.{one_named}
 use Rattle.ml_list.proofs.Named.{reads_replies}
 use Rattle.ml_plain.specs.declared.Act.TheVariants.{Floor}
@@ -26,7 +26,7 @@ returns-in_err-txn-clause-names g c =
     let at = c.args.at in
     let most = c.requires.most in
     let group = div_below at 512 1_953_125_000 (omega arith) (omega (arith, most)) in
-    let names = one_named g.F.Files (λ name. is_read_by (Floor at) name ≡ true) _ (replies_name (at / 512)) (IsNoReplies (g.F.Files.map c.floor_of.new.files) (at / 512)) (IsDamaged dir) (reads_replies at)
+    let names = one_named g.F.Files (λ name. is_read_by (Floor at) name ≡ true) _ (replies_name (at / 512)) (IsNoReplies (g.F.Files.map c.floor_of.new.files) (at / 512)) (IsDamagedInList dir) (reads_replies at)
     (λ told none. replies (at / 512) group refl (subst (λ (d : Dir). IsNoReplies d (at / 512)) (g.met.F.Files.kept_map c.args.files.now c.floor_of.new.files told c.floor_of.ensures.reads.kept) none)) c.in_err-txn.ensures.names in
     search rules
 

@@ -9,7 +9,7 @@ use Rattle.ml_base.specs.Address.{address_of}
 use Rattle.ml_plain.specs.Plain.{Plain}
 use Rattle.ml_plain.specs.declared.Reply.{Reply}
 use Rattle.ml_acts.proofs.Damages.{fewer_named}
-use Rattle.ml_manage.specs.Reads.{IsDamagedFor, is_read_for, may_read}
+use Rattle.ml_manage.specs.Reads.{IsDamagedFor, is_read_for, is_read_for_sender}
 use Rattle.ml_manage.proofs.Others.{may_read_other, of_sender}
 use Rattle.ml_manage.proofs.OfArchive.{for_asked, for_other}
 use Rattle.ml_manage.proofs.managing.by_request.Goals as goal
@@ -24,7 +24,7 @@ pub returns-in-Bounce-clause-names : goal.returns-in-Bounce-clause-names
 returns-in-Bounce-clause-names g c =
     let dir = g.F.Files.map c.args.files.now in
     let conf = c.args.config.now in
-    subst (λ (r : Request). NamesDamaged g.F.Files (λ name. may_read conf c.args.sender.now (request_view r) name ≡ true) (IsDamagedFor dir conf (request_view r)) c.of_bounce.result) (sym c.in-Bounce.is)
+    subst (λ (r : Request). NamesDamaged g.F.Files (λ name. is_read_for_sender conf c.args.sender.now (request_view r) name ≡ true) (IsDamagedFor dir conf (request_view r)) c.of_bounce.result) (sym c.in-Bounce.is)
     (for_asked g.F.Files _ c.of_bounce.result dir conf _ _ (λ name own. own) c.of_bounce.ensures.names)
 
 pub returns-in-WarnBounce-clause-value : goal.returns-in-WarnBounce-clause-value
@@ -35,7 +35,7 @@ returns-in-WarnBounce-clause-value g c told =
 
 pub returns-in-WarnBounce-clause-names : goal.returns-in-WarnBounce-clause-names
 returns-in-WarnBounce-clause-names g c =
-    subst (λ (r : Request). NamesDamaged g.F.Files (λ name. may_read c.args.config.now c.args.sender.now (request_view r) name ≡ true) (IsDamagedFor (g.F.Files.map c.args.files.now) c.args.config.now (request_view r)) c.of_warning.result) (sym c.in-WarnBounce.is)
+    subst (λ (r : Request). NamesDamaged g.F.Files (λ name. is_read_for_sender c.args.config.now c.args.sender.now (request_view r) name ≡ true) (IsDamagedFor (g.F.Files.map c.args.files.now) c.args.config.now (request_view r)) c.of_warning.result) (sym c.in-WarnBounce.is)
     (for_other g.F.Files _ c.of_warning.result (g.F.Files.map c.args.files.now) c.args.config.now _ (λ name. tt) c.of_warning.ensures.names)
 
 pub returns-in-ProbeBounce-clause-value : goal.returns-in-ProbeBounce-clause-value
@@ -46,7 +46,7 @@ returns-in-ProbeBounce-clause-value g c told =
 
 pub returns-in-ProbeBounce-clause-names : goal.returns-in-ProbeBounce-clause-names
 returns-in-ProbeBounce-clause-names g c =
-    subst (λ (r : Request). NamesDamaged g.F.Files (λ name. may_read c.args.config.now c.args.sender.now (request_view r) name ≡ true) (IsDamagedFor (g.F.Files.map c.args.files.now) c.args.config.now (request_view r)) c.of_probe.result) (sym c.in-ProbeBounce.is)
+    subst (λ (r : Request). NamesDamaged g.F.Files (λ name. is_read_for_sender c.args.config.now c.args.sender.now (request_view r) name ≡ true) (IsDamagedFor (g.F.Files.map c.args.files.now) c.args.config.now (request_view r)) c.of_probe.result) (sym c.in-ProbeBounce.is)
     (for_other g.F.Files _ c.of_probe.result (g.F.Files.map c.args.files.now) c.args.config.now _ (λ name. tt) c.of_probe.ensures.names)
 
 pub returns-in-Owner-clause-value : goal.returns-in-Owner-clause-value
@@ -57,7 +57,7 @@ returns-in-Owner-clause-value g c told =
 
 pub returns-in-Owner-clause-names : goal.returns-in-Owner-clause-names
 returns-in-Owner-clause-names g c =
-    subst (λ (r : Request). NamesDamaged g.F.Files (λ name. may_read c.args.config.now c.args.sender.now (request_view r) name ≡ true) (IsDamagedFor (g.F.Files.map c.args.files.now) c.args.config.now (request_view r)) c.to_owner.result) (sym c.in-Owner.is)
+    subst (λ (r : Request). NamesDamaged g.F.Files (λ name. is_read_for_sender c.args.config.now c.args.sender.now (request_view r) name ≡ true) (IsDamagedFor (g.F.Files.map c.args.files.now) c.args.config.now (request_view r)) c.to_owner.result) (sym c.in-Owner.is)
     (for_other g.F.Files _ c.to_owner.result (g.F.Files.map c.args.files.now) c.args.config.now _ (λ name. tt) c.to_owner.ensures.names)
 
 pub returns-in_default-clause-value : goal.returns-in_default-clause-value
@@ -76,5 +76,5 @@ returns-in_default-clause-names g c =
     let conf = c.args.config.now in
     let sender = c.args.sender.now in
     let r = c.args.request.now in
-    fewer_named g.F.Files (λ name. may_read conf sender (request_view r) name ≡ true) c.by_sender.result (λ name. is_read_for conf (address_of sender) (request_view r) name ≡ true) (IsDamagedFor (g.F.Files.map c.args.files.now) conf (request_view r))
+    fewer_named g.F.Files (λ name. is_read_for_sender conf sender (request_view r) name ≡ true) c.by_sender.result (λ name. is_read_for conf (address_of sender) (request_view r) name ≡ true) (IsDamagedFor (g.F.Files.map c.args.files.now) conf (request_view r))
     (λ name e. may_read_other conf sender name r c.in_default.not-Owner c.in_default.not-Bounce c.in_default.not-WarnBounce c.in_default.not-ProbeBounce c.in_default.not-ReplyBounce c.requires.request ∙ e) c.by_sender.ensures.names

@@ -20,7 +20,7 @@ use Rattle.ml_acts.proofs.Damages.{same_self}
 use Rattle.ml_post.specs.Answering.{is_answered_by, is_followed_by}
 use Rattle.ml_post.specs.Publishing.{sent_key}
 use Rattle.ml_post.proofs.Damages.{ok_then}
-use Rattle.ml_post.proofs.Fates.{does_nothing}
+use Rattle.ml_post.proofs.Outcomes.{does_nothing}
 use Rattle.ml_post.proofs.answering.answer_held.Goals as goal
 
 pub returns-in_err-keys-clause-names : goal.returns-in_err-keys-clause-names

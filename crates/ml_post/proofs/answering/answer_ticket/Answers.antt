@@ -22,7 +22,7 @@ use Rattle.ml_acts.proofs.Damages.{same_self}
 use Rattle.ml_post.specs.Answering.{IsDamagedOfTicket, is_answered_by, is_followed_by, is_taken_by}
 use Rattle.ml_post.specs.Publishing.{is_published_by, sent_key}
 use Rattle.ml_post.proofs.Damages.{ok_then}
-use Rattle.ml_post.proofs.Fates.{does_nothing}
+use Rattle.ml_post.proofs.Outcomes.{does_nothing}
 use Rattle.ml_post.proofs.answering.answer_ticket.Goals as goal
 
 -- the file of the post is among those that an answer may read

@@ -5,7 +5,7 @@ use Rattle.ml_base.specs.Bytes.{Text}
 use Rattle.ml_plain.specs.Posting.{posted_now}
 use Rattle.ml_plain.specs.Verdicts.{is_usable}
 use Rattle.ml_acts.specs.Doing.{DoesList}
-use Rattle.ml_post.proofs.Fates.{posts, sender_is}
+use Rattle.ml_post.proofs.Outcomes.{posts, sender_is}
 use Rattle.ml_post.proofs.posting.post_message.Goals as goal
 
 -- whether a sender is an address, by what was read of him

@@ -1,6 +1,6 @@
 use Rattle.std.proofs.Common.{arith, ◌∙◌, ◌≤◌, ◌<◌, ap, not, IsTrue}
 use Rattle.ml_base.specs.Ranges.{is_drawn}
-use Rattle.ml_queue.proofs.Alone.{broken_counted}
+use Rattle.ml_queue.proofs.OfFiles.{broken_counted}
 use Rattle.ml_queue.proofs.Walked.{first_at, none_at, read_there, read_not, no_entry, some_is, audit_more, audit_end}
 use Rattle.ml_queue.proofs.listing.audit.Goals as goal
 

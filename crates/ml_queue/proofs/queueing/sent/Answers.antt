@@ -1,5 +1,5 @@
 use Rattle.std.proofs.Common.{Some, None}
-use Rattle.ml_queue.proofs.Standing.{sending, sent_none, sent_some}
+use Rattle.ml_queue.proofs.Represented.{sending, sent_none, sent_some}
 use Rattle.ml_queue.proofs.queueing.sent.Goals as goal
 
 pub returns-then-not-branch-clause-read : goal.returns-then-not-branch-clause-read

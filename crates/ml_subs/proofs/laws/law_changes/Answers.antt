@@ -1,4 +1,4 @@
-use Rattle.ml_subs.proofs.Standing.{added, removed, kept_elsewhere, others_kept}
+use Rattle.ml_subs.proofs.Represented.{added, removed, kept_elsewhere, others_kept}
 use Rattle.ml_subs.proofs.laws.law_changes.Goals as goal
 
 pub returns-clause-added : goal.returns-clause-added

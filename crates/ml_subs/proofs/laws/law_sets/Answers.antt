@@ -1,4 +1,4 @@
-use Rattle.ml_subs.proofs.Standing.{bucket_one, joined_one, subscribers_one, nobody_there, own_files, broken, own_table, subscribers_each}
+use Rattle.ml_subs.proofs.Represented.{bucket_one, joined_one, subscribers_one, nobody_there, own_files, broken, own_table, subscribers_each}
 use Rattle.ml_subs.proofs.Answering.{unread}
 use Rattle.ml_subs.proofs.laws.law_sets.Goals as goal
 

@@ -3,7 +3,7 @@ use Rattle.ml_subs.specs.declared.member_list.Member.{Member}
 use Rattle.ml_subs.specs.Members.{IsOrdered}
 use Rattle.ml_subs.specs.Subscribers.{AreJoined, AreSubscribers, file_in}
 use Rattle.ml_subs.proofs.Gathering.{joined_in, ok_from}
-use Rattle.ml_subs.proofs.Standing.{joined_one}
+use Rattle.ml_subs.proofs.Represented.{joined_one}
 use Rattle.ml_subs.proofs.lists.members.Goals as goal
 
 pub returns-clause-value : goal.returns-clause-value

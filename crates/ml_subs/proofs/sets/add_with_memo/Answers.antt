@@ -11,7 +11,7 @@ use Rattle.ml_subs.specs.Answers.{changes}
 use Rattle.ml_subs.specs.Reading.{joined, member_by}
 use Rattle.ml_base.proofs.DamagedNames.{on_damaged, on_both}
 use Rattle.ml_subs.specs.Members.{with_member}
-use Rattle.ml_subs.proofs.Standing.{bucket_with}
+use Rattle.ml_subs.proofs.Represented.{bucket_with}
 use Rattle.ml_subs.proofs.Answering.{sides_has, sides_with, file_with, bucket_there, addition, has_of_set, count_of_set, count_touched, unread_count, unread}
 use Rattle.ml_subs.proofs.sets.add_with_memo.Goals as goal
 

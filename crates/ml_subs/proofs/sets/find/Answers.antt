@@ -2,7 +2,7 @@ use Rattle.std.proofs.Common.{◌∙◌, sym, ap, Some}
 use Rattle.std.specs.Option.{option_map}
 use Rattle.ml_base.specs.Address.{key}
 use Rattle.ml_subs.specs.Reading.{as_member, joined}
-use Rattle.ml_subs.proofs.Standing.{found_in_bucket}
+use Rattle.ml_subs.proofs.Represented.{found_in_bucket}
 use Rattle.ml_subs.proofs.Answering.{sides_found, bucket_there}
 use Rattle.ml_subs.proofs.sets.find.Goals as goal
 

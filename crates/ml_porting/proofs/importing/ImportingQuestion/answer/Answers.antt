@@ -3,7 +3,7 @@ use Rattle.ml_base.specs.Bytes.{Text}
 use Rattle.ml_config.specs.declared.configuration.Config.{Config}
 use Rattle.ml_porting.specs.Imports.{import_answer, mails_of}
 use Rattle.ml_porting.proofs.Imported.{known_answer}
-use Rattle.ml_porting.proofs.Standing.{same_config}
+use Rattle.ml_porting.proofs.Represented.{same_config}
 use Rattle.ml_porting.proofs.importing.ImportingQuestion.answer.Goals as goal
 
 pub returns-clause-complete : goal.returns-clause-complete

@@ -4,7 +4,7 @@ use Rattle.ml_base.proofs.DamagedNames.{on_damaged}
 use Rattle.ml_reading.specs.declared.question.Answer.TheVariants as answers
 use Rattle.ml_porting.specs.Mailboxes.{IsBadForMailbox}
 use Rattle.ml_porting.proofs.Ranged.{no_bad, own_mailbox}
-use Rattle.ml_porting.proofs.Standing.{posts_stand}
+use Rattle.ml_porting.proofs.Represented.{posts_stand}
 use Rattle.ml_porting.proofs.query.MboxQueryQuestion.answer.Goals as goal
 
 pub returns-in_err-text-clause-sound : goal.returns-in_err-text-clause-sound

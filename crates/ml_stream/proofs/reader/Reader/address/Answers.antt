@@ -1,7 +1,7 @@
 use Rattle.std.proofs.Common.{inr, ◌∙◌, ap, sym, ◌≡◌, subst}
 use Rattle.ml_base.specs.Address.{address_of}
 use Rattle.ml_stream.proofs.Elements.{element_ok}
-use Rattle.ml_stream.specs.Reading.{Breaks, Fails}
+use Rattle.ml_stream.specs.Reading.{EndsEarly, Fails}
 use Rattle.ml_stream.specs.Stream.{content_at, element_at}
 use Rattle.ml_stream.specs.declared.stream.StreamError.{StreamError}
 use Rattle.ml_stream.specs.declared.stream.StreamError.TheVariants.{Bad, Memory}
@@ -17,8 +17,8 @@ returns-clause-read g c bs s =
 
 pub returns-in_err-text-clause-stops : goal.returns-in_err-text-clause-stops
 returns-in_err-text-clause-stops g c bs s =
-    at_exit c.from_residual.result (λ (e : StreamError). e ≡ c.in_err-text.field-0.0) (λ (e : StreamError). Breaks e (g.I.Source.left c.content.new.input) bs (λ t. Fails (element_at 400 address_of c.args.self.now.place t))) c.from_residual.ensures.1
-    (λ e is. subst (λ (x : StreamError). Breaks x (g.I.Source.left c.content.new.input) bs (λ t. Fails (element_at 400 address_of c.args.self.now.place t))) (sym is)
+    at_exit c.from_residual.result (λ (e : StreamError). e ≡ c.in_err-text.field-0.0) (λ (e : StreamError). EndsEarly e (g.I.Source.left c.content.new.input) bs (λ t. Fails (element_at 400 address_of c.args.self.now.place t))) c.from_residual.ensures.1
+    (λ e is. subst (λ (x : StreamError). EndsEarly x (g.I.Source.left c.content.new.input) bs (λ t. Fails (element_at 400 address_of c.args.self.now.place t))) (sym is)
     (breaks_element c.in_err-text.field-0.0 400 c.args.self.now.place address_of (g.I.Source.left c.content.new.input) bs (c.in_err-text.ensures.stops bs s)))
 
 pub returns-in_default-clause-stops : goal.returns-in_default-clause-stops
@@ -29,12 +29,12 @@ returns-in_default-clause-stops g c bs s =
 pub returns-in_err-value-clause-stops : goal.returns-in_err-value-clause-stops
 returns-in_err-value-clause-stops g c bs s =
     let h = c.in_ok-text.ensures.read bs s in
-    at_exit c.from_residual-in_err-value.result (λ (e : StreamError). e ≡ Memory) (λ (e : StreamError). Breaks e (g.I.Source.left c.content.new.input) bs (λ t. Fails (element_at 400 address_of c.args.self.now.place t))) c.from_residual-in_err-value.ensures.1
+    at_exit c.from_residual-in_err-value.result (λ (e : StreamError). e ≡ Memory) (λ (e : StreamError). EndsEarly e (g.I.Source.left c.content.new.input) bs (λ t. Fails (element_at 400 address_of c.args.self.now.place t))) c.from_residual-in_err-value.ensures.1
     (λ e is. breaks_read e c.content.new.self.place c.content.new.self.ahead (g.I.Source.left c.content.new.input) bs h.0 (λ t. content_at c.args.self.now.place 400 t) c.in_ok-text.text (λ t. Fails (element_at 400 address_of c.args.self.now.place t)) (content_local c.args.self.now.place 400) h.1 c.in_ok-text.ensures.ahead h.2 (λ front got. element_unfinished 400 c.args.self.now.place address_of front (inr (c.in_ok-text.text, c.content.new.self.place, got))))
 
 pub returns-in_err-comma-clause-stops : goal.returns-in_err-comma-clause-stops
 returns-in_err-comma-clause-stops g c bs s =
     let h = c.in_ok-text.ensures.read bs s in
-    at_exit c.from_residual-in_err-comma.result (λ (e : StreamError). e ≡ c.in_err-comma.field-0.0) (λ (e : StreamError). Breaks e (g.I.Source.left c.comma.new.input) bs (λ t. Fails (element_at 400 address_of c.args.self.now.place t))) c.from_residual-in_err-comma.ensures.1
-    (λ e is. subst (λ (x : StreamError). Breaks x (g.I.Source.left c.comma.new.input) bs (λ t. Fails (element_at 400 address_of c.args.self.now.place t))) (sym is)
+    at_exit c.from_residual-in_err-comma.result (λ (e : StreamError). e ≡ c.in_err-comma.field-0.0) (λ (e : StreamError). EndsEarly e (g.I.Source.left c.comma.new.input) bs (λ t. Fails (element_at 400 address_of c.args.self.now.place t))) c.from_residual-in_err-comma.ensures.1
+    (λ e is. subst (λ (x : StreamError). EndsEarly x (g.I.Source.left c.comma.new.input) bs (λ t. Fails (element_at 400 address_of c.args.self.now.place t))) (sym is)
     (breaks_comma c.in_err-comma.field-0.0 400 c.args.self.now.place c.content.new.self.place address_of (g.I.Source.left c.comma.new.input) bs c.in_ok-text.text h.0 c.in-Some.value h.1 (ap address_of (sym c.as_slice.ensures) ∙ sym c.in_ok-value.ensures ∙ c.in-Some.is) (c.in_err-comma.ensures.stops h.0 h.2)))

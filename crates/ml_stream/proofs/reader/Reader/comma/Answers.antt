@@ -2,7 +2,7 @@ use Rattle.std.proofs.Common.{◌∙◌, ap, sym, Ok, ◌≡◌, refl}
 use Rattle.ml_stream.specs.Stream.{comma_at}
 use Rattle.ml_stream.proofs.Bytewise.{first_is, end_is, one_further}
 use Rattle.ml_stream.proofs.Elements.{comma_some, comma_bad}
-use Rattle.ml_stream.specs.Reading.{Breaks, Fails}
+use Rattle.ml_stream.specs.Reading.{EndsEarly, Fails}
 use Rattle.ml_stream.specs.declared.stream.StreamError.{StreamError}
 use Rattle.ml_stream.specs.declared.stream.StreamError.TheVariants.{Fault, Short, Bad}
 use Rattle.ml_stream.proofs.Cuts.{at_exit, breaks_none, breaks_byte, bad_not, short_not}
@@ -31,7 +31,7 @@ returns-in_default-clause-read g c bs s =
 
 pub returns-in_err-b-clause-stops : goal.returns-in_err-b-clause-stops
 returns-in_err-b-clause-stops g c bs s =
-    at_exit c.from_residual.result (λ (e : StreamError). e ≡ Fault) (λ (e : StreamError). Breaks e (g.I.Source.left c.byte.new.input) bs (λ t. Fails (comma_at c.args.start c.args.self.now.place t))) c.from_residual.ensures.1
+    at_exit c.from_residual.result (λ (e : StreamError). e ≡ Fault) (λ (e : StreamError). EndsEarly e (g.I.Source.left c.byte.new.input) bs (λ t. Fails (comma_at c.args.start c.args.self.now.place t))) c.from_residual.ensures.1
     (λ e is. breaks_none e (g.I.Source.left c.byte.new.input) bs (λ t. Fails (comma_at c.args.start c.args.self.now.place t)) (c.in_err-b.ensures.stops bs s) (Short c.args.start, refl))
 
 pub returns-in_default-clause-stops : goal.returns-in_default-clause-stops

@@ -1,6 +1,6 @@
 use Rattle.ml_stream.proofs.Elements.{floor_ok}
 use Rattle.std.proofs.Common.{◌≡◌, sym, subst}
-use Rattle.ml_stream.specs.Reading.{Breaks, Fails}
+use Rattle.ml_stream.specs.Reading.{EndsEarly, Fails}
 use Rattle.ml_stream.specs.Stream.{got, element_at, floor_of, floor_at}
 use Rattle.ml_stream.specs.declared.stream.StreamError.{StreamError}
 use Rattle.ml_plain.specs.declared.Act.TheVariants.{Floor}
@@ -14,6 +14,6 @@ returns-clause-read g c bs s =
 
 pub returns-in_err-at-clause-stops : goal.returns-in_err-at-clause-stops
 returns-in_err-at-clause-stops g c bs s =
-    at_exit c.from_residual.result (λ (e : StreamError). e ≡ c.in_err-at.field-0.0) (λ (e : StreamError). Breaks e (g.I.Source.left c.positive.new.input) bs (λ t. Fails (floor_at c.args.self.now.place t))) c.from_residual.ensures.1
-    (λ e is. subst (λ (x : StreamError). Breaks x (g.I.Source.left c.positive.new.input) bs (λ t. Fails (floor_at c.args.self.now.place t))) (sym is)
+    at_exit c.from_residual.result (λ (e : StreamError). e ≡ c.in_err-at.field-0.0) (λ (e : StreamError). EndsEarly e (g.I.Source.left c.positive.new.input) bs (λ t. Fails (floor_at c.args.self.now.place t))) c.from_residual.ensures.1
+    (λ e is. subst (λ (x : StreamError). EndsEarly x (g.I.Source.left c.positive.new.input) bs (λ t. Fails (floor_at c.args.self.now.place t))) (sym is)
     (breaks_first c.in_err-at.field-0.0 (g.I.Source.left c.positive.new.input) bs (λ t. element_at 12 floor_of c.args.self.now.place t) (λ at. got (Floor at.value) at.place at.rest) (c.in_err-at.ensures.stops bs s)))

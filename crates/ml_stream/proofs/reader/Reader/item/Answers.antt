@@ -3,7 +3,7 @@ use Rattle.std.proofs.lemmas.Result.{err_from_is_err_and}
 use Rattle.ml_stream.specs.Stream.{item_at, elements_at, and_then, some_item, End}
 use Rattle.ml_stream.proofs.Bytewise.{first_is, end_is, one_further}
 use Rattle.ml_stream.proofs.Elements.{item_letter, item_bad, item_end, tells_too}
-use Rattle.ml_stream.specs.Reading.{Breaks, IsNoItem}
+use Rattle.ml_stream.specs.Reading.{EndsEarly, IsNoItem}
 use Rattle.ml_stream.specs.declared.stream.StreamError.{StreamError}
 use Rattle.ml_stream.specs.declared.stream.StreamError.TheVariants.{Fault, Bad}
 use Rattle.ml_stream.proofs.Cuts.{at_exit, breaks_none, breaks_byte, breaks_item, bad_not}
@@ -37,7 +37,7 @@ returns-clause-read g c bs s =
 
 pub returns-in_err-b-clause-stops : goal.returns-in_err-b-clause-stops
 returns-in_err-b-clause-stops g c bs s =
-    at_exit c.from_residual.result (λ (e : StreamError). e ≡ Fault) (λ (e : StreamError). Breaks e (g.I.Source.left c.byte.new.input) bs (IsNoItem c.args.self.now.place)) c.from_residual.ensures.1
+    at_exit c.from_residual.result (λ (e : StreamError). e ≡ Fault) (λ (e : StreamError). EndsEarly e (g.I.Source.left c.byte.new.input) bs (IsNoItem c.args.self.now.place)) c.from_residual.ensures.1
     (λ e is. breaks_none e (g.I.Source.left c.byte.new.input) bs (IsNoItem c.args.self.now.place) (c.in_err-b.ensures.stops bs s) (End, refl))
 
 pub returns-in_default-read_letter-clause-stops : goal.returns-in_default-read_letter-clause-stops
@@ -48,7 +48,7 @@ returns-in_default-read_letter-clause-stops g c bs s =
 pub returns-in_err-elements-clause-stops : goal.returns-in_err-elements-clause-stops
 returns-in_err-elements-clause-stops g c bs s =
     let t = c.in_ok-b.ensures.read bs s in
-    at_exit c.from_residual-in_err-elements.result (λ (e : StreamError). e ≡ c.in_err-elements.field-0.0) (λ (e : StreamError). Breaks e (g.I.Source.left c.elements.new.input) bs (IsNoItem c.args.self.now.place)) c.from_residual-in_err-elements.ensures.1
-    (λ e is. subst (λ (x : StreamError). Breaks x (g.I.Source.left c.elements.new.input) bs (IsNoItem c.args.self.now.place)) (sym is)
+    at_exit c.from_residual-in_err-elements.result (λ (e : StreamError). e ≡ c.in_err-elements.field-0.0) (λ (e : StreamError). EndsEarly e (g.I.Source.left c.elements.new.input) bs (IsNoItem c.args.self.now.place)) c.from_residual-in_err-elements.ensures.1
+    (λ e is. subst (λ (x : StreamError). EndsEarly x (g.I.Source.left c.elements.new.input) bs (IsNoItem c.args.self.now.place)) (sym is)
     (breaks_item c.in_err-elements.field-0.0 c.args.self.now.place c.byte.new.self.place c.in-Some.b c.in-Some-read_letter.letter (g.I.Source.left c.elements.new.input) bs t.rest (first_is bs t.rest c.in_ok-b.field-0 c.in-Some.b t.is_all c.in-Some.is) (sym c.in-Some-read_letter.ensures)
     (one_further c.args.self.now.place c.byte.new.self.place c.in_ok-b.field-0 c.in-Some.b t.place_is c.in-Some.is) (c.in_err-elements.ensures.stops t.rest t.stands)))

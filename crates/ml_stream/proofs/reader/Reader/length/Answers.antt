@@ -2,7 +2,7 @@ use Rattle.std.proofs.Common.{◌≡◌, true, ◌∙◌, sym, ap, arith, add-on
 use Rattle.ml_base.specs.Numbers.{is_next_digit}
 use Rattle.ml_stream.specs.Stream.{length_at, got}
 use Rattle.ml_stream.proofs.Bytewise.{first_is, end_is, one_further, len_colon, len_bad_colon, len_digit, len_bad, digit_keeps}
-use Rattle.ml_stream.specs.Reading.{Breaks, Fails}
+use Rattle.ml_stream.specs.Reading.{EndsEarly, Fails}
 use Rattle.ml_stream.specs.declared.stream.StreamError.{StreamError}
 use Rattle.ml_stream.specs.declared.stream.StreamError.TheVariants.{Fault, Short, Bad}
 use Rattle.ml_stream.proofs.Cuts.{at_exit, breaks_none, breaks_byte, breaks_further, bad_not, short_not}
@@ -77,7 +77,7 @@ loop-b-preserved g c =
 pub returns-in_err-b-clause-stops : goal.returns-in_err-b-clause-stops
 returns-in_err-b-clause-stops g c bs s =
     let h = c.loop-b.invariant.fronts bs s in
-    at_exit c.from_residual.result (λ (e : StreamError). e ≡ Fault) (λ (e : StreamError). Breaks e (g.I.Source.left c.byte.new.input) bs (λ t. Fails (length_at c.args.start c.args.limit 0 0 c.args.self.now.place t))) c.from_residual.ensures.1
+    at_exit c.from_residual.result (λ (e : StreamError). e ≡ Fault) (λ (e : StreamError). EndsEarly e (g.I.Source.left c.byte.new.input) bs (λ t. Fails (length_at c.args.start c.args.limit 0 0 c.args.self.now.place t))) c.from_residual.ensures.1
     (λ e is. breaks_further e (g.I.Source.left c.byte.new.input) bs h.0 h.1 (λ t. Fails (length_at c.args.start c.args.limit c.loop-b.count c.loop-b.n c.loop-b.self.place t)) (λ t. Fails (length_at c.args.start c.args.limit 0 0 c.args.self.now.place t)) h.2
     (breaks_none e (g.I.Source.left c.byte.new.input) h.1 (λ t. Fails (length_at c.args.start c.args.limit c.loop-b.count c.loop-b.n c.loop-b.self.place t)) (c.in_err-b.ensures.stops h.1 h.3) (Short c.args.start, refl))
     (λ t f. (f.0, sym (h.4 t) ∙ f.1)))

@@ -3,7 +3,7 @@ use Rattle.ml_config.specs.declared.configuration.Config.{Config}
 use Rattle.std.proofs.lemmas.Result.{IfOk-weaker}
 use Rattle.ml_web.specs.Questions.{answer_of}
 use Rattle.ml_web.proofs.Paths.{path_of}
-use Rattle.ml_web.proofs.Standing.{archive, same_config}
+use Rattle.ml_web.proofs.Represented.{archive, same_config}
 use Rattle.ml_web.proofs.pages.PageQueryQuestion.answer.Goals as goal
 
 pub returns-clause-complete : goal.returns-clause-complete

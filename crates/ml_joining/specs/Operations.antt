@@ -7,15 +7,15 @@ use Rattle.ml_address.specs.Requests.{PlainWho}
 use Rattle.ml_address.specs.declared.Word.TheVariants as words
 use Rattle.ml_plain.specs.Answers as answers
 use Rattle.ml_plain.specs.Bouncing.{address_named}
-use Rattle.ml_plain.specs.Managing.{Deed, Only, TellAlready, TellAbsent, AskSender, AskSubject, AskModerators, Join, Leave}
+use Rattle.ml_plain.specs.Managing.{Operation, Only, TellAlready, TellAbsent, AskSender, AskSubject, AskModerators, Join, Leave}
 use Rattle.ml_plain.specs.Plain.{Plain, is_in, spelled_in}
 use Rattle.ml_plain.specs.declared.Reply.{Reply}
-use Rattle.ml_joining.specs.declared.deeds.Answer.{Answer}
-use Rattle.ml_joining.specs.declared.deeds.Answer.TheVariants as given
-use Rattle.ml_joining.specs.declared.deeds.Joining.{Joining}
-use Rattle.ml_joining.specs.declared.deeds.Joining.TheVariants as joins
-use Rattle.ml_joining.specs.declared.deeds.Leaving.{Leaving}
-use Rattle.ml_joining.specs.declared.deeds.Leaving.TheVariants as leaves
+use Rattle.ml_joining.specs.declared.operations.Answer.{Answer}
+use Rattle.ml_joining.specs.declared.operations.Answer.TheVariants as given
+use Rattle.ml_joining.specs.declared.operations.Joining.{Joining}
+use Rattle.ml_joining.specs.declared.operations.Joining.TheVariants as joins
+use Rattle.ml_joining.specs.declared.operations.Leaving.{Leaving}
+use Rattle.ml_joining.specs.declared.operations.Leaving.TheVariants as leaves
 use Rattle.ml_joining.specs.declared.subjects.Subject.{Subject}
 
 -- the reply of an answer
@@ -25,8 +25,8 @@ answer_reply given.BadCookie = answers.badcookie
 answer_reply given.Already = answers.already
 answer_reply given.Absent = answers.absent
 
--- the deeds about an address that is to join
-abbrev pub joining_deed : Joining → Deed
+-- the operations about an address that is to join
+abbrev pub joining_deed : Joining → Operation
 joining_deed (joins.Only answer) = Only (answer_reply answer)
 joining_deed joins.TellAlready = TellAlready
 joining_deed joins.AskSender = AskSender words.Tc
@@ -34,8 +34,8 @@ joining_deed joins.AskSubject = AskSubject words.Sc
 joining_deed joins.AskModerators = AskModerators
 joining_deed joins.Join = Join
 
--- the deeds about an address that is to leave
-abbrev pub leaving_deed : Leaving → Deed
+-- the operations about an address that is to leave
+abbrev pub leaving_deed : Leaving → Operation
 leaving_deed (leaves.Only answer) = Only (answer_reply answer)
 leaving_deed leaves.TellAbsent = TellAbsent
 leaving_deed leaves.AskSender = AskSender words.Uc

@@ -1,4 +1,4 @@
--- Bytes that a writer of the log has taken: gathered, or handed to the log.
+-- Bytes that a writer of the log has taken: buffered, or handed to the log.
 use Rattle.std.specs.Prelude.{◌≡◌, ◌+◌, ◌++◌, length, Result, OnOk}
 use Rattle.ml_base.specs.Bytes.{Text}
 use Rattle.ml_site.specs.declared.site.SiteError.{SiteError}
@@ -6,11 +6,11 @@ use Rattle.ml_site.specs.declared.site.Site.{Ghosts}
 use Rattle.ml_journal.specs.Handing.{Hands}
 use Rattle.ml_journal.specs.declared.writer.LogWriter.{LogWriter}
 
--- A text came behind what was gathered. Some first bytes of both were handed to the log, and at Ok the others are gathered.
-pub record Gathers {S : Type 0} (told : Ghosts S) (result : Result (Unit {0}) SiteError) (text : Text) (before after : LogWriter) (old new : S) : Type 0 where
+-- A text came behind what was buffered. Some first bytes of both were handed to the log, and at Ok the others are buffered.
+pub record Buffers {S : Type 0} (told : Ghosts S) (result : Result (Unit {0}) SiteError) (text : Text) (before after : LogWriter) (old new : S) : Type 0 where
   pub handed : Text
   pub left : Text
-  pub all : handed ++ left ≡ before.gathered ++ text
-  pub gathered : OnOk result (left ≡ after.gathered)
+  pub all : handed ++ left ≡ before.buffered ++ text
+  pub buffered : OnOk result (left ≡ after.buffered)
   pub at : OnOk result (after.at ≡ before.at + length handed)
   pub hands : Hands told result before.at handed old new

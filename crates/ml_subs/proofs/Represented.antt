@@ -28,7 +28,7 @@ use Rattle.ml_subs.specs.Reading.{AreRead, IsFront, counted}
 use Rattle.ml_subs.proofs.Orders.{not_below}
 use Rattle.ml_subs.proofs.Spelled.{read_first, read_behind, read_empty, record_parts}
 use Rattle.ml_subs.proofs.Placed.{layout_only}
-use Rattle.ml_subs.proofs.Together.{differ, own_tie, merged, merged_ordered, found_merged, length_merged}
+use Rattle.ml_subs.proofs.Union.{differ, own_tie, merged, merged_ordered, found_merged, length_merged}
 
 -- bytes are read as one list of members
 read_one : (layout : Layout) (n : ℕ) (floor text : Text) (ms ns : List Member) → AreRead layout n floor text ms → AreRead layout n floor text ns → ms ≡ ns

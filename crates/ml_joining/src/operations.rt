@@ -2,7 +2,7 @@
 ghost use Rattle.std.specs.Prelude.{◌≡◌, true};
 ghost use Rattle.ml_plain.specs.Answers as answers;
 ghost use Rattle.ml_plain.specs.KeptFiles.{is_kept};
-ghost use Rattle.ml_joining.specs.Deeds.{answer_reply};
+ghost use Rattle.ml_joining.specs.Operations.{answer_reply};
 
 use ml_plain::Reply;
 

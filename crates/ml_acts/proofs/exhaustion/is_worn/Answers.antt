@@ -3,11 +3,11 @@ use Rattle.std.proofs.lemmas.Bool.{le-ltb, lt-ltb, ltb-false, or_left}
 use Rattle.ml_base.specs.Dir.{Dir}
 use Rattle.ml_base.specs.Drawn.{IsCounter}
 use Rattle.ml_drawn.proofs.Reading.{counter_one}
-use Rattle.ml_hold.proofs.Alone as held
+use Rattle.ml_hold.proofs.OfFiles as held
 use Rattle.ml_hold.specs.Answers.{IsCountedPending, tickets_name}
-use Rattle.ml_queue.proofs.Alone as queues
+use Rattle.ml_queue.proofs.OfFiles as queues
 use Rattle.ml_queue.specs.Answers.{ids_name}
-use Rattle.ml_acts.proofs.wearing.is_worn.Goals as goal
+use Rattle.ml_acts.proofs.exhaustion.is_worn.Goals as goal
 
 pub returns-then-branch-gt-LAST_ID-clause-value : goal.returns-then-branch-gt-LAST_ID-clause-value
 returns-then-branch-gt-LAST_ID-clause-value g c told p is =

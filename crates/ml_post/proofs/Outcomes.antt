@@ -22,9 +22,9 @@ use Rattle.ml_plain.specs.Verdicts.{verdict, is_usable, is_command, is_addressed
 use Rattle.ml_plain.specs.Verdicts as verdicts
 use Rattle.ml_acts.specs.Doing.{DoesList}
 use Rattle.ml_post.specs.Judging as rows
-use Rattle.ml_post.specs.Posting.{fate_of, reply_of}
+use Rattle.ml_post.specs.Posting.{outcome_of, reply_of}
 use Rattle.ml_post.specs.Publishing.{Publishes, number_of}
-use Rattle.ml_post.specs.declared.posting.Fate.TheVariants as fates
+use Rattle.ml_post.specs.declared.posting.Outcome.TheVariants as fates
 use Rattle.ml_post.specs.declared.verdicts.Verdict.{Verdict as Found}
 use Rattle.ml_post.specs.declared.verdicts.Verdict.TheVariants as found
 
@@ -83,7 +83,7 @@ posted_room p sender m e =
 refused_same : (a b : Reply) → fates.Refused a ≡ fates.Refused b → a ≡ b
 refused_same a b e = cc
 
-pub refused_is : (now : ℕ) (sender m : Text) (p : Plain) (v : Found) (reply : Reply) → fate_of v ≡ fates.Refused reply → by_verdict now sender m p (rows.row_of v) ≡ (p, reply)
+pub refused_is : (now : ℕ) (sender m : Text) (p : Plain) (v : Found) (reply : Reply) → outcome_of v ≡ fates.Refused reply → by_verdict now sender m p (rows.row_of v) ≡ (p, reply)
 refused_is now sender m p found.TooBig reply e = ap (λ (r : Reply). (p, r)) (refused_same _ reply e)
 refused_is now sender m p found.BounceSender reply e = ap (λ (r : Reply). (p, r)) (refused_same _ reply e)
 refused_is now sender m p found.Looped reply e = ap (λ (r : Reply). (p, r)) (refused_same _ reply e)
@@ -96,7 +96,7 @@ refused_is now sender m p found.Full reply e = ap (λ (r : Reply). (p, r)) (refu
 refused_is now sender m p found.Held reply e = absurd (cc)
 refused_is now sender m p found.Posted reply e = absurd (cc)
 
-pub held_is : (v : Found) → fate_of v ≡ fates.Held → rows.row_of v ≡ verdicts.Held
+pub held_is : (v : Found) → outcome_of v ≡ fates.Held → rows.row_of v ≡ verdicts.Held
 held_is found.TooBig e = absurd (cc)
 held_is found.BounceSender e = absurd (cc)
 held_is found.Looped e = absurd (cc)
@@ -109,7 +109,7 @@ held_is found.Full e = absurd (cc)
 held_is found.Held e = refl
 held_is found.Posted e = absurd (cc)
 
-pub posted_is : (v : Found) → fate_of v ≡ fates.Posted → rows.row_of v ≡ verdicts.Posted
+pub posted_is : (v : Found) → outcome_of v ≡ fates.Posted → rows.row_of v ≡ verdicts.Posted
 posted_is found.TooBig e = absurd (cc)
 posted_is found.BounceSender e = absurd (cc)
 posted_is found.Looped e = absurd (cc)
@@ -160,16 +160,16 @@ kept_by done answer e few = ap is_kept e ∙ kept_reply answer few
 
 -- what a post does, by what follows its verdict
 module _ (dir : Dir) (p : Plain) (now : ℕ) (sender m : Text) (v : Found) (done : List Put × Reply) where
-  pub follows_refused : (reply : Reply) → fate_of v ≡ fates.Refused reply → rows.row_of v ≡ verdict p sender m → done.0 ≡ [] → done.1 ≡ reply → IsList dir p → DoesList dir done (post now sender m p)
-  follows_refused reply fate row e f is =
-      does_nothing dir done p reply (post now sender m p) (ap (by_verdict now sender m p) (sym row) ∙ refused_is now sender m p v reply fate) e f is
+  pub follows_refused : (reply : Reply) → outcome_of v ≡ fates.Refused reply → rows.row_of v ≡ verdict p sender m → done.0 ≡ [] → done.1 ≡ reply → IsList dir p → DoesList dir done (post now sender m p)
+  follows_refused reply outcome row e f is =
+      does_nothing dir done p reply (post now sender m p) (ap (by_verdict now sender m p) (sym row) ∙ refused_is now sender m p v reply outcome) e f is
 
-  pub follows_held : fate_of v ≡ fates.Held → rows.row_of v ≡ verdict p sender m → (is_usable sender ≡ true → DoesList dir done (held_now now (as_address sender) m p)) → DoesList dir done (post now sender m p)
-  follows_held fate row does =
-      let found = sym row ∙ held_is v fate in
+  pub follows_held : outcome_of v ≡ fates.Held → rows.row_of v ≡ verdict p sender m → (is_usable sender ≡ true → DoesList dir done (held_now now (as_address sender) m p)) → DoesList dir done (post now sender m p)
+  follows_held outcome row does =
+      let found = sym row ∙ held_is v outcome in
       subst (λ (r : verdicts.Verdict). DoesList dir done (by_verdict now sender m p r)) (sym found) (does (held_usable p sender m found))
 
-  pub follows_posted : fate_of v ≡ fates.Posted → rows.row_of v ≡ verdict p sender m → (is_usable sender ≡ true → is_archive_full p ≡ false → DoesList dir done (posted_now now (as_address sender) m p)) → DoesList dir done (post now sender m p)
-  follows_posted fate row does =
-      let found = sym row ∙ posted_is v fate in
+  pub follows_posted : outcome_of v ≡ fates.Posted → rows.row_of v ≡ verdict p sender m → (is_usable sender ≡ true → is_archive_full p ≡ false → DoesList dir done (posted_now now (as_address sender) m p)) → DoesList dir done (post now sender m p)
+  follows_posted outcome row does =
+      let found = sym row ∙ posted_is v outcome in
       subst (λ (r : verdicts.Verdict). DoesList dir done (by_verdict now sender m p r)) (sym found) (does (posted_usable p sender m found) (posted_room p sender m found))
