@@ -10,16 +10,13 @@ ghost use Rattle.ml_queue.specs.Answers.{ids_name};
 ghost use Rattle.ml_acts.specs.Damaged.{IsDamaged};
 ghost use Rattle.ml_acts.specs.Doing.{HasRoom};
 
-use ml_base::{Files, PartError};
+use ml_base::{Files, LAST_DRAWN, PartError};
 use ml_hold::next_ticket;
 use ml_queue::next_id;
 use std::alloc::Global;
 
 // The last id that may be the next one: a delivery or a timed run draws fewer than 3,000.
 const LAST_ID: u64 = 999_999_999_997_000;
-
-// The last ticket that may be the next one.
-const LAST_TICKET: u64 = 1_000_000_000_000_000;
 
 /// Whether ids or tickets are worn out, so that a delivery or a timed run could draw more than there are. It reads both counters,
 /// or the ids' alone.
@@ -32,5 +29,5 @@ pub fn is_worn<F: Files>(alloc: Global, files: &mut F) -> Result<bool, PartError
     if next_id(alloc, files)? > LAST_ID {
         return Ok(true);
     }
-    Ok(next_ticket(alloc, files)? > LAST_TICKET)
+    Ok(next_ticket(alloc, files)? > LAST_DRAWN)
 }

@@ -42,6 +42,9 @@ pub use paths::path;
 pub use pieces::{put_number, put_piece};
 pub use plan::FaultPlan;
 pub use puts::{AddressList, Put, Txn};
-pub use ranges::{LAST_DRAWN, LAST_MOMENT, LAST_POST_NUMBER, is_drawn, is_moment, is_post_number};
+pub use ranges::{
+    LARGEST_READ, LAST_DRAWN, LAST_ITEM, LAST_MOMENT, LAST_POST_NUMBER, LONGEST_MESSAGE,
+    LONGEST_PATH, LONGEST_POST, is_drawn, is_moment, is_post_number,
+};
 pub use row::{Numbers, Row};
 pub use splits::{split_first, split_last, split_line};

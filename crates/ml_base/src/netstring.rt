@@ -3,10 +3,8 @@ ghost use Rattle.std.specs.Prelude.{◌≡◌, ◌≤◌, ◌<◌, ◌+◌, ◌+
 ghost use Rattle.std.specs.Option.{option_map};
 ghost use Rattle.ml_base.specs.Netstrings.{netstring_at, length_from, ns};
 
-use crate::{Bytes, is_next_digit, write_number};
+use crate::{Bytes, LARGEST_READ, is_next_digit, write_number};
 use std::alloc::AllocError;
-
-const LARGEST: u64 = 999_999_999_999_999_999;
 
 /// Where a netstring stands in a byte string: its content from `from` up to `to`, and what follows its comma from `next` on.
 #[derive(Clone, Copy, Debug, PartialEq, Eq)]
@@ -60,7 +58,7 @@ fn read_length(bytes: &[u8]) -> Option<(u64, usize)>
         if *byte == b':' {
             return if i == 0 { None } else { Some((n, i + 1)) };
         }
-        if !is_next_digit(LARGEST, i, n, *byte) {
+        if !is_next_digit(LARGEST_READ, i, n, *byte) {
             return None;
         }
         n = 10 * n + (*byte - b'0') as u64;

@@ -4,7 +4,7 @@ ghost use Rattle.std.specs.Fmt.{decimal};
 ghost use Rattle.ml_base.specs.Numbers.{number_of};
 ghost use Rattle.ml_base.specs.Numbers as numbers;
 
-const LARGEST: u64 = 999_999_999_999_999_999;
+use crate::LARGEST_READ;
 
 /// `now - then` in seconds, or 0 where `then` is later.
 pub fn age(now: u64, then: u64) -> u64
@@ -42,7 +42,7 @@ pub fn number_within(limit: u64, text: &[u8]) -> Option<u64>
 pub fn read_number(text: &[u8]) -> Option<u64>
     ensures { result ≡ number_of text.now }
 {
-    number_within(LARGEST, text)
+    number_within(LARGEST_READ, text)
 }
 
 /// Writes the digits of a number to the front of `out`, and answers how many they are.

@@ -12,6 +12,21 @@ pub const LAST_POST_NUMBER: u64 = 99_999_999;
 /// The largest number that is drawn for a held post or a queue entry. The first is 1.
 pub const LAST_DRAWN: u64 = 1_000_000_000_000_000;
 
+/// The largest number of an item: twelve digits. An item without a number has 0.
+pub const LAST_ITEM: u64 = 999_999_999_999;
+
+/// The longest sender or recipient of an item, in bytes.
+pub const LONGEST_PATH: u32 = 1000;
+
+/// The longest message of an item, in bytes: 32 MiB, which an answer and its log hold in memory at once.
+pub const LONGEST_MESSAGE: u32 = 33_554_432;
+
+/// The longest post that an index tells, in bytes. No message is as long, with what a list puts into it.
+pub const LONGEST_POST: u64 = 4_294_967_295;
+
+/// The largest number that is read from decimal digits: eighteen of them, which any machine's word holds.
+pub const LARGEST_READ: u64 = 999_999_999_999_999_999;
+
 /// Whether a number is a moment that is written and read: seconds since 1970, before the year 10000.
 pub fn is_moment(n: u64) -> bool
     ensures test { result ≡ ranges.is_moment n }

@@ -7,12 +7,10 @@ ghost use Rattle.ml_command.specs.Words.{texts, member_of, rekey_of, floor_words
 ghost use Rattle.ml_command.specs.Words as spec;
 
 use hex::decode_to_slice;
-use ml_base::{Address, AddressError, LAST_DRAWN, Set, number_within};
+use ml_base::{Address, AddressError, LAST_DRAWN, LAST_ITEM, Set, number_within};
 use ml_plain::Act;
 use ml_run::Why;
 use std::alloc::Global;
-
-const LAST_NUMBER: u64 = 999_999_999_999;
 
 // What is done with a set and an address.
 #[derive(Clone, Copy)]
@@ -205,5 +203,5 @@ fn entry_id(word: &str) -> Option<u64>
 pub(crate) fn item_number(word: &str) -> Option<u64>
     ensures { result ≡ item_number_of word.now }
 {
-    number_within(LAST_NUMBER, word.as_bytes())
+    number_within(LAST_ITEM, word.as_bytes())
 }

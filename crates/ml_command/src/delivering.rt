@@ -12,18 +12,12 @@ ghost use Rattle.ml_command.specs.Words.{Deliver, deliver_of, delivered, fits_en
 
 use crate::asking::item_number;
 use crate::single::answer_item;
-use ml_base::Bytes;
+use ml_base::{Bytes, LONGEST_MESSAGE, LONGEST_PATH};
 use ml_input::read_input;
 use ml_plain::{Act, Item};
 use ml_run::{Why, stop};
 use ml_site::{Clock, Site, Source};
 use std::alloc::{AllocError, Global};
-
-// The most bytes of a sender or a recipient.
-const LONGEST_ADDRESS: usize = 1000;
-
-// The most bytes of a message.
-const LONGEST_MESSAGE: u32 = 33_554_432;
 
 /// Delivers the input from the sender to the recipient that the words behind `deliver` give, under their number.
 pub(crate) fn deliver_words<I: Source, S: Site, K: Clock>(
@@ -81,7 +75,7 @@ fn deliver_by<I: Source, S: Site, K: Clock>(
 fn fits(word: &str) -> bool
     ensures { result ≡ fits_envelope word.now }
 {
-    word.len() <= LONGEST_ADDRESS
+    word.len() <= LONGEST_PATH as usize
 }
 
 // Delivers the input at the clock's moment. The clock is read before the input.

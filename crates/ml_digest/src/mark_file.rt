@@ -10,11 +10,10 @@ ghost use Rattle.ml_rows.specs.Values.{line_number};
 
 use crate::Mark;
 use crate::writing::add_number;
-use ml_base::{Bytes, Files, Name, PartError, Put, Txn, number_within, split_first};
+use ml_base::{
+    Bytes, Files, LAST_POST_NUMBER, Name, PartError, Put, Txn, number_within, split_first,
+};
 use std::alloc::{AllocError, Global};
-
-// The largest number of a post.
-const LAST_POST: u64 = 99_999_999;
 
 /// How far the digests have come. `Damaged` names the mark's file and comes only where it is absent or holds no mark.
 /// `Fault` comes only where a read failed.
@@ -41,7 +40,7 @@ fn read_mark(file: &Option<Bytes>) -> Option<Mark>
         return None;
     };
     let (front, back) = split_first(b':', text.as_slice())?;
-    let last = number_within(LAST_POST, front)?;
+    let last = number_within(LAST_POST_NUMBER, front)?;
     let issue = read_line(back)?;
     Some(Mark { last, issue })
 }
@@ -52,7 +51,7 @@ fn read_line(text: &[u8]) -> Option<u64>
 {
     let (line, rest) = split_first(b'\n', text)?;
     if rest.is_empty() {
-        number_within(LAST_POST, line)
+        number_within(LAST_POST_NUMBER, line)
     } else {
         None
     }

@@ -8,12 +8,10 @@ ghost use Rattle.ml_hold.specs.Reading.{told};
 
 use crate::Held;
 use ml_base::{
-    Address, Bytes, LAST_MOMENT, is_kept, number_within, push_netstring, split_netstring,
-    write_number,
+    Address, Bytes, LAST_MOMENT, LONGEST_MESSAGE, is_kept, number_within, push_netstring,
+    split_netstring, write_number,
 };
 use std::alloc::{AllocError, Global};
-
-const MAX_MESSAGE: usize = 33_554_432;
 
 // The most bytes that a text has besides the sender and the message: the netstring of twenty digits, and twice eighteen
 // digits, a colon and a comma.
@@ -42,7 +40,7 @@ pub(crate) fn parts_of(text: &[u8]) -> Option<Parts<'_>>
     if !end.is_empty() {
         return None;
     }
-    if message.len() > MAX_MESSAGE {
+    if message.len() > LONGEST_MESSAGE as usize {
         return None;
     }
     Some(Parts {

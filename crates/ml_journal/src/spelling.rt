@@ -7,12 +7,9 @@ ghost use Rattle.ml_journal.specs.Handing.{Hands};
 ghost use Rattle.ml_journal.specs.Records.{spelled_head, spelled_name, spelled_put, spelled_puts, spelled_record};
 
 use crate::writer::LogWriter;
-use ml_base::{Bytes, Name, Put, push_netstring, write_number};
+use ml_base::{Bytes, LARGEST_READ, Name, Put, push_netstring, write_number};
 use ml_site::{Site, SiteError};
 use std::alloc::{AllocError, Global};
-
-// A netstring has a length of at most 18 digits.
-const LARGEST: usize = 999_999_999_999_999_999;
 
 // The length of a record and its colon are shorter, and so is what stands before a put's content.
 const HEAD: usize = 72;
@@ -136,7 +133,7 @@ pub(crate) fn puts_size(puts: &[Put]) -> Option<usize>
     let mut size = 0;
     for put in puts {
         size += put_size(put)?;
-        if size > LARGEST {
+        if size > LARGEST_READ as usize {
             return None;
         }
     }
@@ -151,7 +148,7 @@ fn put_size(put: &Put) -> Option<usize>
     match &put.bytes {
         Some(bytes) => {
             let size = bytes.len();
-            if size > LARGEST {
+            if size > LARGEST_READ as usize {
                 return None;
             }
             Some(name + digits_size(size as u64) + size + 2)

@@ -7,10 +7,8 @@ ghost use Rattle.ml_plain.specs.KeptFiles.{IsFloorFile, floor_name};
 ghost use Rattle.ml_list.specs.Damage.{IsNoFloor};
 ghost use Rattle.ml_list.specs.Lookups.{IsInRange};
 
-use ml_base::{Bytes, Files, Name, PartError, number_within, write_number};
+use ml_base::{Bytes, Files, LAST_ITEM, Name, PartError, number_within, write_number};
 use std::alloc::{AllocError, Global};
-
-const MAX_NUMBER: u64 = 999_999_999_999;
 
 /// The floor under the kept replies: the number in its file, or 1 where that is absent. It reads that file alone.
 pub fn floor<F: Files>(alloc: Global, files: &mut F) -> Result<u64, PartError>
@@ -59,7 +57,7 @@ fn read_floor(file: &Option<Bytes>) -> Option<u64>
     let Some(digits) = text.as_slice().strip_suffix(b"\n") else {
         return None;
     };
-    let Some(floor) = number_within(MAX_NUMBER, digits) else {
+    let Some(floor) = number_within(LAST_ITEM, digits) else {
         return None;
     };
     if floor < 2 {

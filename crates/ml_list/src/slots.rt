@@ -12,7 +12,7 @@ ghost use Rattle.ml_plain.specs.KeptFiles.{AreReplies, IsRepliesFile, IsWritten,
 ghost use Rattle.ml_plain.specs.KeptFiles as states;
 ghost use Rattle.ml_list.specs.Damage.{IsNoReplies};
 
-use ml_base::{Bytes, Files, Name, PartError, Put, put_piece};
+use ml_base::{Bytes, Files, LAST_DRAWN, Name, PartError, Put, put_piece};
 use ml_plain::{Reply, has_number};
 use std::alloc::{AllocError, Global};
 
@@ -21,8 +21,6 @@ pub(crate) const SLOTS: u64 = 512;
 pub(crate) const SIZE: usize = 4608;
 
 const SLOT: usize = 9;
-
-const MOST: u64 = 1_000_000_000_000_000;
 
 // The name of the file that has the reply of a number.
 pub(crate) fn replies_name(number: u64) -> Name
@@ -44,7 +42,7 @@ fn is_kept(reply: Reply) -> bool
         return false;
     }
     if has_number(reply.code) {
-        reply.number <= MOST
+        reply.number <= LAST_DRAWN
     } else {
         reply.number == 0
     }

@@ -21,14 +21,11 @@ use crate::Verdict;
 use crate::addressed::is_addressed;
 use ml_acts::Configured;
 use ml_archive::{count, subject};
-use ml_base::{Address, AddressError, Files, PartError, Set};
+use ml_base::{Address, AddressError, Files, LAST_POST_NUMBER, PartError, Set};
 use ml_config::Config;
 use ml_header::Message;
 use ml_subs::member;
 use std::alloc::{AllocError, Global};
-
-// The archive takes so many posts.
-const MOST_POSTS: u64 = 99_999_999;
 
 /// What is found of a post of an envelope sender: the first row of the table that holds.
 ///
@@ -256,7 +253,7 @@ fn of_room<F: Files>(alloc: Global, files: &mut F, config: &Config) -> Result<Ve
     if config.flags.m {
         return Ok(Verdict::Held);
     }
-    if count(alloc, files)? >= MOST_POSTS {
+    if count(alloc, files)? >= LAST_POST_NUMBER {
         return Ok(Verdict::Full);
     }
     Ok(Verdict::Posted)

@@ -19,13 +19,10 @@ ghost use Rattle.ml_post.specs.Publishing.{Publishes, is_beside_held, is_publish
 use crate::sending::sent_text;
 use ml_acts::{MailMemo, post_path, send_to_list};
 use ml_archive::{Appended, append, count};
-use ml_base::{Address, Bytes, Files, LAST_POST_NUMBER, PartError, Txn};
+use ml_base::{Address, Bytes, Files, LAST_POST_NUMBER, LONGEST_POST, PartError, Txn};
 use ml_config::Config;
 use ml_header::Message;
 use std::alloc::{AllocError, Global};
-
-// No post is as long as this. No message is, with what is put into it.
-const TOO_LONG: u64 = 4_294_967_296;
 
 // Puts a message of a sender into the archive under the next number, and into the queue to the set list as it stands.
 pub(crate) fn publish<F: Files>(
@@ -92,7 +89,7 @@ fn text_to_send(alloc: Global, config: &Config, message: &[u8]) -> Result<Bytes,
     ensures size { IfOk result (λ text. length text < 4_294_967_296) }
 {
     let text = sent_text(alloc, config, &Message::scan(message))?;
-    if text.len() as u64 >= TOO_LONG {
+    if text.len() as u64 > LONGEST_POST {
         return Err(AllocError);
     }
     Ok(text)

@@ -8,11 +8,8 @@ ghost use Rattle.ml_queue.specs.Reading.{IsFront, IsRead, Parts, told};
 use crate::Out;
 use crate::recipients::{push_recipients, recipients_of};
 use ml_address::Path;
-use ml_base::{Bytes, push_netstring, split_netstring};
+use ml_base::{Bytes, LARGEST_READ, push_netstring, split_netstring};
 use std::alloc::{AllocError, Global};
-
-// No text is as long as this: a netstring's length has 18 digits at most.
-const TOO_LONG: u64 = 1_000_000_000_000_000_000;
 
 // The most bytes that a netstring has besides its content: eighteen digits, a colon and a comma.
 const AROUND: usize = 20;
@@ -91,7 +88,7 @@ pub(crate) fn read_out(alloc: Global, text: &[u8]) -> Result<Option<Out>, AllocE
 fn is_long(text: &Bytes) -> bool
     ensures { IsTrue result ↔ (10 ^ 18 ≤ length text.now) }
 {
-    text.len() as u64 >= TOO_LONG
+    text.len() as u64 > LARGEST_READ
 }
 
 // The letter of a path.

@@ -1,12 +1,10 @@
 // The system's clock.
 ghost use Rattle.std.specs.Prelude.{◌≡◌, None};
 
+use ml_base::LAST_MOMENT;
 use ml_site::{Clock, Failed};
 use std::io;
 use std::time::SystemTime;
-
-// The first second of the year 10000.
-const END: u64 = 253_402_300_800;
 
 /// The system's clock.
 #[derive(Drop)]
@@ -40,7 +38,7 @@ impl<'a> Clock for RealClock<'a> {
 
     fn now(&mut self) -> Result<u64, Failed> {
         match seconds(self.rt) {
-            Ok(moment) if moment < END => Ok(moment),
+            Ok(moment) if moment <= LAST_MOMENT => Ok(moment),
             _ => {
                 self.faults = self.faults.saturating_add(1);
                 Err(Failed)

@@ -10,22 +10,13 @@ ghost use Rattle.ml_plain.specs.Items.{IsAct, IsItem};
 
 use crate::StreamError;
 use hex::{decode_to_slice, encode_to_slice};
-use ml_base::{Address, AddressError, Bytes, LAST_DRAWN, Set, is_next_digit, number_within};
+use ml_base::{
+    Address, AddressError, Bytes, LAST_DRAWN, LAST_ITEM, LAST_MOMENT, LONGEST_MESSAGE,
+    LONGEST_PATH, Set, is_next_digit, number_within,
+};
 use ml_plain::{Act, Item};
 use ml_site::{Failed, Source};
 use std::alloc::{AllocError, Global};
-
-// Twelve digits.
-const MAX_NUMBER: u64 = 999_999_999_999;
-
-// The last second of the year 9999.
-const MAX_MOMENT: u64 = 253_402_300_799;
-
-// The longest sender or recipient, in bytes.
-const MAX_ADDRESS: u64 = 1000;
-
-// The longest message, in bytes.
-const MAX_MESSAGE: u64 = 33_554_432;
 
 // The kinds of items, each of which begins with a letter of its own.
 #[derive(Clone, Copy)]
@@ -201,7 +192,7 @@ impl Reader {
     {
         let start = self.place;
         let text = self.content(alloc, input, 12)?;
-        let Some(value) = number_within(MAX_NUMBER, text.as_slice()) else {
+        let Some(value) = number_within(LAST_ITEM, text.as_slice()) else {
             return Err(StreamError::Bad { at: start });
         };
         self.comma(input, start)?;
@@ -221,7 +212,7 @@ impl Reader {
     {
         let start = self.place;
         let text = self.content(alloc, input, 12)?;
-        let Some(value) = number_within(MAX_MOMENT, text.as_slice()) else {
+        let Some(value) = number_within(LAST_MOMENT, text.as_slice()) else {
             return Err(StreamError::Bad { at: start });
         };
         self.comma(input, start)?;
@@ -360,9 +351,9 @@ impl Reader {
         ensures later { I.faults input.old ≤ I.faults input.new }
         ensures cause { IsErrOf result StreamError.Fault → Rose (I.faults input.old) (I.faults input.new) }
     {
-        let sender = self.text(alloc, input, MAX_ADDRESS)?;
-        let recipient = self.text(alloc, input, MAX_ADDRESS)?;
-        let message = self.text(alloc, input, MAX_MESSAGE)?;
+        let sender = self.text(alloc, input, LONGEST_PATH as u64)?;
+        let recipient = self.text(alloc, input, LONGEST_PATH as u64)?;
+        let message = self.text(alloc, input, LONGEST_MESSAGE as u64)?;
         Ok(Act::Deliver {
             sender,
             recipient,
@@ -396,7 +387,7 @@ impl Reader {
         ensures later { I.faults input.old ≤ I.faults input.new }
         ensures cause { IsErrOf result StreamError.Fault → Rose (I.faults input.old) (I.faults input.new) }
     {
-        let at = self.positive(alloc, input, 12, MAX_NUMBER)?;
+        let at = self.positive(alloc, input, 12, LAST_ITEM)?;
         Ok(Act::Floor { at })
     }
 

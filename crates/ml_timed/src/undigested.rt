@@ -13,11 +13,8 @@ ghost use Rattle.ml_timed.specs.Waiting as waiting;
 ghost use Rattle.std.specs.List.{list_all};
 
 use ml_archive::{Entries, Entry, index};
-use ml_base::{Files, Name, Numbers, PartError};
+use ml_base::{Files, LONGEST_POST, Name, Numbers, PartError};
 use std::alloc::{AllocError, Global};
-
-// A post has fewer bytes.
-const TOO_LONG: u64 = 4_294_967_296;
 
 // The posts that are in no digest yet, as far as one may take them.
 #[derive(Drop)]
@@ -82,7 +79,7 @@ fn group_of<F: Files>(
 fn are_short(entries: &[Entry]) -> bool
     ensures { result ≡ waiting.are_short entries.now }
 {
-    entries.iter().all(|entry| entry.size < TOO_LONG)
+    entries.iter().all(|entry| entry.size <= LONGEST_POST)
 }
 
 // Adds the sizes of the posts of an index behind a number.
