@@ -1,5 +1,6 @@
 // Files as they read under a configuration.
 ghost use Rattle.std.specs.Prelude.{◌≡◌, ◌≤◌, IsTrue, IfOk, IsErrOf, is_some};
+ghost use Rattle.ml_base.specs.Absent.{NoneOf};
 ghost use Rattle.ml_base.specs.Faults.{Rose};
 ghost use Rattle.ml_base.specs.Name.{is_file};
 ghost use Rattle.ml_base.specs.declared.files.FilesError.TheVariants.{Fault};
@@ -64,6 +65,27 @@ impl<F: Files> Files for Configured<'_, F> {
             return Ok(true);
         }
         self.files.has(alloc, name)
+    }
+
+    /// A place that a walk over the files of a kind may go on at. Of the configuration's kind nothing is left out.
+    fn skip_absent(
+        &mut self,
+        alloc: Global,
+        kind: u8,
+        from: u64,
+        end: u64,
+    ) -> Result<u64, FilesError>
+        requires { from ≤ end }
+        ensures range { IfOk result (λ at. (from ≤ at) × (at ≤ end)) }
+        ensures value { IsTrue F.tells → IfOk result (NoneOf (with_config self.old.config.now (F.map self.old.files.now)) kind from) }
+        ensures kept { F.kept self.old.files.now self.new.files.now × (self.new.config.now ≡ self.old.config.now) × (self.new.files.ghost_name ≡ self.old.files.ghost_name) }
+        ensures later { F.faults self.old.files.now ≤ F.faults self.new.files.now }
+        ensures cause { IsErrOf result Fault → Rose (F.faults self.old.files.now) (F.faults self.new.files.now) }
+    {
+        if kind == CONFIG.kind {
+            return Ok(from);
+        }
+        self.files.skip_absent(alloc, kind, from, end)
     }
 
     ghost kept_self = { λ c. (F.kept_self c.files.now, refl, refl) };

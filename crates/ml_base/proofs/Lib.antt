@@ -2,6 +2,7 @@ pub mod SplitLemmas
 pub mod FirstLemmas
 pub mod NumberLaws
 pub mod NameMaps
+pub mod NameOrder
 pub mod Decimals
 pub mod Addresses
 pub mod Netstrings
@@ -13,6 +14,7 @@ pub mod OwnLemmas
 pub mod SplitLaws
 pub mod PathLaws
 pub mod Laid
+pub mod Skipped
 pub mod SortedLaws
 pub mod BelowLemmas
 pub mod AddressParts

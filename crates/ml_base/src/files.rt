@@ -1,5 +1,6 @@
 // Files that are read.
 ghost use Rattle.std.specs.Prelude.{◌≡◌, ◌≤◌, ℕ, Bool, IsTrue, IfOk, IsErrOf, is_some};
+ghost use Rattle.ml_base.specs.Absent.{NoneOf};
 ghost use Rattle.ml_base.specs.Dir.{Dir};
 ghost use Rattle.ml_base.specs.Faults.{Rose};
 ghost use Rattle.ml_base.specs.Name.{is_file};
@@ -68,6 +69,26 @@ pub trait Files {
             Ok(found) => Ok(found.is_some()),
             Err(error) => Err(error),
         }
+    }
+
+    /// A place from `from` on and at most `end` that a walk over the files of a kind may go on at: no file of the kind is at a place from
+    /// `from` on and before it. Where a type can tell more without a look at each place, it has a body of its own; `from` says nothing.
+    /// `Fault` comes only where the count of faults rose in this call.
+    fn skip_absent(
+        &mut self,
+        alloc: Global,
+        kind: u8,
+        from: u64,
+        end: u64,
+    ) -> Result<u64, FilesError>
+        requires { from ≤ end }
+        ensures range { IfOk result (λ at. (from ≤ at) × (at ≤ end)) }
+        ensures value { IsTrue tells → IfOk result (NoneOf (map self.old) kind from) }
+        ensures kept { kept self.old self.new }
+        ensures later { faults self.old ≤ faults self.new }
+        ensures cause { IsErrOf result Fault → Rose (faults self.old) (faults self.new) }
+    {
+        Ok(from)
     }
 
     /// A value is kept from itself.

@@ -1,7 +1,8 @@
 // Puts laid over files.
-ghost use Rattle.std.specs.Prelude.{◌≡◌, ◌≤◌, ◌++◌, true, IsTrue, IfOk, IsErrOf, OnOk, OnErr, is_some};
+ghost use Rattle.std.specs.Prelude.{◌≡◌, ◌<◌, ◌≤◌, ◌++◌, ℕ, true, false, IsTrue, IfOk, IsErrOf, OnOk, OnErr, is_some};
 ghost use Rattle.std.specs.Option.{option_copied};
-ghost use Rattle.ml_base.specs.Dir.{with_puts, newest_put, touches};
+ghost use Rattle.ml_base.specs.Absent.{NoneOf, NoPutOf};
+ghost use Rattle.ml_base.specs.Dir.{with_puts, newest_put, same_name, touches};
 ghost use Rattle.ml_base.specs.Faults.{Rose};
 ghost use Rattle.ml_base.specs.Layers.{files_below, puts_over};
 ghost use Rattle.ml_base.specs.Name.{is_file};
@@ -85,6 +86,25 @@ impl<F: Files> Files for Layer<F> {
         }
     }
 
+    /// A place that a walk over the files of a kind may go on at. It is no further than the first one that a put names.
+    fn skip_absent(
+        &mut self,
+        alloc: Global,
+        kind: u8,
+        from: u64,
+        end: u64,
+    ) -> Result<u64, FilesError>
+        requires { from ≤ end }
+        ensures range { IfOk result (λ at. (from ≤ at) × (at ≤ end)) }
+        ensures value { IsTrue F.tells → IfOk result (NoneOf (with_puts (F.map (files_below self.old)) (puts_over self.old)) kind from) }
+        ensures kept { F.kept (files_below self.old) (files_below self.new) × (puts_over self.new ≡ puts_over self.old) }
+        ensures later { F.faults (files_below self.old) ≤ F.faults (files_below self.new) }
+        ensures cause { IsErrOf result Fault → Rose (F.faults (files_below self.old)) (F.faults (files_below self.new)) }
+    {
+        let end = first_named(self.txn.as_slice(), kind, from, end);
+        self.files.skip_absent(alloc, kind, from, end)
+    }
+
     ghost kept_self = { λ l. (F.kept_self l.files, refl) };
 
     ghost kept_then = { λ a b c first then. (F.kept_then a.files b.files c.files first.0 then.0, then.1 ∙ first.1) };
@@ -99,4 +119,30 @@ fn newest(puts: &[Put], name: Name) -> Option<&Put>
     ensures { option_copied result ≡ newest_put puts.now name }
 {
     puts.iter().rev().find(|put| put.name == name)
+}
+
+// The first place of a kind from one place on that a put names, or `end` where none names one before it.
+fn first_named(puts: &[Put], kind: u8, from: u64, end: u64) -> u64
+    requires { from ≤ end }
+    ensures range { (from ≤ result) × (result ≤ end) }
+    ensures none { NoPutOf puts.now kind from result }
+{
+    let mut first = end;
+    for put in puts {
+        first = nearer(put.name, kind, from, first);
+    }
+    first
+}
+
+// The place of a file, where it is of the kind and from one place on and before another; else that other one.
+fn nearer(name: Name, kind: u8, from: u64, end: u64) -> u64
+    requires { from ≤ end }
+    ensures range { (from ≤ result) × (result ≤ end) }
+    ensures apart { (at : ℕ) → from ≤ at → at < result → same_name (record { kind = kind; at = at }) name ≡ false }
+{
+    if name.kind == kind && from <= name.at && name.at < end {
+        name.at
+    } else {
+        end
+    }
 }

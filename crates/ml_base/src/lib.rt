@@ -9,6 +9,7 @@ mod key_order;
 mod laws;
 mod layer;
 mod maps;
+mod name_maps;
 mod names;
 mod netstring;
 mod number;
@@ -33,6 +34,7 @@ pub use laws::{
 };
 pub use layer::Layer;
 pub use maps::MapFiles;
+pub use name_maps::first_place;
 pub use names::{Name, Set};
 pub use netstring::{Span, push_netstring, read_netstring, split_netstring};
 pub use number::{age, is_next_digit, number_within, read_number, write_number};

@@ -6,7 +6,7 @@ ghost use Rattle.ml_base.specs.Name.{is_file};
 ghost use Rattle.ml_base.specs.declared.files.FilesError.TheVariants.{Fault};
 ghost use Rattle.ml_base.specs.KeptMaps.{map_kept_self, map_kept_then};
 
-use crate::{Bytes, FaultPlan, Files, FilesError, Name, Numbers, copied};
+use crate::{Bytes, FaultPlan, Files, FilesError, Name, Numbers, copied, first_place};
 use std::alloc::Global;
 use std::collections::BTreeMap;
 
@@ -59,6 +59,17 @@ impl Files for MapFiles {
             return Err(FilesError::Fault);
         }
         Ok(copied(alloc, self.files.get(&name))?)
+    }
+
+    /// The first place of a kind that has a file. It is no call that may fail.
+    fn skip_absent(
+        &mut self,
+        _alloc: Global,
+        kind: u8,
+        from: u64,
+        end: u64,
+    ) -> Result<u64, FilesError> {
+        Ok(first_place(&self.files, kind, from, end))
     }
 
     ghost kept_self = { map_kept_self };

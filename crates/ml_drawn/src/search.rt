@@ -1,15 +1,18 @@
 // Which numbers of a series have a file.
-ghost use Rattle.std.specs.Prelude.{◌≡◌, ◌≤◌, ◌<◌, ℕ, Some, None, true, is_some, IsTrue, IfOk, IfSome, IsErrOf, if◌then◌else◌};
+ghost use Rattle.std.specs.Prelude.{◌≡◌, ◌≤◌, ◌<◌, ◌+◌, ℕ, Some, None, true, is_some, IsTrue, IfOk, IfSome, IsErrOf, if◌then◌else◌};
 ghost use Rattle.ml_base.specs.Faults.{Rose};
 ghost use Rattle.ml_base.specs.ReadFiles.{AreKept};
 ghost use Rattle.ml_base.specs.Ranges as ranges;
 ghost use Rattle.ml_base.specs.declared.files.FilesError.TheVariants.{Fault};
 ghost use Rattle.ml_drawn.specs.Names.{thing_name};
-ghost use Rattle.ml_drawn.specs.Answers.{IsNextNumber, IsNextThere};
+ghost use Rattle.ml_drawn.specs.Answers.{IsNextNumber, IsNextThere, NoneThere};
 
 use crate::Series;
 use ml_base::{Bytes, Files, FilesError, LAST_DRAWN, is_drawn};
 use std::alloc::Global;
+
+// How many numbers are looked at one by one before the files are asked how far nothing is there.
+const STRIDE: u64 = 16;
 
 /// A file of a series.
 #[derive(Drop)]
@@ -55,8 +58,32 @@ pub fn is_there<F: Files>(
     files.has(alloc, series.name(n))
 }
 
+// The number to look at behind one under which nothing is, in a walk that began at another: the one after it, and at each 16th a number
+// below which the files know that nothing is there. So a small gap asks nothing of a whole folder, and a wide one takes few looks.
+fn number_behind<F: Files>(
+    alloc: Global,
+    files: &mut F,
+    series: Series,
+    from: u64,
+    number: u64,
+    end: u64,
+) -> Result<u64, FilesError>
+    requires { (from ≤ number) × (number < end) }
+    ensures range { IfOk result (λ n. (number < n) × (n ≤ end)) }
+    ensures value { IsTrue F.tells → IfOk result (NoneThere (F.map files.old) series (number + 1)) }
+    ensures are_kept { AreKept ⟦<F as Files>⟧ files.old files.new }
+    ensures cause { IsErrOf result Fault → Rose (F.faults files.old) (F.faults files.new) }
+{
+    let next = number + 1;
+    if (next - from) % STRIDE != 0 {
+        return Ok(next);
+    }
+    files.skip_absent(alloc, series.name(next).kind, next, end)
+}
+
 /// The first number from `from` on, below `next`, under which a file is there, or None where none is. It looks at one number after the
-/// other, and reads no file where the files can tell without that one is there.
+/// other, and leaves those out of which the files know that nothing is there. It reads no file where the files can tell without that one is
+/// there.
 pub fn next_number<F: Files>(
     alloc: Global,
     files: &mut F,
@@ -76,13 +103,13 @@ pub fn next_number<F: Files>(
         if is_there(alloc, files, series, number)? {
             return Ok(Some(number));
         }
-        number += 1;
+        number = number_behind(alloc, files, series, from, number, end)?;
     }
     Ok(None)
 }
 
 /// The first number from `from` on, below `next`, under which a file is there, with its bytes; or None where none is.
-/// It looks at one number after the other, and stops at the first file.
+/// It looks at one number after the other, leaves those out of which the files know that nothing is there, and stops at the first file.
 pub fn next_there<F: Files>(
     alloc: Global,
     files: &mut F,
@@ -102,7 +129,7 @@ pub fn next_there<F: Files>(
         if let Some(bytes) = file_of(alloc, files, series, number)? {
             return Ok(Some(Found { number, bytes }));
         }
-        number += 1;
+        number = number_behind(alloc, files, series, from, number, end)?;
     }
     Ok(None)
 }

@@ -1,8 +1,9 @@
 -- What a store keeps of its log, field by field.
-use Rattle.std.proofs.Common.{◌≡◌, ◌⊎◌, inl, inr, ◌<◌, ℕ, List, [], ◌∷◌, ◌++◌, length, take, get_or, Option, refl, sym, ◌∙◌, ap, subst, arith, length-append}
+use Rattle.std.proofs.Common.{◌≡◌, ◌⊎◌, inl, inr, ◌<◌, ℕ, List, [], ◌∷◌, ◌++◌, length, take, get_or, Option, ◌≤◌, Result, Ok, Err, IfOk, refl, sym, ◌∙◌, ap, subst, arith, length-append}
 use Rattle.std.proofs.lemmas.List.{length-take, take_at}
 use Rattle.ml_base.specs.Bytes.{Text}
 use Rattle.std.specs.Prelude.{IsSome, is_some}
+use Rattle.ml_base.specs.Absent.{NoneOf, NoEntryOf}
 use Rattle.ml_base.specs.Dir.{Dir, with_puts}
 use Rattle.ml_base.specs.declared.puts.Put.{Put}
 use Rattle.ml_journal.specs.Moments.{with_txn}
@@ -60,6 +61,14 @@ one_gate_rests log change is none = record { row = []; split = is; size = refl; 
 -- what a directory shows of a file, by the newest puts
 pub shown : (held : Contents) (end : ℕ) (puts : BTreeMap Name (Option Text)) (name : Name) → Rests held.log end (with_newest puts) → the_dir (directory held) name ≡ left_by (newest_of puts name) (held.files name)
 shown held end puts name rests = ap (λ (d : Option Dir). the_dir d name) (rests_counts held.log end (with_newest puts) rests held.files)
+
+-- a directory shows no file of a kind before a place before which no newest put is of one and none is held
+pub none_shown : {E : Type 0} (held : Contents) (end : ℕ) (puts : BTreeMap Name (Option Text)) (kind from last : ℕ) (result : Result ℕ E) → Rests held.log end (with_newest puts) → NoEntryOf puts kind from last
+    → IfOk result (λ at. (from ≤ at) × (at ≤ last)) → IfOk result (NoneOf held.files kind from) → IfOk result (NoneOf (the_dir (directory held)) kind from)
+none_shown held end puts kind from last (Ok n) rests named range none = λ at up below.
+    shown held end puts (record { kind = kind; at = at }) rests
+    ∙ ap (λ (found : Option (Option Text)). left_by found (held.files (record { kind = kind; at = at }))) (named at up (omega (arith, below, range.1))) ∙ none at up below
+none_shown held end puts kind from last (Err e) rests named range none = tt
 
 -- a store has a directory
 pub whole : (held : Contents) (end : ℕ) (change : Dir → Dir) → Rests held.log end change → IsSome (directory held)

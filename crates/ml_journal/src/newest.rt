@@ -1,12 +1,13 @@
 // The newest put of each file that a log names.
-ghost use Rattle.std.specs.Prelude.{◌≡◌, IsSome, IsTrue, OnOk, OnErr, option_map};
+ghost use Rattle.std.specs.Prelude.{◌≡◌, ◌≤◌, IsSome, IsTrue, OnOk, OnErr, option_map};
 ghost use Rattle.std.specs.Option.{option_copied};
+ghost use Rattle.ml_base.specs.Absent.{NoEntryOf};
 ghost use Rattle.ml_base.specs.Dir.{Dir, are_files, with_file, with_puts};
 ghost use Rattle.ml_base.specs.Name.{is_file};
 ghost use Rattle.ml_base.specs.declared.names.Name.{Name as TheName};
 ghost use Rattle.ml_journal.specs.Newest.{newest_of, with_newest, Sets};
 
-use ml_base::{Bytes, Name, Txn};
+use ml_base::{Bytes, Name, Txn, first_place};
 use std::alloc::{AllocError, Global};
 use std::collections::BTreeMap;
 
@@ -61,6 +62,15 @@ impl Newest {
             Some(bytes) => Some(bytes.as_ref()),
             None => None,
         }
+    }
+
+    /// The first place of a kind from one place on that a put is of, or `end` where none is of one before it.
+    pub(crate) fn first_place(&self, kind: u8, from: u64, end: u64) -> u64
+        requires { from ≤ end }
+        ensures range { (from ≤ result) × (result ≤ end) }
+        ensures none { NoEntryOf self.now.puts kind from result }
+    {
+        first_place(&self.puts, kind, from, end)
     }
 }
 

@@ -74,6 +74,17 @@ impl<F: Files> Files for Once<F> {
         }
     }
 
+    // A place that a walk over the files of a kind may go on at, as the files below have it.
+    fn skip_absent(
+        &mut self,
+        alloc: Global,
+        kind: u8,
+        from: u64,
+        end: u64,
+    ) -> Result<u64, FilesError> {
+        self.files.skip_absent(alloc, kind, from, end)
+    }
+
     ghost kept_self = { λ o. F.kept_self o.files };
 
     ghost kept_then = { λ a b c first then. F.kept_then a.files b.files c.files first then };

@@ -1,8 +1,11 @@
 // The folder of a list: its log and its files.
+ghost use Rattle.std.specs.Prelude.{◌≤◌, IfOk};
+
 use crate::changes::Changes;
 use crate::descriptors::{
     lacks_descriptor, length_of, make_folder, open_folder, open_to_read, open_to_write, remove_file,
 };
+use crate::listing::Listing;
 use crate::log::LOG;
 use crate::places::{Paths, Place, depth_of};
 use memchr::memchr_iter;
@@ -26,6 +29,8 @@ pub(crate) struct Folder<'a> {
     // The file that was last looked for and not there: each item of a stream asks for the floor, which most lists haven't. The
     // lock keeps others from making it.
     absent: Option<Name>,
+    // The last folder that was listed, as long as no file of it was changed: a walk over its files lists it once.
+    listing: Option<Listing>,
     changes: Changes,
 }
 
@@ -39,6 +44,7 @@ impl<'a> Folder<'a> {
             lock: None,
             log: None,
             absent: None,
+            listing: None,
             changes: Changes::new(rt.alloc()),
         }
     }
@@ -170,10 +176,47 @@ impl<'a> Folder<'a> {
         Ok(there)
     }
 
+    /// The first place from one on that the folder of a kind has an entry of, or `end` where it has none of one before that. Nothing is
+    /// left out of a kind whose files aren't drawn.
+    pub fn skip(&mut self, kind: u8, from: u64, end: u64) -> io::Result<u64>
+        requires { from ≤ end }
+        ensures { IfOk result (λ at. (from ≤ at) × (at ≤ end)) }
+    {
+        if from == end || !matches!(kind, 13 | 17) {
+            return Ok(from);
+        }
+        self.ready()?;
+        if !self.is_listed(kind) {
+            let folder = Place::toward(Name { kind, at: from }, 1);
+            self.listing = None;
+            self.listing = Some(Listing::read(self.rt, kind, self.paths.folder(folder)?)?);
+        }
+        match &self.listing {
+            Some(listing) => Ok(listing.first(from, end)),
+            None => Ok(from),
+        }
+    }
+
+    // Whether the last folder that was listed is that of a kind.
+    fn is_listed(&self, kind: u8) -> bool {
+        match &self.listing {
+            Some(listing) => listing.is_of(kind),
+            None => false,
+        }
+    }
+
+    // Forgets what was listed of a kind's folder, before one of its files is changed.
+    fn forget_listed(&mut self, kind: u8) {
+        if self.is_listed(kind) {
+            self.listing = None;
+        }
+    }
+
     /// Gives a file these bytes. What is to be synced is noted first, so that want of memory writes nothing.
     pub fn write(&mut self, name: Name, bytes: &[u8]) -> io::Result<()> {
         self.ready()?;
         self.absent = None;
+        self.forget_listed(name.kind);
         if let Some(file) = self.changes.kept_file(name) {
             let written = write_whole(&file, u64::MAX, bytes);
             self.changes.keep_file(name, file);
@@ -232,6 +275,7 @@ impl<'a> Folder<'a> {
     /// Removes a file. It is no error where none is there.
     pub fn remove(&mut self, name: Name) -> io::Result<()> {
         self.ready()?;
+        self.forget_listed(name.kind);
         self.changes.note_entry(name)?;
         remove_file(self.rt, self.paths.file(name)?)?;
         self.changes.forget_file(name);

@@ -6,6 +6,7 @@ mod changes;
 mod clock;
 mod descriptors;
 mod folder;
+mod listing;
 mod log;
 mod places;
 mod site;

@@ -1,5 +1,5 @@
 // The folder of a list and the standard output, as a site.
-ghost use Rattle.std.specs.Prelude.{◌≡◌, ◌≤◌, [], false};
+ghost use Rattle.std.specs.Prelude.{◌≡◌, ◌≤◌, ◌+◌, [], false};
 ghost use Rattle.ml_site.specs.Disk.{nothing, untold};
 ghost use Rattle.ml_base.specs.Faults.{Rose, next_call};
 ghost use Rattle.ml_site.specs.declared.site.SiteError.TheVariants.{Failed as FailedCall};
@@ -55,7 +55,9 @@ impl<'a> RealSite<'a> {
 
 // Counts a call on the disk.
 fn count_call(calls: &mut u64)
-    ensures { calls.new ≡ next_call calls.old }
+    ensures counted { calls.new ≡ next_call calls.old }
+    ensures later { calls.old ≤ calls.new }
+    ensures once { calls.new ≤ calls.old + 1 }
 {
     *calls = calls.saturating_add(1);
 }
@@ -140,6 +142,20 @@ impl<'a> Site for RealSite<'a> {
         count_call(&mut self.disk_calls);
         match self.folder.has(name) {
             Ok(there) => Ok(there),
+            Err(error) => Err(site_error(error, &mut self.disk_faults)),
+        }
+    }
+
+    fn skip_files(
+        &mut self,
+        _alloc: Global,
+        kind: u8,
+        from: u64,
+        end: u64,
+    ) -> Result<u64, SiteError> {
+        count_call(&mut self.disk_calls);
+        match self.folder.skip(kind, from, end) {
+            Ok(at) => Ok(at),
             Err(error) => Err(site_error(error, &mut self.disk_faults)),
         }
     }

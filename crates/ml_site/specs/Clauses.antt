@@ -1,5 +1,5 @@
 -- What the calls of a site have in common. The members of the trait are passed to each record.
-use Rattle.std.specs.Prelude.{◌≡◌, ◌≤◌, ℕ, Bool, IsTrue, List, Result}
+use Rattle.std.specs.Prelude.{◌≡◌, ◌≤◌, ◌+◌, ℕ, Bool, IsTrue, List, Result}
 use Rattle.ml_base.specs.Faults.{next_call}
 use Rattle.ml_site.specs.Disk.{Contents, Part, Disk, Changes, Pends, Now, Elapses}
 
@@ -20,6 +20,16 @@ pub record OnDisk {S : Type 0} (told : Bool) (disk_of : S → Disk) (output_of :
   pub faults : faults_of old ≤ faults_of new
   pub others : others_of new ≡ others_of old
   pub calls : calls_of new ≡ next_call (calls_of old)
+
+-- What a call does beside that looks at the disk once at most: it puts nothing out, and a crash in its course leaves what one before it or
+-- behind it may.
+pub record LooksOnce {S : Type 0} (told : Bool) (disk_of : S → Disk) (output_of : S → List ℕ) (moment_of : S → ℕ) (left_of : S → ℕ → Contents → List ℕ → Type 0) (faults_of others_of calls_of : S → ℕ) (old new : S) : Type 0 where
+  pub output : IsTrue told → output_of new ≡ output_of old
+  pub time : IsTrue told → Elapses (moment_of old) (moment_of new) (left_of old) (left_of new) (Now (disk_of new) (output_of new))
+  pub faults : faults_of old ≤ faults_of new
+  pub others : others_of new ≡ others_of old
+  pub calls : calls_of old ≤ calls_of new
+  pub once : calls_of new ≤ calls_of old + 1
 
 -- neither a sync nor bytes for the log were counted
 pub record SameNumbers {S : Type 0} (told : Bool) (syncs_of log_bytes_of : S → ℕ) (old new : S) : Type 0 where

@@ -1,9 +1,10 @@
 // A disk and an output, as the program sees them.
 ghost use Rattle.std.specs.Prelude.{◌≡◌, ◌≤◌, ◌+◌, ◌++◌, ℕ, Bool, List, Option, Some, None, IsTrue, length, take, IfOk, OnOk, OnErr, IsErrOf, is_some};
+ghost use Rattle.ml_base.specs.Absent.{NoneOf};
 ghost use Rattle.ml_base.specs.Name.{is_file};
 ghost use Rattle.ml_base.specs.declared.names.Name.{Name};
 ghost use Rattle.ml_site.specs.declared.site.SiteError.TheVariants.{Memory, Failed as FailedCall};
-ghost use Rattle.ml_site.specs.Clauses.{SameDisk, ChangesPart, OnDisk, SameNumbers};
+ghost use Rattle.ml_site.specs.Clauses.{SameDisk, ChangesPart, OnDisk, LooksOnce, SameNumbers};
 ghost use Rattle.ml_site.specs.Disk.{Contents, Disk, Range, Cut, File, IsImage, Now, Giving, Elapses, IsAtRest, log_with, log_cut, file_with};
 ghost use Rattle.ml_base.specs.Faults.{Rose};
 
@@ -134,6 +135,20 @@ pub trait Site {
             Ok(found) => Ok(found.is_some()),
             Err(error) => Err(error),
         }
+    }
+
+    /// A place from `from` on and at most `end` that a walk over the files of a kind may go on at: no file of the kind is at a place from
+    /// `from` on and before it. Where a type can tell more without a look at each place, it has a body of its own; `from` says nothing.
+    fn skip_files(&mut self, alloc: Global, kind: u8, from: u64, end: u64) -> Result<u64, SiteError>
+        requires { from ≤ end }
+        ensures range { IfOk result (λ at. (from ≤ at) × (at ≤ end)) }
+        ensures none { IsTrue tells_reads → IfOk result (NoneOf (disk self.old).reads.files kind from) }
+        ensures same { SameDisk tells_reads tells_all disk self.old self.new }
+        ensures keeps { LooksOnce tells_all disk output moment left_since disk_faults output_faults disk_calls self.old self.new }
+        ensures numbers { SameNumbers tells_all syncs log_bytes self.old self.new }
+        ensures cause { IsErrOf result FailedCall → Rose (disk_faults self.old) (disk_faults self.new) }
+    {
+        Ok(from)
     }
 
     /// Gives a file other than the log these bytes, in place of any that it had.

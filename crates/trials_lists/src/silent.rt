@@ -25,6 +25,16 @@ impl Files for Silent {
         self.files.get(alloc, name)
     }
 
+    fn skip_absent(
+        &mut self,
+        alloc: Global,
+        kind: u8,
+        from: u64,
+        end: u64,
+    ) -> Result<u64, FilesError> {
+        self.files.skip_absent(alloc, kind, from, end)
+    }
+
     ghost kept_self = { λ s. map_kept_self s.files };
 
     ghost kept_then = { λ a b c one two. map_kept_then a.files b.files c.files one two };

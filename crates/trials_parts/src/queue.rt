@@ -331,6 +331,24 @@ const CASES: &[Case] = &[
         calls: &[(Call::Sent(1), Of(b"100002:100003\n"))],
     },
     Case {
+        title: "the next entry stands behind the widest gap",
+        files: &[
+            (IDS, Of(b"1:1000000000000001\n")),
+            (FIRST, Of(POST)),
+            (LAST, Of(REPLY)),
+        ],
+        changes: UNCHANGED,
+        failing: NONE,
+        calls: &[
+            (Call::Ids, Of(b"1\n1000000000000000\n")),
+            (
+                Call::Sent(1),
+                Of(b"1000000000000000:1000000000000001\n"),
+            ),
+            (Call::Ids, Of(b"1000000000000000\n")),
+        ],
+    },
+    Case {
         title: "the entry of the last id",
         files: &[
             (IDS, Of(b"1000000000000000:1000000000000001\n")),

@@ -5,7 +5,7 @@ use ml_site::{Clock, Source};
 use std::test::Fail;
 use std::{fs, str};
 
-static STEPS: [(Step, &str); 391] = [
+static STEPS: [(Step, &str); 421] = [
     (Step::Row("files are found by the next run"), "ok"),
     (Step::Run("real/list"), "ok"),
     (Step::Read(1, 0), "none"),
@@ -461,6 +461,45 @@ static STEPS: [(Step, &str); 391] = [
     (Step::Sync, "ok"),
     (Step::Remove(19, 0), "ok"),
     (Step::Sync, "failed"),
+    (
+        Step::Row("where a walk over a folder's numbers goes on"),
+        "ok",
+    ),
+    (Step::Run("real/list"), "ok"),
+    (Step::Skip(17, 1, 100), "100"),
+    (Step::Write(17, 20, "one"), "ok"),
+    (Step::Write(17, 1_000_000_000_000_000, "the last"), "ok"),
+    (Step::MakeFile("real/list/queue/007", ""), "ok"),
+    (Step::MakeFile("real/list/queue/+8", ""), "ok"),
+    (Step::MakeFile("real/list/queue/9a", ""), "ok"),
+    (Step::MakeFile("real/list/queue/0", ""), "ok"),
+    (Step::MakeFile("real/list/queue/1000000000000001", ""), "ok"),
+    (Step::MakeFolder("real/list/queue/ten"), "ok"),
+    (Step::Skip(17, 1, 1_000_000_000_000_001), "20"),
+    (Step::Skip(17, 20, 30), "20"),
+    (Step::Skip(17, 21, 30), "30"),
+    (Step::Skip(17, 21, 21), "21"),
+    (
+        Step::Skip(17, 21, 1_000_000_000_000_001),
+        "1000000000000000",
+    ),
+    (
+        Step::Skip(17, 1_000_000_000_000_000, 1_000_000_000_000_001),
+        "1000000000000000",
+    ),
+    (Step::Skip(13, 1, 30), "30"),
+    (Step::Skip(17, 1, 30), "20"),
+    (Step::Write(17, 5, "an earlier one"), "ok"),
+    (Step::Skip(17, 1, 30), "5"),
+    (Step::Remove(17, 5), "ok"),
+    (Step::Skip(17, 1, 30), "20"),
+    (Step::Skip(9, 7, 30), "7"),
+    (Step::Failures, "0"),
+    (Step::MakeFile("real/list/pending", ""), "ok"),
+    (Step::Skip(13, 1, 30), "failed"),
+    (Step::Failures, "1"),
+    (Step::RemoveLink("real/list/pending"), "ok"),
+    (Step::Skip(13, 1, 30), "30"),
 ];
 
 #[test]

@@ -40,6 +40,8 @@ pub(crate) enum Step {
     // All files of a kind from a place on and before another.
     WriteAll(u8, u64, u64, &'static str),
     Remove(u8, u64),
+    // The place of a kind that a walk from one place on and before another may go on at.
+    Skip(u8, u64, u64),
     // How many of its calls have failed.
     Failures,
 }
@@ -165,6 +167,7 @@ fn call_on_file(alloc: Global, site: &mut RealSite<'_>, step: Step) -> Result<By
             }
         }
         Step::Remove(kind, at) => remove(alloc, site, Name { kind, at })?,
+        Step::Skip(kind, from, end) => return skip(alloc, site, kind, from, end),
         _ => return Ok(Bytes::from_slice(alloc, b"no call")?),
     }
     Ok(Bytes::from_slice(alloc, b"ok")?)
@@ -199,4 +202,19 @@ fn remove(alloc: Global, site: &mut RealSite<'_>, name: Name) -> Result<(), Site
         return Err(SiteError::Memory);
     }
     site.remove_file(alloc, name)
+}
+
+fn skip(
+    alloc: Global,
+    site: &mut RealSite<'_>,
+    kind: u8,
+    from: u64,
+    end: u64,
+) -> Result<Bytes, SiteError> {
+    if from > end {
+        return Ok(Bytes::from_slice(alloc, b"no range")?);
+    }
+    let at = site.skip_files(alloc, kind, from, end)?;
+    let text = format!(in alloc; "{at}")?;
+    Ok(Bytes::from_slice(alloc, text.as_bytes())?)
 }
