@@ -1,5 +1,5 @@
 -- Which damaged files are the archive's, and for what they are.
-use Rattle.std.proofs.Common.{◌≡◌, ◌∙◌, ⊎_elim, inl, inr, ℕ, true, false, ◌==◌, ◌<◌, nat_lt, List, IsTrue, IfErr, Result, refl, sym, ap, subst}
+use Rattle.std.proofs.Common.{◌≡◌, ◌/◌, ◌∙◌, ⊎_elim, inl, inr, ℕ, true, false, ◌==◌, ◌<◌, nat_lt, List, IsTrue, IfErr, Result, refl, sym, ap, subst}
 use Rattle.std.proofs.lemmas.Bool.{and_parts, eqb-true, false≢true, or_cases}
 use Rattle.ml_base.specs.Address.{key}
 use Rattle.ml_base.specs.Bytes.{Text}
@@ -32,7 +32,7 @@ use Rattle.ml_acts.specs.Damaged as damage
 use Rattle.ml_acts.specs.Doing.{is_bucket, is_bucket_of, is_entry_of, is_mailed_by}
 use Rattle.ml_acts.specs.Growing.{is_of_time}
 use Rattle.ml_acts.proofs.Damages.{err_all, none_damaged}
-use Rattle.ml_acts.proofs.Spelled.{counted_so, for_post, no_number}
+use Rattle.ml_acts.proofs.Spelled.{counted_so, for_post, index_so, no_number}
 
 -- files of sets and ledgers are none of the archive's
 bucket_is : (set : Set) (n : ℕ) → is_of_archive (bucket_name set n) ≡ false
@@ -94,7 +94,9 @@ asked_as dir few more name f bad = record { damaged = bad.damaged; own = λ of. 
 
 -- the posts behind the mark, where the mark and the archive are what they were
 pub undigested_before : (later dir : Dir) → ((name : Name) → is_of_time name ≡ false → later name ≡ dir name) → later mark_name ≡ dir mark_name → (name : Name) → IsBadFor later Undigested name → IsBadFor dir Undigested name
-undigested_before later dir same marked name (inl bad) = inl (bad.0, no_number later dir same bad.1)
+undigested_before later dir same marked name (inl (e, inl none)) = inl (e, inl (no_number later dir same none))
+undigested_before later dir same marked name (inl (e, inr (count, counted, entries, index, above))) =
+    inl (e, inr (count, counted_so later dir same count counted, entries, index_so later dir same (count / 100) entries index, above))
 undigested_before later dir same marked name (inr (mark, is, count, counted, post)) =
     inr (mark, record { last = is.last; issue = is.issue; text = sym marked ∙ is.text }, count, counted_so later dir same count counted, (post.0, post.1, post.2, for_post later dir same post.0 name post.3))
 

@@ -1,13 +1,14 @@
 -- What acts ask of the archive, and which of its files are damaged for that.
-use Rattle.std.specs.Prelude.{◌≡◌, ◌+◌, ◌≤◌, ◌⊎◌, ℕ, true, List}
-use Rattle.std.specs.List.{IsAmong}
+use Rattle.std.specs.Prelude.{◌≡◌, ◌+◌, ◌/◌, ◌≤◌, ◌⊎◌, ℕ, Bool, true, nat_lt, List}
+use Rattle.std.specs.List.{IsAmong, list_any}
 use Rattle.ml_base.specs.Bytes.{Text}
 use Rattle.ml_base.specs.Dir.{Dir}
 use Rattle.ml_base.specs.declared.names.Name.{Name}
 use Rattle.ml_archive.specs.Answers.{IsBadForAppend, IsBadForPost, IsBadForRange, IsBadForThread, IsNoIndex, IsNoNumber, IsRangeByFiles, IsThreadAnswer}
-use Rattle.ml_archive.specs.Archive.{IsNumberFile, index_name, number_name}
+use Rattle.ml_archive.specs.Archive.{IsIndexFile, IsNumberFile, index_name, number_name}
 use Rattle.ml_archive.specs.Reads.{IsOfNext, IsOfThread}
 use Rattle.ml_archive.specs.Threads.{is_of_archive}
+use Rattle.ml_archive.specs.declared.posts.Entry.{Entry}
 use Rattle.ml_digest.specs.Due.{IsMark}
 use Rattle.ml_digest.specs.declared.posts.Mark.{Mark}
 use Rattle.ml_acts.specs.Damaged.{IsDamaged}
@@ -37,16 +38,24 @@ IsBadWithin dir a b name = (n : ℕ) × (a ≤ n) × (n ≤ b) × IsBadForPost d
 abbrev pub IsBadBehind : Dir → Name → Type 0
 IsBadBehind dir name = (mark : Mark) × IsMark dir mark × (count : ℕ) × IsNumberFile (dir number_name) count × IsBadWithin dir (mark.last + 1) count name
 
+-- whether an entry is of a post above a number
+abbrev pub has_above : ℕ → List Entry → Bool
+has_above n entries = list_any (λ e. nat_lt n e.number) entries
+
+-- the number of posts is too small: the index of the last one's group has an entry above it
+abbrev pub IsTooSmall : Dir → Type 0
+IsTooSmall dir = (count : ℕ) × IsNumberFile (dir number_name) count × (entries : List Entry) × IsIndexFile (count / 100) (dir (index_name (count / 100))) entries × (has_above count entries ≡ true)
+
 -- A file of the archive that is damaged for what is asked: the number of posts, outside its grammar; a range, or one of the posts that it
 -- answers; the one index; the thread, or one of the posts that it answers; what a new post of the key is put behind or into; and the number of
--- posts, or one of those behind the mark.
+-- posts, outside its grammar or too small, or one of those behind the mark.
 abbrev pub IsBadFor : Dir → Asked → Name → Type 0
 IsBadFor dir Count name = (name ≡ number_name) × IsNoNumber dir
 IsBadFor dir (Range a b) name = IsBadForRange dir a b name ⊎ ((row : List ℕ) × IsRangeByFiles dir a b row × IsBadAmong dir row name)
 IsBadFor dir (Group g) name = (name ≡ index_name g) × IsNoIndex dir g
 IsBadFor dir (ThreadOf prefix n) name = IsOfThread dir prefix n name × (IsBadForThread dir prefix n name ⊎ ((row : List ℕ) × IsThreadAnswer dir prefix n row × IsBadAmong dir row name))
 IsBadFor dir (Next key) name = IsOfNext dir key name × IsBadForAppend dir name
-IsBadFor dir Undigested name = ((name ≡ number_name) × IsNoNumber dir) ⊎ IsBadBehind dir name
+IsBadFor dir Undigested name = ((name ≡ number_name) × (IsNoNumber dir ⊎ IsTooSmall dir)) ⊎ IsBadBehind dir name
 
 -- a damaged file: one of the archive is damaged for what is asked of it, and no other
 pub record IsDamagedOf (dir : Dir) (asked : Asked) (name : Name) : Type 0 where

@@ -39,7 +39,7 @@ whole_counted dir prefix posts is = record {
   threaded = record {
     threads = (is.threaded).threads;
     files = (is.threaded).files;
-    with_numbers = (is.threaded).joined;
+    joined = (is.threaded).joined;
   };
 }
   where
@@ -174,7 +174,7 @@ module _ (dir : Dir) (prefix : Text) (count : ℕ) (are : ArePosted dir count) (
       threaded = record {
         threads = λ n. file_at n (cases_lt n 256);
         files = λ n less. there n (cases_lt n 256) less;
-        with_numbers = λ k. under (thread_place k) (cases_lt (thread_place k) 256) k (omega arith) refl;
+        joined = λ k. under (thread_place k) (cases_lt (thread_place k) 256) k (omega arith) refl;
       };
     },
   )

@@ -109,8 +109,14 @@ impl Name {
     /// The kind of the indexes of posts.
     pub const INDEX: u8 = 10;
 
+    /// The kind of held posts.
+    pub const HELD: u8 = 13;
+
     /// The kind of the buckets of the bounces of digests.
     pub const DIGEST_BOUNCES: u8 = 16;
+
+    /// The kind of queue entries.
+    pub const ENTRY: u8 = 17;
 
     /// The kind of the files of threads.
     pub const THREADS: u8 = 20;

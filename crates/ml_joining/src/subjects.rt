@@ -15,7 +15,7 @@ ghost use Rattle.ml_acts.specs.Damaged.{IsDamaged};
 ghost use Rattle.ml_joining.specs.Operations.{IsSubject, asked_of};
 
 use ml_address::Who;
-use ml_base::{Address, Bytes, Files, PartError, Set};
+use ml_base::{Address, AddressError, Bytes, Files, PartError, Set};
 use ml_subs::{find, member};
 use std::alloc::{AllocError, Global};
 
@@ -37,7 +37,8 @@ fn named(alloc: Global, who: Who<'_>) -> Result<Address, AllocError>
     text.extend(who.host)?;
     match Address::parse(alloc, text.as_slice()) {
         Ok(address) => Ok(address),
-        Err(_) => Err(AllocError),
+        Err(AddressError::Memory) => Err(AllocError),
+        Err(AddressError::Fault(_)) => unreachable!(),
     }
 }
 

@@ -182,7 +182,7 @@ impl<'a> Folder<'a> {
         requires { from ≤ end }
         ensures { IfOk result (λ at. (from ≤ at) × (at ≤ end)) }
     {
-        if from == end || !matches!(kind, 13 | 17) {
+        if from == end || !matches!(kind, Name::HELD | Name::ENTRY) {
             return Ok(from);
         }
         self.ready()?;

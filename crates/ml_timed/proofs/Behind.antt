@@ -11,7 +11,7 @@ use Rattle.ml_archive.specs.declared.posts.Post.{Post}
 use Rattle.ml_plain.specs.Timing.{moment_of_first}
 use Rattle.ml_timed.specs.Waiting.{moment_behind, sizes_behind}
 
-abbrev in_group : ℕ → Numbered → Bool
+abbrev pub in_group : ℕ → Numbered → Bool
 in_group g e = (e.0 / 100) == g
 
 abbrev after : ℕ → Numbered → Bool

@@ -6,4 +6,5 @@ mod Issued
 mod Posted
 mod Runs
 mod Within
+mod Counted
 pub mod Short

@@ -16,22 +16,20 @@ use Rattle.ml_digest.specs.declared.posts.Mark.{Mark}
 use Rattle.ml_following.specs.Reads.{is_followed_by, is_ledger, is_of_following}
 use Rattle.ml_hold.specs.Answers.{tickets_name}
 use Rattle.ml_queue.specs.Answers.{ids_name}
-use Rattle.ml_acts.specs.Asked.{Group, IsDamagedOf, Undigested}
+use Rattle.ml_acts.specs.Asked.{IsDamagedOf, Undigested}
 use Rattle.ml_acts.specs.Doing.{is_bucket, is_held_post}
 use Rattle.ml_acts.proofs.Asked.{buckets_other, ids_other, kind_other, same_other}
-use Rattle.ml_timed.specs.Digesting.{IsDamagedWithin}
+use Rattle.ml_timed.specs.Digesting.{IsDamagedBehind, IsDamagedGroup, IsDamagedWithin}
 use Rattle.ml_timed.specs.Reads.{is_of_giving_back, is_of_issue, is_waiting}
 
 pub hundred : (g : ℕ) → (100 * g) / 100 ≡ g
 hundred g = omega arith
 
 -- the index of a group, for one of its posts
-pub group_within : (dir : Dir) (a b g n : ℕ) (name : Name) → a ≤ n → n ≤ b → n / 100 ≡ g → IsDamagedOf dir (Group g) name → IsDamagedWithin dir a b name
-group_within dir a b g n name low high is bad = record {
+pub group_behind : (dir : Dir) (last count g n : ℕ) (name : Name) → last + 1 ≤ n → n ≤ count → n / 100 ≡ g → IsDamagedGroup dir g count name → IsDamagedBehind dir last count name
+group_behind dir last count g n name low high is bad = record {
   damaged = bad.damaged;
-  own = λ of.
-      let own = bad.own of in
-      (n, low, high, inr (own.0 ∙ ap index_name (sym is), inl (subst (λ (k : ℕ). IsNoIndex dir k) (sym is) own.1)));
+  own = λ of. ⊎_elim (λ own. inl (n, low, high, inr (own.0 ∙ ap index_name (sym is), inl (subst (λ (k : ℕ). IsNoIndex dir k) (sym is) own.1)))) (λ small. inr small) (bad.own of);
 }
 
 -- one of more posts
@@ -55,6 +53,12 @@ within_undigested dir mark count a b name is counted from to bad = record {
       let low = own.1 in
       let high = own.2 in
       inr (mark, is, count, counted, (n, omega (arith, from, low), omega (arith, high, to), own.3));
+}
+
+pub behind_undigested : (dir : Dir) (mark : Mark) (count : ℕ) (name : Name) → IsMark dir mark → IsNumberFile (dir number_name) count → IsDamagedBehind dir mark.last count name → IsDamagedOf dir Undigested name
+behind_undigested dir mark count name is counted bad = record {
+  damaged = bad.damaged;
+  own = λ of. ⊎_elim (λ within. inr (mark, is, count, counted, within)) (λ small. inl (small.0, inr small.1)) (bad.own of);
 }
 
 -- what the other parts of a run read is none of the archive

@@ -1,9 +1,12 @@
 -- Which damaged files the making of a digest names.
-use Rattle.std.specs.Prelude.{◌≡◌, ◌≤◌, ◌/◌, ℕ, true}
+use Rattle.std.specs.Prelude.{◌≡◌, ◌<◌, ◌≤◌, ◌+◌, ◌/◌, ◌⊎◌, ℕ, true}
 use Rattle.ml_base.specs.Dir.{Dir}
 use Rattle.ml_base.specs.declared.names.Name.{Name}
+use Rattle.ml_archive.specs.Archive.{IsNumberFile, number_name}
 use Rattle.ml_archive.specs.Threads.{is_of_archive}
-use Rattle.ml_acts.specs.Asked.{Group, IsBadFor, IsBadWithin, IsDamagedOf, Undigested}
+use Rattle.ml_digest.specs.Due.{IsMark}
+use Rattle.ml_digest.specs.declared.posts.Mark.{Mark}
+use Rattle.ml_acts.specs.Asked.{Group, IsBadFor, IsBadWithin, IsTooSmall, Undigested}
 use Rattle.ml_acts.specs.Damaged.{IsDamaged}
 
 -- a damaged file: one of the archive is damaged for one of the posts a to b
@@ -11,9 +14,16 @@ pub record IsDamagedWithin (dir : Dir) (a b : ℕ) (name : Name) : Type 0 where
   pub damaged : IsDamaged dir name
   pub own : is_of_archive name ≡ true → IsBadWithin dir a b name
 
--- the index of a group, outside its grammar, of so many posts
+-- a damaged file: one of the archive is damaged for one of the posts behind a number, of so many, or it is the number of posts, which is too
+-- small
+pub record IsDamagedBehind (dir : Dir) (last count : ℕ) (name : Name) : Type 0 where
+  pub damaged : IsDamaged dir name
+  pub own : is_of_archive name ≡ true → IsBadWithin dir (last + 1) count name ⊎ ((name ≡ number_name) × IsTooSmall dir)
+
+-- a damaged file: one of the archive is the index of a group, of so many posts, outside its grammar, or the number of posts, which is too small
 pub record IsDamagedGroup (dir : Dir) (group count : ℕ) (name : Name) : Type 0 where
-  pub damaged : IsDamagedOf dir (Group group) name
+  pub damaged : IsDamaged dir name
+  pub own : is_of_archive name ≡ true → IsBadFor dir (Group group) name ⊎ ((name ≡ number_name) × IsTooSmall dir)
   pub few : group ≤ count / 100
 
 -- A file that is damaged behind what a run laid over the files. One of the archive, which the run leaves as it was, is damaged for the posts that
@@ -21,3 +31,7 @@ pub record IsDamagedGroup (dir : Dir) (group count : ℕ) (name : Name) : Type 0
 pub record IsDamagedInRun (before now : Dir) (name : Name) : Type 0 where
   pub damaged : IsDamaged now name
   pub own : is_of_archive name ≡ true → IsBadFor before Undigested name
+
+-- The number of posts isn't too small where a digest reads the index of its group: posts wait from that group or the one before it on.
+abbrev pub AgreesIfRead : Dir → Type 0
+AgreesIfRead dir = (mark : Mark) (count : ℕ) → IsMark dir mark → IsNumberFile (dir number_name) count → mark.last < count → count / 100 ≤ (mark.last + 1) / 100 + 1 → ¬ IsTooSmall dir

@@ -1,12 +1,15 @@
 // The posts that are in no digest yet, as the indexes tell of them.
 ghost use Rattle.std.specs.Option.{option_copied};
-ghost use Rattle.std.specs.Prelude.{◌≡◌, find, nat_lt, ◌<◌, ◌≤◌, ◌+◌, ◌++◌, true, take, drop, map, length, IsTrue, IfOk, OnOk};
+ghost use Rattle.std.specs.Prelude.{◌≡◌, find, nat_lt, ◌<◌, ◌≤◌, ◌+◌, ◌/◌, ◌++◌, true, take, drop, map, length, IsTrue, IfOk, OnOk};
 ghost use Rattle.ml_base.specs.ReadFiles.{IsReading, NamesDamaged};
+ghost use Rattle.ml_archive.specs.Archive.{IsNumberFile, number_name};
 ghost use Rattle.ml_archive.specs.Posts as archive;
 ghost use Rattle.ml_plain.specs.Directory.{IsList};
 ghost use Rattle.ml_plain.specs.Plain.{Plain};
 ghost use Rattle.ml_plain.specs.Timing.{moment_of_first};
-ghost use Rattle.ml_timed.specs.Digesting.{IsDamagedGroup, IsDamagedWithin};
+ghost use Rattle.ml_acts.specs.Asked.{IsTooSmall};
+ghost use Rattle.ml_acts.specs.Asked as asked;
+ghost use Rattle.ml_timed.specs.Digesting.{IsDamagedBehind, IsDamagedGroup};
 ghost use Rattle.ml_timed.specs.Reads.{is_of_posts_told};
 ghost use Rattle.ml_timed.specs.Waiting.{is_short, moment_behind, sizes_behind};
 ghost use Rattle.ml_timed.specs.Waiting as waiting;
@@ -34,10 +37,12 @@ pub(crate) fn posts_behind<F: Files>(
 ) -> Result<Undigested, PartError>
     requires some { last < count }
     requires few { count ≤ 99_999_999 }
+    requires counted { IsTrue F.tells → IsNumberFile (F.map files.now number_name) count }
     ensures sizes { IsTrue F.tells → IfOk result (λ found. (p : Plain) → IsList (F.map files.old) p → count ≡ length p.posts → take 100 found.sizes ≡ take 100 (map (λ post. length post.bytes) (drop last p.posts))) }
     ensures oldest { IsTrue F.tells → IfOk result (λ found. (p : Plain) → IsList (F.map files.old) p → count ≡ length p.posts → found.oldest ≡ moment_of_first (drop last p.posts)) }
     ensures short { IfOk result (λ found. list_all is_short found.sizes ≡ true) }
-    ensures names { NamesDamaged ⟦<F as Files>⟧ (λ name. is_of_posts_told name ≡ true) (IsDamagedWithin (F.map files.old) (last + 1) count) result }
+    ensures agrees { IsTrue F.tells → IfOk result (λ _. count / 100 ≤ (last + 1) / 100 + 1 → ¬ IsTooSmall (F.map files.old)) }
+    ensures names { NamesDamaged ⟦<F as Files>⟧ (λ name. is_of_posts_told name ≡ true) (IsDamagedBehind (F.map files.old) last count) result }
     ensures reads { IsReading ⟦<F as Files>⟧ files.old files.new result }
 {
     let group = (last + 1) / 100;
@@ -52,16 +57,19 @@ pub(crate) fn posts_behind<F: Files>(
     })
 }
 
-// The index of a group, of so many posts. It reads none behind the group of the last one.
+// The index of a group, of so many posts. It reads none behind the group of the last one. Where it has an entry above their number, that is
+// too small.
 fn group_of<F: Files>(
     alloc: Global,
     files: &mut F,
     group: u64,
     count: u64,
 ) -> Result<Entries, PartError>
-    requires { count ≤ 99_999_999 }
+    requires few { count ≤ 99_999_999 }
+    requires counted { IsTrue F.tells → IsNumberFile (F.map files.now number_name) count }
     ensures value { IsTrue F.tells → IfOk result (λ entries. (p : Plain) → IsList (F.map files.old) p → count ≡ length p.posts → entries ≡ archive.index_of group p.posts) }
     ensures short { IfOk result (λ entries. waiting.are_short entries ≡ true) }
+    ensures agrees { IsTrue F.tells → IfOk result (λ _. group ≡ count / 100 → ¬ IsTooSmall (F.map files.old)) }
     ensures names { NamesDamaged ⟦<F as Files>⟧ (λ name. is_of_posts_told name ≡ true) (IsDamagedGroup (F.map files.old) group count) result }
     ensures reads { IsReading ⟦<F as Files>⟧ files.old files.new result }
 {
@@ -72,6 +80,9 @@ fn group_of<F: Files>(
     if !are_short(entries.as_slice()) {
         return Err(PartError::Damaged(Name::index(group)));
     }
+    if has_above(entries.as_slice(), count) {
+        return Err(PartError::Damaged(Name::NUMBER));
+    }
     Ok(entries)
 }
 
@@ -80,6 +91,13 @@ fn are_short(entries: &[Entry]) -> bool
     ensures { result ≡ waiting.are_short entries.now }
 {
     entries.iter().all(|entry| entry.size <= LONGEST_POST)
+}
+
+// Whether an entry is of a post above a number.
+fn has_above(entries: &[Entry], number: u64) -> bool
+    ensures { result ≡ asked.has_above number entries.now }
+{
+    entries.iter().any(|entry| entry.number > number)
 }
 
 // Adds the sizes of the posts of an index behind a number.

@@ -21,3 +21,6 @@ pub due-requires-clause-each : goal.due-requires-clause-each
 due-requires-clause-each g c =
     short_at c.front-sizes.result.now
     (ap (list_all is_short) c.front-sizes.ensures.cut ∙ short_taken (min (c.args.count - c.args.mark.now.last) 100) c.as_slice.result.now (ap (list_all is_short) c.as_slice.ensures ∙ c.in_ok-found.ensures.short))
+
+pub returns-clause-agrees : goal.returns-clause-agrees
+returns-clause-agrees g c told near small = c.in_ok-found.ensures.agrees told near small

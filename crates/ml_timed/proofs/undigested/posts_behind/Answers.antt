@@ -1,17 +1,20 @@
-use Rattle.std.proofs.Common.{◌≡◌, ◌∙◌, ◌++◌, ◌+◌, ◌*◌, ◌/◌, ℕ, true, List, refl, arith, rules, ap, ap₂, sym, subst}
+use Rattle.std.proofs.Common.{◌⊎◌, ⊎_elim, inl, inr, ◌≤◌, ◌≡◌, ◌∙◌, ◌++◌, ◌+◌, ◌*◌, ◌/◌, ℕ, true, List, refl, arith, rules, ap, ap₂, sym, subst}
+use Rattle.std.proofs.lemmas.Bool.{cases_lt}
 use Rattle.ml_archive.specs.Posts.{index_of}
 use Rattle.ml_archive.specs.declared.posts.Entry.{Entry}
 use Rattle.ml_base.specs.Dir.{Dir}
+use Rattle.ml_archive.specs.Archive.{IsNumberFile, number_name}
 use Rattle.ml_plain.specs.Directory.{IsList}
+use Rattle.ml_acts.specs.Asked.{IsTooSmall}
 use Rattle.ml_acts.proofs.Asked.{named_as}
 use Rattle.ml_acts.proofs.Damages.{named_so}
-use Rattle.ml_timed.specs.Digesting.{IsDamagedGroup, IsDamagedWithin}
+use Rattle.ml_timed.specs.Digesting.{IsDamagedBehind, IsDamagedGroup}
 use Rattle.ml_timed.specs.Reads.{is_of_posts_told}
 use Rattle.std.specs.List.{list_all}
 use Rattle.ml_timed.specs.Waiting.{are_short, is_short, moment_behind, sizes_behind}
 use Rattle.ml_timed.proofs.Behind.{moment_in_first, sizes_of_both}
 use Rattle.ml_timed.proofs.Short.{short_behind, short_joined}
-use Rattle.ml_timed.proofs.Within.{group_within, hundred}
+use Rattle.ml_timed.proofs.Within.{group_behind, hundred}
 use Rattle.ml_timed.proofs.undigested.posts_behind.Goals as goal
 
 pub returns-clause-sizes : goal.returns-clause-sizes
@@ -40,8 +43,8 @@ returns-in_err-first-clause-names g c =
     let count = c.args.count in
     let group = (last + 1) / 100 in
     let some = c.requires.some in
-    let names = named_so g.F.Files (λ name. is_of_posts_told name ≡ true) _ (λ name. is_of_posts_told name ≡ true) (IsDamagedGroup dir group count) (IsDamagedWithin dir (last + 1) count) (λ name e. e)
-    (λ name e bad. group_within dir (last + 1) count group (last + 1) name (omega arith) (omega (arith, some)) refl bad.damaged) c.in_err-first.ensures.names in
+    let names = named_so g.F.Files (λ name. is_of_posts_told name ≡ true) _ (λ name. is_of_posts_told name ≡ true) (IsDamagedGroup dir group count) (IsDamagedBehind dir last count) (λ name e. e)
+    (λ name e bad. group_behind dir last count group (last + 1) name (omega arith) (omega (arith, some)) refl bad) c.in_err-first.ensures.names in
     search rules
 
 pub returns-in_err-second-clause-names : goal.returns-in_err-second-clause-names
@@ -50,9 +53,9 @@ returns-in_err-second-clause-names g c =
     let last = c.args.last in
     let count = c.args.count in
     let group = (last + 1) / 100 + 1 in
-    let names = named_as g.F.Files (λ name. is_of_posts_told name ≡ true) _ dir (g.F.Files.map c.group_of.new.files) (λ name. is_of_posts_told name ≡ true) (λ d. IsDamagedGroup d group count) (IsDamagedWithin dir (last + 1) count)
+    let names = named_as g.F.Files (λ name. is_of_posts_told name ≡ true) _ dir (g.F.Files.map c.group_of.new.files) (λ name. is_of_posts_told name ≡ true) (λ d. IsDamagedGroup d group count) (IsDamagedBehind dir last count)
     (λ told. g.met.F.Files.kept_map c.args.files.now c.group_of.new.files told c.group_of.ensures.reads.kept) (λ name e. e)
-    (λ name e bad. let high = bad.few in group_within dir (last + 1) count group (100 * group) name (omega arith) (omega (arith, high)) (hundred group) bad.damaged) c.in_err-second.ensures.names in
+    (λ name e bad. let high = bad.few in group_behind dir last count group (100 * group) name (omega arith) (omega (arith, high)) (hundred group) bad) c.in_err-second.ensures.names in
     search rules
 
 pub returns-clause-short : goal.returns-clause-short
@@ -63,3 +66,20 @@ returns-clause-short g c =
     let begun = ap (list_all is_short) (c.in_ok-add_sizes.ensures ∙ ap (λ (a : List ℕ). a ++ sizes_behind last first) c.new-sizes.ensures) ∙ short_behind last first (ap are_short c.as_slice.ensures ∙ c.in_ok-first.ensures.short) in
     ap (list_all is_short) c.in_ok-add_sizes-2.ensures
     ∙ short_joined c.add_sizes.new.sizes (sizes_behind last second) begun (short_behind last second (ap are_short c.as_slice-2.ensures ∙ c.in_ok-second.ensures.short))
+
+pub group_of-requires-2-clause-counted : goal.group_of-requires-2-clause-counted
+group_of-requires-2-clause-counted g c told =
+    subst (λ (d : Dir). IsNumberFile (d number_name) c.args.count) (sym (g.met.F.Files.kept_map c.args.files.now c.group_of.new.files told c.group_of.ensures.reads.kept)) (c.requires.counted told)
+
+pub returns-clause-agrees : goal.returns-clause-agrees
+returns-clause-agrees g c told near small =
+    let last = c.args.last in
+    let count = c.args.count in
+    let group = (last + 1) / 100 in
+    let some = c.requires.some in
+    let same = g.met.F.Files.kept_map c.args.files.now c.group_of.new.files told c.group_of.ensures.reads.kept in
+    let two : (group ≡ count / 100) ⊎ (group + 1 ≡ count / 100) = one_of_two group (count / 100) (omega (arith, some)) near in
+    ⊎_elim (λ first. c.in_ok-first.ensures.agrees told first small) (λ second. c.in_ok-second.ensures.agrees told second (subst (λ (d : Dir). IsTooSmall d) (sym same) small)) two
+  where
+    one_of_two : (a b : ℕ) → a ≤ b → b ≤ a + 1 → (a ≡ b) ⊎ (a + 1 ≡ b)
+    one_of_two a b low high = ⊎_elim (λ less. inr (omega (arith, less, high))) (λ least. inl (omega (arith, least, low))) (cases_lt a b)
