@@ -8,7 +8,6 @@ ghost use Rattle.ml_base.specs.Ranges.{IsMoment};
 ghost use Rattle.ml_base.specs.ReadFiles.{IsReading, NamesDamaged};
 ghost use Rattle.ml_config.specs.ConfigFile.{IsConfigFile, config_name};
 ghost use Rattle.ml_config.specs.Configuration.{IsConfig};
-ghost use Rattle.ml_plain.specs.Answers as answers;
 ghost use Rattle.ml_plain.specs.Directory.{IsList, is_of_list};
 ghost use Rattle.ml_plain.specs.KeptFiles.{is_kept};
 ghost use Rattle.ml_plain.specs.Managing as spec;
@@ -25,7 +24,7 @@ use ml_base::{Files, PartError, Txn};
 use ml_config::{Config, load};
 use ml_manage::manage;
 use ml_plain::Reply;
-use ml_post::post_with_memo;
+use ml_post::{Decision, post_with_memo};
 use std::alloc::Global;
 
 /// What a message does that comes for an address, from an envelope sender: the puts, and the reply.
@@ -81,7 +80,7 @@ fn unless_worn<F: Files>(
     ensures reads { IsReading ⟦<F as Files>⟧ files.old files.new result }
 {
     if is_worn(alloc, files)? {
-        return Ok((Txn::new(alloc), plain(Reply::FULL)));
+        return Ok((Txn::new(alloc), Reply::plain(Reply::FULL)));
     }
     by_recipient(alloc, files, memo, config, now, sender, recipient, message)
 }
@@ -125,7 +124,7 @@ fn by_recipient<F: Files>(
 {
     let local = config.local.as_slice();
     let Some(request) = read_request(local, config.host.as_slice(), recipient) else {
-        return Ok((Txn::new(alloc), plain(Reply::NOTOURS)));
+        return Ok((Txn::new(alloc), Reply::plain(Reply::NOTOURS)));
     };
     by_request(
         alloc, files, memo, config, now, sender, recipient, &request, message,
@@ -158,19 +157,18 @@ fn by_request<F: Files>(
 {
     match request {
         Request::Post => post_with_memo(alloc, files, memo, config, now, sender, message),
-        Request::Accept { ticket, cookie } => moderated(
-            alloc, files, config, now, sender, message, *ticket, cookie, true,
-        ),
-        Request::Reject { ticket, cookie } => moderated(
-            alloc, files, config, now, sender, message, *ticket, cookie, false,
-        ),
+        Request::Accept { ticket, cookie } => {
+            let decision = Decision::Accept;
+            moderated(
+                alloc, files, config, now, sender, message, *ticket, cookie, decision,
+            )
+        }
+        Request::Reject { ticket, cookie } => {
+            let decision = Decision::Reject;
+            moderated(
+                alloc, files, config, now, sender, message, *ticket, cookie, decision,
+            )
+        }
         _ => manage(alloc, files, config, now, sender, request, message),
     }
-}
-
-// The reply of a code that has no number.
-pub(crate) fn plain(code: u8) -> Reply
-    ensures { result ≡ answers.plain code }
-{
-    Reply { code, number: 0 }
 }

@@ -13,15 +13,14 @@ ghost use Rattle.ml_plain.specs.KeptFiles.{is_kept};
 ghost use Rattle.ml_plain.specs.Managing as spec;
 ghost use Rattle.ml_plain.specs.Plain.{Plain};
 ghost use Rattle.ml_acts.specs.Doing.{DoesList, HasIds};
-ghost use Rattle.ml_post.specs.Answering.{IsDamagedOfTicket, is_answered_by};
+ghost use Rattle.ml_post.specs.Answering.{IsDamagedOfTicket, accepts, is_answered_by};
 ghost use Rattle.ml_deliver.specs.Moderating.{answer_to};
 
-use crate::delivering::plain;
 use ml_base::{Address, Files, PartError, Txn};
 use ml_config::Config;
 use ml_header::Message;
 use ml_plain::Reply;
-use ml_post::answer;
+use ml_post::{Decision, decide};
 use std::alloc::Global;
 
 // A moderator accepts or rejects the post of a ticket.
@@ -34,26 +33,26 @@ pub(crate) fn moderated<F: Files>(
     message: &[u8],
     ticket: u64,
     letters: &[u8; 20],
-    accept: bool,
+    decision: Decision,
 ) -> Result<(Txn, Reply), PartError>
     requires moment { IsMoment now }
     requires config { IsConfig config.now }
     requires loaded { IsTrue F.tells → IsConfigFile (F.map files.now config_name) config.now }
     requires room { IsTrue F.tells → HasIds (F.map files.now) }
-    ensures value { IsTrue F.tells → IfOk result (λ done. (p : Plain) → IsList (F.map files.old) p → p.config ≡ config.now → DoesList (F.map files.old) done (spec.by_sender now message.now p (answer_to ticket letters.now accept) (address_of sender.now))) }
+    ensures value { IsTrue F.tells → IfOk result (λ done. (p : Plain) → IsList (F.map files.old) p → p.config ≡ config.now → DoesList (F.map files.old) done (spec.by_sender now message.now p (answer_to ticket letters.now (accepts decision)) (address_of sender.now))) }
     ensures own { IfOk result (λ done. touches_only is_of_list done.0 ≡ true) }
     ensures files { IfOk result (λ done. IsTrue (are_files done.0)) }
     ensures reply { IfOk result (λ done. is_kept done.1 ≡ true) }
-    ensures names { NamesDamaged ⟦<F as Files>⟧ (λ name. is_answered_by ticket accept name ≡ true) (IsDamagedOfTicket (F.map files.old) config.now ticket) result }
+    ensures names { NamesDamaged ⟦<F as Files>⟧ (λ name. is_answered_by ticket (accepts decision) name ≡ true) (IsDamagedOfTicket (F.map files.old) config.now ticket) result }
     ensures reads { IsReading ⟦<F as Files>⟧ files.old files.new result }
 {
     if !is_usable(sender) {
-        return Ok((Txn::new(alloc), plain(Reply::NOSENDER)));
+        return Ok((Txn::new(alloc), Reply::plain(Reply::NOSENDER)));
     }
     if is_from_list(message) {
-        return Ok((Txn::new(alloc), plain(Reply::LOOPED)));
+        return Ok((Txn::new(alloc), Reply::plain(Reply::LOOPED)));
     }
-    answer(alloc, files, config, now, ticket, letters, accept)
+    decide(alloc, files, config, now, ticket, letters, decision)
 }
 
 // Whether an envelope sender is an address.

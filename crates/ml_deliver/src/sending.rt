@@ -10,7 +10,6 @@ ghost use Rattle.ml_queue.specs.Answers.{ids_name};
 ghost use Rattle.ml_acts.specs.Damaged.{IsDamaged};
 ghost use Rattle.ml_acts.specs.Doing.{DoesList};
 
-use crate::delivering::plain;
 use ml_base::{Files, PartError, Txn};
 use ml_plain::Reply;
 use ml_queue::sent;
@@ -30,7 +29,7 @@ pub fn sent_entry<F: Files>(
     ensures reads { IsReading ⟦<F as Files>⟧ files.old files.new result }
 {
     match sent(alloc, files, id)? {
-        Some(txn) => Ok((txn, plain(Reply::DEQUEUED))),
-        None => Ok((Txn::new(alloc), plain(Reply::NOENTRY))),
+        Some(txn) => Ok((txn, Reply::plain(Reply::DEQUEUED))),
+        None => Ok((Txn::new(alloc), Reply::plain(Reply::NOENTRY))),
     }
 }

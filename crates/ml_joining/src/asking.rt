@@ -17,7 +17,6 @@ ghost use Rattle.ml_acts.specs.Doing.{DoesList, HasIds, is_beside_queue, is_buck
 ghost use Rattle.ml_acts.specs.Damaged.{IsDamaged};
 ghost use Rattle.ml_joining.specs.Reads.{is_for_mail};
 
-use crate::operations::plain;
 use ml_acts::{confirm_address, owner_address, with_mail, with_mail_to_moderators};
 use ml_address::Word;
 use ml_base::{Address, Bytes, Files, PartError, Set, Txn};
@@ -86,7 +85,7 @@ pub(crate) fn ask<F: Files>(
     let keys = key(alloc, files)?;
     let reply = confirm_address(alloc, config, &keys, word, set, x, now)?;
     let mail = question(alloc, word, to, reply, set, x)?;
-    let reply = plain(Reply::ASKED);
+    let reply = Reply::plain(Reply::ASKED);
     with_mail(alloc, files, config, Txn::new(alloc), to, now, mail, reply)
 }
 
@@ -133,6 +132,6 @@ pub(crate) fn ask_moderators<F: Files>(
     let keys = key(alloc, files)?;
     let reply = confirm_address(alloc, config, &keys, Word::Tc, set, x, now)?;
     let mail = moderators_question(alloc, config, reply, set, x)?;
-    let reply = plain(Reply::ASKED);
+    let reply = Reply::plain(Reply::ASKED);
     with_mail_to_moderators(alloc, files, config, Txn::new(alloc), now, mail, reply)
 }

@@ -21,7 +21,7 @@ ghost use Rattle.ml_joining.specs.Operations.{IsSubject, MayJoin, joining_deed};
 ghost use Rattle.ml_joining.specs.Reads.{is_read_to_join, is_touched_with_mail};
 
 use crate::asking::{ask, ask_moderators};
-use crate::operations::{Joining, plain, reply_of};
+use crate::operations::{Joining, reply_of};
 use crate::subjects::Subject;
 use ml_acts::with_mail;
 use ml_address::Word;
@@ -91,7 +91,7 @@ fn tell_already<F: Files>(
         who: Bytes::from_slice(alloc, x.bytes())?,
     };
     let txn = Txn::new(alloc);
-    let reply = plain(Reply::ALREADY);
+    let reply = Reply::plain(Reply::ALREADY);
     with_mail(alloc, files, config, txn, sender, now, mail, reply)
 }
 
@@ -115,8 +115,8 @@ fn join<F: Files>(
 {
     match add(alloc, files, set, who, now)? {
         AddAnswer::Added(txn) => welcome(alloc, files, config, now, set, who, txn),
-        AddAnswer::Already => Ok((Txn::new(alloc), plain(Reply::ALREADY))),
-        AddAnswer::Full => Ok((Txn::new(alloc), plain(Reply::FULL))),
+        AddAnswer::Already => Ok((Txn::new(alloc), Reply::plain(Reply::ALREADY))),
+        AddAnswer::Full => Ok((Txn::new(alloc), Reply::plain(Reply::FULL))),
     }
 }
 
@@ -146,6 +146,6 @@ fn welcome<F: Files>(
         set,
         who: Bytes::from_slice(alloc, who.bytes())?,
     };
-    let reply = plain(Reply::SUBSCRIBED);
+    let reply = Reply::plain(Reply::SUBSCRIBED);
     with_mail(alloc, files, config, txn, who, now, mail, reply)
 }

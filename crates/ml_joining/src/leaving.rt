@@ -20,7 +20,7 @@ ghost use Rattle.ml_joining.specs.Operations.{IsSubject, MayLeave, leaving_deed}
 ghost use Rattle.ml_joining.specs.Reads.{is_read_to_leave};
 
 use crate::asking::ask;
-use crate::operations::{Leaving, plain, reply_of};
+use crate::operations::{Leaving, reply_of};
 use crate::subjects::Subject;
 use ml_acts::{remove_member, with_mail};
 use ml_address::Word;
@@ -88,7 +88,7 @@ fn tell_absent<F: Files>(
         who: Bytes::from_slice(alloc, x.bytes())?,
     };
     let txn = Txn::new(alloc);
-    let reply = plain(Reply::ABSENT);
+    let reply = Reply::plain(Reply::ABSENT);
     with_mail(alloc, files, config, txn, sender, now, mail, reply)
 }
 
@@ -113,7 +113,7 @@ fn leave<F: Files>(
 {
     match remove_member(alloc, files, set, &x.named)? {
         Some(txn) => goodbye(alloc, files, config, now, set, &x.who, txn),
-        None => Ok((Txn::new(alloc), plain(Reply::ABSENT))),
+        None => Ok((Txn::new(alloc), Reply::plain(Reply::ABSENT))),
     }
 }
 
@@ -143,6 +143,6 @@ fn goodbye<F: Files>(
         set,
         who: Bytes::from_slice(alloc, who.bytes())?,
     };
-    let reply = plain(Reply::UNSUBSCRIBED);
+    let reply = Reply::plain(Reply::UNSUBSCRIBED);
     with_mail(alloc, files, config, txn, who, now, mail, reply)
 }

@@ -1,6 +1,5 @@
 // What is done about an address that is to join or leave a set.
 ghost use Rattle.std.specs.Prelude.{◌≡◌, true};
-ghost use Rattle.ml_plain.specs.Answers as answers;
 ghost use Rattle.ml_plain.specs.KeptFiles.{is_kept};
 ghost use Rattle.ml_joining.specs.Operations.{answer_reply};
 
@@ -42,22 +41,15 @@ pub(crate) enum Leaving {
     Leave,
 }
 
-// The reply of a code that has no number.
-pub(crate) fn plain(code: u8) -> Reply
-    ensures { result ≡ answers.plain code }
-{
-    Reply { code, number: 0 }
-}
-
 // The reply of an answer.
 pub(crate) fn reply_of(answer: Answer) -> Reply
     ensures value { result ≡ answer_reply answer }
     ensures kept { is_kept result ≡ true }
 {
     match answer {
-        Answer::Private => plain(Reply::PRIVATE),
-        Answer::BadCookie => plain(Reply::BADCOOKIE),
-        Answer::Already => plain(Reply::ALREADY),
-        Answer::Absent => plain(Reply::ABSENT),
+        Answer::Private => Reply::plain(Reply::PRIVATE),
+        Answer::BadCookie => Reply::plain(Reply::BADCOOKIE),
+        Answer::Already => Reply::plain(Reply::ALREADY),
+        Answer::Absent => Reply::plain(Reply::ABSENT),
     }
 }

@@ -8,7 +8,6 @@ ghost use Rattle.ml_base.specs.PartErrors.{OnDamaged};
 ghost use Rattle.ml_plain.specs.declared.Act.TheVariants.{Timed};
 ghost use Rattle.ml_plain.specs.Items.{IsItem, IsAct};
 ghost use Rattle.ml_plain.specs.Replies.{is_code};
-ghost use Rattle.ml_plain.specs.Answers.{stale as stale_reply};
 ghost use Rattle.ml_plain.specs.Histories.{State, step, with_reply};
 ghost use Rattle.ml_plain.specs.Histories as steps;
 ghost use Rattle.ml_plain.specs.Directory.{IsState};
@@ -120,7 +119,7 @@ fn look_up<F: Files>(alloc: Global, files: &mut F, number: u64) -> Result<Lookup
     }
     let floor = floor(alloc, files)?;
     if number < floor {
-        return Ok(Lookup::Answered(stale()));
+        return Ok(Lookup::Answered(Reply::plain(Reply::STALE)));
     }
     let found = kept_reply(alloc, files, number)?;
     Ok(looked_up(floor, found))
@@ -136,15 +135,6 @@ fn looked_up(floor: u64, found: Found) -> Lookup
             floor: Some(floor),
             file: found.file,
         }),
-    }
-}
-
-fn stale() -> Reply
-    ensures { result ≡ stale_reply }
-{
-    Reply {
-        code: Reply::STALE,
-        number: 0,
     }
 }
 

@@ -7,7 +7,6 @@ ghost use Rattle.ml_base.specs.Ranges.{IsMoment};
 ghost use Rattle.ml_plain.specs.declared.Act.TheVariants as acts;
 ghost use Rattle.ml_plain.specs.Answers.{rekeyed, toosoon};
 ghost use Rattle.ml_plain.specs.Plain.{Plain};
-ghost use Rattle.ml_plain.specs.Answers as answers;
 ghost use Rattle.ml_plain.specs.Steps as spec;
 ghost use Rattle.ml_plain.specs.Directory.{IsList, is_of_list};
 ghost use Rattle.ml_plain.specs.KeptFiles.{is_kept};
@@ -52,9 +51,9 @@ fn addition(alloc: Global, answer: AddAnswer) -> (Txn, Reply)
     ensures reply { result.1 ≡ addition_reply answer }
 {
     match answer {
-        AddAnswer::Added(txn) => (txn, plain(Reply::SUBSCRIBED)),
-        AddAnswer::Already => (Txn::new(alloc), plain(Reply::ALREADY)),
-        AddAnswer::Full => (Txn::new(alloc), plain(Reply::FULL)),
+        AddAnswer::Added(txn) => (txn, Reply::plain(Reply::SUBSCRIBED)),
+        AddAnswer::Already => (Txn::new(alloc), Reply::plain(Reply::ALREADY)),
+        AddAnswer::Full => (Txn::new(alloc), Reply::plain(Reply::FULL)),
     }
 }
 
@@ -74,8 +73,8 @@ pub(crate) fn remove_member<F: Files>(
     ensures reads { IsReading ⟦<F as Files>⟧ files.old files.new result }
 {
     match remove_member_with_memo(alloc, files, memo, set, who)? {
-        Some(txn) => Ok((txn, plain(Reply::UNSUBSCRIBED))),
-        None => Ok((Txn::new(alloc), plain(Reply::ABSENT))),
+        Some(txn) => Ok((txn, Reply::plain(Reply::UNSUBSCRIBED))),
+        None => Ok((Txn::new(alloc), Reply::plain(Reply::ABSENT))),
     }
 }
 
@@ -96,11 +95,11 @@ pub(crate) fn change_key<F: Files>(
 {
     let keys = key(alloc, files)?;
     if is_recent(now, keys.former) {
-        return Ok((Txn::new(alloc), plain(Reply::TOOSOON)));
+        return Ok((Txn::new(alloc), Reply::plain(Reply::TOOSOON)));
     }
     let changed = changed_keys(keys, now, *new);
     let txn = set_keys(alloc, &changed)?;
-    Ok((txn, plain(Reply::REKEYED)))
+    Ok((txn, Reply::plain(Reply::REKEYED)))
 }
 
 // Whether the key was changed at most 1,000,000 seconds ago.
@@ -125,11 +124,4 @@ fn changed_keys(keys: Keys, now: u64, new: [u8; 32]) -> Keys
             changed: now,
         }),
     }
-}
-
-// The reply of a code that has no number.
-fn plain(code: u8) -> Reply
-    ensures { result ≡ answers.plain code }
-{
-    Reply { code, number: 0 }
 }

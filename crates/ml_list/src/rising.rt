@@ -3,8 +3,6 @@ ghost use Rattle.std.specs.Prelude.{◌≡◌, ◌≢◌, ◌<◌, ◌≤◌, �
 ghost use Rattle.ml_base.specs.Dir.{touches_only, with_puts, are_files};
 ghost use Rattle.ml_base.specs.ReadFiles.{IsReading, NamesDamaged};
 ghost use Rattle.ml_base.specs.PartErrors.{OnDamaged};
-ghost use Rattle.ml_plain.specs.Answers.{badfloor};
-ghost use Rattle.ml_plain.specs.Answers as spec;
 ghost use Rattle.std.specs.List.{list_all};
 ghost use Rattle.ml_base.specs.Bytes.{Text};
 ghost use Rattle.ml_plain.specs.Histories.{State, Kept, from_floor};
@@ -47,13 +45,13 @@ pub(crate) fn raise<F: Files>(
 {
     let floor = floor_of(alloc, files, known.floor)?;
     if !may_rise(floor, number, at) {
-        return Ok((Txn::new(alloc), refused()));
+        return Ok((Txn::new(alloc), Reply::plain(Reply::BADFLOOR)));
     }
     if at <= floor {
-        return Ok((Txn::new(alloc), floored(floor)));
+        return Ok((Txn::new(alloc), Reply::floored(floor)));
     }
     let txn = rise(alloc, files, floor, at, number, &known.file)?;
-    Ok((txn, floored(at)))
+    Ok((txn, Reply::floored(at)))
 }
 
 // Whether a floor may rise so far, asked for by an item with this number.
@@ -62,24 +60,6 @@ fn may_rise(floor: u64, number: u64, at: u64) -> bool
     ensures { result ≡ steps.may_rise floor number at }
 {
     at <= floor + LONGEST_RISE && (number == 0 || at <= number)
-}
-
-fn refused() -> Reply
-    ensures { result ≡ badfloor }
-{
-    Reply {
-        code: Reply::BADFLOOR,
-        number: 0,
-    }
-}
-
-fn floored(floor: u64) -> Reply
-    ensures { result ≡ spec.floored floor }
-{
-    Reply {
-        code: Reply::FLOORED,
-        number: floor,
-    }
 }
 
 // The puts of a rise of the floor. It reads the one file of kept replies that the new floor cuts.

@@ -22,7 +22,6 @@ ghost use Rattle.ml_manage.specs.Reads.{IsDamagedAmong, IsDamagedPost, is_of_ind
 ghost use Rattle.ml_manage.specs.Texts as words;
 
 use crate::members::is_member;
-use crate::naming::plain;
 use crate::texts::{add_post, entries_text, no_posts};
 use ml_acts::with_mail;
 use ml_archive::{index, post, range, thread};
@@ -52,7 +51,7 @@ pub(crate) fn get<F: Files>(
     ensures reads { IsReading ⟦<F as Files>⟧ files.old files.new result }
 {
     if !may_read(alloc, files, config, sender)? {
-        return Ok((Txn::new(alloc), plain(Reply::PRIVATE)));
+        return Ok((Txn::new(alloc), Reply::plain(Reply::PRIVATE)));
     }
     let lines = get_text(alloc, files, config, from, to)?;
     sent(alloc, files, config, now, sender, lines)
@@ -78,7 +77,7 @@ pub(crate) fn thread_of<F: Files>(
     ensures reads { IsReading ⟦<F as Files>⟧ files.old files.new result }
 {
     if !may_read(alloc, files, config, sender)? {
-        return Ok((Txn::new(alloc), plain(Reply::PRIVATE)));
+        return Ok((Txn::new(alloc), Reply::plain(Reply::PRIVATE)));
     }
     let lines = thread_text(alloc, files, config, at)?;
     sent(alloc, files, config, now, sender, lines)
@@ -103,7 +102,7 @@ pub(crate) fn index_of<F: Files>(
     ensures reads { IsReading ⟦<F as Files>⟧ files.old files.new result }
 {
     if !may_read(alloc, files, config, sender)? {
-        return Ok((Txn::new(alloc), plain(Reply::PRIVATE)));
+        return Ok((Txn::new(alloc), Reply::plain(Reply::PRIVATE)));
     }
     let lines = index_text(alloc, files, at)?;
     sent(alloc, files, config, now, sender, lines)
@@ -180,7 +179,7 @@ fn sent<F: Files>(
         to: Bytes::from_slice(alloc, sender.bytes())?,
         lines,
     };
-    let reply = plain(Reply::ARCHIVE);
+    let reply = Reply::plain(Reply::ARCHIVE);
     with_mail(
         alloc,
         files,

@@ -25,7 +25,6 @@ ghost use Rattle.ml_manage.specs.Leaving.{change_reply, of_probe, of_warning};
 ghost use Rattle.ml_manage.specs.Reads.{is_counted_in, is_of_bounce, is_of_probe, is_of_signed, is_of_warning};
 
 use crate::members::is_member;
-use crate::naming::plain;
 use ml_acts::{is_good, key_of, remove_member};
 use ml_archive::count;
 use ml_base::{Address, Files, PartError, Set, Txn};
@@ -55,7 +54,7 @@ pub(crate) fn bounced<F: Files>(
     ensures reads { IsReading ⟦<F as Files>⟧ files.old files.new result }
 {
     if !was_mailed(alloc, files, set, number, x)? {
-        return Ok((Txn::new(alloc), plain(Reply::IGNORED)));
+        return Ok((Txn::new(alloc), Reply::plain(Reply::IGNORED)));
     }
     noted(alloc, files, now, set, number, x)
 }
@@ -139,8 +138,8 @@ fn changed(alloc: Global, answer: Option<Txn>) -> (Txn, Reply)
     ensures reply { result.1 ≡ change_reply answer }
 {
     match answer {
-        Some(txn) => (txn, plain(Reply::BOUNCE)),
-        None => (Txn::new(alloc), plain(Reply::IGNORED)),
+        Some(txn) => (txn, Reply::plain(Reply::BOUNCE)),
+        None => (Txn::new(alloc), Reply::plain(Reply::IGNORED)),
     }
 }
 
@@ -164,7 +163,7 @@ pub(crate) fn warning_bounced<F: Files>(
     ensures reads { IsReading ⟦<F as Files>⟧ files.old files.new result }
 {
     if !is_signed(alloc, files, now, b"warn", set, time, letters, x)? {
-        return Ok((Txn::new(alloc), plain(Reply::IGNORED)));
+        return Ok((Txn::new(alloc), Reply::plain(Reply::IGNORED)));
     }
     warning_failed(alloc, files, now, set, time, x)
 }
@@ -251,7 +250,7 @@ pub(crate) fn probe_bounced<F: Files>(
     ensures reads { IsReading ⟦<F as Files>⟧ files.old files.new result }
 {
     if !is_signed(alloc, files, now, b"probe", set, time, letters, x)? {
-        return Ok((Txn::new(alloc), plain(Reply::IGNORED)));
+        return Ok((Txn::new(alloc), Reply::plain(Reply::IGNORED)));
     }
     probed(alloc, files, set, time, x)
 }
@@ -273,7 +272,7 @@ fn probed<F: Files>(
     ensures reads { IsReading ⟦<F as Files>⟧ files.old files.new result }
 {
     let Some(_) = probe_failed(alloc, files, set, x, time)? else {
-        return Ok((Txn::new(alloc), plain(Reply::IGNORED)));
+        return Ok((Txn::new(alloc), Reply::plain(Reply::IGNORED)));
     };
     dropped(alloc, files, set, x)
 }
@@ -293,7 +292,7 @@ fn dropped<F: Files>(
     ensures reads { IsReading ⟦<F as Files>⟧ files.old files.new result }
 {
     let Some(txn) = remove_member(alloc, files, set, x)? else {
-        return Ok((Txn::new(alloc), plain(Reply::IGNORED)));
+        return Ok((Txn::new(alloc), Reply::plain(Reply::IGNORED)));
     };
-    Ok((txn, plain(Reply::DROPPED)))
+    Ok((txn, Reply::plain(Reply::DROPPED)))
 }

@@ -13,7 +13,6 @@ ghost use Rattle.ml_queue.specs.Answers.{ids_name};
 ghost use Rattle.ml_acts.specs.Damaged.{IsDamaged};
 ghost use Rattle.ml_acts.specs.Doing.{DoesList, HasIds};
 
-use crate::naming::plain;
 use ml_acts::{reply_path, send, with_mail};
 use ml_base::{Address, AddressList, Bytes, Files, PartError, Row, Txn};
 use ml_config::Config;
@@ -41,7 +40,7 @@ pub(crate) fn helped<F: Files>(
     let mail = Mail::Help {
         to: Bytes::from_slice(alloc, sender.bytes())?,
     };
-    let reply = plain(Reply::HELP);
+    let reply = Reply::plain(Reply::HELP);
     with_mail(
         alloc,
         files,
@@ -73,7 +72,7 @@ pub(crate) fn to_owner<F: Files>(
     let body = Bytes::from_slice(alloc, message)?;
     let to = one(alloc, &config.owner)?;
     let txn = send(alloc, files, way, body, to)?;
-    Ok((txn, plain(Reply::OWNER)))
+    Ok((txn, Reply::plain(Reply::OWNER)))
 }
 
 // The list of one address.

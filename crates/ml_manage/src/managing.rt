@@ -27,7 +27,7 @@ use crate::archive::{get, index_of, thread_of};
 use crate::bounces::{bounced, probe_bounced, warning_bounced};
 use crate::helping::{helped, to_owner};
 use crate::members::members;
-use crate::naming::{named, plain};
+use crate::naming::named;
 use ml_acts::Configured;
 use ml_address::{Request, Who};
 use ml_base::{Address, AddressError, Files, PartError, Set, Txn};
@@ -105,7 +105,7 @@ fn by_request<F: Files>(
             cookie,
             who,
         } => of_probe(alloc, files, now, *set, *time, cookie, who),
-        Request::ReplyBounce { .. } => Ok((Txn::new(alloc), plain(Reply::IGNORED))),
+        Request::ReplyBounce { .. } => Ok((Txn::new(alloc), Reply::plain(Reply::IGNORED))),
         Request::Owner => to_owner(alloc, files, config, message),
         _ => by_sender(alloc, files, config, now, sender, request, message),
     }
@@ -201,10 +201,10 @@ fn by_sender<F: Files>(
     ensures reads { IsReading ⟦<F as Files>⟧ files.old files.new result }
 {
     let Some(who) = usable(alloc, sender)? else {
-        return Ok((Txn::new(alloc), plain(Reply::NOSENDER)));
+        return Ok((Txn::new(alloc), Reply::plain(Reply::NOSENDER)));
     };
     if is_from_list(message) {
-        return Ok((Txn::new(alloc), plain(Reply::LOOPED)));
+        return Ok((Txn::new(alloc), Reply::plain(Reply::LOOPED)));
     }
     managed(alloc, files, config, now, &who, request)
 }

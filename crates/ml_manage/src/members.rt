@@ -13,7 +13,6 @@ ghost use Rattle.ml_acts.specs.Damaged.{IsDamaged};
 ghost use Rattle.ml_acts.specs.Doing.{DoesList, HasIds, is_bucket, is_bucket_of};
 ghost use Rattle.ml_manage.specs.Reads.{is_of_members};
 
-use crate::naming::plain;
 use ml_acts::with_mail;
 use ml_base::{Address, Bytes, Files, PartError, Set, Txn};
 use ml_config::Config;
@@ -55,10 +54,10 @@ pub(crate) fn members<F: Files>(
     ensures reads { IsReading ⟦<F as Files>⟧ files.old files.new result }
 {
     if !may_list(alloc, files, config, sender)? {
-        return Ok((Txn::new(alloc), plain(Reply::PRIVATE)));
+        return Ok((Txn::new(alloc), Reply::plain(Reply::PRIVATE)));
     }
     let mail = members_mail(alloc, files, sender, set)?;
-    let reply = plain(Reply::MEMBERS);
+    let reply = Reply::plain(Reply::MEMBERS);
     with_mail(
         alloc,
         files,

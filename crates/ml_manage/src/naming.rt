@@ -1,13 +1,11 @@
-// The addresses that requests name, and replies by their code.
+// The addresses that requests name.
 ghost use Rattle.std.specs.Prelude.{◌≡◌, IsTrue, IfOk};
 ghost use Rattle.ml_address.specs.Requests.{is_who};
 ghost use Rattle.ml_address.specs.Views.{who_view};
-ghost use Rattle.ml_plain.specs.Answers as answers;
 ghost use Rattle.ml_plain.specs.Bouncing.{address_named};
 
 use ml_address::Who;
 use ml_base::{Address, AddressError, Bytes};
-use ml_plain::Reply;
 use std::alloc::{AllocError, Global};
 
 // The address that a request names, its host in lower case.
@@ -23,11 +21,4 @@ pub(crate) fn named(alloc: Global, who: &Who<'_>) -> Result<Address, AllocError>
         Err(AddressError::Memory) => Err(AllocError),
         Err(AddressError::Fault(_)) => unreachable!(),
     }
-}
-
-// The reply of a code that has no number.
-pub(crate) fn plain(code: u8) -> Reply
-    ensures { result ≡ answers.plain code }
-{
-    Reply { code, number: 0 }
 }

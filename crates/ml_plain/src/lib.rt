@@ -1,6 +1,9 @@
 //! The list as a plain value: what an item does to it, and what the item is answered.
 #![tactic(auto)]
 
+ghost use Rattle.std.specs.Prelude.{◌≡◌};
+ghost use Rattle.ml_plain.specs.Answers as answers;
+
 mod codes;
 mod laws;
 
@@ -175,4 +178,51 @@ impl Reply {
 
     /// The floor can't be raised so far.
     pub const BADFLOOR: u8 = 36;
+
+    /// The reply of a code that has no number.
+    pub fn plain(code: u8) -> Self
+        ensures { result ≡ answers.plain code }
+    {
+        Reply { code, number: 0 }
+    }
+
+    /// A post was taken, under this number.
+    pub fn posted(number: u64) -> Self
+        ensures { result ≡ answers.posted number }
+    {
+        Reply {
+            code: Reply::POSTED,
+            number,
+        }
+    }
+
+    /// A post waits for the moderators, under this ticket.
+    pub fn held(ticket: u64) -> Self
+        ensures { result ≡ answers.held ticket }
+    {
+        Reply {
+            code: Reply::HELD,
+            number: ticket,
+        }
+    }
+
+    /// A timed run was made, which made so many queue entries.
+    pub fn timed(entries: u64) -> Self
+        ensures { result ≡ answers.timed entries }
+    {
+        Reply {
+            code: Reply::TIMED,
+            number: entries,
+        }
+    }
+
+    /// The floor is this, whether it was raised or stands as high already.
+    pub fn floored(floor: u64) -> Self
+        ensures { result ≡ answers.floored floor }
+    {
+        Reply {
+            code: Reply::FLOORED,
+            number: floor,
+        }
+    }
 }

@@ -13,6 +13,13 @@ use Rattle.ml_queue.specs.Answers.{ids_name}
 use Rattle.ml_acts.specs.Asked.{IsBadFor, Next}
 use Rattle.ml_acts.specs.Damaged.{IsDamaged}
 use Rattle.ml_post.specs.Publishing.{is_published_by, sent_key}
+use Rattle.ml_post.specs.declared.answering.Decision.{Decision}
+use Rattle.ml_post.specs.declared.answering.Decision.TheVariants as decisions
+
+-- whether a moderator accepts the post
+abbrev pub accepts : Decision → Bool
+accepts decisions.Accept = true
+accepts decisions.Reject = false
 
 -- the files that are read where a post is taken out: its own, where its ticket can be drawn, and the next ticket
 abbrev pub is_taken_by : ℕ → Name → Bool

@@ -20,10 +20,9 @@ ghost use Rattle.ml_acts.specs.Asked.{IsDamagedOf, Next};
 ghost use Rattle.ml_acts.specs.Configured.{with_config};
 ghost use Rattle.ml_acts.specs.Doing.{DoesList, HasIds};
 ghost use Rattle.ml_post.specs.Publishing.{sent_key};
-ghost use Rattle.ml_post.specs.Answering.{IsDamagedOfTicket, is_accepted_by, is_answered_by, is_followed_by, is_rejected_by, is_taken_by};
+ghost use Rattle.ml_post.specs.Answering.{IsDamagedOfTicket, accepts, is_accepted_by, is_answered_by, is_followed_by, is_rejected_by, is_taken_by};
 
 use crate::holding::list_keys;
-use crate::posting::{plain, posted};
 use crate::publishing::publish;
 use ml_acts::{Configured, MailMemo, is_cookie, with_mail};
 use ml_archive::Appended;
@@ -34,12 +33,27 @@ use ml_plain::Reply;
 use ml_reply::Mail;
 use std::alloc::{AllocError, Global};
 
-/// A moderator's answer about the post of a ticket, with the letters of its cookie, whatever its age. `now` is in seconds since 1970.
-///
-/// `gone` where no post waits under the ticket, and `badcookie` where the letters aren't its cookie. A post that is accepted is posted
-/// and waits no longer; `full` where the archive is full, and then it still waits. One that is rejected goes back to its sender. All
-/// this is said of the files with the configuration in the place of theirs. Of the archive `Damaged` names the number of posts, the index of
-/// the next number's group, or the thread file of the subject key of the post that waits.
+/// What a moderator decides about a post that waits.
+#[derive(Clone, Copy, Debug, PartialEq, Eq)]
+pub enum Decision {
+    Accept,
+    Reject,
+}
+
+impl Decision {
+    // The decision of a moderator who accepts the post, or not.
+    fn of(accept: bool) -> Self
+        ensures { accepts result ≡ accept }
+    {
+        if accept {
+            Decision::Accept
+        } else {
+            Decision::Reject
+        }
+    }
+}
+
+/// What `decide` does: with `Accept` where the moderator accepts the post, else with `Reject`.
 pub fn answer<F: Files>(
     alloc: Global,
     files: &mut F,
@@ -59,8 +73,44 @@ pub fn answer<F: Files>(
     ensures sound { IsTrue F.tells → (p : Plain) → IsList (with_config config.now (F.map files.old)) p → IfErr result (λ e. OnDamaged e (λ _. ⊥)) }
     ensures reads { IsReading ⟦<F as Files>⟧ files.old files.new result }
 {
+    decide(
+        alloc,
+        files,
+        config,
+        now,
+        ticket,
+        letters,
+        Decision::of(accept),
+    )
+}
+
+/// What a moderator decides about the post of a ticket, with the letters of its cookie, whatever its age. `now` is in seconds since 1970.
+///
+/// `gone` where no post waits under the ticket, and `badcookie` where the letters aren't its cookie. A post that is accepted is posted
+/// and waits no longer; `full` where the archive is full, and then it still waits. One that is rejected goes back to its sender. All
+/// this is said of the files with the configuration in the place of theirs. Of the archive `Damaged` names the number of posts, the index of
+/// the next number's group, or the thread file of the subject key of the post that waits.
+pub fn decide<F: Files>(
+    alloc: Global,
+    files: &mut F,
+    config: &Config,
+    now: u64,
+    ticket: u64,
+    letters: &[u8; 20],
+    decision: Decision,
+) -> Result<(Txn, Reply), PartError>
+    requires moment { IsMoment now }
+    requires room { IsTrue F.tells → HasIds (F.map files.now) }
+    ensures value { IsTrue F.tells → IsConfig config.now → IfOk result (λ done. (p : Plain) → IsList (with_config config.now (F.map files.old)) p → DoesList (with_config config.now (F.map files.old)) done (spec.answer now ticket letters.now (accepts decision) p)) }
+    ensures own { IfOk result (λ done. touches_only is_of_list done.0 ≡ true) }
+    ensures files { IfOk result (λ done. IsTrue (are_files done.0)) }
+    ensures reply { IfOk result (λ done. is_kept done.1 ≡ true) }
+    ensures names { NamesDamaged ⟦<F as Files>⟧ (λ name. is_answered_by ticket (accepts decision) name ≡ true) (IsDamagedOfTicket (with_config config.now (F.map files.old)) config.now ticket) result }
+    ensures sound { IsTrue F.tells → (p : Plain) → IsList (with_config config.now (F.map files.old)) p → IfErr result (λ e. OnDamaged e (λ _. ⊥)) }
+    ensures reads { IsReading ⟦<F as Files>⟧ files.old files.new result }
+{
     let mut under = Configured::new(files, config);
-    answer_ticket(alloc, &mut under, config, now, ticket, letters, accept)
+    answer_ticket(alloc, &mut under, config, now, ticket, letters, decision)
 }
 
 // Looks for the post of the ticket first.
@@ -71,21 +121,21 @@ fn answer_ticket<F: Files>(
     now: u64,
     ticket: u64,
     letters: &[u8; 20],
-    accept: bool,
+    decision: Decision,
 ) -> Result<(Txn, Reply), PartError>
     requires moment { IsMoment now }
     requires room { IsTrue F.tells → HasIds (F.map files.now) }
-    ensures value { IsTrue F.tells → IfOk result (λ done. (p : Plain) → IsList (F.map files.old) p → p.config ≡ config.now → DoesList (F.map files.old) done (spec.answer now ticket letters.now accept p)) }
+    ensures value { IsTrue F.tells → IfOk result (λ done. (p : Plain) → IsList (F.map files.old) p → p.config ≡ config.now → DoesList (F.map files.old) done (spec.answer now ticket letters.now (accepts decision) p)) }
     ensures own { IfOk result (λ done. touches_only is_of_list done.0 ≡ true) }
     ensures files { IfOk result (λ done. IsTrue (are_files done.0)) }
     ensures reply { IfOk result (λ done. is_kept done.1 ≡ true) }
-    ensures names { NamesDamaged ⟦<F as Files>⟧ (λ name. is_answered_by ticket accept name ≡ true) (IsDamagedOfTicket (F.map files.old) config.now ticket) result }
+    ensures names { NamesDamaged ⟦<F as Files>⟧ (λ name. is_answered_by ticket (accepts decision) name ≡ true) (IsDamagedOfTicket (F.map files.old) config.now ticket) result }
     ensures reads { IsReading ⟦<F as Files>⟧ files.old files.new result }
 {
     let Some(held) = look(alloc, files, ticket)? else {
-        return Ok((Txn::new(alloc), plain(Reply::GONE)));
+        return Ok((Txn::new(alloc), Reply::plain(Reply::GONE)));
     };
-    answer_held(alloc, files, config, now, ticket, &held, letters, accept)
+    answer_held(alloc, files, config, now, ticket, &held, letters, decision)
 }
 
 // The answer about a post that waits under a ticket: it counts where its letters are the cookie.
@@ -97,23 +147,23 @@ fn answer_held<F: Files>(
     ticket: u64,
     held: &Held,
     letters: &[u8; 20],
-    accept: bool,
+    decision: Decision,
 ) -> Result<(Txn, Reply), PartError>
     requires moment { IsMoment now }
     requires drawn { IsTrue (is_drawn ticket) }
     requires room { IsTrue F.tells → HasIds (F.map files.now) }
-    ensures value { IsTrue F.tells → IfOk result (λ done. (p : Plain) → IsList (F.map files.old) p → p.config ≡ config.now → held_post ticket p.held ≡ Some held.now → DoesList (F.map files.old) done (spec.answer_held now ticket letters.now p accept (Some held.now))) }
+    ensures value { IsTrue F.tells → IfOk result (λ done. (p : Plain) → IsList (F.map files.old) p → p.config ≡ config.now → held_post ticket p.held ≡ Some held.now → DoesList (F.map files.old) done (spec.answer_held now ticket letters.now p (accepts decision) (Some held.now))) }
     ensures own { IfOk result (λ done. touches_only is_of_list done.0 ≡ true) }
     ensures files { IfOk result (λ done. IsTrue (are_files done.0)) }
     ensures reply { IfOk result (λ done. is_kept done.1 ≡ true) }
-    ensures names { NamesDamaged ⟦<F as Files>⟧ (λ name. is_answered_by ticket accept name ≡ true) (IsDamagedOf (F.map files.old) (Next (sent_key config.now held.now.message))) result }
+    ensures names { NamesDamaged ⟦<F as Files>⟧ (λ name. is_answered_by ticket (accepts decision) name ≡ true) (IsDamagedOf (F.map files.old) (Next (sent_key config.now held.now.message))) result }
     ensures reads { IsReading ⟦<F as Files>⟧ files.old files.new result }
 {
     let keys = list_keys(alloc, files)?;
     if !is_signed(&keys, ticket, held.moment, letters) {
-        return Ok((Txn::new(alloc), plain(Reply::BADCOOKIE)));
+        return Ok((Txn::new(alloc), Reply::plain(Reply::BADCOOKIE)));
     }
-    follow(alloc, files, config, now, ticket, held, accept)
+    follow(alloc, files, config, now, ticket, held, decision)
 }
 
 // Whether letters are the cookie of a post that is held under a ticket since a moment.
@@ -140,22 +190,21 @@ fn follow<F: Files>(
     now: u64,
     ticket: u64,
     held: &Held,
-    accept: bool,
+    decision: Decision,
 ) -> Result<(Txn, Reply), PartError>
     requires moment { IsMoment now }
     requires drawn { IsTrue (is_drawn ticket) }
     requires room { IsTrue F.tells → HasIds (F.map files.now) }
-    ensures value { IsTrue F.tells → IfOk result (λ done. (p : Plain) → IsList (F.map files.old) p → p.config ≡ config.now → held_post ticket p.held ≡ Some held.now → DoesList (F.map files.old) done (spec.answered now ticket held.now p accept)) }
+    ensures value { IsTrue F.tells → IfOk result (λ done. (p : Plain) → IsList (F.map files.old) p → p.config ≡ config.now → held_post ticket p.held ≡ Some held.now → DoesList (F.map files.old) done (spec.answered now ticket held.now p (accepts decision))) }
     ensures own { IfOk result (λ done. touches_only is_of_list done.0 ≡ true) }
     ensures files { IfOk result (λ done. IsTrue (are_files done.0)) }
     ensures reply { IfOk result (λ done. is_kept done.1 ≡ true) }
-    ensures names { NamesDamaged ⟦<F as Files>⟧ (λ name. is_followed_by ticket accept name ≡ true) (IsDamagedOf (F.map files.old) (Next (sent_key config.now held.now.message))) result }
+    ensures names { NamesDamaged ⟦<F as Files>⟧ (λ name. is_followed_by ticket (accepts decision) name ≡ true) (IsDamagedOf (F.map files.old) (Next (sent_key config.now held.now.message))) result }
     ensures reads { IsReading ⟦<F as Files>⟧ files.old files.new result }
 {
-    if accept {
-        accepted(alloc, files, config, now, ticket, held)
-    } else {
-        rejected(alloc, files, config, now, ticket, held)
+    match decision {
+        Decision::Accept => accepted(alloc, files, config, now, ticket, held),
+        Decision::Reject => rejected(alloc, files, config, now, ticket, held),
     }
 }
 
@@ -190,11 +239,11 @@ fn accepted<F: Files>(
         message,
     )?;
     match answer {
-        Appended::Full => Ok((Txn::new(alloc), plain(Reply::FULL))),
+        Appended::Full => Ok((Txn::new(alloc), Reply::plain(Reply::FULL))),
         Appended::At(number, more) => {
             let mut txn = taken(alloc, files, ticket)?;
             txn.join(more)?;
-            Ok((txn, posted(number)))
+            Ok((txn, Reply::posted(number)))
         }
     }
 }
@@ -220,7 +269,7 @@ fn rejected<F: Files>(
 {
     let txn = taken(alloc, files, ticket)?;
     let mail = rejection(alloc, held)?;
-    let reply = plain(Reply::REJECTED);
+    let reply = Reply::plain(Reply::REJECTED);
     with_mail(alloc, files, config, txn, &held.sender, now, mail, reply)
 }
 

@@ -20,7 +20,6 @@ ghost use Rattle.ml_drawn.specs.Names.{is_of_series};
 ghost use Rattle.ml_drawn.specs.declared.series.Series.TheVariants.{Tickets};
 ghost use Rattle.ml_post.specs.Holding.{is_asked_by, is_held_by};
 
-use crate::posting::plain;
 use ml_acts::{new_cookie, owner_address, with_mail_to_moderators};
 use ml_address::{Request, write_request};
 use ml_base::{Address, Bytes, Files, PartError, Set, Txn, is_drawn, write_number};
@@ -57,7 +56,7 @@ pub(crate) fn hold_post<F: Files>(
     };
     let (ticket, txn) = hold(alloc, files, &held)?;
     if !is_drawn(ticket) {
-        return Ok((Txn::new(alloc), plain(Reply::FULL)));
+        return Ok((Txn::new(alloc), Reply::plain(Reply::FULL)));
     }
     ask(alloc, files, config, now, ticket, held.message, txn)
 }
@@ -87,7 +86,7 @@ fn ask<F: Files>(
 {
     let keys = list_keys(alloc, files)?;
     let mail = moderate_mail(alloc, config, &keys, ticket, now, message)?;
-    with_mail_to_moderators(alloc, files, config, txn, now, mail, waiting(ticket))
+    with_mail_to_moderators(alloc, files, config, txn, now, mail, Reply::held(ticket))
 }
 
 // The mail that asks the moderators about a post that is held now.
@@ -185,14 +184,4 @@ pub(crate) fn list_keys<F: Files>(alloc: Global, files: &mut F) -> Result<Keys, 
     ensures reads { IsReading ⟦<F as Files>⟧ files.old files.new result }
 {
     key(alloc, files)
-}
-
-// The reply of a post that waits under a ticket.
-fn waiting(ticket: u64) -> Reply
-    ensures { result ≡ answers.held ticket }
-{
-    Reply {
-        code: Reply::HELD,
-        number: ticket,
-    }
 }

@@ -10,7 +10,7 @@ mod publishing;
 mod sending;
 mod verdicts;
 
-pub use answering::answer;
+pub use answering::{Decision, answer, decide};
 pub use judging::verdict;
 pub use posting::{post, post_with_memo};
 pub use verdicts::Verdict;

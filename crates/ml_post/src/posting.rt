@@ -7,7 +7,6 @@ ghost use Rattle.ml_base.specs.PartErrors.{OnDamaged};
 ghost use Rattle.ml_base.specs.Ranges.{IsMoment};
 ghost use Rattle.ml_base.specs.ReadFiles.{IsReading, NamesDamaged};
 ghost use Rattle.ml_config.specs.Configuration.{IsConfig};
-ghost use Rattle.ml_plain.specs.Answers as answers;
 ghost use Rattle.ml_plain.specs.Directory.{IsList, is_of_list};
 ghost use Rattle.ml_plain.specs.KeptFiles.{is_kept};
 ghost use Rattle.ml_plain.specs.Plain.{Plain, is_archive_full};
@@ -127,16 +126,16 @@ fn follows(found: Verdict) -> Outcome
     ensures { result ≡ outcome_of found }
 {
     match found {
-        Verdict::TooBig => Outcome::Refused(plain(Reply::TOOBIG)),
-        Verdict::BounceSender => Outcome::Refused(plain(Reply::NOSENDER)),
-        Verdict::Looped => Outcome::Refused(plain(Reply::LOOPED)),
-        Verdict::Denied => Outcome::Refused(plain(Reply::DENIED)),
-        Verdict::NoSubject => Outcome::Refused(plain(Reply::NOSUBJECT)),
-        Verdict::CommandSubject => Outcome::Refused(plain(Reply::COMMAND)),
-        Verdict::NotAddressed => Outcome::Refused(plain(Reply::NOTADDRESSED)),
-        Verdict::UsersOnly => Outcome::Refused(plain(Reply::USERSONLY)),
+        Verdict::TooBig => Outcome::Refused(Reply::plain(Reply::TOOBIG)),
+        Verdict::BounceSender => Outcome::Refused(Reply::plain(Reply::NOSENDER)),
+        Verdict::Looped => Outcome::Refused(Reply::plain(Reply::LOOPED)),
+        Verdict::Denied => Outcome::Refused(Reply::plain(Reply::DENIED)),
+        Verdict::NoSubject => Outcome::Refused(Reply::plain(Reply::NOSUBJECT)),
+        Verdict::CommandSubject => Outcome::Refused(Reply::plain(Reply::COMMAND)),
+        Verdict::NotAddressed => Outcome::Refused(Reply::plain(Reply::NOTADDRESSED)),
+        Verdict::UsersOnly => Outcome::Refused(Reply::plain(Reply::USERSONLY)),
         Verdict::Held => Outcome::Held,
-        Verdict::Full => Outcome::Refused(plain(Reply::FULL)),
+        Verdict::Full => Outcome::Refused(Reply::plain(Reply::FULL)),
         Verdict::Posted => Outcome::Posted,
     }
 }
@@ -163,7 +162,7 @@ fn hold_message<F: Files>(
 {
     match usable(alloc, sender)? {
         Some(who) => hold_post(alloc, files, config, now, who, message),
-        None => Ok((Txn::new(alloc), plain(Reply::NOSENDER))),
+        None => Ok((Txn::new(alloc), Reply::plain(Reply::NOSENDER))),
     }
 }
 
@@ -187,7 +186,7 @@ fn post_message<F: Files>(
     ensures reads { IsReading ⟦<F as Files>⟧ files.old files.new result }
 {
     let Some(who) = usable(alloc, sender)? else {
-        return Ok((Txn::new(alloc), plain(Reply::NOSENDER)));
+        return Ok((Txn::new(alloc), Reply::plain(Reply::NOSENDER)));
     };
     let answer = publish(alloc, files, memo, config, now, &who, message)?;
     Ok(done_by(alloc, answer))
@@ -199,24 +198,7 @@ fn done_by(alloc: Global, answer: Appended) -> (Txn, Reply)
     ensures reply { result.1 ≡ reply_of answer }
 {
     match answer {
-        Appended::At(number, txn) => (txn, posted(number)),
-        Appended::Full => (Txn::new(alloc), plain(Reply::FULL)),
+        Appended::At(number, txn) => (txn, Reply::posted(number)),
+        Appended::Full => (Txn::new(alloc), Reply::plain(Reply::FULL)),
     }
-}
-
-// The reply of a post that got a number.
-pub(crate) fn posted(number: u64) -> Reply
-    ensures { result ≡ answers.posted number }
-{
-    Reply {
-        code: Reply::POSTED,
-        number,
-    }
-}
-
-// The reply of a code that has no number.
-pub(crate) fn plain(code: u8) -> Reply
-    ensures { result ≡ answers.plain code }
-{
-    Reply { code, number: 0 }
 }

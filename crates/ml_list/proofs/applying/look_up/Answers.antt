@@ -14,7 +14,7 @@ use Rattle.ml_list.proofs.applying.look_up.Goals as goal
 
 pub returns-then-number-floor-clause-value : goal.returns-then-number-floor-clause-value
 returns-then-number-floor-clause-value g c told q is =
-    below_floor (g.F.Files.map c.args.files.now) q c.args.number c.in_ok-floor.floor c.stale.result is (c.in_ok-floor.ensures.value told) c.if-number-eq0.false c.if-number-floor.true c.stale.ensures
+    below_floor (g.F.Files.map c.args.files.now) q c.args.number c.in_ok-floor.floor c.plain.result is (c.in_ok-floor.ensures.value told) c.if-number-eq0.false c.if-number-floor.true c.plain.ensures
 
 pub returns-clause-value : goal.returns-clause-value
 returns-clause-value g c told q is =

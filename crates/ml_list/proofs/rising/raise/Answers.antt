@@ -12,8 +12,8 @@ use Rattle.ml_list.proofs.rising.raise.Goals as goal
 
 pub returns-then-not-may_rise-clause-value : goal.returns-then-not-may_rise-clause-value
 returns-then-not-may_rise-clause-value g c told q is =
-    raise_refused (g.F.Files.map c.args.files.now) q c.args.number c.args.at c.in_ok-floor.floor is (c.in_ok-floor.ensures.value told) (c.new.result, c.refused.result)
-    (sym c.may_rise.ensures ∙ c.if-not-may_rise.true) c.new.ensures c.refused.ensures
+    raise_refused (g.F.Files.map c.args.files.now) q c.args.number c.args.at c.in_ok-floor.floor is (c.in_ok-floor.ensures.value told) (c.new.result, c.plain.result)
+    (sym c.may_rise.ensures ∙ c.if-not-may_rise.true) c.new.ensures c.plain.ensures
 
 pub returns-then-at-floor-clause-value : goal.returns-then-at-floor-clause-value
 returns-then-at-floor-clause-value g c told q is =

@@ -1,26 +1,20 @@
-use Rattle.std.proofs.Common.{ap}
-use Rattle.ml_plain.specs.Managing as spec
-use Rattle.ml_base.proofs.DamagedNames.{err_damaged}
+use Rattle.std.proofs.Common.{◌≡◌, Bool, IfOk, true, subst}
+use Rattle.ml_base.specs.ReadFiles.{NamesDamaged}
+use Rattle.ml_base.specs.declared.names.Name.{Name}
+use Rattle.ml_plain.specs.Directory.{IsList}
+use Rattle.ml_plain.specs.Managing.{answer}
+use Rattle.ml_plain.specs.Plain.{Plain}
 use Rattle.ml_acts.specs.Configured.{with_config}
-use Rattle.ml_acts.specs.Damaged.{IsDamaged}
-use Rattle.ml_acts.proofs.UnderConfig.{done_under, named_under, sound_under}
-use Rattle.ml_post.specs.Answering.{IsDamagedOfTicket}
+use Rattle.ml_acts.specs.Doing.{DoesList}
+use Rattle.ml_post.specs.Answering.{IsDamagedOfTicket, is_answered_by}
 use Rattle.ml_post.proofs.answering.answer.Goals as goal
 
 pub returns-clause-value : goal.returns-clause-value
 returns-clause-value g c told allowed =
-    done_under c.args.config.now c.new-under.result.config.now (g.F.Files.map c.args.files.now) (g.F.Files.map c.new-under.result.files.now) c.new-under.ensures.config (ap g.F.Files.map c.new-under.ensures.files) c.answer_ticket.result (λ p. spec.answer c.args.now c.args.ticket c.args.letters.now c.args.accept p) allowed (c.answer_ticket.ensures.value told)
+    let dir = with_config c.args.config.now (g.F.Files.map c.args.files.now) in
+    subst (λ (b : Bool). IfOk c.decide.result (λ done. (p : Plain) → IsList dir p → DoesList dir done (answer c.args.now c.args.ticket c.args.letters.now b p))) c.of.ensures (c.decide.ensures.value told allowed)
 
 pub returns-clause-names : goal.returns-clause-names
-returns-clause-names g c = record {
-  named = c.answer_ticket.ensures.names.named;
-  damaged = λ told.
-      named_under c.args.config.now c.new-under.result.config.now (g.F.Files.map c.args.files.now) (g.F.Files.map c.new-under.result.files.now) c.new-under.ensures.config (ap g.F.Files.map c.new-under.ensures.files) c.answer_ticket.result
-      (λ d. IsDamagedOfTicket d c.args.config.now c.args.ticket) (c.answer_ticket.ensures.names.damaged told);
-}
-
-pub returns-clause-sound : goal.returns-clause-sound
-returns-clause-sound g c told p is =
-    let there = with_config c.new-under.result.config.now (g.F.Files.map c.new-under.result.files.now) in
-    sound_under c.args.config.now c.new-under.result.config.now (g.F.Files.map c.args.files.now) (g.F.Files.map c.new-under.result.files.now) c.new-under.ensures.config (ap g.F.Files.map c.new-under.ensures.files) c.answer_ticket.result p is
-    (err_damaged c.answer_ticket.result (IsDamagedOfTicket there c.args.config.now c.args.ticket) (IsDamaged there) (λ name bad. bad.damaged) (c.answer_ticket.ensures.names.damaged told))
+returns-clause-names g c =
+    let dir = with_config c.args.config.now (g.F.Files.map c.args.files.now) in
+    subst (λ (b : Bool). NamesDamaged g.F.Files (λ name. is_answered_by c.args.ticket b name ≡ true) (IsDamagedOfTicket dir c.args.config.now c.args.ticket) c.decide.result) c.of.ensures c.decide.ensures.names

@@ -19,7 +19,7 @@ use Rattle.ml_acts.specs.Damaged.{waiting}
 use Rattle.ml_acts.specs.Doing.{DoesList}
 use Rattle.ml_acts.proofs.Asked.{named_as, other_name}
 use Rattle.ml_acts.proofs.Damages.{same_self}
-use Rattle.ml_post.specs.Answering.{IsDamagedOfTicket, is_answered_by, is_followed_by, is_taken_by}
+use Rattle.ml_post.specs.Answering.{IsDamagedOfTicket, accepts, is_answered_by, is_followed_by, is_taken_by}
 use Rattle.ml_post.specs.Publishing.{is_published_by, sent_key}
 use Rattle.ml_post.proofs.Damages.{ok_then}
 use Rattle.ml_post.proofs.Outcomes.{does_nothing}
@@ -41,8 +41,8 @@ followed ticket accept name is = go accept
 pub returns-in_default-clause-value : goal.returns-in_default-clause-value
 returns-in_default-clause-value g c told p is same =
     let found = subst (λ (o : Option Held). o ≡ held_post c.args.ticket p.held) c.in_default.is (c.in_ok-held.ensures.value told p.held is.held) in
-    does_nothing (g.F.Files.map c.args.files.now) (c.new.result, c.plain.result) p gone (answer c.args.now c.args.ticket c.args.letters.now c.args.accept p)
-    (ap (answer_held c.args.now c.args.ticket c.args.letters.now p c.args.accept) (sym found)) c.new.ensures c.plain.ensures is
+    does_nothing (g.F.Files.map c.args.files.now) (c.new.result, c.plain.result) p gone (answer c.args.now c.args.ticket c.args.letters.now (accepts c.args.decision) p)
+    (ap (answer_held c.args.now c.args.ticket c.args.letters.now p (accepts c.args.decision)) (sym found)) c.new.ensures c.plain.ensures is
 
 pub returns-clause-value : goal.returns-clause-value
 returns-clause-value g c told =
@@ -52,17 +52,17 @@ returns-clause-value g c told =
     let held = c.in-Some.held in
     let kept = g.met.F.Files.kept_map c.args.files.now c.look.new.files told c.look.ensures.reads.kept in
     let value =
-    subst (λ (d : Dir). IfOk c.answer_held.result (λ done. (p : Plain) → IsList d p → p.config ≡ config → held_post c.args.ticket p.held ≡ Some held → DoesList d done (answer_held c.args.now c.args.ticket letters p c.args.accept (Some held)))) kept
+    subst (λ (d : Dir). IfOk c.answer_held.result (λ done. (p : Plain) → IsList d p → p.config ≡ config → held_post c.args.ticket p.held ≡ Some held → DoesList d done (answer_held c.args.now c.args.ticket letters p (accepts c.args.decision) (Some held)))) kept
     (c.answer_held.ensures.value told) in
     ok_then c.answer_held.result (λ done does p is same.
     let found = subst (λ (o : Option Held). o ≡ held_post c.args.ticket p.held) c.in-Some.is (c.in_ok-held.ensures.value told p.held is.held) in
-    subst (λ (o : Option Held). DoesList dir done (answer_held c.args.now c.args.ticket letters p c.args.accept o)) found (does p is same (sym found))) value
+    subst (λ (o : Option Held). DoesList dir done (answer_held c.args.now c.args.ticket letters p (accepts c.args.decision) o)) found (does p is same (sym found))) value
 
 pub returns-in_err-held-clause-names : goal.returns-in_err-held-clause-names
 returns-in_err-held-clause-names g c =
     let dir = g.F.Files.map c.args.files.now in
     let ticket = c.args.ticket in
-    let accept = c.args.accept in
+    let accept = accepts c.args.decision in
     let names = named_as g.F.Files (λ name. is_answered_by ticket accept name ≡ true) _ dir dir (IsPostName ticket) Breaks (IsDamagedOfTicket dir c.args.config.now ticket) (λ told. refl)
     (λ name is. or_right (same_name name key_name) (is_followed_by ticket accept name) (followed ticket accept name is)) (λ name is bad. record { damaged = waiting bad; own = λ of. absurd (other_name name (post_name ticket) refl is.1 of) })
     c.in_err-held.ensures.names in

@@ -39,7 +39,7 @@ returns-clause-value g c told =
     let kept = g.met.F.Files.kept_map c.args.files.now c.list_keys.new.files told c.list_keys.ensures.reads.kept in
     let value =
     subst (λ (d : Dir). IfOk c.with_mail_to_moderators.result (λ done. (p : Plain) → IsList (with_puts d txn) p → p.config ≡ config → DoesList d done (mail_moderators c.args.now mail p, answers.held c.args.ticket))) kept
-    (subst (λ (r : Reply). IfOk c.with_mail_to_moderators.result (λ done. (p : Plain) → IsList (with_puts (g.F.Files.map c.list_keys.new.files) txn) p → p.config ≡ config → DoesList (g.F.Files.map c.list_keys.new.files) done (mail_moderators c.args.now mail p, r))) c.waiting.ensures
+    (subst (λ (r : Reply). IfOk c.with_mail_to_moderators.result (λ done. (p : Plain) → IsList (with_puts (g.F.Files.map c.list_keys.new.files) txn) p → p.config ≡ config → DoesList (g.F.Files.map c.list_keys.new.files) done (mail_moderators c.args.now mail p, r))) c.held.ensures
     (c.with_mail_to_moderators.ensures.value told)) in
     ok_then c.with_mail_to_moderators.result (λ done does p is same.
     asks dir p config c.in_ok-keys.keys c.args.now c.args.ticket c.args.message mail txn done same
