@@ -36,7 +36,7 @@ fn run_words(rt: &HostRuntime, words: &[String]) -> ExitCode {
         [] => ("", words),
     };
     let mut site = RealSite::new(rt, dir);
-    if site.take_room().is_err() {
+    if site.take_room(rt.alloc()).is_err() {
         return stop_for_memory(rt);
     }
     let (status, _) = ezmlm_main(rt.alloc(), rest, &mut source, site, &mut clock);

@@ -16,6 +16,9 @@ use std::io;
 use std::io::{ErrorKind, Read, Write};
 use std::os::unix::fs::FileExt;
 
+// The most bytes of a configuration that is kept. One that the program makes has fewer.
+const LARGEST_CONFIG: usize = 4096;
+
 /// The folder of a list, which is made and locked at its first use. It counts no faults.
 #[derive(Drop)]
 pub(crate) struct Folder<'a> {
@@ -29,6 +32,8 @@ pub(crate) struct Folder<'a> {
     // The file that was last looked for and not there: each item of a stream asks for the floor, which most lists haven't. The
     // lock keeps others from making it.
     absent: Option<Name>,
+    // The configuration, once it was read: each delivery asks for it, and no item changes it.
+    config: Option<Bytes>,
     // The last folder that was listed, as long as no file of it was changed: a walk over its files lists it once.
     listing: Option<Listing>,
     changes: Changes,
@@ -44,14 +49,15 @@ impl<'a> Folder<'a> {
             lock: None,
             log: None,
             absent: None,
+            config: None,
             listing: None,
             changes: Changes::new(rt.alloc()),
         }
     }
 
     /// Takes the room for paths. Behind it a first sync takes none of its own.
-    pub fn take_room(&mut self) -> Result<(), AllocError> {
-        self.paths.take_room()
+    pub fn take_room(&mut self, alloc: Global) -> Result<(), AllocError> {
+        self.paths.take_room(alloc)
     }
 
     // Makes the folder and takes its lock, where that isn't done. After an error the next call tries again.
@@ -62,7 +68,7 @@ impl<'a> Folder<'a> {
         if self.dir.is_empty() {
             return Err(ErrorKind::NotFound.into());
         }
-        self.take_room()?;
+        self.take_room(self.rt.alloc())?;
         self.make_list()?;
         let path = self.paths.below(b"lock")?;
         length_of(self.rt, path)?;
@@ -153,14 +159,45 @@ impl<'a> Folder<'a> {
         if self.absent == Some(name) {
             return Ok(None);
         }
+        if let Some(bytes) = self.kept(name) {
+            return Ok(Some(Bytes::from_slice(alloc, bytes)?));
+        }
         match open_to_read(self.rt, self.paths.file(name)?) {
-            Ok((file, len)) => Ok(Some(read_all(alloc, file, len)?)),
+            Ok((file, len)) => {
+                let bytes = read_all(alloc, file, len)?;
+                self.keep(alloc, name, bytes.as_slice());
+                Ok(Some(bytes))
+            }
             Err(error) if error.kind() == ErrorKind::NotFound => {
                 self.absent = Some(name);
                 Ok(None)
             }
             Err(error) => Err(error),
         }
+    }
+
+    // The bytes of the configuration, where they are kept and it is this file.
+    fn kept(&self, name: Name) -> Option<&[u8]> {
+        match &self.config {
+            Some(config) if name == Name::CONFIG => Some(config.as_slice()),
+            _ => None,
+        }
+    }
+
+    // Keeps the bytes of a file where it is the configuration, and no larger than one is. Where there is no memory for them they are
+    // read again.
+    fn keep(&mut self, alloc: Global, name: Name, bytes: &[u8]) {
+        if name == Name::CONFIG && bytes.len() <= LARGEST_CONFIG {
+            self.config = Bytes::from_slice(alloc, bytes).ok();
+        }
+    }
+
+    // Forgets what is kept of a file that is there, before it is changed.
+    fn forget(&mut self, name: Name) {
+        if name == Name::CONFIG {
+            self.config = None;
+        }
+        self.forget_listed(name.kind);
     }
 
     /// Whether a file is there, by its metadata.
@@ -216,7 +253,7 @@ impl<'a> Folder<'a> {
     pub fn write(&mut self, name: Name, bytes: &[u8]) -> io::Result<()> {
         self.ready()?;
         self.absent = None;
-        self.forget_listed(name.kind);
+        self.forget(name);
         if let Some(file) = self.changes.kept_file(name) {
             let written = write_whole(&file, u64::MAX, bytes);
             self.changes.keep_file(name, file);
@@ -275,7 +312,7 @@ impl<'a> Folder<'a> {
     /// Removes a file. It is no error where none is there.
     pub fn remove(&mut self, name: Name) -> io::Result<()> {
         self.ready()?;
-        self.forget_listed(name.kind);
+        self.forget(name);
         self.changes.note_entry(name)?;
         remove_file(self.rt, self.paths.file(name)?)?;
         self.changes.forget_file(name);

@@ -58,12 +58,15 @@ impl<'a> Paths<'a> {
     }
 
     /// Takes room for each path to come, so that a sync takes no memory.
-    pub fn take_room(&mut self) -> Result<(), AllocError> {
+    pub fn take_room(&mut self, alloc: Global) -> Result<(), AllocError> {
         let room = self.dir.len().saturating_add(ROOM);
-        self.text.clear();
-        self.text.reserve(room)?;
-        self.second.clear();
-        self.second.reserve(room)
+        if self.text.capacity() < room {
+            self.text = String::with_capacity(alloc, room)?;
+        }
+        if self.second.capacity() < room {
+            self.second = String::with_capacity(alloc, room)?;
+        }
+        Ok(())
     }
 
     /// The path of what stands at these bytes below the folder.

@@ -37,12 +37,12 @@ impl<'a> RealSite<'a> {
     }
 
     /// Takes the memory that a first call on the disk needs to begin: where that is a sync, it has no answer for want of it.
-    pub fn take_room(&mut self) -> Result<(), AllocError>
+    pub fn take_room(&mut self, alloc: Global) -> Result<(), AllocError>
         ensures calls { self.new.disk_calls ≡ self.old.disk_calls }
         ensures disk { self.new.disk_faults ≡ self.old.disk_faults }
         ensures output { self.new.output_faults ≡ self.old.output_faults }
     {
-        self.folder.take_room()
+        self.folder.take_room(alloc)
     }
 
     /// How many calls on the disk have failed, as far as that can be counted in 64 bits.

@@ -5,7 +5,7 @@ use ml_site::{Clock, Source};
 use std::test::Fail;
 use std::{fs, str};
 
-static STEPS: [(Step, &str); 421] = [
+static STEPS: [(Step, &str); 441] = [
     (Step::Row("files are found by the next run"), "ok"),
     (Step::Run("real/list"), "ok"),
     (Step::Read(1, 0), "none"),
@@ -53,6 +53,26 @@ static STEPS: [(Step, &str); 421] = [
     (Step::Read(20, 7), "none"),
     (Step::Remove(13, 1), "ok"),
     (Step::Sync, "ok"),
+    (Step::Failures, "0"),
+    (Step::Row("a run reads the configuration once"), "ok"),
+    (Step::Run("real/list"), "ok"),
+    (Step::Read(1, 0), "none"),
+    (Step::Write(1, 0, "first"), "ok"),
+    (Step::Read(1, 0), "first"),
+    (Step::MakeFile("real/list/config", "beside"), "ok"),
+    (Step::Read(1, 0), "first"),
+    (Step::Write(1, 0, "second"), "ok"),
+    (Step::Read(1, 0), "second"),
+    (Step::Write(2, 0, "a key"), "ok"),
+    (Step::Read(2, 0), "a key"),
+    (Step::MakeFile("real/list/key", "another"), "ok"),
+    (Step::Read(2, 0), "another"),
+    (Step::Remove(1, 0), "ok"),
+    (Step::Read(1, 0), "none"),
+    (Step::End, "ok"),
+    (Step::MakeFile("real/list/config", "third"), "ok"),
+    (Step::Run("real/list"), "ok"),
+    (Step::Read(1, 0), "third"),
     (Step::Failures, "0"),
     (Step::Row("the log is found by the next run"), "ok"),
     (Step::Run("real/list"), "ok"),
