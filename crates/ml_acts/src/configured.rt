@@ -82,7 +82,7 @@ impl<F: Files> Files for Configured<'_, F> {
         ensures later { F.faults self.old.files.now ≤ F.faults self.new.files.now }
         ensures cause { IsErrOf result Fault → Rose (F.faults self.old.files.now) (F.faults self.new.files.now) }
     {
-        if kind == CONFIG.kind {
+        if kind == Name::CONFIG.kind {
             return Ok(from);
         }
         self.files.skip_absent(alloc, kind, from, end)

@@ -6,7 +6,7 @@ ghost use Rattle.ml_base.specs.Name.{is_file};
 ghost use Rattle.ml_base.specs.declared.files.FilesError.TheVariants.{Fault};
 ghost use Rattle.ml_base.specs.KeptMaps.{map_kept_self, map_kept_then};
 
-use crate::{Bytes, FaultPlan, Files, FilesError, Name, Numbers, copied, first_place};
+use crate::{Bytes, FaultPlan, Files, FilesError, Name, Numbers, copied, next_place};
 use std::alloc::Global;
 use std::collections::BTreeMap;
 
@@ -69,7 +69,7 @@ impl Files for MapFiles {
         from: u64,
         end: u64,
     ) -> Result<u64, FilesError> {
-        Ok(first_place(&self.files, kind, from, end))
+        Ok(next_place(&self.files, kind, from, end))
     }
 
     ghost kept_self = { map_kept_self };

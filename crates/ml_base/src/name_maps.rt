@@ -5,8 +5,8 @@ ghost use Rattle.ml_base.specs.Absent.{NoEntryOf};
 use crate::Name;
 use std::collections::BTreeMap;
 
-/// The first place of a kind from one place on that a map has an entry of, or `end` where it has none of one before it.
-pub fn first_place<V>(map: &BTreeMap<Name, V>, kind: u8, from: u64, end: u64) -> u64
+/// The next place of a kind, from one on, that a map has an entry of, or `end` where it has none of one before it.
+pub fn next_place<V>(map: &BTreeMap<Name, V>, kind: u8, from: u64, end: u64) -> u64
     requires { from ≤ end }
     ensures range { (from ≤ result) × (result ≤ end) }
     ensures none { NoEntryOf map.now kind from result }

@@ -7,7 +7,7 @@ ghost use Rattle.ml_base.specs.Name.{is_file};
 ghost use Rattle.ml_base.specs.declared.names.Name.{Name as TheName};
 ghost use Rattle.ml_journal.specs.Newest.{newest_of, with_newest, Sets};
 
-use ml_base::{Bytes, Name, Txn, first_place};
+use ml_base::{Bytes, Name, Txn, next_place};
 use std::alloc::{AllocError, Global};
 use std::collections::BTreeMap;
 
@@ -64,13 +64,13 @@ impl Newest {
         }
     }
 
-    /// The first place of a kind from one place on that a put is of, or `end` where none is of one before it.
-    pub(crate) fn first_place(&self, kind: u8, from: u64, end: u64) -> u64
+    /// The next place of a kind, from one on, that a put is of, or `end` where none is of one before it.
+    pub(crate) fn next_place(&self, kind: u8, from: u64, end: u64) -> u64
         requires { from ≤ end }
         ensures range { (from ≤ result) × (result ≤ end) }
         ensures none { NoEntryOf self.now.puts kind from result }
     {
-        first_place(&self.puts, kind, from, end)
+        next_place(&self.puts, kind, from, end)
     }
 }
 

@@ -82,6 +82,11 @@ const FIRST: Name = Name { kind: 13, at: 1 };
 
 const THIRD: Name = Name { kind: 13, at: 3 };
 
+const LAST: Name = Name {
+    kind: 13,
+    at: 1_000_000_000_000_000,
+};
+
 const POST: &[u8] = b"10:1000000000,3:g@h,3:hi\n,";
 
 const LATER: &[u8] = b"10:1000000100,3:a@b,0:,";
@@ -199,6 +204,16 @@ const CASES: &[Case] = &[
             (Call::Take(3), Of(b"1000000100 a@b\n")),
             (Call::File(TICKETS), Of(b"4:4\n")),
         ],
+    },
+    Case {
+        title: "the only post stands behind the widest gap",
+        files: &[(TICKETS, Of(b"1:1000000000000001\n")), (LAST, Of(POST))],
+        changes: UNCHANGED,
+        failing: NONE,
+        calls: &[(
+            Call::Older(1_000_432_000, 10),
+            Of(b"1000000000000000\n"),
+        )],
     },
     Case {
         title: "old posts",

@@ -22,8 +22,8 @@ invariant_of-self g c =
 pub returns-clause-value : goal.returns-clause-value
 returns-clause-value g c = λ told.
     let self = c.args.self.now in
-    none_shown (g.S.Site.disk self.site).reads self.end self.newest.puts c.args.kind c.args.from c.first_place-end.result c.skip_some.result (held_rests self told)
-    c.first_place-end.ensures.none c.skip_some.ensures.range (c.skip_some.ensures.none told)
+    none_shown (g.S.Site.disk self.site).reads self.end self.newest.puts c.args.kind c.args.from c.next_place-end.result c.skip_some.result (held_rests self told)
+    c.next_place-end.ensures.none c.skip_some.ensures.range (c.skip_some.ensures.none told)
 
 pub returns-clause-kept : goal.returns-clause-kept
 returns-clause-kept g c =

@@ -2,7 +2,7 @@ use Rattle.std.proofs.Common.{◌≡◌, false, [], arith, rules}
 use Rattle.std.specs.Ordering.{is_gt}
 use Rattle.ml_base.specs.Name.{name_cmp}
 use Rattle.ml_base.proofs.NameOrder.{none_before, first_of, in_order}
-use Rattle.ml_base.proofs.name_maps.first_place.Goals as goal
+use Rattle.ml_base.proofs.name_maps.next_place.Goals as goal
 
 pub returns-in-Some-clause-none : goal.returns-in-Some-clause-none
 returns-in-Some-clause-none g c =
