@@ -10,7 +10,8 @@ ghost use Rattle.ml_archive_audit.specs.Found.{ArePosted, HasOtherText, IsPlace,
 
 use crate::files::text_of;
 use crate::keys::{Keys, Places, keys_of, place_of};
-use ml_base::{Bytes, Files, Name, PartError, push_netstring, write_number};
+use ml_base::{Bytes, Files, Name, PartError, push_netstring};
+use ml_rows::push_numbers;
 use std::alloc::{AllocError, Global};
 
 // How many thread files there are.
@@ -21,32 +22,6 @@ const POSTS: u64 = 4_096;
 
 // How many thread files are compared at a time at least.
 const FEW: u64 = 16;
-
-// Adds a number in decimal.
-fn push_number(out: &mut Bytes, number: u64) -> Result<(), AllocError>
-    ensures { OnOk result (out.new ≡ out.old ++ decimal number) }
-{
-    let mut digits = [0u8; 20];
-    let len = write_number(number, &mut digits);
-    out.extend(&digits[..len])
-}
-
-// Adds numbers in decimal, with commas between them.
-fn push_numbers(out: &mut Bytes, numbers: &[u64]) -> Result<(), AllocError>
-    ensures { OnOk result (out.new ≡ out.old ++ comma_text numbers.now) }
-{
-    let [first, more @ ..] = numbers else {
-        return Ok(());
-    };
-    push_number(out, *first)?;
-    let mut rest = more;
-    while let [number, more @ ..] = rest {
-        out.push(b',')?;
-        push_number(out, *number)?;
-        rest = more;
-    }
-    Ok(())
-}
 
 // Adds the thread of a key and its numbers.
 fn push_thread(

@@ -1,7 +1,9 @@
 // Byte strings, which contracts see as lists. They keep the allocator that they were made with.
 ghost use Rattle.std.specs.Prelude.{◌≡◌, ◌==◌, ◌^◌, ◌<◌, ℕ, List, [], ◌∷◌, ◌++◌, length, take, IfOk, OnOk, OnErr};
+ghost use Rattle.std.specs.Fmt.{decimal};
 ghost use Rattle.std.specs.Option.{option_copied};
 
+use crate::write_number;
 use std::alloc::{AllocError, Global};
 use std::marker::Model;
 
@@ -108,6 +110,16 @@ impl Bytes {
     {
         self.items.extend_from_slice(piece)?;
         Ok(())
+    }
+
+    /// Adds the decimal digits of a number at the end. An error changes nothing.
+    pub fn push_number(&mut self, number: u64) -> Result<(), AllocError>
+        ensures ok { OnOk result (self.new ≡ self.old ++ decimal number) }
+        ensures err { OnErr result (self.new ≡ self.old) }
+    {
+        let mut digits = [0u8; 20];
+        let len = write_number(number, &mut digits);
+        self.extend(&digits[..len])
     }
 }
 

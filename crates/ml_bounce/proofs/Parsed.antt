@@ -15,62 +15,13 @@ use Rattle.ml_base.proofs.BelowLemmas.{less}
 use Rattle.ml_base.proofs.SortedLaws.{bytes_total}
 use Rattle.ml_rows.specs.Rows.{onto, netstrings_at, row_of}
 use Rattle.ml_rows.specs.Values.{all_numbers, split_all, comma_numbers}
+use Rattle.ml_rows.proofs.Commas.{two}
 use Rattle.ml_rows.proofs.RowLaws.{row_goes_on, row_fails}
 use Rattle.ml_bounce.specs.Files.{IsEntry, entry_text}
 use Rattle.ml_bounce.specs.Ledger.{Ledger, LedgerEntry}
 use Rattle.ml_bounce.specs.Reading.{key_in, entry_of_content, entry_of_fields, entry_at, is_below_first}
 use Rattle.ml_bounce.proofs.Exact.{key_read, key_written, entry_read, entry_written, entry_some}
 use Rattle.ml_bounce.proofs.Folded.{own_key, none_capital}
-
-module _ {A : Type 0} where
-  -- a value onto what is there
-  pub onto_more : (out : List A) (a : A) (o : Option (List A)) → option_map (λ more. out ++ more) (onto a o) ≡ option_map (λ more. (out ++ a ∷ []) ++ more) o
-  onto_more out a None = refl
-  onto_more out a (Some more) = ap Some (sym (append_assoc out (a ∷ []) more))
-
-  -- one more was read
-  pub one_more : (whole : Option (List A)) (out : List A) (a : A) (here more : Option (List A)) → whole ≡ option_map (λ xs. out ++ xs) here → here ≡ onto a more → whole ≡ option_map (λ xs. (out ++ a ∷ []) ++ xs) more
-  one_more whole out a here more e f = e ∙ ap (option_map (λ xs. out ++ xs)) f ∙ onto_more out a more
-
--- the texts that a text is split into, by its first comma
-abbrev pub parts_by : Option (Text × Text) → Text → List Text
-parts_by None text = text ∷ []
-parts_by (Some p) text = p.0 ∷ split_all 44 p.1
-
-split_parts : (text : Text) → split_all 44 text ≡ parts_by (split_first 44 text) text
-split_parts [] = refl
-split_parts (x ∷ xs) = go (x == 44) (split_first 44 xs) (split_parts xs)
-  where
-    go : (t : Bool) (o : Option (Text × Text)) → split_all 44 xs ≡ parts_by o xs → cond t ([] ∷ split_all 44 xs) (onto_line x (split_all 44 xs)) ≡ parts_by (cond t (Some ([], xs)) (onto_first x o)) (x ∷ xs)
-    go true o e = refl
-    go false None e = ap (onto_line x) e
-    go false (Some p) e = ap (onto_line x) e
-
-abbrev two : Text → Text → Option (Text × Text)
-two a b = Some (a, b)
-
-abbrev numbers_in : Text → Option (List ℕ)
-numbers_in text = all_numbers 99_999_999 (split_all 44 text)
-
-pub comma_some : (text : Text) → 0 < length text → comma_numbers 99_999_999 text ≡ numbers_in text
-comma_some [] lt = absurd (omega arith)
-comma_some (b ∷ bs) lt = refl
-
--- a number in front of a comma
-pub number_more : (text digits more : Text) (n : ℕ) → two digits more ≡ split_first 44 text → Some n ≡ number_within 99_999_999 digits → numbers_in text ≡ onto n (numbers_in more)
-number_more text digits more n cut is =
-    ap (all_numbers 99_999_999) (split_parts text ∙ ap (λ o. parts_by o text) (sym cut)) ∙ ap (option_and_then (λ m. onto m (numbers_in more))) (sym is)
-
-pub number_not : (text digits more : Text) → two digits more ≡ split_first 44 text → None ≡ number_within 99_999_999 digits → numbers_in text ≡ None
-number_not text digits more cut is =
-    ap (all_numbers 99_999_999) (split_parts text ∙ ap (λ o. parts_by o text) (sym cut)) ∙ ap (option_and_then (λ m. onto m (numbers_in more))) (sym is)
-
--- and the last number
-pub last_number : (text : Text) (n : ℕ) → None ≡ split_first 44 text → Some n ≡ number_within 99_999_999 text → numbers_in text ≡ Some (n ∷ [])
-last_number text n cut is = ap (all_numbers 99_999_999) (split_parts text ∙ ap (λ o. parts_by o text) (sym cut)) ∙ ap (option_and_then (λ m. onto m (Some []))) (sym is)
-
-pub last_not : (text : Text) → None ≡ split_first 44 text → None ≡ number_within 99_999_999 text → numbers_in text ≡ None
-last_not text cut is = ap (all_numbers 99_999_999) (split_parts text ∙ ap (λ o. parts_by o text) (sym cut)) ∙ ap (option_and_then (λ m. onto m (Some []))) (sym is)
 
 -- a key
 pub key_there : (text : Text) (capital : Bool) → IsAddress text → capital ≡ list_any is_ascii_uppercase text → not capital ≡ true → key_in text ≡ Some text
@@ -154,11 +105,7 @@ entry_unread n k text content more cut is some =
     row_fails (entry_at n) entry_text (λ place. IsEntry n) (entry_written n) (entry_read n) (λ place e is. entry_some e) k text some
     (ap (option_and_then (with_rest n)) (sym cut) ∙ ap (option_map (onto_rest more)) (sym is))
 
--- whether bytes are left
-pub some_left : (text : Text) → (length text == 0) ≡ false → 0 < length text
-some_left [] e = cc
-some_left (b ∷ bs) e = omega arith
-
+-- whether no bytes are left
 pub none_left : (text : Text) → (length text == 0) ≡ true → text ≡ []
 none_left [] e = refl
 none_left (b ∷ bs) e = absurd (omega (arith, eqb-true (length (b ∷ bs)) 0 e))

@@ -10,9 +10,10 @@ ghost use Rattle.ml_bounce.specs.Ledger.{is_blank_at};
 ghost use Rattle.ml_bounce.specs.Reading.{stage_of, key_in, entry_of_content, entry_at, ledger_of};
 ghost use Rattle.ml_bounce.specs.Reading as spec;
 
-use crate::numbers::{are_distinct, numbers_of};
+use crate::numbers::are_distinct;
 use crate::{LedgerEntry, Stage};
 use ml_base::{Address, Bytes, LAST_MOMENT, Row, hash, is_kept, number_within, split_netstring};
+use ml_rows::numbers_of;
 use std::alloc::{AllocError, Global};
 use std::cmp::Ordering;
 

@@ -9,10 +9,10 @@ ghost use Rattle.ml_bounce.specs.Files.{stage_text, content_text, entry_text, le
 ghost use Rattle.ml_bounce.specs.Ledger.{with_ledger, forget};
 ghost use Rattle.ml_bounce.specs.Reading.{is_from, behind_key};
 
-use crate::numbers::{push_number, push_numbers};
 use crate::reading::is_before;
 use crate::{LedgerEntry, Stage};
 use ml_base::{Bytes, push_netstring, write_number};
+use ml_rows::push_numbers;
 use std::alloc::{AllocError, Global};
 
 // Adds a letter and a moment.
@@ -20,7 +20,7 @@ fn push_moment(out: &mut Bytes, letter: u8, moment: u64) -> Result<(), AllocErro
     ensures { OnOk result (out.new ≡ out.old ++ letter ∷ decimal moment) }
 {
     out.push(letter)?;
-    push_number(out, moment)
+    out.push_number(moment)
 }
 
 // The text of a stage.

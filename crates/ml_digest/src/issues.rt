@@ -10,7 +10,7 @@ ghost use Rattle.ml_digest.specs.Steps.{topics_text, preface_text};
 
 use crate::DigestPost;
 use crate::messages::add_message;
-use crate::writing::{add_end, add_header, add_number, add_title};
+use crate::writing::{add_end, add_header, add_title};
 use ml_base::Bytes;
 use ml_config::Config;
 use std::alloc::{AllocError, Global};
@@ -60,9 +60,9 @@ fn add_preface(
 {
     add_title(out, name, issue)?;
     out.extend(b", posts ")?;
-    add_number(out, first)?;
+    out.push_number(first)?;
     out.extend(b" to ")?;
-    add_number(out, first + posts.len() as u64 - 1)?;
+    out.push_number(first + posts.len() as u64 - 1)?;
     out.extend(b"\n\nTopics:\n")?;
     add_topics(out, first, posts)?;
     out.extend(b"\n----------------------------------------------------------------------\n\n")?;
@@ -75,7 +75,7 @@ fn add_topics(out: &mut Bytes, first: u64, posts: &[DigestPost]) -> Result<(), A
     ensures { OnOk result (out.new ≡ out.old ++ topics_text first posts.now) }
 {
     for (i, post) in posts.iter().enumerate() {
-        add_number(out, first + i as u64)?;
+        out.push_number(first + i as u64)?;
         out.extend(b": ")?;
         out.extend(post.subject.as_slice())?;
         out.push(b'\n')?;

@@ -9,7 +9,6 @@ ghost use Rattle.ml_digest.specs.declared.posts.Mark.{Mark};
 ghost use Rattle.ml_rows.specs.Values.{line_number};
 
 use crate::Mark;
-use crate::writing::add_number;
 use ml_base::{
     Bytes, Files, LAST_POST_NUMBER, Name, PartError, Put, Txn, number_within, split_first,
 };
@@ -80,9 +79,9 @@ fn write_mark(alloc: Global, mark: &Mark) -> Result<Bytes, AllocError>
     ensures { IfOk result (λ bytes. bytes ≡ mark_text mark.now) }
 {
     let mut out = Bytes::with_capacity(alloc, 18)?;
-    add_number(&mut out, mark.last)?;
+    out.push_number(mark.last)?;
     out.push(b':')?;
-    add_number(&mut out, mark.issue)?;
+    out.push_number(mark.issue)?;
     out.push(b'\n')?;
     Ok(out)
 }

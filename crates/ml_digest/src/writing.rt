@@ -5,18 +5,9 @@ ghost use Rattle.ml_base.specs.Texts.{lf, lines_text, with_line_end, list_addres
 ghost use Rattle.ml_digest.specs.Digest.{issue_title, end_line, asterisks};
 ghost use Rattle.ml_digest.specs.Steps.{first_text, header_text};
 
-use ml_base::{Bytes, write_number};
+use ml_base::Bytes;
 use ml_config::Config;
 use std::alloc::AllocError;
-
-// The digits of a number.
-pub(crate) fn add_number(out: &mut Bytes, number: u64) -> Result<(), AllocError>
-    ensures { OnOk result (out.new ≡ out.old ++ decimal number) }
-{
-    let mut digits = [0u8; 20];
-    let len = write_number(number, &mut digits);
-    out.extend(&digits[..len])
-}
 
 // A line of two parts.
 pub(crate) fn add_line(out: &mut Bytes, name: &[u8], value: &[u8]) -> Result<(), AllocError>
@@ -44,7 +35,7 @@ pub(crate) fn add_title(out: &mut Bytes, name: &[u8], issue: u64) -> Result<(), 
 {
     out.extend(name)?;
     out.extend(b" Digest Issue ")?;
-    add_number(out, issue)
+    out.push_number(issue)
 }
 
 // LOCAL-help@HOST.

@@ -77,7 +77,7 @@ fn record_head(alloc: Global, size: u64) -> Result<Bytes, AllocError>
     ensures { IfOk result (λ head. head ≡ decimal size ++ 58 ∷ []) }
 {
     let mut head = Bytes::with_capacity(alloc, HEAD)?;
-    add_digits(&mut head, size)?;
+    head.push_number(size)?;
     head.push(b':')?;
     Ok(head)
 }
@@ -91,7 +91,7 @@ fn put_head(alloc: Global, put: &Put) -> Result<Bytes, AllocError>
         Some(bytes) => {
             head.push(b'W')?;
             add_name(&mut head, put.name)?;
-            add_digits(&mut head, bytes.len() as u64)?;
+            head.push_number(bytes.len() as u64)?;
             head.push(b':')?;
         }
         None => {
@@ -115,14 +115,6 @@ fn add_number(out: &mut Bytes, number: u64) -> Result<(), AllocError>
     let mut digits = [0u8; 20];
     let len = write_number(number, &mut digits);
     push_netstring(out, &digits[..len])
-}
-
-fn add_digits(out: &mut Bytes, number: u64) -> Result<(), AllocError>
-    ensures { OnOk result (out.new ≡ out.old ++ decimal number) }
-{
-    let mut digits = [0u8; 20];
-    let len = write_number(number, &mut digits);
-    out.extend(&digits[..len])
 }
 
 /// How many bytes the puts take in a record, or None where they are more than a netstring may have.

@@ -8,7 +8,7 @@ ghost use Rattle.ml_reply.specs.Dates.{date_text as date_of};
 ghost use Rattle.ml_manage.specs.Texts as words;
 
 use ml_archive::{Entry, Post};
-use ml_base::{Bytes, LAST_MOMENT, write_number};
+use ml_base::{Bytes, LAST_MOMENT};
 use ml_config::Config;
 use ml_reply::date_text;
 use std::alloc::{AllocError, Global};
@@ -18,15 +18,6 @@ pub(crate) fn no_posts(alloc: Global) -> Result<Bytes, AllocError>
     ensures { IfOk result (λ text. text ≡ words.no_posts) }
 {
     Bytes::from_slice(alloc, b"No such posts.\n")
-}
-
-// The digits of a number.
-fn add_number(out: &mut Bytes, number: u64) -> Result<(), AllocError>
-    ensures { OnOk result (out.new ≡ out.old ++ decimal number) }
-{
-    let mut digits = [0u8; 20];
-    let len = write_number(number, &mut digits);
-    out.extend(&digits[..len])
 }
 
 // LOCAL@HOST.
@@ -54,7 +45,7 @@ fn add_first_line(out: &mut Bytes, config: &Config, number: u64) -> Result<(), A
     ensures { OnOk result (out.new ≡ out.old ++ (codes "--- post " ++ decimal number ++ codes " of " ++ post_address config.now.local config.now.host ++ codes " ---" ++ lf)) }
 {
     out.extend(b"--- post ")?;
-    add_number(out, number)?;
+    out.push_number(number)?;
     out.extend(b" of ")?;
     add_list(out, config)?;
     out.extend(b" ---")?;
@@ -79,7 +70,7 @@ pub(crate) fn add_post(
 fn add_head(out: &mut Bytes, entry: &Entry) -> Result<(), AllocError>
     ensures { OnOk result (out.new ≡ out.old ++ (decimal entry.now.number ++ codes ": " ++ date_of (min entry.now.moment 253_402_300_799) ++ codes "; " ++ entry.now.sender ++ lf)) }
 {
-    add_number(out, entry.number)?;
+    out.push_number(entry.number)?;
     out.extend(b": ")?;
     out.extend(&date_text(entry.moment.min(LAST_MOMENT)))?;
     out.extend(b"; ")?;

@@ -1,3 +1,4 @@
 pub mod RowLaws
 pub mod ValueLaws
 pub mod CutLaws
+pub mod Commas

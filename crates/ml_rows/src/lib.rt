@@ -2,5 +2,7 @@
 #![tactic(auto)]
 
 mod laws;
+mod numbers;
 
 pub use laws::law_values;
+pub use numbers::{numbers_of, push_numbers};

@@ -2,7 +2,8 @@ use Rattle.std.proofs.Common.{◌∙◌, ◌+◌, ◌++◌, sym, ap, option_map}
 use Rattle.ml_rows.specs.Rows.{row_of}
 use Rattle.ml_bounce.specs.Ledger.{Ledger}
 use Rattle.ml_bounce.specs.Reading.{entry_at}
-use Rattle.ml_bounce.proofs.Parsed.{one_more, entry_more}
+use Rattle.ml_rows.proofs.Commas.{one_more}
+use Rattle.ml_bounce.proofs.Parsed.{entry_more}
 use Rattle.ml_bounce.proofs.reading.entries_of.Goals as goal
 
 pub loop-rest-preserved : goal.loop-rest-preserved

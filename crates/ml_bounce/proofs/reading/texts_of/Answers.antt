@@ -1,5 +1,6 @@
 use Rattle.std.proofs.Common.{sym, ◌∙◌}
-use Rattle.ml_bounce.proofs.Parsed.{four_not, some_left}
+use Rattle.ml_rows.proofs.Commas.{some_left}
+use Rattle.ml_bounce.proofs.Parsed.{four_not}
 use Rattle.ml_bounce.proofs.reading.texts_of.Goals as goal
 
 pub returns-then-not-is_empty-clause-none : goal.returns-then-not-is_empty-clause-none

@@ -8,5 +8,5 @@ use Rattle.ml_digest.proofs.issues.add_preface.Goals as goal
 pub returns : goal.returns
 unfolding preface_text
 returns c =
-    rw (c.in_ok-extend-4.ensures.ok, c.in_ok-add_topics.ensures, c.in_ok-extend-3.ensures.ok, c.in_ok-add_number-2.ensures, c.in_ok-extend-2.ensures.ok, c.in_ok-add_number.ensures, c.in_ok-extend.ensures.ok, c.in_ok-add_title.ensures)
+    rw (c.in_ok-extend-4.ensures.ok, c.in_ok-add_topics.ensures, c.in_ok-extend-3.ensures.ok, c.in_ok-push_number-2.ensures.ok, c.in_ok-extend-2.ensures.ok, c.in_ok-push_number.ensures.ok, c.in_ok-extend.ensures.ok, c.in_ok-add_title.ensures)
     (preface_pieces c.args.out.now (issue_title c.args.name.now c.args.issue) (codes ", posts ") (decimal c.args.first) (codes " to ") (decimal (c.args.first + length c.args.posts.now - 1)) (codes "Topics:") (topics_text c.args.first c.args.posts.now) preamble_rule)

@@ -10,6 +10,6 @@ loop-i-preserved c =
     let post = c.index-posts-i.result in
     let more = topics_more c.args.first c.args.posts.now c.loop-i.i post (omega arith) c.index-posts-i.is in
     let next : c.loop-i.i + 1 ≡ suc c.loop-i.i = omega arith in
-    rw (c.in_ok-push.ensures.ok, c.in_ok-extend-2.ensures.ok, c.as_slice.ensures, c.in_ok-extend.ensures.ok, c.in_ok-add_number.ensures, c.loop-i.invariant)
+    rw (c.in_ok-push.ensures.ok, c.in_ok-extend-2.ensures.ok, c.as_slice.ensures, c.in_ok-extend.ensures.ok, c.in_ok-push_number.ensures.ok, c.loop-i.invariant)
     (topic_pieces c.args.out.now (topics_text c.args.first (take c.loop-i.i c.args.posts.now)) (decimal (c.args.first + c.loop-i.i)) (codes ": ") post.subject
     ∙ ap (λ (t : Text). c.args.out.now ++ t) (sym (ap (λ n. topics_text c.args.first (take n c.args.posts.now)) next ∙ more)))
