@@ -1,5 +1,5 @@
 -- An entry above the number of posts: in the last one's group alone, and in no archive.
-use Rattle.std.proofs.Common.{◌≡◌, ◌∙◌, ◌+◌, ◌*◌, ◌/◌, ◌<◌, ◌≤◌, inl, inr, ⊎_elim, max, ℕ, suc, Bool, true, false, cond, nat_lt, ◌||◌, Option, List, [], ◌∷◌, length, map, drop, get_or, refl, sym, ap, ap₂, subst, arith}
+use Rattle.std.proofs.Common.{◌≡◌, ◌∙◌, ◌+◌, ◌-◌, ◌*◌, ◌/◌, ◌<◌, ◌≤◌, inl, inr, ⊎_elim, max, ℕ, suc, Bool, true, false, cond, nat_lt, ◌||◌, Option, List, [], ◌∷◌, length, map, drop, get_or, refl, sym, ap, ap₂, subst, arith}
 use Rattle.std.proofs.lemmas.Bool.{false≢true, leb-true, lt-leb, or_cases}
 use Rattle.std.specs.List.{enumerate_from, filter, range_with_len}
 use Rattle.ml_base.specs.Bytes.{Text}

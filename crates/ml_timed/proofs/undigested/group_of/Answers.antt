@@ -1,4 +1,4 @@
-use Rattle.std.proofs.Common.{◌≡◌, true, ◌∙◌, refl, sym, ap, arith, rules}
+use Rattle.std.proofs.Common.{◌≡◌, inl, inr, true, ◌∙◌, refl, sym, ap, subst, arith, rules}
 use Rattle.std.proofs.lemmas.Bool.{false≢true, or_right}
 use Rattle.ml_base.specs.Dir.{same_name}
 use Rattle.ml_base.specs.declared.names.Name.{Name}
@@ -36,7 +36,7 @@ returns-then-not-are_short-clause-names g c =
     let up = c.if-group-count.false in
     let name : Name = record { kind = 10; at = group } in
     record {
-      named = or_right (same_name name number_name) (is_index name) (index_placed group name (omega (arith, few, up)) refl);
+      named = subst (λ (a : Name). is_of_posts_told a ≡ true) (sym c.index-then-not-are_short.ensures.name) (or_right (same_name name number_name) (is_index name) (index_placed group name (omega (arith, few, up)) refl));
       damaged = λ told. absurd (false≢true (sym c.if-not-are_short.true ∙ c.are_short.ensures ∙ ap are_short c.as_slice.ensures ∙ index_short dir group c.in_ok-entries.entries (c.in_ok-entries.ensures.read told)));
     }
 
