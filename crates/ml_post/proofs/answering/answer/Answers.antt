@@ -1,6 +1,5 @@
 use Rattle.std.proofs.Common.{◌≡◌, Bool, IfOk, true, subst}
 use Rattle.ml_base.specs.ReadFiles.{NamesDamaged}
-use Rattle.ml_base.specs.declared.names.Name.{Name}
 use Rattle.ml_plain.specs.Directory.{IsList}
 use Rattle.ml_plain.specs.Managing.{answer}
 use Rattle.ml_plain.specs.Plain.{Plain}
