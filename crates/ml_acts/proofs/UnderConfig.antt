@@ -1,8 +1,6 @@
 -- Files under a configuration.
-use Rattle.std.proofs.Common.{◌≡◌, ◌∙◌, ◌&&◌, ◌==◌, ℕ, Bool, true, false, cond, List, Some, Result, Ok, Err, IfOk, IfErr, refl, sym, ap, ap₂, subst}
+use Rattle.std.proofs.Common.{◌≡◌, ◌∙◌, Bool, true, false, cond, List, Some, Result, Ok, Err, IfOk, IfErr, refl, sym, ap, ap₂, subst}
 use Rattle.std.proofs.Math.Path.{fun_ext}
-use Rattle.std.proofs.lemmas.Bool.{ne_eqb}
-use Rattle.ml_base.specs.Absent.{NoneOf}
 use Rattle.ml_base.specs.Dir.{Dir, same_name}
 use Rattle.ml_base.specs.PartErrors.{OnDamaged}
 use Rattle.ml_base.specs.declared.names.Name.{Name}
@@ -39,11 +37,6 @@ module _ (c : Config) (dir : Dir) where
 
   pub config_listed : (p : Plain) → IsList dir p → p.config ≡ c → with_config c dir ≡ dir
   config_listed p list same = config_held (subst (λ (d : Config). IsConfigFile (dir config_name) d) same list.config)
-
-  -- of another kind than its own no more files are there
-  pub none_under : {E : Type 0} (kind from : ℕ) (result : Result ℕ E) → (kind ≡ 1 → ⊥) → IfOk result (NoneOf dir kind from) → IfOk result (NoneOf (with_config c dir) kind from)
-  none_under kind from (Ok n) other none = λ at up below. ap (λ (t : Bool). cond (t && (at == 0)) (Some (config_text c)) (dir (record { kind = kind; at = at }))) (ne_eqb kind 1 other) ∙ none at up below
-  none_under kind from (Err e) other none = tt
 
   -- the counters are what they were
   pub room_under : HasRoom dir → HasRoom (with_config c dir)
