@@ -36,7 +36,9 @@ use std::alloc::{AllocError, Global};
 /// What a moderator decides about a post that waits.
 #[derive(Clone, Copy, Debug, PartialEq, Eq)]
 pub enum Decision {
+    /// It is posted.
     Accept,
+    /// It goes back to its sender.
     Reject,
 }
 

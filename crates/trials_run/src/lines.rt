@@ -54,10 +54,16 @@ fn put_stop(number: Option<u64>, status: u8, why: Why, out: &mut [u8; 64]) -> us
 
 fn spelled(alloc: Global, line: Line) -> Result<Bytes, AllocError> {
     let mut out = [0u8; 64];
+    let code = match line {
+        Line::Posted(..) => Reply::POSTED,
+        Line::Full(_) => Reply::FULL,
+        _ => Reply::UNSUBSCRIBED,
+    };
     let len = match line {
-        Line::Posted(item, number) => answer_line(item, Reply::posted(number), &mut out),
-        Line::Full(item) => answer_line(item, Reply::plain(Reply::FULL), &mut out),
-        Line::Unsubscribed(item) => answer_line(item, Reply::plain(Reply::UNSUBSCRIBED), &mut out),
+        Line::Posted(item, number) => answer_line(item, Reply { code, number }, &mut out),
+        Line::Full(item) | Line::Unsubscribed(item) => {
+            answer_line(item, Reply { code, number: 0 }, &mut out)
+        }
         Line::Stop(number, status, why) => put_stop(number, status, why, &mut out),
     };
     Bytes::from_slice(alloc, out.get(..len).unwrap_or(&out))
