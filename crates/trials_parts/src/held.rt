@@ -210,10 +210,7 @@ const CASES: &[Case] = &[
         files: &[(TICKETS, Of(b"1:1000000000000001\n")), (LAST, Of(POST))],
         changes: UNCHANGED,
         failing: NONE,
-        calls: &[(
-            Call::Older(1_000_432_000, 10),
-            Of(b"1000000000000000\n"),
-        )],
+        calls: &[(Call::Older(1_000_432_000, 10), Of(b"1000000000000000\n"))],
     },
     Case {
         title: "old posts",
