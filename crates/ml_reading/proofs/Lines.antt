@@ -1,6 +1,6 @@
 -- The lines of ids, one id behind the other.
 use Rattle.std.proofs.Common.{◌≡◌, ◌+◌, ◌≤◌, ◌++◌, ◌∷◌, [], ℕ, List, Option, Some, None, IsTrue, sym, ap, subst, ◌∙◌, append-nil, refl, arith, inl, inr}
-use Rattle.std.proofs.lemmas.Bool.{cases_eq}
+use Rattle.std.proofs.lemmas.Bool.{cases_eq, cases_lt}
 use Rattle.std.specs.List.{AllZip, concat}
 use Rattle.std.proofs.lemmas.List.Folds.{concat-append}
 use Rattle.ml_base.specs.Bytes.{Text}
@@ -88,6 +88,23 @@ listed_more dir low id text new (Some out) before looks is =
           let first : IsFirst dir Ids before.behind next (record { number = id; bytes = out_text out }) = record { onward = within; below = omega (arith, fits); drawn = looks.0; before = before.gap; file = looks.1.spelled } in
           sym (ids_more dir low next before.behind (record { number = id; bytes = out_text out }) before.listed queue counted all up first)
           ∙ before.are_all next queue (omega (arith, fits)) counted all;
+    }
+
+-- the same up to an id before which there is no further entry
+pub listed_on : (dir : Dir) (low from id : ℕ) (text : Text) → AreListed dir low from text → from ≤ id → NoneThere dir Ids from id → AreListed dir low id text
+listed_on dir low from id text before up none =
+    let within = before.within in
+    record {
+      listed = before.listed;
+      behind = before.behind;
+      up = before.up;
+      within = omega (arith, within, up);
+      gap = λ n on below drawn. elim (cases_lt n from) [
+        | inl under ↦ before.gap n on under drawn
+        | inr over ↦ none n over below drawn
+      ];
+      lines = before.lines;
+      are_all = λ next queue fits counted all. before.are_all next queue (omega (arith, up, fits)) counted all;
     }
 
 -- all that are below the next one
