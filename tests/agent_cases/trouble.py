@@ -86,25 +86,31 @@ def case_damaged_list(world):
     same(world.post(1), '250 2.0.0 posted 1', 'the mended list')
 
 
+def configured(folder, config):
+    """Gives a list another configuration while no run of the program has it, as the manual page says: a run reads it once."""
+    with held(folder):
+        (folder / 'config').write_bytes(config)
+
+
 def case_damaged_configuration(world):
     """A list whose configuration can't be read puts its mail off, also where it never was served, and the others go on."""
     folder = world.list()
     world.list('dogs')
     config = (folder / 'config').read_bytes()
-    (folder / 'config').write_bytes(b'')
+    configured(folder, b'')
     world.begin()
     same(world.post(1, to='dogs'), '250 2.0.0 posted 1', 'the sound list')
     begins(world.post(2), '451', 'the damaged list')
     begins(world.post(2, to='birds'), '451', 'an address that may be the damaged list\'s')
-    (folder / 'config').write_bytes(config)
+    configured(folder, config)
     same(world.post(2), '250 2.0.0 posted 1', 'the mended list')
-    (folder / 'config').write_bytes(b'')
+    configured(folder, b'')
     begins(world.post(3), '451', 'the damaged list')
     world.end()
     world.begin()
     begins(world.post(3), '451', 'the damaged list behind a new start')
     begins(world.post(3, to='birds'), '550', 'an address of no list')
-    (folder / 'config').write_bytes(config)
+    configured(folder, config)
     same(world.post(3), '250 2.0.0 posted 2', 'the mended list')
 
 
