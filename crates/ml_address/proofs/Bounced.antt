@@ -24,8 +24,8 @@ signed_is : (address cookie : Text) (time : ℕ) → IsAddress address → is_mo
 signed_is address cookie time a t c = ap₂ (λ p q. p && q) (ap₂ (λ p q. p && q) t c) (parts_are address a)
 
 -- LOCAL, a hyphen, words, an address and HOST, joined one way or another
-joined : (local front word value named host : Text) → (((local ++ 45 ∷ (((front ++ word) ++ value) ++ 45 ∷ [])) ++ named) ++ 64 ∷ host) ≡ ((local ++ ((((45 ∷ front) ++ word) ++ value) ++ 45 ∷ named)) ++ 64 ∷ host)
-joined local front word value named host = simp append_assoc
+regrouped : (local front word value named host : Text) → (((local ++ 45 ∷ (((front ++ word) ++ value) ++ 45 ∷ [])) ++ named) ++ 64 ∷ host) ≡ ((local ++ ((((45 ∷ front) ++ word) ++ value) ++ 45 ∷ named)) ++ 64 ∷ host)
+regrouped local front word value named host = simp append_assoc
 
 joined_signed : (local front word value named host : Text) → (((local ++ 45 ∷ (((front ++ word) ++ value) ++ 45 ∷ [])) ++ named) ++ 64 ∷ host) ≡ ((local ++ (((45 ∷ front) ++ word) ++ (value ++ 45 ∷ named))) ++ 64 ∷ host)
 joined_signed local front word value named host = simp append_assoc
@@ -34,7 +34,7 @@ pub numbered : (local host address : Text) (set : Set) (number : ℕ) → has_by
     → request_of local host (verp (naming_path local host (set_front set ++ codes "return-" ++ decimal number ++ codes "-")) address) ≡ Some (Bounce set number (who_at address))
 unfolding request_text
 numbered local host address set number clean a m n =
-    ap (request_of local host) (joined local (set_front set) (codes "return-") (decimal number) (with_equals address) host)
+    ap (request_of local host) (regrouped local (set_front set) (codes "return-") (decimal number) (with_equals address) host)
     ∙ request_read local host (Bounce set number (who_at address)) clean (ap₂ (λ p q. p && q) (ap₂ (λ p q. p && q) m n) (parts_are address a))
 
 pub warned : (local host address cookie : Text) (set : Set) (time : ℕ) → has_byte 64 host ≡ false → IsAddress address → is_mailed set ≡ true → is_moment time ≡ true → is_cookie cookie ≡ true

@@ -39,7 +39,7 @@ whole_counted dir prefix posts is = record {
   threaded = record {
     threads = (is.threaded).threads;
     files = (is.threaded).files;
-    joined = (is.threaded).joined;
+    by_key = (is.threaded).by_key;
   };
 }
   where
@@ -115,7 +115,7 @@ no_breaks dir prefix posts is name (inr (inl (count, counted, (g, le, bad)))) =
 no_breaks dir prefix posts is name (inr (inr (n, less, named, (others, are, none)))) =
     let same = same_posts dir posts is.filed others are in
     none ((is.threaded).threads n) ((is.threaded).files n less)
-    (λ k place. ap (λ (m : ℕ). numbers_under k ((is.threaded).threads m)) (sym place) ∙ (is.threaded).joined k ∙ ap (λ (ps : List Post). numbers (of_key prefix k ps)) (sym same))
+    (λ k place. ap (λ (m : ℕ). numbers_under k ((is.threaded).threads m)) (sym place) ∙ (is.threaded).by_key k ∙ ap (λ (ps : List Post). numbers (of_key prefix k ps)) (sym same))
 
 -- what an audit finds of a few thread files
 module _ (dir : Dir) (prefix : Text) (count : ℕ) (places : Places) (keys : Keys) (counted : IsNumberFile (dir number_name) count) (below : AreKeyedBelow dir prefix places count (groups_of count) keys) (ordered : AreOrdered keys) where
@@ -174,7 +174,7 @@ module _ (dir : Dir) (prefix : Text) (count : ℕ) (are : ArePosted dir count) (
       threaded = record {
         threads = λ n. file_at n (cases_lt n 256);
         files = λ n less. there n (cases_lt n 256) less;
-        joined = λ k. under (thread_place k) (cases_lt (thread_place k) 256) k (omega arith) refl;
+        by_key = λ k. under (thread_place k) (cases_lt (thread_place k) 256) k (omega arith) refl;
       };
     },
   )

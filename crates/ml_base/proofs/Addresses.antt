@@ -58,9 +58,9 @@ abbrev uncut : Option (Text × Text)
 uncut = None
 
 -- what is split was put together of its parts
-joined : (text local host : Text) → split_last 64 text ≡ Some (local, host) → text ≡ local ++ 64 ∷ host
-joined [] local host e = let bad : uncut ≡ cut local host = e in cc
-joined (b ∷ bs) local host e = go (joined bs) (split_last 64 bs) refl (b == 64) refl
+cut_whole : (text local host : Text) → split_last 64 text ≡ Some (local, host) → text ≡ local ++ 64 ∷ host
+cut_whole [] local host e = let bad : uncut ≡ cut local host = e in cc
+cut_whole (b ∷ bs) local host e = go (cut_whole bs) (split_last 64 bs) refl (b == 64) refl
   where
     go : ((l h : Text) → split_last 64 bs ≡ Some (l, h) → bs ≡ l ++ 64 ∷ h) → (found : Option (Text × Text)) → split_last 64 bs ≡ found → (is : Bool) → (b == 64) ≡ is → b ∷ bs ≡ local ++ 64 ∷ host
     go more (Some p) f is h =
@@ -111,7 +111,7 @@ checked text local host p =
 -- the parts with the host in lower case
 kept_parts : (text local host : Text) → Parted text local host → Parted (local ++ 64 ∷ lower host) local (lower host)
 kept_parts text local host p =
-    let whole = joined text local host p.cut in
+    let whole = cut_whole text local host p.cut in
     let same : length (local ++ 64 ∷ lower host) ≡ length text =
     length-append local (64 ∷ lower host) ∙ ap (λ n. length local + suc n) (length-map host to_ascii_lowercase) ∙ sym (length-append local (64 ∷ host)) ∙ ap length (sym whole) in
     record {
@@ -148,7 +148,7 @@ pub kept_text : (text local host front out : Text) → address_check text ≡ Ok
 kept_text text local host front out e cut first whole =
     let p = tested text local host (sym cut) e in
     let up : take (length local + 1) text ≡ local ++ 64 ∷ [] =
-    ap (take (length local + 1)) (joined text local host p.cut ∙ sym (append_assoc local (64 ∷ []) host)) ∙ take_at (local ++ 64 ∷ []) host (length local + 1) (length-append local (64 ∷ [])) in
+    ap (take (length local + 1)) (cut_whole text local host p.cut ∙ sym (append_assoc local (64 ∷ []) host)) ∙ take_at (local ++ 64 ∷ []) host (length local + 1) (length-append local (64 ∷ [])) in
     let all : out ≡ local ++ 64 ∷ lower host = whole ∙ ap (λ t. t ++ lower host) (first ∙ up) ∙ append_assoc local (64 ∷ []) (lower host) in
     (subst (λ (t : Text). IsAddressAt t (length local)) (sym all) (kept_is text local host p), spelled text local host p ∙ ap Some (sym all))
 
@@ -217,7 +217,7 @@ address_parts address a =
     let p = parts_of address a.checks in
     let local = p.0 in
     let host = p.1 in
-    let whole = joined address local host (p.2).cut in
+    let whole = cut_whole address local host (p.2).cut in
     let first : local_of address ≡ local = ap before_at (p.2).cut in
     let last : host_of address ≡ host = ap behind_at (p.2).cut in
     let same : local ++ 64 ∷ lower host ≡ local ++ 64 ∷ host = sym (ap₂ (λ l h. l ++ 64 ∷ lower h) first last) ∙ a.kept ∙ whole in
@@ -228,7 +228,7 @@ address_parts address a =
 -- the whole in lower case, and its parts
 key_parts : (text local host : Text) → Parted text local host → Parted (lower text) (lower local) (lower host)
 key_parts text local host p =
-    let whole : lower text ≡ lower local ++ 64 ∷ lower host = ap lower (joined text local host p.cut) ∙ map-append to_ascii_lowercase local (64 ∷ host) in
+    let whole : lower text ≡ lower local ++ 64 ∷ lower host = ap lower (cut_whole text local host p.cut) ∙ map-append to_ascii_lowercase local (64 ∷ host) in
     let hosts = lower_all is_host_byte lower_host host p.hosts in
     record {
       cut = ap (split_last 64) whole ∙ split_there (lower local) (lower host) hosts;
@@ -245,14 +245,14 @@ address_key address a =
     let k = key_parts address p.0 p.1 p.2 in
     record {
       checks = checked (lower address) (lower p.0) (lower p.1) k;
-      kept = ap (λ (q : Option (Text × Text)). before_at q ++ 64 ∷ lower (behind_at q)) k.cut ∙ ap (λ h. lower p.0 ++ 64 ∷ h) (lower_again p.1) ∙ sym (joined (lower address) (lower p.0) (lower p.1) k.cut);
+      kept = ap (λ (q : Option (Text × Text)). before_at q ++ 64 ∷ lower (behind_at q)) k.cut ∙ ap (λ h. lower p.0 ++ 64 ∷ h) (lower_again p.1) ∙ sym (cut_whole (lower address) (lower p.0) (lower p.1) k.cut);
     }
 
 -- no byte of an address is zero
 pub address_clean : (address : Text) → IsAddress address → list_any is_nul address ≡ false
 address_clean address a =
     let p = parts_of address a.checks in
-    let whole = joined address p.0 p.1 (p.2).cut in
+    let whole = cut_whole address p.0 p.1 (p.2).cut in
     ap (list_any is_nul) whole ∙ none_append p.0 (64 ∷ p.1) (none_of is_local_byte local_byte p.0 (p.2).locals) (none_of is_host_byte host_byte p.1 (p.2).hosts)
 
 -- an address has 400 bytes at most

@@ -74,6 +74,10 @@ is_in_table name = nat_le name.kind 21 && nat_le (first_place name.kind) name.at
 abbrev pub is_file : Name → Bool
 is_file name = is_in_table name && not (name.kind == 0)
 
+-- the name of this kind and place, where it is one of the table other than the log's
+abbrev pub file_named : ℕ → ℕ → Option Name
+file_named kind at = if is_file (record { kind = kind; at = at }) then Some (record { kind = kind; at = at }) else None
+
 -- two digits
 abbrev pub two_digits : ℕ → Text
 two_digits n = (48 + n / 10) ∷ (48 + n % 10) ∷ []

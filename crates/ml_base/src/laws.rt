@@ -40,7 +40,7 @@ pub fn law_addresses()
 /// Laying one row of puts and then another is laying them joined; the last put of a file decides; and a row leaves each
 /// file that it doesn't touch.
 pub fn law_puts()
-    ensures joined { (dir : Dir) (first second : List Put) → with_puts dir (first ++ second) ≡ with_puts (with_puts dir first) second }
+    ensures appended { (dir : Dir) (first second : List Put) → with_puts dir (first ++ second) ≡ with_puts (with_puts dir first) second }
     ensures last { (dir : Dir) (puts : List Put) (put : Put) (name : Name) → with_puts dir (puts ++ put ∷ []) name ≡ (if same_name name put.name then put.bytes else with_puts dir puts name) }
     ensures untouched { (dir : Dir) (puts : List Put) (name : Name) → touches puts name ≡ false → with_puts dir puts name ≡ dir name }
     ensures others { (test : Name → Bool) (dir : Dir) (puts : List Put) (name : Name) → touches_only test puts ≡ true → test name ≡ false → with_puts dir puts name ≡ dir name }
@@ -92,7 +92,7 @@ pub fn law_splits()
 
 /// The lines of a text make it; each ends behind its first LF, and the last where the text ends.
 pub fn law_lines()
-    ensures joined { (text : Text) → concat (lines text) ≡ text }
+    ensures whole { (text : Text) → concat (lines text) ≡ text }
     ensures ended { (line rest : Text) → has_byte 10 line ≡ false → lines (line ++ 10 ∷ rest) ≡ (line ++ 10 ∷ []) ∷ lines rest }
     ensures last { (line : Text) → has_byte 10 line ≡ false → 0 < length line → lines line ≡ line ∷ [] }
 {}

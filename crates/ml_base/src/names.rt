@@ -226,6 +226,20 @@ impl Name {
         }
     }
 
+    /// The name of a kind and a place, where it is one of the table of files other than the log's.
+    pub fn file(kind: u64, at: u64) -> Option<Name>
+        ensures { result ≡ spec.file_named kind at }
+    {
+        if kind == 0 || kind > 21 {
+            return None;
+        }
+        let name = Name {
+            kind: kind as u8,
+            at,
+        };
+        if name.is_in_table() { Some(name) } else { None }
+    }
+
     /// Whether the table of files has this name: kinds 0 to 21, each with its places.
     pub fn is_in_table(self) -> bool
         ensures { result ≡ spec.is_in_table self }

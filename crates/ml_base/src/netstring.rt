@@ -1,5 +1,6 @@
 // Netstrings, in the form of Bernstein's note: `len:bytes,`.
 ghost use Rattle.std.specs.Prelude.{◌≡◌, ◌≤◌, ◌<◌, ◌+◌, ◌++◌, take, drop, length, slice_range, IfSome, OnOk, OnErr};
+ghost use Rattle.std.specs.Fmt.{decimal};
 ghost use Rattle.std.specs.Option.{option_map};
 ghost use Rattle.ml_base.specs.Netstrings.{netstring_at, length_from, ns};
 
@@ -77,6 +78,16 @@ pub fn push_netstring(out: &mut Bytes, content: &[u8]) -> Result<(), AllocError>
         return Err(AllocError);
     }
     Ok(())
+}
+
+/// Adds the netstring of a number's decimal digits at the end. An error changes nothing.
+pub fn push_number_netstring(out: &mut Bytes, number: u64) -> Result<(), AllocError>
+    ensures ok { OnOk result (out.new ≡ out.old ++ ns (decimal number)) }
+    ensures err { OnErr result (out.new ≡ out.old) }
+{
+    let mut digits = [0u8; 20];
+    let len = write_number(number, &mut digits);
+    push_netstring(out, &digits[..len])
 }
 
 // Adds the netstring of a content at the end. An error leaves a part of it there.

@@ -58,7 +58,7 @@ key_apart k a away = same_key k a ∙ go (bytes_eq k a) refl
 
 pub found_there : (dir : Dir) (kind : ℕ) (ledger bucket : Ledger) (k : Text) → IsLedger dir kind ledger → IsLedgerFile (ledger_place k) (dir (ledger_name kind (ledger_place k))) bucket → find_entry k ledger ≡ find_entry k bucket
 found_there dir kind ledger bucket k is file =
-    is.joined k ∙ ap (find_entry k) (file_one (ledger_place k) (dir (ledger_name kind (ledger_place k))) (is.buckets (ledger_place k)) bucket (is.files (ledger_place k) (place_below k)) file)
+    is.by_key k ∙ ap (find_entry k) (file_one (ledger_place k) (dir (ledger_name kind (ledger_place k))) (is.buckets (ledger_place k)) bucket (is.files (ledger_place k) (place_below k)) file)
 
 abbrev put_when : Dir → ℕ → ℕ → Ledger → Bool → Option Text
 put_when dir kind n es here = cond here (ledger_file es) (dir (ledger_name kind n))
@@ -84,14 +84,14 @@ module _ (dir : Dir) (kind : ℕ) (ledger bucket : Ledger) (a : Text) (is : IsLe
       go true here = rw here (subst (λ m. IsLedgerFile m (ledger_file written) written) (sym (eqb-true n place here)) sorted)
       go false away = rw away (is.files n less)
 
-  joined : (k : Text) → find_entry k new ≡ find_entry k (rows (ledger_place k == place) (ledger_place k))
-  joined k = go (ledger_place k == place) refl
+  by_key : (k : Text) → find_entry k new ≡ find_entry k (rows (ledger_place k == place) (ledger_place k))
+  by_key k = go (ledger_place k == place) refl
     where
       go : (t : Bool) → (ledger_place k == place) ≡ t → find_entry k new ≡ find_entry k (rows (ledger_place k == place) (ledger_place k))
       go true here =
           let there = subst (λ n. IsLedgerFile n (dir (ledger_name kind n)) bucket) (sym (eqb-true (ledger_place k) place here)) file in
           same k (found_there dir kind ledger bucket k is there) ∙ sym (ap (λ b. find_entry k (rows b (ledger_place k))) here)
-      go false away = kept k (key_apart k a away) ∙ is.joined k ∙ sym (ap (λ b. find_entry k (rows b (ledger_place k))) away)
+      go false away = kept k (key_apart k a away) ∙ is.by_key k ∙ sym (ap (λ b. find_entry k (rows b (ledger_place k))) away)
 
 abbrev in_key : LedgerEntry → Text
 in_key e = e.key
@@ -102,7 +102,7 @@ put_there dir kind ledger bucket e is entry file = record {
   sorted = sorted_with byte_cmp in_key same_bytes bytes_total e ledger is.sorted;
   buckets = λ n. cond (n == ledger_place e.key) (with_ledger e bucket) (is.buckets n);
   files = files dir kind ledger bucket e.key is file (with_ledger e ledger) (with_ledger e bucket) row same kept;
-  joined = joined dir kind ledger bucket e.key is file (with_ledger e ledger) (with_ledger e bucket) row same kept;
+  by_key = by_key dir kind ledger bucket e.key is file (with_ledger e ledger) (with_ledger e bucket) row same kept;
 }
   where
     row : IsLedgerFile (ledger_place e.key) (ledger_file (with_ledger e bucket)) (with_ledger e bucket)
@@ -122,7 +122,7 @@ forgotten_there dir kind ledger bucket a is file = record {
   sorted = sorted_without byte_cmp in_key same_bytes bytes_total a ledger is.sorted;
   buckets = λ n. cond (n == ledger_place a) (forget a bucket) (is.buckets n);
   files = files dir kind ledger bucket a is file (forget a ledger) (forget a bucket) row same kept;
-  joined = joined dir kind ledger bucket a is file (forget a ledger) (forget a bucket) row same kept;
+  by_key = by_key dir kind ledger bucket a is file (forget a ledger) (forget a bucket) row same kept;
 }
   where
     row : IsLedgerFile (ledger_place a) (ledger_file (forget a bucket)) (forget a bucket)

@@ -137,7 +137,7 @@ ledger_of_files dir set buckets files = (
     sorted = merged_ordered buckets 53;
     buckets = buckets;
     files = files;
-    joined = λ k. found_merged buckets 53 (λ i less. hashed_each i (buckets i) (files i less).each) k (place_below k);
+    by_key = λ k. found_merged buckets 53 (λ i less. hashed_each i (buckets i) (files i less).each) k (place_below k);
   },
 )
 
@@ -148,10 +148,10 @@ due_sorted dir set now found sorted ledger all moved up is =
     let test = is_due now in
     let hashed = λ (i : ℕ) (less : i < 53). each_filter test (λ e. ledger_place e.key ≡ i) (all.0 i) (hashed_each i (all.0 i) (all.1 i less).each) in
     let ordered = λ (i : ℕ) (less : i < 53). sorted_filter test (all.0 i) (all.1 i less).sorted in
-    let joined = sorted_joined (λ i. filter test (all.0 i)) 53 hashed ordered sorted (subst (λ (l : Ledger). IsPermutation l sorted) all.2 moved) up in
-    same_lists byte_cmp entry_key same_bytes bytes_total sorted (filter test ledger) joined.0 (sorted_filter test ledger is.sorted)
+    let by_key = sorted_joined (λ i. filter test (all.0 i)) 53 hashed ordered sorted (subst (λ (l : Ledger). IsPermutation l sorted) all.2 moved) up in
+    same_lists byte_cmp entry_key same_bytes bytes_total sorted (filter test ledger) by_key.0 (sorted_filter test ledger is.sorted)
     (λ k.
-    joined.1 k (place_below k) ∙ found_filter test k (all.0 (ledger_place k)) (all.1 (ledger_place k) (place_below k)).sorted
+    by_key.1 k (place_below k) ∙ found_filter test k (all.0 (ledger_place k)) (all.1 (ledger_place k) (place_below k)).sorted
     ∙ ap (when_chosen test) (sym (found_there dir (ledger_kind set) ledger (all.0 (ledger_place k)) k is (all.1 (ledger_place k) (place_below k)))) ∙ sym (found_filter test k ledger is.sorted))
 
 -- where the files stand for a ledger, none is outside its grammar

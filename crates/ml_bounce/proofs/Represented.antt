@@ -19,16 +19,16 @@ place_below k = omega arith
 pub ledger_one : (dir : Dir) (kind : ℕ) (ledger other : Ledger) → IsLedger dir kind ledger → IsLedger dir kind other → ledger ≡ other
 ledger_one dir kind a b is other =
     same_lists byte_cmp (λ (e : LedgerEntry). e.key) same_bytes bytes_total a b is.sorted other.sorted
-    (λ k. is.joined k
+    (λ k. is.by_key k
     ∙ ap (find_entry k) (file_one (ledger_place k) (dir (ledger_name kind (ledger_place k))) (is.buckets (ledger_place k)) (other.buckets (ledger_place k)) (is.files (ledger_place k) (place_below k)) (other.files (ledger_place k) (place_below k)))
-    ∙ sym (other.joined k))
+    ∙ sym (other.by_key k))
 
 pub ledger_own : (dir other : Dir) (kind : ℕ) (ledger : Ledger) → ((name : Name) → is_of_ledger kind name ≡ true → other name ≡ dir name) → IsLedger dir kind ledger → IsLedger other kind ledger
 ledger_own dir other kind ledger same is = record {
   sorted = is.sorted;
   buckets = is.buckets;
   files = λ n less. subst (λ (f : Option Text). IsLedgerFile n f (is.buckets n)) (sym (same (ledger_name kind n) (eq-eqb kind kind refl))) (is.files n less);
-  joined = is.joined;
+  by_key = is.by_key;
 }
 
 pub ledger_broken : (dir : Dir) (kind n : ℕ) (ledger : Ledger) → n < 53 → ledger_of n (unwrap_or (dir (ledger_name kind n)) []) ≡ None → ¬ IsLedger dir kind ledger
@@ -39,5 +39,5 @@ ledger_nothing dir kind none = record {
   sorted = refl;
   buckets = λ n. [];
   files = λ n less. record { each = tt; sorted = refl; spelled = ap (λ (f : Option Text). unwrap_or f []) (none n less) };
-  joined = λ k. refl;
+  by_key = λ k. refl;
 }

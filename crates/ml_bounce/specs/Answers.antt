@@ -2,7 +2,8 @@
 use Rattle.std.specs.Prelude.{◌≡◌, ◌<◌, ◌+◌, ℕ, zero, suc, Bool, true, false, List, [], ◌∷◌, ◌++◌, map, take, Option, Some, None, is_some, if◌then◌else◌}
 use Rattle.ml_base.specs.Bytes.{Text}
 use Rattle.ml_base.specs.Dir.{Dir, with_puts}
-use Rattle.ml_base.specs.Name.{set_kind}
+use Rattle.ml_base.specs.Kinds.{bounces_kind}
+use Rattle.ml_base.specs.Name.{set_number}
 use Rattle.ml_base.specs.declared.names.Name.{Name}
 use Rattle.ml_base.specs.declared.names.Set.{Set}
 use Rattle.ml_base.specs.declared.names.Set.TheVariants as sets
@@ -21,9 +22,9 @@ has_ledger sets.Allow = false
 has_ledger sets.Deny = false
 has_ledger sets.Moderators = false
 
--- the kind of the files of a set's ledger: 15 of the set list, and 16 of the set digest
+-- the kind of the files of a set's ledger: those of the list's bounces, and behind them those of the bounces of digests
 abbrev pub ledger_kind : Set → ℕ
-ledger_kind set = set_kind set + 12
+ledger_kind set = bounces_kind + set_number set
 
 -- the file in which a set's ledger has a key
 abbrev pub key_file : Set → Text → Name

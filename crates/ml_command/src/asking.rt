@@ -171,13 +171,13 @@ fn sent_words(words: &[String]) -> Result<(u64, Act), Why>
     ensures { Asks (sent_of (texts words.now)) result }
 {
     match words {
-        [number, id] => sent(number.as_str(), id.as_str()),
+        [number, id] => sent_item(number.as_str(), id.as_str()),
         _ => Err(Why::Usage),
     }
 }
 
 // A number and the id of an entry of the queue.
-fn sent(number: &str, id: &str) -> Result<(u64, Act), Why>
+fn sent_item(number: &str, id: &str) -> Result<(u64, Act), Why>
     ensures { Asks (sent_of (number.now ∷ id.now ∷ [])) result }
 {
     let Some(number) = item_number(number) else {

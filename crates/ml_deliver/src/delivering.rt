@@ -1,5 +1,5 @@
 // A delivery: the first rule that applies decides.
-ghost use Rattle.std.specs.Prelude.{◌≡◌, true, IsTrue, IfOk, IfErr, Some};
+ghost use Rattle.std.specs.Prelude.{◌≡◌, true, IsTrue, IfOk, IfErr, IfSome, Some};
 ghost use Rattle.ml_address.specs.Reading.{request_of};
 ghost use Rattle.ml_address.specs.Views.{request_view};
 ghost use Rattle.ml_base.specs.Dir.{are_files, touches_only};
@@ -85,17 +85,30 @@ fn unless_worn<F: Files>(
     by_recipient(alloc, files, memo, config, now, sender, recipient, message)
 }
 
-// The configuration. Who asks has looked at its file; where it isn't there, there is no memory.
+// The configuration. Who asks has looked at its file, and no item changes it. Where `found` finds none, there is no memory.
 pub(crate) fn configuration<F: Files>(alloc: Global, files: &mut F) -> Result<Config, PartError>
     ensures value { IsTrue F.tells → IfOk result (λ c. IsConfigFile (F.map files.old config_name) c) }
     ensures range { IfOk result IsConfig }
     ensures none { IfErr result (λ e. OnDamaged e (λ _. ⊥)) }
     ensures reads { IsReading ⟦<F as Files>⟧ files.old files.new result }
 {
+    match found(alloc, files)? {
+        Some(config) => Ok(config),
+        None => Err(PartError::Memory),
+    }
+}
+
+// The configuration, or None where its file is absent or holds none. Files that tell what they hold give the one that they hold.
+fn found<F: Files>(alloc: Global, files: &mut F) -> Result<Option<Config>, PartError>
+    ensures read { IsTrue F.tells → (c : Config) → IsConfigFile (F.map files.old config_name) c → IfOk result (λ found. found ≡ Some c) }
+    ensures value { IsTrue F.tells → IfOk result (λ found. IfSome found (IsConfigFile (F.map files.old config_name))) }
+    ensures range { IfOk result (λ found. IfSome found IsConfig) }
+    ensures none { IfErr result (λ e. OnDamaged e (λ _. ⊥)) }
+    ensures reads { IsReading ⟦<F as Files>⟧ files.old files.new result }
+{
     match load(alloc, files) {
-        Ok(Some(config)) => Ok(config),
-        Ok(None) => Err(PartError::Memory),
-        Err(PartError::Damaged(_)) => Err(PartError::Memory),
+        Ok(found) => Ok(found),
+        Err(PartError::Damaged(_)) => Ok(None),
         Err(error) => Err(error),
     }
 }

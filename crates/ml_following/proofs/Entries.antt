@@ -40,7 +40,7 @@ above_apart a b above = go (eq_by_cmp byte_cmp b a) refl
 -- an entry that is found is spelled as its key
 pub found_lowered : (dir : Dir) (kind : ℕ) (ledger : Ledger) (k : Text) (e : LedgerEntry) → IsLedger dir kind ledger → find_entry k ledger ≡ Some e → ledger_place k < 53 → lower e.key ≡ e.key
 found_lowered dir kind ledger k e is found within =
-    ((found_is byte_cmp (λ f. f.key) (IsEntry (ledger_place k)) k e (is.buckets (ledger_place k)) (is.files (ledger_place k) within).each (sym (is.joined k) ∙ found)).0).lowered
+    ((found_is byte_cmp (λ f. f.key) (IsEntry (ledger_place k)) k e (is.buckets (ledger_place k)) (is.files (ledger_place k) within).each (sym (is.by_key k) ∙ found)).0).lowered
 
 key_after : (now : ℕ) (s : Stage) (e : LedgerEntry) → (after_at now s e).key ≡ e.key
 key_after now Unwarned e = refl

@@ -19,13 +19,13 @@ use Rattle.ml_journal.proofs.Logs.{log_opened, log_closed}
 abbrev pub behind : List Put → Option (List Put) → Option (List Put)
 behind found more = option_map (λ (puts : List Put). found ++ puts) more
 
-joined : (found more : List Put) (rest : Option (List Put)) → behind found (behind more rest) ≡ behind (found ++ more) rest
-joined found more None = refl
-joined found more (Some puts) = ap Some (sym (append_assoc found more puts))
+behind_both : (found more : List Put) (rest : Option (List Put)) → behind found (behind more rest) ≡ behind (found ++ more) rest
+behind_both found more None = refl
+behind_both found more (Some puts) = ap Some (sym (append_assoc found more puts))
 
 -- one put more was read
 pub put_read : (found : List Put) (text : Text) (put : Put) (rest : Text) → put_at text ≡ Some (put, rest) → behind found (puts_of text) ≡ behind (found ++ put ∷ []) (puts_of rest)
-put_read found text put rest e = ap (behind found) (puts_next text put rest e) ∙ joined found (put ∷ []) (puts_of rest)
+put_read found text put rest e = ap (behind found) (puts_next text put rest e) ∙ behind_both found (put ∷ []) (puts_of rest)
 
 -- the record that begins with a netstring of a row of puts
 pub record_read : (text content rest : Text) → netstring_at text ≡ Some (content, rest) → record_at text ≡ option_map (λ (puts : List Put). (puts, rest)) (puts_of content)
@@ -38,7 +38,7 @@ log_read old new b text content rest e is =
   where
     go : (puts : Option (List Put)) → behind old puts ≡ Some new → behind old (record_and_more log_puts (option_map (λ (ps : List Put). (ps, rest)) puts)) ≡ behind new (log_puts rest)
     go None e' = cc
-    go (Some puts) e' = let same : old ++ puts ≡ new = cc in joined old puts (log_puts rest) ∙ ap (λ (l : List Put). behind l (log_puts rest)) same
+    go (Some puts) e' = let same : old ++ puts ≡ new = cc in behind_both old puts (log_puts rest) ∙ ap (λ (l : List Put). behind l (log_puts rest)) same
 
 -- no record stands behind an open gate
 pub log_broken : (old : List Put) (b : ℕ) (text : Text) → record_at (b ∷ text) ≡ None → behind old (log_puts (1 ∷ b ∷ text)) ≡ None

@@ -7,7 +7,7 @@ use Rattle.std.proofs.lemmas.Fmt.{length-decimal-le}
 use Rattle.std.proofs.lemmas.Bool.{leb-true, eqb-true}
 use Rattle.ml_base.specs.Bytes.{Text}
 use Rattle.ml_base.specs.Dir.{are_files}
-use Rattle.ml_base.specs.Name.{is_file, is_in_table, is_bucket_kind, last_place}
+use Rattle.ml_base.specs.Name.{is_file, file_named, is_in_table, is_bucket_kind, last_place}
 use Rattle.ml_base.specs.Netstrings.{netstring_at, ns}
 use Rattle.ml_base.specs.Numbers.{number_of}
 use Rattle.ml_base.specs.declared.names.Name.{Name}
@@ -15,7 +15,7 @@ use Rattle.ml_base.specs.declared.puts.Put.{Put}
 use Rattle.ml_base.proofs.Bools.{both}
 use Rattle.ml_base.proofs.Netstrings.{netstring_written, netstring_read}
 use Rattle.ml_base.proofs.NumberLaws.{number_read, number_spelled}
-use Rattle.ml_journal.specs.Records.{spelled_name, spelled_as, spelled_put, spelled_puts, spelled_record, number_at, file_named, name_at, write_at, removal_at, put_at, with_first, first_and_more, puts_within, puts_of, record_at}
+use Rattle.ml_journal.specs.Records.{spelled_name, spelled_as, spelled_put, spelled_puts, spelled_record, number_at, name_at, write_at, removal_at, put_at, with_first, first_and_more, puts_within, puts_of, record_at}
 
 -- what went on to something was something
 went_on : {A B : Type 0} (found : Option A) (next : A → Option B) (b : B) → option_and_then next found ≡ Some b → (a : A) × (found ≡ Some a) × (next a ≡ Some b)

@@ -48,8 +48,8 @@ record_parts buffered head content none is =
 
 -- the puts up to the next place, and those behind it
 pub puts_parts : (puts : List Put) (i : ℕ) → spelled_puts (take i puts) ++ spelled_puts (drop i puts) ≡ spelled_puts puts
-puts_parts puts i = sym (joined (take i puts) (drop i puts)) ∙ ap spelled_puts (take-append-drop i puts)
+puts_parts puts i = sym (spelled_both (take i puts) (drop i puts)) ∙ ap spelled_puts (take-append-drop i puts)
   where
-    joined : (one two : List Put) → spelled_puts (one ++ two) ≡ spelled_puts one ++ spelled_puts two
-    joined [] two = refl
-    joined (put ∷ one) two = ap (λ (l : Text). spelled_put put ++ l) (joined one two) ∙ sym (append_assoc (spelled_put put) (spelled_puts one) (spelled_puts two))
+    spelled_both : (one two : List Put) → spelled_puts (one ++ two) ≡ spelled_puts one ++ spelled_puts two
+    spelled_both [] two = refl
+    spelled_both (put ∷ one) two = ap (λ (l : Text). spelled_put put ++ l) (spelled_both one two) ∙ sym (append_assoc (spelled_put put) (spelled_puts one) (spelled_puts two))

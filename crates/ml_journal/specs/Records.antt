@@ -3,7 +3,7 @@ use Rattle.std.specs.Prelude.{ℕ, zero, suc, ◌+◌, ◌==◌, List, [], ◌�
 use Rattle.std.specs.Option.{option_and_then}
 use Rattle.std.specs.Fmt.{decimal}
 use Rattle.ml_base.specs.Bytes.{Text, colon}
-use Rattle.ml_base.specs.Name.{is_file}
+use Rattle.ml_base.specs.Name.{file_named}
 use Rattle.ml_base.specs.Netstrings.{netstring_at, ns}
 use Rattle.ml_base.specs.Numbers.{number_of}
 use Rattle.ml_base.specs.declared.names.Name.{Name}
@@ -48,10 +48,6 @@ content_size (put ∷ puts) = bytes_size put.bytes + content_size puts
 -- the number whose netstring a text begins with, and what is behind it
 abbrev pub number_at : Text → Option (ℕ × Text)
 number_at text = option_and_then (λ found. option_map (λ n. (n, found.1)) (number_of found.0)) (netstring_at text)
-
--- the name of this kind and place, where it is one of the table other than the log's
-abbrev pub file_named : ℕ → ℕ → Option Name
-file_named kind at = if is_file (record { kind = kind; at = at }) then Some (record { kind = kind; at = at }) else None
 
 -- the name that a text begins with, and what is behind it
 abbrev pub name_at : Text → Option (Name × Text)

@@ -7,7 +7,7 @@ ghost use Rattle.ml_base.specs.Netstrings.{netstring_at};
 ghost use Rattle.ml_journal.specs.Found.{put_of, puts_found};
 ghost use Rattle.ml_journal.specs.Table.{newest_over};
 ghost use Rattle.ml_journal.specs.Log.{log_puts, laid_over};
-ghost use Rattle.ml_journal.specs.Records.{number_at, file_named, name_at, write_at, removal_at, put_at, puts_of};
+ghost use Rattle.ml_journal.specs.Records.{number_at, name_at, write_at, removal_at, put_at, puts_of};
 
 use crate::newest::Newest;
 use ml_base::{Bytes, Name, read_netstring, read_number};
@@ -158,22 +158,8 @@ fn first_name(text: &[u8]) -> Option<(Name, &[u8])>
 {
     let (kind, rest) = first_number(text)?;
     let (at, behind) = first_number(rest)?;
-    let name = name_of(kind, at)?;
+    let name = Name::file(kind, at)?;
     Some((name, behind))
-}
-
-// The name of a file other than the log.
-fn name_of(kind: u64, at: u64) -> Option<Name>
-    ensures { result ≡ file_named kind at }
-{
-    if kind == 0 || kind > 21 {
-        return None;
-    }
-    let name = Name {
-        kind: kind as u8,
-        at,
-    };
-    if name.is_in_table() { Some(name) } else { None }
 }
 
 // The number whose netstring a text begins with, and what is behind it.

@@ -7,7 +7,7 @@ ghost use Rattle.ml_journal.specs.Handing.{Hands};
 ghost use Rattle.ml_journal.specs.Records.{spelled_head, spelled_name, spelled_put, spelled_puts, spelled_record};
 
 use crate::writer::LogWriter;
-use ml_base::{Bytes, LARGEST_READ, Name, Put, push_netstring, write_number};
+use ml_base::{Bytes, LARGEST_READ, Name, Put, push_number_netstring, write_number};
 use ml_site::{Site, SiteError};
 use std::alloc::{AllocError, Global};
 
@@ -105,16 +105,8 @@ fn put_head(alloc: Global, put: &Put) -> Result<Bytes, AllocError>
 fn add_name(out: &mut Bytes, name: Name) -> Result<(), AllocError>
     ensures { OnOk result (out.new ≡ out.old ++ spelled_name name) }
 {
-    add_number(out, name.kind as u64)?;
-    add_number(out, name.at)
-}
-
-fn add_number(out: &mut Bytes, number: u64) -> Result<(), AllocError>
-    ensures { OnOk result (out.new ≡ out.old ++ ns (decimal number)) }
-{
-    let mut digits = [0u8; 20];
-    let len = write_number(number, &mut digits);
-    push_netstring(out, &digits[..len])
+    push_number_netstring(out, name.kind as u64)?;
+    push_number_netstring(out, name.at)
 }
 
 /// How many bytes the puts take in a record, or None where they are more than a netstring may have.

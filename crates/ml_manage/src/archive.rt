@@ -54,7 +54,7 @@ pub(crate) fn get<F: Files>(
         return Ok((Txn::new(alloc), Reply::plain(Reply::PRIVATE)));
     }
     let lines = get_text(alloc, files, config, from, to)?;
-    sent(alloc, files, config, now, sender, lines)
+    mail_lines(alloc, files, config, now, sender, lines)
 }
 
 // The thread of a post, for whom the archive is open to.
@@ -80,7 +80,7 @@ pub(crate) fn thread_of<F: Files>(
         return Ok((Txn::new(alloc), Reply::plain(Reply::PRIVATE)));
     }
     let lines = thread_text(alloc, files, config, at)?;
-    sent(alloc, files, config, now, sender, lines)
+    mail_lines(alloc, files, config, now, sender, lines)
 }
 
 // The index of a post's group, for whom the archive is open to.
@@ -105,7 +105,7 @@ pub(crate) fn index_of<F: Files>(
         return Ok((Txn::new(alloc), Reply::plain(Reply::PRIVATE)));
     }
     let lines = index_text(alloc, files, at)?;
-    sent(alloc, files, config, now, sender, lines)
+    mail_lines(alloc, files, config, now, sender, lines)
 }
 
 // Whether the archive is open to a sender.
@@ -158,7 +158,7 @@ fn is_subscriber<F: Files>(alloc: Global, files: &mut F, who: &Address) -> Resul
 }
 
 // A text of the archive goes to a sender.
-fn sent<F: Files>(
+fn mail_lines<F: Files>(
     alloc: Global,
     files: &mut F,
     config: &Config,

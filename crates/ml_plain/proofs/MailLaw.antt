@@ -13,7 +13,7 @@ use Rattle.ml_reply.specs.Mails.{Letter, letter_of, letter_head, mail_text, the_
 use Rattle.ml_reply.specs.declared.mails.Mail.{Mail}
 use Rattle.ml_reply.specs.declared.mails.Mail.TheVariants.{AskSc, AskTc, AskUc, Welcome, Goodbye, Already, Absent, Help, Members, Moderate, Rejected, Expired, Warn, Probe, Archive}
 use Rattle.ml_plain.specs.MailFields.{mail_fields, HasNoLf, LawMails}
-use Rattle.ml_plain.proofs.OneLine.{Clean, joined, one_more, decimal_clean, own_clean, set_clean}
+use Rattle.ml_plain.proofs.OneLine.{Clean, clean_both, one_more, decimal_clean, own_clean, set_clean}
 use Rattle.ml_plain.proofs.HeaderRows.{IsLine, AreLines, field_at, line_at, row_read}
 
 taken : (n : ℕ) (text : Text) → Clean text → Clean (take n text)
@@ -33,36 +33,36 @@ three_clean : (n : ℕ) (names : Text) → Clean names → Clean (three n names)
 three_clean n names clean = taken 3 (drop (3 * n) names) (dropped (3 * n) names clean)
 
 four_clean : (n : ℕ) → Clean (four_digits n)
-four_clean n = joined (two_digits (n / 100)) (two_digits (n % 100)) (two_clean (n / 100)) (two_clean (n % 100))
+four_clean n = clean_both (two_digits (n / 100)) (two_digits (n % 100)) (two_clean (n / 100)) (two_clean (n % 100))
 
 day_clean : (on : ℕ) (c : Civil) → Clean (day_text on c)
 day_clean on c =
     let name = three on (codes "MonTueWedThuFriSatSun") in
     let day = two_digits c.day in
     let month = three (c.month - 1) (codes "JanFebMarAprMayJunJulAugSepOctNovDec") in
-    let to_name = joined name (codes ", ") (three_clean on (codes "MonTueWedThuFriSatSun") refl) refl in
-    let to_day = joined (name ++ codes ", ") day to_name (two_clean c.day) in
-    let to_space = joined (name ++ codes ", " ++ day) (codes " ") to_day refl in
-    let to_month = joined (name ++ codes ", " ++ day ++ codes " ") month to_space (three_clean (c.month - 1) (codes "JanFebMarAprMayJunJulAugSepOctNovDec") refl) in
-    let to_year = joined (name ++ codes ", " ++ day ++ codes " " ++ month) (codes " ") to_month refl in
-    joined (name ++ codes ", " ++ day ++ codes " " ++ month ++ codes " ") (four_digits c.year) to_year (four_clean c.year)
+    let to_name = clean_both name (codes ", ") (three_clean on (codes "MonTueWedThuFriSatSun") refl) refl in
+    let to_day = clean_both (name ++ codes ", ") day to_name (two_clean c.day) in
+    let to_space = clean_both (name ++ codes ", " ++ day) (codes " ") to_day refl in
+    let to_month = clean_both (name ++ codes ", " ++ day ++ codes " ") month to_space (three_clean (c.month - 1) (codes "JanFebMarAprMayJunJulAugSepOctNovDec") refl) in
+    let to_year = clean_both (name ++ codes ", " ++ day ++ codes " " ++ month) (codes " ") to_month refl in
+    clean_both (name ++ codes ", " ++ day ++ codes " " ++ month ++ codes " ") (four_digits c.year) to_year (four_clean c.year)
 
 time_clean : (second : ℕ) → Clean (time_text second)
 time_clean second =
     let hours = two_digits (second / 3600) in
     let minutes = two_digits (second / 60 % 60) in
-    let to_hours = joined hours (codes ":") (two_clean (second / 3600)) refl in
-    let to_minutes = joined (hours ++ codes ":") minutes to_hours (two_clean (second / 60 % 60)) in
-    let to_colon = joined (hours ++ codes ":" ++ minutes) (codes ":") to_minutes refl in
-    joined (hours ++ codes ":" ++ minutes ++ codes ":") (two_digits (second % 60)) to_colon (two_clean (second % 60))
+    let to_hours = clean_both hours (codes ":") (two_clean (second / 3600)) refl in
+    let to_minutes = clean_both (hours ++ codes ":") minutes to_hours (two_clean (second / 60 % 60)) in
+    let to_colon = clean_both (hours ++ codes ":" ++ minutes) (codes ":") to_minutes refl in
+    clean_both (hours ++ codes ":" ++ minutes ++ codes ":") (two_digits (second % 60)) to_colon (two_clean (second % 60))
 
 date_clean : (moment : ℕ) → Clean (date_text moment)
 unfolding date_text
 date_clean moment =
     let day = day_text (weekday (moment / 86_400)) (civil_of (moment / 86_400)) in
     let time = time_text (moment % 86_400) in
-    let to_day = joined day (codes " ") (day_clean (weekday (moment / 86_400)) (civil_of (moment / 86_400))) refl in
-    joined (day ++ codes " " ++ time) (codes " -0000") (joined (day ++ codes " ") time to_day (time_clean (moment % 86_400))) refl
+    let to_day = clean_both day (codes " ") (day_clean (weekday (moment / 86_400)) (civil_of (moment / 86_400))) refl in
+    clean_both (day ++ codes " " ++ time) (codes " -0000") (clean_both (day ++ codes " ") time to_day (time_clean (moment % 86_400))) refl
 
 subject_clean : (c : Config) (mail : Mail) → Clean c.local → Clean c.host → Clean (letter_of c mail).subject
 subject_clean c (AskSc to reply set who) l h = refl
@@ -73,13 +73,13 @@ subject_clean c (Goodbye to set who) l h = refl
 subject_clean c (Already to set who) l h = refl
 subject_clean c (Absent to set who) l h = refl
 subject_clean c (Help to) l h = refl
-subject_clean c (Members to set members) l h = joined (codes "members of ") (set_word set) refl (set_clean set)
-subject_clean c (Moderate to reply reject ticket message) l h = joined (codes "moderate post ") (decimal ticket) refl (decimal_clean ticket)
+subject_clean c (Members to set members) l h = clean_both (codes "members of ") (set_word set) refl (set_clean set)
+subject_clean c (Moderate to reply reject ticket message) l h = clean_both (codes "moderate post ") (decimal ticket) refl (decimal_clean ticket)
 subject_clean c (Rejected to message) l h = refl
 subject_clean c (Expired to message) l h = refl
 subject_clean c (Warn to set who numbers) l h = refl
 subject_clean c (Probe to set who) l h = refl
-subject_clean c (Archive to lines) l h = joined (codes "archive of ") (the_list c) refl (joined c.local (64 ∷ c.host) l h)
+subject_clean c (Archive to lines) l h = clean_both (codes "archive of ") (the_list c) refl (clean_both c.local (64 ∷ c.host) l h)
 
 -- the lines of a header, each as a name and what stands behind its colon and a space
 abbrev reply_row : Option Text → List (Text × Text)
@@ -118,7 +118,7 @@ lines_clean : (c : Config) (to : Text) (reply : Option Text) (subject text : Tex
 lines_clean c to reply subject text moment none clean =
     let help = own_clean c.local c.host (codes "help") none.local none.host refl in (
       first_line (codes "Mailing-List") (codes "contact " ++ list_address c.local c.host (codes "help") ++ codes "; run by ezmlm") refl refl
-          (joined (codes "contact " ++ list_address c.local c.host (codes "help")) (codes "; run by ezmlm") help refl),
+          (clean_both (codes "contact " ++ list_address c.local c.host (codes "help")) (codes "; run by ezmlm") help refl),
       (
         first_line (codes "Precedence") (codes "bulk") refl refl refl,
         (

@@ -27,8 +27,8 @@ use Rattle.ml_plain.specs.Bouncing.{address_named}
 abbrev pub Clean : Text → Type 0
 Clean text = has_byte 10 text ≡ false
 
-pub joined : (a b : Text) → Clean a → Clean b → Clean (a ++ b)
-joined a b x y = has_append 10 a b ∙ ap₂ (λ s t. s || t) x y
+pub clean_both : (a b : Text) → Clean a → Clean b → Clean (a ++ b)
+clean_both a b x y = has_append 10 a b ∙ ap₂ (λ s t. s || t) x y
 
 other : (b : ℕ) → 10 < b → (b == 10) ≡ false
 other b more = not_true (b == 10) (λ e. let same = eqb-true b 10 e in omega arith)
@@ -55,7 +55,7 @@ unfolding digits
 decimal_clean n = digits_clean 64 n [] refl
 
 pub own_clean : (local host rest : Text) → Clean local → Clean host → Clean rest → Clean (list_address local host rest)
-own_clean local host rest l h r = joined (local ++ 45 ∷ rest) (64 ∷ host) (joined local (45 ∷ rest) l r) h
+own_clean local host rest l h r = clean_both (local ++ 45 ∷ rest) (64 ∷ host) (clean_both local (45 ∷ rest) l r) h
 
 pub set_clean : (set : Set) → Clean (set_word set)
 set_clean sets.List = refl
@@ -85,7 +85,7 @@ address_line x is =
     let whole = (address_parts x is).0 in
     let fits : make_address (local_of x) (host_of x) ≡ true = ap (λ t. is_ok (address_check t)) (sym whole) ∙ ap is_ok is.checks in
     let parts = parts_allowed (local_of x) (host_of x) fits in
-    ap (has_byte 10) whole ∙ joined (local_of x) (64 ∷ host_of x) parts.0 parts.1
+    ap (has_byte 10) whole ∙ clean_both (local_of x) (64 ∷ host_of x) parts.0 parts.1
 
 -- the address of a sender
 pub sender_line : (sender : Text) → is_ok (address_check sender) ≡ true → Clean (as_address sender)
@@ -108,7 +108,7 @@ pub named_line : (w : PlainWho) → is_who w ≡ true → Clean (address_named w
 named_line w e =
     let fit : are_parts w.local w.host ≡ true = sym (who_parts w.local w.host) ∙ e in
     let hosts = (both _ (list_all is_host_byte w.host) fit).1 in
-    joined w.local (64 ∷ lower w.host) (parts_allowed w.local w.host e).0 (lower_line w.host hosts)
+    clean_both w.local (64 ∷ lower w.host) (parts_allowed w.local w.host e).0 (lower_line w.host hosts)
 
 -- the parts of a text round its last `@`
 split_line : (text : Text) → Clean text → Clean (before_at (split_last 64 text)) × Clean (behind_at (split_last 64 text))
@@ -144,34 +144,34 @@ word_line words.Tc = refl
 word_line words.Uc = refl
 
 ticket_line : (n : ℕ) (letters : Text) → Clean letters → Clean (ticket_text n letters)
-ticket_line n letters clean = joined (decimal n) (46 ∷ letters) (decimal_clean n) clean
+ticket_line n letters clean = clean_both (decimal n) (46 ∷ letters) (decimal_clean n) clean
 
 -- the list's own addresses that confirm
 module _ (local host : Text) (l : Clean local) (h : Clean host) where
   around : (request : PlainRequest) → Clean (rest_text request) → Clean (request_text local host request)
   unfolding request_text
-  around request clean = joined (local ++ rest_text request) (64 ∷ host) (joined local (rest_text request) l clean) h
+  around request clean = clean_both (local ++ rest_text request) (64 ∷ host) (clean_both local (rest_text request) l clean) h
 
   pub confirm_line : (word : Word) (set : Set) (time : ℕ) (key kind name : Text) (moment : ℕ) (what x : Text) → Clean x
       → Clean (request_text local host (Confirm word set (record { time = time; cookie = cookie key kind name moment what; who = record { local = local_of x; host = host_of x } })))
   confirm_line word set time key kind name moment what x clean =
       let c = cookie key kind name moment what in
       let parts = split_line x clean in
-      let who : Clean (local_of x ++ 61 ∷ host_of x) = joined (local_of x) (61 ∷ host_of x) parts.0 parts.1 in
+      let who : Clean (local_of x ++ 61 ∷ host_of x) = clean_both (local_of x) (61 ∷ host_of x) parts.0 parts.1 in
       let signed : Clean (ticket_text time c ++ 45 ∷ (local_of x ++ 61 ∷ host_of x)) =
-      joined (ticket_text time c) (45 ∷ (local_of x ++ 61 ∷ host_of x)) (ticket_line time c (cookie_line key kind name moment what)) who in
+      clean_both (ticket_text time c) (45 ∷ (local_of x ++ 61 ∷ host_of x)) (ticket_line time c (cookie_line key kind name moment what)) who in
       let front : Clean (codes "-" ++ set_front set) = front_line set in
-      let word_there = joined (codes "-" ++ set_front set) (word_text word) front (word_line word) in
-      let dot = joined (codes "-" ++ set_front set ++ word_text word) (codes ".") word_there refl in
+      let word_there = clean_both (codes "-" ++ set_front set) (word_text word) front (word_line word) in
+      let dot = clean_both (codes "-" ++ set_front set ++ word_text word) (codes ".") word_there refl in
       around (Confirm word set (record { time = time; cookie = c; who = record { local = local_of x; host = host_of x } }))
-      (joined (codes "-" ++ set_front set ++ word_text word ++ codes ".") (signed_text (record { time = time; cookie = c; who = record { local = local_of x; host = host_of x } })) dot signed)
+      (clean_both (codes "-" ++ set_front set ++ word_text word ++ codes ".") (signed_text (record { time = time; cookie = c; who = record { local = local_of x; host = host_of x } })) dot signed)
 
   pub accept_line : (ticket : ℕ) (key kind name : Text) (moment : ℕ) (what : Text) → Clean (request_text local host (Accept ticket (cookie key kind name moment what)))
   accept_line ticket key kind name moment what =
       let c = cookie key kind name moment what in
-      around (Accept ticket c) (joined (codes "-accept-") (ticket_text ticket c) refl (ticket_line ticket c (cookie_line key kind name moment what)))
+      around (Accept ticket c) (clean_both (codes "-accept-") (ticket_text ticket c) refl (ticket_line ticket c (cookie_line key kind name moment what)))
 
   pub reject_line : (ticket : ℕ) (key kind name : Text) (moment : ℕ) (what : Text) → Clean (request_text local host (Reject ticket (cookie key kind name moment what)))
   reject_line ticket key kind name moment what =
       let c = cookie key kind name moment what in
-      around (Reject ticket c) (joined (codes "-reject-") (ticket_text ticket c) refl (ticket_line ticket c (cookie_line key kind name moment what)))
+      around (Reject ticket c) (clean_both (codes "-reject-") (ticket_text ticket c) refl (ticket_line ticket c (cookie_line key kind name moment what)))

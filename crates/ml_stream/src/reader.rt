@@ -362,7 +362,7 @@ impl Reader {
     }
 
     // The id of an entry of the queue.
-    fn sent<I: Source>(&mut self, alloc: Global, input: &mut I) -> Result<Act, StreamError>
+    fn sent_act<I: Source>(&mut self, alloc: Global, input: &mut I) -> Result<Act, StreamError>
         ensures read { (bs : List ℕ) → Stands self.old.place self.old.ahead (I.left input.old) bs →
             Reads result self.new.place self.new.ahead (I.left input.new) (sent_at self.old.place bs) }
         ensures stops { (bs : List ℕ) → Stands self.old.place self.old.ahead (I.left input.old) bs →
@@ -447,7 +447,7 @@ impl Reader {
             Letter::Floor => self.floor(alloc, input),
             Letter::Rekey => self.rekey(alloc, input),
             Letter::Remove => self.remove(alloc, input),
-            Letter::Sent => self.sent(alloc, input),
+            Letter::Sent => self.sent_act(alloc, input),
             Letter::Timed => Ok(Act::Timed),
         }
     }

@@ -1,13 +1,12 @@
 // Items, as a stream spells them.
 ghost use Rattle.std.specs.Prelude.{◌≡◌, ◌++◌, take, length, IfOk, OnOk, OnErr};
-ghost use Rattle.std.specs.Fmt.{decimal};
 ghost use Rattle.hex.specs.Hex.{encode_lower};
 ghost use Rattle.ml_base.specs.Netstrings.{ns};
 ghost use Rattle.ml_stream.specs.Writing.{spelled_act, spelled_item};
 ghost use Rattle.ml_stream.specs.Writing as spec;
 
 use hex::encode_to_slice;
-use ml_base::{Bytes, push_netstring, write_number};
+use ml_base::{Bytes, push_netstring, push_number_netstring};
 use ml_plain::{Act, Item};
 use std::alloc::{AllocError, Global};
 
@@ -46,8 +45,8 @@ fn add_item(text: &mut Bytes, item: &Item) -> Result<(), AllocError>
 {
     text.reserve(room(&item.act))?;
     text.push(letter(&item.act))?;
-    push_number(text, item.number)?;
-    push_number(text, item.moment)?;
+    push_number_netstring(text, item.number)?;
+    push_number_netstring(text, item.moment)?;
     push_act(text, &item.act)
 }
 
@@ -81,16 +80,6 @@ fn letter(act: &Act) -> u8
     }
 }
 
-// Adds the netstring of a number's digits at the end. An error changes nothing.
-fn push_number(out: &mut Bytes, number: u64) -> Result<(), AllocError>
-    ensures ok { OnOk result (out.new ≡ out.old ++ ns (decimal number)) }
-    ensures err { OnErr result (out.new ≡ out.old) }
-{
-    let mut digits = [0u8; 20];
-    let len = write_number(number, &mut digits);
-    push_netstring(out, &digits[..len])
-}
-
 // Adds what an act is about at the end. An error leaves a part of it there.
 fn push_act(out: &mut Bytes, act: &Act) -> Result<(), AllocError>
     ensures ok { OnOk result (out.new ≡ out.old ++ spelled_act act.now) }
@@ -111,9 +100,9 @@ fn push_act(out: &mut Bytes, act: &Act) -> Result<(), AllocError>
             push_netstring(out, set.word())?;
             push_netstring(out, who.bytes())
         }
-        Act::Sent { id } => push_number(out, *id),
+        Act::Sent { id } => push_number_netstring(out, *id),
         Act::Rekey { key } => push_key(out, key),
-        Act::Floor { at } => push_number(out, *at),
+        Act::Floor { at } => push_number_netstring(out, *at),
     }
 }
 

@@ -20,9 +20,9 @@ sorted_addresses (m ∷ ms) =
 
 -- what files spell is in order
 pub spelled_sorted : (set : Set) (now : Spelling) → IsSpelled set now → is_sorted byte_cmp key now.addresses ≡ true
-spelled_sorted set now is = ap (is_sorted byte_cmp key) is.addresses ∙ (sorted_addresses is.members ∙ is.joined.ordered)
+spelled_sorted set now is = ap (is_sorted byte_cmp key) is.addresses ∙ (sorted_addresses is.members ∙ is.union.ordered)
 
 -- what the files of a set of subscribers spell are their addresses
 pub spelled_only : (dir : Dir) (set : Set) (now : Spelling) (ms : List Member) → AreFiles dir set 53 now.texts → IsSpelled set now → AreSubscribers dir set ms → now.addresses ≡ map (λ m. m.who) ms
 spelled_only dir set now ms files is stands =
-    is.addresses ∙ ap (map (λ (m : Member). m.who)) (joined_one dir set is.members ms (joined_in dir set now.texts is.members files is.joined) stands.members)
+    is.addresses ∙ ap (map (λ (m : Member). m.who)) (joined_one dir set is.members ms (joined_in dir set now.texts is.members files is.union) stands.members)

@@ -89,7 +89,7 @@ members_joined dir set found ms all moved up =
     let hashed = λ (i : ℕ) (less : i < 53). bucket_hashed i (dir (bucket_name set i)) (all.0 i) (all.1 i less) in
     let ordered = λ (i : ℕ) (less : i < 53). bucket_ordered i (dir (bucket_name set i)) (all.0 i) (all.1 i less) in
     let joined = sorted_joined all.0 53 hashed ordered ms (subst (λ (l : List Member). IsPermutation l ms) all.2 moved) up in
-    record { ordered = joined.0; buckets = all.0; files = all.1; joined = λ k. joined.1 k (below_53 k) }
+    record { ordered = joined.0; buckets = all.0; files = all.1; by_key = λ k. joined.1 k (below_53 k) }
 
 -- a count that is that of the buckets
 pub counted_set : (dir : Dir) (set : Set) (found count : ℕ) → Counts dir set 53 found → count ≤ 100_000 → dir (count_name set) ≡ Some (count_text count) → found ≡ count → (ms : List Member) × AreSubscribers dir set ms
@@ -140,7 +140,7 @@ joined_in dir set texts ms same is = record {
   ordered = is.ordered;
   buckets = is.buckets;
   files = λ n less. subst (λ (f : Option Text). IsBucketFile n f (is.buckets n)) (same.each n less) (is.files n less);
-  joined = is.joined;
+  by_key = is.by_key;
 }
 
 pub ok_from : {T E : Type 0} (r : Result T E) (P Q : T → Type 0) → ((x : T) → P x → Q x) → IfOk r P → IfOk r Q

@@ -13,7 +13,7 @@ use Rattle.ml_subs.specs.declared.records.Layout.{Layout}
 use Rattle.ml_subs.specs.declared.records.Layout.TheVariants.{Undated, Dated}
 use Rattle.ml_subs.specs.Buckets.{IsBucket, IsMember, bucket_text, layout_line, records}
 use Rattle.ml_base.specs.Keys.{is_below}
-use Rattle.ml_subs.specs.Reading.{IsRecord, BeginsWith, AreRead, Leads, AreSkipped, IsSameKey, Sides, joined, IsFront, rises}
+use Rattle.ml_subs.specs.Reading.{IsRecord, BeginsWith, AreRead, Leads, AreSkipped, IsSameKey, Sides, all_members, IsFront, rises}
 use Rattle.ml_subs.proofs.Orders.{rising_ordered, ordered_rising, below_then, above_else}
 use Rattle.ml_subs.proofs.Spelled.{read_first, read_more, read_behind, record_one, record_parts}
 
@@ -87,7 +87,7 @@ each_record layout n (m ∷ ms) all =
 module _ (layout : Layout) (n : ℕ) (who text : Text) (size : ℕ) (skip : AreSkipped layout n who text size) where
   -- the place of a key, once those behind it are read
   pub place_found : (before behind : Text) (here : Option Member) (above : List Member) → before ≡ take size text → IsSameKey layout n who (drop size text) here behind → AreRead layout n who behind above
-      → (s : Sides layout who before here behind) × AreRead layout n [] text (joined s)
+      → (s : Sides layout who before here behind) × AreRead layout n [] text (all_members s)
   place_found before behind (Some m) above front same read =
       let own : IsMember layout n m = same.1 in
       let rest : AreRead layout n m.who behind above = same_floor layout n who m.who behind above (sym same.2) read in

@@ -88,8 +88,8 @@ below_53 k = omega arith
 pub joined_one : (dir : Dir) (set : Set) (ms others : List Member) → AreJoined dir set ms → AreJoined dir set others → ms ≡ others
 joined_one dir set ms others is other =
     same_lists byte_cmp member_key same_bytes bytes_total ms others is.ordered other.ordered
-    (λ k. is.joined k ∙ ap (member_of k) (bucket_one (bucket_of k) (dir (bucket_name set (bucket_of k))) (is.buckets (bucket_of k)) (other.buckets (bucket_of k)) (is.files (bucket_of k) (below_53 k)) (other.files (bucket_of k) (below_53 k)))
-    ∙ sym (other.joined k))
+    (λ k. is.by_key k ∙ ap (member_of k) (bucket_one (bucket_of k) (dir (bucket_name set (bucket_of k))) (is.buckets (bucket_of k)) (other.buckets (bucket_of k)) (is.files (bucket_of k) (below_53 k)) (other.files (bucket_of k) (below_53 k)))
+    ∙ sym (other.by_key k))
 
 pub subscribers_one : (dir : Dir) (set : Set) (ms others : List Member) → AreSubscribers dir set ms → AreSubscribers dir set others → ms ≡ others
 subscribers_one dir set ms others is other = joined_one dir set ms others is.members other.members
@@ -97,7 +97,7 @@ subscribers_one dir set ms others is other = joined_one dir set ms others is.mem
 -- what a set has under a key is what its bucket has
 pub found_in_bucket : (dir : Dir) (set : Set) (ms bucket : List Member) (k : Text) → AreJoined dir set ms → IsBucketOf dir set k bucket → member_of k ms ≡ member_of k bucket
 found_in_bucket dir set ms bucket k is file =
-    is.joined k ∙ ap (member_of k) (bucket_one (bucket_of k) (dir (bucket_name set (bucket_of k))) (is.buckets (bucket_of k)) bucket (is.files (bucket_of k) (below_53 k)) file)
+    is.by_key k ∙ ap (member_of k) (bucket_one (bucket_of k) (dir (bucket_name set (bucket_of k))) (is.buckets (bucket_of k)) bucket (is.files (bucket_of k) (below_53 k)) file)
 
 -- names
 
@@ -161,7 +161,7 @@ own_files dir other set ms same is = record {
     ordered = is.members.ordered;
     buckets = is.members.buckets;
     files = λ n less. subst (λ (f : Option Text). IsBucketFile n f (is.members.buckets n)) (sym (same (bucket_name set n) (bucket_own set n less))) (is.members.files n less);
-    joined = is.members.joined;
+    by_key = is.members.by_key;
   };
   few = is.few;
   counted = same (count_name set) (count_own set) ∙ is.counted;
@@ -177,7 +177,7 @@ nobody_there dir set none zero_there = record {
     ordered = refl;
     buckets = λ n. [];
     files = λ n less. subst (λ (f : Option Text). IsBucketFile n f []) (sym (none n less)) refl;
-    joined = λ k. refl;
+    by_key = λ k. refl;
   };
   few = omega arith;
   counted = zero_there;
@@ -214,7 +214,7 @@ subscribers_each dir set ms is = each_found (λ m. IsAddress m.who × IsMoment m
     (λ k m e.
     let bucket = is.members.buckets (bucket_of k) in
     let file = is.members.files (bucket_of k) (below_53 k) in
-    let there = found_is byte_cmp member_key (IsMember Dated (bucket_of k)) k m bucket (bucket_each (bucket_of k) (dir (bucket_name set (bucket_of k))) bucket file) (sym (is.members.joined k) ∙ e) in
+    let there = found_is byte_cmp member_key (IsMember Dated (bucket_of k)) k m bucket (bucket_each (bucket_of k) (dir (bucket_name set (bucket_of k))) bucket file) (sym (is.members.by_key k) ∙ e) in
     (there.0.address, there.0.since))
 
 -- a bucket and a count that are written anew
@@ -245,7 +245,7 @@ module _ (dir : Dir) (set : Set) (ms : List Member) (is : AreSubscribers dir set
       ordered = ordered;
       buckets = changed;
       files = files_after made;
-      joined = λ q. go q (bucket_of q == b) refl;
+      by_key = λ q. go q (bucket_of q == b) refl;
     };
     few = omega (arith, size, few);
     counted = count_at ∙ ap (λ n. Some (count_text n)) size;
@@ -253,7 +253,7 @@ module _ (dir : Dir) (set : Set) (ms : List Member) (is : AreSubscribers dir set
     where
       go : (q : Text) (t : Bool) → (bucket_of q == b) ≡ t → member_of q whole ≡ member_of q (cond (bucket_of q == b) bucket (is.members.buckets (bucket_of q)))
       go q true e = here q (eqb-true (bucket_of q) b e) ∙ sym (ap (λ t. member_of q (cond t bucket (is.members.buckets (bucket_of q)))) e)
-      go q false e = elsewhere q (eqb-false (bucket_of q) b e) ∙ is.members.joined q ∙ sym (ap (λ t. member_of q (cond t bucket (is.members.buckets (bucket_of q)))) e)
+      go q false e = elsewhere q (eqb-false (bucket_of q) b e) ∙ is.members.by_key q ∙ sym (ap (λ t. member_of q (cond t bucket (is.members.buckets (bucket_of q)))) e)
 
 -- the bucket of a member with him
 pub bucket_with : (m : Member) (file : Option Text) (bucket : List Member) → IsAddress m.who → IsMoment m.since → IsBucketFile (bucket_of (member_key m)) file bucket
@@ -399,7 +399,7 @@ made_of dir set buckets n files there size few =
           ordered = merged_ordered buckets 53;
           buckets = buckets;
           files = files;
-          joined = λ k. found_merged buckets 53 hashed k (below_53 k);
+          by_key = λ k. found_merged buckets 53 hashed k (below_53 k);
         };
         few = omega (arith, long, size, few);
         counted = there ∙ ap (λ m. Some (count_text m)) (size ∙ sym long);
@@ -411,5 +411,5 @@ pub counted_one : (dir : Dir) (set : Set) (buckets : ℕ → List Member) (ms : 
 counted_one dir set buckets ms files is =
     let hashed = λ (i : ℕ) (less : i < 53). bucket_hashed i (dir (bucket_name set i)) (buckets i) (files i less) in
     let ordered = λ (i : ℕ) (less : i < 53). bucket_ordered i (dir (bucket_name set i)) (buckets i) (files i less) in
-    let joined : AreJoined dir set (merged buckets 53) = record { ordered = merged_ordered buckets 53; buckets = buckets; files = files; joined = λ k. found_merged buckets 53 hashed k (below_53 k) } in
+    let joined : AreJoined dir set (merged buckets 53) = record { ordered = merged_ordered buckets 53; buckets = buckets; files = files; by_key = λ k. found_merged buckets 53 hashed k (below_53 k) } in
     ap length (joined_one dir set ms (merged buckets 53) is.members joined) ∙ length_merged buckets 53 hashed ordered

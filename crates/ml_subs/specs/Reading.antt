@@ -100,8 +100,8 @@ pub record Sides (layout : Layout) (who before : Text) (here : Option Member) (b
   pub around : AreAround layout before behind below above
 
 -- all of them
-abbrev pub joined : {layout : Layout} {who before : Text} {here : Option Member} {behind : Text} → Sides layout who before here behind → List Member
-joined {here = here} s = s.below ++ (option_to_list here ++ s.above)
+abbrev pub all_members : {layout : Layout} {who before : Text} {here : Option Member} {behind : Text} → Sides layout who before here behind → List Member
+all_members {here = here} s = s.below ++ (option_to_list here ++ s.above)
 
 -- an address, and whether it is its own key; where it may not be, nothing is said
 pub record IsKeyed (who : Text) (is_key : Bool) : Type 0 where

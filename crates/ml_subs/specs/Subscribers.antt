@@ -25,7 +25,7 @@ pub record AreJoined (dir : Dir) (set : Set) (ms : List Member) : Type 0 where
   pub ordered : IsOrdered ms
   pub buckets : ℕ → List Member
   pub files : AreBuckets dir set buckets
-  pub joined : (k : Text) → member_of k ms ≡ member_of k (buckets (bucket_of k))
+  pub by_key : (k : Text) → member_of k ms ≡ member_of k (buckets (bucket_of k))
 
 -- the members that the bucket of a key has
 abbrev pub IsBucketOf : Dir → Set → Text → List Member → Type 0
@@ -65,7 +65,7 @@ IsNoCount dir set least = (n : ℕ) → least ≤ n → n ≤ 100_000 → dir (c
 pub record IsSpelled (set : Set) (now : Spelling) : Type 0 where
   pub count : length now.texts ≡ 53
   pub members : List Member
-  pub joined : AreJoined (file_in now.texts) set members
+  pub union : AreJoined (file_in now.texts) set members
   pub addresses : now.addresses ≡ map (λ m. m.who) members
 
 -- how many a set's members are at least, where it has a key, or where it hasn't

@@ -5,7 +5,7 @@ ghost use Rattle.ml_base.specs.Address.{IsAddress};
 ghost use Rattle.ml_base.specs.Bytes.{Text};
 ghost use Rattle.ml_subs.specs.declared.member_list.Member.{Member};
 ghost use Rattle.ml_subs.specs.Buckets.{IsBucketFile};
-ghost use Rattle.ml_subs.specs.Reading.{AreRead, AreSkipped, BeginsWith, Passed, Sides, as_member, joined};
+ghost use Rattle.ml_subs.specs.Reading.{AreRead, AreSkipped, BeginsWith, Passed, Sides, as_member, all_members};
 ghost use Rattle.ml_subs.specs.declared.records.Layout.TheVariants.{Dated};
 
 use crate::checked::Checked;
@@ -117,7 +117,7 @@ fn skip_known(layout: Layout, who: &Address, text: &[u8]) -> usize
 
 // Where an address stands in the records of a bucket, where members are spelled in order.
 fn place_known<'a>(layout: Layout, n: u8, who: &Address, text: &'a [u8]) -> Place<'a>
-    ensures { (ms : List Member) → AreRead layout n [] text.now ms → (s : Sides result.layout who.now result.before.now (option_map as_member result.here) result.behind.now) × AreRead layout n [] text.now (joined s) }
+    ensures { (ms : List Member) → AreRead layout n [] text.now ms → (s : Sides result.layout who.now result.before.now (option_map as_member result.here) result.behind.now) × AreRead layout n [] text.now (all_members s) }
 {
     let (before, rest) = text.split_at(skip_known(layout, who, text));
     let (here, behind) = same_key(layout, n, who, rest);
@@ -138,7 +138,7 @@ pub(crate) fn find_again<'a>(
     file: &'a Option<Bytes>,
     who: &Address,
 ) -> Option<Place<'a>>
-    ensures some { IfSome result (λ p. (s : Sides p.layout who.now p.before.now (option_map as_member p.here) p.behind.now) × IsBucketFile n file.now (joined s)) }
+    ensures some { IfSome result (λ p. (s : Sides p.layout who.now p.before.now (option_map as_member p.here) p.behind.now) × IsBucketFile n file.now (all_members s)) }
     ensures none { IfNone result ((ms : List Member) → ¬ IsBucketFile n file.now ms) }
 {
     let Some(text) = file else {

@@ -28,7 +28,7 @@ pub fn law_order()
 /// member has an address and a moment.
 pub fn law_sets()
     ensures bucket { (n : ℕ) (file : Option Text) (ms others : List Member) → IsBucketFile n file ms → IsBucketFile n file others → ms ≡ others }
-    ensures joined { (dir : Dir) (set : Set) (ms others : List Member) → AreJoined dir set ms → AreJoined dir set others → ms ≡ others }
+    ensures union { (dir : Dir) (set : Set) (ms others : List Member) → AreJoined dir set ms → AreJoined dir set others → ms ≡ others }
     ensures one { (dir : Dir) (set : Set) (ms others : List Member) → AreSubscribers dir set ms → AreSubscribers dir set others → ms ≡ others }
     ensures own { (dir other : Dir) (set : Set) (ms : List Member) → ((name : Name) → is_of_set set name ≡ true → other name ≡ dir name) → AreSubscribers dir set ms → AreSubscribers other set ms }
     ensures broken { (dir : Dir) (set : Set) (name : Name) (ms : List Member) → Breaks dir set name → ¬ AreSubscribers dir set ms }

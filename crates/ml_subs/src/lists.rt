@@ -126,7 +126,7 @@ fn sorted_members(
     texts: &Row<Option<Bytes>>,
 ) -> Result<MemberList, PartError>
     requires { length texts.now ≡ 53 }
-    ensures joined { IfOk result (AreJoined (file_in texts.now) set) }
+    ensures union { IfOk result (AreJoined (file_in texts.now) set) }
     ensures names { IfErr result (λ e. OnDamaged e (IsBadBucket (file_in texts.now) set)) }
     ensures faultless { ¬ IsErrOf result Fault }
 {
@@ -138,7 +138,7 @@ fn sorted_members(
 /// The members of a set, in ascending order of key. It reads the set's 53 files and not its count.
 pub fn members<F: Files>(alloc: Global, files: &mut F, set: Set) -> Result<MemberList, PartError>
     ensures value { IsTrue F.tells → IfOk result (λ members. (ms : List Member) → AreSubscribers (F.map files.old) set ms → members ≡ ms) }
-    ensures joined { IsTrue F.tells → IfOk result (AreJoined (F.map files.old) set) }
+    ensures union { IsTrue F.tells → IfOk result (AreJoined (F.map files.old) set) }
     ensures ordered { IfOk result IsOrdered }
     ensures names { NamesDamaged ⟦<F as Files>⟧ (IsBucketName set) (IsBadBucket (F.map files.old) set) result }
     ensures sound { IsTrue F.tells → (ms : List Member) → AreSubscribers (F.map files.old) set ms → IfErr result (λ e. OnDamaged e (λ _. ⊥)) }
@@ -241,7 +241,7 @@ pub fn all_again<F: Files>(
 /// The addresses of a set's members, in ascending order of key. It reads the set's 53 files and not its count.
 pub fn all<F: Files>(alloc: Global, files: &mut F, set: Set) -> Result<AddressList, PartError>
     ensures value { IsTrue F.tells → IfOk result (λ addresses. (ms : List Member) → AreSubscribers (F.map files.old) set ms → addresses ≡ map (λ m. m.who) ms) }
-    ensures joined { IsTrue F.tells → IfOk result (λ addresses. (ms : List Member) × AreJoined (F.map files.old) set ms × (addresses ≡ map (λ m. m.who) ms)) }
+    ensures union { IsTrue F.tells → IfOk result (λ addresses. (ms : List Member) × AreJoined (F.map files.old) set ms × (addresses ≡ map (λ m. m.who) ms)) }
     ensures sorted { IfOk result (λ addresses. is_sorted byte_cmp key addresses ≡ true) }
     ensures names { NamesDamaged ⟦<F as Files>⟧ (IsBucketName set) (IsBadBucket (F.map files.old) set) result }
     ensures sound { IsTrue F.tells → (ms : List Member) → AreSubscribers (F.map files.old) set ms → IfErr result (λ e. OnDamaged e (λ _. ⊥)) }

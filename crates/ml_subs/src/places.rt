@@ -3,7 +3,7 @@ ghost use Rattle.std.specs.Prelude.{◌≡◌, ℕ, List, Option, Some, None, If
 ghost use Rattle.ml_subs.specs.declared.member_list.Member.{Member};
 ghost use Rattle.ml_subs.specs.Buckets.{IsBucketFile, IsBucket};
 ghost use Rattle.std.specs.Option.{option_map};
-ghost use Rattle.ml_subs.specs.Reading.{as_member, Sides, joined, IsSameKey, AreSkipped, AreRead, IsFront, IsLayoutOf};
+ghost use Rattle.ml_subs.specs.Reading.{as_member, Sides, all_members, IsSameKey, AreSkipped, AreRead, IsFront, IsLayoutOf};
 
 use crate::records::{Layout, Record, count_members, next_member};
 use ml_base::{Address, Bytes, is_below};
@@ -84,7 +84,7 @@ pub(crate) fn same_key<'a>(
 
 // Where an address stands in the records of a bucket, or None where they are no members of the bucket in order.
 fn place_in<'a>(layout: Layout, n: u8, who: &Address, text: &'a [u8]) -> Option<Place<'a>>
-    ensures some { IfSome result (λ p. (s : Sides p.layout who.now p.before.now (option_map as_member p.here) p.behind.now) × AreRead layout n [] text.now (joined s)) }
+    ensures some { IfSome result (λ p. (s : Sides p.layout who.now p.before.now (option_map as_member p.here) p.behind.now) × AreRead layout n [] text.now (all_members s)) }
     ensures none { IfNone result ((ms : List Member) → ¬ AreRead layout n [] text.now ms) }
 {
     let (before, rest) = text.split_at(skip_lower(layout, n, who, text)?);
@@ -100,7 +100,7 @@ fn place_in<'a>(layout: Layout, n: u8, who: &Address, text: &'a [u8]) -> Option<
 
 // Where an address stands in a bucket's file, or None where the file is outside its grammar.
 pub(crate) fn find_place<'a>(n: u8, file: &'a Option<Bytes>, who: &Address) -> Option<Place<'a>>
-    ensures some { IfSome result (λ p. (s : Sides p.layout who.now p.before.now (option_map as_member p.here) p.behind.now) × IsBucketFile n file.now (joined s)) }
+    ensures some { IfSome result (λ p. (s : Sides p.layout who.now p.before.now (option_map as_member p.here) p.behind.now) × IsBucketFile n file.now (all_members s)) }
     ensures none { IfNone result ((ms : List Member) → ¬ IsBucketFile n file.now ms) }
 {
     match file {

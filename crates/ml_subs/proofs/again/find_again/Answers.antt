@@ -1,7 +1,7 @@
 use Rattle.std.proofs.Common.{◌∙◌, ap, sym, subst, Option, Some}
 use Rattle.ml_base.specs.Bytes.{Text}
 use Rattle.ml_subs.specs.Buckets.{IsBucket, IsBucketFile}
-use Rattle.ml_subs.specs.Reading.{joined}
+use Rattle.ml_subs.specs.Reading.{all_members}
 use Rattle.ml_subs.proofs.again.find_again.Goals as goal
 
 pub returns-then-has-clause-some : goal.returns-then-has-clause-some
@@ -11,5 +11,5 @@ returns-then-has-clause-some c =
     let layout = c.in_ok-layout.ensures.some in
     let place = c.place_known.ensures known.0 (layout.only c.args.n known.0 there) in (
       place.0,
-      subst (λ (f : Option Text). IsBucketFile c.args.n f (joined place.0)) (ap Some c.as_slice-then-has.ensures ∙ sym c.in-Some.is) (layout.makes c.args.n (joined place.0) place.1),
+      subst (λ (f : Option Text). IsBucketFile c.args.n f (all_members place.0)) (ap Some c.as_slice-then-has.ensures ∙ sym c.in-Some.is) (layout.makes c.args.n (all_members place.0) place.1),
     )

@@ -5,8 +5,8 @@ use Rattle.ml_subs.proofs.laws.law_sets.Goals as goal
 pub returns-clause-bucket : goal.returns-clause-bucket
 returns-clause-bucket c = bucket_one
 
-pub returns-clause-joined : goal.returns-clause-joined
-returns-clause-joined c = joined_one
+pub returns-clause-union : goal.returns-clause-joined
+returns-clause-union c = joined_one
 
 pub returns-clause-one : goal.returns-clause-one
 returns-clause-one c = subscribers_one

@@ -1,7 +1,7 @@
 use Rattle.std.proofs.Common.{[], Some, Option, refl, sym, ap, ◌∙◌, subst}
 use Rattle.ml_base.specs.Bytes.{Text}
 use Rattle.ml_subs.specs.Buckets.{IsBucketFile}
-use Rattle.ml_subs.specs.Reading.{joined}
+use Rattle.ml_subs.specs.Reading.{all_members}
 use Rattle.ml_subs.proofs.Options.{if_some_from}
 use Rattle.ml_subs.proofs.places.find_place.Goals as goal
 
@@ -23,5 +23,5 @@ returns-in-None-clause-some c =
 pub returns-in_ok-layout-in-Some-clause-some : goal.returns-in_ok-layout-in-Some-clause-some
 returns-in_ok-layout-in-Some-clause-some c =
     if_some_from c.place_in.result _ _ c.place_in.ensures.some (λ p found.
-    let file = c.in_ok-layout-in-Some.ensures.some.makes c.args.n (joined found.0) found.1 in
-    (found.0, subst (λ (f : Option Text). IsBucketFile c.args.n f (joined found.0)) (ap Some (c.as_slice.ensures) ∙ sym c.in-Some.is) file))
+    let file = c.in_ok-layout-in-Some.ensures.some.makes c.args.n (all_members found.0) found.1 in
+    (found.0, subst (λ (f : Option Text). IsBucketFile c.args.n f (all_members found.0)) (ap Some (c.as_slice.ensures) ∙ sym c.in-Some.is) file))

@@ -8,7 +8,7 @@ use Rattle.ml_subs.specs.Buckets.{bucket_file, bucket_of, IsBucketFile}
 use Rattle.ml_subs.specs.Subscribers.{IsNoCount, IsUnread, count_name, count_text, is_touched}
 use Rattle.ml_base.specs.PartErrors.{OnDamaged}
 use Rattle.ml_subs.specs.Answers.{changes}
-use Rattle.ml_subs.specs.Reading.{joined, member_by}
+use Rattle.ml_subs.specs.Reading.{all_members, member_by}
 use Rattle.ml_base.proofs.DamagedNames.{on_damaged, on_both}
 use Rattle.ml_subs.specs.Members.{with_member}
 use Rattle.ml_subs.proofs.Represented.{bucket_with}
@@ -18,8 +18,8 @@ use Rattle.ml_subs.proofs.sets.add_with_memo.Goals as goal
 pub returns-then-is_some-clause-read : goal.returns-then-is_some-clause-read
 returns-then-is_some-clause-read g c told =
     let place = c.in-Some.ensures.some in (
-      joined place.0,
-      bucket_there (g.F.Files.map c.args.files.now) c.args.set (key c.args.a.now) c.bucket-n.result c.bucket-name.result c.in_ok-file.file (joined place.0) c.bucket-n.ensures.value c.bucket-name.ensures.name (c.in_ok-file.ensures.value told) place.1,
+      all_members place.0,
+      bucket_there (g.F.Files.map c.args.files.now) c.args.set (key c.args.a.now) c.bucket-n.result c.bucket-name.result c.in_ok-file.file (all_members place.0) c.bucket-n.ensures.value c.bucket-name.ensures.name (c.in_ok-file.ensures.value told) place.1,
       sides_has c.in-Some.place.here place.0 ∙ sym c.is_some.ensures ∙ c.if-is_some.true,
     )
 
@@ -33,8 +33,8 @@ returns-then-count-eq-MAX_MEMBERS-clause-read g c told =
     let place = c.in-Some.ensures.some in
     let count = c.in_ok-count.ensures.value told in
     let same = g.met.F.Files.kept_map c.args.files.now c.get.new.self told c.get.ensures.kept in (
-      joined place.0,
-      bucket_there (g.F.Files.map c.args.files.now) c.args.set (key c.args.a.now) c.bucket-n.result c.bucket-name.result c.in_ok-file.file (joined place.0) c.bucket-n.ensures.value c.bucket-name.ensures.name (c.in_ok-file.ensures.value told) place.1,
+      all_members place.0,
+      bucket_there (g.F.Files.map c.args.files.now) c.args.set (key c.args.a.now) c.bucket-n.result c.bucket-name.result c.in_ok-file.file (all_members place.0) c.bucket-n.ensures.value c.bucket-name.ensures.name (c.in_ok-file.ensures.value told) place.1,
       (
         sides_has c.in-Some.place.here place.0 ∙ sym c.is_some.ensures ∙ c.if-is_some.false,
         sym (ap (λ (dir : Dir). dir (count_name c.args.set)) same) ∙ count.2 ∙ ap (λ n. Some (count_text n)) c.if-count-eq-MAX_MEMBERS.true,
@@ -52,10 +52,10 @@ pub note-requires : goal.note-requires
 note-requires g c =
     let place = c.in-Some.ensures.some in
     let m = member_by c.args.a.now c.args.now in
-    let all = with_member m (joined place.0) in
+    let all = with_member m (all_members place.0) in
     let text : Some c.as_slice.result.now ≡ bucket_file all = ap Some (c.as_slice.ensures ∙ c.in_ok-text.ensures.text (place.0).below (place.0).above (place.0).around) ∙ sym (file_with (place.0).below (place.0).above m) ∙ sym (ap bucket_file (sides_with m c.in-Some.place.here place.0 (sym c.is_some.ensures ∙ c.if-is_some.false))) in
-    let there = subst (λ (n : ℕ). IsBucketFile n c.in_ok-file.file (joined place.0)) c.bucket-n.ensures.value place.1 in
-    let made : IsBucketFile (bucket_of (key c.args.a.now)) (Some c.as_slice.result.now) all = subst (λ (f : Option Text). IsBucketFile (bucket_of (key c.args.a.now)) f all) (sym text) (bucket_with m c.in_ok-file.file (joined place.0) c.in_ok-text.ensures.address c.requires there) in
+    let there = subst (λ (n : ℕ). IsBucketFile n c.in_ok-file.file (all_members place.0)) c.bucket-n.ensures.value place.1 in
+    let made : IsBucketFile (bucket_of (key c.args.a.now)) (Some c.as_slice.result.now) all = subst (λ (f : Option Text). IsBucketFile (bucket_of (key c.args.a.now)) f all) (sym text) (bucket_with m c.in_ok-file.file (all_members place.0) c.in_ok-text.ensures.address c.requires there) in
     (all, subst (λ (n : ℕ). IsBucketFile n (Some c.as_slice.result.now) all) (sym c.bucket-n.ensures.value) made)
 
 pub returns-clause-read : goal.returns-clause-read
@@ -65,8 +65,8 @@ returns-clause-read g c told =
     let same = g.met.F.Files.kept_map c.args.files.now c.get.new.self told c.get.ensures.kept in
     let m = member_by c.args.a.now c.args.now in
     let text = ap Some (c.in_ok-text.ensures.text (place.0).below (place.0).above (place.0).around) ∙ sym (file_with (place.0).below (place.0).above m) ∙ sym (ap bucket_file (sides_with m c.in-Some.place.here place.0 (sym c.is_some.ensures ∙ c.if-is_some.false))) in (
-      joined place.0,
-      bucket_there (g.F.Files.map c.args.files.now) c.args.set (key c.args.a.now) c.bucket-n.result c.bucket-name.result c.in_ok-file.file (joined place.0) c.bucket-n.ensures.value c.bucket-name.ensures.name (c.in_ok-file.ensures.value told) place.1,
+      all_members place.0,
+      bucket_there (g.F.Files.map c.args.files.now) c.args.set (key c.args.a.now) c.bucket-n.result c.bucket-name.result c.in_ok-file.file (all_members place.0) c.bucket-n.ensures.value c.bucket-name.ensures.name (c.in_ok-file.ensures.value told) place.1,
       (
         sides_has c.in-Some.place.here place.0 ∙ sym c.is_some.ensures ∙ c.if-is_some.false,
         (
@@ -93,10 +93,10 @@ returns-in_err-count-clause-names g c =
           let dir = g.F.Files.map c.args.files.now in
           let place = c.in-Some.ensures.some in
           let same = g.met.F.Files.kept_map c.args.files.now c.get.new.self told c.get.ensures.kept in
-          let there = bucket_there dir c.args.set (key c.args.a.now) c.bucket-n.result c.bucket-name.result c.in_ok-file.file (joined place.0) c.bucket-n.ensures.value c.bucket-name.ensures.name (c.in_ok-file.ensures.value told) place.1 in
+          let there = bucket_there dir c.args.set (key c.args.a.now) c.bucket-n.result c.bucket-name.result c.in_ok-file.file (all_members place.0) c.bucket-n.ensures.value c.bucket-name.ensures.name (c.in_ok-file.ensures.value told) place.1 in
           let none = subst (λ (d : Dir). OnDamaged e (λ _. IsNoCount d c.args.set 0)) same (failed.damaged told) in
           let unread : OnDamaged e (IsUnread dir c.args.set (key c.args.a.now) false) =
-          on_both e (λ name. name ≡ count_name c.args.set) (λ _. IsNoCount dir c.args.set 0) (IsUnread dir c.args.set (key c.args.a.now) false) (unread_count dir c.args.set (key c.args.a.now) false (joined place.0) there (sides_has c.in-Some.place.here place.0 ∙ sym c.is_some.ensures ∙ c.if-is_some.false)) failed.named none in
+          on_both e (λ name. name ≡ count_name c.args.set) (λ _. IsNoCount dir c.args.set 0) (IsUnread dir c.args.set (key c.args.a.now) false) (unread_count dir c.args.set (key c.args.a.now) false (all_members place.0) there (sides_has c.in-Some.place.here place.0 ∙ sym c.is_some.ensures ∙ c.if-is_some.false)) failed.named none in
           search rules;
     }
 

@@ -27,4 +27,4 @@ returns-in-Deliver-clause-stops g c bs s =
 
 pub returns-in-Sent-clause-stops : goal.returns-in-Sent-clause-stops
 returns-in-Sent-clause-stops g c bs s =
-    subst (λ (l : Letter). IfErr c.sent.result (λ (e : StreamError). EndsEarly e (g.I.Source.left c.sent.new.input) bs (λ t. Fails (act_at l c.args.self.now.place t)))) (sym c.in-Sent.is) (c.sent.ensures.stops bs s)
+    subst (λ (l : Letter). IfErr c.sent_act.result (λ (e : StreamError). EndsEarly e (g.I.Source.left c.sent_act.new.input) bs (λ t. Fails (act_at l c.args.self.now.place t)))) (sym c.in-Sent.is) (c.sent_act.ensures.stops bs s)

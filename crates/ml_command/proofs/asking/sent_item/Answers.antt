@@ -1,6 +1,6 @@
 use Rattle.std.proofs.Common.{◌∙◌, sym}
 use Rattle.ml_command.proofs.Given.{sent_is_given}
-use Rattle.ml_command.proofs.asking.sent.Goals as goal
+use Rattle.ml_command.proofs.asking.sent_item.Goals as goal
 
 pub returns-in-Some-entry_id : goal.returns-in-Some-entry_id
 returns-in-Some-entry_id c =

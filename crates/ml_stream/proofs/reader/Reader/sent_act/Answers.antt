@@ -5,7 +5,7 @@ use Rattle.ml_stream.specs.Stream.{got, element_at, id_of, sent_at}
 use Rattle.ml_stream.specs.declared.stream.StreamError.{StreamError}
 use Rattle.ml_plain.specs.declared.Act.TheVariants.{Sent}
 use Rattle.ml_stream.proofs.Cuts.{at_exit, breaks_first}
-use Rattle.ml_stream.proofs.reader.Reader.sent.Goals as goal
+use Rattle.ml_stream.proofs.reader.Reader.sent_act.Goals as goal
 
 pub returns-clause-read : goal.returns-clause-read
 returns-clause-read g c bs s =
