@@ -9,14 +9,14 @@ use Rattle.ml_base.specs.Drawn.{IsCounter}
 use Rattle.ml_base.specs.declared.names.Name.{Name}
 use Rattle.ml_base.specs.declared.names.Set.{Set}
 use Rattle.ml_base.specs.declared.names.Set.TheVariants as sets
-use Rattle.ml_archive.specs.Answers.{HasNoEntry, HasOtherCount, IsBadForAppend, IsBadForPost, IsBadForRange, IsBadForThread, IsEntryByFiles, IsNoIndex, IsNoNumber, IsNoThreads, LacksEntry, LacksPost, LacksThread}
-use Rattle.ml_archive.specs.Archive.{IsIndexFile, IsNumberFile, index_name, number_name, post_name}
-use Rattle.ml_archive.specs.Subjects.{subject_key}
-use Rattle.ml_archive.specs.Threads.{IsThreadFile, entry_at, numbers_under, thread_name, thread_place}
-use Rattle.ml_archive.specs.declared.posts.Entry.{Entry}
-use Rattle.ml_archive.specs.declared.posts.Thread.{Thread}
-use Rattle.ml_archive.proofs.Exact.{count_one, index_one, threads_one}
-use Rattle.ml_archive.proofs.Looking.{entry_named}
+use Rattle.ml_filing.specs.Answers.{HasNoEntry, HasOtherCount, IsBadForAppend, IsBadForPost, IsBadForRange, IsBadForThread, IsEntryByFiles, IsNoIndex, IsNoNumber, IsNoThreads, LacksEntry, LacksPost, LacksThread}
+use Rattle.ml_filing.specs.Archive.{IsIndexFile, IsNumberFile, index_name, number_name, post_name}
+use Rattle.ml_filing.specs.Subjects.{subject_key}
+use Rattle.ml_filing.specs.Threads.{IsThreadFile, entry_at, numbers_under, thread_name, thread_place}
+use Rattle.ml_filing.specs.declared.posts.Entry.{Entry}
+use Rattle.ml_filing.specs.declared.posts.Thread.{Thread}
+use Rattle.ml_filing.proofs.Exact.{count_one, index_one, threads_one}
+use Rattle.ml_filing.proofs.Looking.{entry_named}
 use Rattle.ml_bounce.specs.Answers.{has_ledger, IsNoFile, ledger_kind}
 use Rattle.ml_bounce.specs.Files.{IsLedgerFile, ledger_name}
 use Rattle.ml_bounce.specs.Ledger.{Ledger}

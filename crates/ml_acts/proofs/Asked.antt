@@ -14,10 +14,10 @@ use Rattle.ml_base.specs.declared.names.Set.TheVariants as sets
 use Rattle.ml_base.specs.declared.part.PartError.{PartError}
 use Rattle.ml_base.proofs.Bools.{one_name}
 use Rattle.ml_base.proofs.DamagedNames.{err_damaged, err_both_damaged}
-use Rattle.ml_archive.specs.Answers.{IsNoIndex, IsNoNumber}
-use Rattle.ml_archive.specs.Archive.{ArePosts, index_name, number_name}
-use Rattle.ml_archive.specs.declared.posts.Post.{Post}
-use Rattle.ml_archive.specs.Threads.{is_of_archive}
+use Rattle.ml_filing.specs.Answers.{IsNoIndex, IsNoNumber}
+use Rattle.ml_filing.specs.Archive.{ArePosts, index_name, number_name}
+use Rattle.ml_filing.specs.declared.posts.Post.{Post}
+use Rattle.ml_filing.specs.Threads.{is_of_archive}
 use Rattle.ml_bounce.specs.Answers.{key_file}
 use Rattle.ml_bounce.specs.Answers.{has_ledger}
 use Rattle.ml_digest.specs.Due.{mark_name}

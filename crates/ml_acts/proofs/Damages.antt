@@ -16,11 +16,11 @@ use Rattle.ml_base.specs.declared.names.Set.TheVariants as sets
 use Rattle.ml_base.specs.declared.part.PartError.{PartError}
 use Rattle.ml_base.specs.declared.part.PartError.TheVariants.{Fault, Memory, Damaged}
 use Rattle.ml_base.proofs.DamagedNames.{err_damaged, err_both_damaged}
-use Rattle.ml_archive.specs.Answers.{IsNoIndex}
-use Rattle.ml_archive.specs.Archive.{ArePosts, index_name, number_name}
-use Rattle.ml_archive.specs.declared.posts.Post.{Post}
-use Rattle.ml_archive.specs.Threads.{IsArchive}
-use Rattle.ml_archive.proofs.Exact.{count_one}
+use Rattle.ml_filing.specs.Answers.{IsNoIndex}
+use Rattle.ml_filing.specs.Archive.{ArePosts, index_name, number_name}
+use Rattle.ml_filing.specs.declared.posts.Post.{Post}
+use Rattle.ml_filing.specs.Threads.{IsArchive}
+use Rattle.ml_filing.proofs.Exact.{count_one}
 use Rattle.ml_bounce.specs.Answers.{has_ledger, IsBadFile, IsNoFile, key_file}
 use Rattle.ml_bounce.specs.Files.{ledger_place}
 use Rattle.ml_config.specs.ConfigFile.{config_name}

@@ -2,8 +2,8 @@
 use Rattle.std.proofs.Common.{◌≡◌, ◌<◌, ℕ, true, ap, ◌∙◌}
 use Rattle.std.proofs.lemmas.Bool.{lt-ltb}
 use Rattle.ml_base.specs.declared.names.Name.{Name}
-use Rattle.ml_archive.specs.Archive.{index_name}
-use Rattle.ml_archive.specs.Threads.{thread_name}
+use Rattle.ml_filing.specs.Archive.{index_name}
+use Rattle.ml_filing.specs.Threads.{thread_name}
 use Rattle.ml_hold.specs.Answers.{IsPostName}
 use Rattle.ml_acts.specs.Doing.{is_held_post, is_index, is_thread_file}
 

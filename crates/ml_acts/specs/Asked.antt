@@ -4,11 +4,11 @@ use Rattle.std.specs.List.{IsAmong, list_any}
 use Rattle.ml_base.specs.Bytes.{Text}
 use Rattle.ml_base.specs.Dir.{Dir}
 use Rattle.ml_base.specs.declared.names.Name.{Name}
-use Rattle.ml_archive.specs.Answers.{IsBadForAppend, IsBadForPost, IsBadForRange, IsBadForThread, IsNoIndex, IsNoNumber, IsRangeByFiles, IsThreadAnswer}
-use Rattle.ml_archive.specs.Archive.{IsIndexFile, IsNumberFile, index_name, number_name}
-use Rattle.ml_archive.specs.Reads.{IsOfNext, IsOfThread}
-use Rattle.ml_archive.specs.Threads.{is_of_archive}
-use Rattle.ml_archive.specs.declared.posts.Entry.{Entry}
+use Rattle.ml_filing.specs.Answers.{IsBadForAppend, IsBadForPost, IsBadForRange, IsBadForThread, IsNoIndex, IsNoNumber, IsRangeByFiles, IsThreadAnswer}
+use Rattle.ml_filing.specs.Archive.{IsIndexFile, IsNumberFile, index_name, number_name}
+use Rattle.ml_filing.specs.Reads.{IsOfNext, IsOfThread}
+use Rattle.ml_filing.specs.Threads.{is_of_archive}
+use Rattle.ml_filing.specs.declared.posts.Entry.{Entry}
 use Rattle.ml_digest.specs.Due.{IsMark}
 use Rattle.ml_digest.specs.declared.posts.Mark.{Mark}
 use Rattle.ml_acts.specs.Damaged.{IsDamaged}

@@ -4,10 +4,10 @@ use Rattle.ml_base.specs.Bytes.{Text}
 use Rattle.ml_base.specs.Dir.{Dir}
 use Rattle.ml_base.specs.declared.names.Name.{Name}
 use Rattle.ml_base.specs.declared.names.Set.{Set}
-use Rattle.ml_archive.specs.Answers.{IsNoNumber, IsNoIndex, IsBadForPost, IsBadForRange, IsBadForThread, IsBadForAppend}
-use Rattle.ml_archive.specs.Archive.{ArePosts, IsNumberFile, number_name, index_name}
-use Rattle.ml_archive.specs.Threads.{IsArchive}
-use Rattle.ml_archive.specs.declared.posts.Post.{Post}
+use Rattle.ml_filing.specs.Answers.{IsNoNumber, IsNoIndex, IsBadForPost, IsBadForRange, IsBadForThread, IsBadForAppend}
+use Rattle.ml_filing.specs.Archive.{ArePosts, IsNumberFile, number_name, index_name}
+use Rattle.ml_filing.specs.Threads.{IsArchive}
+use Rattle.ml_filing.specs.declared.posts.Post.{Post}
 use Rattle.ml_bounce.specs.Answers.{has_ledger, IsBadFile}
 use Rattle.ml_config.specs.ConfigFile.{IsConfigFile, config_name}
 use Rattle.ml_config.specs.KeyFile.{IsKeyFile, key_name}

@@ -9,9 +9,9 @@ use Rattle.ml_base.specs.declared.names.Name.{Name}
 use Rattle.ml_base.specs.declared.names.Set.{Set}
 use Rattle.ml_base.specs.declared.names.Set.TheVariants as sets
 use Rattle.ml_base.proofs.Bools.{one_name}
-use Rattle.ml_archive.proofs.Looking.{group_in_table}
-use Rattle.ml_archive.proofs.Represented.{in_table}
-use Rattle.ml_archive_audit.specs.Breaks.{IsAuditName}
+use Rattle.ml_filing.proofs.Looking.{group_in_table}
+use Rattle.ml_filing.proofs.Represented.{in_table}
+use Rattle.ml_archive.specs.Breaks.{IsAuditName}
 use Rattle.ml_bounce.specs.Answers.{has_ledger, ledger_kind}
 use Rattle.ml_bounce.specs.Files.{ledger_name}
 use Rattle.ml_hold.specs.Answers.{IsHeldName, post_name}

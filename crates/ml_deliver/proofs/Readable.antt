@@ -15,7 +15,7 @@ use Rattle.ml_base.proofs.Bools.{one_name}
 use Rattle.ml_address.specs.Requests.{PlainRequest, Post, Help, Other, Owner, Subscribe, Unsubscribe, Confirm, Members, Get, Index, Thread, Accept, Reject, Bounce, WarnBounce, ProbeBounce, ReplyBounce}
 use Rattle.ml_address.specs.declared.Word.{Word}
 use Rattle.ml_address.specs.declared.Word.TheVariants as words
-use Rattle.ml_archive.specs.Archive.{index_name, number_name}
+use Rattle.ml_filing.specs.Archive.{index_name, number_name}
 use Rattle.ml_bounce.specs.Answers.{has_ledger, key_file}
 use Rattle.ml_bounce.specs.Files.{ledger_place}
 use Rattle.ml_config.specs.KeyFile.{key_name}

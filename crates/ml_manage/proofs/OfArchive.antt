@@ -9,7 +9,7 @@ use Rattle.ml_base.specs.declared.files.Files.{Ghosts}
 use Rattle.ml_base.specs.declared.names.Name.{Name}
 use Rattle.ml_base.specs.declared.names.Set.TheVariants as sets
 use Rattle.ml_base.specs.declared.part.PartError.{PartError}
-use Rattle.ml_archive.specs.Threads.{is_of_archive}
+use Rattle.ml_filing.specs.Threads.{is_of_archive}
 use Rattle.ml_config.specs.declared.configuration.Config.{Config}
 use Rattle.ml_acts.specs.Asked.{Asked, IsBadFor, IsDamagedOf}
 use Rattle.ml_acts.specs.Damaged.{IsDamaged}

@@ -11,14 +11,14 @@ use Rattle.ml_base.specs.Cuts.{within, one_or_within}
 use Rattle.ml_base.specs.Dir.{Dir, same_name}
 use Rattle.ml_base.specs.Texts.{lines_text}
 use Rattle.ml_base.specs.declared.names.Name.{Name}
-use Rattle.ml_archive.specs.Answers.{IsPostName, IsThreadName}
-use Rattle.ml_archive.specs.Archive.{ArePosts, number_name, index_name}
-use Rattle.ml_archive.specs.Posts.{IsPost, Numbered, as_post, cut, entry, group, in_range, in_thread, numbered, numbers, post_at, size_of}
-use Rattle.ml_archive.specs.Reads.{IsOfRange, IsOfRow, IsOfSubject, IsOfThread, IsWithin}
-use Rattle.ml_archive.specs.declared.posts.Entry.{Entry}
-use Rattle.ml_archive.specs.declared.posts.Post.{Post}
-use Rattle.ml_archive.proofs.Asked.{each_among}
-use Rattle.ml_archive.proofs.ByFiles.{IsOne, filtered_ones}
+use Rattle.ml_filing.specs.Answers.{IsPostName, IsThreadName}
+use Rattle.ml_filing.specs.Archive.{ArePosts, number_name, index_name}
+use Rattle.ml_filing.specs.Posts.{IsPost, Numbered, as_post, cut, entry, group, in_range, in_thread, numbered, numbers, post_at, size_of}
+use Rattle.ml_filing.specs.Reads.{IsOfRange, IsOfRow, IsOfSubject, IsOfThread, IsWithin}
+use Rattle.ml_filing.specs.declared.posts.Entry.{Entry}
+use Rattle.ml_filing.specs.declared.posts.Post.{Post}
+use Rattle.ml_filing.proofs.Asked.{each_among}
+use Rattle.ml_filing.proofs.ByFiles.{IsOne, filtered_ones}
 use Rattle.ml_plain.specs.ArchiveText.{index_entry, texts_of, whole_post}
 use Rattle.ml_plain.specs.Plain.{Plain}
 use Rattle.ml_reply.specs.Dates.{date_text}

@@ -7,9 +7,9 @@ use Rattle.ml_base.specs.declared.names.Name.{Name}
 use Rattle.ml_base.specs.declared.names.Set.{Set}
 use Rattle.ml_base.specs.declared.names.Set.TheVariants as sets
 use Rattle.ml_address.specs.Requests.{PlainRequest, Post, Other, Owner, Subscribe, Unsubscribe, Confirm, Members, Get, Index, Thread, Accept, Reject, Bounce, WarnBounce, ProbeBounce, ReplyBounce, is_in_range}
-use Rattle.ml_archive.specs.Archive.{number_name, index_name}
-use Rattle.ml_archive.specs.Answers.{IsBadForPost}
-use Rattle.ml_archive.specs.Threads.{is_of_archive}
+use Rattle.ml_filing.specs.Archive.{number_name, index_name}
+use Rattle.ml_filing.specs.Answers.{IsBadForPost}
+use Rattle.ml_filing.specs.Threads.{is_of_archive}
 use Rattle.ml_config.specs.KeyFile.{key_name}
 use Rattle.ml_config.specs.declared.configuration.Config.{Config}
 use Rattle.ml_digest.specs.Due.{mark_name}

@@ -4,9 +4,9 @@ use Rattle.std.specs.Fmt.{decimal}
 use Rattle.std.specs.List.{flat_map}
 use Rattle.ml_base.specs.Bytes.{Text, tab}
 use Rattle.ml_base.specs.Texts.{lines_text}
-use Rattle.ml_archive.specs.Posts.{post_at}
-use Rattle.ml_archive.specs.declared.posts.Entry.{Entry}
-use Rattle.ml_archive.specs.declared.posts.Post.{Post}
+use Rattle.ml_filing.specs.Posts.{post_at}
+use Rattle.ml_filing.specs.declared.posts.Entry.{Entry}
+use Rattle.ml_filing.specs.declared.posts.Post.{Post}
 use Rattle.ml_config.specs.declared.configuration.Config.{Config}
 use Rattle.ml_plain.specs.ArchiveText.{whole_post}
 use Rattle.ml_plain.specs.Plain.{Plain}

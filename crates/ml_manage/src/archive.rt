@@ -1,8 +1,8 @@
 // Answers from the archive: to whom it is open, and what they are.
 ghost use Rattle.std.specs.Prelude.{◌≡◌, ◌/◌, ◌&&◌, ◌||◌, ◌++◌, not, true, unwrap_or, IsTrue, IfOk, OnOk};
-ghost use Rattle.ml_archive.specs.Answers.{IsPostName};
-ghost use Rattle.ml_archive.specs.Archive.{number_name};
-ghost use Rattle.ml_archive.specs.Reads.{IsOfRow};
+ghost use Rattle.ml_filing.specs.Answers.{IsPostName};
+ghost use Rattle.ml_filing.specs.Archive.{number_name};
+ghost use Rattle.ml_filing.specs.Reads.{IsOfRow};
 ghost use Rattle.std.specs.List.{flat_map};
 ghost use Rattle.ml_base.specs.Dir.{are_files, same_name, touches_only};
 ghost use Rattle.ml_base.specs.Ranges.{IsMoment};
@@ -24,7 +24,7 @@ ghost use Rattle.ml_manage.specs.Texts as words;
 use crate::members::is_member;
 use crate::texts::{add_post, entries_text, no_posts};
 use ml_acts::with_mail;
-use ml_archive::{index, post, range, thread};
+use ml_filing::{index, post, range, thread};
 use ml_base::{Address, Bytes, Files, PartError, Set, Txn};
 use ml_config::Config;
 use ml_plain::Reply;

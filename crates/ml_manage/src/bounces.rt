@@ -15,7 +15,7 @@ ghost use Rattle.ml_plain.specs.KeptFiles.{is_kept};
 ghost use Rattle.ml_plain.specs.Mailing.{is_good as is_good_by};
 ghost use Rattle.ml_plain.specs.Answers as answers;
 ghost use Rattle.ml_plain.specs.Plain.{Plain, is_in, ledger_of, removed};
-ghost use Rattle.ml_archive.specs.Archive.{number_name};
+ghost use Rattle.ml_filing.specs.Archive.{number_name};
 ghost use Rattle.ml_digest.specs.Due.{mark_name};
 ghost use Rattle.ml_subs.specs.Subscribers.{is_touched};
 ghost use Rattle.ml_acts.specs.Asked.{Count, IsDamagedOf};
@@ -26,7 +26,7 @@ ghost use Rattle.ml_manage.specs.Reads.{is_counted_in, is_of_bounce, is_of_probe
 
 use crate::members::is_member;
 use ml_acts::{is_good, key_of, remove_member};
-use ml_archive::count;
+use ml_filing::count;
 use ml_base::{Address, Files, PartError, Set, Txn};
 use ml_bounce::{note, probe_failed, warn_failed};
 use ml_config::key;

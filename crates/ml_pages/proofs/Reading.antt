@@ -3,9 +3,9 @@ use Rattle.std.proofs.Common.{◌≡◌, ◌≢◌, ◌<◌, ◌+◌, ⊎_elim, 
 use Rattle.std.proofs.lemmas.Bool.{eqb-true, eqb-false}
 use Rattle.ml_base.specs.Bytes.{Text}
 use Rattle.ml_base.specs.Dir.{Dir}
-use Rattle.ml_archive.specs.Answers.{IsIndexByFiles}
-use Rattle.ml_archive.specs.declared.posts.Entry.{Entry}
-use Rattle.ml_archive.specs.declared.posts.Thread.{Thread}
+use Rattle.ml_filing.specs.Answers.{IsIndexByFiles}
+use Rattle.ml_filing.specs.declared.posts.Entry.{Entry}
+use Rattle.ml_filing.specs.declared.posts.Thread.{Thread}
 use Rattle.ml_pages.specs.Counting.{is_first}
 use Rattle.ml_pages.specs.Pages.{on_page}
 use Rattle.ml_pages.specs.Parts.{IsPageFound}

@@ -6,7 +6,7 @@ use Rattle.ml_base.specs.Bytes.{Text}
 use Rattle.ml_base.specs.declared.names.Set.TheVariants as sets
 use Rattle.ml_address.specs.Reading.{request_of}
 use Rattle.ml_address.specs.Writing.{request_text}
-use Rattle.ml_archive.specs.Subjects.{stripped}
+use Rattle.ml_filing.specs.Subjects.{stripped}
 use Rattle.ml_digest.specs.Digest.{digest_text}
 use Rattle.ml_reply.specs.Dates.{date_text, civil_of}
 use Rattle.ml_reply.specs.Mails.{mail_text}

@@ -11,7 +11,7 @@ use Rattle.ml_base.specs.declared.names.Set.{Set}
 use Rattle.ml_base.specs.declared.names.Set.TheVariants as sets
 use Rattle.ml_address.specs.Reading.{request_of}
 use Rattle.ml_address.specs.Requests.{PlainRequest, Post, Owner, Subscribe, Unsubscribe, Members, Confirm, Get, Index, Thread, Accept, Reject, Bounce, WarnBounce, ProbeBounce, ReplyBounce}
-use Rattle.ml_archive.specs.declared.posts.Post.{Post as Archived}
+use Rattle.ml_filing.specs.declared.posts.Post.{Post as Archived}
 use Rattle.ml_bounce.specs.Ledger.{Ledger}
 use Rattle.ml_bounce.specs.declared.entries.LedgerEntry.{LedgerEntry}
 use Rattle.ml_bounce.specs.declared.entries.Stage.{Stage}

@@ -23,7 +23,7 @@ use Rattle.ml_address.specs.declared.Path.{Path}
 use Rattle.ml_address.specs.declared.Word.{Word}
 use Rattle.ml_address.specs.declared.Word.TheVariants as words
 use Rattle.ml_address.proofs.Inverse.{request_is}
-use Rattle.ml_archive.specs.Subjects.{subject}
+use Rattle.ml_filing.specs.Subjects.{subject}
 use Rattle.ml_bounce.specs.Ledger.{Ledger, forget}
 use Rattle.ml_bounce.specs.declared.entries.Stage.{Stage}
 use Rattle.ml_bounce.specs.declared.entries.Stage.TheVariants.{Unwarned, Warned, WarnFailed, Probed}

@@ -6,7 +6,7 @@ use Rattle.ml_base.specs.Bytes.{Text}
 use Rattle.ml_base.specs.Drawn.{Drawn, Drawing}
 use Rattle.ml_base.specs.declared.names.Set.TheVariants as sets
 use Rattle.ml_address.specs.Requests.{Accept, Reject}
-use Rattle.ml_archive.specs.declared.posts.Post.{Post}
+use Rattle.ml_filing.specs.declared.posts.Post.{Post}
 use Rattle.ml_hold.specs.Held.{held_post}
 use Rattle.ml_hold.specs.declared.posts.Held.{Held}
 use Rattle.ml_queue.specs.declared.entries.Out.{Out}

@@ -11,7 +11,7 @@ use Rattle.ml_base.specs.declared.names.Set.TheVariants as sets
 use Rattle.ml_address.specs.Requests.{PlainWho, Signed, PlainRequest, Unsubscribe, Confirm, Bounce, WarnBounce, ProbeBounce}
 use Rattle.ml_address.specs.Reading.{request_of}
 use Rattle.ml_address.specs.declared.Word.TheVariants as words
-use Rattle.ml_archive.specs.declared.posts.Post.{Post}
+use Rattle.ml_filing.specs.declared.posts.Post.{Post}
 use Rattle.ml_bounce.specs.Ledger.{entry_under}
 use Rattle.ml_bounce.specs.declared.entries.Stage.TheVariants.{Probed}
 use Rattle.ml_config.specs.declared.configuration.Config.{Config}

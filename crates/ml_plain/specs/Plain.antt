@@ -11,7 +11,7 @@ use Rattle.ml_config.specs.declared.configuration.Config.{Config}
 use Rattle.ml_config.specs.declared.key_file.Keys.{Keys}
 use Rattle.ml_subs.specs.Members.{has_key, member_of, with_member, without_member}
 use Rattle.ml_subs.specs.declared.member_list.Member.{Member}
-use Rattle.ml_archive.specs.declared.posts.Post.{Post}
+use Rattle.ml_filing.specs.declared.posts.Post.{Post}
 use Rattle.ml_hold.specs.Held.{Pending}
 use Rattle.ml_bounce.specs.Ledger.{Ledger, forget}
 use Rattle.ml_digest.specs.declared.posts.Mark.{Mark}

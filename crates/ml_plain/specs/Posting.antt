@@ -5,7 +5,7 @@ use Rattle.ml_base.specs.Address.{as_address}
 use Rattle.ml_base.specs.declared.names.Set.TheVariants as sets
 use Rattle.ml_header.specs.Rewriting.{rewritten}
 use Rattle.ml_header.specs.Sent.{list_lines, left_out, list_trailer}
-use Rattle.ml_archive.specs.Subjects.{subject}
+use Rattle.ml_filing.specs.Subjects.{subject}
 use Rattle.ml_config.specs.declared.configuration.Config.{Config}
 use Rattle.ml_hold.specs.Held.{hold}
 use Rattle.ml_plain.specs.declared.Reply.{Reply}

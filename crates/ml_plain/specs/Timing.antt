@@ -4,7 +4,7 @@ use Rattle.ml_base.specs.Cuts.{one_or_within}
 use Rattle.ml_base.specs.Drawn.{Drawn}
 use Rattle.ml_base.specs.declared.names.Set.{Set}
 use Rattle.ml_base.specs.declared.names.Set.TheVariants as sets
-use Rattle.ml_archive.specs.declared.posts.Post.{Post}
+use Rattle.ml_filing.specs.declared.posts.Post.{Post}
 use Rattle.ml_hold.specs.Held.{older_posts, without_ticket}
 use Rattle.ml_hold.specs.declared.posts.Held.{Held}
 use Rattle.ml_digest.specs.Due.{due}

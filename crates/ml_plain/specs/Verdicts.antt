@@ -9,7 +9,7 @@ use Rattle.ml_base.specs.Texts.{post_address}
 use Rattle.ml_base.specs.declared.names.Set.TheVariants as sets
 use Rattle.ml_header.specs.Lines.{begins_with}
 use Rattle.ml_header.specs.Fields.{FieldText, fields_named, has_field}
-use Rattle.ml_archive.specs.Subjects.{subject}
+use Rattle.ml_filing.specs.Subjects.{subject}
 use Rattle.ml_config.specs.declared.configuration.Config.{Config}
 use Rattle.ml_plain.specs.Plain.{Plain, is_in, is_archive_full, first_row}
 

@@ -7,12 +7,12 @@ use Rattle.std.proofs.lemmas.Nat.{div_below}
 use Rattle.ml_base.specs.Bytes.{Text}
 use Rattle.ml_base.specs.Dir.{Dir}
 use Rattle.ml_base.specs.declared.names.Name.{Name}
-use Rattle.ml_archive.specs.Answers.{IsBadForPost, IsPostByFiles}
-use Rattle.ml_archive.specs.Archive.{ArePosts}
-use Rattle.ml_archive.specs.Posts.{Numbered, entry, in_range, numbers, post_at}
-use Rattle.ml_archive.specs.declared.posts.Post.{Post}
-use Rattle.ml_archive.proofs.ByFiles.{IsOne, filtered_ones}
-use Rattle.ml_archive.proofs.Looking.{counted_is, no_bad_count, no_bad_index, no_missing, post_found, right_size}
+use Rattle.ml_filing.specs.Answers.{IsBadForPost, IsPostByFiles}
+use Rattle.ml_filing.specs.Archive.{ArePosts}
+use Rattle.ml_filing.specs.Posts.{Numbered, entry, in_range, numbers, post_at}
+use Rattle.ml_filing.specs.declared.posts.Post.{Post}
+use Rattle.ml_filing.proofs.ByFiles.{IsOne, filtered_ones}
+use Rattle.ml_filing.proofs.Looking.{counted_is, no_bad_count, no_bad_index, no_missing, post_found, right_size}
 use Rattle.ml_porting.specs.Mailboxes.{IsBadForMailbox, IsRangeMailbox, mailbox, numbers_of, range_mailbox}
 
 -- the numbers of a range

@@ -1,6 +1,6 @@
 -- A directory that stands for a state has its configuration and its posts.
 use Rattle.std.proofs.Common.{◌≡◌}
-use Rattle.ml_archive.specs.Archive.{ArePosts}
+use Rattle.ml_filing.specs.Archive.{ArePosts}
 use Rattle.ml_base.specs.Dir.{Dir}
 use Rattle.ml_config.specs.ConfigFile.{IsConfigFile, config_name}
 use Rattle.ml_config.specs.declared.configuration.Config.{Config}

@@ -7,13 +7,13 @@ use Rattle.std.proofs.lemmas.List.Concat.{flat_map-append}
 use Rattle.ml_base.specs.Bytes.{Text}
 use Rattle.ml_base.specs.Dir.{Dir}
 use Rattle.ml_base.specs.declared.names.Name.{Name}
-use Rattle.ml_archive.specs.Answers.{IsBadForPost, IsIndexByFiles, IsPostByFiles, IsPostName}
-use Rattle.ml_archive.specs.Archive.{IsEntry, IsIndexFile, IsNumberFile, index_name, number_name}
-use Rattle.ml_archive.specs.Threads.{entry_at}
-use Rattle.ml_archive.specs.declared.posts.Entry.{Entry}
-use Rattle.ml_archive.specs.declared.posts.Post.{Post}
-use Rattle.ml_archive.proofs.Looking.{post_by_files}
-use Rattle.ml_archive.proofs.OneMore.{range_on_end}
+use Rattle.ml_filing.specs.Answers.{IsBadForPost, IsIndexByFiles, IsPostByFiles, IsPostName}
+use Rattle.ml_filing.specs.Archive.{IsEntry, IsIndexFile, IsNumberFile, index_name, number_name}
+use Rattle.ml_filing.specs.Threads.{entry_at}
+use Rattle.ml_filing.specs.declared.posts.Entry.{Entry}
+use Rattle.ml_filing.specs.declared.posts.Post.{Post}
+use Rattle.ml_filing.proofs.Looking.{post_by_files}
+use Rattle.ml_filing.proofs.OneMore.{range_on_end}
 use Rattle.ml_mbox.specs.Mbox.{mail_text}
 use Rattle.ml_porting.specs.Mailboxes.{IsBadForMailbox, IsMailbox, IsMailboxName, mail_of, mailbox}
 use Rattle.ml_porting.specs.Steps.{AddsMail, IsBadAmong}

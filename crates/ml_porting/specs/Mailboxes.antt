@@ -5,10 +5,10 @@ use Rattle.ml_base.specs.Bytes.{Text}
 use Rattle.ml_base.specs.Dir.{Dir}
 use Rattle.ml_base.specs.Ranges.{is_post_number}
 use Rattle.ml_base.specs.declared.names.Name.{Name}
-use Rattle.ml_archive.specs.Answers.{IsBadForPost, IsNoNumber, IsPostByFiles}
-use Rattle.ml_archive.specs.Archive.{IsNumberFile, index_name, number_name}
-use Rattle.ml_archive.specs.Posts.{in_range}
-use Rattle.ml_archive.specs.declared.posts.Post.{Post}
+use Rattle.ml_filing.specs.Answers.{IsBadForPost, IsNoNumber, IsPostByFiles}
+use Rattle.ml_filing.specs.Archive.{IsNumberFile, index_name, number_name}
+use Rattle.ml_filing.specs.Posts.{in_range}
+use Rattle.ml_filing.specs.declared.posts.Post.{Post}
 use Rattle.ml_mbox.specs.Mbox.{mbox_text}
 use Rattle.ml_mbox.specs.declared.mails.Mailed.{Mailed}
 

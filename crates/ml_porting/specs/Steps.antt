@@ -3,10 +3,10 @@ use Rattle.std.specs.Prelude.{◌≡◌, ◌⊎◌, ◌/◌, ℕ, List, ◌++◌
 use Rattle.ml_base.specs.Bytes.{Text}
 use Rattle.ml_base.specs.Dir.{Dir}
 use Rattle.ml_base.specs.declared.names.Name.{Name}
-use Rattle.ml_archive.specs.Answers.{IsOtherSize}
-use Rattle.ml_archive.specs.Archive.{index_name, number_name, post_name}
-use Rattle.ml_archive.specs.Threads.{entry_at}
-use Rattle.ml_archive.specs.declared.posts.Entry.{Entry}
+use Rattle.ml_filing.specs.Answers.{IsOtherSize}
+use Rattle.ml_filing.specs.Archive.{index_name, number_name, post_name}
+use Rattle.ml_filing.specs.Threads.{entry_at}
+use Rattle.ml_filing.specs.declared.posts.Entry.{Entry}
 use Rattle.ml_mbox.specs.Mbox.{mail_text}
 
 -- the mail of post n was added, by its entry among those of its group and by its file

@@ -2,13 +2,13 @@
 ghost use Rattle.std.specs.Prelude.{◌≡◌, ◌≤◌, ◌<◌, ◌/◌, IsTrue, IfOk, IfSome, OnOk};
 ghost use Rattle.std.specs.Option.{option_copied};
 ghost use Rattle.ml_base.specs.ReadFiles.{IsReading, NamesDamaged};
-ghost use Rattle.ml_archive.specs.Answers.{IsIndexByFiles, IsNoIndex, IsPostName};
-ghost use Rattle.ml_archive.specs.Archive as archive;
-ghost use Rattle.ml_archive.specs.Threads.{entry_at};
+ghost use Rattle.ml_filing.specs.Answers.{IsIndexByFiles, IsNoIndex, IsPostName};
+ghost use Rattle.ml_filing.specs.Archive as archive;
+ghost use Rattle.ml_filing.specs.Threads.{entry_at};
 ghost use Rattle.ml_porting.specs.Mailboxes.{IsBadForMailbox, IsMailboxName, IsRangeMailbox};
 ghost use Rattle.ml_porting.specs.Steps.{AddsMail, IsBadAmong};
 
-use ml_archive::{Entries, Entry, count, index, message_of};
+use ml_filing::{Entries, Entry, count, index, message_of};
 use ml_base::{Bytes, Files, LAST_MOMENT, Name, PartError};
 use ml_mbox::push_mail;
 use std::alloc::Global;

@@ -5,7 +5,7 @@ use Rattle.ml_base.specs.Dir.{same_name}
 use Rattle.ml_base.specs.Ranges.{is_drawn}
 use Rattle.ml_base.specs.declared.names.Name.{Name}
 use Rattle.ml_base.specs.declared.names.Set.TheVariants as sets
-use Rattle.ml_archive.specs.Threads.{is_of_archive}
+use Rattle.ml_filing.specs.Threads.{is_of_archive}
 use Rattle.ml_config.specs.KeyFile.{key_name}
 use Rattle.ml_hold.specs.Answers.{post_name, tickets_name}
 use Rattle.ml_queue.specs.Answers.{ids_name}

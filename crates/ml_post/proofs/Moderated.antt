@@ -6,7 +6,7 @@ use Rattle.ml_base.specs.Ranges.{is_drawn}
 use Rattle.ml_base.specs.declared.names.Name.{Name}
 use Rattle.ml_base.specs.declared.puts.Put.{Put}
 use Rattle.ml_base.proofs.Laid.{laid_joined}
-use Rattle.ml_archive.specs.declared.posts.Appended.TheVariants.{At}
+use Rattle.ml_filing.specs.declared.posts.Appended.TheVariants.{At}
 use Rattle.ml_config.specs.KeyFile.{key_name}
 use Rattle.ml_hold.specs.Answers.{IsPostName, post_name, tickets_name}
 use Rattle.ml_hold.specs.Held.{without_ticket}

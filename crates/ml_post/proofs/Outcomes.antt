@@ -7,10 +7,10 @@ use Rattle.ml_base.specs.Bytes.{Text, is_empty, lower}
 use Rattle.ml_base.specs.Dir.{Dir, with_puts}
 use Rattle.ml_base.specs.declared.names.Set.TheVariants as sets
 use Rattle.ml_base.specs.declared.puts.Put.{Put}
-use Rattle.ml_archive.specs.Answers.{puts_of}
-use Rattle.ml_archive.specs.Subjects.{subject}
-use Rattle.ml_archive.specs.declared.posts.Appended.{Appended}
-use Rattle.ml_archive.specs.declared.posts.Appended.TheVariants.{At, Full}
+use Rattle.ml_filing.specs.Answers.{puts_of}
+use Rattle.ml_filing.specs.Subjects.{subject}
+use Rattle.ml_filing.specs.declared.posts.Appended.{Appended}
+use Rattle.ml_filing.specs.declared.posts.Appended.TheVariants.{At, Full}
 use Rattle.ml_header.specs.Fields.{has_field}
 use Rattle.ml_plain.specs.declared.Reply.{Reply}
 use Rattle.ml_plain.specs.Answers as answers

@@ -8,15 +8,15 @@ use Rattle.ml_base.specs.declared.names.Set.{Set}
 use Rattle.ml_base.specs.declared.names.Set.TheVariants as sets
 use Rattle.ml_base.specs.declared.puts.Put.{Put}
 use Rattle.ml_base.proofs.Laid.{laid_joined, left_alone}
-use Rattle.ml_archive.specs.Answers.{AppendsTo, IsAppendName, IsBadForAppend, ReadsAlike, new_post, post_thread}
-use Rattle.ml_archive.specs.Appending.{next_number}
-use Rattle.ml_archive.specs.Archive.{IsNumberFile, index_name, number_name}
-use Rattle.ml_archive.specs.Threads.{IsArchive, is_of_archive}
-use Rattle.ml_archive.specs.declared.posts.Appended.{Appended}
-use Rattle.ml_archive.specs.declared.posts.Appended.TheVariants.{At, Full}
-use Rattle.ml_archive.specs.declared.posts.Post.{Post}
-use Rattle.ml_archive.proofs.Lengthened.{no_bad_next}
-use Rattle.ml_archive.proofs.Looking.{counted_is, no_bad_index}
+use Rattle.ml_filing.specs.Answers.{AppendsTo, IsAppendName, IsBadForAppend, ReadsAlike, new_post, post_thread}
+use Rattle.ml_filing.specs.Appending.{next_number}
+use Rattle.ml_filing.specs.Archive.{IsNumberFile, index_name, number_name}
+use Rattle.ml_filing.specs.Threads.{IsArchive, is_of_archive}
+use Rattle.ml_filing.specs.declared.posts.Appended.{Appended}
+use Rattle.ml_filing.specs.declared.posts.Appended.TheVariants.{At, Full}
+use Rattle.ml_filing.specs.declared.posts.Post.{Post}
+use Rattle.ml_filing.proofs.Lengthened.{no_bad_next}
+use Rattle.ml_filing.proofs.Looking.{counted_is, no_bad_index}
 use Rattle.ml_config.specs.declared.configuration.Config.{Config}
 use Rattle.ml_plain.specs.Directory.{IsList, held_kinds, is_of_list}
 use Rattle.ml_plain.specs.Mailing.{post_path, send}

@@ -7,8 +7,8 @@ use Rattle.ml_base.specs.Bytes.{Text, is_empty, lower}
 use Rattle.ml_base.specs.Dir.{same_name}
 use Rattle.ml_base.specs.declared.names.Name.{Name}
 use Rattle.ml_base.specs.declared.names.Set.TheVariants as sets
-use Rattle.ml_archive.specs.Archive.{number_name}
-use Rattle.ml_archive.specs.Subjects.{subject}
+use Rattle.ml_filing.specs.Archive.{number_name}
+use Rattle.ml_filing.specs.Subjects.{subject}
 use Rattle.ml_config.specs.declared.configuration.Config.{Config}
 use Rattle.ml_header.proofs.Headers.{no_bytes}
 use Rattle.ml_header.specs.Fields.{FieldText, field, has_field}

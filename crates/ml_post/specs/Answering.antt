@@ -1,6 +1,6 @@
 -- What moderators answer about posts that wait.
 use Rattle.std.specs.Prelude.{◌≡◌, ℕ, Bool, true, false, ◌&&◌, ◌||◌}
-use Rattle.ml_archive.specs.Threads.{is_of_archive}
+use Rattle.ml_filing.specs.Threads.{is_of_archive}
 use Rattle.ml_base.specs.Dir.{Dir, same_name}
 use Rattle.ml_base.specs.Ranges.{is_drawn}
 use Rattle.ml_base.specs.declared.names.Name.{Name}

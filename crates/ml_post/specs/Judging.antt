@@ -6,11 +6,11 @@ use Rattle.ml_base.specs.Dir.{same_name}
 use Rattle.ml_base.specs.declared.names.Name.{Name}
 use Rattle.ml_base.specs.declared.names.Set.{Set}
 use Rattle.ml_base.specs.declared.names.Set.TheVariants as sets
-use Rattle.ml_archive.specs.Archive.{number_name}
+use Rattle.ml_filing.specs.Archive.{number_name}
 use Rattle.ml_config.specs.declared.configuration.Config.{Config}
 use Rattle.ml_subs.specs.Buckets.{bucket_of}
 use Rattle.ml_subs.specs.Subscribers.{bucket_name}
-use Rattle.ml_archive.specs.Subjects.{subject}
+use Rattle.ml_filing.specs.Subjects.{subject}
 use Rattle.ml_base.specs.Bytes.{lower, is_empty}
 use Rattle.ml_plain.specs.Plain.{Plain, is_in, is_archive_full, first_row}
 use Rattle.ml_plain.specs.Verdicts.{is_command, is_addressed, is_user}

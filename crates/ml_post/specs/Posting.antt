@@ -2,8 +2,8 @@
 use Rattle.std.specs.Prelude.{Bool, ◌||◌}
 use Rattle.ml_base.specs.Bytes.{Text}
 use Rattle.ml_base.specs.declared.names.Name.{Name}
-use Rattle.ml_archive.specs.declared.posts.Appended.{Appended}
-use Rattle.ml_archive.specs.declared.posts.Appended.TheVariants.{At, Full}
+use Rattle.ml_filing.specs.declared.posts.Appended.{Appended}
+use Rattle.ml_filing.specs.declared.posts.Appended.TheVariants.{At, Full}
 use Rattle.ml_config.specs.declared.configuration.Config.{Config}
 use Rattle.ml_plain.specs.declared.Reply.{Reply}
 use Rattle.ml_plain.specs.Answers as answers

@@ -4,10 +4,10 @@ use Rattle.ml_base.specs.Bytes.{Text}
 use Rattle.ml_base.specs.Dir.{Dir, same_name, with_puts}
 use Rattle.ml_base.specs.declared.names.Name.{Name}
 use Rattle.ml_base.specs.declared.names.Set.TheVariants as sets
-use Rattle.ml_archive.specs.Archive.{number_name}
-use Rattle.ml_archive.specs.Subjects.{subject, subject_key}
-use Rattle.ml_archive.specs.declared.posts.Appended.{Appended}
-use Rattle.ml_archive.specs.declared.posts.Appended.TheVariants.{At, Full}
+use Rattle.ml_filing.specs.Archive.{number_name}
+use Rattle.ml_filing.specs.Subjects.{subject, subject_key}
+use Rattle.ml_filing.specs.declared.posts.Appended.{Appended}
+use Rattle.ml_filing.specs.declared.posts.Appended.TheVariants.{At, Full}
 use Rattle.ml_config.specs.declared.configuration.Config.{Config}
 use Rattle.ml_plain.specs.Directory.{IsList, held_kinds}
 use Rattle.ml_plain.specs.Plain.{Plain, is_archive_full}

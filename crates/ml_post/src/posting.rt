@@ -1,6 +1,6 @@
 // A message that is mailed to the list's own address.
 ghost use Rattle.std.specs.Prelude.{◌≡◌, ◌≤◌, true, false, IsTrue, IfOk, IfErr, length};
-ghost use Rattle.ml_archive.specs.Answers.{puts_of};
+ghost use Rattle.ml_filing.specs.Answers.{puts_of};
 ghost use Rattle.ml_base.specs.Address.{as_address};
 ghost use Rattle.ml_base.specs.Dir.{are_files, touches_only};
 ghost use Rattle.ml_base.specs.PartErrors.{OnDamaged};
@@ -25,7 +25,7 @@ use crate::holding::hold_post;
 use crate::judging::{judged, usable};
 use crate::publishing::publish;
 use ml_acts::{Configured, MailMemo};
-use ml_archive::Appended;
+use ml_filing::Appended;
 use ml_base::{Files, PartError, Txn};
 use ml_config::Config;
 use ml_header::Message;

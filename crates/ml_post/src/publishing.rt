@@ -5,8 +5,8 @@ ghost use Rattle.ml_base.specs.PartErrors.{OnDamaged};
 ghost use Rattle.ml_base.specs.Ranges.{IsMoment};
 ghost use Rattle.ml_base.specs.ReadFiles.{IsReading, NamesDamaged};
 ghost use Rattle.ml_base.specs.declared.names.Set.TheVariants as sets;
-ghost use Rattle.ml_archive.specs.Answers.{puts_of};
-ghost use Rattle.ml_archive.specs.Threads.{is_of_archive};
+ghost use Rattle.ml_filing.specs.Answers.{puts_of};
+ghost use Rattle.ml_filing.specs.Threads.{is_of_archive};
 ghost use Rattle.ml_plain.specs.Directory.{IsList, is_of_list};
 ghost use Rattle.ml_plain.specs.Mailing as mailing;
 ghost use Rattle.ml_plain.specs.Plain.{Plain, addresses};
@@ -18,7 +18,7 @@ ghost use Rattle.ml_post.specs.Publishing.{Publishes, is_beside_held, is_publish
 
 use crate::sending::sent_text;
 use ml_acts::{MailMemo, post_path, send_to_list};
-use ml_archive::{Appended, append, count};
+use ml_filing::{Appended, append, count};
 use ml_base::{Address, Bytes, Files, LAST_POST_NUMBER, LONGEST_POST, PartError, Txn};
 use ml_config::Config;
 use ml_header::Message;

@@ -5,9 +5,9 @@ use Rattle.std.proofs.lemmas.Bool.{eq-eqb, ne_eqb, le-leb, leb-true, leb-false}
 use Rattle.std.proofs.lemmas.List.{take-map, drop-map}
 use Rattle.std.specs.List.{enumerate_from, filter, find}
 use Rattle.std.specs.Option.{option_map_or}
-use Rattle.ml_archive.specs.Posts.{Numbered, entry, group, index_of, numbered}
-use Rattle.ml_archive.specs.declared.posts.Entry.{Entry}
-use Rattle.ml_archive.specs.declared.posts.Post.{Post}
+use Rattle.ml_filing.specs.Posts.{Numbered, entry, group, index_of, numbered}
+use Rattle.ml_filing.specs.declared.posts.Entry.{Entry}
+use Rattle.ml_filing.specs.declared.posts.Post.{Post}
 use Rattle.ml_plain.specs.Timing.{moment_of_first}
 use Rattle.ml_timed.specs.Waiting.{moment_behind, sizes_behind}
 

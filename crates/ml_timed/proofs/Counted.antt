@@ -4,13 +4,13 @@ use Rattle.std.proofs.lemmas.Bool.{false≢true, leb-true, lt-leb, or_cases}
 use Rattle.std.specs.List.{enumerate_from, filter, range_with_len}
 use Rattle.ml_base.specs.Bytes.{Text}
 use Rattle.ml_base.specs.Dir.{Dir}
-use Rattle.ml_archive.specs.Answers.{HasOtherCount, IsIndexByFiles}
-use Rattle.ml_archive.specs.Archive.{ArePosts, IsIndexFile, IsNumberFile, index_name, number_name}
-use Rattle.ml_archive.specs.Posts.{entry}
-use Rattle.ml_archive.specs.declared.posts.Entry.{Entry}
-use Rattle.ml_archive.specs.declared.posts.Post.{Post}
-use Rattle.ml_archive.proofs.Exact.{count_one, index_one}
-use Rattle.ml_archive.proofs.Looking.{counted_is, indexed_is}
+use Rattle.ml_filing.specs.Answers.{HasOtherCount, IsIndexByFiles}
+use Rattle.ml_filing.specs.Archive.{ArePosts, IsIndexFile, IsNumberFile, index_name, number_name}
+use Rattle.ml_filing.specs.Posts.{entry}
+use Rattle.ml_filing.specs.declared.posts.Entry.{Entry}
+use Rattle.ml_filing.specs.declared.posts.Post.{Post}
+use Rattle.ml_filing.proofs.Exact.{count_one, index_one}
+use Rattle.ml_filing.proofs.Looking.{counted_is, indexed_is}
 use Rattle.ml_digest.specs.Due.{IsMark, mark_name}
 use Rattle.ml_digest.specs.declared.posts.Mark.{Mark}
 use Rattle.ml_digest.proofs.Marks.{mark_one}

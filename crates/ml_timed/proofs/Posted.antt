@@ -4,11 +4,11 @@ use Rattle.std.specs.Prelude.{slice_get}
 use Rattle.std.proofs.lemmas.Bool.{or_right}
 use Rattle.ml_base.specs.Dir.{Dir, same_name}
 use Rattle.ml_base.specs.declared.names.Name.{Name}
-use Rattle.ml_archive.specs.Answers.{IsPostByFiles, IsPostName}
-use Rattle.ml_archive.specs.Archive.{IsNumberFile, number_name}
-use Rattle.ml_archive.specs.Posts.{post_at}
-use Rattle.ml_archive.specs.declared.posts.Post.{Post}
-use Rattle.ml_archive.proofs.Exact.{count_one}
+use Rattle.ml_filing.specs.Answers.{IsPostByFiles, IsPostName}
+use Rattle.ml_filing.specs.Archive.{IsNumberFile, number_name}
+use Rattle.ml_filing.specs.Posts.{post_at}
+use Rattle.ml_filing.specs.declared.posts.Post.{Post}
+use Rattle.ml_filing.proofs.Exact.{count_one}
 use Rattle.ml_digest.specs.declared.posts.DigestPost.{DigestPost}
 use Rattle.ml_plain.specs.Timing.{digest_post}
 use Rattle.ml_acts.specs.Doing.{is_index}

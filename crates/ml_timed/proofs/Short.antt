@@ -4,9 +4,9 @@ use Rattle.std.proofs.lemmas.Bool.{and_from, and_parts, le-leb, leb-true}
 use Rattle.std.specs.List.{AllByRecursion, filter, list_all}
 use Rattle.std.specs.Prelude.{slice_index}
 use Rattle.ml_base.specs.Dir.{Dir}
-use Rattle.ml_archive.specs.Answers.{IsIndexByFiles}
-use Rattle.ml_archive.specs.Archive.{IsEntry}
-use Rattle.ml_archive.specs.declared.posts.Entry.{Entry}
+use Rattle.ml_filing.specs.Answers.{IsIndexByFiles}
+use Rattle.ml_filing.specs.Archive.{IsEntry}
+use Rattle.ml_filing.specs.declared.posts.Entry.{Entry}
 use Rattle.ml_timed.specs.Waiting.{are_short, is_short, sizes_behind}
 
 entries_short : (es : List Entry) → AllByRecursion IsEntry es → are_short es ≡ true

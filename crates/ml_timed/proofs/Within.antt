@@ -6,9 +6,9 @@ use Rattle.ml_base.specs.Ranges.{is_drawn}
 use Rattle.ml_base.specs.declared.names.Name.{Name}
 use Rattle.ml_base.specs.declared.names.Set.{Set}
 use Rattle.ml_base.specs.declared.names.Set.TheVariants as sets
-use Rattle.ml_archive.specs.Answers.{IsNoIndex}
-use Rattle.ml_archive.specs.Archive.{IsNumberFile, index_name, number_name}
-use Rattle.ml_archive.specs.Threads.{is_of_archive}
+use Rattle.ml_filing.specs.Answers.{IsNoIndex}
+use Rattle.ml_filing.specs.Archive.{IsNumberFile, index_name, number_name}
+use Rattle.ml_filing.specs.Threads.{is_of_archive}
 use Rattle.ml_bounce.specs.Answers.{ledger_kind}
 use Rattle.ml_config.specs.KeyFile.{key_name}
 use Rattle.ml_digest.specs.Due.{IsMark}

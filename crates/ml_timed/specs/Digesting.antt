@@ -2,8 +2,8 @@
 use Rattle.std.specs.Prelude.{◌≡◌, ◌<◌, ◌≤◌, ◌+◌, ◌/◌, ◌⊎◌, ℕ, true}
 use Rattle.ml_base.specs.Dir.{Dir}
 use Rattle.ml_base.specs.declared.names.Name.{Name}
-use Rattle.ml_archive.specs.Archive.{IsNumberFile, number_name}
-use Rattle.ml_archive.specs.Threads.{is_of_archive}
+use Rattle.ml_filing.specs.Archive.{IsNumberFile, number_name}
+use Rattle.ml_filing.specs.Threads.{is_of_archive}
 use Rattle.ml_digest.specs.Due.{IsMark}
 use Rattle.ml_digest.specs.declared.posts.Mark.{Mark}
 use Rattle.ml_acts.specs.Asked.{Group, IsBadFor, IsBadWithin, IsTooSmall, Undigested}

@@ -3,7 +3,7 @@ use Rattle.std.specs.Prelude.{Bool, ◌||◌}
 use Rattle.ml_base.specs.Dir.{same_name}
 use Rattle.ml_base.specs.declared.names.Name.{Name}
 use Rattle.ml_base.specs.declared.names.Set.TheVariants as sets
-use Rattle.ml_archive.specs.Archive.{number_name}
+use Rattle.ml_filing.specs.Archive.{number_name}
 use Rattle.ml_digest.specs.Due.{mark_name}
 use Rattle.ml_hold.specs.Answers.{tickets_name}
 use Rattle.ml_queue.specs.Answers.{ids_name}

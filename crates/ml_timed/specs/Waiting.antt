@@ -2,7 +2,7 @@
 use Rattle.std.specs.Prelude.{ℕ, Bool, nat_lt, List, map, filter, find}
 use Rattle.std.specs.List.{list_all}
 use Rattle.std.specs.Option.{option_map_or}
-use Rattle.ml_archive.specs.declared.posts.Entry.{Entry}
+use Rattle.ml_filing.specs.declared.posts.Entry.{Entry}
 
 -- the sizes of the posts behind a number
 abbrev pub sizes_behind : ℕ → List Entry → List ℕ

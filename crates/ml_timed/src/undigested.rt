@@ -2,8 +2,8 @@
 ghost use Rattle.std.specs.Option.{option_copied};
 ghost use Rattle.std.specs.Prelude.{◌≡◌, find, nat_lt, ◌<◌, ◌≤◌, ◌+◌, ◌/◌, ◌++◌, true, take, drop, map, length, IsTrue, IfOk, OnOk};
 ghost use Rattle.ml_base.specs.ReadFiles.{IsReading, NamesDamaged};
-ghost use Rattle.ml_archive.specs.Archive.{IsNumberFile, number_name};
-ghost use Rattle.ml_archive.specs.Posts as archive;
+ghost use Rattle.ml_filing.specs.Archive.{IsNumberFile, number_name};
+ghost use Rattle.ml_filing.specs.Posts as archive;
 ghost use Rattle.ml_plain.specs.Directory.{IsList};
 ghost use Rattle.ml_plain.specs.Plain.{Plain};
 ghost use Rattle.ml_plain.specs.Timing.{moment_of_first};
@@ -15,7 +15,7 @@ ghost use Rattle.ml_timed.specs.Waiting.{is_short, moment_behind, sizes_behind};
 ghost use Rattle.ml_timed.specs.Waiting as waiting;
 ghost use Rattle.std.specs.List.{list_all};
 
-use ml_archive::{Entries, Entry, index};
+use ml_filing::{Entries, Entry, index};
 use ml_base::{Files, LONGEST_POST, Name, Numbers, PartError};
 use std::alloc::{AllocError, Global};
 

@@ -1,9 +1,9 @@
 -- The files that a page is made of stand in the table of files.
 use Rattle.std.proofs.Common.{◌≡◌, ◌<◌, inl, inr, ℕ, IsTrue, Result, Ok, Err, sym, refl, subst, arith}
 use Rattle.std.specs.Prelude.{IfErr}
-use Rattle.ml_archive.specs.Threads.{thread_name}
-use Rattle.ml_archive.proofs.Looking.{group_in_table}
-use Rattle.ml_archive.proofs.Represented.{in_table}
+use Rattle.ml_filing.specs.Threads.{thread_name}
+use Rattle.ml_filing.proofs.Looking.{group_in_table}
+use Rattle.ml_filing.proofs.Represented.{in_table}
 use Rattle.ml_base.specs.Name.{is_in_table}
 use Rattle.ml_base.specs.PartErrors.{OnDamaged}
 use Rattle.ml_base.specs.declared.names.Name.{Name}

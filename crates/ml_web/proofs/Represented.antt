@@ -1,6 +1,6 @@
 -- A directory that stands for a state has its configuration and its archive.
 use Rattle.std.proofs.Common.{◌≡◌, subst}
-use Rattle.ml_archive.specs.Threads.{IsArchive}
+use Rattle.ml_filing.specs.Threads.{IsArchive}
 use Rattle.ml_base.specs.Dir.{Dir}
 use Rattle.ml_config.specs.ConfigFile.{IsConfigFile, config_name}
 use Rattle.ml_config.specs.declared.configuration.Config.{Config}

@@ -1,9 +1,9 @@
 -- What is asked of an archive for the web: its pages, and the list of them.
 use Rattle.std.specs.Prelude.{◌≡◌, ◌⊎◌, Bool, true, false, List, Option, None}
-use Rattle.ml_archive.specs.Answers.{IsBadForThread, IsThreadName, IsWholeAnswer}
-use Rattle.ml_archive.specs.Threads.{IsArchive}
-use Rattle.ml_archive.specs.declared.posts.Post.{Post}
-use Rattle.ml_archive.specs.declared.posts.Thread.{Thread}
+use Rattle.ml_filing.specs.Answers.{IsBadForThread, IsThreadName, IsWholeAnswer}
+use Rattle.ml_filing.specs.Threads.{IsArchive}
+use Rattle.ml_filing.specs.declared.posts.Post.{Post}
+use Rattle.ml_filing.specs.declared.posts.Thread.{Thread}
 use Rattle.ml_base.specs.Bytes.{Text}
 use Rattle.ml_base.specs.Dir.{Dir}
 use Rattle.ml_base.specs.declared.names.Name.{Name}

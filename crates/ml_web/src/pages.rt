@@ -1,7 +1,7 @@
 // The pages of a list's archive, as what is asked of it.
 ghost use Rattle.std.specs.Prelude.{◌≡◌, List, IsTrue, IfOk, IfErr};
-ghost use Rattle.ml_archive.specs.Threads.{IsArchive};
-ghost use Rattle.ml_archive.specs.declared.posts.Post.{Post as ThePost};
+ghost use Rattle.ml_filing.specs.Threads.{IsArchive};
+ghost use Rattle.ml_filing.specs.declared.posts.Post.{Post as ThePost};
 ghost use Rattle.ml_base.specs.PartErrors.{OnDamaged};
 ghost use Rattle.ml_base.specs.ReadFiles.{IsReading, NamesDamaged};
 ghost use Rattle.ml_pages.specs.Counting.{months_of, threads_of};

@@ -2,8 +2,8 @@
 use Rattle.std.specs.Prelude.{◌≡◌, ℕ, ◌==◌, if◌then◌else◌, [], ◌∷◌, ◌++◌, length, Result, Ok, Err, true}
 use Rattle.std.specs.Fmt.{decimal}
 use Rattle.ml_base.specs.Bytes.{Text}
-use Rattle.ml_archive.specs.Answers.{IsNoNumber}
-use Rattle.ml_archive.specs.Archive.{IsNumberFile, number_name}
+use Rattle.ml_filing.specs.Answers.{IsNoNumber}
+use Rattle.ml_filing.specs.Archive.{IsNumberFile, number_name}
 use Rattle.ml_reading.specs.Meanings.{Meaning}
 use Rattle.ml_reading.specs.declared.question.Answer.{Answer}
 use Rattle.ml_reading.specs.declared.question.Answer.TheVariants as answers

@@ -1,6 +1,6 @@
 use Rattle.std.proofs.Common.{rules}
-use Rattle.ml_archive.specs.Answers.{IsBadForPost, IsPostName}
-use Rattle.ml_archive.specs.Archive.{ArePosts}
+use Rattle.ml_filing.specs.Answers.{IsBadForPost, IsPostName}
+use Rattle.ml_filing.specs.Archive.{ArePosts}
 use Rattle.ml_acts.specs.Damaged.{post}
 use Rattle.ml_acts.proofs.Damages.{named_of}
 use Rattle.ml_manage.specs.Reads.{IsDamagedPost}

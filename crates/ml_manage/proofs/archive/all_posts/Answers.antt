@@ -3,9 +3,9 @@ use Rattle.ml_base.specs.Dir.{Dir}
 use Rattle.ml_base.specs.PartErrors.{OnDamaged}
 use Rattle.ml_base.proofs.DamagedNames.{on_damaged}
 use Rattle.ml_base.proofs.ReadingLemmas.{kept_then, kept_read}
-use Rattle.ml_archive.specs.Answers.{IsPostName}
-use Rattle.ml_archive.specs.Archive.{number_name}
-use Rattle.ml_archive.specs.Reads.{IsOfRow}
+use Rattle.ml_filing.specs.Answers.{IsPostName}
+use Rattle.ml_filing.specs.Archive.{number_name}
+use Rattle.ml_filing.specs.Reads.{IsOfRow}
 use Rattle.ml_plain.specs.Directory.{IsList}
 use Rattle.ml_manage.specs.Reads.{IsDamagedAmong, IsDamagedPost}
 use Rattle.ml_manage.specs.Texts.{post_text}

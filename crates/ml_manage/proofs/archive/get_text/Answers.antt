@@ -5,10 +5,10 @@ use Rattle.std.proofs.lemmas.Result.{IfOk-weaker}
 use Rattle.ml_base.specs.Dir.{Dir}
 use Rattle.ml_base.specs.PartErrors.{OnDamaged}
 use Rattle.ml_base.proofs.DamagedNames.{err_damaged}
-use Rattle.ml_archive.specs.Answers.{IsBadForRange, IsRangeByFiles}
-use Rattle.ml_archive.specs.Archive.{ArePosts, number_name}
-use Rattle.ml_archive.specs.Posts.{cut, in_range, numbers}
-use Rattle.ml_archive.specs.Reads.{IsOfRange, IsOfRow, IsWithin}
+use Rattle.ml_filing.specs.Answers.{IsBadForRange, IsRangeByFiles}
+use Rattle.ml_filing.specs.Archive.{ArePosts, number_name}
+use Rattle.ml_filing.specs.Posts.{cut, in_range, numbers}
+use Rattle.ml_filing.specs.Reads.{IsOfRange, IsOfRow, IsWithin}
 use Rattle.ml_plain.specs.Directory.{IsList}
 use Rattle.ml_acts.specs.Asked.{IsBadAmong, IsDamagedOf, Range}
 use Rattle.ml_acts.specs.Damaged.{range}

@@ -3,11 +3,11 @@ use Rattle.std.specs.List.{IsAmong}
 use Rattle.std.proofs.lemmas.Result.{IfOk-weaker}
 use Rattle.ml_base.specs.Bytes.{Text}
 use Rattle.ml_base.specs.Dir.{Dir}
-use Rattle.ml_archive.specs.Answers.{IsBadForThread, IsThreadAnswer, IsThreadName}
-use Rattle.ml_archive.specs.Archive.{number_name}
-use Rattle.ml_archive.specs.Reads.{IsOfRow, IsOfSubject, IsOfThread}
-use Rattle.ml_archive.specs.Posts.{cut, in_thread, numbers}
-use Rattle.ml_archive.specs.Threads.{IsArchive}
+use Rattle.ml_filing.specs.Answers.{IsBadForThread, IsThreadAnswer, IsThreadName}
+use Rattle.ml_filing.specs.Archive.{number_name}
+use Rattle.ml_filing.specs.Reads.{IsOfRow, IsOfSubject, IsOfThread}
+use Rattle.ml_filing.specs.Posts.{cut, in_thread, numbers}
+use Rattle.ml_filing.specs.Threads.{IsArchive}
 use Rattle.ml_config.specs.declared.configuration.Config.{Config}
 use Rattle.ml_plain.specs.Directory.{IsList}
 use Rattle.ml_base.specs.declared.names.Name.{Name}
@@ -16,7 +16,7 @@ use Rattle.ml_acts.specs.Damaged.{thread}
 use Rattle.ml_acts.proofs.Damages.{on_all}
 use Rattle.ml_base.proofs.DamagedNames.{err_both_damaged, err_damaged, on_both, on_damaged}
 use Rattle.ml_base.specs.PartErrors.{OnDamaged}
-use Rattle.ml_archive.specs.declared.posts.Post.{Post}
+use Rattle.ml_filing.specs.declared.posts.Post.{Post}
 use Rattle.ml_manage.specs.Reads.{IsDamagedAmong, is_of_thread}
 use Rattle.ml_manage.specs.Texts.{posts_text}
 use Rattle.ml_manage.proofs.Posts.{posts_are, row_of_thread, row_thread_read, thread_ones, thread_read}

@@ -4,8 +4,8 @@ use Rattle.ml_base.specs.PartErrors.{OnDamaged}
 use Rattle.ml_base.specs.declared.part.PartError.TheVariants.{Fault}
 use Rattle.ml_base.proofs.DamagedNames.{on_damaged}
 use Rattle.ml_base.proofs.ReadingLemmas.{kept_then, kept_read, reading_then}
-use Rattle.ml_archive.specs.Answers.{IsIndexByFiles, IsPostName}
-use Rattle.ml_archive.specs.declared.posts.Entry.{Entry}
+use Rattle.ml_filing.specs.Answers.{IsIndexByFiles, IsPostName}
+use Rattle.ml_filing.specs.declared.posts.Entry.{Entry}
 use Rattle.ml_porting.specs.Mailboxes.{IsBadForMailbox, IsMailboxName}
 use Rattle.ml_porting.specs.Steps.{AddsMail, IsBadAmong}
 use Rattle.ml_porting.proofs.Turns.{bad_one, bad_post, file_of, name_of_one, one_more}

@@ -3,7 +3,7 @@ use Rattle.std.specs.Prelude.{IfSome}
 use Rattle.std.specs.Bool.{IsTrue}
 use Rattle.std.specs.List.{range_with_len}
 use Rattle.ml_base.specs.ReadFiles.{AreKept}
-use Rattle.ml_archive.specs.Answers.{IsIndexByFiles}
+use Rattle.ml_filing.specs.Answers.{IsIndexByFiles}
 use Rattle.ml_porting.specs.Mailboxes.{IsMailbox}
 use Rattle.ml_porting.specs.declared.mailbox.Index.{Index}
 use Rattle.ml_porting.proofs.mailbox.mailbox.Given as goal

@@ -2,9 +2,9 @@ use Rattle.std.proofs.Common.{◌≡◌, ◌/◌, ◌++◌, ◌∙◌, min, ℕ,
 use Rattle.ml_base.specs.PartErrors.{OnDamaged}
 use Rattle.ml_base.specs.declared.names.Name.{Name}
 use Rattle.ml_base.proofs.DamagedNames.{on_both, on_damaged}
-use Rattle.ml_archive.specs.Answers.{IsOtherSize, IsPostName}
-use Rattle.ml_archive.specs.Archive.{index_name, post_name}
-use Rattle.ml_archive.proofs.Looking.{entry_named}
+use Rattle.ml_filing.specs.Answers.{IsOtherSize, IsPostName}
+use Rattle.ml_filing.specs.Archive.{index_name, post_name}
+use Rattle.ml_filing.proofs.Looking.{entry_named}
 use Rattle.ml_mbox.specs.Mbox.{mail_text}
 use Rattle.ml_mbox.specs.declared.mails.Mailed.{Mailed}
 use Rattle.ml_porting.specs.Steps.{IsBadAmong}

@@ -2,9 +2,9 @@ use Rattle.std.proofs.Common.{◌≡◌, true, refl, ap, ◌∙◌, subst, sym, 
 use Rattle.std.proofs.lemmas.Bool.{or_left, or_right}
 use Rattle.ml_base.specs.Bytes.{Text}
 use Rattle.ml_base.specs.Dir.{Dir, touches_only, with_puts}
-use Rattle.ml_archive.specs.Answers.{puts_of}
-use Rattle.ml_archive.specs.declared.posts.Appended.{Appended}
-use Rattle.ml_archive.specs.declared.posts.Appended.TheVariants.{At}
+use Rattle.ml_filing.specs.Answers.{puts_of}
+use Rattle.ml_filing.specs.declared.posts.Appended.{Appended}
+use Rattle.ml_filing.specs.declared.posts.Appended.TheVariants.{At}
 use Rattle.ml_hold.specs.Answers.{Breaks}
 use Rattle.ml_hold.specs.Held.{without_ticket}
 use Rattle.ml_plain.specs.Directory.{IsList, held_kinds, is_of_list}

@@ -1,5 +1,5 @@
 use Rattle.std.proofs.Common.{◌≡◌, true, rules}
-use Rattle.ml_archive.specs.Archive.{number_name}
+use Rattle.ml_filing.specs.Archive.{number_name}
 use Rattle.ml_base.specs.Dir.{same_name}
 use Rattle.ml_acts.proofs.Asked.{count_named}
 use Rattle.ml_acts.proofs.Damages.{same_self}

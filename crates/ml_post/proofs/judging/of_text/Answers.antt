@@ -1,6 +1,6 @@
 use Rattle.std.proofs.Common.{◌≡◌, true, false, sym, ap, ◌∙◌, rules}
 use Rattle.std.specs.Prelude.{not}
-use Rattle.ml_archive.specs.Subjects.{subject}
+use Rattle.ml_filing.specs.Subjects.{subject}
 use Rattle.ml_base.specs.Bytes.{lower, is_empty}
 use Rattle.ml_config.specs.declared.configuration.Config.{Config}
 use Rattle.ml_plain.specs.Verdicts as spec

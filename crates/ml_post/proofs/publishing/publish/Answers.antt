@@ -6,13 +6,13 @@ use Rattle.ml_base.specs.PartErrors.{OnDamaged}
 use Rattle.ml_base.specs.declared.names.Set.TheVariants as sets
 use Rattle.ml_base.proofs.DamagedNames.{on_damaged}
 use Rattle.ml_base.proofs.ReadingLemmas.{kept_then, kept_read, reading_then}
-use Rattle.ml_archive.specs.Answers.{IsAppendName, IsBadForAppend, IsNoNumber, puts_of}
-use Rattle.ml_archive.specs.Archive.{number_name}
-use Rattle.ml_archive.specs.Reads.{IsOfNext}
-use Rattle.ml_archive.specs.Subjects.{subject, subject_key}
-use Rattle.ml_archive.specs.Threads.{is_of_archive}
-use Rattle.ml_archive.specs.declared.posts.Appended.{Appended}
-use Rattle.ml_archive.specs.declared.posts.Appended.TheVariants.{At, Full}
+use Rattle.ml_filing.specs.Answers.{IsAppendName, IsBadForAppend, IsNoNumber, puts_of}
+use Rattle.ml_filing.specs.Archive.{number_name}
+use Rattle.ml_filing.specs.Reads.{IsOfNext}
+use Rattle.ml_filing.specs.Subjects.{subject, subject_key}
+use Rattle.ml_filing.specs.Threads.{is_of_archive}
+use Rattle.ml_filing.specs.declared.posts.Appended.{Appended}
+use Rattle.ml_filing.specs.declared.posts.Appended.TheVariants.{At, Full}
 use Rattle.ml_acts.specs.Asked.{IsDamagedOf, Next}
 use Rattle.ml_acts.specs.Damaged.{append, number}
 use Rattle.ml_acts.specs.Doing.{is_index, is_mailed_by, is_thread_file}

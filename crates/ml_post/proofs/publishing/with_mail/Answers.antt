@@ -1,4 +1,4 @@
-use Rattle.ml_archive.specs.Threads.{is_of_archive}
+use Rattle.ml_filing.specs.Threads.{is_of_archive}
 use Rattle.ml_acts.proofs.Queued.{own_joined}
 use Rattle.ml_post.proofs.Posts.{archive_listed, mailed_behind}
 use Rattle.ml_post.proofs.publishing.with_mail.Goals as goal

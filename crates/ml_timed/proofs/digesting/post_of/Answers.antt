@@ -1,7 +1,7 @@
 use Rattle.std.proofs.Common.{◌≡◌, true, Option, refl, subst, arith, rules}
-use Rattle.ml_archive.specs.Answers.{IsBadForPost, IsPostByFiles, IsPostName}
-use Rattle.ml_archive.specs.Archive.{ArePosts}
-use Rattle.ml_archive.specs.declared.posts.Post.{Post}
+use Rattle.ml_filing.specs.Answers.{IsBadForPost, IsPostByFiles, IsPostName}
+use Rattle.ml_filing.specs.Archive.{ArePosts}
+use Rattle.ml_filing.specs.declared.posts.Post.{Post}
 use Rattle.ml_acts.specs.Damaged.{post}
 use Rattle.ml_acts.proofs.Damages.{named_of}
 use Rattle.ml_timed.specs.Digesting.{IsDamagedWithin}

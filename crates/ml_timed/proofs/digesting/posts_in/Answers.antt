@@ -2,7 +2,7 @@ use Rattle.std.proofs.Common.{◌≡◌, true, ◌+◌, ◌-◌, ℕ, map, take,
 use Rattle.std.proofs.lemmas.List.{length-append}
 use Rattle.ml_base.specs.Dir.{Dir}
 use Rattle.ml_base.proofs.ReadingLemmas.{kept_read, kept_self, kept_then}
-use Rattle.ml_archive.specs.Archive.{IsNumberFile, number_name}
+use Rattle.ml_filing.specs.Archive.{IsNumberFile, number_name}
 use Rattle.ml_digest.specs.declared.posts.DigestPost.{DigestPost}
 use Rattle.ml_plain.specs.Directory.{IsList}
 use Rattle.ml_plain.specs.Timing.{digest_post}

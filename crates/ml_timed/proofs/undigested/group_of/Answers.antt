@@ -2,7 +2,7 @@ use Rattle.std.proofs.Common.{◌≡◌, inl, inr, true, ◌∙◌, refl, sym, a
 use Rattle.std.proofs.lemmas.Bool.{false≢true, or_right}
 use Rattle.ml_base.specs.Dir.{same_name}
 use Rattle.ml_base.specs.declared.names.Name.{Name}
-use Rattle.ml_archive.specs.Archive.{number_name}
+use Rattle.ml_filing.specs.Archive.{number_name}
 use Rattle.ml_acts.specs.Asked.{Group, IsDamagedOf, has_above}
 use Rattle.ml_acts.specs.Doing.{is_index}
 use Rattle.ml_acts.proofs.Asked.{group_named}

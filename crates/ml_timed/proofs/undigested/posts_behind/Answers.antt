@@ -1,9 +1,9 @@
 use Rattle.std.proofs.Common.{◌⊎◌, ⊎_elim, inl, inr, ◌≤◌, ◌≡◌, ◌∙◌, ◌++◌, ◌+◌, ◌*◌, ◌/◌, ℕ, true, List, refl, arith, rules, ap, ap₂, sym, subst}
 use Rattle.std.proofs.lemmas.Bool.{cases_lt}
-use Rattle.ml_archive.specs.Posts.{index_of}
-use Rattle.ml_archive.specs.declared.posts.Entry.{Entry}
+use Rattle.ml_filing.specs.Posts.{index_of}
+use Rattle.ml_filing.specs.declared.posts.Entry.{Entry}
 use Rattle.ml_base.specs.Dir.{Dir}
-use Rattle.ml_archive.specs.Archive.{IsNumberFile, number_name}
+use Rattle.ml_filing.specs.Archive.{IsNumberFile, number_name}
 use Rattle.ml_plain.specs.Directory.{IsList}
 use Rattle.ml_acts.specs.Asked.{IsTooSmall}
 use Rattle.ml_acts.proofs.Asked.{named_as}

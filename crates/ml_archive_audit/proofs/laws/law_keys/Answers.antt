@@ -1,5 +1,0 @@
-use Rattle.ml_archive_audit.proofs.SameKey.{same_key}
-use Rattle.ml_archive_audit.proofs.laws.law_keys.Goals as goal
-
-pub returns : goal.returns
-returns c prefix subject = same_key prefix subject

@@ -1,0 +1,17 @@
+pub mod Exact
+pub mod Represented
+pub mod OneMore
+pub mod KeyLengths
+pub mod KeyTurns
+pub mod Parsed
+pub mod Rewritten
+pub mod Looking
+pub mod Rows
+pub mod Filed
+pub mod Lengthened
+pub mod ByFiles
+pub mod Ranged
+pub mod Threaded
+pub mod Indexed
+mod Examples
+pub mod Asked

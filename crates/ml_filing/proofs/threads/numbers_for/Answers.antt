@@ -1,0 +1,17 @@
+use Rattle.std.proofs.Common.{◌∙◌, ◌-◌, length, take, drop}
+use Rattle.ml_filing.proofs.Parsed.{first_of}
+use Rattle.ml_filing.proofs.Rewritten.{under_here, under_behind}
+use Rattle.ml_filing.proofs.threads.numbers_for.Goals as goal
+
+pub returns-then-eq : goal.returns-then-eq
+returns-then-eq c =
+    let rest = c.loop-rest.rest.now in
+    c.as_slice-then-eq.ensures
+    ∙ under_here c.eq.result c.args.key.now c.as_slice.result.now rest (take (length rest - 1) (drop 1 rest)) c.first-item.result
+    (first_of rest c.first-item.result c.in-len1-up.len_at_least c.first-item.is) c.eq.ensures c.as_slice.ensures c.if-eq.true ∙ c.loop-rest.invariant
+
+pub loop-rest-preserved : goal.loop-rest-preserved
+loop-rest-preserved c =
+    let rest = c.loop-rest.rest.now in
+    under_behind c.eq.result c.args.key.now c.as_slice.result.now rest (take (length rest - 1) (drop 1 rest)) c.first-item.result
+    (first_of rest c.first-item.result c.in-len1-up.len_at_least c.first-item.is) c.eq.ensures c.as_slice.ensures c.if-eq.false ∙ c.loop-rest.invariant

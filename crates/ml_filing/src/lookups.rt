@@ -1,0 +1,148 @@
+// Rows of posts, by what their indexes say of them.
+ghost use Rattle.std.specs.Prelude.{◌≡◌, ◌<◌, ◌≤◌, ◌/◌, ◌==◌, true, find, length, take, IsTrue, IfOk, IfSome, IfNone, OnOk};
+ghost use Rattle.std.specs.List.{AllByRecursion};
+ghost use Rattle.std.specs.Option.{option_copied};
+ghost use Rattle.ml_base.specs.Cuts.{within, one_or_within};
+ghost use Rattle.ml_base.specs.Dir.{Dir};
+ghost use Rattle.ml_base.specs.ReadFiles.{IsReading, NamesDamaged};
+ghost use Rattle.ml_filing.specs.Answers.{AreIndexes, AreSizes, HasNoEntry, IsEntryByFiles, IsNoIndex, IsBadForRow, has_group};
+ghost use Rattle.ml_filing.specs.Archive as archive;
+ghost use Rattle.ml_filing.specs.Reads.{IsOfRow};
+
+use crate::files::read_index;
+use crate::reading::entry_for;
+use crate::{Entries, Entry};
+use ml_base::{Files, Name, Numbers, PartError, Row};
+use std::alloc::{AllocError, Global};
+
+// How many posts one answer has at most, and how many bytes together where it has more than one.
+pub(crate) const MAX_POSTS: usize = 100;
+
+const MAX_BYTES: u64 = 4_194_304;
+
+// An index that was read.
+#[derive(Drop)]
+pub(crate) struct Index {
+    pub(crate) group: u64,
+    pub(crate) entries: Entries,
+}
+
+// The indexes that a call has read, each once.
+pub(crate) type Indexes = Row<Index>;
+
+// Whether the index of a group was read.
+fn was_read(indexes: &[Index], group: u64) -> bool
+    ensures { result ≡ has_group group indexes.now }
+{
+    indexes.iter().any(|index| index.group == group)
+}
+
+// Reads the index of a group, unless it was read.
+pub(crate) fn read_once<F: Files>(
+    alloc: Global,
+    files: &mut F,
+    indexes: &mut Indexes,
+    group: u64,
+) -> Result<(), PartError>
+    requires group { group < 1_000_000 }
+    requires known { IsTrue F.tells → AreIndexes (F.map files.old) indexes.old }
+    ensures known { IsTrue F.tells → OnOk result (AreIndexes (F.map files.old) indexes.new) }
+    ensures there { OnOk result (has_group group indexes.new ≡ true) }
+    ensures names { NamesDamaged ⟦<F as Files>⟧ (λ name. name ≡ archive.index_name group) (λ _. IsNoIndex (F.map files.old) group) result }
+    ensures reads { IsReading ⟦<F as Files>⟧ files.old files.new result }
+{
+    if was_read(indexes.as_slice(), group) {
+        return Ok(());
+    }
+    let entries = read_index(alloc, files, group)?;
+    Ok(indexes.push(Index { group, entries })?)
+}
+
+// The index of a group among those that were read.
+fn index_for(indexes: &[Index], group: u64) -> Option<&Index>
+    ensures { option_copied result ≡ find (λ i. i.group == group) indexes.now }
+{
+    indexes.iter().find(|index| index.group == group)
+}
+
+// The entry of a post, by the indexes that were read.
+pub(crate) fn entry_among(indexes: &[Index], number: u64) -> Option<&Entry>
+    ensures some { (dir : Dir) → AreIndexes dir indexes.now → IfSome result (λ e. IsEntryByFiles dir number e.now) }
+    ensures none { (dir : Dir) → AreIndexes dir indexes.now → has_group (number / 100) indexes.now ≡ true → IfNone result (HasNoEntry dir number) }
+{
+    match index_for(indexes, number / 100) {
+        Some(index) => entry_for(index.entries.as_slice(), number),
+        None => None,
+    }
+}
+
+// The sizes of posts. `missing` is the file that is damaged where an index has no entry of one.
+pub(crate) fn sizes_of<F: Files>(
+    alloc: Global,
+    files: &mut F,
+    indexes: &mut Indexes,
+    numbers: &[u64],
+    missing: Name,
+) -> Result<Numbers, PartError>
+    requires few { AllByRecursion (λ m. m ≤ 99_999_999) numbers.now }
+    requires known { IsTrue F.tells → AreIndexes (F.map files.old) indexes.old }
+    ensures value { IsTrue F.tells → IfOk result (AreSizes (F.map files.old) numbers.now) }
+    ensures names { NamesDamaged ⟦<F as Files>⟧ (IsOfRow missing numbers.now) (IsBadForRow (F.map files.old) missing numbers.now) result }
+    ensures long { IfOk result (λ sizes. length sizes ≡ length numbers.now) }
+    ensures reads { IsReading ⟦<F as Files>⟧ files.old files.new result }
+{
+    let mut sizes = Numbers::new(alloc);
+    let mut rest = numbers;
+    while let [number, more @ ..] = rest {
+        read_once(alloc, files, indexes, *number / 100)?;
+        let Some(entry) = entry_among(indexes.as_slice(), *number) else {
+            return Err(PartError::Damaged(missing));
+        };
+        sizes.push(entry.size)?;
+        rest = more;
+    }
+    Ok(sizes)
+}
+
+// How many of a row of sizes are at most `count` and fit into `room` together.
+fn within_len(count: usize, room: u64, sizes: &[u64]) -> usize
+    ensures value { result ≡ length (within (λ s. s) count room sizes.now) }
+    ensures few { result ≤ length sizes.now }
+{
+    let mut room = room;
+    let mut left = count;
+    let mut taken = 0;
+    let mut rest = sizes;
+    while let [size, more @ ..] = rest {
+        if left == 0 || *size > room {
+            return taken;
+        }
+        left -= 1;
+        room -= *size;
+        taken += 1;
+        rest = more;
+    }
+    taken
+}
+
+// How many posts of these sizes one answer has.
+fn cut_len(sizes: &[u64]) -> usize
+    ensures value { result ≡ length (one_or_within (λ s. s) 100 4_194_304 sizes.now) }
+    ensures few { result ≤ length sizes.now }
+{
+    let [first, more @ ..] = sizes else {
+        return 0;
+    };
+    if *first > MAX_BYTES {
+        return 1;
+    }
+    1 + within_len(MAX_POSTS - 1, MAX_BYTES - *first, more)
+}
+
+// As many of a row of posts as one answer has, by their sizes.
+pub(crate) fn cut_by(alloc: Global, numbers: &[u64], sizes: &[u64]) -> Result<Numbers, AllocError>
+    requires { length sizes.now ≤ length numbers.now }
+    ensures { IfOk result (λ front. front ≡ take (length (one_or_within (λ s. s) 100 4_194_304 sizes.now)) numbers.now) }
+{
+    Ok(Numbers::from_vec(Vec::from_slice(alloc, &numbers[..cut_len(sizes)])?))
+}
