@@ -27,15 +27,7 @@ use Rattle.ml_archive.specs.Breaks.{AreThreadsOf}
 use Rattle.ml_archive.specs.declared.keys.Places.{Places}
 use Rattle.ml_archive.specs.Found.{AreKeyed, AreNumbered, AreOrdered, IsPlace, Keys, with_numbers, key_numbers, text_at, threads_at, threads_of}
 use Rattle.ml_archive.proofs.Posted.{keys_made, posts_of}
-
--- numbers that rise from one on, below another
-abbrev Rising : ℕ → ℕ → List ℕ → Type 0
-Rising low high [] = Unit {0}
-Rising low high (m ∷ ms) = (low ≤ m) × (m < high) × Rising (m + 1) high ms
-
-rising_lower : (low lower high : ℕ) (ms : List ℕ) → lower ≤ low → Rising low high ms → Rising lower high ms
-rising_lower low lower high [] le is = tt
-rising_lower low lower high (m ∷ ms) le is = let first = is.0 in (omega (arith, le, first), is.1, is.2)
+use Rattle.ml_filing.proofs.Filed.{Rising, rising_lower, rising_sorted, rising_posts}
 
 numbers_rise : (prefix k : Text) (n high : ℕ) (es : List Entry) → n + length es ≤ high → Rising n high (key_numbers prefix k n es)
 numbers_rise prefix k n high [] le = tt
@@ -44,24 +36,6 @@ numbers_rise prefix k n high (e ∷ es) le = go (bytes_eq (subject_key prefix e.
     go : (t : Bool) → Rising (n + 1) high (key_numbers prefix k (n + 1) es) → Rising n high (cond t (n ∷ key_numbers prefix k (n + 1) es) (key_numbers prefix k (n + 1) es))
     go true more = (omega arith, omega (arith, le), more)
     go false more = rising_lower (n + 1) n high (key_numbers prefix k (n + 1) es) (omega arith) more
-
-is_less : (a b : ℕ) → a < b → is_lt (nat_cmp a b) ≡ true
-is_less a b less = sym (ap is_lt (nat_cmp_is a b Less less))
-
-rising_above : (j low high : ℕ) (ms : List ℕ) → j < low → Rising low high ms → list_all (λ m. is_lt (nat_cmp j m)) ms ≡ true
-rising_above j low high [] less is = refl
-rising_above j low high (m ∷ ms) less is =
-    let first = is.0 in and_from _ _ (is_less j m (omega (arith, less, first))) (rising_above j (m + 1) high ms (omega (arith, less, first)) is.2)
-
-rising_sorted : (low high : ℕ) (ms : List ℕ) → Rising low high ms → is_sorted nat_cmp (λ m. m) ms ≡ true
-rising_sorted low high [] is = refl
-rising_sorted low high (m ∷ ms) is = and_from _ _ (rising_above m (m + 1) high ms (omega arith) is.2) (rising_sorted (m + 1) high ms is.2)
-
-rising_posts : (low high : ℕ) (ms : List ℕ) → 1 ≤ low → high ≤ 100_000_000 → Rising low high ms → AllByRecursion (λ m. IsTrue (is_post_number m)) ms
-rising_posts low high [] one few is = tt
-rising_posts low high (m ∷ ms) one few is =
-    let a = is.0 in let b = is.1 in
-    (and_from _ _ (le-leb 1 m (omega (arith, one, a))) (le-leb m 99_999_999 (omega (arith, few, b))), rising_posts (m + 1) high ms (omega arith) few is.2)
 
 -- a key that has numbers is that of a subject, so it is short
 key_is_short : (prefix k : Text) (n : ℕ) (es : List Entry) → AreNumbered n es → 0 < length (key_numbers prefix k n es) → length k < 10 ^ 18

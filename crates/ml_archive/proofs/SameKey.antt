@@ -7,7 +7,7 @@ use Rattle.std.proofs.lemmas.List.{take-append-drop}
 use Rattle.ml_base.specs.Bytes.{Text, lower, is_empty}
 use Rattle.ml_header.specs.Lines.{begins_with}
 use Rattle.ml_filing.specs.Subjects.{is_space, squeezed, without_front, without_end, behind_word, behind_digits, behind_mark, stripped, subject_key}
-use Rattle.ml_filing.proofs.KeyTurns.{turns_enough, strip_none}
+use Rattle.ml_filing.proofs.KeyTurns.{turns_enough, strip_none, front_within, turn_of, step, front_lower, end_lower}
 
 abbrev space_first : Text → Bool
 space_first text = begins_with (32 ∷ []) text
@@ -142,15 +142,6 @@ mark_behind prefix text =
     (or_behind text _ _ (word_behind (codes "fwd:") text)
     (or_behind text _ _ (word_behind (codes "aw:") text) (then_behind text (behind_word (codes "re[") text) (word_behind (codes "re[") text))))))
 
--- spaces at the front
-front_short : (text : Text) → length (without_front text) ≤ length text
-front_short [] = omega arith
-front_short (b ∷ bs) = go (b == 32) (front_short bs)
-  where
-    go : (t : Bool) → length (without_front bs) ≤ length bs → length (cond t (without_front bs) (b ∷ bs)) ≤ suc (length bs)
-    go true le = omega (arith, le)
-    go false le = omega arith
-
 front_twice : (text : Text) → without_front (without_front text) ≡ without_front text
 front_twice [] = refl
 front_twice (b ∷ bs) = go (b == 32) refl (front_twice bs)
@@ -171,18 +162,6 @@ front_tidy (b ∷ bs) is = go (b == 32) (front_tidy bs (tidy_behind (b ∷ []) b
 abbrev IsKey : Text → Text → Type 0
 IsKey prefix text = IsTidy text × (without_front text ≡ text) × (stripped (length text) prefix text ≡ text)
 
-abbrev turn_of : (Text → Text) → Text → Option Text → Text
-turn_of next text None = text
-turn_of next text (Some rest) = next (without_front rest)
-
-step : (turns : ℕ) (prefix text : Text) → stripped (suc turns) prefix text ≡ turn_of (stripped turns prefix) text (behind_mark prefix text)
-unfolding stripped
-step turns prefix text = go (behind_mark prefix text)
-  where
-    go : (o : Option Text) → elim o as (λ o. Text) [ None ↦ text | Some rest ↦ stripped turns prefix (without_front rest) ] ≡ turn_of (stripped turns prefix) text o
-    go None = refl
-    go (Some rest) = refl
-
 stripped_key : (turns : ℕ) (prefix text : Text) → length text ≤ turns → IsTidy text → without_front text ≡ text → IsKey prefix (stripped turns prefix text)
 unfolding stripped
 stripped_key zero prefix [] le is front = (is, front, turns_enough 0 0 prefix [] le le)
@@ -195,7 +174,7 @@ stripped_key (suc turns) prefix text le is front =
     go None none behind later = (is, front, sym (strip_none prefix (lower prefix) text refl (sym none)))
     go (Some rest) there (mark, some, cut) later =
         let long = length-append mark rest in
-        let short = front_short rest in
+        let short = front_within rest in
         let whole : length text ≡ length (mark ++ rest) = ap length cut in
         later (without_front rest) (omega (arith, long, short, whole, le, some)) (front_tidy rest (tidy_behind mark rest (subst (λ (t : Text). IsTidy t) cut is))) (front_twice rest)
 
@@ -214,7 +193,7 @@ end_front [] is = refl
 end_front (b ∷ bs) is = go (b == 32) refl is
   where
     longer : without_front bs ≡ b ∷ bs → ⊥
-    longer e = let short = front_short bs in let size : length (without_front bs) ≡ suc (length bs) = ap length e in omega (arith, short, size)
+    longer e = let short = front_within bs in let size : length (without_front bs) ≡ suc (length bs) = ap length e in omega (arith, short, size)
 
     kept : (t : Bool) → (b == 32) ≡ false → without_front (cond t [] (b ∷ without_end bs)) ≡ cond t [] (b ∷ without_end bs)
     kept true e = refl
@@ -224,37 +203,12 @@ end_front (b ∷ bs) is = go (b == 32) refl is
     go true e same = absurd (longer same)
     go false e same = kept (b == 32 && is_empty (without_end bs)) e
 
-low_space : (b : ℕ) → (to_ascii_lowercase b == 32) ≡ (b == 32)
-low_space b = grind (arith, common_steps)
-
 low_twice : (b : ℕ) → to_ascii_lowercase (to_ascii_lowercase b) ≡ to_ascii_lowercase b
 low_twice b = grind (arith, common_steps)
 
 lower_twice : (text : Text) → lower (lower text) ≡ lower text
 lower_twice [] = refl
 lower_twice (b ∷ bs) = ap₂ (λ (c : ℕ) (t : Text). c ∷ t) (low_twice b) (lower_twice bs)
-
-front_lower : (text : Text) → without_front (lower text) ≡ lower (without_front text)
-front_lower [] = refl
-front_lower (b ∷ bs) = ap (λ t. cond t (without_front (lower bs)) (to_ascii_lowercase b ∷ lower bs)) (low_space b) ∙ go (b == 32) (front_lower bs)
-  where
-    go : (t : Bool) → without_front (lower bs) ≡ lower (without_front bs) → cond t (without_front (lower bs)) (to_ascii_lowercase b ∷ lower bs) ≡ lower (cond t (without_front bs) (b ∷ bs))
-    go true e = e
-    go false e = refl
-
-empty_lower : (text : Text) → is_empty (lower text) ≡ is_empty text
-empty_lower [] = refl
-empty_lower (b ∷ bs) = refl
-
-end_lower : (text : Text) → without_end (lower text) ≡ lower (without_end text)
-end_lower [] = refl
-end_lower (b ∷ bs) =
-    ap₂ (λ t (e : Text). cond (t && is_empty e) [] (to_ascii_lowercase b ∷ e)) (low_space b) (end_lower bs)
-    ∙ ap (λ e. cond (b == 32 && e) [] (to_ascii_lowercase b ∷ lower (without_end bs))) (empty_lower (without_end bs)) ∙ go (b == 32 && is_empty (without_end bs))
-  where
-    go : (t : Bool) → cond t [] (to_ascii_lowercase b ∷ lower (without_end bs)) ≡ lower (cond t [] (b ∷ without_end bs))
-    go true = refl
-    go false = refl
 
 key_is : (prefix subject : Text) → IsKey prefix (subject_key prefix subject)
 key_is prefix subject =

@@ -9,8 +9,8 @@ ghost use Rattle.ml_archive.specs.Counted.{IsCountedArchive};
 
 use crate::groups::audit_groups;
 use crate::threads::audit_threads;
-use ml_filing::count;
 use ml_base::{Files, PartError};
+use ml_filing::count;
 use std::alloc::Global;
 
 /// Whether the files of the archive of a list with this prefix stand for posts, but for those that are past their number: the posts

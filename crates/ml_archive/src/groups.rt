@@ -9,8 +9,8 @@ ghost use Rattle.ml_archive.specs.Counted.{first_of};
 ghost use Rattle.ml_archive.specs.Found as found;
 ghost use Rattle.ml_archive.specs.Found.{AreWhole, HasSize, HasWhole, HaveSizes, LacksSize};
 
-use ml_filing::{Entries, Entry, index};
 use ml_base::{Files, Name, PartError};
+use ml_filing::{Entries, Entry, index};
 use std::alloc::Global;
 
 // The number of a group's first post.

@@ -10,8 +10,8 @@ ghost use Rattle.ml_archive.specs.Found as found;
 ghost use Rattle.ml_archive.specs.Found.{AreKeyedBelow, AreOrdered, AreWhole, HasPlace, with_numbers, key_numbers, numbers_at};
 
 use crate::groups::{first_number, full_index, groups_of};
-use ml_filing::{Entry, subject_key};
 use ml_base::{Files, Numbers, PartError, hash};
+use ml_filing::{Entry, subject_key};
 use std::alloc::{AllocError, Global};
 use std::collections::BTreeMap;
 

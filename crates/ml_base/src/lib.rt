@@ -36,9 +36,7 @@ pub use layer::Layer;
 pub use maps::MapFiles;
 pub use name_maps::next_place;
 pub use names::{Name, Set};
-pub use netstring::{
-    Span, push_netstring, push_number_netstring, read_netstring, split_netstring,
-};
+pub use netstring::{Span, push_netstring, push_number_netstring, read_netstring, split_netstring};
 pub use number::{age, is_next_digit, number_within, read_number, write_number};
 pub use own::is_own;
 pub use part::PartError;

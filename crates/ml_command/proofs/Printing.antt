@@ -53,6 +53,7 @@ use Rattle.ml_command.specs.Inquiries.{importing_asked, moving_asked}
 use Rattle.ml_command.specs.Printing.{Prints, PutsMails, PutsMoves}
 use Rattle.ml_command.specs.Words.{Command, Spool, Deliver, Make, Exercise, Single, Give, BadWord, NoCommand}
 use Rattle.ml_command.specs.declared.giving.Inquiry.TheVariants as inquiries
+use Rattle.ml_dividing.proofs.Moved.{filter_small}
 
 -- what is proved of every stream that an import gives
 abbrev pub LawImporting : Type 0
@@ -135,14 +136,6 @@ found_named rules set name part (n ∷ ns) e = go (is_named name (part_named rul
         → (n : Text) × (part_named rules set n ≡ part)
     go true is more = (n, one_some (part_named rules set n) part is)
     go false is more = more is
-
-filter_small : (test : Text → Bool) (xs : List Text) → length (filter test xs) ≤ length xs
-filter_small test [] = omega arith
-filter_small test (x ∷ xs) = go (test x) (filter_small test xs)
-  where
-    go : (t : Bool) → length (filter test xs) ≤ length xs → length (cond t (x ∷ filter test xs) (filter test xs)) ≤ length (x ∷ xs)
-    go true h = omega (arith, h)
-    go false h = omega (arith, h)
 
 filter_each : (P : Text → Type 0) (test : Text → Bool) (xs : List Text) → AllByRecursion P xs → AllByRecursion P (filter test xs)
 filter_each P test [] all = tt

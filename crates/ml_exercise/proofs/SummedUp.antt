@@ -32,6 +32,7 @@ use Rattle.ml_reading.specs.Readings.{GivesText, IsAnswer, IsFront, IsLeftByRead
 use Rattle.ml_run.specs.Leaving.{HasState}
 use Rattle.ml_run.proofs.Leaving.{same_state}
 use Rattle.ml_exercise.specs.Summing.{exercised_line, IsLooking, IsSummingUp, NamesWhole, SumsUp, TellsOf, two_lines}
+use Rattle.ml_run.proofs.MadeLists.{some_status}
 
 -- the text of a check is the line of the list
 text_is : (dir : Option Dir) (q : State) (text : Text) → HasState dir q → IsAnswer check_meaning dir text → text ≡ whole_line (sizes_of q.plain)
@@ -64,23 +65,6 @@ front_is dir q count before now out state is front = ⊎_elim
     (subst (λ (t : Text). TellsAtMost t (before ++ exercised_line count) out) (text_is dir q given.0 state given.1) (subst (λ (b : Text). TellsAtMost given.0 b out) is given.2))))
     front
 
--- no stop line has the status 0
-never_zero : (why : Why) → status_of_why why ≡ 0 → ⊥
-never_zero whys.Usage is = omega (arith, is)
-never_zero (whys.Bad at) is = omega (arith, is)
-never_zero (whys.Short at) is = omega (arith, is)
-never_zero whys.Words is = omega (arith, is)
-never_zero whys.Long is = omega (arith, is)
-never_zero whys.Clock is = omega (arith, is)
-never_zero whys.Memory is = omega (arith, is)
-never_zero whys.More is = omega (arith, is)
-never_zero whys.Input is = omega (arith, is)
-never_zero whys.NoList is = omega (arith, is)
-never_zero (whys.At name) is = omega (arith, is)
-never_zero whys.There is = omega (arith, is)
-never_zero whys.Absent is = omega (arith, is)
-never_zero whys.Disk is = omega (arith, is)
-
 -- what a check gives behind that line
 tells_of : (told : Type 0) (status : ℕ) (dir : Option Dir) (q : State) (count : ℕ) (before now output : Text) → HasState dir q → (told → now ≡ before ++ exercised_line count)
     → GivesText told status (whole_line (sizes_of q.plain)) now output → Reads told status check_meaning dir now output → TellsOf told status count q.plain before output
@@ -91,7 +75,7 @@ tells_of told status dir q count before now output state is gives (inl whole) = 
 tells_of told status dir q count before now output state is gives (inr (inl refused)) = inr (inl (
   refused.why,
   refused.status_is,
-  ⊎_elim (λ zero. absurd (never_zero refused.why (sym refused.status_is ∙ zero.0))) (λ h. h) gives,
+  ⊎_elim (λ zero. absurd (some_status refused.why (sym refused.status_is ∙ zero.0))) (λ h. h) gives,
   λ t. refused.put t ∙ ap (λ (b : Text). b ++ stop_text None status refused.why) (is t),
 ))
 tells_of told status dir q count before now output state is gives (inr (inr cut)) = inr (inr (cut.status_is, λ t. front_is dir q count before now output state (is t) (cut.put t)))

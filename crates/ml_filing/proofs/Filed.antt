@@ -28,11 +28,11 @@ use Rattle.ml_filing.proofs.KeyLengths.{key_short}
 use Rattle.ml_filing.proofs.OneMore.{post_new, post_kept, post_past, key_on, index_file_on, index_file_kept, all_on}
 
 -- numbers that rise from one on, below another
-abbrev Rising : ℕ → ℕ → List ℕ → Type 0
+abbrev pub Rising : ℕ → ℕ → List ℕ → Type 0
 Rising low high [] = Unit {0}
 Rising low high (m ∷ ms) = (low ≤ m) × (m < high) × Rising (m + 1) high ms
 
-rising_lower : (low lower high : ℕ) (ms : List ℕ) → lower ≤ low → Rising low high ms → Rising lower high ms
+pub rising_lower : (low lower high : ℕ) (ms : List ℕ) → lower ≤ low → Rising low high ms → Rising lower high ms
 rising_lower low lower high [] le is = tt
 rising_lower low lower high (m ∷ ms) le is = let first = is.0 in (omega (arith, le, first), is.1, is.2)
 
@@ -52,11 +52,11 @@ rising_above j low high [] less is = refl
 rising_above j low high (m ∷ ms) less is =
     let first = is.0 in and_from _ _ (is_less j m (omega (arith, less, first))) (rising_above j (m + 1) high ms (omega (arith, less, first)) is.2)
 
-rising_sorted : (low high : ℕ) (ms : List ℕ) → Rising low high ms → is_sorted nat_cmp (λ m. m) ms ≡ true
+pub rising_sorted : (low high : ℕ) (ms : List ℕ) → Rising low high ms → is_sorted nat_cmp (λ m. m) ms ≡ true
 rising_sorted low high [] is = refl
 rising_sorted low high (m ∷ ms) is = and_from _ _ (rising_above m (m + 1) high ms (omega arith) is.2) (rising_sorted (m + 1) high ms is.2)
 
-rising_posts : (low high : ℕ) (ms : List ℕ) → 1 ≤ low → high ≤ 100_000_000 → Rising low high ms → AllByRecursion (λ m. IsTrue (is_post_number m)) ms
+pub rising_posts : (low high : ℕ) (ms : List ℕ) → 1 ≤ low → high ≤ 100_000_000 → Rising low high ms → AllByRecursion (λ m. IsTrue (is_post_number m)) ms
 rising_posts low high [] one few is = tt
 rising_posts low high (m ∷ ms) one few is =
     let a = is.0 in let b = is.1 in

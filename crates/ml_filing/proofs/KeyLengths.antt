@@ -6,6 +6,7 @@ use Rattle.std.proofs.lemmas.List.{length-map}
 use Rattle.ml_base.specs.Bytes.{Text, lower, is_empty}
 use Rattle.ml_header.specs.Lines.{begins_with}
 use Rattle.ml_filing.specs.Subjects.{squeezed, without_front, without_end, behind_word, behind_digits, behind_mark, stripped, subject_key, is_space}
+use Rattle.ml_filing.proofs.KeyTurns.{front_within}
 
 squeezed_short : (text : Text) → length (squeezed text) ≤ length text
 squeezed_short [] = omega arith
@@ -15,14 +16,6 @@ squeezed_short (b ∷ bs) = go (is_space b) (begins_with (32 ∷ []) (squeezed b
     go true true le = omega (arith, le)
     go true false le = omega (arith, le)
     go false t le = omega (arith, le)
-
-front_short : (text : Text) → length (without_front text) ≤ length text
-front_short [] = omega arith
-front_short (b ∷ bs) = go (b == 32) (front_short bs)
-  where
-    go : (s : Bool) → length (without_front bs) ≤ length bs → length (cond s (without_front bs) (b ∷ bs)) ≤ suc (length bs)
-    go true le = omega (arith, le)
-    go false le = omega arith
 
 end_short : (text : Text) → length (without_end text) ≤ length text
 end_short [] = omega arith
@@ -82,13 +75,13 @@ stripped_short (suc turns) prefix text = go (behind_mark prefix text) (mark_shor
     go : (o : Option Text) → AtMost (length text) o → ((rest : Text) → length (stripped turns prefix rest) ≤ length rest)
         → length (elim o as (λ o. Text) [ None ↦ text | Some rest ↦ stripped turns prefix (without_front rest) ]) ≤ length text
     go None is later = omega arith
-    go (Some rest) is later = let one = later (without_front rest) in let two = front_short rest in omega (arith, one, two, is)
+    go (Some rest) is later = let one = later (without_front rest) in let two = front_within rest in omega (arith, one, two, is)
 
 pub key_short : (prefix subject : Text) → length (subject_key prefix subject) ≤ length subject
 key_short prefix subject =
     let text = lower (without_end (without_front (squeezed subject))) in
     let a = squeezed_short subject in
-    let b = front_short (squeezed subject) in
+    let b = front_within (squeezed subject) in
     let c = end_short (without_front (squeezed subject)) in
     let d = length-map (without_end (without_front (squeezed subject))) to_ascii_lowercase in
     let e = stripped_short (length text) prefix text in

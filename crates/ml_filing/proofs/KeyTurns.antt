@@ -52,7 +52,7 @@ mark_below prefix text =
     (or_below n _ _ (word_below (codes "fwd:") text)
     (or_below n _ _ (word_below (codes "aw:") text) (then_below n (behind_word (codes "re[") text) (word_below (codes "re[") text))))))
 
-front_within : (text : Text) → length (without_front text) ≤ length text
+pub front_within : (text : Text) → length (without_front text) ≤ length text
 front_within [] = omega arith
 front_within (b ∷ bs) = go (b == 32) (front_within bs)
   where
@@ -60,11 +60,11 @@ front_within (b ∷ bs) = go (b == 32) (front_within bs)
     go true le = omega (arith, le)
     go false le = omega arith
 
-abbrev turn_of : (Text → Text) → Text → Option Text → Text
+abbrev pub turn_of : (Text → Text) → Text → Option Text → Text
 turn_of next text None = text
 turn_of next text (Some rest) = next (without_front rest)
 
-step : (turns : ℕ) (prefix text : Text) → stripped (suc turns) prefix text ≡ turn_of (stripped turns prefix) text (behind_mark prefix text)
+pub step : (turns : ℕ) (prefix text : Text) → stripped (suc turns) prefix text ≡ turn_of (stripped turns prefix) text (behind_mark prefix text)
 unfolding stripped
 step turns prefix text = go (behind_mark prefix text)
   where
@@ -151,10 +151,10 @@ pub end_stop : (n : ℕ) (text : Text) → 0 < n → n ≤ length text → (get_
 end_stop n text some le other = sym (ap without_end (take_last n text some le) ∙ end_other (take (n - 1) text) (get_or text (n - 1) 0) other ∙ sym (take_last n text some le))
 
 -- lower case and spaces
-low_space : (b : ℕ) → (to_ascii_lowercase b == 32) ≡ (b == 32)
+pub low_space : (b : ℕ) → (to_ascii_lowercase b == 32) ≡ (b == 32)
 low_space b = grind (arith, common_steps)
 
-front_lower : (text : Text) → without_front (lower text) ≡ lower (without_front text)
+pub front_lower : (text : Text) → without_front (lower text) ≡ lower (without_front text)
 front_lower [] = refl
 front_lower (b ∷ bs) = ap (λ t. cond t (without_front (lower bs)) (to_ascii_lowercase b ∷ lower bs)) (low_space b) ∙ go (b == 32) (front_lower bs)
   where
@@ -166,7 +166,7 @@ empty_lower : (text : Text) → is_empty (lower text) ≡ is_empty text
 empty_lower [] = refl
 empty_lower (b ∷ bs) = refl
 
-end_lower : (text : Text) → without_end (lower text) ≡ lower (without_end text)
+pub end_lower : (text : Text) → without_end (lower text) ≡ lower (without_end text)
 end_lower [] = refl
 end_lower (b ∷ bs) =
     ap₂ (λ t (e : Text). cond (t && is_empty e) [] (to_ascii_lowercase b ∷ e)) (low_space b) (end_lower bs)

@@ -59,7 +59,7 @@ cut_sizes es ss ns sizes named =
     ap₂ (λ (k : ℕ) (t : List ℕ). take k t) long (sym named) ∙ take_map (λ (e : Entry). e.number) (length front) es ∙ ap (map (λ (e : Entry). e.number)) (sym is)
 
 -- the numbers of a range
-ranged : (a b k : ℕ) (posts : List Post) → map (λ (e : Numbered). e.0) (filter (λ (e : Numbered). nat_le a e.0 && nat_le e.0 b) (enumerate_from k posts)) ≡ range_with_len (max a k) (min (b + 1) (k + length posts) - max a k)
+pub ranged : (a b k : ℕ) (posts : List Post) → map (λ (e : Numbered). e.0) (filter (λ (e : Numbered). nat_le a e.0 && nat_le e.0 b) (enumerate_from k posts)) ≡ range_with_len (max a k) (min (b + 1) (k + length posts) - max a k)
 ranged a b k [] = let none : 0 ≡ min (b + 1) (k + 0) - max a k = omega arith in ap (range_with_len (max a k)) none
 ranged a b k (x ∷ xs) = go (nat_le a k) refl (nat_le k b) refl (ranged a b (k + 1) xs)
   where

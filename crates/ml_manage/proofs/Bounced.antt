@@ -22,6 +22,7 @@ use Rattle.ml_plain.proofs.PartChanges.{list_ledger_changed, digest_ledger_chang
 use Rattle.std.specs.Prelude.{not}
 use Rattle.ml_acts.specs.Doing.{DoesList, is_beside_queue, is_of_queue}
 use Rattle.ml_manage.specs.Leaving.{change_reply}
+use Rattle.ml_acts.proofs.Queued.{touches_weaker}
 
 -- the sets that bounce have a ledger
 pub mailed_ledger : (set : Set) → is_mailed set ≡ true → has_ledger set ≡ true
@@ -45,13 +46,6 @@ does_by dir done puts reply p e f now = record {
   reply = f;
   list = subst (λ (t : List Put). IsList (with_puts dir t) p) (sym e) now;
 }
-
--- puts of files that pass a test pass a weaker one
-pub touches_weaker : (f g : Name → Bool) (puts : List Put) → ((name : Name) → f name ≡ true → g name ≡ true) → touches_only f puts ≡ true → touches_only g puts ≡ true
-touches_weaker f g [] weak e = refl
-touches_weaker f g (put ∷ puts) weak e =
-    let parts = and_parts (f put.name) (touches_only f puts) e in
-    and_from (g put.name) (touches_only g puts) (weak put.name parts.0) (touches_weaker f g puts weak parts.1)
 
 in_list : (k : ℕ) → 1 ≤ k → k ≤ 18 → ((leb 1 k && leb k 18) || eqb k 20) ≡ true
 in_list k least most = ap (λ (b : Bool). b || eqb k 20) (and_from (leb 1 k) (leb k 18) (le-leb 1 k least) (le-leb k 18 most))

@@ -147,13 +147,6 @@ index_read at name less e =
     and_from (nat_lt (at / 100) 1_000_000) (same_name name (index_name (at / 100))) (lt-ltb (at / 100) 1_000_000 less)
     (subst (λ (n : Name). same_name n (index_name (at / 100)) ≡ true) (sym e) (same_self (index_name (at / 100))))
 
--- the texts of one number more
-pub one_more : (f : ℕ → Text) (ns : List ℕ) (i n : ℕ) (out new : Text) → i < length ns → n ≡ get_or ns i 0 → out ≡ flat_map f (take i ns) → new ≡ out ++ f n → new ≡ flat_map f (take (i + 1) ns)
-one_more f ns i n out new low e before is =
-    let one : i + 1 ≡ suc i = omega arith in
-    is ∙ ap₂ (λ a b. a ++ b) before (ap f e) ∙ ap (λ t. flat_map f (take i ns) ++ t) (sym (append-nil (f (get_or ns i 0)))) ∙ sym (flat_map-append f (take i ns) (get_or ns i 0 ∷ []))
-    ∙ ap (flat_map f) (sym (take-suc ns i 0 low)) ∙ ap (λ (k : ℕ). flat_map f (take k ns)) (sym one)
-
 -- where there are some
 pub some_posts : (p : Plain) (ns : List ℕ) (t : Bool) → t ≡ (length ns == 0) → t ≡ false → flat_map (post_text p) ns ≡ posts_text p ns
 some_posts p [] t e f = absurd (let bad : true ≡ false = sym e ∙ f in cc)

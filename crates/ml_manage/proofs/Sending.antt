@@ -12,7 +12,8 @@ use Rattle.ml_plain.specs.Directory.{IsList, is_of_list}
 use Rattle.ml_plain.specs.Managing.{from_archive, list_members}
 use Rattle.ml_plain.specs.Plain.{Plain}
 use Rattle.ml_acts.specs.Doing.{DoesList, HasIds, HasRoom, is_of_queue}
-use Rattle.ml_manage.proofs.Bounced.{does_by, touches_weaker}
+use Rattle.ml_manage.proofs.Bounced.{does_by}
+use Rattle.ml_acts.proofs.Queued.{touches_weaker}
 
 queue_file : (name : Name) → is_of_queue name ≡ true → is_of_list name ≡ true
 queue_file name e = go (or_cases (eqb name.kind 17) (eqb name.kind 18) e)

@@ -26,11 +26,11 @@ ghost use Rattle.ml_manage.specs.Reads.{is_counted_in, is_of_bounce, is_of_probe
 
 use crate::members::is_member;
 use ml_acts::{is_good, key_of, remove_member};
-use ml_filing::count;
 use ml_base::{Address, Files, PartError, Set, Txn};
 use ml_bounce::{note, probe_failed, warn_failed};
 use ml_config::key;
 use ml_digest::mark;
+use ml_filing::count;
 use ml_plain::Reply;
 use std::alloc::Global;
 

@@ -7,9 +7,9 @@ ghost use Rattle.ml_plain.specs.ArchiveText.{whole_post};
 ghost use Rattle.ml_reply.specs.Dates.{date_text as date_of};
 ghost use Rattle.ml_manage.specs.Texts as words;
 
-use ml_filing::{Entry, Post};
 use ml_base::{Bytes, LAST_MOMENT};
 use ml_config::Config;
+use ml_filing::{Entry, Post};
 use ml_reply::date_text;
 use std::alloc::{AllocError, Global};
 

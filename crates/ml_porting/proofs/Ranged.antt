@@ -14,35 +14,7 @@ use Rattle.ml_filing.specs.declared.posts.Post.{Post}
 use Rattle.ml_filing.proofs.ByFiles.{IsOne, filtered_ones}
 use Rattle.ml_filing.proofs.Looking.{counted_is, no_bad_count, no_bad_index, no_missing, post_found, right_size}
 use Rattle.ml_porting.specs.Mailboxes.{IsBadForMailbox, IsRangeMailbox, mailbox, numbers_of, range_mailbox}
-
--- the numbers of a range
-ranged : (a b k : ℕ) (posts : List Post) → map (λ (e : Numbered). e.0) (filter (λ (e : Numbered). nat_le a e.0 && nat_le e.0 b) (enumerate_from k posts)) ≡ range_with_len (max a k) (min (b + 1) (k + length posts) - max a k)
-ranged a b k [] = let none : 0 ≡ min (b + 1) (k + 0) - max a k = omega arith in ap (range_with_len (max a k)) none
-ranged a b k (x ∷ xs) = go (nat_le a k) refl (nat_le k b) refl (ranged a b (k + 1) xs)
-  where
-    go : (s : Bool) → nat_le a k ≡ s → (t : Bool) → nat_le k b ≡ t
-        → map (λ (e : Numbered). e.0) (filter (λ (e : Numbered). nat_le a e.0 && nat_le e.0 b) (enumerate_from (k + 1) xs)) ≡ range_with_len (max a (k + 1)) (min (b + 1) ((k + 1) + length xs) - max a (k + 1))
-        → map (λ (e : Numbered). e.0) (cond (nat_le a k && nat_le k b) ((k, x) ∷ filter (λ (e : Numbered). nat_le a e.0 && nat_le e.0 b) (enumerate_from (k + 1) xs)) (filter (λ (e : Numbered). nat_le a e.0 && nat_le e.0 b) (enumerate_from (k + 1) xs)))
-        ≡ range_with_len (max a k) (min (b + 1) (k + suc (length xs)) - max a k)
-    go true low true high more =
-        let l = leb-true a k low in
-        let h = leb-true k b high in
-        let first : max a k ≡ k = omega (arith, l) in
-        let next : max a (k + 1) ≡ k + 1 = omega (arith, l) in
-        let size : min (b + 1) (k + suc (length xs)) - max a k ≡ suc (min (b + 1) ((k + 1) + length xs) - max a (k + 1)) = omega (arith, l, h) in
-        rw (low, high) (ap (λ (t : List ℕ). k ∷ t) (more ∙ ap (λ (n : ℕ). range_with_len n (min (b + 1) ((k + 1) + length xs) - max a (k + 1))) next)
-        ∙ sym (ap₂ (λ (n m : ℕ). range_with_len n m) first size))
-    go true low false high more =
-        let l = leb-true a k low in
-        let h = leb-false k b high in
-        let here : min (b + 1) (k + suc (length xs)) - max a k ≡ 0 = omega (arith, l, h) in
-        let there : min (b + 1) ((k + 1) + length xs) - max a (k + 1) ≡ 0 = omega (arith, l, h) in
-        rw (low, high) (more ∙ ap (range_with_len (max a (k + 1))) there ∙ sym (ap (range_with_len (max a k)) here))
-    go false low t high more =
-        let l = leb-false a k low in
-        let same : max a (k + 1) ≡ max a k = omega (arith, l) in
-        let size : min (b + 1) ((k + 1) + length xs) - max a (k + 1) ≡ min (b + 1) (k + suc (length xs)) - max a k = omega (arith, l) in
-        rw low (more ∙ ap₂ (λ (n m : ℕ). range_with_len n m) same size)
+use Rattle.ml_filing.proofs.Ranged.{ranged}
 
 one_post : (p q : Post) → Some p ≡ Some q → p ≡ q
 one_post p q e = cc

@@ -8,8 +8,8 @@ ghost use Rattle.ml_filing.specs.Threads.{entry_at};
 ghost use Rattle.ml_porting.specs.Mailboxes.{IsBadForMailbox, IsMailboxName, IsRangeMailbox};
 ghost use Rattle.ml_porting.specs.Steps.{AddsMail, IsBadAmong};
 
-use ml_filing::{Entries, Entry, count, index, message_of};
 use ml_base::{Bytes, Files, LAST_MOMENT, Name, PartError};
+use ml_filing::{Entries, Entry, count, index, message_of};
 use ml_mbox::push_mail;
 use std::alloc::Global;
 

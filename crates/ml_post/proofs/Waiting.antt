@@ -26,20 +26,9 @@ use Rattle.ml_base.specs.declared.names.Set.TheVariants as sets
 use Rattle.ml_hold.specs.declared.posts.Held.{Held}
 use Rattle.ml_subs.specs.Subscribers.{is_of_set}
 use Rattle.ml_acts.specs.Doing.{Alike, DoesList, HasIds, HasRoom, is_beside_mail, is_beside_queue, is_of_queue, is_with_queue}
-use Rattle.ml_acts.proofs.Queued.{touches_weaker}
+use Rattle.ml_acts.proofs.Queued.{touches_weaker, waits, held_own}
 use Rattle.ml_post.specs.Publishing.{is_beside_held}
 use Rattle.ml_post.proofs.Posts.{held_apart}
-
-waits : (name : Name) → is_of_series Tickets name ≡ true → held_kinds name.kind ≡ true
-waits name e = go (or_cases (eqb name.kind 13) (same_name name tickets_name) e)
-  where
-    go : ((eqb name.kind 13 ≡ true) ⊎ (same_name name tickets_name ≡ true)) → held_kinds name.kind ≡ true
-    go (inl k) = or_left (eqb name.kind 13) (eqb name.kind 14) k
-    go (inr c) = or_right (eqb name.kind 13) (eqb name.kind 14) (and_parts (eqb name.kind 14) (eqb name.at 0) c).0
-
--- puts of the series are of held posts
-pub held_own : (puts : List Put) → touches_only (is_of_series Tickets) puts ≡ true → touches_only (λ name. held_kinds name.kind) puts ≡ true
-held_own puts e = touches_weaker (is_of_series Tickets) (λ name. held_kinds name.kind) puts waits e
 
 not_then : (b : Bool) → not b ≡ true → b ≡ false
 not_then true e = absurd (let bad : false ≡ true = e in cc)

@@ -25,9 +25,9 @@ ghost use Rattle.ml_post.specs.Answering.{IsDamagedOfTicket, accepts, is_accepte
 use crate::holding::list_keys;
 use crate::publishing::publish;
 use ml_acts::{Configured, MailMemo, is_cookie, with_mail};
-use ml_filing::Appended;
 use ml_base::{Bytes, Files, PartError, Set, Txn, write_number};
 use ml_config::{Config, Keys};
+use ml_filing::Appended;
 use ml_hold::{Held, look, release};
 use ml_plain::Reply;
 use ml_reply::Mail;

@@ -18,9 +18,9 @@ ghost use Rattle.ml_post.specs.Publishing.{Publishes, is_beside_held, is_publish
 
 use crate::sending::sent_text;
 use ml_acts::{MailMemo, post_path, send_to_list};
-use ml_filing::{Appended, append, count};
 use ml_base::{Address, Bytes, Files, LAST_POST_NUMBER, LONGEST_POST, PartError, Txn};
 use ml_config::Config;
+use ml_filing::{Appended, append, count};
 use ml_header::Message;
 use std::alloc::{AllocError, Global};
 

@@ -1,5 +1,5 @@
 -- A row is read as exactly the records that it spells, where each record is.
-use Rattle.std.proofs.Common.{◌≡◌, ◌↔◌, Bool, true, false, cond, ℕ, zero, suc, ◌+◌, ◌<◌, ◌≤◌, List, [], ◌∷◌, ◌++◌, length, Option, Some, None, refl, sym, ap, ap₂, ◌∙◌, arith, length-append, append_assoc, option_map, subst}
+use Rattle.std.proofs.Common.{◌≡◌, ◌↔◌, Bool, true, false, cond, ℕ, zero, suc, ◌+◌, ◌<◌, ◌≤◌, List, [], ◌∷◌, ◌++◌, length, Option, Some, None, refl, sym, ap, ap₂, ◌∙◌, arith, length-append, append_assoc, option_map, subst, take, get_or, append-nil}
 use Rattle.std.specs.List.{flat_map}
 use Rattle.std.specs.Option.{option_and_then}
 use Rattle.ml_base.specs.Bytes.{Text}
@@ -7,6 +7,8 @@ use Rattle.ml_base.specs.Netstrings.{ns, netstring_at}
 use Rattle.ml_base.specs.Splits.{ns_row, AreShort}
 use Rattle.ml_base.proofs.Netstrings.{netstring_written, netstring_read}
 use Rattle.ml_rows.specs.Rows.{onto, only_if, both_of, first_and_more, row_within, row_of, EachFrom, netstrings_at}
+use Rattle.std.proofs.lemmas.Grind.{flat_map-append}
+use Rattle.std.proofs.Math.Seq.{take-suc}
 
 module _ {A : Type 0} where
   pub one_some : (a b : A) → Some a ≡ Some b → a ≡ b
@@ -186,3 +188,10 @@ module _ {A B : Type 0} (make : A → B) where
   pub made_read : (o : Option A) (b : B) → option_map make o ≡ Some b → (a : A) × (o ≡ Some a) × (make a ≡ b)
   made_read None b e = absurd (none_some b e)
   made_read (Some a) b e = (a, refl, one_some (make a) b e)
+
+-- the texts of a row, and of one number more
+pub one_more : (f : ℕ → Text) (ns : List ℕ) (i n : ℕ) (out new : Text) → i < length ns → n ≡ get_or ns i 0 → out ≡ flat_map f (take i ns) → new ≡ out ++ f n → new ≡ flat_map f (take (i + 1) ns)
+one_more f ns i n out new low e before is =
+    let one : i + 1 ≡ suc i = omega arith in
+    is ∙ ap₂ (λ a b. a ++ b) before (ap f e) ∙ ap (λ t. flat_map f (take i ns) ++ t) (sym (append-nil (f (get_or ns i 0)))) ∙ sym (flat_map-append f (take i ns) (get_or ns i 0 ∷ []))
+    ∙ ap (flat_map f) (sym (take-suc ns i 0 low)) ∙ ap (λ (k : ℕ). flat_map f (take k ns)) (sym one)

@@ -235,7 +235,7 @@ open_unmade opens.Memory dir held txn is none = inl is
 open_unmade opens.Damaged dir held txn is none = (is, refl, none refl)
 
 -- no reason has the status 0
-some_status : (why : Why) → status_of_why why ≡ 0 → ⊥
+pub some_status : (why : Why) → status_of_why why ≡ 0 → ⊥
 some_status whys.Usage e = omega (arith, e)
 some_status (whys.Bad at) e = omega (arith, e)
 some_status (whys.Short at) e = omega (arith, e)

@@ -15,8 +15,8 @@ ghost use Rattle.ml_timed.specs.Waiting.{is_short, moment_behind, sizes_behind};
 ghost use Rattle.ml_timed.specs.Waiting as waiting;
 ghost use Rattle.std.specs.List.{list_all};
 
-use ml_filing::{Entries, Entry, index};
 use ml_base::{Files, LONGEST_POST, Name, Numbers, PartError};
+use ml_filing::{Entries, Entry, index};
 use std::alloc::{AllocError, Global};
 
 // The posts that are in no digest yet, as far as one may take them.

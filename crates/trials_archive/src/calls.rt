@@ -1,10 +1,10 @@
 // What rows call, and the texts of what is answered.
 use crate::archives::Archive;
 use crate::texts::{Text, made, push_number};
-use ml_filing::{Appended, append, count, index, post, range, subject, subject_key, thread};
 use ml_archive::audit;
 use ml_base::{Address, Bytes, Files, Name, Numbers, PartError, is_moment};
 use ml_config::{Config, read_config};
+use ml_filing::{Appended, append, count, index, post, range, subject, subject_key, thread};
 use ml_header::Message;
 use ml_pages::{escape, list_text, month_page, months, thread_page, threads};
 use std::alloc::{AllocError, Global};

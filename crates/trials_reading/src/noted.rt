@@ -3,9 +3,9 @@ ghost use Rattle.std.specs.Prelude.{◌≡◌, IfOk, OnOk, ◌++◌, ◌∷◌, 
 ghost use Rattle.std.specs.Fmt.{decimal};
 ghost use Rattle.trials_reading.specs.Notes.{made_of, note, note_meaning, note_text};
 
-use ml_filing::count;
 use ml_base::{Bytes, Files, PartError, write_number};
 use ml_config::Config;
+use ml_filing::count;
 use ml_input::{FromInput, InputError};
 use ml_reading::{Answer, Question};
 use std::alloc::{AllocError, Global};

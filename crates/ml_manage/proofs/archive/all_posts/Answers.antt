@@ -9,8 +9,9 @@ use Rattle.ml_filing.specs.Reads.{IsOfRow}
 use Rattle.ml_plain.specs.Directory.{IsList}
 use Rattle.ml_manage.specs.Reads.{IsDamagedAmong, IsDamagedPost}
 use Rattle.ml_manage.specs.Texts.{post_text}
-use Rattle.ml_manage.proofs.Posts.{among_at, one_more, one_of_row}
+use Rattle.ml_manage.proofs.Posts.{among_at, one_of_row}
 use Rattle.ml_manage.proofs.archive.all_posts.Goals as goal
+use Rattle.ml_rows.proofs.RowLaws.{one_more}
 
 pub loop-number-preserved : goal.loop-number-preserved
 loop-number-preserved g c =

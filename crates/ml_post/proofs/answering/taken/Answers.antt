@@ -1,6 +1,6 @@
 use Rattle.ml_hold.specs.Held.{without_ticket}
 use Rattle.ml_plain.proofs.PartChanges.{held_changed}
-use Rattle.ml_post.proofs.Waiting.{held_own}
+use Rattle.ml_acts.proofs.Queued.{held_own}
 use Rattle.ml_post.proofs.answering.taken.Goals as goal
 
 pub returns-clause-own : goal.returns-clause-own
