@@ -4,3 +4,6 @@ pub mod Stood
 pub mod Cutting
 pub mod Rising
 pub mod Numbered
+pub mod OfFiles
+pub mod Looked
+pub mod Walked

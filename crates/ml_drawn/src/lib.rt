@@ -5,8 +5,10 @@ mod changing;
 mod counter;
 mod search;
 mod series;
+mod things;
 
 pub use changing::{draw, take_out};
 pub use counter::{Counter, counter_of};
 pub use search::{Found, file_of, is_there, next_number, next_there};
 pub use series::Series;
+pub use things::{Thing, audit};

@@ -11,6 +11,7 @@ use ml_base::{
     Address, Bytes, LAST_MOMENT, LONGEST_MESSAGE, is_kept, number_within, push_netstring,
     split_netstring, write_number,
 };
+use ml_drawn::Thing;
 use std::alloc::{AllocError, Global};
 
 // The most bytes that a text has besides the sender and the message: the netstring of twenty digits, and twice eighteen
@@ -83,4 +84,14 @@ pub(crate) fn text_of(alloc: Global, held: &Held) -> Result<Bytes, AllocError>
     push_netstring(&mut out, held.sender.bytes())?;
     push_netstring(&mut out, held.message.as_slice())?;
     Ok(out)
+}
+
+impl Thing for Held {
+    ghost is_thing = { IsHeld };
+
+    ghost spelling = { held_text };
+
+    fn is_spelled(_alloc: Global, text: &[u8]) -> Result<bool, AllocError> {
+        Ok(parts_of(text).is_some())
+    }
 }

@@ -6,9 +6,9 @@ ghost use Rattle.ml_queue.specs.Queue.{Queue};
 ghost use Rattle.ml_queue.specs.Queue as spec;
 ghost use Rattle.ml_queue.specs.Answers.{BreaksCounted, IsCountedQueue, IsQueueName, ids_name};
 
-use crate::reading::read_out;
+use crate::Out;
 use ml_base::{Files, Numbers, PartError};
-use ml_drawn::{Series, counter_of, next_number, next_there};
+use ml_drawn::{Series, counter_of, next_number};
 use std::alloc::Global;
 
 /// All ids, in order. It looks at one id after the other from the lowest on, and reads no entry where the files can tell without that one is
@@ -37,13 +37,5 @@ pub fn audit<F: Files>(alloc: Global, files: &mut F) -> Result<(), PartError>
     ensures sound { IsTrue F.tells → (queue : Queue) → IsCountedQueue (F.map files.old) queue → IfErr result (λ e. OnDamaged e (λ _. ⊥)) }
     ensures reads { IsReading ⟦<F as Files>⟧ files.old files.new result }
 {
-    let counter = counter_of(alloc, files, Series::Ids)?;
-    let mut from = counter.low;
-    while let Some(found) = next_there(alloc, files, Series::Ids, from, counter.next)? {
-        if read_out(alloc, found.bytes.as_slice())?.is_none() {
-            return Err(PartError::Damaged(Series::Ids.name(found.number)));
-        }
-        from = found.number + 1;
-    }
-    Ok(())
+    ml_drawn::audit::<F, Out>(alloc, files, Series::Ids)
 }

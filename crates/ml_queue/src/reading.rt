@@ -9,6 +9,7 @@ use crate::Out;
 use crate::recipients::{push_recipients, recipients_of};
 use ml_address::Path;
 use ml_base::{Bytes, LARGEST_READ, push_netstring, split_netstring};
+use ml_drawn::Thing;
 use std::alloc::{AllocError, Global};
 
 // The most bytes that a netstring has besides its content: eighteen digits, a colon and a comma.
@@ -134,4 +135,14 @@ pub(crate) fn write_out(alloc: Global, out: &Out) -> Result<Bytes, AllocError>
     push_netstring(&mut text, out.body.as_slice())?;
     push_recipients(&mut text, &out.to)?;
     Ok(text)
+}
+
+impl Thing for Out {
+    ghost is_thing = { IsOut };
+
+    ghost spelling = { out_text };
+
+    fn is_spelled(alloc: Global, text: &[u8]) -> Result<bool, AllocError> {
+        Ok(read_out(alloc, text)?.is_some())
+    }
 }

@@ -1,20 +1,30 @@
-use Rattle.std.proofs.Common.{Some, sym, subst, rules}
+use Rattle.std.proofs.Common.{Option, Some, sym, subst, rules}
 use Rattle.ml_base.specs.Dir.{Dir}
 use Rattle.ml_base.specs.Drawn.{IsCounter}
 use Rattle.ml_base.specs.PartErrors.{OnDamaged}
 use Rattle.ml_base.specs.ReadFiles.{IsReading}
 use Rattle.ml_base.proofs.ReadingLemmas.{kept_read, reading_then}
-use Rattle.ml_hold.specs.Answers.{tickets_name}
-use Rattle.ml_hold.proofs.Represented.{taking, taken_some}
+use Rattle.ml_drawn.specs.declared.series.Series.TheVariants.{Tickets}
+use Rattle.ml_drawn.specs.Answers.{IsTaking}
+use Rattle.ml_drawn.proofs.Looked.{looking, released}
+use Rattle.ml_hold.specs.declared.posts.Held.{Held}
+use Rattle.ml_hold.specs.Held.{IsHeld, held_text}
+use Rattle.ml_hold.specs.Answers.{LooksBy, tickets_name}
+use Rattle.ml_hold.proofs.Spelling.{held_one}
 use Rattle.ml_hold.proofs.holding.take.Goals as goal
 
 pub returns-clause-read : goal.returns-clause-read
 returns-clause-read g c told =
-    taken_some (g.F.Files.map c.args.files.now) (g.F.Files.map c.look.new.files) c.args.ticket c.in_ok-held.field-0 c.in-Some.held c.in_ok-txn.txn
-    (g.met.F.Files.kept_map c.args.files.now c.look.new.files told c.look.ensures.reads.kept) (c.in_ok-held.ensures.read told) c.in-Some.is (c.in_ok-txn.ensures.value told)
+    let same = g.met.F.Files.kept_map c.args.files.now c.look.new.files told c.look.ensures.reads.kept in
+    let looks = subst (λ (o : Option Held). LooksBy (g.F.Files.map c.args.files.now) c.args.ticket o) c.in-Some.is (c.in_ok-held.ensures.read told) in
+    (looks.0, looks.1, subst (λ (dir : Dir). IsTaking dir Tickets c.args.ticket c.in_ok-txn.txn) same (c.in_ok-txn.ensures.value told))
 
 pub returns-clause-value : goal.returns-clause-value
-returns-clause-value g c told pending is = taking (g.F.Files.map c.args.files.now) c.args.ticket (Some (c.in-Some.held, c.in_ok-txn.txn)) pending (returns-clause-read g c told) is
+returns-clause-value g c told pending is =
+    let dir = g.F.Files.map c.args.files.now in
+    let by = returns-clause-read g c told in
+    let looks = looking IsHeld held_text Tickets dir pending is held_one c.args.ticket (Some c.in-Some.held) (by.0, by.1) in
+    (sym looks, released IsHeld held_text Tickets dir pending is c.args.ticket c.in_ok-txn.txn c.in-Some.held by.2 (sym looks))
 
 pub returns-in_err-held-clause-sound : goal.returns-in_err-held-clause-sound
 returns-in_err-held-clause-sound g c told pending is =

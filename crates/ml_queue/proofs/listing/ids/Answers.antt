@@ -1,7 +1,10 @@
 use Rattle.std.proofs.Common.{arith, sym, ap, ◌∙◌, ◌+◌, ◌≤◌, ◌<◌, ◌++◌, List, ℕ, append-nil, IsTrue}
 use Rattle.ml_base.specs.Ranges.{is_drawn}
 use Rattle.ml_drawn.proofs.Drawings.{from_on}
-use Rattle.ml_queue.proofs.Walked.{numbers, first_number, none_number, some_is, ids_begin, ids_more, ids_end}
+use Rattle.ml_drawn.proofs.Reading.{some_is}
+use Rattle.ml_drawn.proofs.Walked.{first_number, none_number}
+use Rattle.ml_drawn.specs.declared.series.Series.TheVariants.{Ids}
+use Rattle.ml_queue.proofs.Walked.{numbers, ids_begin, ids_more, ids_end}
 use Rattle.ml_queue.proofs.listing.ids.Goals as goal
 
 pub loop-ids-init : goal.loop-ids-init
@@ -32,7 +35,7 @@ loop-ids-preserved g c =
       value = λ tells queue is.
           let dir = g.F.Files.map c.args.files.now in
           let same = g.met.F.Files.kept_map c.args.files.now c.loop-ids.files tells before.are_kept.kept in
-          let first = first_number dir (g.F.Files.map c.loop-ids.files) c.loop-ids.from c.in_ok-counter.counter.next c.in_ok-id.field-0 id same (next.value tells) c.in-Some.is in
+          let first = first_number dir (g.F.Files.map c.loop-ids.files) Ids c.loop-ids.from c.in_ok-counter.counter.next c.in_ok-id.field-0 id same (next.value tells) c.in-Some.is in
           ap (λ (t : List ℕ). t ++ numbers (from_on (id + 1) queue.all)) c.in_ok-push.ensures.ok
           ∙ sym (ids_more dir c.in_ok-counter.counter.low c.in_ok-counter.counter.next c.loop-ids.from (record { number = id; bytes = first.0 }) c.loop-ids.ids queue (c.in_ok-counter.ensures.value tells) is up first.1)
           ∙ before.value tells queue is;
@@ -42,7 +45,7 @@ pub returns-clause-value : goal.returns-clause-value
 returns-clause-value g c tells queue is =
     let before = c.loop-ids.invariant in
     let same = g.met.F.Files.kept_map c.args.files.now c.loop-ids.files tells before.are_kept.kept in
-    let none = none_number (g.F.Files.map c.args.files.now) (g.F.Files.map c.loop-ids.files) c.loop-ids.from c.in_ok-counter.counter.next c.in_ok-id.field-0 same (c.in_ok-id.ensures.value tells) c.in_default.is in
+    let none = none_number (g.F.Files.map c.args.files.now) (g.F.Files.map c.loop-ids.files) Ids c.loop-ids.from c.in_ok-counter.counter.next c.in_ok-id.field-0 same (c.in_ok-id.ensures.value tells) c.in_default.is in
     sym (append-nil c.loop-ids.ids)
     ∙ ap (λ (t : List ℕ). c.loop-ids.ids ++ t) (sym (ids_end (g.F.Files.map c.args.files.now) c.in_ok-counter.counter.low c.in_ok-counter.counter.next c.loop-ids.from queue (c.in_ok-counter.ensures.value tells) is none))
     ∙ before.value tells queue is
