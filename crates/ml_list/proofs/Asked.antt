@@ -11,8 +11,9 @@ use Rattle.ml_plain.specs.declared.Act.TheVariants.{Deliver, Timed}
 use Rattle.ml_acts.specs.Asked.{IsDamagedOf, Undigested}
 use Rattle.ml_acts.specs.Damaged as acts
 use Rattle.ml_acts.proofs.Damages.{named_so}
-use Rattle.ml_deliver.specs.Asked.{IsDelivered}
-use Rattle.ml_deliver.specs.Reads.{is_of_acts, is_of_timed}
+use Rattle.ml_list.specs.Delivering.{IsDelivered}
+use Rattle.ml_timed.specs.Reads.{is_of_timed}
+use Rattle.ml_list.specs.Reads.{is_of_acts}
 use Rattle.ml_list.specs.Asked.{IsDamagedForAct, IsReadByAct}
 use Rattle.ml_list.specs.Damage.{IsDamagedInList, is_read_by, part}
 

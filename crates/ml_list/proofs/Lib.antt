@@ -9,3 +9,7 @@ pub mod States
 pub mod Named
 pub mod Asked
 pub mod Told
+mod Delivered
+mod Readable
+mod Requested
+mod Acting

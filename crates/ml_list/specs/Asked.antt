@@ -6,7 +6,7 @@ use Rattle.ml_plain.specs.declared.Act.{Act}
 use Rattle.ml_plain.specs.declared.Act.TheVariants.{Deliver, Timed}
 use Rattle.ml_plain.specs.declared.Item.{Item}
 use Rattle.ml_acts.specs.Asked.{IsDamagedOf, Undigested}
-use Rattle.ml_deliver.specs.Asked.{IsDelivered}
+use Rattle.ml_list.specs.Delivering.{IsDelivered}
 use Rattle.ml_list.specs.Damage.{IsDamagedInList, is_looked_up, is_read_by}
 
 -- The files that an act may read: those of a delivery go by the configuration that the files hold, and by the numbers of its request. One of the

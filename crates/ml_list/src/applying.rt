@@ -19,13 +19,15 @@ ghost use Rattle.ml_list.specs.Asked.{IsDamagedFor, IsDamagedForAct};
 ghost use Rattle.ml_list.specs.Damage.{IsDamagedInList, is_looked_up, is_read_by, is_read_by_item};
 
 use crate::changing::{add_member, change_key, remove_member};
+use crate::delivering::deliver;
 use crate::floors::floor;
 use crate::memo::Memo;
 use crate::once::Once;
 use crate::rising::raise;
+use crate::sending::sent_entry;
 use crate::slots::{Found, Known, keep, kept_reply, replies_name};
+use crate::timing::run_timed;
 use ml_base::{Bytes, Files, Name, PartError, Put, Txn, copied};
-use ml_deliver::{deliver, run_timed, sent_entry};
 use ml_plain::{Act, Item, Reply};
 use std::alloc::{AllocError, Global};
 

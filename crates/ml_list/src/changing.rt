@@ -1,16 +1,14 @@
 // What acts change of the list: its sets and its keys.
 ghost use Rattle.std.specs.Prelude.{◌≡◌, ◌<◌, ◌≤◌, true, IsTrue, IfOk, IfErr, IfSome, IsErrOf};
-ghost use Rattle.ml_base.specs.Dir.{are_files, touches_only};
-ghost use Rattle.ml_base.specs.ReadFiles.{IsReading, NamesDamaged};
 ghost use Rattle.ml_subs.specs.Answers.{puts_of};
 ghost use Rattle.ml_base.specs.Ranges.{IsMoment};
 ghost use Rattle.ml_plain.specs.declared.Act.TheVariants as acts;
 ghost use Rattle.ml_plain.specs.Answers.{rekeyed, toosoon};
 ghost use Rattle.ml_plain.specs.Plain.{Plain};
 ghost use Rattle.ml_plain.specs.Steps as spec;
-ghost use Rattle.ml_plain.specs.Directory.{IsList, is_of_list};
-ghost use Rattle.ml_plain.specs.KeptFiles.{is_kept};
+ghost use Rattle.ml_plain.specs.Directory.{IsList};
 ghost use Rattle.ml_acts.specs.Doing.{DoesList};
+ghost use Rattle.ml_list.specs.Acting.{AnswersAct};
 ghost use Rattle.ml_list.specs.Applying.{addition_reply};
 ghost use Rattle.ml_list.specs.Damage.{IsDamagedInList, is_read_by};
 
@@ -35,11 +33,7 @@ pub(crate) fn add_member<F: Files>(
 ) -> Result<(Txn, Reply), PartError>
     requires { IsMoment now }
     ensures value { IsTrue F.tells → IfOk result (λ done. (p : Plain) → IsList (F.map files.old) p → DoesList (F.map files.old) done (spec.add now set who.now p)) }
-    ensures own { IfOk result (λ done. touches_only is_of_list done.0 ≡ true) }
-    ensures files { IfOk result (λ done. IsTrue (are_files done.0)) }
-    ensures reply { IfOk result (λ done. is_kept done.1 ≡ true) }
-    ensures names { NamesDamaged ⟦<F as Files>⟧ (λ name. is_read_by (acts.Add set who.now) name ≡ true) (IsDamagedInList (F.map files.old)) result }
-    ensures reads { IsReading ⟦<F as Files>⟧ files.old files.new result }
+    ensures act { AnswersAct ⟦<F as Files>⟧ (λ name. is_read_by (acts.Add set who.now) name ≡ true) (IsDamagedInList (F.map files.old)) files.old files.new result }
 {
     let answer = add_with_memo(alloc, files, memo, set, who, now)?;
     Ok(addition(alloc, answer))
@@ -66,11 +60,7 @@ pub(crate) fn remove_member<F: Files>(
     who: &Address,
 ) -> Result<(Txn, Reply), PartError>
     ensures value { IsTrue F.tells → IfOk result (λ done. (p : Plain) → IsList (F.map files.old) p → DoesList (F.map files.old) done (spec.remove set who.now p)) }
-    ensures own { IfOk result (λ done. touches_only is_of_list done.0 ≡ true) }
-    ensures files { IfOk result (λ done. IsTrue (are_files done.0)) }
-    ensures reply { IfOk result (λ done. is_kept done.1 ≡ true) }
-    ensures names { NamesDamaged ⟦<F as Files>⟧ (λ name. is_read_by (acts.Remove set who.now) name ≡ true) (IsDamagedInList (F.map files.old)) result }
-    ensures reads { IsReading ⟦<F as Files>⟧ files.old files.new result }
+    ensures act { AnswersAct ⟦<F as Files>⟧ (λ name. is_read_by (acts.Remove set who.now) name ≡ true) (IsDamagedInList (F.map files.old)) files.old files.new result }
 {
     match remove_member_with_memo(alloc, files, memo, set, who)? {
         Some(txn) => Ok((txn, Reply::plain(Reply::UNSUBSCRIBED))),
@@ -87,11 +77,7 @@ pub(crate) fn change_key<F: Files>(
 ) -> Result<(Txn, Reply), PartError>
     requires { IsMoment now }
     ensures value { IsTrue F.tells → IfOk result (λ done. (p : Plain) → IsList (F.map files.old) p → DoesList (F.map files.old) done (spec.rekey now new.now p)) }
-    ensures own { IfOk result (λ done. touches_only is_of_list done.0 ≡ true) }
-    ensures files { IfOk result (λ done. IsTrue (are_files done.0)) }
-    ensures reply { IfOk result (λ done. is_kept done.1 ≡ true) }
-    ensures names { NamesDamaged ⟦<F as Files>⟧ (λ name. is_read_by (acts.Rekey new.now) name ≡ true) (IsDamagedInList (F.map files.old)) result }
-    ensures reads { IsReading ⟦<F as Files>⟧ files.old files.new result }
+    ensures act { AnswersAct ⟦<F as Files>⟧ (λ name. is_read_by (acts.Rekey new.now) name ≡ true) (IsDamagedInList (F.map files.old)) files.old files.new result }
 {
     let keys = key(alloc, files)?;
     if is_recent(now, keys.former) {

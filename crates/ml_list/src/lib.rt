@@ -3,13 +3,17 @@
 
 mod applying;
 mod changing;
+mod delivering;
 mod floors;
 mod laws;
 mod loading;
 mod memo;
+mod moderating;
 mod once;
 mod rising;
+mod sending;
 mod slots;
+mod timing;
 
 pub use applying::{apply, apply_with_memo};
 pub use floors::floor;

@@ -8,3 +8,10 @@ mod Runs
 mod Within
 mod Counted
 pub mod Short
+mod Ahead
+mod Amid
+mod Changed
+mod Entries
+mod Named
+mod Whole
+mod Written

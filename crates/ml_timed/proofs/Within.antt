@@ -13,14 +13,13 @@ use Rattle.ml_bounce.specs.Answers.{ledger_kind}
 use Rattle.ml_config.specs.KeyFile.{key_name}
 use Rattle.ml_digest.specs.Due.{IsMark}
 use Rattle.ml_digest.specs.declared.posts.Mark.{Mark}
-use Rattle.ml_following.specs.Reads.{is_followed_by, is_ledger, is_of_following}
 use Rattle.ml_hold.specs.Answers.{tickets_name}
 use Rattle.ml_queue.specs.Answers.{ids_name}
 use Rattle.ml_acts.specs.Asked.{IsDamagedOf, Undigested}
 use Rattle.ml_acts.specs.Doing.{is_bucket, is_held_post}
 use Rattle.ml_acts.proofs.Asked.{buckets_other, ids_other, kind_other, same_other}
 use Rattle.ml_timed.specs.Digesting.{IsDamagedBehind, IsDamagedGroup, IsDamagedWithin}
-use Rattle.ml_timed.specs.Reads.{is_of_giving_back, is_of_issue, is_waiting}
+use Rattle.ml_timed.specs.Reads.{is_followed_by, is_ledger, is_of_following, is_of_giving_back, is_of_issue, is_waiting}
 
 pub hundred : (g : ℕ) → (100 * g) / 100 ≡ g
 hundred g = omega arith

@@ -7,8 +7,8 @@ use Rattle.ml_list.specs.Damage.{is_read_by}
 use Rattle.ml_plain.specs.declared.Act.TheVariants.{Add}
 use Rattle.ml_list.proofs.changing.add_member.Goals as goal
 
-pub returns-in_err-answer-clause-names : goal.returns-in_err-answer-clause-names
-returns-in_err-answer-clause-names g c =
+pub returns-in_err-answer-clause-act : goal.returns-in_err-answer-clause-act
+returns-in_err-answer-clause-act g c =
     let dir = g.F.Files.map c.args.files.now in
     let k = key c.args.who.now in
     let names = part_named g.F.Files (λ name. is_read_by (Add c.args.set c.args.who.now) name ≡ true) _ dir
@@ -20,5 +20,7 @@ returns-clause-value g c told p is =
     let dir = g.F.Files.map c.args.files.now in
     added_list dir p c.args.set c.args.who.now c.args.now c.in_ok-answer.answer c.addition.result is (c.in_ok-answer.ensures.value told (p.sets c.args.set) (is.sets c.args.set)) c.in_ok-answer.ensures.others c.addition.ensures.puts c.addition.ensures.reply
 
-pub returns-clause-own : goal.returns-clause-own
-returns-clause-own g c = touched_puts c.args.set (key c.args.who.now) _ c.addition.result.0 c.in_ok-answer.ensures.others c.addition.ensures.puts
+pub returns-clause-act : goal.returns-clause-act
+returns-clause-act g c =
+    let own = touched_puts c.args.set (key c.args.who.now) _ c.addition.result.0 c.in_ok-answer.ensures.others c.addition.ensures.puts in
+    search rules

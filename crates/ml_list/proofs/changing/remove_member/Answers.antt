@@ -11,8 +11,8 @@ use Rattle.ml_list.proofs.Damages.{part_named}
 use Rattle.ml_list.proofs.Lists.{removed_list}
 use Rattle.ml_list.proofs.changing.remove_member.Goals as goal
 
-pub returns-in_err-txn-clause-names : goal.returns-in_err-txn-clause-names
-returns-in_err-txn-clause-names g c =
+pub returns-in_err-txn-clause-act : goal.returns-in_err-txn-clause-act
+returns-in_err-txn-clause-act g c =
     let names = part_named g.F.Files (λ name. is_read_by (Remove c.args.set c.args.who.now) name ≡ true) _ (g.F.Files.map c.args.files.now) c.in_err-txn.ensures.names in
     search rules
 
@@ -23,6 +23,7 @@ returns-in-Some-clause-value g c told p is =
     let who = c.args.who.now in
     removed_list dir p set who c.in-Some.txn (c.in-Some.txn, c.plain.result) (subst (λ (o : Option (List Put)). Leaves dir set who p o) c.in-Some.is (c.in_ok-txn.ensures.value told p is)) refl c.plain.ensures
 
-pub returns-in-Some-clause-own : goal.returns-in-Some-clause-own
-returns-in-Some-clause-own g c =
-    touches_weaker is_beside_queue is_of_list c.in-Some.txn beside_list (subst (λ (o : Option (List Put)). touches_only is_beside_queue (puts_if o) ≡ true) c.in-Some.is c.in_ok-txn.ensures.own)
+pub returns-in-Some-clause-act : goal.returns-in-Some-clause-act
+returns-in-Some-clause-act g c =
+    let own = touches_weaker is_beside_queue is_of_list c.in-Some.txn beside_list (subst (λ (o : Option (List Put)). touches_only is_beside_queue (puts_if o) ≡ true) c.in-Some.is c.in_ok-txn.ensures.own) in
+    search rules

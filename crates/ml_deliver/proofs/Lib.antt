@@ -1,3 +1,0 @@
-pub mod Delivered
-pub mod Readable
-mod Asked

@@ -1,0 +1,48 @@
+use Rattle.std.proofs.Common.{◌≡◌, inl, inr, true, rules, ◌∙◌, sym, subst}
+use Rattle.std.proofs.lemmas.Result.{IfOk-weaker}
+use Rattle.ml_address.specs.Reading.{request_of}
+use Rattle.ml_base.specs.Dir.{Dir}
+use Rattle.ml_base.proofs.ReadingLemmas.{kept_read}
+use Rattle.ml_plain.specs.Directory.{IsList}
+use Rattle.ml_plain.specs.Managing as spec
+use Rattle.ml_acts.specs.Damaged.{IsDamaged}
+use Rattle.ml_acts.specs.Doing.{DoesList}
+use Rattle.ml_acts.proofs.Damages.{named_so}
+use Rattle.ml_list.specs.Delivering.{IsDamagedServed, IsRequested, is_of_worn}
+use Rattle.ml_list.specs.Reads.{is_of_acts}
+use Rattle.ml_list.proofs.Acting.{act_then}
+use Rattle.ml_list.proofs.Delivered.{does_so, served}
+use Rattle.ml_list.proofs.Readable.{of_worn}
+use Rattle.ml_list.proofs.delivering.unless_worn.Goals as goal
+
+pub returns-clause-value : goal.returns-clause-value
+returns-clause-value g c told =
+    let same_map = g.met.F.Files.kept_map c.args.files.now c.is_worn.new.files told c.is_worn.ensures.reads.kept in
+    IfOk-weaker c.by_recipient.result _ _
+    (λ done does p is same.
+    does_so (g.F.Files.map c.args.files.now) done _ _
+    (served c.args.now c.args.sender.now c.args.recipient.now c.args.message.now p c.args.config.now same (sym (c.in_ok-is_worn.ensures.value told p is) ∙ c.if-branch.false))
+    (subst (λ (d : Dir). DoesList d done (spec.by_recipient c.args.now c.args.sender.now c.args.message.now p (request_of c.args.config.now.local c.args.config.now.host c.args.recipient.now))) same_map (does p (subst (λ (d : Dir). IsList d p) (sym same_map) is) same)))
+    (c.by_recipient.ensures.value told)
+
+pub returns-in_err-is_worn-clause-act : goal.returns-in_err-is_worn-clause-act
+returns-in_err-is_worn-clause-act g c =
+    let config = c.args.config.now in
+    let request = request_of config.local config.host c.args.recipient.now in
+    let names = named_so g.F.Files (λ name. is_of_acts name ≡ true) _ (λ name. is_of_worn name ≡ true) (IsDamaged (g.F.Files.map c.args.files.now)) (IsDamagedServed (g.F.Files.map c.args.files.now) config c.args.sender.now c.args.message.now request) of_worn
+    (λ name first bad. record { damaged = bad; served = inl first }) c.in_err-is_worn.ensures.names in
+    search rules
+
+pub returns-clause-act : goal.returns-clause-act
+returns-clause-act g c =
+    let config = c.args.config.now in
+    let sender = c.args.sender.now in
+    let m = c.args.message.now in
+    let request = request_of config.local config.host c.args.recipient.now in
+    let after = g.F.Files.map c.is_worn.new.files in
+    act_then g.F.Files c.by_recipient.result (λ name. is_of_acts name ≡ true) (λ name. IsDamaged after name × IsRequested after config sender m request name) (IsDamagedServed (g.F.Files.map c.args.files.now) config sender m request)
+    g.met.F.Files.kept_then c.args.files.now c.is_worn.new.files c.by_recipient.new.files (kept_read g.F.Files c.args.files.now c.is_worn.new.files c.is_worn.result c.is_worn.ensures.reads)
+    (λ told name bad.
+    let found = subst (λ (d : Dir). IsDamaged d name × IsRequested d config sender m request name) (g.met.F.Files.kept_map c.args.files.now c.is_worn.new.files told c.is_worn.ensures.reads.kept) bad in
+    record { damaged = found.0; served = inr found.1 })
+    c.by_recipient.ensures.act

@@ -1,0 +1,170 @@
+// A delivery: the first rule that applies decides.
+ghost use Rattle.std.specs.Prelude.{◌≡◌, true, IsTrue, IfOk, IfErr, IfSome, Some};
+ghost use Rattle.ml_address.specs.Reading.{request_of};
+ghost use Rattle.ml_address.specs.Views.{request_view};
+ghost use Rattle.ml_base.specs.PartErrors.{OnDamaged};
+ghost use Rattle.ml_base.specs.Ranges.{IsMoment};
+ghost use Rattle.ml_base.specs.ReadFiles.{IsReading};
+ghost use Rattle.ml_config.specs.ConfigFile.{IsConfigFile, config_name};
+ghost use Rattle.ml_config.specs.Configuration.{IsConfig};
+ghost use Rattle.ml_plain.specs.Directory.{IsList};
+ghost use Rattle.ml_plain.specs.Managing as spec;
+ghost use Rattle.ml_plain.specs.Plain.{Plain};
+ghost use Rattle.ml_acts.specs.Damaged.{IsDamaged};
+ghost use Rattle.ml_acts.specs.Doing.{DoesList, HasRoom};
+ghost use Rattle.ml_list.specs.Acting.{AnswersAct};
+ghost use Rattle.ml_list.specs.Delivering.{IsDamagedServed, IsDelivered, IsRequested};
+ghost use Rattle.ml_list.specs.Reads.{is_of_acts};
+
+use crate::moderating::moderated;
+use ml_acts::{MailMemo, is_worn};
+use ml_address::{Request, read_request};
+use ml_base::{Files, PartError, Txn};
+use ml_config::Config;
+use ml_manage::manage;
+use ml_plain::Reply;
+use ml_post::{Decision, post_with_memo};
+use std::alloc::Global;
+
+// What a message does that comes for an address, from an envelope sender: the puts, and the reply.
+//
+// Where ids or tickets are worn out it is `full`. Else the recipient decides: one that isn't the list's is `notours`, the list's own address
+// takes posts, and its other addresses take requests, bounces and moderators' answers. `Damaged` names a file that is outside its grammar, or
+// names what isn't there, and that the delivery may read: a counter that is looked at first, or what the request reads, by its own numbers,
+// which the recipient is under the configuration that the files hold. A file of the archive is damaged for these numbers, or for the post's own
+// place and subject. `Fault` comes only where a read failed. The configuration is there: who asks has looked at it, and where it isn't, there
+// is no memory.
+//
+// `now` is in seconds since 1970. The memo is what an earlier delivery left, or nothing.
+pub(crate) fn deliver<F: Files>(
+    alloc: Global,
+    files: &mut F,
+    memo: &mut MailMemo,
+    now: u64,
+    sender: &[u8],
+    recipient: &[u8],
+    message: &[u8],
+) -> Result<(Txn, Reply), PartError>
+    requires moment { IsMoment now }
+    ensures value { IsTrue F.tells → IfOk result (λ done. (p : Plain) → IsList (F.map files.old) p → DoesList (F.map files.old) done (spec.deliver now sender.now recipient.now message.now p)) }
+    ensures act { AnswersAct ⟦<F as Files>⟧ (λ name. is_of_acts name ≡ true) (λ name. IsDamaged (F.map files.old) name × IsDelivered (F.map files.old) sender.now recipient.now message.now name) files.old files.new result }
+{
+    let config = configuration(alloc, files)?;
+    unless_worn(alloc, files, memo, &config, now, sender, recipient, message)
+}
+
+// Looks whether ids and tickets are left.
+fn unless_worn<F: Files>(
+    alloc: Global,
+    files: &mut F,
+    memo: &mut MailMemo,
+    config: &Config,
+    now: u64,
+    sender: &[u8],
+    recipient: &[u8],
+    message: &[u8],
+) -> Result<(Txn, Reply), PartError>
+    requires moment { IsMoment now }
+    requires config { IsConfig config.now }
+    requires loaded { IsTrue F.tells → IsConfigFile (F.map files.now config_name) config.now }
+    ensures value { IsTrue F.tells → IfOk result (λ done. (p : Plain) → IsList (F.map files.old) p → p.config ≡ config.now → DoesList (F.map files.old) done (spec.deliver now sender.now recipient.now message.now p)) }
+    ensures act { AnswersAct ⟦<F as Files>⟧ (λ name. is_of_acts name ≡ true) (IsDamagedServed (F.map files.old) config.now sender.now message.now (request_of config.now.local config.now.host recipient.now)) files.old files.new result }
+{
+    if is_worn(alloc, files)? {
+        return Ok((Txn::new(alloc), Reply::plain(Reply::FULL)));
+    }
+    by_recipient(alloc, files, memo, config, now, sender, recipient, message)
+}
+
+// The configuration. Who asks has looked at its file, and no item changes it. Where `found` finds none, there is no memory.
+pub(crate) fn configuration<F: Files>(alloc: Global, files: &mut F) -> Result<Config, PartError>
+    ensures value { IsTrue F.tells → IfOk result (λ c. IsConfigFile (F.map files.old config_name) c) }
+    ensures range { IfOk result IsConfig }
+    ensures none { IfErr result (λ e. OnDamaged e (λ _. ⊥)) }
+    ensures reads { IsReading ⟦<F as Files>⟧ files.old files.new result }
+{
+    match found(alloc, files)? {
+        Some(config) => Ok(config),
+        None => Err(PartError::Memory),
+    }
+}
+
+// The configuration, or None where its file is absent or holds none. Files that tell what they hold give the one that they hold.
+fn found<F: Files>(alloc: Global, files: &mut F) -> Result<Option<Config>, PartError>
+    ensures read { IsTrue F.tells → (c : Config) → IsConfigFile (F.map files.old config_name) c → IfOk result (λ found. found ≡ Some c) }
+    ensures value { IsTrue F.tells → IfOk result (λ found. IfSome found (IsConfigFile (F.map files.old config_name))) }
+    ensures range { IfOk result (λ found. IfSome found IsConfig) }
+    ensures none { IfErr result (λ e. OnDamaged e (λ _. ⊥)) }
+    ensures reads { IsReading ⟦<F as Files>⟧ files.old files.new result }
+{
+    match ml_config::load(alloc, files) {
+        Ok(found) => Ok(found),
+        Err(PartError::Damaged(_)) => Ok(None),
+        Err(error) => Err(error),
+    }
+}
+
+// What a recipient asks, who may not be the list's.
+fn by_recipient<F: Files>(
+    alloc: Global,
+    files: &mut F,
+    memo: &mut MailMemo,
+    config: &Config,
+    now: u64,
+    sender: &[u8],
+    recipient: &[u8],
+    message: &[u8],
+) -> Result<(Txn, Reply), PartError>
+    requires moment { IsMoment now }
+    requires config { IsConfig config.now }
+    requires loaded { IsTrue F.tells → IsConfigFile (F.map files.now config_name) config.now }
+    requires room { IsTrue F.tells → HasRoom (F.map files.now) }
+    ensures value { IsTrue F.tells → IfOk result (λ done. (p : Plain) → IsList (F.map files.old) p → p.config ≡ config.now → DoesList (F.map files.old) done (spec.by_recipient now sender.now message.now p (request_of config.now.local config.now.host recipient.now))) }
+    ensures act { AnswersAct ⟦<F as Files>⟧ (λ name. is_of_acts name ≡ true) (λ name. IsDamaged (F.map files.old) name × IsRequested (F.map files.old) config.now sender.now message.now (request_of config.now.local config.now.host recipient.now) name) files.old files.new result }
+{
+    let local = config.local.as_slice();
+    let Some(request) = read_request(local, config.host.as_slice(), recipient) else {
+        return Ok((Txn::new(alloc), Reply::plain(Reply::NOTOURS)));
+    };
+    by_request(
+        alloc, files, memo, config, now, sender, recipient, &request, message,
+    )
+}
+
+// What a request asks that was read of a recipient: a post, a moderator's answer, or anything else.
+fn by_request<F: Files>(
+    alloc: Global,
+    files: &mut F,
+    memo: &mut MailMemo,
+    config: &Config,
+    now: u64,
+    sender: &[u8],
+    recipient: &[u8],
+    request: &Request<'_>,
+    message: &[u8],
+) -> Result<(Txn, Reply), PartError>
+    requires moment { IsMoment now }
+    requires config { IsConfig config.now }
+    requires loaded { IsTrue F.tells → IsConfigFile (F.map files.now config_name) config.now }
+    requires room { IsTrue F.tells → HasRoom (F.map files.now) }
+    requires read { request_of config.now.local config.now.host recipient.now ≡ Some (request_view request.now) }
+    ensures value { IsTrue F.tells → IfOk result (λ done. (p : Plain) → IsList (F.map files.old) p → p.config ≡ config.now → DoesList (F.map files.old) done (spec.by_request now sender.now message.now p (request_view request.now))) }
+    ensures act { AnswersAct ⟦<F as Files>⟧ (λ name. is_of_acts name ≡ true) (λ name. IsDamaged (F.map files.old) name × IsRequested (F.map files.old) config.now sender.now message.now (Some (request_view request.now)) name) files.old files.new result }
+{
+    match request {
+        Request::Post => post_with_memo(alloc, files, memo, config, now, sender, message),
+        Request::Accept { ticket, cookie } => {
+            let decision = Decision::Accept;
+            moderated(
+                alloc, files, config, now, sender, message, *ticket, cookie, decision,
+            )
+        }
+        Request::Reject { ticket, cookie } => {
+            let decision = Decision::Reject;
+            moderated(
+                alloc, files, config, now, sender, message, *ticket, cookie, decision,
+            )
+        }
+        _ => manage(alloc, files, config, now, sender, request, message),
+    }
+}

@@ -1,0 +1,30 @@
+// Entries of the queue that were sent.
+ghost use Rattle.std.specs.Prelude.{◌≡◌, true, IsTrue, IfOk};
+ghost use Rattle.ml_base.specs.Dir.{same_name};
+ghost use Rattle.ml_plain.specs.Directory.{IsList};
+ghost use Rattle.ml_plain.specs.Plain.{Plain};
+ghost use Rattle.ml_plain.specs.Steps as spec;
+ghost use Rattle.ml_queue.specs.Answers.{ids_name};
+ghost use Rattle.ml_acts.specs.Damaged.{IsDamaged};
+ghost use Rattle.ml_acts.specs.Doing.{DoesList};
+ghost use Rattle.ml_list.specs.Acting.{AnswersAct};
+
+use ml_base::{Files, PartError, Txn};
+use ml_plain::Reply;
+use ml_queue::sent;
+use std::alloc::Global;
+
+// What a report does that an entry of the queue was sent: it leaves the queue. `noentry` is answered where the id isn't there.
+pub(crate) fn sent_entry<F: Files>(
+    alloc: Global,
+    files: &mut F,
+    id: u64,
+) -> Result<(Txn, Reply), PartError>
+    ensures value { IsTrue F.tells → IfOk result (λ done. (p : Plain) → IsList (F.map files.old) p → DoesList (F.map files.old) done (spec.sent id p)) }
+    ensures act { AnswersAct ⟦<F as Files>⟧ (λ name. same_name name ids_name ≡ true) (IsDamaged (F.map files.old)) files.old files.new result }
+{
+    match sent(alloc, files, id)? {
+        Some(txn) => Ok((txn, Reply::plain(Reply::DEQUEUED))),
+        None => Ok((Txn::new(alloc), Reply::plain(Reply::NOENTRY))),
+    }
+}

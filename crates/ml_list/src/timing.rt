@@ -1,0 +1,62 @@
+// Timed runs.
+ghost use Rattle.std.specs.Prelude.{◌≡◌, true, IsTrue, IfOk};
+ghost use Rattle.ml_base.specs.Ranges.{IsMoment};
+ghost use Rattle.ml_config.specs.ConfigFile.{IsConfigFile, config_name};
+ghost use Rattle.ml_config.specs.Configuration.{IsConfig};
+ghost use Rattle.ml_plain.specs.Directory.{IsList};
+ghost use Rattle.ml_plain.specs.Plain.{Plain};
+ghost use Rattle.ml_plain.specs.Timing as spec;
+ghost use Rattle.ml_acts.specs.Asked.{IsDamagedOf, Undigested};
+ghost use Rattle.ml_acts.specs.Doing.{DoesList};
+ghost use Rattle.ml_timed.specs.Reads.{is_of_timed};
+ghost use Rattle.ml_list.specs.Acting.{AnswersAct};
+
+use crate::delivering::configuration;
+use ml_acts::is_worn;
+use ml_base::{Files, PartError, Txn};
+use ml_config::Config;
+use ml_plain::Reply;
+use ml_timed::timed;
+use std::alloc::Global;
+
+// What a timed run does: the puts, and the reply. Where ids or tickets are worn out it is `full`.
+//
+// `Damaged` names a file that was read and is outside its grammar, or names what isn't there, in the files as the run found them: what it
+// writes itself is in its grammar. One of the archive is the number of posts, or is damaged for a post that is in no digest yet. `Fault`
+// comes only where a read failed. The configuration is there: who asks has looked at it, and where it isn't, there is no memory. `now` is in
+// seconds since 1970. The files come back, whatever it answers.
+pub(crate) fn run_timed<F: Files>(
+    alloc: Global,
+    files: F,
+    now: u64,
+) -> (F, Result<(Txn, Reply), PartError>)
+    requires { IsMoment now }
+    ensures value { IsTrue F.tells → IfOk result.1 (λ done. (p : Plain) → IsList (F.map files) p → DoesList (F.map files) done (spec.timed now p)) }
+    ensures act { AnswersAct ⟦<F as Files>⟧ (λ name. is_of_timed name ≡ true) (IsDamagedOf (F.map files) Undigested) files result.0 result.1 }
+{
+    let mut files = files;
+    match configuration(alloc, &mut files) {
+        Ok(config) => run_unless_worn(alloc, files, &config, now),
+        Err(error) => (files, Err(error)),
+    }
+}
+
+// Looks whether ids and tickets are left.
+fn run_unless_worn<F: Files>(
+    alloc: Global,
+    files: F,
+    config: &Config,
+    now: u64,
+) -> (F, Result<(Txn, Reply), PartError>)
+    requires moment { IsMoment now }
+    requires config { IsConfig config.now }
+    ensures value { IsTrue F.tells → IfOk result.1 (λ done. (p : Plain) → IsList (F.map files) p → p.config ≡ config.now → DoesList (F.map files) done (spec.timed now p)) }
+    ensures act { AnswersAct ⟦<F as Files>⟧ (λ name. is_of_timed name ≡ true) (IsDamagedOf (F.map files) Undigested) files result.0 result.1 }
+{
+    let mut files = files;
+    match is_worn(alloc, &mut files) {
+        Ok(true) => (files, Ok((Txn::new(alloc), Reply::plain(Reply::FULL)))),
+        Ok(false) => timed(alloc, files, config, now),
+        Err(error) => (files, Err(error)),
+    }
+}

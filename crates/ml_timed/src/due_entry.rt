@@ -1,0 +1,137 @@
+// What follows for one due entry.
+ghost use Rattle.std.specs.Prelude.{◌≡◌, true, Some, IsTrue, IfOk};
+ghost use Rattle.ml_base.specs.Address.{key};
+ghost use Rattle.ml_base.specs.Dir.{are_files, touches_only, with_puts};
+ghost use Rattle.ml_base.specs.Ranges.{IsMoment};
+ghost use Rattle.ml_base.specs.ReadFiles.{IsReading, NamesDamaged};
+ghost use Rattle.ml_bounce.specs.Answers.{action_key, has_ledger};
+ghost use Rattle.ml_bounce.specs.Changes.{action_of};
+ghost use Rattle.ml_bounce.specs.Ledger.{find_entry};
+ghost use Rattle.ml_bounce.specs.declared.entries.LedgerEntry.{LedgerEntry};
+ghost use Rattle.ml_plain.specs.Directory.{IsList};
+ghost use Rattle.ml_plain.specs.Plain.{Plain, ledger_of};
+ghost use Rattle.ml_plain.specs.Timing as spec;
+ghost use Rattle.ml_acts.specs.Damaged.{IsDamaged};
+ghost use Rattle.ml_acts.specs.Doing.{DrawsId, HasIds, is_entry_of, is_of_queue, without_entry};
+ghost use Rattle.ml_acts.specs.Growing.{is_of_time};
+ghost use Rattle.ml_timed.specs.Reads.{is_followed_by};
+ghost use Rattle.ml_timed.specs.Telling.{is_mailed};
+
+use crate::telling::{cookie_kind, mail_for, tell};
+use ml_base::{Address, Files, PartError, Set, Txn};
+use ml_bounce::{Action, act, forget};
+use ml_config::{Config, Keys};
+use ml_subs::find;
+use std::alloc::Global;
+
+// The puts of what follows for the entry of an action.
+pub(crate) fn follow_up<F: Files>(
+    alloc: Global,
+    files: &mut F,
+    config: &Config,
+    keys: &Keys,
+    set: Set,
+    action: &Action,
+    now: u64,
+) -> Result<Txn, PartError>
+    requires ledger { IsTrue (has_ledger set) }
+    requires moment { IsMoment now }
+    requires room { IsTrue F.tells → HasIds (F.map files.now) }
+    ensures value { IsTrue F.tells → IfOk result (λ txn. (p : Plain) (e : LedgerEntry) → IsList (F.map files.old) p → p.config ≡ config.now → p.keys ≡ keys.now → find_entry e.key (ledger_of p set) ≡ Some e → action_of e ≡ action.now → IsList (with_puts (F.map files.old) txn) (spec.follow_up now p (set, e))) }
+    ensures own { IfOk result (λ txn. touches_only is_of_time txn ≡ true) }
+    ensures files { IfOk result (λ txn. IsTrue (are_files txn)) }
+    ensures drawn { IsTrue F.tells → IfOk result (λ txn. DrawsId (F.map files.old) txn) }
+    ensures names { NamesDamaged ⟦<F as Files>⟧ (λ name. is_followed_by set name ≡ true) (IsDamaged (F.map files.old)) result }
+    ensures reads { IsReading ⟦<F as Files>⟧ files.old files.new result }
+{
+    match action {
+        Action::Warn { to, .. } => inform(alloc, files, config, keys, set, action, to, now),
+        Action::Probe { to } => inform(alloc, files, config, keys, set, action, to, now),
+        Action::Lapse { .. } => change(alloc, files, set, action, now, Txn::new(alloc)),
+    }
+}
+
+// A member gets the mail of an action that is no lapse; where the address is no member's, its entry goes.
+fn inform<F: Files>(
+    alloc: Global,
+    files: &mut F,
+    config: &Config,
+    keys: &Keys,
+    set: Set,
+    action: &Action,
+    to: &Address,
+    now: u64,
+) -> Result<Txn, PartError>
+    requires ledger { IsTrue (has_ledger set) }
+    requires moment { IsMoment now }
+    requires mailed { is_mailed action.now ≡ true }
+    requires to { action_key action.now ≡ to.now }
+    requires room { IsTrue F.tells → HasIds (F.map files.now) }
+    ensures value { IsTrue F.tells → IfOk result (λ txn. (p : Plain) (e : LedgerEntry) → IsList (F.map files.old) p → p.config ≡ config.now → p.keys ≡ keys.now → find_entry e.key (ledger_of p set) ≡ Some e → action_of e ≡ action.now → IsList (with_puts (F.map files.old) txn) (spec.follow_up now p (set, e))) }
+    ensures own { IfOk result (λ txn. touches_only is_of_time txn ≡ true) }
+    ensures files { IfOk result (λ txn. IsTrue (are_files txn)) }
+    ensures drawn { IsTrue F.tells → IfOk result (λ txn. DrawsId (F.map files.old) txn) }
+    ensures names { NamesDamaged ⟦<F as Files>⟧ (λ name. is_followed_by set name ≡ true) (IsDamaged (F.map files.old)) result }
+    ensures reads { IsReading ⟦<F as Files>⟧ files.old files.new result }
+{
+    let Some(member) = find(alloc, files, set, to)? else {
+        return drop_entry(alloc, files, set, to);
+    };
+    let mail = mail_for(alloc, set, action, &member.who)?;
+    let txn = tell(
+        alloc,
+        files,
+        config,
+        keys,
+        cookie_kind(action),
+        set,
+        &member.who,
+        mail,
+        now,
+    )?;
+    change(alloc, files, set, action, now, txn)
+}
+
+// These puts of the queue, and behind them what becomes of the entry of an action.
+fn change<F: Files>(
+    alloc: Global,
+    files: &mut F,
+    set: Set,
+    action: &Action,
+    now: u64,
+    txn: Txn,
+) -> Result<Txn, PartError>
+    requires ledger { IsTrue (has_ledger set) }
+    requires moment { IsMoment now }
+    requires queue { touches_only is_of_queue txn ≡ true }
+    requires names { IsTrue (are_files txn) }
+    ensures value { IsTrue F.tells → IfOk result (λ done. (p : Plain) (e : LedgerEntry) → IsList (with_puts (F.map files.old) txn) p → find_entry (key (action_key action.now)) (ledger_of p set) ≡ Some e → IsList (with_puts (F.map files.old) done) (spec.change_entry now set e p)) }
+    ensures own { IfOk result (λ done. touches_only is_of_time done ≡ true) }
+    ensures files { IfOk result (λ done. IsTrue (are_files done)) }
+    ensures drawn { IsTrue F.tells → DrawsId (F.map files.old) txn → IfOk result (λ done. DrawsId (F.map files.old) done) }
+    ensures names { NamesDamaged ⟦<F as Files>⟧ (λ name. is_entry_of set (action_key action.now) name ≡ true) (IsDamaged (F.map files.old)) result }
+    ensures reads { IsReading ⟦<F as Files>⟧ files.old files.new result }
+{
+    let more = act(alloc, files, set, action, now)?;
+    let mut txn = txn;
+    txn.join(more)?;
+    Ok(txn)
+}
+
+// The puts by which the entry of an address that is no member goes.
+fn drop_entry<F: Files>(
+    alloc: Global,
+    files: &mut F,
+    set: Set,
+    who: &Address,
+) -> Result<Txn, PartError>
+    requires ledger { IsTrue (has_ledger set) }
+    ensures value { IsTrue F.tells → IfOk result (λ txn. (p : Plain) → IsList (F.map files.old) p → IsList (with_puts (F.map files.old) txn) (without_entry set who.now p)) }
+    ensures own { IfOk result (λ txn. touches_only is_of_time txn ≡ true) }
+    ensures files { IfOk result (λ txn. IsTrue (are_files txn)) }
+    ensures drawn { IsTrue F.tells → IfOk result (λ txn. DrawsId (F.map files.old) txn) }
+    ensures names { NamesDamaged ⟦<F as Files>⟧ (λ name. is_entry_of set who.now name ≡ true) (IsDamaged (F.map files.old)) result }
+    ensures reads { IsReading ⟦<F as Files>⟧ files.old files.new result }
+{
+    forget(alloc, files, set, who)
+}
