@@ -61,7 +61,7 @@ removed_list dir p set who txn done is now only behind =
     subst (λ (q : Plain). IsList (with_puts dir done) q) (removed_is set who p) (behind (left_by set who p) (members_changed dir p set (key who) txn (without_member (key who) (p.sets set)) is only now))
 
 -- the files of a set's ledger that are touched are the list's
-entry_kind : (set : Set) (k : Text) (name : Name) → same_name name (key_file set k) ≡ true → name.kind ≡ ledger_kind set
+pub entry_kind : (set : Set) (k : Text) (name : Name) → same_name name (key_file set k) ≡ true → name.kind ≡ ledger_kind set
 entry_kind set k name e = eqb-true name.kind (ledger_kind set) (and_parts (eqb name.kind (ledger_kind set)) (eqb name.at (ledger_place k)) e).0
 
 pub entry_own : (set : Set) (k : Text) → has_ledger set ≡ true → (name : Name) → same_name name (key_file set k) ≡ true → is_beside_queue name ≡ true

@@ -1,10 +1,10 @@
 -- What the files of a ledger have together.
-use Rattle.std.proofs.Common.{◌≡◌, ◌<◌, ◌+◌, ℕ, zero, suc, Bool, true, false, cond, ◌==◌, [], ◌∷◌, ◌++◌, Option, Some, None, refl, sym, ap, ap₂, ◌∙◌, subst, arith, add-one}
+use Rattle.std.proofs.Common.{◌≡◌, ◌<◌, ◌+◌, ℕ, Bool, true, false, cond, [], ◌∷◌, ◌++◌, Option, Some, None, refl, sym, ap, ◌∙◌, subst, arith}
 use Rattle.std.specs.Prelude.{IsTrue}
 use Rattle.std.specs.List.{AllByRecursion, filter, list_all}
 use Rattle.std.specs.List.Sorted.{IsPermutation, IsSortedByKey}
 use Rattle.std.specs.Ordering.{eq_by_cmp, is_lt}
-use Rattle.std.proofs.lemmas.Bool.{and_parts, and_from, eqb-true, eqb-false, eq-eqb, ne_eqb, false≢true}
+use Rattle.std.proofs.lemmas.Bool.{and_parts, and_from, false≢true}
 use Rattle.ml_base.specs.Bytes.{Text}
 use Rattle.ml_base.specs.Dir.{Dir}
 use Rattle.ml_base.specs.PartErrors.{OnDamaged}
@@ -14,33 +14,16 @@ use Rattle.ml_base.specs.declared.names.Set.TheVariants as sets
 use Rattle.ml_base.specs.declared.part.PartError.{PartError}
 use Rattle.ml_base.proofs.DamagedNames.{on_damaged}
 use Rattle.ml_base.proofs.SortedLaws.{bytes_total, same_bytes, same_lists}
-use Rattle.ml_bounce.specs.Answers.{AreFiles, IsBadFile, gathered, has_ledger, ledger_kind}
+use Rattle.ml_keyed.specs.Buckets.{gathered, IsOrdered}
+use Rattle.ml_keyed.proofs.Keys.{place_below, tied, all_above_none}
+use Rattle.ml_keyed.proofs.Union.{merged, sorted_joined}
+use Rattle.ml_keyed.proofs.Files.{Reads, reads_none, reads_more, union_of}
+use Rattle.ml_bounce.specs.Answers.{AreFiles, IsBadFile, has_ledger, ledger_kind}
 use Rattle.ml_bounce.specs.Changes.{due_entries, is_due}
 use Rattle.ml_bounce.specs.Files.{IsLedger, IsLedgerFile, IsEntry, ledger_name, ledger_place}
-use Rattle.ml_bounce.specs.Ledger.{Ledger, LedgerEntry, find_entry}
+use Rattle.ml_bounce.specs.Ledger.{Ledger, LedgerEntry, entry_key, find_entry}
 use Rattle.ml_bounce.proofs.Changed.{found_there}
-use Rattle.ml_bounce.proofs.Union.{IsOrdered, entry_key, merged, merged_ordered, found_merged, sorted_joined, all_above_none, tied}
-use Rattle.ml_bounce.proofs.Ledgers.{no_bad_file, place_below}
-
--- one file more
-abbrev with_bucket : (ℕ → Ledger) → ℕ → Ledger → ℕ → Ledger
-with_bucket buckets n es i = cond (i == n) es (buckets i)
-
-at_n : (buckets : ℕ → Ledger) (n : ℕ) (es : Ledger) → with_bucket buckets n es n ≡ es
-at_n buckets n es = ap (λ t. cond t es (buckets n)) (eq-eqb n n refl)
-
-below_n : (buckets : ℕ → Ledger) (n : ℕ) (es : Ledger) (i : ℕ) → i < n → with_bucket buckets n es i ≡ buckets i
-below_n buckets n es i less = ap (λ t. cond t es (buckets i)) (ne_eqb i n (λ e. omega (arith, e)))
-
-files_suc : (dir : Dir) (set : Set) (n : ℕ) (buckets : ℕ → Ledger) (es : Ledger) → AreFiles dir set n buckets → IsLedgerFile n (dir (ledger_name (ledger_kind set) n)) es → AreFiles dir set (suc n) (with_bucket buckets n es)
-files_suc dir set n buckets es first is i less = go (i == n) refl
-  where
-    go : (t : Bool) → (i == n) ≡ t → IsLedgerFile i (dir (ledger_name (ledger_kind set) i)) (with_bucket buckets n es i)
-    go true e = subst (λ t. IsLedgerFile i (dir (ledger_name (ledger_kind set) i)) (cond t es (buckets i))) (sym e) (subst (λ (m : ℕ). IsLedgerFile m (dir (ledger_name (ledger_kind set) m)) es) (sym (eqb-true i n e)) is)
-    go false e = subst (λ t. IsLedgerFile i (dir (ledger_name (ledger_kind set) i)) (cond t es (buckets i))) (sym e) (first i (below (eqb-false i n e)))
-      where
-        below : (i ≡ n → ⊥) → i < n
-        below apart = omega (arith, less, apart)
+use Rattle.ml_bounce.proofs.Ledgers.{no_bad_file}
 
 -- the first files have entries
 abbrev pub Files : Dir → Set → ℕ → Type 0
@@ -50,29 +33,21 @@ pub files_none : (dir : Dir) (set : Set) → Files dir set 0
 files_none dir set = (λ i. [], λ i less. absurd (omega (arith, less)))
 
 pub files_more : (dir : Dir) (set : Set) (n : ℕ) (es : Ledger) → Files dir set n → IsLedgerFile n (dir (ledger_name (ledger_kind set) n)) es → Files dir set (n + 1)
-files_more dir set n es before is = subst (λ (k : ℕ). Files dir set k) (sym (add-one n)) (with_bucket before.0 n es, files_suc dir set n before.0 es before.1 is)
+files_more dir set n es before is =
+    let more = reads_more IsLedgerFile [] (λ done bucket. done ++ bucket) (λ bucket. bucket) (λ i. dir (ledger_name (ledger_kind set) i)) n (gathered before.0 n) es (before.0, before.1, refl) is in
+    (more.0, more.1)
 
 -- entries that were chosen of the first files
 module _ (test : LedgerEntry → Bool) where
-  abbrev pub chosen : (ℕ → Ledger) → ℕ → Ledger
-  chosen buckets n = gathered (λ i. filter test (buckets i)) n
-
-  same_chosen : (f g : ℕ → Ledger) (n : ℕ) → ((i : ℕ) → i < n → f i ≡ g i) → chosen f n ≡ chosen g n
-  same_chosen f g zero same = refl
-  same_chosen f g (suc n) same = ap₂ (λ a b. a ++ b) (same_chosen f g n (λ i less. same i (omega arith))) (ap (filter test) (same n (omega arith)))
-
   abbrev pub Gathers : Dir → Set → ℕ → Ledger → Type 0
-  Gathers dir set n found = (buckets : ℕ → Ledger) × AreFiles dir set n buckets × (found ≡ chosen buckets n)
+  Gathers dir set n found = Reads IsLedgerFile [] (λ done bucket. done ++ bucket) (filter test) (λ i. dir (ledger_name (ledger_kind set) i)) n found
 
   pub gathers_none : (dir : Dir) (set : Set) → Gathers dir set 0 []
-  gathers_none dir set = (λ i. [], λ i less. absurd (omega (arith, less)), refl)
+  gathers_none dir set = reads_none IsLedgerFile [] (λ done bucket. done ++ bucket) (filter test) (λ i. dir (ledger_name (ledger_kind set) i))
 
   pub gathers_more : (dir : Dir) (set : Set) (n : ℕ) (found more es : Ledger) → Gathers dir set n found → IsLedgerFile n (dir (ledger_name (ledger_kind set) n)) es → more ≡ found ++ filter test es → Gathers dir set (n + 1) more
-  gathers_more dir set n found more es before is all = subst (λ (k : ℕ). Gathers dir set k more) (sym (add-one n)) (
-    with_bucket before.0 n es,
-    files_suc dir set n before.0 es before.1 is,
-    all ∙ ap₂ (λ a b. a ++ b) (before.2 ∙ sym (same_chosen (with_bucket before.0 n es) before.0 n (below_n before.0 n es))) (ap (filter test) (sym (at_n before.0 n es))),
-  )
+  gathers_more dir set n found more es before is all =
+      subst (λ (l : Ledger). Gathers dir set (n + 1) l) (sym all) (reads_more IsLedgerFile [] (λ done bucket. done ++ bucket) (filter test) (λ i. dir (ledger_name (ledger_kind set) i)) n found es before is)
 
   -- what holds of each of a list holds of those that are chosen
   each_filter : (P : LedgerEntry → Type 0) (es : Ledger) → AllByRecursion P es → AllByRecursion P (filter test es)
@@ -91,11 +66,11 @@ module _ (test : LedgerEntry → Bool) where
       go true here more = and_from _ _ here more
       go false here more = more
 
-  sorted_filter : (es : Ledger) → IsOrdered es → IsOrdered (filter test es)
+  sorted_filter : (es : Ledger) → IsOrdered entry_key es → IsOrdered entry_key (filter test es)
   sorted_filter [] is = refl
   sorted_filter (e ∷ es) is = let parts = and_parts (list_all (λ (f : LedgerEntry). is_lt (byte_cmp e.key f.key)) es) _ is in go (test e) (all_filter (λ (f : LedgerEntry). is_lt (byte_cmp e.key f.key)) es parts.0) (sorted_filter es parts.1)
     where
-      go : (t : Bool) → list_all (λ (f : LedgerEntry). is_lt (byte_cmp e.key f.key)) (filter test es) ≡ true → IsOrdered (filter test es) → IsOrdered (cond t (e ∷ filter test es) (filter test es))
+      go : (t : Bool) → list_all (λ (f : LedgerEntry). is_lt (byte_cmp e.key f.key)) (filter test es) ≡ true → IsOrdered entry_key (filter test es) → IsOrdered entry_key (cond t (e ∷ filter test es) (filter test es))
       go true here more = and_from _ _ here more
       go false here more = more
 
@@ -104,7 +79,7 @@ module _ (test : LedgerEntry → Bool) where
   when_chosen None = None
   when_chosen (Some e) = cond (test e) (Some e) None
 
-  found_filter : (k : Text) (es : Ledger) → IsOrdered es → find_entry k (filter test es) ≡ when_chosen (find_entry k es)
+  found_filter : (k : Text) (es : Ledger) → IsOrdered entry_key es → find_entry k (filter test es) ≡ when_chosen (find_entry k es)
   found_filter k [] is = refl
   found_filter k (e ∷ es) is = let parts = and_parts (list_all (λ (f : LedgerEntry). is_lt (byte_cmp e.key f.key)) es) _ is in go (eq_by_cmp byte_cmp k e.key) refl (test e) refl parts.0 (found_filter k es parts.1)
     where
@@ -115,7 +90,7 @@ module _ (test : LedgerEntry → Bool) where
           ∙ sym (ap (λ t. cond t (Some e) None) here) ∙ sym (ap (λ s. when_chosen (cond s (Some e) (find_entry k es))) own)
       go true own false here above more =
           ap (λ t. find_entry k (cond t (e ∷ filter test es) (filter test es))) here
-          ∙ ap (λ (a : Text). find_entry a (filter test es)) (tied k e.key own) ∙ all_above_none e.key (filter test es) (all_filter (λ (f : LedgerEntry). is_lt (byte_cmp e.key f.key)) es above)
+          ∙ ap (λ (a : Text). find_entry a (filter test es)) (tied k e.key own) ∙ all_above_none entry_key e.key (filter test es) (all_filter (λ (f : LedgerEntry). is_lt (byte_cmp e.key f.key)) es above)
           ∙ sym (ap (λ t. cond t (Some e) None) here) ∙ sym (ap (λ s. when_chosen (cond s (Some e) (find_entry k es))) own)
       go false own true here above more =
           ap (λ t. find_entry k (cond t (e ∷ filter test es) (filter test es))) here ∙ ap (λ s. cond s (Some e) (find_entry k (filter test es))) own ∙ more
@@ -131,15 +106,8 @@ hashed_each n (e ∷ es) all =
 
 -- files that are all in their grammar stand for a ledger
 pub ledger_of_files : (dir : Dir) (set : Set) (buckets : ℕ → Ledger) → AreFiles dir set 53 buckets → (ledger : Ledger) × IsLedger dir (ledger_kind set) ledger
-ledger_of_files dir set buckets files = (
-  merged buckets 53,
-  record {
-    sorted = merged_ordered buckets 53;
-    buckets = buckets;
-    files = files;
-    by_key = λ k. found_merged buckets 53 (λ i less. hashed_each i (buckets i) (files i less).each) k (place_below k);
-  },
-)
+ledger_of_files dir set buckets files =
+    (merged entry_key buckets 53, union_of entry_key IsLedgerFile (λ n file es is. hashed_each n es is.each) (λ n file es is. is.sorted) (λ n. dir (ledger_name (ledger_kind set) n)) buckets files)
 
 -- the due entries of the files in order of key are those of the ledger
 pub due_sorted : (dir : Dir) (set : Set) (now : ℕ) (found sorted ledger : Ledger) → Gathers (is_due now) dir set 53 found → IsPermutation found sorted → IsSortedByKey entry_key byte_cmp sorted → IsLedger dir (ledger_kind set) ledger
@@ -148,7 +116,7 @@ due_sorted dir set now found sorted ledger all moved up is =
     let test = is_due now in
     let hashed = λ (i : ℕ) (less : i < 53). each_filter test (λ e. ledger_place e.key ≡ i) (all.0 i) (hashed_each i (all.0 i) (all.1 i less).each) in
     let ordered = λ (i : ℕ) (less : i < 53). sorted_filter test (all.0 i) (all.1 i less).sorted in
-    let by_key = sorted_joined (λ i. filter test (all.0 i)) 53 hashed ordered sorted (subst (λ (l : Ledger). IsPermutation l sorted) all.2 moved) up in
+    let by_key = sorted_joined entry_key (λ i. filter test (all.0 i)) 53 hashed ordered sorted (subst (λ (l : Ledger). IsPermutation l sorted) all.2 moved) up in
     same_lists byte_cmp entry_key same_bytes bytes_total sorted (filter test ledger) by_key.0 (sorted_filter test ledger is.sorted)
     (λ k.
     by_key.1 k (place_below k) ∙ found_filter test k (all.0 (ledger_place k)) (all.1 (ledger_place k) (place_below k)).sorted

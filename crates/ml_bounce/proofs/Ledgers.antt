@@ -23,9 +23,6 @@ use Rattle.ml_bounce.proofs.Changed.{found_there, forgotten_there, same_key}
 use Rattle.ml_bounce.proofs.Exact.{file_read, file_written}
 use Rattle.ml_rows.proofs.RowLaws.{none_some}
 
-pub place_below : (k : Text) → ledger_place k < 53
-place_below k = omega arith
-
 pub name_itself : (name : Name) → same_name name name ≡ true
 name_itself name = and_from _ _ (eq-eqb name.kind name.kind refl) (eq-eqb name.at name.at refl)
 

@@ -1,5 +1,5 @@
 -- What is read piece by piece is what the whole is read as.
-use Rattle.std.proofs.Common.{◌≡◌, ◌<◌, ◌+◌, ℕ, Bool, true, false, cond, not, ◌==◌, ◌&&◌, List, [], ◌∷◌, ◌++◌, length, Option, Some, None, refl, sym, ap, ◌∙◌, arith, append_assoc, option_map}
+use Rattle.std.proofs.Common.{◌≡◌, ◌<◌, ◌+◌, ℕ, Bool, true, false, cond, not, ◌==◌, ◌&&◌, List, [], ◌∷◌, length, Option, Some, None, refl, sym, ap, ◌∙◌, arith, option_map}
 use Rattle.std.specs.List.{list_any, list_all}
 use Rattle.std.specs.Option.{option_and_then}
 use Rattle.std.specs.Char.{is_ascii_uppercase}
@@ -8,13 +8,10 @@ use Rattle.std.proofs.lemmas.Bool.{and_parts, and_from, false≢true, eqb-true}
 use Rattle.ml_base.specs.Address.{IsAddress}
 use Rattle.ml_base.specs.Bytes.{Text, lower, is_empty}
 use Rattle.ml_base.specs.Netstrings.{netstring_at}
-use Rattle.ml_base.specs.Numbers.{number_within}
 use Rattle.ml_base.specs.Sorted.{byte_cmp, is_sorted}
-use Rattle.ml_base.specs.Splits.{split_first, onto_first, onto_line}
 use Rattle.ml_base.proofs.BelowLemmas.{less}
 use Rattle.ml_base.proofs.SortedLaws.{bytes_total}
 use Rattle.ml_rows.specs.Rows.{onto, netstrings_at, row_of}
-use Rattle.ml_rows.specs.Values.{all_numbers, split_all, comma_numbers}
 use Rattle.ml_rows.proofs.Commas.{two}
 use Rattle.ml_rows.proofs.RowLaws.{row_goes_on, row_fails}
 use Rattle.ml_bounce.specs.Files.{IsEntry, entry_text}

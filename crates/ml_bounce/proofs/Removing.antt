@@ -8,7 +8,8 @@ use Rattle.ml_base.proofs.SortedLaws.{bytes_total, same_bytes, found_with, found
 use Rattle.ml_bounce.specs.Changes.{can_note, noted, is_warned, is_probed, probe_failed, is_old, is_due, act}
 use Rattle.ml_bounce.specs.Course.{Bounced, WarningBounced, Served, after, after_all}
 use Rattle.ml_bounce.specs.Ledger.{Ledger, LedgerEntry, Stage, Unwarned, Warned, WarnFailed, Probed, find_entry, entry_under, no_entry, with_ledger, forget}
-use Rattle.ml_bounce.proofs.Union.{entry_key, own_tie}
+use Rattle.ml_keyed.proofs.Keys.{own_tie}
+use Rattle.ml_bounce.specs.Ledger.{entry_key}
 
 abbrev entry_by : Text → ℕ → Stage → LedgerEntry
 entry_by k first stage = record { key = k; first = first; stage = stage; missed = [] }

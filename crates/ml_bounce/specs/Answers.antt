@@ -1,5 +1,5 @@
 -- The ledgers of sets, and what the calls on them answer.
-use Rattle.std.specs.Prelude.{◌≡◌, ◌<◌, ◌+◌, ℕ, zero, suc, Bool, true, false, List, [], ◌∷◌, ◌++◌, map, take, Option, Some, None, is_some, if◌then◌else◌}
+use Rattle.std.specs.Prelude.{◌≡◌, ◌<◌, ◌+◌, ℕ, Bool, true, false, List, [], ◌∷◌, map, take, Option, Some, None, is_some, if◌then◌else◌}
 use Rattle.ml_base.specs.Bytes.{Text}
 use Rattle.ml_base.specs.Dir.{Dir, with_puts}
 use Rattle.ml_base.specs.Kinds.{bounces_kind}
@@ -8,6 +8,7 @@ use Rattle.ml_base.specs.declared.names.Name.{Name}
 use Rattle.ml_base.specs.declared.names.Set.{Set}
 use Rattle.ml_base.specs.declared.names.Set.TheVariants as sets
 use Rattle.ml_base.specs.declared.puts.Put.{Put}
+use Rattle.ml_keyed.specs.Buckets.{AreFirst}
 use Rattle.ml_bounce.specs.Changes.{due_entries, action_of, act}
 use Rattle.ml_bounce.specs.declared.actions.Action.{Action}
 use Rattle.ml_bounce.specs.declared.actions.Action.TheVariants.{Warn, Probe, Lapse}
@@ -58,11 +59,6 @@ abbrev pub puts_of : Option (List Put) → List Put
 puts_of None = []
 puts_of (Some txn) = txn
 
--- the entries of the first files, one file behind the other
-abbrev pub gathered : (ℕ → Ledger) → ℕ → Ledger
-gathered buckets zero = []
-gathered buckets (suc n) = gathered buckets n ++ buckets n
-
 -- the name of one of a ledger's 53 files
 abbrev pub IsFileName : Set → Name → Type 0
 IsFileName set name = (n : ℕ) × (n < 53) × (name ≡ ledger_name (ledger_kind set) n)
@@ -91,4 +87,4 @@ acts set k now bucket = acts_for set k now bucket (find_entry k bucket)
 
 -- the first so many of a ledger's files have these entries
 abbrev pub AreFiles : Dir → Set → ℕ → (ℕ → Ledger) → Type 0
-AreFiles dir set n buckets = (i : ℕ) → i < n → IsLedgerFile i (dir (ledger_name (ledger_kind set) i)) (buckets i)
+AreFiles dir set n buckets = AreFirst IsLedgerFile (λ i. dir (ledger_name (ledger_kind set) i)) n buckets

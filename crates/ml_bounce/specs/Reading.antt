@@ -8,7 +8,7 @@ use Rattle.ml_base.specs.Netstrings.{netstring_at}
 use Rattle.ml_base.specs.Sorted.{byte_cmp, is_sorted}
 use Rattle.ml_rows.specs.Rows.{only_if, both_of, row_of, netstrings_at}
 use Rattle.ml_rows.specs.Values.{moment_in, address_in, comma_numbers}
-use Rattle.ml_bounce.specs.Ledger.{Stage, Unwarned, Warned, WarnFailed, Probed, LedgerEntry, Ledger, is_blank_at}
+use Rattle.ml_bounce.specs.Ledger.{Stage, Unwarned, Warned, WarnFailed, Probed, LedgerEntry, Ledger, entry_key, is_blank_at}
 use Rattle.ml_bounce.specs.Files.{are_distinct, ledger_place}
 
 -- the stage that a text spells: `n` alone, or `w`, `f` or `p` and a moment
@@ -51,7 +51,7 @@ entry_at n place text = option_and_then (λ found. option_map (λ e. (e, found.1
 
 -- the entries of the file with this number: a row of them, in ascending order of key
 abbrev pub ledger_of : ℕ → Text → Option Ledger
-ledger_of n text = only_if (is_sorted byte_cmp (λ e. e.key)) (row_of (entry_at n) 0 text)
+ledger_of n text = only_if (is_sorted byte_cmp entry_key) (row_of (entry_at n) 0 text)
 
 -- whether a key is below that of the first of a row of entries, if there is one
 abbrev pub is_below_first : Text → Ledger → Bool

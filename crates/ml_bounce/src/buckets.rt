@@ -7,7 +7,8 @@ ghost use Rattle.ml_bounce.specs.Answers.{has_ledger, ledger_kind, key_file, IsB
 ghost use Rattle.ml_bounce.specs.Files.{IsLedgerFile, ledger_name, ledger_place};
 
 use crate::reading::{Entries, read_file};
-use ml_base::{Address, Bytes, Files, Name, PartError, Put, Set, Txn, hash};
+use ml_base::{Address, Bytes, Files, Name, PartError, Put, Set, Txn};
+use ml_keyed::place_of;
 use std::alloc::{AllocError, Global};
 
 // The key of an address.
@@ -18,14 +19,6 @@ pub(crate) fn key_of(alloc: Global, who: &Address) -> Result<Bytes, AllocError>
     let mut bytes = Vec::from_slice(alloc, who.bytes())?;
     bytes.as_mut_slice().make_ascii_lowercase();
     Ok(Bytes::from_vec(bytes))
-}
-
-// The number of the file that has a key.
-pub(crate) fn place_of(key: &[u8]) -> u8
-    ensures value { result ≡ ledger_place key.now }
-    ensures below { result < 53 }
-{
-    (hash(key) % 53) as u8
 }
 
 // The name of one of the files of a set's ledger.

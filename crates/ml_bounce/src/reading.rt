@@ -12,7 +12,8 @@ ghost use Rattle.ml_bounce.specs.Reading as spec;
 
 use crate::numbers::are_distinct;
 use crate::{LedgerEntry, Stage};
-use ml_base::{Address, Bytes, LAST_MOMENT, Row, hash, is_kept, number_within, split_netstring};
+use ml_base::{Address, Bytes, LAST_MOMENT, Row, is_kept, number_within, split_netstring};
+use ml_keyed::place_of;
 use ml_rows::numbers_of;
 use std::alloc::{AllocError, Global};
 use std::cmp::Ordering;
@@ -113,7 +114,7 @@ fn fits(n: u8, key: &[u8], first: u64, stage: Stage, missed: &[u64]) -> bool
         && are_distinct(missed)
         && (!missed.is_empty() || first == 0)
         && !is_blank(stage, missed)
-        && hash(key) % 53 == n as u32
+        && place_of(key) == n
 }
 
 // The entry that a text spells, where it belongs to the file with this number.

@@ -21,7 +21,8 @@ use Rattle.ml_plain.proofs.Changes.{floor_kept, floor_risen}
 use Rattle.ml_acts.specs.Doing.{DoesList}
 use Rattle.ml_list.specs.Applying.{Does, Repeats}
 use Rattle.ml_list.specs.Rising.{rise_puts}
-use Rattle.ml_list.proofs.Risen.{risen, cut_is, rise_own, touches_both}
+use Rattle.ml_list.proofs.Risen.{risen, cut_is, rise_own}
+use Rattle.ml_acts.proofs.Queued.{touches_both}
 
 -- names of the list's files are none of those of the replies
 apart : (name : Name) → is_of_replies name ≡ true → is_of_list name ≡ false

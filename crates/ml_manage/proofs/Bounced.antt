@@ -23,6 +23,7 @@ use Rattle.std.specs.Prelude.{not}
 use Rattle.ml_acts.specs.Doing.{DoesList, is_beside_queue, is_of_queue}
 use Rattle.ml_manage.specs.Leaving.{change_reply}
 use Rattle.ml_acts.proofs.Queued.{touches_weaker}
+use Rattle.ml_acts.proofs.Left.{entry_kind}
 
 -- the sets that bounce have a ledger
 pub mailed_ledger : (set : Set) → is_mailed set ≡ true → has_ledger set ≡ true
@@ -49,9 +50,6 @@ does_by dir done puts reply p e f now = record {
 
 in_list : (k : ℕ) → 1 ≤ k → k ≤ 18 → ((leb 1 k && leb k 18) || eqb k 20) ≡ true
 in_list k least most = ap (λ (b : Bool). b || eqb k 20) (and_from (leb 1 k) (leb k 18) (le-leb 1 k least) (le-leb k 18 most))
-
-entry_kind : (set : Set) (k : Text) (name : Name) → same_name name (key_file set k) ≡ true → name.kind ≡ ledger_kind set
-entry_kind set k name e = eqb-true name.kind (ledger_kind set) (and_parts (eqb name.kind (ledger_kind set)) (eqb name.at (ledger_place k)) e).0
 
 -- the files of a ledger are the list's
 pub entry_own : (set : Set) (k : Text) → is_mailed set ≡ true → (name : Name) → same_name name (key_file set k) ≡ true → is_of_list name ≡ true

@@ -20,7 +20,7 @@ sorted_addresses (m ∷ ms) =
 
 -- what files spell is in order
 pub spelled_sorted : (set : Set) (now : Spelling) → IsSpelled set now → is_sorted byte_cmp key now.addresses ≡ true
-spelled_sorted set now is = ap (is_sorted byte_cmp key) is.addresses ∙ (sorted_addresses is.members ∙ is.union.ordered)
+spelled_sorted set now is = ap (is_sorted byte_cmp key) is.addresses ∙ (sorted_addresses is.members ∙ is.union.sorted)
 
 -- what the files of a set of subscribers spell are their addresses
 pub spelled_only : (dir : Dir) (set : Set) (now : Spelling) (ms : List Member) → AreFiles dir set 53 now.texts → IsSpelled set now → AreSubscribers dir set ms → now.addresses ≡ map (λ m. m.who) ms

@@ -1,12 +1,10 @@
 pub mod Folded
-pub mod Orders
 pub mod Options
 pub mod Spelled
 pub mod Placed
 pub mod Known
 pub mod Starts
 pub mod Rewritten
-pub mod Union
 pub mod Represented
 pub mod Answering
 pub mod Gathering

@@ -13,8 +13,10 @@ use Rattle.ml_subs.specs.declared.records.Layout.{Layout}
 use Rattle.ml_subs.specs.declared.records.Layout.TheVariants.{Undated, Dated}
 use Rattle.ml_subs.specs.Buckets.{IsBucket, IsMember, bucket_text, layout_line, records}
 use Rattle.ml_base.specs.Keys.{is_below}
+use Rattle.ml_subs.specs.Members.{member_key}
 use Rattle.ml_subs.specs.Reading.{IsRecord, BeginsWith, AreRead, Leads, AreSkipped, IsSameKey, Sides, all_members, IsFront, rises}
-use Rattle.ml_subs.proofs.Orders.{rising_ordered, ordered_rising, below_then, above_else}
+use Rattle.ml_base.proofs.BelowLemmas.{below_then, above_else}
+use Rattle.ml_keyed.proofs.Keys.{rising_ordered, ordered_rising}
 use Rattle.ml_subs.proofs.Spelled.{read_first, read_more, read_behind, record_one, record_parts}
 
 -- the key of an address is above no bytes
@@ -97,7 +99,7 @@ module _ (layout : Layout) (n : ℕ) (who text : Text) (size : ℕ) (skip : AreS
           below = skip.below;
           above = above;
           lower = skip.lower;
-          higher = (rising_ordered who above read.rising).0;
+          higher = (rising_ordered member_key (key who) above read.rising).0;
           is = same.2;
           record_here = record { address = own.address; since = own.since };
           around = record { front = front ∙ skip.front; back = read.spelled; each_below = each_record layout n skip.below skip.leads.each; each_above = each_record layout n above read.each };
@@ -111,7 +113,7 @@ module _ (layout : Layout) (n : ℕ) (who text : Text) (size : ℕ) (skip : AreS
           below = skip.below;
           above = above;
           lower = skip.lower;
-          higher = (rising_ordered who above read.rising).0;
+          higher = (rising_ordered member_key (key who) above read.rising).0;
           is = tt;
           record_here = tt;
           around = record { front = front ∙ skip.front; back = read.spelled; each_below = each_record layout n skip.below skip.leads.each; each_above = each_record layout n above read.each };
@@ -147,7 +149,7 @@ layout_only text layout body front n [] is = let some = is.some in absurd (omega
 layout_only text layout body front n (m ∷ ms) is = go layout front is.layout is.each is.spelled
   where
     made : (l : Layout) (body : Text) → AllByRecursion (IsMember l n) (m ∷ ms) → body ≡ records l (m ∷ ms) → AreRead l n [] body (m ∷ ms)
-    made l body each e = record { each = each; rising = ordered_rising [] (m ∷ ms) (all_floor l n (m ∷ ms) each) is.ordered; spelled = e }
+    made l body each e = record { each = each; rising = ordered_rising member_key [] (m ∷ ms) (all_floor l n (m ∷ ms) each) is.ordered; spelled = e }
 
     go : (l : Layout) → IsFront text l body → (k : Layout) → AllByRecursion (IsMember k n) (m ∷ ms) → text ≡ bucket_text k (m ∷ ms) → AreRead l n [] body (m ∷ ms)
     go Dated front Dated each e = made Dated body each (cut (sym front ∙ e))
@@ -162,7 +164,7 @@ pub layout_makes : (text : Text) (layout : Layout) (body : Text) → IsFront tex
 layout_makes text layout body front some n [] is = absurd (let none = ap length is.spelled in omega arith)
 layout_makes text layout body front some n (m ∷ ms) is = record {
   some = omega arith;
-  ordered = (rising_ordered [] (m ∷ ms) is.rising).1;
+  ordered = (rising_ordered member_key [] (m ∷ ms) is.rising).1;
   layout = layout;
   each = is.each;
   spelled = go layout front is.spelled;

@@ -1,11 +1,10 @@
 -- What the files of a set stand for.
 use Rattle.std.proofs.Common.{◌≡◌, ◌≢◌, ℕ, zero, suc, ◌+◌, ◌<◌, ◌≤◌, Bool, true, false, not, cond, ◌==◌, ◌&&◌, ◌||◌, nat_lt, List, [], ◌∷◌, ◌++◌, length, get_or, Option, Some, None, is_some, refl, sym, ap, ap₂, ◌∙◌, subst, arith, inl, inr}
 use Rattle.std.proofs.lemmas.Bool.Decides.{nat_tests}
-use Rattle.std.proofs.lemmas.Bool.{and_parts, and_from, or_parts, or_left, or_from, eqb-true, eqb-false, eq-eqb, ne_eqb, lt-ltb}
-use Rattle.std.specs.Ordering.{eq_by_cmp}
-use Rattle.std.specs.List.{list_all, AllByRecursion}
+use Rattle.std.proofs.lemmas.Bool.{and_parts, and_from, or_parts, or_left, or_from, eqb-true, eq-eqb, ne_eqb, lt-ltb}
+use Rattle.std.specs.List.{AllByRecursion}
 use Rattle.ml_base.specs.Bytes.{Text}
-use Rattle.ml_base.specs.Address.{key, IsAddress}
+use Rattle.ml_base.specs.Address.{IsAddress}
 use Rattle.ml_base.specs.Dir.{Dir, with_puts, same_name, touches_only}
 use Rattle.ml_base.specs.Name.{set_kind, set_number, is_file}
 use Rattle.ml_base.specs.Sorted.{byte_cmp}
@@ -14,7 +13,12 @@ use Rattle.ml_base.specs.declared.names.Set.{Set}
 use Rattle.ml_base.specs.declared.names.Set.TheVariants as sets
 use Rattle.ml_base.specs.declared.puts.Put.{Put}
 use Rattle.ml_base.proofs.Laid.{left_alone}
-use Rattle.ml_base.proofs.SortedLaws.{same_bytes, bytes_total, found_with, found_without, sorted_with, sorted_without, length_with, length_left, same_lists, each_with, each_without, found_is}
+use Rattle.ml_base.proofs.SortedLaws.{same_bytes, bytes_total, sorted_with, sorted_without, length_with, length_left, each_with, each_without, found_is}
+use Rattle.ml_keyed.specs.Buckets.{counted}
+pub use Rattle.ml_keyed.proofs.Keys.{place_below as below_53}
+use Rattle.ml_keyed.proofs.Keys.{each_found}
+use Rattle.ml_keyed.proofs.Union.{merged}
+use Rattle.ml_keyed.proofs.Files.{union_own, union_nothing, union_one, union_of, length_of, found_there, put_there, taken_there}
 use Rattle.ml_subs.specs.declared.member_list.Member.{Member}
 use Rattle.ml_subs.specs.declared.records.Layout.{Layout}
 use Rattle.ml_subs.specs.declared.records.Layout.TheVariants.{Undated, Dated}
@@ -23,12 +27,9 @@ use Rattle.ml_subs.specs.Members.{member_key, member_of, has_key, with_member, w
 use Rattle.ml_subs.specs.Buckets.{bucket_of, bucket_file, bucket_text, layout_line, records, IsBucket, IsBucketFile, IsMember}
 use Rattle.ml_subs.specs.Subscribers.{AreBuckets, AreJoined, AreSubscribers, IsBucketOf, Breaks, bucket_name, count_name, count_text, is_of_set, is_touched}
 use Rattle.ml_subs.specs.Answers.{changes}
-use Rattle.ml_base.specs.Keys.{is_below}
-use Rattle.ml_subs.specs.Reading.{AreRead, IsFront, counted}
-use Rattle.ml_subs.proofs.Orders.{not_below}
+use Rattle.ml_subs.specs.Reading.{AreRead, IsFront}
 use Rattle.ml_subs.proofs.Spelled.{read_first, read_behind, read_empty, record_parts}
 use Rattle.ml_subs.proofs.Placed.{layout_only}
-use Rattle.ml_subs.proofs.Union.{differ, own_tie, merged, merged_ordered, found_merged, length_merged}
 
 -- bytes are read as one list of members
 read_one : (layout : Layout) (n : ℕ) (floor text : Text) (ms ns : List Member) → AreRead layout n floor text ms → AreRead layout n floor text ns → ms ≡ ns
@@ -82,22 +83,15 @@ pub bucket_made : (n : ℕ) (ms : List Member) → IsOrdered ms → AllByRecursi
 bucket_made n [] ordered all = refl
 bucket_made n (m ∷ ms) ordered all = record { some = omega arith; ordered = ordered; layout = Dated; each = all; spelled = refl }
 
-pub below_53 : (k : Text) → bucket_of k < 53
-below_53 k = omega arith
-
 pub joined_one : (dir : Dir) (set : Set) (ms others : List Member) → AreJoined dir set ms → AreJoined dir set others → ms ≡ others
-joined_one dir set ms others is other =
-    same_lists byte_cmp member_key same_bytes bytes_total ms others is.ordered other.ordered
-    (λ k. is.by_key k ∙ ap (member_of k) (bucket_one (bucket_of k) (dir (bucket_name set (bucket_of k))) (is.buckets (bucket_of k)) (other.buckets (bucket_of k)) (is.files (bucket_of k) (below_53 k)) (other.files (bucket_of k) (below_53 k)))
-    ∙ sym (other.by_key k))
+joined_one dir set = union_one member_key IsBucketFile bucket_one (λ n. dir (bucket_name set n))
 
 pub subscribers_one : (dir : Dir) (set : Set) (ms others : List Member) → AreSubscribers dir set ms → AreSubscribers dir set others → ms ≡ others
 subscribers_one dir set ms others is other = joined_one dir set ms others is.members other.members
 
 -- what a set has under a key is what its bucket has
 pub found_in_bucket : (dir : Dir) (set : Set) (ms bucket : List Member) (k : Text) → AreJoined dir set ms → IsBucketOf dir set k bucket → member_of k ms ≡ member_of k bucket
-found_in_bucket dir set ms bucket k is file =
-    is.by_key k ∙ ap (member_of k) (bucket_one (bucket_of k) (dir (bucket_name set (bucket_of k))) (is.buckets (bucket_of k)) bucket (is.files (bucket_of k) (below_53 k)) file)
+found_in_bucket dir set = found_there member_key IsBucketFile bucket_one (λ n. dir (bucket_name set n))
 
 -- names
 
@@ -157,12 +151,7 @@ own_table set name own = go ((name.kind == set_kind set) && nat_lt name.at 53) r
 -- the relation depends on the set's own files
 pub own_files : (dir other : Dir) (set : Set) (ms : List Member) → ((name : Name) → is_of_set set name ≡ true → other name ≡ dir name) → AreSubscribers dir set ms → AreSubscribers other set ms
 own_files dir other set ms same is = record {
-  members = record {
-    ordered = is.members.ordered;
-    buckets = is.members.buckets;
-    files = λ n less. subst (λ (f : Option Text). IsBucketFile n f (is.members.buckets n)) (sym (same (bucket_name set n) (bucket_own set n less))) (is.members.files n less);
-    by_key = is.members.by_key;
-  };
+  members = union_own member_key IsBucketFile (λ n. dir (bucket_name set n)) (λ n. other (bucket_name set n)) ms (λ n less. same (bucket_name set n) (bucket_own set n less)) is.members;
   few = is.few;
   counted = same (count_name set) (count_own set) ∙ is.counted;
 }
@@ -173,44 +162,13 @@ broken dir set name ms (inr b) is = b.2 ms is
 
 pub nobody_there : (dir : Dir) (set : Set) → ((n : ℕ) → n < 53 → dir (bucket_name set n) ≡ None) → dir (count_name set) ≡ Some (count_text 0) → AreSubscribers dir set []
 nobody_there dir set none zero_there = record {
-  members = record {
-    ordered = refl;
-    buckets = λ n. [];
-    files = λ n less. subst (λ (f : Option Text). IsBucketFile n f []) (sym (none n less)) refl;
-    by_key = λ k. refl;
-  };
+  members = union_nothing member_key IsBucketFile (λ n. dir (bucket_name set n)) (λ n less. subst (λ (f : Option Text). IsBucketFile n f []) (sym (none n less)) refl);
   few = omega arith;
   counted = zero_there;
 }
 
--- what holds of each who is found holds of each
-each_found : (P : Member → Type 0) (ms : List Member) → IsOrdered ms → ((k : Text) (m : Member) → member_of k ms ≡ Some m → P m) → AllByRecursion P ms
-each_found P [] is found = tt
-each_found P (m ∷ ms) is found = (
-  found (member_key m) m (ap (λ t. cond t (Some m) (member_of (member_key m) ms)) (own_tie (member_key m))),
-  each_found P ms parts.1 (λ k x e. found k x (ap (λ t. cond t (Some m) (member_of k ms)) (apart k x e) ∙ e)),
-)
-  where
-    parts : (list_all (λ f. is_below m.who f.who) ms ≡ true) × IsOrdered ms
-    parts = and_parts (list_all (λ f. is_below m.who f.who) ms) _ is
-
-    all_below : (l : List Member) → list_all (λ f. is_below m.who f.who) l ≡ true → AllByRecursion (λ f. is_below m.who f.who ≡ true) l
-    all_below [] e = tt
-    all_below (x ∷ xs) e = let both = and_parts (is_below m.who x.who) (list_all (λ f. is_below m.who f.who) xs) e in (both.0, all_below xs both.1)
-
-    apart : (k : Text) (x : Member) → member_of k ms ≡ Some x → eq_by_cmp byte_cmp k (member_key m) ≡ false
-    apart k x e = differ k (member_key m) (λ same. absurd (clash k x e same))
-      where
-        clash : (k : Text) (x : Member) → member_of k ms ≡ Some x → k ≡ member_key m → ⊥
-        clash k x e same =
-            let there = found_is byte_cmp member_key (λ f. is_below m.who f.who ≡ true) k x ms (all_below ms parts.0) e in
-            let tie : key m.who ≡ member_key x = sym same ∙ same_bytes k (member_key x) there.1 in
-            let not : is_below m.who x.who ≡ false = not_below m.who x.who tie in
-            let bad : true ≡ false = sym there.0 ∙ not in
-            cc
-
 pub subscribers_each : (dir : Dir) (set : Set) (ms : List Member) → AreSubscribers dir set ms → AllByRecursion (λ m. IsAddress m.who × IsMoment m.since) ms
-subscribers_each dir set ms is = each_found (λ m. IsAddress m.who × IsMoment m.since) ms is.members.ordered
+subscribers_each dir set ms is = each_found member_key (λ m. IsAddress m.who × IsMoment m.since) ms is.members.sorted
     (λ k m e.
     let bucket = is.members.buckets (bucket_of k) in
     let file = is.members.files (bucket_of k) (below_53 k) in
@@ -218,7 +176,7 @@ subscribers_each dir set ms is = each_found (λ m. IsAddress m.who × IsMoment m
     (there.0.address, there.0.since))
 
 -- a bucket and a count that are written anew
-module _ (dir : Dir) (set : Set) (ms : List Member) (is : AreSubscribers dir set ms) (b : ℕ) (bytes : Option Text) (bucket whole : List Member) (count : ℕ) where
+module _ (dir : Dir) (set : Set) (b : ℕ) (bytes : Option Text) (count : ℕ) where
   abbrev after : Dir
   after = with_puts dir (changes set b bytes count)
 
@@ -227,33 +185,6 @@ module _ (dir : Dir) (set : Set) (ms : List Member) (is : AreSubscribers dir set
 
   count_at : after (count_name set) ≡ Some (count_text count)
   count_at = rw (eq-eqb (set_number set) (set_number set) refl) refl
-
-  abbrev changed : ℕ → List Member
-  changed n = cond (n == b) bucket (is.members.buckets n)
-
-  files_after : IsBucketFile b bytes bucket → AreBuckets after set changed
-  files_after made n less = subst (λ (f : Option Text). IsBucketFile n f (changed n)) (sym (file_at n)) (go (n == b) refl)
-    where
-      go : (t : Bool) → (n == b) ≡ t → IsBucketFile n (cond (n == b) bytes (dir (bucket_name set n))) (cond (n == b) bucket (is.members.buckets n))
-      go true e = subst (λ t. IsBucketFile n (cond t bytes (dir (bucket_name set n))) (cond t bucket (is.members.buckets n))) (sym e) (subst (λ (m : ℕ). IsBucketFile m bytes bucket) (sym (eqb-true n b e)) made)
-      go false e = subst (λ t. IsBucketFile n (cond t bytes (dir (bucket_name set n))) (cond t bucket (is.members.buckets n))) (sym e) (is.members.files n less)
-
-  pub written_anew : IsBucketFile b bytes bucket → IsOrdered whole → ((q : Text) → bucket_of q ≡ b → member_of q whole ≡ member_of q bucket)
-      → ((q : Text) → (bucket_of q ≡ b → ⊥) → member_of q whole ≡ member_of q ms) → count ≡ length whole → count ≤ 100_000 → AreSubscribers after set whole
-  written_anew made ordered here elsewhere size few = record {
-    members = record {
-      ordered = ordered;
-      buckets = changed;
-      files = files_after made;
-      by_key = λ q. go q (bucket_of q == b) refl;
-    };
-    few = omega (arith, size, few);
-    counted = count_at ∙ ap (λ n. Some (count_text n)) size;
-  }
-    where
-      go : (q : Text) (t : Bool) → (bucket_of q == b) ≡ t → member_of q whole ≡ member_of q (cond (bucket_of q == b) bucket (is.members.buckets (bucket_of q)))
-      go q true e = here q (eqb-true (bucket_of q) b e) ∙ sym (ap (λ t. member_of q (cond t bucket (is.members.buckets (bucket_of q)))) e)
-      go q false e = elsewhere q (eqb-false (bucket_of q) b e) ∙ is.members.by_key q ∙ sym (ap (λ t. member_of q (cond t bucket (is.members.buckets (bucket_of q)))) e)
 
 -- the bucket of a member with him
 pub bucket_with : (m : Member) (file : Option Text) (bucket : List Member) → IsAddress m.who → IsMoment m.since → IsBucketFile (bucket_of (member_key m)) file bucket
@@ -277,18 +208,17 @@ pub added : (dir : Dir) (set : Set) (ms bucket : List Member) (m : Member) → A
     → IsBucketOf dir set (member_key m) bucket
     → AreSubscribers (with_puts dir (changes set (bucket_of (member_key m)) (bucket_file (with_member m bucket)) (length ms + 1))) set (with_member m ms)
 added dir set ms bucket m is address moment absent room file =
-    let k = member_key m in
+    let n = bucket_of (member_key m) in
+    let bytes = bucket_file (with_member m bucket) in
     let size : length (with_member m ms) ≡ length ms + 1 =
-    length_with byte_cmp member_key same_bytes bytes_total m ms is.members.ordered ∙ ap (λ t. cond t (length ms) (length ms + 1)) absent in
-    written_anew dir set ms is (bucket_of k) (bucket_file (with_member m bucket)) (with_member m bucket) (with_member m ms) (length ms + 1)
-    (bucket_with m (dir (bucket_name set (bucket_of k))) bucket address moment file)
-    (sorted_with byte_cmp member_key same_bytes bytes_total m ms is.members.ordered)
-    (λ q e. found_with byte_cmp member_key same_bytes bytes_total q m ms
-    ∙ ap (λ o. cond (eq_by_cmp byte_cmp q k) (Some m) o)
-    (found_in_bucket dir set ms bucket q is.members (subst (λ (n : ℕ). IsBucketFile n (dir (bucket_name set n)) bucket) (sym e) file))
-    ∙ sym (found_with byte_cmp member_key same_bytes bytes_total q m bucket))
-    (λ q apart. found_with byte_cmp member_key same_bytes bytes_total q m ms ∙ ap (λ t. cond t (Some m) (member_of q ms)) (differ q k (λ e. apart (ap bucket_of e))))
-    (sym size) (omega (arith, room))
+    length_with byte_cmp member_key same_bytes bytes_total m ms is.members.sorted ∙ ap (λ t. cond t (length ms) (length ms + 1)) absent in
+    record {
+      members =
+          put_there member_key IsBucketFile bucket_one (λ i. dir (bucket_name set i)) (λ i. after dir set n bytes (length ms + 1) (bucket_name set i)) ms bucket (member_key m) bytes (file_at dir set n bytes (length ms + 1)) is.members file m refl
+          (bucket_with m (dir (bucket_name set n)) bucket address moment file);
+      few = omega (arith, room, size);
+      counted = count_at dir set n bytes (length ms + 1) ∙ ap (λ n. Some (count_text n)) (sym size);
+    }
 
 abbrev ones : Bool → ℕ
 ones t = cond t 1 0
@@ -296,19 +226,20 @@ ones t = cond t 1 0
 pub removed : (dir : Dir) (set : Set) (ms bucket : List Member) (k : Text) (n : ℕ) → AreSubscribers dir set ms → has_key k ms ≡ true → length ms ≡ n + 1
     → IsBucketOf dir set k bucket
     → AreSubscribers (with_puts dir (changes set (bucket_of k) (bucket_file (without_member k bucket)) n)) set (without_member k ms)
-removed dir set ms bucket k n is there one file =
-    let parts : cond (is_some (member_of k ms)) 1 0 + length (without_member k ms) ≡ length ms = length_left byte_cmp member_key same_bytes bytes_total k ms is.members.ordered in
+removed dir set ms bucket k count is there one file =
+    let n = bucket_of k in
+    let bytes = bucket_file (without_member k bucket) in
+    let parts : cond (is_some (member_of k ms)) 1 0 + length (without_member k ms) ≡ length ms = length_left byte_cmp member_key same_bytes bytes_total k ms is.members.sorted in
     let first : ◌≡◌ {A = ℕ} (cond (is_some (member_of k ms)) 1 0) 1 = ap (λ (t : Bool). ones t) there in
     let few = is.few in
-    written_anew dir set ms is (bucket_of k) (bucket_file (without_member k bucket)) (without_member k bucket) (without_member k ms) n
-    (bucket_without (bucket_of k) k (dir (bucket_name set (bucket_of k))) bucket file)
-    (sorted_without byte_cmp member_key same_bytes bytes_total k ms is.members.ordered)
-    (λ q e. found_without byte_cmp member_key same_bytes bytes_total q k ms
-    ∙ ap (λ o. cond (eq_by_cmp byte_cmp q k) None o)
-    (found_in_bucket dir set ms bucket q is.members (subst (λ (n : ℕ). IsBucketFile n (dir (bucket_name set n)) bucket) (sym e) file))
-    ∙ sym (found_without byte_cmp member_key same_bytes bytes_total q k bucket))
-    (λ q apart. found_without byte_cmp member_key same_bytes bytes_total q k ms ∙ ap (λ t. cond t None (member_of q ms)) (differ q k (λ e. apart (ap bucket_of e))))
-    (omega (arith, parts, first, one)) (omega (arith, few, one))
+    let size : length (without_member k ms) ≡ count = omega (arith, parts, first, one) in
+    record {
+      members =
+          taken_there member_key IsBucketFile bucket_one (λ i. dir (bucket_name set i)) (λ i. after dir set n bytes count (bucket_name set i)) ms bucket k bytes (file_at dir set n bytes count) is.members file
+          (bucket_without n k (dir (bucket_name set n)) bucket file);
+      few = omega (arith, few, one, size);
+      counted = count_at dir set n bytes count ∙ ap (λ n. Some (count_text n)) (sym size);
+    }
 
 -- the set of a number
 abbrev set_at : ℕ → Set
@@ -390,17 +321,10 @@ others_kept dir set other k puts ms apart only is = own_files dir (with_puts dir
 -- buckets that are in their grammar, with their count, stand for members
 pub made_of : (dir : Dir) (set : Set) (buckets : ℕ → List Member) (n : ℕ) → AreBuckets dir set buckets → dir (count_name set) ≡ Some (count_text n) → n ≡ counted buckets 53 → n ≤ 100_000 → (ms : List Member) × AreSubscribers dir set ms
 made_of dir set buckets n files there size few =
-    let hashed = λ (i : ℕ) (less : i < 53). bucket_hashed i (dir (bucket_name set i)) (buckets i) (files i less) in
-    let ordered = λ (i : ℕ) (less : i < 53). bucket_ordered i (dir (bucket_name set i)) (buckets i) (files i less) in
-    let long = length_merged buckets 53 hashed ordered in (
-      merged buckets 53,
+    let long = length_of member_key IsBucketFile bucket_hashed bucket_ordered (λ i. dir (bucket_name set i)) buckets files in (
+      merged member_key buckets 53,
       record {
-        members = record {
-          ordered = merged_ordered buckets 53;
-          buckets = buckets;
-          files = files;
-          by_key = λ k. found_merged buckets 53 hashed k (below_53 k);
-        };
+        members = union_of member_key IsBucketFile bucket_hashed bucket_ordered (λ i. dir (bucket_name set i)) buckets files;
         few = omega (arith, long, size, few);
         counted = there ∙ ap (λ m. Some (count_text m)) (size ∙ sym long);
       },
@@ -409,7 +333,5 @@ made_of dir set buckets n files there size few =
 -- and have as many members as any list for which they stand
 pub counted_one : (dir : Dir) (set : Set) (buckets : ℕ → List Member) (ms : List Member) → AreBuckets dir set buckets → AreSubscribers dir set ms → length ms ≡ counted buckets 53
 counted_one dir set buckets ms files is =
-    let hashed = λ (i : ℕ) (less : i < 53). bucket_hashed i (dir (bucket_name set i)) (buckets i) (files i less) in
-    let ordered = λ (i : ℕ) (less : i < 53). bucket_ordered i (dir (bucket_name set i)) (buckets i) (files i less) in
-    let joined : AreJoined dir set (merged buckets 53) = record { ordered = merged_ordered buckets 53; buckets = buckets; files = files; by_key = λ k. found_merged buckets 53 hashed k (below_53 k) } in
-    ap length (joined_one dir set ms (merged buckets 53) is.members joined) ∙ length_merged buckets 53 hashed ordered
+    ap length (joined_one dir set ms (merged member_key buckets 53) is.members (union_of member_key IsBucketFile bucket_hashed bucket_ordered (λ i. dir (bucket_name set i)) buckets files))
+    ∙ length_of member_key IsBucketFile bucket_hashed bucket_ordered (λ i. dir (bucket_name set i)) buckets files

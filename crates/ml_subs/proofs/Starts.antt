@@ -16,7 +16,7 @@ use Rattle.ml_subs.specs.declared.records.Layout.TheVariants.{Dated}
 use Rattle.ml_subs.specs.Buckets.{IsMember, record_text, records}
 use Rattle.ml_subs.specs.Reading.{AreRead, Leads, Passed, rises}
 use Rattle.ml_subs.proofs.Known.{IsSplit}
-use Rattle.ml_subs.proofs.Orders.{below_then}
+use Rattle.ml_base.proofs.BelowLemmas.{below_then}
 use Rattle.ml_subs.proofs.Spelled.{decimal_clean, leads_more, leads_start, read_first, record_parts}
 
 abbrev behind : Text → Text

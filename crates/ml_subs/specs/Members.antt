@@ -1,8 +1,10 @@
 -- Members of a set, in the order of their keys.
-use Rattle.std.specs.Prelude.{◌≡◌, true, Bool, List, Option, is_some}
+use Rattle.std.specs.Prelude.{Bool, List, Option, is_some}
 use Rattle.ml_base.specs.Bytes.{Text}
 use Rattle.ml_base.specs.Address.{key}
-use Rattle.ml_base.specs.Sorted.{byte_cmp, entry_of, is_sorted, with_entry, without_key}
+use Rattle.ml_base.specs.Sorted.{byte_cmp, with_entry, without_key}
+use Rattle.ml_keyed.specs.Buckets.{found}
+use Rattle.ml_keyed.specs.Buckets as keyed
 use Rattle.ml_subs.specs.declared.member_list.Member.{Member}
 
 -- the key of a member: that of his address
@@ -11,11 +13,11 @@ member_key m = key m.who
 
 -- a list of members in ascending order of key, without a key twice
 abbrev pub IsOrdered : List Member → Type 0
-IsOrdered ms = is_sorted byte_cmp member_key ms ≡ true
+IsOrdered ms = keyed.IsOrdered member_key ms
 
 -- the member of a key, as he is spelled in the list, or None where there is none
 abbrev pub member_of : Text → List Member → Option Member
-member_of k ms = entry_of byte_cmp member_key k ms
+member_of k ms = found member_key k ms
 
 -- whether a list has a member of this key
 abbrev pub has_key : Text → List Member → Bool

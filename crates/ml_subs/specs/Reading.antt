@@ -1,14 +1,16 @@
 -- Bytes that are read as members, from a place on.
-use Rattle.std.specs.Prelude.{◌≡◌, ◌≢◌, ◌≤◌, ◌+◌, ℕ, zero, suc, Bool, true, false, ◌&&◌, List, [], ◌∷◌, ◌++◌, length, take, drop, Option, Some, None, IfSome}
+use Rattle.std.specs.Prelude.{◌≡◌, ◌≢◌, ◌≤◌, ℕ, Bool, true, false, List, [], ◌∷◌, ◌++◌, length, take, drop, Option, Some, None, IfSome}
 use Rattle.std.specs.Option.{option_to_list}
 use Rattle.std.specs.List.{AllByRecursion, list_all}
 use Rattle.ml_base.specs.Bytes.{Text}
 use Rattle.ml_base.specs.Address.{key, IsAddress}
 use Rattle.ml_base.specs.Keys.{is_below}
+use Rattle.ml_keyed.specs.Buckets as keyed
 use Rattle.ml_subs.specs.declared.member_list.Member.{Member}
 use Rattle.ml_subs.specs.declared.records.Layout.{Layout}
 use Rattle.ml_subs.specs.declared.records.Layout.TheVariants.{Undated, Dated}
 use Rattle.ml_subs.specs.declared.records.Record.{Record}
+use Rattle.ml_subs.specs.Members.{member_key}
 use Rattle.ml_subs.specs.Buckets.{IsMember, IsMomentIn, IsBucket, layout_line, record_text, records}
 
 -- the member of a record
@@ -17,8 +19,7 @@ as_member r = record { who = r.who.now; since = r.since }
 
 -- members whose keys rise, the first of them above an address's
 abbrev pub rises : Text → List Member → Bool
-rises floor [] = true
-rises floor (m ∷ ms) = is_below floor m.who && rises m.who ms
+rises floor ms = keyed.rises member_key (key floor) ms
 
 -- bytes that spell members of a bucket, whose keys rise above an address's
 pub record AreRead (layout : Layout) (n : ℕ) (floor : Text) (text : Text) (ms : List Member) : Type 0 where
@@ -107,16 +108,6 @@ all_members {here = here} s = s.below ++ (option_to_list here ++ s.above)
 pub record IsKeyed (who : Text) (is_key : Bool) : Type 0 where
   pub address : IsAddress who
   pub own : is_key ≡ true → who ≡ key who
-
--- the members of the first buckets, one bucket behind the other
-abbrev pub gathered : (ℕ → List Member) → ℕ → List Member
-gathered buckets zero = []
-gathered buckets (suc n) = gathered buckets n ++ buckets n
-
--- how many the members of the first buckets are
-abbrev pub counted : (ℕ → List Member) → ℕ → ℕ
-counted buckets zero = 0
-counted buckets (suc n) = counted buckets n + length (buckets n)
 
 -- where members were read, they stand behind those that were there before, and else there are none such
 abbrev pub AreAdded : List Member → List Member → Bool → (List Member → Type 0) → Type 0

@@ -3,12 +3,13 @@ use Rattle.std.specs.Prelude.{◌≡◌, ◌≢◌, ◌<◌, ◌≤◌, ℕ, Boo
 use Rattle.std.specs.Fmt.{decimal}
 use Rattle.ml_base.specs.Bytes.{Text, line_feed}
 use Rattle.ml_base.specs.Dir.{Dir, same_name}
-use Rattle.ml_base.specs.Name.{set_kind, set_number}
+use Rattle.ml_base.specs.Name.{set_kind}
 use Rattle.ml_base.specs.declared.names.Name.{Name}
 use Rattle.ml_base.specs.declared.names.Set.{Set}
+use Rattle.ml_keyed.specs.Buckets.{AreFirst, IsUnion}
 use Rattle.ml_subs.specs.declared.lists.Spelling.{Spelling}
 use Rattle.ml_subs.specs.declared.member_list.Member.{Member}
-use Rattle.ml_subs.specs.Members.{member_of, has_key, IsOrdered}
+use Rattle.ml_subs.specs.Members.{member_key, has_key}
 use Rattle.ml_subs.specs.Buckets.{bucket_of, IsBucketFile}
 pub use Rattle.ml_base.specs.Kinds.{bucket_name, count_name}
 
@@ -18,14 +19,11 @@ count_text n = decimal n ++ line_feed ∷ []
 
 -- each of a set's 53 files has the members of its bucket
 abbrev pub AreBuckets : Dir → Set → (ℕ → List Member) → Type 0
-AreBuckets dir set buckets = (n : ℕ) → n < 53 → IsBucketFile n (dir (bucket_name set n)) (buckets n)
+AreBuckets dir set buckets = AreFirst IsBucketFile (λ n. dir (bucket_name set n)) 53 buckets
 
 -- the buckets of a set have these members together: under each key what the key's bucket has
-pub record AreJoined (dir : Dir) (set : Set) (ms : List Member) : Type 0 where
-  pub ordered : IsOrdered ms
-  pub buckets : ℕ → List Member
-  pub files : AreBuckets dir set buckets
-  pub by_key : (k : Text) → member_of k ms ≡ member_of k (buckets (bucket_of k))
+abbrev pub AreJoined : Dir → Set → List Member → Type 0
+AreJoined dir set ms = IsUnion member_key IsBucketFile (λ n. dir (bucket_name set n)) ms
 
 -- the members that the bucket of a key has
 abbrev pub IsBucketOf : Dir → Set → Text → List Member → Type 0

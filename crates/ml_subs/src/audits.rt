@@ -5,9 +5,10 @@ ghost use Rattle.ml_base.specs.PartErrors.{OnDamaged};
 ghost use Rattle.ml_base.specs.ReadFiles.{IsReading, NamesDamaged};
 ghost use Rattle.ml_subs.specs.declared.member_list.Member.{Member};
 ghost use Rattle.ml_subs.specs.Buckets.{IsBucketFile};
+ghost use Rattle.ml_keyed.specs.Buckets.{counted};
 ghost use Rattle.ml_subs.specs.Subscribers.{AreSubscribers, AreBuckets, IsNoBucket, IsBucketName, IsBadBucket, Breaks, is_of_set};
+ghost use Rattle.ml_keyed.specs.Buckets.{counted};
 ghost use Rattle.ml_subs.specs.Subscribers as spec;
-ghost use Rattle.ml_subs.specs.Reading.{counted};
 
 use crate::counts::count_of;
 use crate::places::split_layout;

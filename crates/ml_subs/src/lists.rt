@@ -9,8 +9,9 @@ ghost use Rattle.ml_base.specs.ReadFiles.{IsReading, NamesDamaged};
 ghost use Rattle.ml_subs.specs.declared.member_list.Member.{Member};
 ghost use Rattle.ml_subs.specs.Members.{member_key, IsOrdered};
 ghost use Rattle.ml_subs.specs.Buckets.{IsBucketFile};
+ghost use Rattle.ml_keyed.specs.Buckets.{gathered};
 ghost use Rattle.ml_subs.specs.Subscribers.{AreSubscribers, AreJoined, AreBuckets, AreFiles, IsSpelled, file_in, IsBucketName, IsBadBucket};
-ghost use Rattle.ml_subs.specs.Reading.{AreRead, gathered, AreAdded};
+ghost use Rattle.ml_subs.specs.Reading.{AreRead, AreAdded};
 
 use crate::keyed::Keyed;
 use crate::places::split_layout;

@@ -8,8 +8,8 @@ ghost use Rattle.ml_subs.specs.Buckets.{IsMember, IsMomentIn, moment_text};
 ghost use Rattle.ml_subs.specs.Reading.{AreRead, BeginsWith, as_member};
 
 use crate::Member;
-use crate::hashing::bucket_of_bytes;
 use ml_base::{Address, LAST_MOMENT, is_below, is_kept, number_within, split_first};
+use ml_keyed::place_of_lower;
 use std::alloc::{AllocError, Global};
 
 // How a bucket's records are spelled: layout 1 has addresses alone, and layout 2 their moments too.
@@ -87,7 +87,7 @@ pub(crate) fn next_member<'a>(
     if !is_below(floor, record.who) {
         return None;
     }
-    if bucket_of_bytes(record.who) != n {
+    if place_of_lower(record.who) != n {
         return None;
     }
     Some((record, more))

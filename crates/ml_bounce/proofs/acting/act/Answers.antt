@@ -7,7 +7,8 @@ use Rattle.ml_bounce.specs.Answers.{action_key, acts, key_file, IsBucketOf}
 use Rattle.ml_bounce.specs.Files.{ledger_place}
 use Rattle.ml_bounce.proofs.Acted.{acted_leads, acts_only}
 use Rattle.ml_bounce.proofs.Leading.{lowered_key}
-use Rattle.ml_bounce.proofs.Ledgers.{bucket_in, name_itself, ledger_file_of, place_below}
+use Rattle.ml_keyed.proofs.Keys.{place_below}
+use Rattle.ml_bounce.proofs.Ledgers.{bucket_in, name_itself, ledger_file_of}
 use Rattle.ml_bounce.proofs.acting.act.Goals as goal
 
 pub returns-clause-read : goal.returns-clause-read

@@ -8,7 +8,8 @@ use Rattle.ml_bounce.specs.Answers.{key_file, writes, IsBucketOf}
 use Rattle.ml_bounce.specs.Changes as spec
 use Rattle.ml_bounce.specs.Files.{ledger_place}
 use Rattle.ml_bounce.proofs.Leading.{warned_leads, answer_only, lowered_key}
-use Rattle.ml_bounce.proofs.Ledgers.{bucket_in, name_itself, ledger_file_of, place_below}
+use Rattle.ml_keyed.proofs.Keys.{place_below}
+use Rattle.ml_bounce.proofs.Ledgers.{bucket_in, name_itself, ledger_file_of}
 use Rattle.ml_bounce.proofs.bouncing.warn_failed.Goals as goal
 
 pub returns-clause-read : goal.returns-clause-read

@@ -5,7 +5,7 @@ use Rattle.std.specs.Ordering.{is_lt}
 use Rattle.ml_base.specs.Sorted.{byte_cmp}
 use Rattle.ml_base.proofs.SortedLaws.{bytes_total}
 use Rattle.ml_bounce.specs.Ledger.{LedgerEntry}
-use Rattle.ml_bounce.proofs.Union.{entry_key}
+use Rattle.ml_bounce.specs.Ledger.{entry_key}
 use Rattle.ml_bounce.proofs.listing.in_order.Goals as goal
 
 pub returns-clause-sorted : goal.returns-clause-sorted

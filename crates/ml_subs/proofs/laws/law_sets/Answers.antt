@@ -5,7 +5,7 @@ use Rattle.ml_subs.proofs.laws.law_sets.Goals as goal
 pub returns-clause-bucket : goal.returns-clause-bucket
 returns-clause-bucket c = bucket_one
 
-pub returns-clause-union : goal.returns-clause-joined
+pub returns-clause-union : goal.returns-clause-union
 returns-clause-union c = joined_one
 
 pub returns-clause-one : goal.returns-clause-one

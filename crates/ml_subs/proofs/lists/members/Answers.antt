@@ -15,4 +15,4 @@ returns-clause-value g c told =
 
 pub returns-clause-ordered : goal.returns-clause-ordered
 returns-clause-ordered g c =
-    ok_from c.sorted_members.result (AreJoined (file_in c.in_ok-texts.texts) c.args.set) IsOrdered (λ found joined. joined.ordered) c.sorted_members.ensures.union
+    ok_from c.sorted_members.result (AreJoined (file_in c.in_ok-texts.texts) c.args.set) IsOrdered (λ found joined. joined.sorted) c.sorted_members.ensures.union
