@@ -20,7 +20,8 @@ use Rattle.ml_bounce.specs.Changes.{can_note, noted, note, is_warned, warn_faile
 use Rattle.ml_bounce.specs.Files.{IsLedger, IsLedgerFile, IsEntry, is_stage, are_distinct, ledger_place}
 use Rattle.ml_bounce.specs.Ledger.{Ledger, LedgerEntry, Stage, Unwarned, Warned, WarnFailed, Probed, find_entry, entry_under, no_entry, with_ledger, forget, is_blank_at}
 use Rattle.ml_bounce.proofs.Changed.{found_there, forgotten_there, put_there, same_key}
-use Rattle.ml_bounce.proofs.Folded.{own_key, none_capital}
+use Rattle.ml_bounce.proofs.Folded.{none_capital}
+use Rattle.ml_keyed.proofs.Keys.{own_key}
 
 pub lowered_key : (who : Text) → lower (key who) ≡ key who
 lowered_key who = own_key (lower who) (none_capital who)

@@ -18,7 +18,8 @@ use Rattle.ml_bounce.specs.Files.{IsEntry, entry_text}
 use Rattle.ml_bounce.specs.Ledger.{Ledger, LedgerEntry}
 use Rattle.ml_bounce.specs.Reading.{key_in, entry_of_content, entry_of_fields, entry_at, is_below_first}
 use Rattle.ml_bounce.proofs.Exact.{key_read, key_written, entry_read, entry_written, entry_some}
-use Rattle.ml_bounce.proofs.Folded.{own_key, none_capital}
+use Rattle.ml_bounce.proofs.Folded.{none_capital}
+use Rattle.ml_keyed.proofs.Keys.{own_key}
 
 -- a key
 pub key_there : (text : Text) (capital : Bool) → IsAddress text → capital ≡ list_any is_ascii_uppercase text → not capital ≡ true → key_in text ≡ Some text

@@ -1,6 +1,5 @@
 -- Files that are written anew.
-use Rattle.std.proofs.Common.{◌≡◌, ◌≤◌, ◌<◌, ◌-◌, Bool, true, false, cond, not, List, [], ◌∷◌, ◌++◌, length, take, drop, get_or, Some, None, refl, sym, ap, ap₂, ◌∙◌, arith, append_assoc, length-append}
-use Rattle.std.proofs.lemmas.List.{take_all}
+use Rattle.std.proofs.Common.{◌≡◌, ◌<◌, ◌-◌, Bool, true, false, cond, not, [], ◌∷◌, ◌++◌, length, Some, None, refl, sym, ap, ◌∙◌, arith, append_assoc, length-append}
 use Rattle.std.proofs.lemmas.Bool.{false≢true}
 use Rattle.std.proofs.lemmas.Slice.Eq.{bytes_eq-Decides}
 use Rattle.std.specs.List.{flat_map}
@@ -19,11 +18,6 @@ use Rattle.ml_bounce.specs.Ledger.{Ledger, LedgerEntry, with_ledger, forget}
 use Rattle.ml_bounce.specs.Reading.{is_from, behind_key}
 use Rattle.ml_bounce.proofs.Changed.{same_key}
 use Rattle.ml_bounce.proofs.Exact.{entry_some}
-
--- a list by its first item
-pub first_of : {A : Type 0} (xs : List A) (a : A) → 1 ≤ length xs → a ≡ get_or xs 0 a → xs ≡ a ∷ take (length xs - 1) (drop 1 xs)
-first_of [] a some is = absurd (omega arith)
-first_of (x ∷ xs) a some is = ap₂ (λ y (ys : List _). y ∷ ys) (sym is) (sym (take_all (length (x ∷ xs) - 1) xs (omega arith)))
 
 -- an entry goes behind those that are below it
 pub with_below : (e f : LedgerEntry) (fs : Ledger) → is_lt (byte_cmp f.key e.key) ≡ true → with_ledger e (f ∷ fs) ≡ f ∷ with_ledger e fs

@@ -5,5 +5,4 @@ pub mod Cutting
 pub mod Rising
 pub mod Numbered
 pub mod OfFiles
-pub mod Looked
 pub mod Walked

@@ -19,11 +19,8 @@ use Rattle.ml_site.proofs.Steps.{at_start, goes_on, joins, rest_contents}
 use Rattle.ml_journal.specs.Calls.{OnlyNow}
 use Rattle.ml_journal.specs.Log.{directory}
 use Rattle.ml_journal.specs.Stores.{the_dir}
-use Rattle.ml_ending.specs.declared.lines.Why.{Why}
-use Rattle.ml_ending.specs.declared.lines.Why.TheVariants as whys
 use Rattle.ml_ending.specs.Endings.{SaysAtMost, Tells, TellsAtMost}
 use Rattle.ml_ending.specs.Lines.{stop_text}
-use Rattle.ml_ending.specs.Stops.{status_of_why}
 use Rattle.ml_ending.proofs.Finished.{rose_earlier}
 use Rattle.ml_ending.proofs.Said.{tells_front}
 use Rattle.ml_reading.specs.declared.question.Answer.TheVariants as answers

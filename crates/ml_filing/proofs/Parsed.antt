@@ -1,5 +1,5 @@
 -- What is read piece by piece is what the whole is read as.
-use Rattle.std.proofs.Common.{◌≡◌, ◌<◌, ◌≤◌, ◌+◌, ◌-◌, ℕ, Bool, true, false, cond, ◌==◌, ◌&&◌, List, [], ◌∷◌, ◌++◌, length, take, drop, get_or, Option, Some, None, refl, sym, ap, ap₂, ◌∙◌, arith, append_assoc, option_map}
+use Rattle.std.proofs.Common.{◌≡◌, ◌≤◌, ◌+◌, ◌-◌, ℕ, Bool, true, false, ◌&&◌, List, [], ◌∷◌, length, take, drop, get_or, Option, Some, None, refl, sym, ap, ◌∙◌, arith, option_map}
 use Rattle.std.specs.List.{list_all}
 use Rattle.std.specs.Option.{option_and_then}
 use Rattle.std.specs.Cmp.{IsTotalOrder}
@@ -10,24 +10,17 @@ use Rattle.std.proofs.lemmas.List.{take_all}
 use Rattle.ml_base.specs.Address.{IsAddress}
 use Rattle.ml_base.specs.Bytes.{Text}
 use Rattle.ml_base.specs.Netstrings.{netstring_at}
-use Rattle.ml_base.specs.Numbers.{number_within}
 use Rattle.ml_base.specs.Sorted.{is_sorted}
-use Rattle.ml_base.specs.Splits.{split_first, onto_first, onto_line}
 use Rattle.ml_base.proofs.BelowLemmas.{less}
 use Rattle.ml_base.proofs.SortedLaws.{numbers_total}
 use Rattle.ml_rows.specs.Rows.{onto, netstrings_at, row_of}
-use Rattle.ml_rows.specs.Values.{address_in, all_numbers, split_all, comma_numbers}
+use Rattle.ml_rows.specs.Values.{address_in}
 use Rattle.ml_rows.proofs.Commas.{two}
 use Rattle.ml_rows.proofs.ValueLaws.{address_is}
 use Rattle.ml_filing.specs.Answers.{is_below_first}
 use Rattle.ml_filing.specs.Reading.{thread_at, thread_of_fields}
 use Rattle.ml_filing.specs.Threads.{Thread}
 use Rattle.ml_filing.proofs.Exact.{threads_more}
-
--- a list by its first item
-pub first_of : {A : Type 0} (xs : List A) (a : A) → 1 ≤ length xs → a ≡ get_or xs 0 a → xs ≡ a ∷ take (length xs - 1) (drop 1 xs)
-first_of [] a some is = absurd (omega arith)
-first_of (x ∷ xs) a some is = ap₂ (λ y (ys : List _). y ∷ ys) (sym is) (sym (take_all (length (x ∷ xs) - 1) xs (omega arith)))
 
 -- a text that is no address
 pub address_not : (text : Text) → (IsAddress text → ⊥) → address_in text ≡ None

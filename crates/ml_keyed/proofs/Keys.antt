@@ -1,16 +1,18 @@
 -- Records in the order of their keys.
-use Rattle.std.proofs.Common.{◌≡◌, ◌<◌, true, false, cond, List, [], ◌∷◌, Some, None, refl, sym, ap, ap₂, ◌∙◌, arith}
-use Rattle.std.proofs.lemmas.Bool.{and_parts, and_from}
+use Rattle.std.proofs.Common.{◌≡◌, ◌<◌, true, false, cond, List, [], ◌∷◌, Some, None, refl, sym, ap, ap₂, ◌∙◌, arith, ℕ}
+use Rattle.std.proofs.lemmas.Bool.{and_parts, and_from, or_parts}
 use Rattle.std.specs.declared.cmp.Ordering.{Ordering}
 use Rattle.std.specs.declared.cmp.Ordering.TheVariants.{Less, Equal, Greater}
 use Rattle.std.specs.Ordering.{is_lt, is_eq, eq_by_cmp}
 use Rattle.std.specs.Cmp.{tied_itself}
-use Rattle.std.specs.List.{list_all, AllByRecursion}
-use Rattle.ml_base.specs.Bytes.{Text}
+use Rattle.std.specs.List.{list_all, AllByRecursion, list_any}
+use Rattle.ml_base.specs.Bytes.{Text, lower}
 use Rattle.ml_base.specs.Sorted.{byte_cmp}
 use Rattle.ml_base.proofs.BelowLemmas.{less}
 use Rattle.ml_base.proofs.SortedLaws.{bytes_total, same_bytes}
 use Rattle.ml_keyed.specs.Buckets.{place_of, found, IsOrdered, is_above, rises}
+use Rattle.std.proofs.lemmas.Bool.Decides.{nat_tests}
+use Rattle.std.specs.Char.{is_ascii_uppercase, to_ascii_lowercase}
 
 pub place_below : (k : Text) → place_of k < 53
 place_below k = omega arith
@@ -78,3 +80,11 @@ module _ {E : Type 0} (key_of : E → Text) where
 
       apart : (k : Text) (e : E) → found key_of k xs ≡ Some e → eq_by_cmp byte_cmp k (key_of x) ≡ false
       apart k e there = differ k (key_of x) (λ same. let bad : None ≡ Some e = sym (ap (λ l. found key_of l xs) same ∙ all_above_none (key_of x) xs parts.0) ∙ there in absurd (cc))
+
+small : (b : ℕ) → is_ascii_uppercase b ≡ false → to_ascii_lowercase b ≡ b
+small b e = grind (arith, nat_tests)
+
+-- a text without a capital letter is its own key
+pub own_key : (bs : Text) → list_any is_ascii_uppercase bs ≡ false → lower bs ≡ bs
+own_key [] e = refl
+own_key (b ∷ bs) e = let parts = or_parts (is_ascii_uppercase b) (list_any is_ascii_uppercase bs) e in ap₂ (λ c cs. c ∷ cs) (small b parts.0) (own_key bs parts.1)

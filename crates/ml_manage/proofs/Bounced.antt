@@ -1,6 +1,6 @@
 -- What bounces do to the list's files.
-use Rattle.std.proofs.Common.{◌≡◌, ◌≤◌, ℕ, Bool, true, false, cond, eqb, leb, ◌&&◌, ◌||◌, List, [], ◌∷◌, Option, Some, None, refl, sym, ap, ◌∙◌, arith, subst}
-use Rattle.std.proofs.lemmas.Bool.{and_parts, and_from, eq-eqb, eqb-true, le-leb}
+use Rattle.std.proofs.Common.{◌≡◌, ◌≤◌, ℕ, Bool, true, false, cond, eqb, leb, ◌&&◌, ◌||◌, List, [], Option, Some, None, refl, sym, ap, ◌∙◌, arith, subst}
+use Rattle.std.proofs.lemmas.Bool.{and_parts, and_from, eq-eqb, le-leb}
 use Rattle.ml_base.specs.Bytes.{Text}
 use Rattle.ml_base.specs.Address.{key}
 use Rattle.ml_base.specs.Dir.{Dir, same_name, with_puts, touches_only}
@@ -10,7 +10,7 @@ use Rattle.ml_base.specs.declared.names.Set.TheVariants as sets
 use Rattle.ml_base.specs.declared.puts.Put.{Put}
 use Rattle.ml_address.specs.Requests.{is_mailed}
 use Rattle.ml_bounce.specs.Answers.{has_ledger, key_file, ledger_kind, LeadsTo, puts_of}
-use Rattle.ml_bounce.specs.Files.{IsLedger, ledger_place}
+use Rattle.ml_bounce.specs.Files.{IsLedger}
 use Rattle.ml_bounce.specs.Ledger.{Ledger}
 use Rattle.ml_plain.specs.declared.Reply.{Reply}
 use Rattle.ml_plain.specs.Answers.{bounce, ignored, dropped}

@@ -1,8 +1,8 @@
 -- A post that waits, and the mail that asks about it.
 use Rattle.std.proofs.Common.{◌≡◌, ◌⊎◌, inl, inr, ◌≤◌, ℕ, Bool, true, false, eqb, leb, ◌&&◌, ◌||◌, not, List, refl, ap, subst, arith}
-use Rattle.std.proofs.lemmas.Bool.{or_cases, or_left, or_right, and_parts, and_from, eqb-true, le-leb}
+use Rattle.std.proofs.lemmas.Bool.{or_cases, and_from, eqb-true, le-leb}
 use Rattle.ml_base.specs.Bytes.{Text}
-use Rattle.ml_base.specs.Dir.{Dir, same_name, with_puts, touches_only}
+use Rattle.ml_base.specs.Dir.{Dir, with_puts, touches_only}
 use Rattle.ml_base.specs.Drawn.{IsCounter}
 use Rattle.ml_base.specs.Ranges.{is_drawn}
 use Rattle.ml_base.specs.declared.names.Name.{Name}

@@ -1,5 +1,5 @@
 -- A row is read as exactly the records that it spells, where each record is.
-use Rattle.std.proofs.Common.{◌≡◌, ◌↔◌, Bool, true, false, cond, ℕ, zero, suc, ◌+◌, ◌<◌, ◌≤◌, List, [], ◌∷◌, ◌++◌, length, Option, Some, None, refl, sym, ap, ap₂, ◌∙◌, arith, length-append, append_assoc, option_map, subst, take, get_or, append-nil}
+use Rattle.std.proofs.Common.{◌≡◌, ◌↔◌, Bool, true, false, cond, ℕ, zero, suc, ◌+◌, ◌<◌, ◌≤◌, List, [], ◌∷◌, ◌++◌, length, Option, Some, None, refl, sym, ap, ap₂, ◌∙◌, arith, length-append, append_assoc, option_map, subst, take, get_or, append-nil, drop, ◌-◌}
 use Rattle.std.specs.List.{flat_map}
 use Rattle.std.specs.Option.{option_and_then}
 use Rattle.ml_base.specs.Bytes.{Text}
@@ -9,6 +9,7 @@ use Rattle.ml_base.proofs.Netstrings.{netstring_written, netstring_read}
 use Rattle.ml_rows.specs.Rows.{onto, only_if, both_of, first_and_more, row_within, row_of, EachFrom, netstrings_at}
 use Rattle.std.proofs.lemmas.Grind.{flat_map-append}
 use Rattle.std.proofs.Math.Seq.{take-suc}
+use Rattle.std.proofs.lemmas.List.{take_all}
 
 module _ {A : Type 0} where
   pub one_some : (a b : A) → Some a ≡ Some b → a ≡ b
@@ -195,3 +196,8 @@ one_more f ns i n out new low e before is =
     let one : i + 1 ≡ suc i = omega arith in
     is ∙ ap₂ (λ a b. a ++ b) before (ap f e) ∙ ap (λ t. flat_map f (take i ns) ++ t) (sym (append-nil (f (get_or ns i 0)))) ∙ sym (flat_map-append f (take i ns) (get_or ns i 0 ∷ []))
     ∙ ap (flat_map f) (sym (take-suc ns i 0 low)) ∙ ap (λ (k : ℕ). flat_map f (take k ns)) (sym one)
+
+-- the first of a row, and what is behind it
+pub first_of : {A : Type 0} (xs : List A) (a : A) → 1 ≤ length xs → a ≡ get_or xs 0 a → xs ≡ a ∷ take (length xs - 1) (drop 1 xs)
+first_of [] a some is = absurd (omega arith)
+first_of (x ∷ xs) a some is = ap₂ (λ y (ys : List _). y ∷ ys) (sym is) (sym (take_all (length (x ∷ xs) - 1) xs (omega arith)))

@@ -1,7 +1,7 @@
 use Rattle.std.proofs.Common.{◌∙◌, ◌-◌, length, take, drop, sym}
 use Rattle.ml_bounce.proofs.Ledgers.{find_here, find_behind}
-use Rattle.ml_bounce.proofs.Rewritten.{first_of}
 use Rattle.ml_bounce.proofs.forgetting.find.Goals as goal
+use Rattle.ml_rows.proofs.RowLaws.{first_of}
 
 pub returns-then-eq : goal.returns-then-eq
 returns-then-eq c =

@@ -4,8 +4,8 @@ use Rattle.ml_base.specs.Sorted.{byte_cmp, is_sorted}
 use Rattle.ml_bounce.specs.Ledger.{Ledger, LedgerEntry}
 use Rattle.ml_bounce.specs.Reading.{is_below_first}
 use Rattle.ml_bounce.proofs.Parsed.{sorted_more}
-use Rattle.ml_bounce.proofs.Rewritten.{first_of}
 use Rattle.ml_bounce.proofs.reading.is_rising.Goals as goal
+use Rattle.ml_rows.proofs.RowLaws.{first_of}
 
 pub loop-rest-preserved : goal.loop-rest-preserved
 loop-rest-preserved c =

@@ -2,8 +2,9 @@ use Rattle.std.proofs.Common.{◌-◌, length, take, drop}
 use Rattle.std.specs.List.{flat_map}
 use Rattle.ml_bounce.specs.Files.{entry_text}
 use Rattle.ml_bounce.specs.Ledger.{forget}
-use Rattle.ml_bounce.proofs.Rewritten.{first_of, kept_turn, gone_turn, other_by, own_by}
+use Rattle.ml_bounce.proofs.Rewritten.{kept_turn, gone_turn, other_by, own_by}
 use Rattle.ml_bounce.proofs.writing.file_without.Goals as goal
+use Rattle.ml_rows.proofs.RowLaws.{first_of}
 
 pub loop-rest-preserved-in_ok-push_entry : goal.loop-rest-preserved-in_ok-push_entry
 loop-rest-preserved-in_ok-push_entry c =

@@ -4,8 +4,9 @@ use Rattle.ml_base.specs.Sorted.{byte_cmp, is_sorted}
 use Rattle.ml_base.proofs.SortedLaws.{bytes_total}
 use Rattle.ml_filing.specs.Answers.{is_below_first}
 use Rattle.ml_filing.specs.Threads.{Thread}
-use Rattle.ml_filing.proofs.Parsed.{first_of, sorted_more}
+use Rattle.ml_filing.proofs.Parsed.{sorted_more}
 use Rattle.ml_filing.proofs.threads.keys_rise.Goals as goal
+use Rattle.ml_rows.proofs.RowLaws.{first_of}
 
 pub loop-rest-preserved : goal.loop-rest-preserved
 loop-rest-preserved c =

@@ -1,7 +1,7 @@
 use Rattle.std.proofs.Common.{◌∙◌, ◌-◌, length, take, drop}
-use Rattle.ml_filing.proofs.Parsed.{first_of}
 use Rattle.ml_filing.proofs.Rewritten.{under_here, under_behind}
 use Rattle.ml_filing.proofs.threads.numbers_for.Goals as goal
+use Rattle.ml_rows.proofs.RowLaws.{first_of}
 
 pub returns-then-eq : goal.returns-then-eq
 returns-then-eq c =

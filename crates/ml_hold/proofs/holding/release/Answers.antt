@@ -1,6 +1,6 @@
 use Rattle.ml_drawn.specs.declared.series.Series.TheVariants.{Tickets}
 use Rattle.ml_drawn.proofs.Cutting.{if_ok_from}
-use Rattle.ml_drawn.proofs.Looked.{released}
+use Rattle.ml_drawn.proofs.OfFiles.{released}
 use Rattle.ml_hold.specs.Held.{IsHeld, held_text}
 use Rattle.ml_hold.proofs.holding.release.Goals as goal
 

@@ -6,7 +6,7 @@ use Rattle.ml_base.specs.ReadFiles.{IsReading}
 use Rattle.ml_base.proofs.ReadingLemmas.{kept_read, reading_then}
 use Rattle.ml_drawn.specs.declared.series.Series.TheVariants.{Tickets}
 use Rattle.ml_drawn.specs.Answers.{IsTaking}
-use Rattle.ml_drawn.proofs.Looked.{looking, released}
+use Rattle.ml_drawn.proofs.OfFiles.{looking, released}
 use Rattle.ml_hold.specs.declared.posts.Held.{Held}
 use Rattle.ml_hold.specs.Held.{IsHeld, held_text}
 use Rattle.ml_hold.specs.Answers.{LooksBy, tickets_name}

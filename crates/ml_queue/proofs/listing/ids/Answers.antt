@@ -1,5 +1,6 @@
 use Rattle.std.proofs.Common.{arith, sym, ap, ◌∙◌, ◌+◌, ◌≤◌, ◌<◌, ◌++◌, List, ℕ, append-nil, IsTrue}
 use Rattle.ml_base.specs.Ranges.{is_drawn}
+use Rattle.ml_base.proofs.ReadingLemmas.{kept_then}
 use Rattle.ml_drawn.proofs.Drawings.{from_on}
 use Rattle.ml_drawn.proofs.Reading.{some_is}
 use Rattle.ml_drawn.proofs.Walked.{first_number, none_number}
@@ -21,15 +22,13 @@ pub loop-ids-preserved : goal.loop-ids-preserved
 loop-ids-preserved g c =
     let before = c.loop-ids.invariant in
     let up = before.up in
-    let later = before.are_kept.later in
     let next = c.in_ok-id.ensures in
-    let more = next.are_kept.later in
     let id = c.in-Some.id in
     let range = some_is c.in_ok-id.field-0 id (λ n. (c.loop-ids.from ≤ n) × (n < c.in_ok-counter.counter.next) × IsTrue (is_drawn n)) c.in-Some.is next.ranges in
     let onward = range.0 in
     let below = range.1 in
     record {
-      are_kept = record { kept = g.met.F.Files.kept_then c.args.files.now c.loop-ids.files c.next_number.new.files before.are_kept.kept next.are_kept.kept; later = omega (arith, later, more) };
+      are_kept = kept_then g.F.Files g.met.F.Files.kept_then c.args.files.now c.loop-ids.files c.next_number.new.files before.are_kept next.are_kept;
       up = omega (arith, up, onward);
       within = omega (arith, below);
       value = λ tells queue is.

@@ -3,7 +3,7 @@ use Rattle.ml_base.specs.Dir.{Dir}
 use Rattle.ml_base.specs.Ranges.{is_drawn}
 use Rattle.ml_drawn.specs.declared.series.Series.TheVariants.{Ids}
 use Rattle.ml_drawn.specs.Answers.{IsTaking}
-use Rattle.ml_drawn.proofs.Looked.{file_absent, none_there, thing_there, released}
+use Rattle.ml_drawn.proofs.OfFiles.{file_absent, none_there, thing_there, released}
 use Rattle.ml_drawn.proofs.Numbered.{absent_is, there_drawn}
 use Rattle.ml_queue.specs.Queue.{IsOut, out_text}
 use Rattle.ml_queue.specs.Answers.{entry_name}
