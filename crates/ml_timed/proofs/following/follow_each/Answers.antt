@@ -4,7 +4,7 @@ use Rattle.ml_base.specs.Layers.{files_below, puts_over}
 use Rattle.ml_base.proofs.ReadingLemmas.{kept_read, kept_then, reading_then}
 use Rattle.ml_bounce.specs.Changes.{action_of}
 use Rattle.ml_bounce.specs.Ledger.{find_entry}
-use Rattle.ml_bounce.proofs.Rewritten.{first_of}
+use Rattle.ml_rows.proofs.RowLaws.{first_of}
 use Rattle.ml_bounce.specs.declared.entries.LedgerEntry.{LedgerEntry}
 use Rattle.ml_plain.specs.Directory.{IsList}
 use Rattle.ml_plain.specs.Plain.{Plain, ledger_of}
