@@ -1,6 +1,7 @@
 use Rattle.std.proofs.Common.{◌≡◌, true, sym, subst, rules}
 use Rattle.std.proofs.lemmas.Result.{IfOk-weaker}
 use Rattle.ml_base.specs.Dir.{Dir}
+use Rattle.ml_base.proofs.ReadingLemmas.{kept_read}
 use Rattle.ml_plain.specs.Directory.{IsList}
 use Rattle.ml_plain.specs.Timing as spec
 use Rattle.ml_acts.specs.Asked.{IsDamagedOf, Undigested}
@@ -9,6 +10,7 @@ use Rattle.ml_acts.specs.Doing.{DoesList}
 use Rattle.ml_acts.proofs.Damages.{named_so}
 use Rattle.ml_timed.specs.Reads.{is_of_timed}
 use Rattle.ml_list.specs.Delivering.{is_of_worn}
+use Rattle.ml_list.proofs.Acting.{act_then}
 use Rattle.ml_list.proofs.Delivered.{worn_other, worn_timed}
 use Rattle.ml_list.proofs.timing.run_unless_worn.Goals as goal
 
@@ -19,6 +21,13 @@ returns-in-Ok-false-clause-value g c told =
     (λ done does p is same.
     subst (λ (d : Dir). DoesList d done (spec.timed c.args.now p)) same_map (does p (subst (λ (d : Dir). IsList d p) (sym same_map) is) same))
     (c.timed.ensures.value told)
+
+pub returns-in-Ok-false-clause-act : goal.returns-in-Ok-false-clause-act
+returns-in-Ok-false-clause-act g c =
+    act_then g.F.Files c.timed.result.1 (λ name. is_of_timed name ≡ true) (IsDamagedOf (g.F.Files.map c.is_worn.new.files) Undigested) (IsDamagedOf (g.F.Files.map c.args.files) Undigested)
+    g.met.F.Files.kept_then c.args.files c.is_worn.new.files c.timed.result.0 (kept_read g.F.Files c.args.files c.is_worn.new.files c.is_worn.result c.is_worn.ensures.reads)
+    (λ told name bad. subst (λ (d : Dir). IsDamagedOf d Undigested name) (g.met.F.Files.kept_map c.args.files c.is_worn.new.files told c.is_worn.ensures.reads.kept) bad)
+    (record { own = c.timed.ensures.own; files = c.timed.ensures.files; reply = c.timed.ensures.reply; names = c.timed.ensures.names; reads = c.timed.ensures.reads })
 
 pub returns-in-Err-clause-act : goal.returns-in-Err-clause-act
 returns-in-Err-clause-act g c =
