@@ -1,70 +1,95 @@
 // The mark of the digests in each form, and when a digest is due, at each limit and one short of it.
-use crate::calls::Call;
-use crate::cases::{Case, NONE, UNCHANGED, differences};
-use crate::parts::{Parts, drawn};
-use crate::texts::Text::{self, Of};
-use crate::texts::push_number;
-use ml_base::{Bytes, Name, PartError};
+use crate::asked::{Asked, NoAnswer};
+use crate::parts::{Parts, none, push_number};
+use crate::program::Calls;
+use crate::{issues, reading};
+use ml_base::{Bytes, read_number, split_first};
 use ml_digest::{Mark, Range, due, law_burst, law_digest_text, law_due, law_mark, mark, set_mark};
 use std::alloc::{AllocError, Global};
 use std::test::Fail;
+use trials_scripts::hold;
+
+/// What a call answers: `mark` the last post and the last digest of the mark, `set LAST ISSUE` the mark that is set, `due LAST OLDEST SIZES`
+/// the digest that is due, and those of `issues` and `reading`.
+pub(crate) fn answer(
+    alloc: Global,
+    parts: &mut Parts,
+    asked: &Asked<'_>,
+) -> Result<Bytes, NoAnswer> {
+    let verb = asked.verb;
+    if verb == "mark" {
+        marked(alloc, parts)
+    } else if verb == "set" {
+        mark_set(alloc, parts, asked.number(0)?, asked.number(1)?)
+    } else if verb == "due" {
+        chosen(alloc, asked)
+    } else if verb == "write" || verb == "burst" {
+        issues::answer(alloc, asked)
+    } else {
+        reading::answer(alloc, asked)
+    }
+}
 
 // Two numbers in a line.
-fn pair(alloc: Global, first: u64, second: u64) -> Result<Bytes, AllocError> {
+fn pair(alloc: Global, first: u64, second: u64) -> Result<Bytes, NoAnswer> {
     let mut out = Bytes::new(alloc);
     push_number(&mut out, first, b' ')?;
     push_number(&mut out, second, b'\n')?;
     Ok(out)
 }
 
-pub fn marked(alloc: Global, parts: &mut Parts) -> Result<Bytes, PartError> {
+fn marked(alloc: Global, parts: &mut Parts) -> Result<Bytes, NoAnswer> {
     let mark = mark(alloc, parts)?;
-    Ok(pair(alloc, mark.last, mark.issue)?)
+    pair(alloc, mark.last, mark.issue)
 }
 
-pub fn mark_set(
-    alloc: Global,
-    parts: &mut Parts,
-    last: u64,
-    issue: u64,
-) -> Result<Bytes, PartError> {
+fn mark_set(alloc: Global, parts: &mut Parts, last: u64, issue: u64) -> Result<Bytes, NoAnswer> {
     if issue > last || last > 99_999_999 {
-        return Ok(Bytes::new(alloc));
+        return Err(NoAnswer::NoCall);
     }
     let txn = set_mark(alloc, &Mark { last, issue })?;
     parts.lay(txn)?;
     marked(alloc, parts)
 }
 
-// The sizes of posts, so many of each.
-fn sizes_of(alloc: Global, runs: &[(u64, usize)]) -> Result<Vec<u64>, AllocError> {
+// The sizes of posts, each a word `SIZE*COUNT`.
+fn sizes_of(alloc: Global, words: &[String]) -> Result<Vec<u64>, NoAnswer> {
     let mut sizes = Vec::new(alloc);
-    for (size, count) in runs {
-        let all = sizes.len().saturating_add(*count);
-        sizes.resize(all, *size)?;
+    for word in words {
+        let Some((size, count)) = size_and_count(word.as_bytes()) else {
+            return Err(NoAnswer::NoCall);
+        };
+        let all = sizes.len().saturating_add(count as usize);
+        resize(&mut sizes, all, size)?;
     }
     Ok(sizes)
 }
 
-// The digest that is due, asked for where the sizes are those of posts.
-fn asked(last: u64, sizes: &[u64], oldest: u64, now: u64) -> Option<Range> {
-    if last > 99_999_999 || sizes.len() > 100 || !sizes.iter().all(|size| *size < 4_294_967_296) {
-        return None;
-    }
-    due(&Mark { last, issue: 1 }, sizes, oldest, now)
+fn resize(sizes: &mut Vec<u64>, all: usize, size: u64) -> Result<(), AllocError> {
+    sizes.resize(all, size)
 }
 
-pub fn chosen(
-    alloc: Global,
-    last: u64,
-    sizes: &[(u64, usize)],
-    oldest: u64,
-    now: u64,
-) -> Result<Bytes, PartError> {
-    let sizes = sizes_of(alloc, sizes)?;
-    match asked(last, sizes.as_slice(), oldest, now) {
-        Some(range) => Ok(pair(alloc, range.first, range.last)?),
-        None => Ok(Bytes::from_slice(alloc, b"none")?),
+fn size_and_count(word: &[u8]) -> Option<(u64, u64)> {
+    let (size, count) = split_first(b'*', word)?;
+    Some((read_number(size)?, read_number(count)?))
+}
+
+// The digest that is due, asked for where the sizes are those of posts.
+fn range_due(last: u64, sizes: &[u64], oldest: u64, now: u64) -> Result<Option<Range>, NoAnswer> {
+    if last > 99_999_999 || sizes.len() > 100 || !sizes.iter().all(|size| *size < 4_294_967_296) {
+        return Err(NoAnswer::NoCall);
+    }
+    Ok(due(&Mark { last, issue: 1 }, sizes, oldest, now))
+}
+
+// For the last post of a digest, when the first behind it came, and the sizes of those, at the clock's moment: the first and the last post of
+// the digest that is due, or `none`.
+fn chosen(alloc: Global, asked: &Asked<'_>) -> Result<Bytes, NoAnswer> {
+    let sizes = sizes_of(alloc, asked.words.get(2..).unwrap_or(&[]))?;
+    let (last, oldest) = (asked.number(0)?, asked.number(1)?);
+    match range_due(last, sizes.as_slice(), oldest, asked.moment)? {
+        Some(range) => pair(alloc, range.first, range.last),
+        None => none(alloc),
     }
 }
 
@@ -76,286 +101,96 @@ fn the_laws_can_be_called() {
     law_burst();
 }
 
-const MARK: Name = Name { kind: 12, at: 0 };
-
-// Texts that spell no mark, and the absent file.
-const DAMAGED: &[(Name, &[u8])] = &[
-    (MARK, b"-"),
-    (MARK, b""),
-    (MARK, b"\n"),
-    (MARK, b":\n"),
-    (MARK, b"0:0"),
-    (MARK, b"0:0\n\n"),
-    (MARK, b"0:0\nx"),
-    (MARK, b"0:0\r\n"),
-    (MARK, b"00:0\n"),
-    (MARK, b"0:00\n"),
-    (MARK, b"01:1\n"),
-    (MARK, b"1:01\n"),
-    (MARK, b"100000000:1\n"),
-    (MARK, b"1:100000000\n"),
-    (MARK, b":1\n"),
-    (MARK, b"1:\n"),
-    (MARK, b"11\n"),
-    (MARK, b"1:1:1\n"),
-    (MARK, b" 1:1\n"),
-    (MARK, b"1: 1\n"),
-];
-
-// Posts of one size behind post 5, the first of which came at 1,000,000,001.
-const ALIKE: &[(Call, Text)] = &[
-    (
-        Call::Choose(5, &[(0, 0)], 1_000_000_001, 2_000_000_001),
-        Of(b"none"),
-    ),
-    (
-        Call::Choose(5, &[(1, 29)], 1_000_000_001, 1_000_172_800),
-        Of(b"none"),
-    ),
-    (
-        Call::Choose(5, &[(1, 30)], 1_000_000_001, 1_000_000_001),
-        Of(b"6 35\n"),
-    ),
-    (
-        Call::Choose(5, &[(1, 1)], 1_000_000_001, 1_000_172_800),
-        Of(b"none"),
-    ),
-    (
-        Call::Choose(5, &[(1, 1)], 1_000_000_001, 1_000_172_801),
-        Of(b"6 6\n"),
-    ),
-    (
-        Call::Choose(5, &[(1, 29)], 1_000_000_001, 1_000_172_801),
-        Of(b"6 34\n"),
-    ),
-    (
-        Call::Choose(5, &[(65_535, 1)], 1_000_000_001, 1_000_000_001),
-        Of(b"none"),
-    ),
-    (
-        Call::Choose(5, &[(65_536, 1)], 1_000_000_001, 1_000_000_001),
-        Of(b"6 6\n"),
-    ),
-    (
-        Call::Choose(5, &[(16_383, 4)], 1_000_000_001, 1_000_000_001),
-        Of(b"none"),
-    ),
-    (
-        Call::Choose(5, &[(16_384, 4)], 1_000_000_001, 1_000_000_001),
-        Of(b"6 9\n"),
-    ),
-    (
-        Call::Choose(5, &[(321, 99)], 1_000_000_001, 1_000_000_001),
-        Of(b"6 104\n"),
-    ),
-    (
-        Call::Choose(5, &[(321, 100)], 1_000_000_001, 1_000_000_001),
-        Of(b"6 105\n"),
-    ),
-    (
-        Call::Choose(5, &[(41_943, 100)], 1_000_000_001, 1_000_000_001),
-        Of(b"6 105\n"),
-    ),
-    (
-        Call::Choose(5, &[(41_944, 100)], 1_000_000_001, 1_000_000_001),
-        Of(b"6 104\n"),
-    ),
-    (
-        Call::Choose(5, &[(4_294_967_295, 100)], 1_000_000_001, 1_000_000_001),
-        Of(b"6 6\n"),
-    ),
-];
-
-// Posts that are due by their bytes.
-const CUT: &[(Call, Text)] = &[
-    (
-        Call::Choose(5, &[(65_534, 1), (1, 1)], 1_000_000_001, 1_000_000_001),
-        Of(b"none"),
-    ),
-    (
-        Call::Choose(5, &[(65_535, 1), (1, 1)], 1_000_000_001, 1_000_000_001),
-        Of(b"6 7\n"),
-    ),
-    (
-        Call::Choose(5, &[(4_194_304, 1)], 1_000_000_001, 1_000_000_001),
-        Of(b"6 6\n"),
-    ),
-    (
-        Call::Choose(5, &[(4_194_304, 1), (0, 1)], 1_000_000_001, 1_000_000_001),
-        Of(b"6 7\n"),
-    ),
-    (
-        Call::Choose(5, &[(4_194_304, 1), (1, 1)], 1_000_000_001, 1_000_000_001),
-        Of(b"6 6\n"),
-    ),
-    (
-        Call::Choose(
-            5,
-            &[(4_194_304, 1), (1, 1), (0, 1)],
-            1_000_000_001,
-            1_000_000_001,
-        ),
-        Of(b"6 6\n"),
-    ),
-    (
-        Call::Choose(
-            5,
-            &[(4_194_303, 1), (1, 1), (1, 1)],
-            1_000_000_001,
-            1_000_000_001,
-        ),
-        Of(b"6 7\n"),
-    ),
-    (
-        Call::Choose(5, &[(4_194_305, 1), (0, 1)], 1_000_000_001, 1_000_000_001),
-        Of(b"6 6\n"),
-    ),
-    (
-        Call::Choose(
-            5,
-            &[(1, 1), (4_194_304, 1), (1, 1)],
-            1_000_000_001,
-            1_000_000_001,
-        ),
-        Of(b"6 6\n"),
-    ),
-];
-
-// An issue of 100 posts, and the next.
-const IN_TURN: &[(Call, Text)] = &[
-    (
-        Call::Choose(0, &[(321, 100)], 1_000_000_001, 1_000_000_200),
-        Of(b"1 100\n"),
-    ),
-    (
-        Call::Choose(100, &[(321, 1)], 1_000_000_101, 1_000_000_200),
-        Of(b"none"),
-    ),
-    (
-        Call::Choose(100, &[(321, 1)], 1_000_000_101, 1_000_172_900),
-        Of(b"none"),
-    ),
-    (
-        Call::Choose(100, &[(321, 1)], 1_000_000_101, 1_000_172_901),
-        Of(b"101 101\n"),
-    ),
-    (
-        Call::Choose(100, &[(321, 1)], 1_000_000_101, 5),
-        Of(b"none"),
-    ),
-];
-
-const CASES: &[Case] = &[
-    Case {
-        title: "the mark 0:0",
-        files: &[],
-        changes: &[(MARK, b"0:0\n")],
-        failing: NONE,
-        calls: &[(Call::Mark, Of(b"0 0\n"))],
-    },
-    Case {
-        title: "the mark 100:1",
-        files: &[],
-        changes: &[(MARK, b"100:1\n")],
-        failing: NONE,
-        calls: &[(Call::Mark, Of(b"100 1\n"))],
-    },
-    Case {
-        title: "the mark 101:2",
-        files: &[],
-        changes: &[(MARK, b"101:2\n")],
-        failing: NONE,
-        calls: &[(Call::Mark, Of(b"101 2\n"))],
-    },
-    Case {
-        title: "the mark 99999999:99999999",
-        files: &[],
-        changes: &[(MARK, b"99999999:99999999\n")],
-        failing: NONE,
-        calls: &[(Call::Mark, Of(b"99999999 99999999\n"))],
-    },
-    Case {
-        title: "the mark 1:7",
-        files: &[],
-        changes: &[(MARK, b"1:7\n")],
-        failing: NONE,
-        calls: &[(Call::Mark, Of(b"1 7\n"))],
-    },
-    Case {
-        title: "texts that are no mark",
-        files: &[],
-        changes: DAMAGED,
-        failing: NONE,
-        calls: &[(Call::Mark, Of(b"damaged 12/0"))],
-    },
-    Case {
-        title: "the mark 0:0 is set over what is no mark",
-        files: &[],
-        changes: DAMAGED,
-        failing: NONE,
-        calls: &[(Call::SetMark(0, 0), Of(b"0 0\n"))],
-    },
-    Case {
-        title: "the mark 100:1 is set over what is no mark",
-        files: &[],
-        changes: DAMAGED,
-        failing: NONE,
-        calls: &[(Call::SetMark(100, 1), Of(b"100 1\n"))],
-    },
-    Case {
-        title: "the mark 101:2 is set over what is no mark",
-        files: &[],
-        changes: DAMAGED,
-        failing: NONE,
-        calls: &[(Call::SetMark(101, 2), Of(b"101 2\n"))],
-    },
-    Case {
-        title: "the mark 99999999:99999999 is set over what is no mark",
-        files: &[],
-        changes: DAMAGED,
-        failing: NONE,
-        calls: &[(
-            Call::SetMark(99_999_999, 99_999_999),
-            Of(b"99999999 99999999\n"),
-        )],
-    },
-    Case {
-        title: "a failing read of the mark",
-        files: &[(MARK, Of(b"100:1\n"))],
-        changes: UNCHANGED,
-        failing: &[2],
-        calls: &[
-            (Call::Mark, Of(b"100 1\n")),
-            (Call::Mark, Of(b"fault")),
-            (Call::Mark, Of(b"100 1\n")),
-        ],
-    },
-    Case {
-        title: "a digest is due at each limit",
-        files: &[],
-        changes: UNCHANGED,
-        failing: NONE,
-        calls: ALIKE,
-    },
-    Case {
-        title: "a digest is cut by bytes",
-        files: &[],
-        changes: UNCHANGED,
-        failing: NONE,
-        calls: CUT,
-    },
-    Case {
-        title: "a digest goes on behind an issue of 100 posts",
-        files: &[],
-        changes: UNCHANGED,
-        failing: NONE,
-        calls: IN_TURN,
-    },
-];
+const TABLE: &str = r"
+# The mark 0:0.
+put dig 0:0\n | run digests mark => 0 0 0\n
+# The mark 100:1.
+put dig 100:1\n | run digests mark => 0 100 1\n
+# The mark 101:2.
+put dig 101:2\n | run digests mark => 0 101 2\n
+# The mark 99999999:99999999.
+put dig 99999999:99999999\n | run digests mark => 0 99999999 99999999\n
+# The mark 1:7.
+put dig 1:7\n | run digests mark => 0 1 7\n
+# Texts that are no mark.
+run digests mark => 75 damaged 12 0
+put dig  | run digests mark => 75 damaged 12 0
+put dig \n | run digests mark => 75 damaged 12 0
+put dig :\n | run digests mark => 75 damaged 12 0
+put dig 0:0 | run digests mark => 75 damaged 12 0
+put dig 0:0\n\n | run digests mark => 75 damaged 12 0
+put dig 0:0\nx | run digests mark => 75 damaged 12 0
+put dig 0:0\x0D\n | run digests mark => 75 damaged 12 0
+put dig 00:0\n | run digests mark => 75 damaged 12 0
+put dig 0:00\n | run digests mark => 75 damaged 12 0
+put dig 01:1\n | run digests mark => 75 damaged 12 0
+put dig 1:01\n | run digests mark => 75 damaged 12 0
+put dig 100000000:1\n | run digests mark => 75 damaged 12 0
+put dig 1:100000000\n | run digests mark => 75 damaged 12 0
+put dig :1\n | run digests mark => 75 damaged 12 0
+put dig 1:\n | run digests mark => 75 damaged 12 0
+put dig 11\n | run digests mark => 75 damaged 12 0
+put dig 1:1:1\n | run digests mark => 75 damaged 12 0
+put dig \x201:1\n | run digests mark => 75 damaged 12 0
+put dig 1: 1\n | run digests mark => 75 damaged 12 0
+# Marks are set over what is no mark.
+run digests set 0 0 => 0 0 0\n | drop dig | run digests set 100 1 => 0 100 1\n | drop dig | run digests set 101 2 => 0 101 2\n | drop dig | run digests set 99999999 99999999 => 0 99999999 99999999\n
+put dig  | run digests set 0 0 => 0 0 0\n | put dig  | run digests set 100 1 => 0 100 1\n | put dig  | run digests set 101 2 => 0 101 2\n | put dig  | run digests set 99999999 99999999 => 0 99999999 99999999\n
+put dig \n | run digests set 0 0 => 0 0 0\n | put dig \n | run digests set 100 1 => 0 100 1\n | put dig \n | run digests set 101 2 => 0 101 2\n | put dig \n | run digests set 99999999 99999999 => 0 99999999 99999999\n
+put dig :\n | run digests set 0 0 => 0 0 0\n | put dig :\n | run digests set 100 1 => 0 100 1\n | put dig :\n | run digests set 101 2 => 0 101 2\n | put dig :\n | run digests set 99999999 99999999 => 0 99999999 99999999\n
+put dig 0:0 | run digests set 0 0 => 0 0 0\n | put dig 0:0 | run digests set 100 1 => 0 100 1\n | put dig 0:0 | run digests set 101 2 => 0 101 2\n | put dig 0:0 | run digests set 99999999 99999999 => 0 99999999 99999999\n
+put dig 0:0\n\n | run digests set 0 0 => 0 0 0\n | put dig 0:0\n\n | run digests set 100 1 => 0 100 1\n | put dig 0:0\n\n | run digests set 101 2 => 0 101 2\n | put dig 0:0\n\n | run digests set 99999999 99999999 => 0 99999999 99999999\n
+put dig 0:0\nx | run digests set 0 0 => 0 0 0\n | put dig 0:0\nx | run digests set 100 1 => 0 100 1\n | put dig 0:0\nx | run digests set 101 2 => 0 101 2\n | put dig 0:0\nx | run digests set 99999999 99999999 => 0 99999999 99999999\n
+put dig 0:0\x0D\n | run digests set 0 0 => 0 0 0\n | put dig 0:0\x0D\n | run digests set 100 1 => 0 100 1\n | put dig 0:0\x0D\n | run digests set 101 2 => 0 101 2\n | put dig 0:0\x0D\n | run digests set 99999999 99999999 => 0 99999999 99999999\n
+put dig 00:0\n | run digests set 0 0 => 0 0 0\n | put dig 00:0\n | run digests set 100 1 => 0 100 1\n | put dig 00:0\n | run digests set 101 2 => 0 101 2\n | put dig 00:0\n | run digests set 99999999 99999999 => 0 99999999 99999999\n
+put dig 0:00\n | run digests set 0 0 => 0 0 0\n | put dig 0:00\n | run digests set 100 1 => 0 100 1\n | put dig 0:00\n | run digests set 101 2 => 0 101 2\n | put dig 0:00\n | run digests set 99999999 99999999 => 0 99999999 99999999\n
+put dig 01:1\n | run digests set 0 0 => 0 0 0\n | put dig 01:1\n | run digests set 100 1 => 0 100 1\n | put dig 01:1\n | run digests set 101 2 => 0 101 2\n | put dig 01:1\n | run digests set 99999999 99999999 => 0 99999999 99999999\n
+put dig 1:01\n | run digests set 0 0 => 0 0 0\n | put dig 1:01\n | run digests set 100 1 => 0 100 1\n | put dig 1:01\n | run digests set 101 2 => 0 101 2\n | put dig 1:01\n | run digests set 99999999 99999999 => 0 99999999 99999999\n
+put dig 100000000:1\n | run digests set 0 0 => 0 0 0\n | put dig 100000000:1\n | run digests set 100 1 => 0 100 1\n | put dig 100000000:1\n | run digests set 101 2 => 0 101 2\n | put dig 100000000:1\n | run digests set 99999999 99999999 => 0 99999999 99999999\n
+put dig 1:100000000\n | run digests set 0 0 => 0 0 0\n | put dig 1:100000000\n | run digests set 100 1 => 0 100 1\n | put dig 1:100000000\n | run digests set 101 2 => 0 101 2\n | put dig 1:100000000\n | run digests set 99999999 99999999 => 0 99999999 99999999\n
+put dig :1\n | run digests set 0 0 => 0 0 0\n | put dig :1\n | run digests set 100 1 => 0 100 1\n | put dig :1\n | run digests set 101 2 => 0 101 2\n | put dig :1\n | run digests set 99999999 99999999 => 0 99999999 99999999\n
+put dig 1:\n | run digests set 0 0 => 0 0 0\n | put dig 1:\n | run digests set 100 1 => 0 100 1\n | put dig 1:\n | run digests set 101 2 => 0 101 2\n | put dig 1:\n | run digests set 99999999 99999999 => 0 99999999 99999999\n
+put dig 11\n | run digests set 0 0 => 0 0 0\n | put dig 11\n | run digests set 100 1 => 0 100 1\n | put dig 11\n | run digests set 101 2 => 0 101 2\n | put dig 11\n | run digests set 99999999 99999999 => 0 99999999 99999999\n
+put dig 1:1:1\n | run digests set 0 0 => 0 0 0\n | put dig 1:1:1\n | run digests set 100 1 => 0 100 1\n | put dig 1:1:1\n | run digests set 101 2 => 0 101 2\n | put dig 1:1:1\n | run digests set 99999999 99999999 => 0 99999999 99999999\n
+put dig \x201:1\n | run digests set 0 0 => 0 0 0\n | put dig \x201:1\n | run digests set 100 1 => 0 100 1\n | put dig \x201:1\n | run digests set 101 2 => 0 101 2\n | put dig \x201:1\n | run digests set 99999999 99999999 => 0 99999999 99999999\n
+put dig 1: 1\n | run digests set 0 0 => 0 0 0\n | put dig 1: 1\n | run digests set 100 1 => 0 100 1\n | put dig 1: 1\n | run digests set 101 2 => 0 101 2\n | put dig 1: 1\n | run digests set 99999999 99999999 => 0 99999999 99999999\n
+# A failing read of the mark.
+put dig 100:1\n | run digests mark => 0 100 1\n | fail 1 | run digests mark => 111 a read failed | same | run digests mark => 0 100 1\n
+# Posts of one size behind post 5, the first of which came at 1,000,000,001.
+at 2000000001 | run digests due 5 1000000001 => 0 none
+at 1000172800 | run digests due 5 1000000001 1*29 => 0 none
+at 1000000001 | run digests due 5 1000000001 1*30 => 0 6 35\n
+at 1000172800 | run digests due 5 1000000001 1*1 => 0 none
+at 1000172801 | run digests due 5 1000000001 1*1 => 0 6 6\n
+at 1000172801 | run digests due 5 1000000001 1*29 => 0 6 34\n
+at 1000000001 | run digests due 5 1000000001 65535*1 => 0 none
+at 1000000001 | run digests due 5 1000000001 65536*1 => 0 6 6\n
+at 1000000001 | run digests due 5 1000000001 16383*4 => 0 none
+at 1000000001 | run digests due 5 1000000001 16384*4 => 0 6 9\n
+at 1000000001 | run digests due 5 1000000001 321*99 => 0 6 104\n
+at 1000000001 | run digests due 5 1000000001 321*100 => 0 6 105\n
+at 1000000001 | run digests due 5 1000000001 41943*100 => 0 6 105\n
+at 1000000001 | run digests due 5 1000000001 41944*100 => 0 6 104\n
+at 1000000001 | run digests due 5 1000000001 4294967295*100 => 0 6 6\n
+# Posts that are due by their bytes.
+at 1000000001 | run digests due 5 1000000001 65534*1 1*1 => 0 none
+at 1000000001 | run digests due 5 1000000001 65535*1 1*1 => 0 6 7\n
+at 1000000001 | run digests due 5 1000000001 4194304*1 => 0 6 6\n
+at 1000000001 | run digests due 5 1000000001 4194304*1 0*1 => 0 6 7\n
+at 1000000001 | run digests due 5 1000000001 4194304*1 1*1 => 0 6 6\n
+at 1000000001 | run digests due 5 1000000001 4194304*1 1*1 0*1 => 0 6 6\n
+at 1000000001 | run digests due 5 1000000001 4194303*1 1*1 1*1 => 0 6 7\n
+at 1000000001 | run digests due 5 1000000001 4194305*1 0*1 => 0 6 6\n
+at 1000000001 | run digests due 5 1000000001 1*1 4194304*1 1*1 => 0 6 6\n
+# An issue of 100 posts, and the next.
+at 1000000200 | run digests due 0 1000000001 321*100 => 0 1 100\n
+at 1000000200 | run digests due 100 1000000101 321*1 => 0 none
+at 1000172900 | run digests due 100 1000000101 321*1 => 0 none
+at 1000172901 | run digests due 100 1000000101 321*1 => 0 101 101\n
+at 5 | run digests due 100 1000000101 321*1 => 0 none
+";
 
 #[test]
 fn digests(rt: HostRuntime) -> Result<(), Fail> {
-    let found = differences(rt.alloc(), CASES)?;
-    assert!(rt; found.is_empty(), "{found}");
-    Ok(())
+    hold::<Calls>(rt.alloc(), "digests", TABLE)
 }

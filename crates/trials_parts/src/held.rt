@@ -1,37 +1,62 @@
 // Held posts, with texts written by hand.
-use crate::calls::Call;
-use crate::cases::{Case, NONE, UNCHANGED, differences};
-use crate::parts::{Parts, drawn, line, lines, or_absent, sound};
-use crate::texts::Text::{self, Each, Of};
-use crate::texts::{made, push_number};
-use ml_base::{Address, Bytes, Name, PartError, is_moment};
+use crate::asked::{Asked, NoAnswer};
+use crate::parts::{OnSite, Parts, drawn, lay_text, line, lines, or_absent, push_number, sound};
+use crate::program::{Calls, told as with_status};
+use ml_base::{Bytes, Layer, Name, Txn, is_moment};
 use ml_hold::{Held, audit, hold, look, next_ticket, older, take};
+use ml_site::{Image, MemSite};
 use std::alloc::{AllocError, Global};
+use std::collections::BTreeMap;
 use std::test::Fail;
+use trials_lists::same;
+use trials_scripts::hold as hold_rows;
 
-pub fn held(
+/// What a call answers: `hold SENDER` a message and the clock's moment, `look TICKET`, `take TICKET` behind which the files still stand for
+/// held posts, `next` the next ticket, `older MAX` the tickets of those that are held for 432,000 seconds, and `audit`.
+pub(crate) fn answer(
     alloc: Global,
     parts: &mut Parts,
-    moment: u64,
-    message: &Text,
-) -> Result<Bytes, PartError> {
-    let message = made(alloc, message)?;
-    let Ok(sender) = Address::parse(alloc, b"g@h") else {
-        return Err(PartError::Memory);
-    };
-    if !is_moment(moment) || message.len() > 33_554_432 {
-        return Ok(Bytes::new(alloc));
+    asked: &Asked<'_>,
+) -> Result<Bytes, NoAnswer> {
+    let verb = asked.verb;
+    if verb == "hold" {
+        held(alloc, parts, asked)
+    } else if verb == "look" {
+        let found = look(alloc, parts, asked.number(0)?)?;
+        told(alloc, found)
+    } else if verb == "take" {
+        taken(alloc, parts, asked.number(0)?)
+    } else if verb == "next" {
+        line(alloc, next_ticket(alloc, parts)?)
+    } else if verb == "older" {
+        old(alloc, parts, asked.moment, asked.number(0)?)
+    } else if verb == "audit" {
+        audit(alloc, parts)?;
+        sound(alloc)
+    } else {
+        Err(NoAnswer::NoCall)
     }
+}
+
+// The ticket of a post, and the puts.
+fn held(alloc: Global, parts: &mut Parts, asked: &Asked<'_>) -> Result<Bytes, NoAnswer> {
     let post = Held {
-        moment,
-        sender,
-        message,
+        moment: asked.moment,
+        sender: asked.address(alloc, 0)?,
+        message: Bytes::from_slice(alloc, asked.input.as_slice())?,
     };
+    if !is_moment(post.moment) || post.message.len() > 33_554_432 {
+        return Err(NoAnswer::NoCall);
+    }
     let (ticket, txn) = hold(alloc, parts, &post)?;
     drawn(alloc, parts, ticket, txn)
 }
 
-fn told(alloc: Global, post: &Held) -> Result<Bytes, AllocError> {
+// The moment and the sender of a held post in a line, and its message; `-` where there is none.
+fn told(alloc: Global, post: Option<Held>) -> Result<Bytes, NoAnswer> {
+    let Some(post) = post else {
+        return or_absent(alloc, None);
+    };
     let mut out = Bytes::new(alloc);
     push_number(&mut out, post.moment, b' ')?;
     out.extend(post.sender.bytes())?;
@@ -40,244 +65,137 @@ fn told(alloc: Global, post: &Held) -> Result<Bytes, AllocError> {
     Ok(out)
 }
 
-pub fn looked(alloc: Global, parts: &mut Parts, ticket: u64) -> Result<Bytes, PartError> {
-    match look(alloc, parts, ticket)? {
-        Some(post) => Ok(told(alloc, &post)?),
-        None => or_absent(alloc, None),
-    }
-}
-
-pub fn taken(alloc: Global, parts: &mut Parts, ticket: u64) -> Result<Bytes, PartError> {
+fn taken(alloc: Global, parts: &mut Parts, ticket: u64) -> Result<Bytes, NoAnswer> {
     match take(alloc, parts, ticket)? {
         Some((post, txn)) => {
             parts.lay(txn)?;
             audit(alloc, parts)?;
-            Ok(told(alloc, &post)?)
+            told(alloc, Some(post))
         }
         None => or_absent(alloc, None),
     }
 }
 
-pub fn next(alloc: Global, parts: &mut Parts) -> Result<Bytes, PartError> {
-    let ticket = next_ticket(alloc, parts)?;
-    line(alloc, ticket)
-}
-
-pub fn old(alloc: Global, parts: &mut Parts, now: u64, max: u64) -> Result<Bytes, PartError> {
+fn old(alloc: Global, parts: &mut Parts, now: u64, max: u64) -> Result<Bytes, NoAnswer> {
     if !is_moment(now) {
-        return Ok(Bytes::new(alloc));
+        return Err(NoAnswer::NoCall);
     }
     let tickets = older(alloc, parts, now, 432_000, max)?;
     lines(alloc, &tickets)
 }
 
-pub fn audited(alloc: Global, parts: &mut Parts) -> Result<Bytes, PartError> {
-    audit(alloc, parts)?;
-    sound(alloc)
-}
-
-const TICKETS: Name = Name { kind: 14, at: 0 };
-
-const FIRST: Name = Name { kind: 13, at: 1 };
-
-const THIRD: Name = Name { kind: 13, at: 3 };
-
-const LAST: Name = Name {
-    kind: 13,
-    at: 1_000_000_000_000_000,
-};
-
-const POST: &[u8] = b"10:1000000000,3:g@h,3:hi\n,";
-
-const LATER: &[u8] = b"10:1000000100,3:a@b,0:,";
-
-const BOTH: &[(Name, Text)] = &[
-    (TICKETS, Of(b"1:4\n")),
-    (FIRST, Of(POST)),
-    (THIRD, Of(LATER)),
-];
-
-const ONE: &[(Name, Text)] = &[(TICKETS, Of(b"1:2\n")), (FIRST, Of(POST))];
-
-// The largest message has 33,554,432 bytes: so many of these lines.
-const LINES: u64 = 131_072;
-
-const LINE: &[u8] = &[b'x'; 256];
-
-const CASES: &[Case] = &[
-    Case {
-        title: "the first ticket",
-        files: &[],
-        changes: &[(TICKETS, b"1:1\n")],
-        failing: NONE,
-        calls: &[(
-            Call::Hold(1_000_000_000, Of(b"hi\n")),
-            Of(b"1\n13/1 10:1000000000,3:g@h,3:hi\n,\n14/0 1:2\n\n"),
-        )],
-    },
-    Case {
-        title: "a later ticket",
-        files: &[],
-        changes: &[(TICKETS, b"3:7\n")],
-        failing: NONE,
-        calls: &[(
-            Call::Hold(1_000_000_000, Of(b"hi\n")),
-            Of(b"7\n13/7 10:1000000000,3:g@h,3:hi\n,\n14/0 3:8\n\n"),
-        )],
-    },
-    Case {
-        title: "the last ticket, and none behind it",
-        files: &[],
-        changes: &[(TICKETS, b"5:1000000000000000\n")],
-        failing: NONE,
-        calls: &[
-            (
-                Call::Hold(1_000_000_000, Of(b"hi\n")),
-                Of(
-                    b"1000000000000000\n13/1000000000000000 10:1000000000,3:g@h,3:hi\n,\n14/0 5:1000000000000001\n\n",
-                ),
-            ),
-            (Call::Hold(0, Of(b"")), Of(b"damaged 14/0")),
-        ],
-    },
-    Case {
-        title: "the largest message",
-        files: &[],
-        changes: &[(TICKETS, b"1:1\n")],
-        failing: NONE,
-        calls: &[
-            (
-                Call::Hold(1_000_000_000, Each(b"", 1, LINES, LINE, b"")),
-                Each(
-                    b"1\n13/1 10:1000000000,3:g@h,33554432:",
-                    1,
-                    LINES,
-                    LINE,
-                    b",\n14/0 1:2\n\n",
-                ),
-            ),
-            (
-                Call::Look(1),
-                Each(b"1000000000 g@h\n", 1, LINES, LINE, b""),
-            ),
-        ],
-    },
-    Case {
-        title: "no larger message",
-        files: &[(
-            FIRST,
-            Each(b"10:1000000000,3:g@h,33554433:x", 1, LINES, LINE, b","),
-        )],
-        changes: UNCHANGED,
-        failing: NONE,
-        calls: &[(Call::Look(1), Of(b"damaged 13/1"))],
-    },
-    Case {
-        title: "the first post is taken out",
-        files: BOTH,
-        changes: UNCHANGED,
-        failing: NONE,
-        calls: &[
-            (Call::Take(2), Of(b"-")),
-            (Call::Take(0), Of(b"-")),
-            (Call::Take(1_000_000_000_000_001), Of(b"-")),
-            (Call::Take(1), Of(b"1000000000 g@h\nhi\n")),
-            (Call::File(TICKETS), Of(b"3:4\n")),
-        ],
-    },
-    Case {
-        title: "the last post is taken out",
-        files: BOTH,
-        changes: UNCHANGED,
-        failing: NONE,
-        calls: &[
-            (Call::Take(3), Of(b"1000000100 a@b\n")),
-            (Call::File(TICKETS), Of(b"1:4\n")),
-        ],
-    },
-    Case {
-        title: "the only post is taken out",
-        files: &[(TICKETS, Of(b"3:4\n")), (THIRD, Of(LATER))],
-        changes: UNCHANGED,
-        failing: NONE,
-        calls: &[
-            (Call::Take(3), Of(b"1000000100 a@b\n")),
-            (Call::File(TICKETS), Of(b"4:4\n")),
-        ],
-    },
-    Case {
-        title: "the only post stands behind the widest gap",
-        files: &[(TICKETS, Of(b"1:1000000000000001\n")), (LAST, Of(POST))],
-        changes: UNCHANGED,
-        failing: NONE,
-        calls: &[(Call::Older(1_000_432_000, 10), Of(b"1000000000000000\n"))],
-    },
-    Case {
-        title: "old posts",
-        files: BOTH,
-        changes: UNCHANGED,
-        failing: NONE,
-        calls: &[
-            (Call::Older(1_000_431_999, 10), Of(b"")),
-            (Call::Older(1_000_432_000, 10), Of(b"1\n")),
-            (Call::Older(1_000_432_100, 10), Of(b"1\n3\n")),
-            (Call::Older(1_000_432_100, 1), Of(b"1\n")),
-            (Call::Older(1_000_432_100, 0), Of(b"")),
-        ],
-    },
-    Case {
-        title: "no counter",
-        files: &[(FIRST, Of(POST))],
-        changes: UNCHANGED,
-        failing: NONE,
-        calls: &[(Call::AuditHeld, Of(b"damaged 14/0"))],
-    },
-    Case {
-        title: "texts that are no counter",
-        files: &[(FIRST, Of(b""))],
-        changes: &[
-            (TICKETS, b"1:1"),
-            (TICKETS, b"0:1\n"),
-            (TICKETS, b"2:1\n"),
-            (TICKETS, b"01:1\n"),
-            (TICKETS, b"1:1000000000000000000\n"),
-        ],
-        failing: NONE,
-        calls: &[(Call::AuditHeld, Of(b"damaged 14/0"))],
-    },
-    Case {
-        title: "texts that are no held post",
-        files: &[(TICKETS, Of(b"1:2\n"))],
-        changes: &[
-            (FIRST, b""),
-            (FIRST, b"1:7,3:g@h,3:hi\n"),
-            (FIRST, b"2:07,3:g@h,3:hi\n,"),
-            (FIRST, b"12:253402300800,3:g@h,0:,"),
-            (FIRST, b"1:7,3:g@H,0:,"),
-            (FIRST, b"1:7,0:,0:,"),
-            (FIRST, b"1:7,3:g@h,0:,x"),
-        ],
-        failing: NONE,
-        calls: &[(Call::AuditHeld, Of(b"damaged 13/1"))],
-    },
-    Case {
-        title: "every other read fails",
-        files: ONE,
-        changes: UNCHANGED,
-        failing: &[1, 3, 5],
-        calls: &[
-            (Call::NextTicket, Of(b"fault")),
-            (Call::NextTicket, Of(b"2\n")),
-            (Call::AuditHeld, Of(b"fault")),
-            (Call::Look(1), Of(b"1000000000 g@h\nhi\n")),
-            (Call::Look(1), Of(b"fault")),
-        ],
-    },
-];
+const TABLE: &str = r"
+let post 10:1000000000,3:g@h,3:hi\n,
+let later 10:1000000100,3:a@b,0:,
+# The first ticket.
+put tickets 1:1\n | input hi\n | run held hold g@h => 0 1\n13/1\x20{post}\n14/0 1:2\n\n
+# A later ticket.
+put tickets 3:7\n | input hi\n | run held hold g@h => 0 7\n13/7\x20{post}\n14/0 3:8\n\n
+# The last ticket, and none behind it.
+put tickets 5:1000000000000000\n | input hi\n | run held hold g@h => 0 1000000000000000\n13/1000000000000000\x20{post}\n14/0 5:1000000000000001\n\n | at 0 | run held hold g@h => 75 damaged 14 0
+list put tickets 1:4\n | put pending/1 {post} | put pending/3 {later}
+# The first post is taken out.
+run held take 2 => 0 - | run held take 0 => 0 - | run held take 1000000000000001 => 0 - | run held take 1 => 0 1000000000 g@h\nhi\n | has tickets 3:4\n
+# The last post is taken out.
+run held take 3 => 0 1000000100 a@b\n | has tickets 1:4\n
+list at 1000000000
+# The only post is taken out.
+put tickets 3:4\n | put pending/3 {later} | run held take 3 => 0 1000000100 a@b\n | has tickets 4:4\n
+# The only post stands behind the widest gap.
+put tickets 1:1000000000000001\n | put pending/1000000000000000 {post} | at 1000432000 | run held older 10 => 0 1000000000000000\n
+# Old posts.
+put tickets 1:4\n | put pending/1 {post} | put pending/3 {later} | at 1000431999 | run held older 10 => 0 | at 1000432000 | run held older 10 => 0 1\n | at 1000432100 | run held older 10 => 0 1\n3\n | run held older 1 => 0 1\n | run held older 0 => 0
+# No counter.
+put pending/1 {post} | run held audit => 75 damaged 14 0
+# Texts that are no counter.
+put pending/1  | put tickets 1:1 | run held audit => 75 damaged 14 0
+put pending/1  | put tickets 0:1\n | run held audit => 75 damaged 14 0
+put pending/1  | put tickets 2:1\n | run held audit => 75 damaged 14 0
+put pending/1  | put tickets 01:1\n | run held audit => 75 damaged 14 0
+put pending/1  | put tickets 1:1000000000000000000\n | run held audit => 75 damaged 14 0
+# Texts that are no held post.
+put tickets 1:2\n | put pending/1  | run held audit => 75 damaged 13 1
+put tickets 1:2\n | put pending/1 1:7,3:g@h,3:hi\n | run held audit => 75 damaged 13 1
+put tickets 1:2\n | put pending/1 2:07,3:g@h,3:hi\n, | run held audit => 75 damaged 13 1
+put tickets 1:2\n | put pending/1 12:253402300800,3:g@h,0:, | run held audit => 75 damaged 13 1
+put tickets 1:2\n | put pending/1 1:7,3:g@H,0:, | run held audit => 75 damaged 13 1
+put tickets 1:2\n | put pending/1 1:7,0:,0:, | run held audit => 75 damaged 13 1
+put tickets 1:2\n | put pending/1 1:7,3:g@h,0:,x | run held audit => 75 damaged 13 1
+# Every other read fails.
+put tickets 1:2\n | put pending/1 {post} | fail 1 | run held next => 111 a read failed | same | run held next => 0 2\n | fail 1 | run held audit => 111 a read failed | same | run held look 1 => 0 1000000000 g@h\nhi\n | fail 1 | run held look 1 => 111 a read failed | same
+";
 
 #[test]
 fn held_posts(rt: HostRuntime) -> Result<(), Fail> {
-    let found = differences(rt.alloc(), CASES)?;
-    assert!(rt; found.is_empty(), "{found}");
-    Ok(())
+    hold_rows::<Calls>(rt.alloc(), "held posts", TABLE)
+}
+
+// Files of which one alone is there.
+fn one_file(alloc: Global, name: Name, text: Bytes) -> Result<Parts, Fail> {
+    let image = Image {
+        log: Bytes::new(alloc),
+        files: BTreeMap::new(alloc),
+    };
+    let site = MemSite::new(alloc, image, 10, 0)?;
+    let files = BTreeMap::new(alloc);
+    let mut parts = Layer::new(OnSite { site, files }, Txn::new(alloc));
+    lay_text(alloc, &mut parts, name, text)?;
+    Ok(parts)
+}
+
+// A text with so many times `x` in it.
+fn large(alloc: Global, before: &[u8], count: usize, behind: &[u8]) -> Result<Bytes, AllocError> {
+    let mut out = Bytes::from_slice(alloc, before)?;
+    out.extend(&vec![in alloc; b'x'; count]?)?;
+    out.extend(behind)?;
+    Ok(out)
+}
+
+// Fails where a call of one word isn't answered so.
+fn answers(
+    alloc: Global,
+    parts: &mut Parts,
+    verb: &str,
+    word: &str,
+    input: Bytes,
+    wanted: &Bytes,
+) -> Result<(), Fail> {
+    let words = [String::from_str(alloc, word)?];
+    let asked = Asked {
+        verb,
+        words: &words,
+        moment: 1_000_000_000,
+        input,
+    };
+    let (_, came) = with_status(alloc, answer(alloc, parts, &asked))?;
+    same(alloc, verb, 0, came.as_slice(), wanted.as_slice())
+}
+
+// The most bytes of a message.
+const LARGEST: usize = 33_554_432;
+
+// These stand in no table: each command of one copies its files several times.
+#[test]
+fn the_largest_message(rt: HostRuntime) -> Result<(), Fail> {
+    let alloc = rt.alloc();
+    let mut parts = one_file(alloc, Name::TICKETS, Bytes::from_slice(alloc, b"1:1\n")?)?;
+    let message = large(alloc, b"", LARGEST, b"")?;
+    let wanted = large(
+        alloc,
+        b"1\n13/1 10:1000000000,3:g@h,33554432:",
+        LARGEST,
+        b",\n14/0 1:2\n\n",
+    )?;
+    answers(alloc, &mut parts, "hold", "g@h", message, &wanted)?;
+    let wanted = large(alloc, b"1000000000 g@h\n", LARGEST, b"")?;
+    answers(alloc, &mut parts, "look", "1", Bytes::new(alloc), &wanted)
+}
+
+#[test]
+fn no_larger_message(rt: HostRuntime) -> Result<(), Fail> {
+    let alloc = rt.alloc();
+    let text = large(alloc, b"10:1000000000,3:g@h,33554433:", LARGEST + 1, b",")?;
+    let mut parts = one_file(alloc, Name { kind: 13, at: 1 }, text)?;
+    let wanted = Bytes::from_slice(alloc, b"damaged 13 1")?;
+    answers(alloc, &mut parts, "look", "1", Bytes::new(alloc), &wanted)
 }

@@ -1,61 +1,70 @@
 // Issues: their text, written by hand, and what an issue has of each post.
-use crate::calls::Call;
-use crate::cases::{Case, NONE, UNCHANGED, differences};
+use crate::asked::{Asked, NoAnswer};
+use crate::program::Calls;
 use crate::reading::told;
-use crate::texts::Text::{self, Each, Of};
-use ml_base::{Bytes, PartError};
+use ml_base::Bytes;
 use ml_config::read_config;
 use ml_digest::{DigestPost, digest_text};
 use std::alloc::{AllocError, Global};
 use std::test::Fail;
+use trials_scripts::hold;
 
-// So many posts, these in turn, with their subjects.
-fn posts_of(
-    alloc: Global,
-    posts: &[(&[u8], &[u8])],
-    count: usize,
-) -> Result<Vec<DigestPost>, AllocError> {
-    let mut all = Vec::new(alloc);
-    for (subject, bytes) in posts.iter().cycle().take(count) {
-        all.push(DigestPost {
-            subject: Bytes::from_slice(alloc, subject)?,
-            bytes: Bytes::from_slice(alloc, bytes)?,
-        })?;
+/// What a call answers: `write ISSUE FIRST` the text of an issue with the number of its first post, of an input that has each post behind its
+/// subject, with a NUL between two texts; `burst ISSUE FIRST COUNT SHORT` what an issue of so many times the input as its posts is read as, so
+/// many bytes short of its end.
+pub(crate) fn answer(alloc: Global, asked: &Asked<'_>) -> Result<Bytes, NoAnswer> {
+    let (issue, first) = (asked.number(0)?, asked.number(1)?);
+    if asked.verb == "write" {
+        let posts = posts_of(alloc, asked.input.as_slice())?;
+        return written(alloc, issue, first, posts.as_slice());
     }
-    Ok(all)
+    let posts = alike(alloc, asked.input.as_slice(), asked.number(2)?)?;
+    let mut text = written(alloc, issue, first, posts.as_slice())?;
+    text.truncate(text.len().saturating_sub(asked.number(3)? as usize));
+    told(alloc, text.as_slice())
 }
 
-pub fn written(
-    alloc: Global,
-    issue: u64,
-    first: u64,
-    posts: &[(&[u8], &[u8])],
-    count: usize,
-) -> Result<Bytes, PartError> {
-    let posts = posts_of(alloc, posts, count)?;
+fn post(alloc: Global, subject: &[u8], bytes: &[u8]) -> Result<DigestPost, AllocError> {
+    Ok(DigestPost {
+        subject: Bytes::from_slice(alloc, subject)?,
+        bytes: Bytes::from_slice(alloc, bytes)?,
+    })
+}
+
+fn posts_of(alloc: Global, text: &[u8]) -> Result<Vec<DigestPost>, AllocError> {
+    let mut posts = Vec::new(alloc);
+    let mut subject = None;
+    for piece in text.split(|byte| *byte == 0) {
+        match subject {
+            Some(before) => {
+                posts.push(post(alloc, before, piece)?)?;
+                subject = None;
+            }
+            None => subject = Some(piece),
+        }
+    }
+    Ok(posts)
+}
+
+fn alike(alloc: Global, text: &[u8], count: u64) -> Result<Vec<DigestPost>, AllocError> {
+    let mut posts = Vec::new(alloc);
+    for _ in 0..count {
+        posts.push(post(alloc, b"s", text)?)?;
+    }
+    Ok(posts)
+}
+
+fn written(alloc: Global, issue: u64, first: u64, posts: &[DigestPost]) -> Result<Bytes, NoAnswer> {
     let Some(config) = read_config(alloc, CONFIG)? else {
-        return Ok(Bytes::new(alloc));
+        return Err(NoAnswer::NoCall);
     };
     if posts.is_empty() || posts.len() > 1000 {
-        return Ok(Bytes::new(alloc));
+        return Err(NoAnswer::NoCall);
     }
     if first == 0 || first > 100_000_000 - posts.len() as u64 {
-        return Ok(Bytes::new(alloc));
+        return Err(NoAnswer::NoCall);
     }
-    Ok(digest_text(alloc, &config, issue, first, posts.as_slice(), DATE)?)
-}
-
-pub fn taken_apart(
-    alloc: Global,
-    issue: u64,
-    first: u64,
-    count: usize,
-    bytes: &[u8],
-    short: usize,
-) -> Result<Bytes, PartError> {
-    let mut text = written(alloc, issue, first, &[(b"s", bytes)], count)?;
-    text.truncate(text.len().saturating_sub(short));
-    told(alloc, text.as_slice())
+    Ok(digest_text(alloc, &config, issue, first, posts, DATE)?)
 }
 
 const CONFIG: &[u8] =
@@ -63,332 +72,53 @@ const CONFIG: &[u8] =
 
 const DATE: &[u8] = b"Sun, 09 Sep 2001 01:50:00 -0000";
 
-// The fields in another order, some twice, some folded, some that are not kept.
-const FIRST: &[u8] = b"Return-Path: <a@b>
-SUMMARY: s
-Keywords: k
-message-id: <1@b>
-Subject: a Digest
- Issue 7
-Cc: c@d
-X-Other: x
-To: list@ex.org
-cc: e@f
-From: a@b
-date: today
-
-one
-------------------------------
-two
+const TABLE: &str = r"
+# The fields of the first post are in another order, some twice, some folded, some that are not kept.
+let first Return-Path: <a@b>\nSUMMARY: s\nKeywords: k\nmessage-id: <1@b>\nSubject: a Digest\n Issue 7\nCc: c@d\nX-Other: x\nTo: list@ex.org\ncc: e@f\nFrom: a@b\ndate: today\n\none\n------------------------------\ntwo\n
+let second From: c@d\nSubject: End of list Digest Issue 3\n\nEnd of list Digest Issue 3\n***************************
+let issue Mailing-List: contact list-help@ex.org; run by ezmlm\nPrecedence: bulk\nFrom: list-help@ex.org\nTo: list@ex.org\nDate: Sun, 09 Sep 2001 01:50:00 -0000\nSubject: list Digest Issue 3\n\nlist Digest Issue 3, posts 41 to 42\n\nTopics:\n41: a Digest Issue 7\n42: End of list Digest Issue 3\n\n----------------------------------------------------------------------\n\ndate: today\nFrom: a@b\nTo: list@ex.org\nCc: c@d\ncc: e@f\nSubject: a Digest\n Issue 7\nmessage-id: <1@b>\nKeywords: k\nSUMMARY: s\n\none\n -----------------------------\ntwo\n\n------------------------------\n\n{second}\n\n------------------------------\n\nEnd of list Digest Issue 3\n**************************\n
+# An issue of two posts.
+input a Digest Issue 7\0{first}\0End of list Digest Issue 3\0{second} | run digests write 3 41 => 0 {issue}
+# Posts, and what an issue has of them.
+run digests burst 99999999 99999999 1 0 => 0 99999999\n|\n
+input \n | run digests burst 99999999 99999999 1 0 => 0 99999999\n|\n
+input \n\n | run digests burst 99999999 99999999 1 0 => 0 99999999\n|\n\n
+input To: d | run digests burst 99999999 99999999 1 0 => 0 99999999\n|To: d\n\n
+input To: d\n | run digests burst 99999999 99999999 1 0 => 0 99999999\n|To: d\n\n
+input To: d\n\n | run digests burst 99999999 99999999 1 0 => 0 99999999\n|To: d\n\n
+input To: d\n\nhi | run digests burst 99999999 99999999 1 0 => 0 99999999\n|To: d\n\nhi\n
+input To: d\n\nhi\n\n\n | run digests burst 99999999 99999999 1 0 => 0 99999999\n|To: d\n\nhi\n\n\n
+input X: y\n\nhi\n | run digests burst 99999999 99999999 1 0 => 0 99999999\n|\nhi\n
+input To: d\x0D\n\x0D\nhi\x0D\n | run digests burst 99999999 99999999 1 0 => 0 99999999\n|To: d\x0D\n\nhi\x0D\n
+input To: d\n e\n\x09f\nX: y\n g\n\nhi\n | run digests burst 99999999 99999999 1 0 => 0 99999999\n|To: d\n e\n\x09f\n\nhi\n
+input X: y\nTo: d | run digests burst 99999999 99999999 1 0 => 0 99999999\n|To: d\n\n
+input no header\n\nhi\n | run digests burst 99999999 99999999 1 0 => 0 99999999\n|\nno header\n\nhi\n
+input \x20To: d\n\nhi\n | run digests burst 99999999 99999999 1 0 => 0 99999999\n|\n To: d\n\nhi\n
+input \n-----------------------------\n | run digests burst 99999999 99999999 1 0 => 0 99999999\n|\n-----------------------------\n
+input \n------------------------------\n | run digests burst 99999999 99999999 1 0 => 0 99999999\n|\n -----------------------------\n
+input \n------------------------------ | run digests burst 99999999 99999999 1 0 => 0 99999999\n|\n -----------------------------\n
+input \n-------------------------------\n | run digests burst 99999999 99999999 1 0 => 0 99999999\n|\n-------------------------------\n
+input \n----------------------------------------------------------------------\n | run digests burst 99999999 99999999 1 0 => 0 99999999\n|\n----------------------------------------------------------------------\n
+input \n------------------------------\x0D\n | run digests burst 99999999 99999999 1 0 => 0 99999999\n|\n------------------------------\x0D\n
+input \n ------------------------------\n | run digests burst 99999999 99999999 1 0 => 0 99999999\n|\n ------------------------------\n
+input \n\n------------------------------\n\n------------------------------\n\nx | run digests burst 99999999 99999999 1 0 => 0 99999999\n|\n\n -----------------------------\n\n -----------------------------\n\nx\n
+input \nEnd of list Digest Issue 99999999\n*********************************\n | run digests burst 99999999 99999999 1 0 => 0 99999999\n|\nEnd of list Digest Issue 99999999\n*********************************\n
+input End of list: x\n\nhi\n | run digests burst 99999999 99999999 1 0 => 0 99999999\n|\nEnd of list: x\n\nhi\n
+input To: a\nTO: b\ntO: c\n\n | run digests burst 99999999 99999999 1 0 => 0 99999999\n|To: a\nTO: b\ntO: c\n\n
+input To: a\nFrom: b\nDate: c\n\n | run digests burst 99999999 99999999 1 0 => 0 99999999\n|Date: c\nFrom: b\nTo: a\n\n
+# A post as it was sent, of 321 bytes.
+let post Mailing-List: contact list-help@ex.org; run by ezmlm\nPrecedence: bulk\nList-Post: <mailto:list@ex.org>\nList-Help: <mailto:list-help@ex.org>\nList-Unsubscribe: <mailto:list-unsubscribe@ex.org>\nList-Subscribe: <mailto:list-subscribe@ex.org>\nDelivered-To: mailing list list@ex.org\nFrom: a@b\nTo: list@ex.org\nSubject: hello\n\nhi\n
+put ids 1:1\n | input {post} | run queue put reply => 0 1\n17/1 12:list-return-,6:ex.org,1:p,321:{post},\n18/0 1:2\n\n
+# Issues of it, and the same without their last byte.
+input {post} | run digests burst 1 1 100 0 => 0 1\n{1..100:|From: a@b\nTo: list@ex.org\nSubject: hello\n\nhi\n}
+input {post} | run digests burst 1 1 100 1 => 0 none
+input {post} | run digests burst 2 101 1 0 => 0 2\n|From: a@b\nTo: list@ex.org\nSubject: hello\n\nhi\n
+input {post} | run digests burst 2 101 1 1 => 0 none
+input {post} | run digests burst 1 1 101 0 => 0 1\n{1..101:|From: a@b\nTo: list@ex.org\nSubject: hello\n\nhi\n}
+input {post} | run digests burst 1 1 101 1 => 0 none
 ";
-
-const SECOND: &[u8] = b"From: c@d
-Subject: End of list Digest Issue 3
-
-End of list Digest Issue 3
-***************************";
-
-const ISSUE: &[u8] = b"Mailing-List: contact list-help@ex.org; run by ezmlm
-Precedence: bulk
-From: list-help@ex.org
-To: list@ex.org
-Date: Sun, 09 Sep 2001 01:50:00 -0000
-Subject: list Digest Issue 3
-
-list Digest Issue 3, posts 41 to 42
-
-Topics:
-41: a Digest Issue 7
-42: End of list Digest Issue 3
-
-----------------------------------------------------------------------
-
-date: today
-From: a@b
-To: list@ex.org
-Cc: c@d
-cc: e@f
-Subject: a Digest
- Issue 7
-message-id: <1@b>
-Keywords: k
-SUMMARY: s
-
-one
- -----------------------------
-two
-
-------------------------------
-
-From: c@d
-Subject: End of list Digest Issue 3
-
-End of list Digest Issue 3
-***************************
-
-------------------------------
-
-End of list Digest Issue 3
-**************************
-";
-
-// A post as it was sent, of 321 bytes.
-const POST: &[u8] = b"Mailing-List: contact list-help@ex.org; run by ezmlm
-Precedence: bulk
-List-Post: <mailto:list@ex.org>
-List-Help: <mailto:list-help@ex.org>
-List-Unsubscribe: <mailto:list-unsubscribe@ex.org>
-List-Subscribe: <mailto:list-subscribe@ex.org>
-Delivered-To: mailing list list@ex.org
-From: a@b
-To: list@ex.org
-Subject: hello
-
-hi
-";
-
-const WRITTEN: &[(&[u8], &[u8])] = &[
-    (b"a Digest Issue 7", FIRST),
-    (b"End of list Digest Issue 3", SECOND),
-];
-
-// Posts, and what an issue has of them.
-const MESSAGES: &[(Call, Text)] = &[
-    (
-        Call::Burst(99_999_999, 99_999_999, 1, b"", 0),
-        Of(b"99999999\n|\n"),
-    ),
-    (
-        Call::Burst(99_999_999, 99_999_999, 1, b"\n", 0),
-        Of(b"99999999\n|\n"),
-    ),
-    (
-        Call::Burst(99_999_999, 99_999_999, 1, b"\n\n", 0),
-        Of(b"99999999\n|\n\n"),
-    ),
-    (
-        Call::Burst(99_999_999, 99_999_999, 1, b"To: d", 0),
-        Of(b"99999999\n|To: d\n\n"),
-    ),
-    (
-        Call::Burst(99_999_999, 99_999_999, 1, b"To: d\n", 0),
-        Of(b"99999999\n|To: d\n\n"),
-    ),
-    (
-        Call::Burst(99_999_999, 99_999_999, 1, b"To: d\n\n", 0),
-        Of(b"99999999\n|To: d\n\n"),
-    ),
-    (
-        Call::Burst(99_999_999, 99_999_999, 1, b"To: d\n\nhi", 0),
-        Of(b"99999999\n|To: d\n\nhi\n"),
-    ),
-    (
-        Call::Burst(99_999_999, 99_999_999, 1, b"To: d\n\nhi\n\n\n", 0),
-        Of(b"99999999\n|To: d\n\nhi\n\n\n"),
-    ),
-    (
-        Call::Burst(99_999_999, 99_999_999, 1, b"X: y\n\nhi\n", 0),
-        Of(b"99999999\n|\nhi\n"),
-    ),
-    (
-        Call::Burst(99_999_999, 99_999_999, 1, b"To: d\r\n\r\nhi\r\n", 0),
-        Of(b"99999999\n|To: d\r\n\nhi\r\n"),
-    ),
-    (
-        Call::Burst(
-            99_999_999,
-            99_999_999,
-            1,
-            b"To: d\n e\n\tf\nX: y\n g\n\nhi\n",
-            0,
-        ),
-        Of(b"99999999\n|To: d\n e\n\tf\n\nhi\n"),
-    ),
-    (
-        Call::Burst(99_999_999, 99_999_999, 1, b"X: y\nTo: d", 0),
-        Of(b"99999999\n|To: d\n\n"),
-    ),
-    (
-        Call::Burst(99_999_999, 99_999_999, 1, b"no header\n\nhi\n", 0),
-        Of(b"99999999\n|\nno header\n\nhi\n"),
-    ),
-    (
-        Call::Burst(99_999_999, 99_999_999, 1, b" To: d\n\nhi\n", 0),
-        Of(b"99999999\n|\n To: d\n\nhi\n"),
-    ),
-    (
-        Call::Burst(
-            99_999_999,
-            99_999_999,
-            1,
-            b"\n-----------------------------\n",
-            0,
-        ),
-        Of(b"99999999\n|\n-----------------------------\n"),
-    ),
-    (
-        Call::Burst(
-            99_999_999,
-            99_999_999,
-            1,
-            b"\n------------------------------\n",
-            0,
-        ),
-        Of(b"99999999\n|\n -----------------------------\n"),
-    ),
-    (
-        Call::Burst(
-            99_999_999,
-            99_999_999,
-            1,
-            b"\n------------------------------",
-            0,
-        ),
-        Of(b"99999999\n|\n -----------------------------\n"),
-    ),
-    (
-        Call::Burst(
-            99_999_999,
-            99_999_999,
-            1,
-            b"\n-------------------------------\n",
-            0,
-        ),
-        Of(b"99999999\n|\n-------------------------------\n"),
-    ),
-    (
-        Call::Burst(
-            99_999_999,
-            99_999_999,
-            1,
-            b"\n----------------------------------------------------------------------\n",
-            0,
-        ),
-        Of(
-            b"99999999\n|\n----------------------------------------------------------------------\n",
-        ),
-    ),
-    (
-        Call::Burst(
-            99_999_999,
-            99_999_999,
-            1,
-            b"\n------------------------------\r\n",
-            0,
-        ),
-        Of(b"99999999\n|\n------------------------------\r\n"),
-    ),
-    (
-        Call::Burst(
-            99_999_999,
-            99_999_999,
-            1,
-            b"\n ------------------------------\n",
-            0,
-        ),
-        Of(b"99999999\n|\n ------------------------------\n"),
-    ),
-    (
-        Call::Burst(
-            99_999_999,
-            99_999_999,
-            1,
-            b"\n\n------------------------------\n\n------------------------------\n\nx",
-            0,
-        ),
-        Of(
-            b"99999999\n|\n\n -----------------------------\n\n -----------------------------\n\nx\n",
-        ),
-    ),
-    (
-        Call::Burst(
-            99_999_999,
-            99_999_999,
-            1,
-            b"\nEnd of list Digest Issue 99999999\n*********************************\n",
-            0,
-        ),
-        Of(b"99999999\n|\nEnd of list Digest Issue 99999999\n*********************************\n"),
-    ),
-    (
-        Call::Burst(99_999_999, 99_999_999, 1, b"End of list: x\n\nhi\n", 0),
-        Of(b"99999999\n|\nEnd of list: x\n\nhi\n"),
-    ),
-    (
-        Call::Burst(99_999_999, 99_999_999, 1, b"To: a\nTO: b\ntO: c\n\n", 0),
-        Of(b"99999999\n|To: a\nTO: b\ntO: c\n\n"),
-    ),
-    (
-        Call::Burst(99_999_999, 99_999_999, 1, b"To: a\nFrom: b\nDate: c\n\n", 0),
-        Of(b"99999999\n|Date: c\nFrom: b\nTo: a\n\n"),
-    ),
-];
-
-// Issues of the post of 321 bytes, and the same without their last byte.
-const ISSUES: &[(Call, Text)] = &[
-    (
-        Call::Burst(1, 1, 100, POST, 0),
-        Each(
-            b"1\n",
-            1,
-            100,
-            b"|From: a@b\nTo: list@ex.org\nSubject: hello\n\nhi\n",
-            b"",
-        ),
-    ),
-    (Call::Burst(1, 1, 100, POST, 1), Of(b"none")),
-    (
-        Call::Burst(2, 101, 1, POST, 0),
-        Each(
-            b"2\n",
-            1,
-            1,
-            b"|From: a@b\nTo: list@ex.org\nSubject: hello\n\nhi\n",
-            b"",
-        ),
-    ),
-    (Call::Burst(2, 101, 1, POST, 1), Of(b"none")),
-    (
-        Call::Burst(1, 1, 101, POST, 0),
-        Each(
-            b"1\n",
-            1,
-            101,
-            b"|From: a@b\nTo: list@ex.org\nSubject: hello\n\nhi\n",
-            b"",
-        ),
-    ),
-    (Call::Burst(1, 1, 101, POST, 1), Of(b"none")),
-];
-
-const CASES: &[Case] = &[
-    Case {
-        title: "an issue of two posts",
-        files: &[],
-        changes: UNCHANGED,
-        failing: NONE,
-        calls: &[(Call::Write(3, 41, WRITTEN), Of(ISSUE))],
-    },
-    Case {
-        title: "what an issue has of each post",
-        files: &[],
-        changes: UNCHANGED,
-        failing: NONE,
-        calls: MESSAGES,
-    },
-    Case {
-        title: "issues are taken apart into their posts",
-        files: &[],
-        changes: UNCHANGED,
-        failing: NONE,
-        calls: ISSUES,
-    },
-];
 
 #[test]
 fn issues(rt: HostRuntime) -> Result<(), Fail> {
-    assert_eq!(rt; POST.len(), 321);
-    let found = differences(rt.alloc(), CASES)?;
-    assert!(rt; found.is_empty(), "{found}");
-    Ok(())
+    hold::<Calls>(rt.alloc(), "issues", TABLE)
 }

@@ -1,10 +1,8 @@
-//! Tests of the public calls on held posts, the outgoing queue, the ledgers of bounces and the digests, as rows.
+//! Tests of the public calls on held posts, the outgoing queue, the ledgers of bounces and the digests, as tables that are texts.
 #![tactic(auto)]
 
 #[cfg(test)]
-mod calls;
-#[cfg(test)]
-mod cases;
+mod asked;
 #[cfg(test)]
 mod digests;
 #[cfg(test)]
@@ -16,8 +14,8 @@ mod ledgers;
 #[cfg(test)]
 mod parts;
 #[cfg(test)]
+mod program;
+#[cfg(test)]
 mod queue;
 #[cfg(test)]
 mod reading;
-#[cfg(test)]
-mod texts;

@@ -1,107 +1,125 @@
-// The files that rows start from, and what puts make of them.
-ghost use Rattle.std.specs.Prelude.{◌≡◌, ◌≤◌, false, IsTrue, IfOk, IsErrOf};
-ghost use Rattle.ml_base.specs.Faults.{Rose};
-ghost use Rattle.ml_base.specs.FilesInMemory.{map_dir, map_faults, IsMapKept};
-ghost use Rattle.ml_base.specs.KeptMaps.{map_kept_self, map_kept_then};
-ghost use Rattle.ml_base.specs.Name.{is_file};
-ghost use Rattle.ml_base.specs.declared.files.FilesError.TheVariants.{Fault};
+// The files that calls go over, and what is told of them.
+ghost use Rattle.std.specs.Prelude.{◌≤◌, false};
+ghost use Rattle.std.proofs.Math.Nat.{le_refl, le_trans};
+ghost use Rattle.ml_base.specs.FilesInMemory.{dir_of};
+ghost use Rattle.ml_site.specs.MemSites.{site_disk_faults};
 
-use crate::texts::{Text, made, push_number};
-use ml_base::{Bytes, Files, FilesError, Layer, MapFiles, Name, Numbers, PartError, Put, Txn};
+use crate::asked::NoAnswer;
+use ml_base::{Bytes, Files, FilesError, Layer, Name, Numbers, Put, Txn, next_place};
+use ml_site::{MemSite, Site, SiteError};
 use std::alloc::{AllocError, Global};
-use std::collections::BTreeMap;
+use trials_lists::Texts;
 
-/// Files in memory that tell nothing of themselves, as the real disk does.
+/// The files of a site in memory. They tell nothing of themselves, as those of the real disk do. Each read is a call of the site.
 #[derive(Drop)]
-pub struct Silent {
-    files: MapFiles,
+pub(crate) struct OnSite {
+    pub(crate) site: MemSite,
+    pub(crate) files: Texts,
 }
 
-impl Files for Silent {
+impl Files for OnSite {
     ghost tells = { false };
 
-    ghost map = { λ s. map_dir s.files };
+    ghost map = { λ s. dir_of s.files };
 
-    ghost faults = { λ s. map_faults s.files };
+    ghost faults = { λ s. site_disk_faults s.site };
 
-    ghost kept = { λ a b. IsMapKept a.files b.files };
+    ghost kept = { λ a b. site_disk_faults a.site ≤ site_disk_faults b.site };
 
     fn get(&mut self, alloc: Global, name: Name) -> Result<Option<Bytes>, FilesError> {
-        self.files.get(alloc, name)
+        match self.site.read_file(alloc, name) {
+            Ok(found) => Ok(found),
+            Err(SiteError::Failed) => Err(FilesError::Fault),
+            Err(SiteError::Memory) => Err(FilesError::Memory),
+        }
     }
 
     fn skip_absent(
         &mut self,
-        alloc: Global,
+        _alloc: Global,
         kind: u8,
         from: u64,
         end: u64,
     ) -> Result<u64, FilesError> {
-        self.files.skip_absent(alloc, kind, from, end)
+        Ok(next_place(&self.files, kind, from, end))
     }
 
-    ghost kept_self = { λ s. map_kept_self s.files };
+    ghost kept_self = { λ s. le_refl (site_disk_faults s.site) };
 
-    ghost kept_then = { λ a b c one two. map_kept_then a.files b.files c.files one two };
+    ghost kept_then = { λ a b c one two. le_trans one two };
 
-    ghost kept_map = { λ old new told kept. kept.dir };
+    ghost kept_map = { λ old new told kept. absurd (cc told) };
 
-    ghost kept_faults = { λ old new kept. kept.faults };
+    ghost kept_faults = { λ old new kept. kept };
 }
 
-pub type Parts = Layer<Silent>;
+pub(crate) type Parts = Layer<OnSite>;
 
-/// Files of these texts. The reads of these numbers, counted from 1, fail.
-pub fn started(
-    alloc: Global,
-    texts: &[(Name, Text)],
-    failing: &[u64],
-) -> Result<Parts, AllocError> {
-    let mut map = BTreeMap::new(alloc);
-    for (name, text) in texts {
-        map.insert(*name, made(alloc, text)?)?;
-    }
-    let fail = Numbers::from_vec(Vec::from_slice(alloc, failing)?);
-    let files = Silent {
-        files: MapFiles::new(map, fail),
-    };
-    Ok(Layer::new(files, Txn::new(alloc)))
-}
-
-/// Lays another text over a file, or its absence where the text is `-`.
-pub fn lay_text(
+/// Lays another text over a file.
+pub(crate) fn lay_text(
     alloc: Global,
     parts: &mut Parts,
     name: Name,
-    text: &[u8],
+    text: Bytes,
 ) -> Result<(), AllocError> {
-    let mut bytes = None;
-    if text != b"-".as_slice() {
-        bytes = Some(Bytes::from_slice(alloc, text)?);
-    }
     let mut txn = Txn::new(alloc);
-    txn.push(Put { name, bytes })?;
+    txn.push(Put {
+        name,
+        bytes: Some(text),
+    })?;
     parts.lay(txn)
 }
 
-/// The bytes of a file.
-pub fn file(alloc: Global, parts: &mut Parts, name: Name) -> Result<Option<Bytes>, PartError> {
+/// The bytes of a file, or None where it is absent.
+pub(crate) fn file(
+    alloc: Global,
+    parts: &mut Parts,
+    name: Name,
+) -> Result<Option<Bytes>, NoAnswer> {
     if !name.is_in_table() || name.kind == 0 {
-        return Ok(None);
+        return Err(NoAnswer::NoCall);
     }
-    Ok(parts.get(alloc, name)?)
+    match parts.get(alloc, name) {
+        Ok(found) => Ok(found),
+        Err(error) => Err(NoAnswer::Part(error.into())),
+    }
 }
 
 /// These bytes, or `-` where there are none.
-pub fn or_absent(alloc: Global, bytes: Option<Bytes>) -> Result<Bytes, PartError> {
+pub(crate) fn or_absent(alloc: Global, bytes: Option<Bytes>) -> Result<Bytes, NoAnswer> {
     match bytes {
         Some(bytes) => Ok(bytes),
-        None => Ok(Bytes::from_slice(alloc, b"-")?),
+        None => word(alloc, b"-"),
     }
 }
 
+/// The text `none`.
+pub(crate) fn none(alloc: Global) -> Result<Bytes, NoAnswer> {
+    word(alloc, b"none")
+}
+
+/// The text `sound`.
+pub(crate) fn sound(alloc: Global) -> Result<Bytes, NoAnswer> {
+    word(alloc, b"sound")
+}
+
+fn word(alloc: Global, word: &[u8]) -> Result<Bytes, NoAnswer> {
+    Ok(Bytes::from_slice(alloc, word)?)
+}
+
+/// Adds the digits of a number, and a byte behind them.
+pub(crate) fn push_number(out: &mut Bytes, number: u64, behind: u8) -> Result<(), AllocError> {
+    out.push_number(number)?;
+    out.push(behind)
+}
+
 /// A number on a line of its own, and behind it each put in a line, with its file's kind and place. The puts are laid.
-pub fn drawn(alloc: Global, parts: &mut Parts, number: u64, txn: Txn) -> Result<Bytes, PartError> {
+pub(crate) fn drawn(
+    alloc: Global,
+    parts: &mut Parts,
+    number: u64,
+    txn: Txn,
+) -> Result<Bytes, NoAnswer> {
     let mut out = Bytes::new(alloc);
     push_number(&mut out, number, b'\n')?;
     for put in txn.as_slice() {
@@ -122,7 +140,7 @@ fn push_put(out: &mut Bytes, put: &Put) -> Result<(), AllocError> {
 }
 
 /// A line for each number.
-pub fn lines(alloc: Global, numbers: &Numbers) -> Result<Bytes, PartError> {
+pub(crate) fn lines(alloc: Global, numbers: &Numbers) -> Result<Bytes, NoAnswer> {
     let mut out = Bytes::new(alloc);
     for number in numbers.as_slice() {
         push_number(&mut out, *number, b'\n')?;
@@ -131,13 +149,8 @@ pub fn lines(alloc: Global, numbers: &Numbers) -> Result<Bytes, PartError> {
 }
 
 /// A number in a line.
-pub fn line(alloc: Global, number: u64) -> Result<Bytes, PartError> {
+pub(crate) fn line(alloc: Global, number: u64) -> Result<Bytes, NoAnswer> {
     let mut out = Bytes::new(alloc);
     push_number(&mut out, number, b'\n')?;
     Ok(out)
-}
-
-/// The word `sound`.
-pub fn sound(alloc: Global) -> Result<Bytes, PartError> {
-    Ok(Bytes::from_slice(alloc, b"sound")?)
 }

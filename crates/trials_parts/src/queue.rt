@@ -3,16 +3,42 @@ ghost use Rattle.std.specs.Prelude.{◌≡◌, true, IsTrue};
 ghost use Rattle.ml_base.specs.Address.{key};
 ghost use Rattle.ml_base.specs.Sorted.{byte_cmp, is_sorted};
 
-use crate::calls::Call;
-use crate::cases::{Case, NONE, UNCHANGED, differences};
-use crate::parts::{Parts, drawn, file, line, lines, or_absent, sound};
-use crate::texts::Text::{self, Each, Of};
-use crate::texts::made;
+use crate::asked::{Asked, NoAnswer};
+use crate::parts::{Parts, drawn, file, line, lines, none, or_absent, sound};
+use crate::program::Calls;
 use ml_address::{Path, verp};
-use ml_base::{Address, AddressList, Bytes, Name, PartError, is_below};
+use ml_base::{Address, AddressList, Bytes, Name, is_below};
 use ml_queue::{Out, audit, entry, ids, next_id, put, sent};
 use std::alloc::{AllocError, Global};
 use std::test::Fail;
+use trials_scripts::hold;
+
+/// What a call answers: `put WAY RECIPIENTS` a mail, `entry ID`, `sent ID` the counter behind it where the files still stand for a queue,
+/// `next` the next id, `ids` and `audit`.
+pub(crate) fn answer(
+    alloc: Global,
+    parts: &mut Parts,
+    asked: &Asked<'_>,
+) -> Result<Bytes, NoAnswer> {
+    let verb = asked.verb;
+    if verb == "put" {
+        queued(alloc, parts, asked)
+    } else if verb == "entry" {
+        entered(alloc, parts, asked.number(0)?)
+    } else if verb == "sent" {
+        counter_after(alloc, parts, asked.number(0)?)
+    } else if verb == "next" {
+        line(alloc, next_id(alloc, parts)?)
+    } else if verb == "ids" {
+        let all = ids(alloc, parts)?;
+        lines(alloc, &all)
+    } else if verb == "audit" {
+        audit(alloc, parts)?;
+        sound(alloc)
+    } else {
+        Err(NoAnswer::NoCall)
+    }
+}
 
 // Whether addresses are in ascending order of key, none twice.
 fn are_ordered(to: &[Address]) -> bool
@@ -30,10 +56,10 @@ fn are_ordered(to: &[Address]) -> bool
     true
 }
 
-// The address of each line.
-fn recipients(alloc: Global, text: &[u8]) -> Result<AddressList, PartError> {
+// The addresses between commas.
+fn recipients(alloc: Global, text: &[u8]) -> Result<AddressList, AllocError> {
     let mut list = AddressList::new(alloc);
-    for who in text.split(|byte| *byte == b'\n') {
+    for who in text.split(|byte| *byte == b',') {
         if let Ok(who) = Address::parse(alloc, who) {
             list.push(who)?;
         }
@@ -41,42 +67,40 @@ fn recipients(alloc: Global, text: &[u8]) -> Result<AddressList, PartError> {
     Ok(list)
 }
 
-// An entry of a post, which names its recipients, or of a reply.
-fn out(alloc: Global, each: bool, body: Bytes, to: AddressList) -> Result<Out, AllocError> {
+// The path of a `post`, whose copies name their recipients, or of a `reply`.
+fn path(alloc: Global, way: &[u8]) -> Result<Path, NoAnswer> {
+    let each = way == b"post".as_slice();
+    if !each && way != b"reply".as_slice() {
+        return Err(NoAnswer::NoCall);
+    }
     let base: &[u8] = if each {
         b"list-return-1-"
     } else {
         b"list-return-"
     };
-    Ok(Out {
-        path: Path {
-            base: Bytes::from_slice(alloc, base)?,
-            host: Bytes::from_slice(alloc, b"ex.org")?,
-            each,
-        },
-        body,
-        to,
+    Ok(Path {
+        base: Bytes::from_slice(alloc, base)?,
+        host: Bytes::from_slice(alloc, b"ex.org")?,
+        each,
     })
 }
 
-pub fn queued(
-    alloc: Global,
-    parts: &mut Parts,
-    each: bool,
-    mail: &Text,
-    to: &Text,
-) -> Result<Bytes, PartError> {
-    let to = made(alloc, to)?;
-    let to = recipients(alloc, to.as_slice())?;
-    let out = out(alloc, each, made(alloc, mail)?, to)?;
+// The id of an entry, and the puts.
+fn queued(alloc: Global, parts: &mut Parts, asked: &Asked<'_>) -> Result<Bytes, NoAnswer> {
+    let out = Out {
+        path: path(alloc, asked.word(0))?,
+        body: Bytes::from_slice(alloc, asked.input.as_slice())?,
+        to: recipients(alloc, asked.word(1))?,
+    };
     if !are_ordered(out.to.as_slice()) {
-        return Ok(Bytes::new(alloc));
+        return Err(NoAnswer::NoCall);
     }
     let (id, txn) = put(alloc, parts, &out)?;
     drawn(alloc, parts, id, txn)
 }
 
-pub fn entered(alloc: Global, parts: &mut Parts, id: u64) -> Result<Bytes, PartError> {
+// Each recipient with his envelope sender in a line, and the mail; `-` where the entry isn't there.
+fn entered(alloc: Global, parts: &mut Parts, id: u64) -> Result<Bytes, NoAnswer> {
     match entry(alloc, parts, id)? {
         Some(out) => Ok(told(alloc, &out)?),
         None => or_absent(alloc, None),
@@ -95,350 +119,80 @@ fn told(alloc: Global, out: &Out) -> Result<Bytes, AllocError> {
     Ok(text)
 }
 
-pub fn counter_after(alloc: Global, parts: &mut Parts, id: u64) -> Result<Bytes, PartError> {
+fn counter_after(alloc: Global, parts: &mut Parts, id: u64) -> Result<Bytes, NoAnswer> {
     let Some(txn) = sent(alloc, parts, id)? else {
-        return Ok(Bytes::from_slice(alloc, b"none")?);
+        return none(alloc);
     };
     parts.lay(txn)?;
     audit(alloc, parts)?;
-    let counter = file(alloc, parts, IDS)?;
+    let counter = file(alloc, parts, Name::IDS)?;
     or_absent(alloc, counter)
 }
 
-pub fn next(alloc: Global, parts: &mut Parts) -> Result<Bytes, PartError> {
-    let id = next_id(alloc, parts)?;
-    line(alloc, id)
-}
-
-pub fn listed(alloc: Global, parts: &mut Parts) -> Result<Bytes, PartError> {
-    let all = ids(alloc, parts)?;
-    lines(alloc, &all)
-}
-
-pub fn audited(alloc: Global, parts: &mut Parts) -> Result<Bytes, PartError> {
-    audit(alloc, parts)?;
-    sound(alloc)
-}
-
-const IDS: Name = Name { kind: 18, at: 0 };
-
-const FIRST: Name = Name { kind: 17, at: 1 };
-
-const SECOND: Name = Name { kind: 17, at: 2 };
-
-const THIRD: Name = Name { kind: 17, at: 3 };
-
-const BEHIND: Name = Name {
-    kind: 17,
-    at: 100_002,
-};
-
-const LAST: Name = Name {
-    kind: 17,
-    at: 1_000_000_000_000_000,
-};
-
-const POST: &[u8] = b"14:list-return-1-,6:ex.org,1:v,3:hi\n,3:a@b,3:c@d,";
-
-const REPLY: &[u8] = b"12:list-return-,6:ex.org,1:p,0:,";
-
-// A post as it is sent, of 321 bytes.
-const MAIL: &[u8] =
-    b"Mailing-List: contact list-help@ex.org; run by ezmlm\nPrecedence: bulk\nList-Post: <mailto:list@ex.org>\nList-Help: <mailto:list-help@ex.org>\nList-Unsubscribe: <mailto:list-unsubscribe@ex.org>\nList-Subscribe: <mailto:list-subscribe@ex.org>\nDelivered-To: mailing list list@ex.org\nFrom: a@b\nTo: list@ex.org\nSubject: hello\n\nhi\n";
-
-const MAILED: &[u8] =
-    b"14:list-return-1-,6:ex.org,1:v,321:Mailing-List: contact list-help@ex.org; run by ezmlm\nPrecedence: bulk\nList-Post: <mailto:list@ex.org>\nList-Help: <mailto:list-help@ex.org>\nList-Unsubscribe: <mailto:list-unsubscribe@ex.org>\nList-Subscribe: <mailto:list-subscribe@ex.org>\nDelivered-To: mailing list list@ex.org\nFrom: a@b\nTo: list@ex.org\nSubject: hello\n\nhi\n,3:a@b,3:c@d,3:e@f,";
-
-const THREE: &[(Name, Text)] = &[
-    (IDS, Of(b"1:4\n")),
-    (FIRST, Of(POST)),
-    (SECOND, Of(REPLY)),
-    (THIRD, Of(REPLY)),
-];
-
-const CASES: &[Case] = &[
-    Case {
-        title: "a post to three",
-        files: &[],
-        changes: &[(IDS, b"1:1\n")],
-        failing: NONE,
-        calls: &[
-            (
-                Call::Put(true, Of(MAIL), Of(b"a@b\nc@d\ne@f\n")),
-                Of(
-                    b"1\n17/1 14:list-return-1-,6:ex.org,1:v,321:Mailing-List: contact list-help@ex.org; run by ezmlm\nPrecedence: bulk\nList-Post: <mailto:list@ex.org>\nList-Help: <mailto:list-help@ex.org>\nList-Unsubscribe: <mailto:list-unsubscribe@ex.org>\nList-Subscribe: <mailto:list-subscribe@ex.org>\nDelivered-To: mailing list list@ex.org\nFrom: a@b\nTo: list@ex.org\nSubject: hello\n\nhi\n,3:a@b,3:c@d,3:e@f,\n18/0 1:2\n\n",
-                ),
-            ),
-            (Call::File(FIRST), Of(MAILED)),
-        ],
-    },
-    Case {
-        title: "a reply to nobody",
-        files: &[],
-        changes: &[(IDS, b"3:7\n")],
-        failing: NONE,
-        calls: &[(
-            Call::Put(false, Of(b""), Of(b"")),
-            Of(b"7\n17/7 12:list-return-,6:ex.org,1:p,0:,\n18/0 3:8\n\n"),
-        )],
-    },
-    Case {
-        title: "the last id, and none behind it",
-        files: &[],
-        changes: &[(IDS, b"5:1000000000000000\n")],
-        failing: NONE,
-        calls: &[
-            (
-                Call::Put(false, Of(b""), Of(b"")),
-                Of(
-                    b"1000000000000000\n17/1000000000000000 12:list-return-,6:ex.org,1:p,0:,\n18/0 5:1000000000000001\n\n",
-                ),
-            ),
-            (Call::Put(false, Of(b""), Of(b"")), Of(b"damaged 18/0")),
-        ],
-    },
-    Case {
-        title: "a reply to a hundred thousand",
-        files: &[],
-        changes: &[(IDS, b"1:1\n")],
-        failing: NONE,
-        calls: &[
-            (
-                Call::Put(
-                    false,
-                    Of(b""),
-                    Each(b"", 1_000_000, 1_099_999, b"#@b\n", b""),
-                ),
-                Each(
-                    b"1\n17/1 12:list-return-,6:ex.org,1:p,0:,",
-                    1_000_000,
-                    1_099_999,
-                    b"9:#@b,",
-                    b"\n18/0 1:2\n\n",
-                ),
-            ),
-            (
-                Call::Entry(1),
-                Each(b"", 1_000_000, 1_099_999, b"#@b list-return-@ex.org\n", b""),
-            ),
-        ],
-    },
-    Case {
-        title: "the queue is emptied: 1, 2, 3",
-        files: THREE,
-        changes: UNCHANGED,
-        failing: NONE,
-        calls: &[
-            (Call::Sent(1), Of(b"2:4\n")),
-            (Call::Sent(2), Of(b"3:4\n")),
-            (Call::Sent(3), Of(b"4:4\n")),
-        ],
-    },
-    Case {
-        title: "the queue is emptied: 1, 3, 2",
-        files: THREE,
-        changes: UNCHANGED,
-        failing: NONE,
-        calls: &[
-            (Call::Sent(1), Of(b"2:4\n")),
-            (Call::Sent(3), Of(b"2:4\n")),
-            (Call::Sent(2), Of(b"4:4\n")),
-        ],
-    },
-    Case {
-        title: "the queue is emptied: 2, 1, 3",
-        files: THREE,
-        changes: UNCHANGED,
-        failing: NONE,
-        calls: &[
-            (Call::Sent(2), Of(b"1:4\n")),
-            (Call::Sent(1), Of(b"3:4\n")),
-            (Call::Sent(3), Of(b"4:4\n")),
-        ],
-    },
-    Case {
-        title: "the queue is emptied: 2, 3, 1",
-        files: THREE,
-        changes: UNCHANGED,
-        failing: NONE,
-        calls: &[
-            (Call::Sent(2), Of(b"1:4\n")),
-            (Call::Sent(3), Of(b"1:4\n")),
-            (Call::Sent(1), Of(b"4:4\n")),
-        ],
-    },
-    Case {
-        title: "the queue is emptied: 3, 1, 2",
-        files: THREE,
-        changes: UNCHANGED,
-        failing: NONE,
-        calls: &[
-            (Call::Sent(3), Of(b"1:4\n")),
-            (Call::Sent(1), Of(b"2:4\n")),
-            (Call::Sent(2), Of(b"4:4\n")),
-        ],
-    },
-    Case {
-        title: "the queue is emptied: 3, 2, 1",
-        files: THREE,
-        changes: UNCHANGED,
-        failing: NONE,
-        calls: &[
-            (Call::Sent(3), Of(b"1:4\n")),
-            (Call::Sent(2), Of(b"1:4\n")),
-            (Call::Sent(1), Of(b"4:4\n")),
-        ],
-    },
-    Case {
-        title: "the first of two entries is sent",
-        files: &[(IDS, Of(b"1:3\n")), (FIRST, Of(POST)), (SECOND, Of(REPLY))],
-        changes: UNCHANGED,
-        failing: NONE,
-        calls: &[
-            (Call::Sent(3), Of(b"none")),
-            (Call::Sent(0), Of(b"none")),
-            (Call::Sent(1_000_000_000_000_001), Of(b"none")),
-            (Call::Sent(1), Of(b"2:3\n")),
-        ],
-    },
-    Case {
-        title: "the last of two entries is sent",
-        files: &[(IDS, Of(b"1:3\n")), (FIRST, Of(POST)), (SECOND, Of(REPLY))],
-        changes: UNCHANGED,
-        failing: NONE,
-        calls: &[(Call::Sent(2), Of(b"1:3\n"))],
-    },
-    Case {
-        title: "an entry is sent once",
-        files: &[(IDS, Of(b"1:2\n")), (FIRST, Of(MAILED))],
-        changes: UNCHANGED,
-        failing: NONE,
-        calls: &[
-            (Call::Sent(1), Of(b"2:2\n")),
-            (Call::Sent(1), Of(b"none")),
-            (Call::Entry(1), Of(b"-")),
-        ],
-    },
-    Case {
-        title: "the next entry stands behind a long gap",
-        files: &[
-            (IDS, Of(b"1:100003\n")),
-            (FIRST, Of(POST)),
-            (BEHIND, Of(REPLY)),
-        ],
-        changes: UNCHANGED,
-        failing: NONE,
-        calls: &[(Call::Sent(1), Of(b"100002:100003\n"))],
-    },
-    Case {
-        title: "the next entry stands behind the widest gap",
-        files: &[
-            (IDS, Of(b"1:1000000000000001\n")),
-            (FIRST, Of(POST)),
-            (LAST, Of(REPLY)),
-        ],
-        changes: UNCHANGED,
-        failing: NONE,
-        calls: &[
-            (Call::Ids, Of(b"1\n1000000000000000\n")),
-            (Call::Sent(1), Of(b"1000000000000000:1000000000000001\n")),
-            (Call::Ids, Of(b"1000000000000000\n")),
-        ],
-    },
-    Case {
-        title: "the entry of the last id",
-        files: &[
-            (IDS, Of(b"1000000000000000:1000000000000001\n")),
-            (LAST, Of(REPLY)),
-        ],
-        changes: UNCHANGED,
-        failing: NONE,
-        calls: &[
-            (Call::NextId, Of(b"1000000000000001\n")),
-            (Call::Ids, Of(b"1000000000000000\n")),
-            (
-                Call::Sent(1_000_000_000_000_000),
-                Of(b"1000000000000001:1000000000000001\n"),
-            ),
-        ],
-    },
-    Case {
-        title: "two entries",
-        files: &[
-            (IDS, Of(b"1:3\n")),
-            (FIRST, Of(MAILED)),
-            (SECOND, Of(REPLY)),
-        ],
-        changes: UNCHANGED,
-        failing: NONE,
-        calls: &[
-            (Call::Ids, Of(b"1\n2\n")),
-            (Call::NextId, Of(b"3\n")),
-            (
-                Call::Entry(1),
-                Of(
-                    b"a@b list-return-1-a=b@ex.org\nc@d list-return-1-c=d@ex.org\ne@f list-return-1-e=f@ex.org\nMailing-List: contact list-help@ex.org; run by ezmlm\nPrecedence: bulk\nList-Post: <mailto:list@ex.org>\nList-Help: <mailto:list-help@ex.org>\nList-Unsubscribe: <mailto:list-unsubscribe@ex.org>\nList-Subscribe: <mailto:list-subscribe@ex.org>\nDelivered-To: mailing list list@ex.org\nFrom: a@b\nTo: list@ex.org\nSubject: hello\n\nhi\n",
-                ),
-            ),
-        ],
-    },
-    Case {
-        title: "no counter",
-        files: &[(FIRST, Of(REPLY))],
-        changes: UNCHANGED,
-        failing: NONE,
-        calls: &[(Call::AuditQueue, Of(b"damaged 18/0"))],
-    },
-    Case {
-        title: "texts that are no counter",
-        files: &[(FIRST, Of(b""))],
-        changes: &[
-            (IDS, b"0:1\n"),
-            (IDS, b"2:1\n"),
-            (IDS, b"1:2"),
-            (IDS, b"1:1000000000000000000\n"),
-        ],
-        failing: NONE,
-        calls: &[(Call::AuditQueue, Of(b"damaged 18/0"))],
-    },
-    Case {
-        title: "texts that are no entry",
-        files: &[(IDS, Of(b"1:2\n"))],
-        changes: &[
-            (FIRST, b""),
-            (FIRST, b"1:l,1:h,1:x,0:,"),
-            (FIRST, b"1:l,1:h,1:v,0:"),
-            (FIRST, b"1:l,1:h,1:v,0:,3:c@d,3:a@b,"),
-            (FIRST, b"1:l,1:h,1:v,0:,3:a@b,3:A@b,"),
-            (FIRST, b"1:l,1:h,1:v,0:,3:a@B,"),
-            (FIRST, b"1:l,1:h,1:v,0:,2:ab,"),
-            (FIRST, b"1:l,1:h,1:v,0:,3:a@b"),
-            (FIRST, b"01:l,1:h,1:v,0:,"),
-        ],
-        failing: NONE,
-        calls: &[(Call::AuditQueue, Of(b"damaged 17/1"))],
-    },
-    Case {
-        title: "every other read fails",
-        files: &[(IDS, Of(b"1:2\n")), (FIRST, Of(POST))],
-        changes: UNCHANGED,
-        failing: &[1, 3, 5],
-        calls: &[
-            (Call::NextId, Of(b"fault")),
-            (Call::NextId, Of(b"2\n")),
-            (Call::AuditQueue, Of(b"fault")),
-            (
-                Call::Entry(1),
-                Of(b"a@b list-return-1-a=b@ex.org\nc@d list-return-1-c=d@ex.org\nhi\n"),
-            ),
-            (Call::Entry(1), Of(b"fault")),
-        ],
-    },
-];
+const TABLE: &str = r"
+let mail Mailing-List: contact list-help@ex.org; run by ezmlm\nPrecedence: bulk\nList-Post: <mailto:list@ex.org>\nList-Help: <mailto:list-help@ex.org>\nList-Unsubscribe: <mailto:list-unsubscribe@ex.org>\nList-Subscribe: <mailto:list-subscribe@ex.org>\nDelivered-To: mailing list list@ex.org\nFrom: a@b\nTo: list@ex.org\nSubject: hello\n\nhi\n
+let mailed 14:list-return-1-,6:ex.org,1:v,321:{mail},3:a@b,3:c@d,3:e@f,
+let post 14:list-return-1-,6:ex.org,1:v,3:hi\n,3:a@b,3:c@d,
+let reply 12:list-return-,6:ex.org,1:p,0:,
+# A post to three.
+put ids 1:1\n | input {mail} | run queue put post a@b,c@d,e@f => 0 1\n17/1\x20{mailed}\n18/0 1:2\n\n | has queue/1 {mailed}
+# A reply to nobody.
+put ids 3:7\n | run queue put reply => 0 7\n17/7\x20{reply}\n18/0 3:8\n\n
+# The last id, and none behind it.
+put ids 5:1000000000000000\n | run queue put reply => 0 1000000000000000\n17/1000000000000000\x20{reply}\n18/0 5:1000000000000001\n\n | run queue put reply => 75 damaged 18 0
+# A reply to a hundred thousand.
+put ids 1:1\n | run queue put reply {1000000..1099999:%@b,} => 0 1\n17/1\x20{reply}{1000000..1099999:9:%@b,}\n18/0 1:2\n\n | run queue entry 1 => 0 {1000000..1099999:%@b list-return-@ex.org\n}
+list put ids 1:4\n | put queue/1 {post} | put queue/2 {reply} | put queue/3 {reply}
+# The queue is emptied: 1, 2, 3.
+run queue sent 1 => 0 2:4\n | run queue sent 2 => 0 3:4\n | run queue sent 3 => 0 4:4\n
+# The queue is emptied: 1, 3, 2.
+run queue sent 1 => 0 2:4\n | run queue sent 3 => 0 2:4\n | run queue sent 2 => 0 4:4\n
+# The queue is emptied: 2, 1, 3.
+run queue sent 2 => 0 1:4\n | run queue sent 1 => 0 3:4\n | run queue sent 3 => 0 4:4\n
+# The queue is emptied: 2, 3, 1.
+run queue sent 2 => 0 1:4\n | run queue sent 3 => 0 1:4\n | run queue sent 1 => 0 4:4\n
+# The queue is emptied: 3, 1, 2.
+run queue sent 3 => 0 1:4\n | run queue sent 1 => 0 2:4\n | run queue sent 2 => 0 4:4\n
+# The queue is emptied: 3, 2, 1.
+run queue sent 3 => 0 1:4\n | run queue sent 2 => 0 1:4\n | run queue sent 1 => 0 4:4\n
+list put ids 1:3\n | put queue/1 {post} | put queue/2 {reply}
+# The first of two entries is sent.
+run queue sent 3 => 0 none | run queue sent 0 => 0 none | run queue sent 1000000000000001 => 0 none | run queue sent 1 => 0 2:3\n
+# The last of two entries is sent.
+run queue sent 2 => 0 1:3\n
+list at 1000000000
+# An entry is sent once.
+put ids 1:2\n | put queue/1 {mailed} | run queue sent 1 => 0 2:2\n | run queue sent 1 => 0 none | run queue entry 1 => 0 -
+# The next entry stands behind a long gap.
+put ids 1:100003\n | put queue/1 {post} | put queue/100002 {reply} | run queue sent 1 => 0 100002:100003\n
+# The next entry stands behind the widest gap.
+put ids 1:1000000000000001\n | put queue/1 {post} | put queue/1000000000000000 {reply} | run queue ids => 0 1\n1000000000000000\n | run queue sent 1 => 0 1000000000000000:1000000000000001\n | run queue ids => 0 1000000000000000\n
+# The entry of the last id.
+put ids 1000000000000000:1000000000000001\n | put queue/1000000000000000 {reply} | run queue next => 0 1000000000000001\n | run queue ids => 0 1000000000000000\n | run queue sent 1000000000000000 => 0 1000000000000001:1000000000000001\n
+# Two entries.
+put ids 1:3\n | put queue/1 {mailed} | put queue/2 {reply} | run queue ids => 0 1\n2\n | run queue next => 0 3\n | run queue entry 1 => 0 a@b list-return-1-a=b@ex.org\nc@d list-return-1-c=d@ex.org\ne@f list-return-1-e=f@ex.org\n{mail}
+# No counter.
+put queue/1 {reply} | run queue audit => 75 damaged 18 0
+# Texts that are no counter.
+put queue/1  | put ids 0:1\n | run queue audit => 75 damaged 18 0
+put queue/1  | put ids 2:1\n | run queue audit => 75 damaged 18 0
+put queue/1  | put ids 1:2 | run queue audit => 75 damaged 18 0
+put queue/1  | put ids 1:1000000000000000000\n | run queue audit => 75 damaged 18 0
+# Texts that are no entry.
+put ids 1:2\n | put queue/1  | run queue audit => 75 damaged 17 1
+put ids 1:2\n | put queue/1 1:l,1:h,1:x,0:, | run queue audit => 75 damaged 17 1
+put ids 1:2\n | put queue/1 1:l,1:h,1:v,0: | run queue audit => 75 damaged 17 1
+put ids 1:2\n | put queue/1 1:l,1:h,1:v,0:,3:c@d,3:a@b, | run queue audit => 75 damaged 17 1
+put ids 1:2\n | put queue/1 1:l,1:h,1:v,0:,3:a@b,3:A@b, | run queue audit => 75 damaged 17 1
+put ids 1:2\n | put queue/1 1:l,1:h,1:v,0:,3:a@B, | run queue audit => 75 damaged 17 1
+put ids 1:2\n | put queue/1 1:l,1:h,1:v,0:,2:ab, | run queue audit => 75 damaged 17 1
+put ids 1:2\n | put queue/1 1:l,1:h,1:v,0:,3:a@b | run queue audit => 75 damaged 17 1
+put ids 1:2\n | put queue/1 01:l,1:h,1:v,0:, | run queue audit => 75 damaged 17 1
+# Every other read fails.
+put ids 1:2\n | put queue/1 {post} | fail 1 | run queue next => 111 a read failed | same | run queue next => 0 2\n | fail 1 | run queue audit => 111 a read failed | same | run queue entry 1 => 0 a@b list-return-1-a=b@ex.org\nc@d list-return-1-c=d@ex.org\nhi\n | fail 1 | run queue entry 1 => 111 a read failed | same
+";
 
 #[test]
 fn queues(rt: HostRuntime) -> Result<(), Fail> {
-    let found = differences(rt.alloc(), CASES)?;
-    assert!(rt; found.is_empty(), "{found}");
-    Ok(())
+    hold::<Calls>(rt.alloc(), "the queue", TABLE)
 }

@@ -1,253 +1,59 @@
 // Bounces: an address's course from its first one to the end, those that change nothing, and those of the digest. The letters
 // of the cookies are those that the key of the bytes 0 to 31 makes.
-use crate::asking::Call::{self, Due, Mail};
-use crate::lines::Line::{self, Ask, List};
-use crate::lines::{SAME, hold};
+use crate::program::Requests;
 use std::test::Fail;
-use trials_lists::Left::{self, Only};
-use trials_lists::Made::{self, Text};
+use trials_scripts::hold;
 
-const MAX: u64 = 1_048_576;
-
-const NOTED: &[u8] = b"28:3:a@b,10:1000010000,1:n,1:1,,";
-
-const WARNED: &[u8] = b"28:3:a@b,1:0,11:w1001010000,0:,,";
-
-const FAILED: &[u8] = b"28:3:a@b,1:0,11:f1001020000,0:,,";
-
-const PROBED: &[u8] = b"28:3:a@b,1:0,11:p1002020000,0:,,";
-
-// The member `a@b`, and one post.
-const MEMBER: &[Made] = &[
-    Text(3, 29, b"Ta@b\x00"),
-    Text(8, 0, b"1\n"),
-    Text(11, 0, b"1\n"),
-];
-
-const M: &[u8] = b"Mailing-List: x\n\n";
-
-const POST: Call = Mail(b"", b"list-return-1-a=b@ex.org", M);
-
-const WARN: Call = Mail(
-    b"",
-    b"list-return-warn-1001010000.pnmnlkjjdpfdgdkbdlph-a=b@ex.org",
-    M,
-);
-
-const PROBE: Call = Mail(
-    b"",
-    b"list-return-probe-1002020000.jflpmhknppbmgpelkpgm-a=b@ex.org",
-    M,
-);
-
-// The first bounce leaves this.
-const FIRST: Left = Only(&[Text(15, 29, NOTED)]);
-
-const COURSE: &[Line] = &[
-    // A member whose probe bounces leaves.
-    List(b"", MAX, &[MEMBER]),
-    Ask(1_000_010_000, POST, b"13 0", FIRST),
-    Ask(1_000_010_001, POST, b"14 0", SAME),
-    Ask(1_001_009_999, Due, b"nothing", SAME),
-    Ask(1_001_010_000, Due, b"done", Only(&[Text(15, 29, WARNED)])),
-    Ask(1_001_015_000, PROBE, b"14 0", SAME),
-    Ask(1_001_020_000, WARN, b"13 0", Only(&[Text(15, 29, FAILED)])),
-    Ask(1_001_020_001, WARN, b"14 0", SAME),
-    Ask(1_002_019_999, Due, b"nothing", SAME),
-    Ask(1_002_020_000, Due, b"done", Only(&[Text(15, 29, PROBED)])),
-    Ask(
-        1_002_020_500,
-        PROBE,
-        b"15 0",
-        Only(&[Text(3, 29, b"-"), Text(8, 0, b"0\n"), Text(15, 29, b"-")]),
-    ),
-    Ask(1_002_020_501, PROBE, b"14 0", SAME),
-    // A bounce is noted whoever sends it: nobody, one that is no address, a stranger and the member himself.
-    List(b"", MAX, &[MEMBER]),
-    Ask(
-        1_000_010_000,
-        Mail(b"", b"list-return-1-a=b@ex.org", M),
-        b"13 0",
-        FIRST,
-    ),
-    List(b"", MAX, &[MEMBER]),
-    Ask(
-        1_000_010_000,
-        Mail(b"#@[]", b"list-return-1-a=b@ex.org", M),
-        b"13 0",
-        FIRST,
-    ),
-    List(b"", MAX, &[MEMBER]),
-    Ask(
-        1_000_010_000,
-        Mail(b"g@h", b"list-return-1-a=b@ex.org", M),
-        b"13 0",
-        FIRST,
-    ),
-    List(b"", MAX, &[MEMBER]),
-    Ask(
-        1_000_010_000,
-        Mail(b"a@b", b"list-return-1-a=b@ex.org", M),
-        b"13 0",
-        FIRST,
-    ),
-    // A probe whose stage has lapsed: its cookie is good, and nobody leaves.
-    List(b"", MAX, &[MEMBER, &[Text(15, 29, PROBED)]]),
-    Ask(1_003_020_000, Due, b"done", Only(&[Text(15, 29, b"-")])),
-    Ask(1_003_020_000, PROBE, b"14 0", SAME),
-    // Bounces that change nothing, of the list with `a@b`, who was probed, and 7 posts.
-    List(
-        b"",
-        MAX,
-        &[
-            MEMBER,
-            &[
-                Text(11, 0, b"7\n"),
-                Text(15, 29, PROBED),
-                Text(12, 0, b"0:0\n"),
-            ],
-        ],
-    ),
-    Ask(
-        1_002_020_500,
-        Mail(b"", b"list-return-8-a=b@ex.org", M),
-        b"14 0",
-        SAME,
-    ),
-    Ask(
-        1_002_020_500,
-        Mail(b"", b"list-return-99999999-a=b@ex.org", M),
-        b"14 0",
-        SAME,
-    ),
-    Ask(
-        1_002_020_500,
-        Mail(b"", b"list-return-7-c=d@ex.org", M),
-        b"14 0",
-        SAME,
-    ),
-    Ask(
-        1_002_020_500,
-        Mail(b"", b"list-digest-return-1-a=b@ex.org", M),
-        b"14 0",
-        SAME,
-    ),
-    Ask(
-        1_002_020_500,
-        Mail(
-            b"",
-            b"list-return-warn-1001010000.pnmnlkjjdpfdgdkbdlph-a=b@ex.org",
-            M,
-        ),
-        b"14 0",
-        SAME,
-    ),
-    Ask(
-        1_002_020_500,
-        Mail(
-            b"",
-            b"list-return-probe-1002020000.jflpmhknppbmgpelkpgn-a=b@ex.org",
-            M,
-        ),
-        b"14 0",
-        SAME,
-    ),
-    Ask(
-        1_002_020_500,
-        Mail(
-            b"",
-            b"list-return-probe-1002020001.jflpmhknppbmgpelkpgm-a=b@ex.org",
-            M,
-        ),
-        b"14 0",
-        SAME,
-    ),
-    Ask(
-        1_002_020_500,
-        Mail(
-            b"",
-            b"list-return-probe-1002020000.jflpmhknppbmgpelkpgm-c=d@ex.org",
-            M,
-        ),
-        b"14 0",
-        SAME,
-    ),
-    Ask(
-        1_002_020_500,
-        Mail(
-            b"",
-            b"list-digest-return-probe-1002020000.icnhfndpgjhaehjofjgf-a=b@ex.org",
-            M,
-        ),
-        b"14 0",
-        SAME,
-    ),
-    Ask(
-        1_002_020_500,
-        Mail(
-            b"",
-            b"list-return-warn-1002020000.jflpmhknppbmgpelkpgm-a=b@ex.org",
-            M,
-        ),
-        b"14 0",
-        SAME,
-    ),
-    Ask(
-        1_002_020_500,
-        Mail(b"", b"list-return-@ex.org", M),
-        b"14 0",
-        SAME,
-    ),
-    Ask(
-        1_002_020_500,
-        Mail(b"", b"list-digest-return-@ex.org", M),
-        b"14 0",
-        SAME,
-    ),
-    // Numbers of the digest are issues, of which two were sent.
-    DIGEST,
-    Ask(
-        1_000_010_000,
-        Mail(b"", b"list-digest-return-1-a=b@ex.org", M),
-        b"13 0",
-        Only(&[Text(16, 29, b"28:3:a@b,10:1000010000,1:n,1:1,,")]),
-    ),
-    DIGEST,
-    Ask(
-        1_000_010_000,
-        Mail(b"", b"list-digest-return-2-A=B@ex.org", M),
-        b"13 0",
-        Only(&[Text(16, 29, b"28:3:a@b,10:1000010000,1:n,1:2,,")]),
-    ),
-    DIGEST,
-    Ask(
-        1_000_010_000,
-        Mail(b"", b"list-digest-return-3-a=b@ex.org", M),
-        b"14 0",
-        SAME,
-    ),
-    DIGEST,
-    Ask(
-        1_000_010_000,
-        Mail(b"", b"list-return-1-a=b@ex.org", M),
-        b"14 0",
-        SAME,
-    ),
-];
-
-// The digest's member `a@b`, 50 posts, and two issues.
-const DIGEST: Line = List(
-    b"",
-    MAX,
-    &[&[
-        Text(4, 29, b"Ta@b\x00"),
-        Text(8, 1, b"1\n"),
-        Text(12, 0, b"40:2\n"),
-        Text(11, 0, b"50\n"),
-    ]],
-);
+const TABLE: &str = r"
+let m Mailing-List: x\n\n
+let noted 28:3:a@b,10:1000010000,1:n,1:1,,
+let warned 28:3:a@b,1:0,11:w1001010000,0:,,
+let failed 28:3:a@b,1:0,11:f1001020000,0:,,
+let probed 28:3:a@b,1:0,11:p1002020000,0:,,
+# A member whose probe bounces leaves.
+list run new => 0 | put subscribers/] Ta@b\0 | put counts/list 1\n | put num 1\n | at 1000010000 | input {m}
+run mail '' list-return-1-a=b@ex.org => 0 13 0 | gets bounce/] {noted} | same
+then at 1000010001 | input {m} | run mail '' list-return-1-a=b@ex.org => 0 14 0 | same
+then at 1001009999 | run due => 0 nothing | same
+then at 1001010000 | run due => 0 done | gets bounce/] {warned} | same
+then at 1001015000 | input {m} | run mail '' list-return-probe-1002020000.jflpmhknppbmgpelkpgm-a=b@ex.org => 0 14 0 | same
+then at 1001020000 | input {m} | run mail '' list-return-warn-1001010000.pnmnlkjjdpfdgdkbdlph-a=b@ex.org => 0 13 0 | gets bounce/] {failed} | same
+then at 1001020001 | input {m} | run mail '' list-return-warn-1001010000.pnmnlkjjdpfdgdkbdlph-a=b@ex.org => 0 14 0 | same
+then at 1002019999 | run due => 0 nothing | same
+then at 1002020000 | run due => 0 done | gets bounce/] {probed} | same
+then at 1002020500 | input {m} | run mail '' list-return-probe-1002020000.jflpmhknppbmgpelkpgm-a=b@ex.org => 0 15 0 | loses subscribers/] | gets counts/list 0\n | loses bounce/] | same
+then at 1002020501 | input {m} | run mail '' list-return-probe-1002020000.jflpmhknppbmgpelkpgm-a=b@ex.org => 0 14 0 | same
+# A bounce is noted whoever sends it: nobody, one that is no address, a stranger and the member himself.
+run mail '' list-return-1-a=b@ex.org => 0 13 0 | gets bounce/] {noted} | same
+run mail #@[] list-return-1-a=b@ex.org => 0 13 0 | gets bounce/] {noted} | same
+run mail g@h list-return-1-a=b@ex.org => 0 13 0 | gets bounce/] {noted} | same
+run mail a@b list-return-1-a=b@ex.org => 0 13 0 | gets bounce/] {noted} | same
+# A probe whose stage has lapsed: its cookie is good, and nobody leaves.
+put bounce/] {probed} | at 1003020000 | run due => 0 done | loses bounce/] | same
+then input {m} | run mail '' list-return-probe-1002020000.jflpmhknppbmgpelkpgm-a=b@ex.org => 0 14 0 | same
+# Bounces that change nothing, of the list with `a@b`, who was probed, and 7 posts.
+list run new => 0 | put subscribers/] Ta@b\0 | put counts/list 1\n | put num 7\n | put bounce/] {probed} | put dig 0:0\n | at 1002020500 | input {m}
+run mail '' list-return-8-a=b@ex.org => 0 14 0 | same
+run mail '' list-return-99999999-a=b@ex.org => 0 14 0 | same
+run mail '' list-return-7-c=d@ex.org => 0 14 0 | same
+run mail '' list-digest-return-1-a=b@ex.org => 0 14 0 | same
+run mail '' list-return-warn-1001010000.pnmnlkjjdpfdgdkbdlph-a=b@ex.org => 0 14 0 | same
+run mail '' list-return-probe-1002020000.jflpmhknppbmgpelkpgn-a=b@ex.org => 0 14 0 | same
+run mail '' list-return-probe-1002020001.jflpmhknppbmgpelkpgm-a=b@ex.org => 0 14 0 | same
+run mail '' list-return-probe-1002020000.jflpmhknppbmgpelkpgm-c=d@ex.org => 0 14 0 | same
+run mail '' list-digest-return-probe-1002020000.icnhfndpgjhaehjofjgf-a=b@ex.org => 0 14 0 | same
+run mail '' list-return-warn-1002020000.jflpmhknppbmgpelkpgm-a=b@ex.org => 0 14 0 | same
+run mail '' list-return-@ex.org => 0 14 0 | same
+run mail '' list-digest-return-@ex.org => 0 14 0 | same
+# Numbers of the digest are issues, of which two were sent.
+list run new => 0 | put digest/subscribers/] Ta@b\0 | put counts/digest 1\n | put dig 40:2\n | put num 50\n | at 1000010000 | input {m}
+run mail '' list-digest-return-1-a=b@ex.org => 0 13 0 | gets digest/bounce/] {noted} | same
+run mail '' list-digest-return-2-A=B@ex.org => 0 13 0 | gets digest/bounce/] 28:3:a@b,10:1000010000,1:n,1:2,, | same
+run mail '' list-digest-return-3-a=b@ex.org => 0 14 0 | same
+run mail '' list-return-1-a=b@ex.org => 0 14 0 | same
+";
 
 #[test]
 fn bounces(rt: HostRuntime) -> Result<(), Fail> {
-    hold(rt.alloc(), "bounces", COURSE)
+    hold::<Requests>(rt.alloc(), "bounces", TABLE)
 }

@@ -10,15 +10,17 @@ mod bounces;
 #[cfg(test)]
 mod confirming;
 #[cfg(test)]
-mod joining;
+mod files;
 #[cfg(test)]
-mod lines;
+mod joining;
 #[cfg(test)]
 mod mails;
 #[cfg(test)]
 mod moderated;
 #[cfg(test)]
 mod posts;
+#[cfg(test)]
+mod program;
 #[cfg(test)]
 mod rules;
 #[cfg(test)]

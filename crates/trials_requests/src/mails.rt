@@ -1,147 +1,28 @@
 // Each mail in full. The texts were made by hand of their grammar.
-use crate::asking::Call::Mail as Mailed;
-use crate::joining::{IDS, M, MAX, MEMBERS, NOW};
-use crate::lines::Line::{self, Ask, List};
-use crate::lines::hold;
+use crate::program::Requests;
 use std::test::Fail;
-use trials_lists::Left::Only;
-use trials_lists::Made::Text;
+use trials_scripts::hold;
 
-const MAILS: &[Line] = &[
-    List(b"", MAX, &[MEMBERS]),
-    Ask(
-        NOW,
-        Mailed(b"g@h", b"list-subscribe@ex.org", M),
-        b"8 0",
-        Only(&[
-            Text(
-                17,
-                1,
-                b"12:list-return-,6:ex.org,1:p,323:Mailing-List: contact list-help@ex.org; run by ezmlm\nPrecedence: bulk\nFrom: list-help@ex.org\nTo: g@h\nReply-To: list-sc.1000000200.gejckjgcpngcagofoonm-g=h@ex.org\nDate: Sun, 09 Sep 2001 01:50:00 -0000\nSubject: confirm subscribe\n\nTo add g@h to list of list@ex.org, write to\nlist-sc.1000000200.gejckjgcpngcagofoonm-g=h@ex.org\n,3:g@h,",
-            ),
-            IDS,
-        ]),
-    ),
-    List(b"r", MAX, &[MEMBERS]),
-    Ask(
-        NOW,
-        Mailed(b"m@o", b"list-allow-subscribe-c=d@ex.org", M),
-        b"8 0",
-        Only(&[
-            Text(
-                17,
-                1,
-                b"12:list-return-,6:ex.org,1:p,336:Mailing-List: contact list-help@ex.org; run by ezmlm\nPrecedence: bulk\nFrom: list-help@ex.org\nTo: m@o\nReply-To: list-allow-tc.1000000200.iandhegkbllegagjfoli-c=d@ex.org\nDate: Sun, 09 Sep 2001 01:50:00 -0000\nSubject: confirm subscribe\n\nTo add c@d to allow of list@ex.org, write to\nlist-allow-tc.1000000200.iandhegkbllegagjfoli-c=d@ex.org\n,3:m@o,",
-            ),
-            IDS,
-        ]),
-    ),
-    // Two moderators are asked, and none.
-    List(b"hs", MAX, &[MEMBERS, &[Text(7, 41, b"Tl@o\x00")]]),
-    Ask(
-        NOW,
-        Mailed(b"g@h", b"list-subscribe@ex.org", M),
-        b"8 0",
-        Only(&[
-            Text(
-                17,
-                1,
-                b"12:list-return-,6:ex.org,1:p,337:Mailing-List: contact list-help@ex.org; run by ezmlm\nPrecedence: bulk\nFrom: list-help@ex.org\nTo: list-owner@ex.org\nReply-To: list-tc.1000000200.obpncccggeoacmogfpkd-g=h@ex.org\nDate: Sun, 09 Sep 2001 01:50:00 -0000\nSubject: confirm subscribe\n\nTo add g@h to list of list@ex.org, write to\nlist-tc.1000000200.obpncccggeoacmogfpkd-g=h@ex.org\n,3:l@o,3:m@o,",
-            ),
-            IDS,
-        ]),
-    ),
-    List(b"hs", MAX, &[MEMBERS, &[Text(7, 36, b"-")]]),
-    Ask(
-        NOW,
-        Mailed(b"g@h", b"list-subscribe@ex.org", M),
-        b"8 0",
-        Only(&[
-            Text(
-                17,
-                1,
-                b"12:list-return-,6:ex.org,1:p,337:Mailing-List: contact list-help@ex.org; run by ezmlm\nPrecedence: bulk\nFrom: list-help@ex.org\nTo: list-owner@ex.org\nReply-To: list-tc.1000000200.obpncccggeoacmogfpkd-g=h@ex.org\nDate: Sun, 09 Sep 2001 01:50:00 -0000\nSubject: confirm subscribe\n\nTo add g@h to list of list@ex.org, write to\nlist-tc.1000000200.obpncccggeoacmogfpkd-g=h@ex.org\n,",
-            ),
-            IDS,
-        ]),
-    ),
-    List(b"", MAX, &[MEMBERS]),
-    Ask(
-        NOW,
-        Mailed(b"g@h", b"list-unsubscribe-a=b@ex.org", M),
-        b"8 0",
-        Only(&[
-            Text(
-                17,
-                1,
-                b"12:list-return-,6:ex.org,1:p,330:Mailing-List: contact list-help@ex.org; run by ezmlm\nPrecedence: bulk\nFrom: list-help@ex.org\nTo: A@b\nReply-To: list-uc.1000000200.jgphlibgpcgbahbolpci-A=b@ex.org\nDate: Sun, 09 Sep 2001 01:50:00 -0000\nSubject: confirm unsubscribe\n\nTo remove A@b from list of list@ex.org, write to\nlist-uc.1000000200.jgphlibgpcgbahbolpci-A=b@ex.org\n,3:A@b,",
-            ),
-            IDS,
-        ]),
-    ),
-    List(b"h", MAX, &[MEMBERS]),
-    Ask(
-        NOW,
-        Mailed(b"g@h", b"list-subscribe@ex.org", M),
-        b"4 0",
-        Only(&[
-            Text(3, 14, b"layout 2\nTg@h\x001000000200\x00"),
-            Text(8, 0, b"2\n"),
-            Text(
-                17,
-                1,
-                b"12:list-return-,6:ex.org,1:p,195:Mailing-List: contact list-help@ex.org; run by ezmlm\nPrecedence: bulk\nFrom: list-help@ex.org\nTo: g@h\nDate: Sun, 09 Sep 2001 01:50:00 -0000\nSubject: welcome\n\ng@h was added to list of list@ex.org.\n,3:g@h,",
-            ),
-            IDS,
-        ]),
-    ),
-    List(b"jP", MAX, &[MEMBERS]),
-    Ask(
-        NOW,
-        Mailed(b"a@b", b"list-unsubscribe@ex.org", M),
-        b"6 0",
-        Only(&[
-            Text(3, 29, b"-"),
-            Text(8, 0, b"0\n"),
-            Text(
-                17,
-                1,
-                b"12:list-return-,6:ex.org,1:p,199:Mailing-List: contact list-help@ex.org; run by ezmlm\nPrecedence: bulk\nFrom: list-help@ex.org\nTo: A@b\nDate: Sun, 09 Sep 2001 01:50:00 -0000\nSubject: goodbye\n\nA@b was removed from list of list@ex.org.\n,3:A@b,",
-            ),
-            IDS,
-        ]),
-    ),
-    List(b"", MAX, &[MEMBERS]),
-    Ask(
-        NOW,
-        Mailed(b"g@h", b"list-subscribe-a=b@ex.org", M),
-        b"5 0",
-        Only(&[
-            Text(
-                17,
-                1,
-                b"12:list-return-,6:ex.org,1:p,207:Mailing-List: contact list-help@ex.org; run by ezmlm\nPrecedence: bulk\nFrom: list-help@ex.org\nTo: g@h\nDate: Sun, 09 Sep 2001 01:50:00 -0000\nSubject: already subscribed\n\nA@b is in list of list@ex.org already.\n,3:g@h,",
-            ),
-            IDS,
-        ]),
-    ),
-    List(b"", MAX, &[MEMBERS]),
-    Ask(
-        NOW,
-        Mailed(b"g@h", b"list-unsubscribe@ex.org", M),
-        b"7 0",
-        Only(&[
-            Text(
-                17,
-                1,
-                b"12:list-return-,6:ex.org,1:p,199:Mailing-List: contact list-help@ex.org; run by ezmlm\nPrecedence: bulk\nFrom: list-help@ex.org\nTo: g@h\nDate: Sun, 09 Sep 2001 01:50:00 -0000\nSubject: not subscribed\n\ng@h is not in list of list@ex.org.\n,3:g@h,",
-            ),
-            IDS,
-        ]),
-    ),
-];
+const TABLE: &str = r"
+# What the entry of each mail begins with.
+let mail 12:list-return-,6:ex.org,1:p,
+let date \nDate: Sun, 09 Sep 2001 01:50:00 -0000\nSubject:\x20
+# What each mail begins with.
+let head Mailing-List: contact list-help@ex.org; run by ezmlm\nPrecedence: bulk\nFrom: list-help@ex.org\nTo:\x20
+list run new => 0 | put counts/list 1\n | put counts/digest 0\n | put counts/allow 0\n | put subscribers/] TA@b\0 | put mod/subscribers/d Tm@o\0 | at 1000000200 | input \nhi\n
+run mail g@h list-subscribe@ex.org '' 1000 => 0 8 0 | gets queue/1 {mail}323:{head}g@h\nReply-To: list-sc.1000000200.gejckjgcpngcagofoonm-g=h@ex.org{date}confirm subscribe\n\nTo add g@h to list of list@ex.org, write to\nlist-sc.1000000200.gejckjgcpngcagofoonm-g=h@ex.org\n,3:g@h, | gets ids 1:2\n | same
+run mail m@o list-allow-subscribe-c=d@ex.org r 1000 => 0 8 0 | gets queue/1 {mail}336:{head}m@o\nReply-To: list-allow-tc.1000000200.iandhegkbllegagjfoli-c=d@ex.org{date}confirm subscribe\n\nTo add c@d to allow of list@ex.org, write to\nlist-allow-tc.1000000200.iandhegkbllegagjfoli-c=d@ex.org\n,3:m@o, | gets ids 1:2\n | same
+# Two moderators are asked, and none.
+put mod/subscribers/i Tl@o\0 | run mail g@h list-subscribe@ex.org hs 1000 => 0 8 0 | gets queue/1 {mail}337:{head}list-owner@ex.org\nReply-To: list-tc.1000000200.obpncccggeoacmogfpkd-g=h@ex.org{date}confirm subscribe\n\nTo add g@h to list of list@ex.org, write to\nlist-tc.1000000200.obpncccggeoacmogfpkd-g=h@ex.org\n,3:l@o,3:m@o, | gets ids 1:2\n | same
+drop mod/subscribers/d | run mail g@h list-subscribe@ex.org hs 1000 => 0 8 0 | gets queue/1 {mail}337:{head}list-owner@ex.org\nReply-To: list-tc.1000000200.obpncccggeoacmogfpkd-g=h@ex.org{date}confirm subscribe\n\nTo add g@h to list of list@ex.org, write to\nlist-tc.1000000200.obpncccggeoacmogfpkd-g=h@ex.org\n, | gets ids 1:2\n | same
+run mail g@h list-unsubscribe-a=b@ex.org '' 1000 => 0 8 0 | gets queue/1 {mail}330:{head}A@b\nReply-To: list-uc.1000000200.jgphlibgpcgbahbolpci-A=b@ex.org{date}confirm unsubscribe\n\nTo remove A@b from list of list@ex.org, write to\nlist-uc.1000000200.jgphlibgpcgbahbolpci-A=b@ex.org\n,3:A@b, | gets ids 1:2\n | same
+run mail g@h list-subscribe@ex.org h 1000 => 0 4 0 | gets subscribers/N layout 2\nTg@h\01000000200\0 | gets counts/list 2\n | gets queue/1 {mail}195:{head}g@h{date}welcome\n\ng@h was added to list of list@ex.org.\n,3:g@h, | gets ids 1:2\n | same
+run mail a@b list-unsubscribe@ex.org jP 1000 => 0 6 0 | loses subscribers/] | gets counts/list 0\n | gets queue/1 {mail}199:{head}A@b{date}goodbye\n\nA@b was removed from list of list@ex.org.\n,3:A@b, | gets ids 1:2\n | same
+run mail g@h list-subscribe-a=b@ex.org '' 1000 => 0 5 0 | gets queue/1 {mail}207:{head}g@h{date}already subscribed\n\nA@b is in list of list@ex.org already.\n,3:g@h, | gets ids 1:2\n | same
+run mail g@h list-unsubscribe@ex.org '' 1000 => 0 7 0 | gets queue/1 {mail}199:{head}g@h{date}not subscribed\n\ng@h is not in list of list@ex.org.\n,3:g@h, | gets ids 1:2\n | same
+";
 
 #[test]
 fn mails_in_full(rt: HostRuntime) -> Result<(), Fail> {
-    hold(rt.alloc(), "mails in full", MAILS)
+    hold::<Requests>(rt.alloc(), "mails", TABLE)
 }

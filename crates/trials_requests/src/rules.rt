@@ -1,344 +1,70 @@
 // The rules in their order, help, the owner's mail, and the members of a set.
-use crate::asking::Call::Mail as Mailed;
-use crate::lines::Line::{self, Ask, List};
-use crate::lines::{SAME, hold};
+use crate::program::Requests;
 use std::test::Fail;
-use trials_lists::Left::{self, Only};
-use trials_lists::Made::{self, Buckets, Count, Entry, Text};
-use trials_lists::Mail;
+use trials_scripts::hold;
 
-const NOW: u64 = 1_000_000_000;
-
-const DATE: &[u8] = b"Sun, 09 Sep 2001 01:46:40 -0000";
-
-const MAX: u64 = 1_048_576;
-
-// The counter of ids behind one mail.
-const IDS: Made = Text(18, 0, b"1:2\n");
-
-// `g@h` in the moderators' set.
-const G_H: &[Made] = &[Text(7, 14, b"Tg@h\x00")];
-
-const M: &[u8] = b"From: g@h\n\nhi\n";
-
-// The help text in a mail to `g@h`.
-const HELPED: Left = Only(&[
-    Made::Mail(
-        1,
-        Mail {
-            to: b"g@h",
-            reply: b"",
-            date: DATE,
-            subject: b"help",
-            text: b"Mail to one of these addresses:\nlist-subscribe@ex.org\nlist-unsubscribe@ex.org\nlist-digest-subscribe@ex.org\nlist-get.1_10@ex.org\nlist-index.1@ex.org\nlist-thread.1@ex.org\nlist-owner@ex.org\n",
-            who: &[b"g@h"],
-        },
-    ),
-    IDS,
-]);
-
-const EMPTY: Line = List(b"", MAX, &[]);
-
-const HELP: &[Line] = &[
-    EMPTY,
-    Ask(NOW, Mailed(b"g@h", b"list-help@ex.org", M), b"10 0", HELPED),
-    EMPTY,
-    Ask(NOW, Mailed(b"g@h", b"LIST-Help@EX.org", M), b"10 0", HELPED),
-    EMPTY,
-    Ask(
-        NOW,
-        Mailed(b"g@h", b"list-get.007@ex.org", M),
-        b"10 0",
-        HELPED,
-    ),
-    EMPTY,
-    Ask(
-        NOW,
-        Mailed(b"g@h", b"list-get.0@ex.org", M),
-        b"10 0",
-        HELPED,
-    ),
-    EMPTY,
-    Ask(NOW, Mailed(b"g@h", b"list-@ex.org", M), b"10 0", HELPED),
-    EMPTY,
-    Ask(
-        NOW,
-        Mailed(b"g@h", b"list-nothing@ex.org", M),
-        b"10 0",
-        HELPED,
-    ),
-    EMPTY,
-    Ask(
-        NOW,
-        Mailed(b"g@h", b"list-index.100000000@ex.org", M),
-        b"10 0",
-        HELPED,
-    ),
-    EMPTY,
-    Ask(
-        NOW,
-        Mailed(b"g@h", b"list-mod-subscribe@ex.org", M),
-        b"10 0",
-        HELPED,
-    ),
-];
-
-const LOOPED: &[u8] = b"MAILING-list: x\n\n";
-
-// An address that confirms something.
-const SIGNED: &[u8] = b"list-sc.1000000000.gejckjgcpngcagofoonm-g=h@ex.org";
-
-// Nobody and lists are told nothing.
-const REFUSED: &[Line] = &[
-    EMPTY,
-    Ask(
-        NOW,
-        Mailed(b"", b"list-help@ex.org", b"\nhi\n"),
-        b"22 0",
-        SAME,
-    ),
-    Ask(
-        NOW,
-        Mailed(b"#@[]", b"list-get.1@ex.org", b"\nhi\n"),
-        b"22 0",
-        SAME,
-    ),
-    Ask(
-        NOW,
-        Mailed(b"gh", b"list-list@ex.org", LOOPED),
-        b"22 0",
-        SAME,
-    ),
-    Ask(
-        NOW,
-        Mailed(b"", b"list-subscribe@ex.org", b"\nhi\n"),
-        b"22 0",
-        SAME,
-    ),
-    Ask(
-        NOW,
-        Mailed(b"#@[]", b"list-unsubscribe@ex.org", b"\nhi\n"),
-        b"22 0",
-        SAME,
-    ),
-    Ask(NOW, Mailed(b"gh", SIGNED, b"\nhi\n"), b"22 0", SAME),
-    Ask(
-        NOW,
-        Mailed(b"", b"list-index.1@ex.org", LOOPED),
-        b"22 0",
-        SAME,
-    ),
-    Ask(
-        NOW,
-        Mailed(b"g@", b"list-thread.1@ex.org", b"\nhi\n"),
-        b"22 0",
-        SAME,
-    ),
-    Ask(
-        NOW,
-        Mailed(b"@h", b"list-nothing@ex.org", b"\nhi\n"),
-        b"22 0",
-        SAME,
-    ),
-    Ask(
-        NOW,
-        Mailed(b"g@h", b"list-help@ex.org", LOOPED),
-        b"23 0",
-        SAME,
-    ),
-    Ask(
-        NOW,
-        Mailed(b"g@h", b"list-get.1@ex.org", LOOPED),
-        b"23 0",
-        SAME,
-    ),
-    Ask(
-        NOW,
-        Mailed(b"g@h", b"list-unsubscribe@ex.org", LOOPED),
-        b"23 0",
-        SAME,
-    ),
-    Ask(NOW, Mailed(b"g@h", SIGNED, LOOPED), b"23 0", SAME),
-    Ask(
-        NOW,
-        Mailed(b"g@h", b"list-list@ex.org", LOOPED),
-        b"23 0",
-        SAME,
-    ),
-    Ask(
-        NOW,
-        Mailed(b"g@h", b"list-index.1@ex.org", LOOPED),
-        b"23 0",
-        SAME,
-    ),
-    Ask(
-        NOW,
-        Mailed(b"g@h", b"list-thread.1@ex.org", LOOPED),
-        b"23 0",
-        SAME,
-    ),
-    Ask(
-        NOW,
-        Mailed(b"g@h", b"list-nothing@ex.org", LOOPED),
-        b"23 0",
-        SAME,
-    ),
-    Ask(
-        NOW,
-        Mailed(b"", b"list-return-@ex.org", LOOPED),
-        b"14 0",
-        SAME,
-    ),
-    Ask(
-        NOW,
-        Mailed(b"g@h", b"list-digest-return-@ex.org", b"\n"),
-        b"14 0",
-        SAME,
-    ),
-];
-
-// The owner gets what anybody sends, as it is.
-const OWNER: &[Line] = &[
-    List(b"bP", MAX, &[]),
-    Ask(
-        NOW,
-        Mailed(b"g@h", b"list-OWNER@ex.org", M),
-        b"11 0",
-        Only(&[
-            Text(17, 1, M),
-            Entry(1, b"list-return-", b"p", &[b"o@own.org"]),
-            IDS,
-        ]),
-    ),
-    List(b"bP", MAX, &[]),
-    Ask(
-        NOW,
-        Mailed(b"", b"list-OWNER@ex.org", LOOPED),
-        b"11 0",
-        Only(&[
-            Text(17, 1, LOOPED),
-            Entry(1, b"list-return-", b"p", &[b"o@own.org"]),
-            IDS,
-        ]),
-    ),
-    List(b"bP", MAX, &[]),
-    Ask(
-        NOW,
-        Mailed(b"x", b"list-OWNER@ex.org", b""),
-        b"11 0",
-        Only(&[
-            Text(17, 1, b""),
-            Entry(1, b"list-return-", b"p", &[b"o@own.org"]),
-            IDS,
-        ]),
-    ),
-];
-
-// Three members, in order of key.
-const THREE: &[Made] = &[
-    Text(3, 29, b"Ta@b\x00"),
-    Text(3, 12, b"layout 2\nTC@d\x001000000000\x00"),
-    Text(3, 23, b"Te@f\x00"),
-];
-
-// Moderators are told who is in a set, where the list says so.
-const MEMBERS: &[Line] = &[
-    List(b"l", MAX, &[G_H]),
-    Ask(
-        NOW,
-        Mailed(b"g@h", b"list-list@ex.org", M),
-        b"12 0",
-        Only(&[
-            Made::Mail(
-                1,
-                Mail {
-                    to: b"g@h",
-                    reply: b"",
-                    date: DATE,
-                    subject: b"members of list",
-                    text: b"",
-                    who: &[b"g@h"],
-                },
-            ),
-            IDS,
-        ]),
-    ),
-    List(b"l", MAX, &[G_H, THREE]),
-    Ask(
-        NOW,
-        Mailed(b"g@h", b"list-list@ex.org", M),
-        b"12 0",
-        Only(&[
-            Made::Mail(
-                1,
-                Mail {
-                    to: b"g@h",
-                    reply: b"",
-                    date: DATE,
-                    subject: b"members of list",
-                    text: b"a@b\nC@d\ne@f\n",
-                    who: &[b"g@h"],
-                },
-            ),
-            IDS,
-        ]),
-    ),
-    List(b"l", MAX, &[G_H, THREE]),
-    Ask(
-        NOW,
-        Mailed(b"g@h", b"list-digest-LIST@ex.org", M),
-        b"12 0",
-        Only(&[
-            Made::Mail(
-                1,
-                Mail {
-                    to: b"g@h",
-                    reply: b"",
-                    date: DATE,
-                    subject: b"members of digest",
-                    text: b"",
-                    who: &[b"g@h"],
-                },
-            ),
-            IDS,
-        ]),
-    ),
-    List(b"", MAX, &[G_H, THREE]),
-    Ask(NOW, Mailed(b"g@h", b"list-list@ex.org", M), b"31 0", SAME),
-    List(b"l", MAX, &[THREE]),
-    Ask(NOW, Mailed(b"g@h", b"list-list@ex.org", M), b"31 0", SAME),
-    // Ten thousand are told in order.
-    List(
-        b"l",
-        MAX,
-        &[G_H, &[Buckets(3, (10_000, 19_999), b"u%@h", b"Tu%@h\x00")]],
-    ),
-    Ask(
-        NOW,
-        Mailed(b"g@h", b"list-list@ex.org", M),
-        b"12 0",
-        Only(&[
-            Count(17, 1, (10_000, 19_999), &[(1, b"u%@h\n")]),
-            Made::Mail(
-                1,
-                Mail {
-                    to: b"g@h",
-                    reply: b"",
-                    date: DATE,
-                    subject: b"members of list",
-                    text: b"",
-                    who: &[b"g@h"],
-                },
-            ),
-            IDS,
-        ]),
-    ),
-];
+const TABLE: &str = r"
+let m From: g@h\n\nhi\n
+let looped MAILING-list: x\n\n
+# What the entry of each mail begins with.
+let mail 12:list-return-,6:ex.org,1:p,
+let date \nDate: Sun, 09 Sep 2001 01:46:40 -0000\nSubject:\x20
+# An address that confirms something.
+let signed list-sc.1000000000.gejckjgcpngcagofoonm-g=h@ex.org
+# What each mail begins with.
+let head Mailing-List: contact list-help@ex.org; run by ezmlm\nPrecedence: bulk\nFrom: list-help@ex.org\nTo:\x20
+# The help text in a mail to `g@h`.
+let helped {mail}341:{head}g@h{date}help\n\nMail to one of these addresses:\nlist-subscribe@ex.org\nlist-unsubscribe@ex.org\nlist-digest-subscribe@ex.org\nlist-get.1_10@ex.org\nlist-index.1@ex.org\nlist-thread.1@ex.org\nlist-owner@ex.org\n,3:g@h,
+# Help.
+list run new => 0 | input {m}
+run mail g@h list-help@ex.org => 0 10 0 | gets queue/1 {helped} | gets ids 1:2\n | same
+run mail g@h LIST-Help@EX.org => 0 10 0 | gets queue/1 {helped} | gets ids 1:2\n | same
+run mail g@h list-get.007@ex.org => 0 10 0 | gets queue/1 {helped} | gets ids 1:2\n | same
+run mail g@h list-get.0@ex.org => 0 10 0 | gets queue/1 {helped} | gets ids 1:2\n | same
+run mail g@h list-@ex.org => 0 10 0 | gets queue/1 {helped} | gets ids 1:2\n | same
+run mail g@h list-nothing@ex.org => 0 10 0 | gets queue/1 {helped} | gets ids 1:2\n | same
+run mail g@h list-index.100000000@ex.org => 0 10 0 | gets queue/1 {helped} | gets ids 1:2\n | same
+run mail g@h list-mod-subscribe@ex.org => 0 10 0 | gets queue/1 {helped} | gets ids 1:2\n | same
+# Nobody and lists are told nothing.
+list run new => 0 | input {looped}
+input \nhi\n | run mail '' list-help@ex.org => 0 22 0 | same
+input \nhi\n | run mail #@[] list-get.1@ex.org => 0 22 0 | same
+run mail gh list-list@ex.org => 0 22 0 | same
+input \nhi\n | run mail '' list-subscribe@ex.org => 0 22 0 | same
+input \nhi\n | run mail #@[] list-unsubscribe@ex.org => 0 22 0 | same
+input \nhi\n | run mail gh {signed} => 0 22 0 | same
+run mail '' list-index.1@ex.org => 0 22 0 | same
+input \nhi\n | run mail g@ list-thread.1@ex.org => 0 22 0 | same
+input \nhi\n | run mail @h list-nothing@ex.org => 0 22 0 | same
+run mail g@h list-help@ex.org => 0 23 0 | same
+run mail g@h list-get.1@ex.org => 0 23 0 | same
+run mail g@h list-unsubscribe@ex.org => 0 23 0 | same
+run mail g@h {signed} => 0 23 0 | same
+run mail g@h list-list@ex.org => 0 23 0 | same
+run mail g@h list-index.1@ex.org => 0 23 0 | same
+run mail g@h list-thread.1@ex.org => 0 23 0 | same
+run mail g@h list-nothing@ex.org => 0 23 0 | same
+run mail '' list-return-@ex.org => 0 14 0 | same
+input \n | run mail g@h list-digest-return-@ex.org => 0 14 0 | same
+# The owner gets what anybody sends, as it is.
+list run new => 0 | input {m}
+run mail g@h list-OWNER@ex.org bP => 0 11 0 | gets queue/1 {mail}14:{m},9:o@own.org, | gets ids 1:2\n | same
+input {looped} | run mail '' list-OWNER@ex.org bP => 0 11 0 | gets queue/1 {mail}17:{looped},9:o@own.org, | gets ids 1:2\n | same
+input | run mail x list-OWNER@ex.org bP => 0 11 0 | gets queue/1 {mail}0:,9:o@own.org, | gets ids 1:2\n | same
+# Moderators are told who is in a set, where the list says so.
+list run new => 0 | put mod/subscribers/N Tg@h\0 | input {m}
+run mail g@h list-list@ex.org l => 0 12 0 | gets queue/1 {mail}165:{head}g@h{date}members of list\n\n,3:g@h, | gets ids 1:2\n | same
+put subscribers/] Ta@b\0 | put subscribers/L layout 2\nTC@d\01000000000\0 | put subscribers/W Te@f\0 | run mail g@h list-list@ex.org l => 0 12 0 | gets queue/1 {mail}177:{head}g@h{date}members of list\n\na@b\nC@d\ne@f\n,3:g@h, | gets ids 1:2\n | same
+put subscribers/] Ta@b\0 | put subscribers/L layout 2\nTC@d\01000000000\0 | put subscribers/W Te@f\0 | run mail g@h list-digest-LIST@ex.org l => 0 12 0 | gets queue/1 {mail}167:{head}g@h{date}members of digest\n\n,3:g@h, | gets ids 1:2\n | same
+put subscribers/] Ta@b\0 | put subscribers/L layout 2\nTC@d\01000000000\0 | put subscribers/W Te@f\0 | run mail g@h list-list@ex.org => 0 31 0 | same
+list run new => 0 | input {m}
+put subscribers/] Ta@b\0 | put subscribers/L layout 2\nTC@d\01000000000\0 | put subscribers/W Te@f\0 | run mail g@h list-list@ex.org l => 0 31 0 | same
+# Ten thousand are told in order.
+list run new => 0 | put mod/subscribers/N Tg@h\0 | input {m}
+members 10000 | run mail g@h list-list@ex.org l => 0 12 0 | gets queue/1 {mail}80165:{head}g@h{date}members of list\n\n{0..9:u000%@h\n}{10..99:u00%@h\n}{100..999:u0%@h\n}{1000..9999:u%@h\n},3:g@h, | gets ids 1:2\n | same
+";
 
 #[test]
 fn mail_to_other_addresses(rt: HostRuntime) -> Result<(), Fail> {
-    hold(rt.alloc(), "help", HELP)?;
-    hold(rt.alloc(), "refused mail", REFUSED)?;
-    hold(rt.alloc(), "mail to the owner", OWNER)?;
-    hold(rt.alloc(), "members of a set", MEMBERS)
+    hold::<Requests>(rt.alloc(), "rules", TABLE)
 }

@@ -1,285 +1,86 @@
 // What is found of posts.
-use crate::asking::Call::Verdict;
-use crate::lines::Line::{self, Ask, List, Reads};
-use crate::lines::{SAME, hold};
+use crate::program::Requests;
 use std::test::Fail;
-use trials_lists::Made::{self, Text};
+use trials_scripts::hold;
 
-const NOW: u64 = 1_000_000_000;
-
-const MAX: u64 = 1000;
-
-// Files with `a@b` alone in each of the sets.
-const LIST: &[&[Made]] = &[&[Text(3, 29, b"Ta@b\x00")]];
-
-const DIGEST: &[&[Made]] = &[&[Text(4, 29, b"Ta@b\x00")]];
-
-const ALLOW: &[&[Made]] = &[&[Text(5, 29, b"Ta@b\x00")]];
-
-const DENY: &[&[Made]] = &[&[Text(6, 29, b"Ta@b\x00")]];
-
-const MODERATORS: &[&[Made]] = &[&[Text(7, 29, b"Ta@b\x00")]];
-
-const FULL: &[&[Made]] = &[&[Text(11, 0, b"99999999\n")]];
-
-// Damaged files.
-const ALLOW_CUT: &[&[Made]] = &[&[Text(5, 29, b"Ta@b")]];
-
-const DENY_CUT: &[&[Made]] = &[&[Text(6, 29, b"Ta@b")]];
-
-const NUMBER_CUT: &[&[Made]] = &[&[Text(11, 0, b"07\n")]];
-
-// A message of 45 bytes.
-const M: &[u8] = b"From: a@b\nTo: list@ex.org\nSubject: hello\n\nhi\n";
-
-const LOOPED: &[u8] = b"Mailing-List: x\nTo: list@ex.org\nSubject: unsubscribe\n\n";
-
-const VERDICTS: &[Line] = &[
-    // Each row of the rules alone, and what is next to it.
-    List(b"", MAX, LIST),
-    Ask(NOW, Verdict(b"a@b", M), b"Posted", SAME),
-    List(b"", 45, LIST),
-    Ask(NOW, Verdict(b"a@b", M), b"Posted", SAME),
-    List(b"", 44, LIST),
-    Ask(NOW, Verdict(b"a@b", M), b"TooBig", SAME),
-    List(b"", MAX, LIST),
-    Ask(NOW, Verdict(b"", M), b"BounceSender", SAME),
-    Ask(NOW, Verdict(b"#@[]", M), b"BounceSender", SAME),
-    Ask(NOW, Verdict(b"ab", M), b"BounceSender", SAME),
-    Ask(
-        NOW,
-        Verdict(
-            b"a@b",
-            b"mailing-LIST: x\nTo: list@ex.org\nSubject: hello\n\n",
-        ),
-        b"Looped",
-        SAME,
-    ),
-    List(b"k", MAX, DENY),
-    Ask(NOW, Verdict(b"a@b", M), b"Denied", SAME),
-    Ask(NOW, Verdict(b"A@B", M), b"Denied", SAME),
-    List(b"", MAX, DENY),
-    Ask(NOW, Verdict(b"a@b", M), b"Posted", SAME),
-    List(b"k", MAX, LIST),
-    Ask(NOW, Verdict(b"a@b", M), b"Posted", SAME),
-    List(b"", MAX, LIST),
-    Ask(
-        NOW,
-        Verdict(b"a@b", b"To: list@ex.org\n\nhi\n"),
-        b"NoSubject",
-        SAME,
-    ),
-    Ask(
-        NOW,
-        Verdict(b"a@b", b"Subject: \t\nTo: list@ex.org\n\n"),
-        b"NoSubject",
-        SAME,
-    ),
-    List(b"u", MAX, LIST),
-    Ask(NOW, Verdict(b"c@d", M), b"UsersOnly", SAME),
-    List(b"", MAX, LIST),
-    Ask(NOW, Verdict(b"c@d", M), b"Posted", SAME),
-    List(b"u", MAX, LIST),
-    Ask(NOW, Verdict(b"A@b", M), b"Posted", SAME),
-    List(b"u", MAX, DIGEST),
-    Ask(NOW, Verdict(b"a@b", M), b"Posted", SAME),
-    List(b"u", MAX, ALLOW),
-    Ask(NOW, Verdict(b"a@b", M), b"Posted", SAME),
-    List(b"u", MAX, MODERATORS),
-    Ask(NOW, Verdict(b"a@b", M), b"Posted", SAME),
-    List(b"u", MAX, DENY),
-    Ask(NOW, Verdict(b"a@b", M), b"UsersOnly", SAME),
-    List(b"m", MAX, LIST),
-    Ask(NOW, Verdict(b"a@b", M), b"Held", SAME),
-    List(b"", MAX, FULL),
-    Ask(NOW, Verdict(b"a@b", M), b"Full", SAME),
-    // Two rows of the rules hold: the first one counts.
-    List(b"", 44, LIST),
-    Ask(NOW, Verdict(b"", M), b"TooBig", SAME),
-    List(b"", MAX, LIST),
-    Ask(NOW, Verdict(b"", LOOPED), b"BounceSender", SAME),
-    List(b"k", MAX, DENY),
-    Ask(NOW, Verdict(b"a@b", LOOPED), b"Looped", SAME),
-    Ask(
-        NOW,
-        Verdict(b"a@b", b"To: list@ex.org\n\n"),
-        b"Denied",
-        SAME,
-    ),
-    List(b"", MAX, LIST),
-    Ask(NOW, Verdict(b"a@b", b"To: x@y\n\n"), b"NoSubject", SAME),
-    Ask(
-        NOW,
-        Verdict(b"a@b", b"To: x@y\nSubject: help\n\n"),
-        b"CommandSubject",
-        SAME,
-    ),
-    List(b"u", MAX, LIST),
-    Ask(
-        NOW,
-        Verdict(b"c@d", b"To: x@y\nSubject: hello\n\n"),
-        b"NotAddressed",
-        SAME,
-    ),
-    List(b"um", MAX, LIST),
-    Ask(NOW, Verdict(b"c@d", M), b"UsersOnly", SAME),
-    List(b"m", MAX, FULL),
-    Ask(NOW, Verdict(b"a@b", M), b"Held", SAME),
-    // Subjects, and whether they are commands.
-    List(b"", MAX, LIST),
-    Ask(
-        NOW,
-        Verdict(b"a@b", b"To: list@ex.org\nSubject: subscribe\n\n"),
-        b"CommandSubject",
-        SAME,
-    ),
-    Ask(
-        NOW,
-        Verdict(b"a@b", b"To: list@ex.org\nSubject: UnSubscribe\n\n"),
-        b"CommandSubject",
-        SAME,
-    ),
-    Ask(
-        NOW,
-        Verdict(b"a@b", b"To: list@ex.org\nSubject:\n help \n\n"),
-        b"CommandSubject",
-        SAME,
-    ),
-    Ask(
-        NOW,
-        Verdict(b"a@b", b"To: list@ex.org\nSubject: remove\n\n"),
-        b"CommandSubject",
-        SAME,
-    ),
-    Ask(
-        NOW,
-        Verdict(b"a@b", b"To: list@ex.org\nSubject: signoff\n\n"),
-        b"CommandSubject",
-        SAME,
-    ),
-    Ask(
-        NOW,
-        Verdict(b"a@b", b"To: list@ex.org\nSubject: subscribe me\n\n"),
-        b"Posted",
-        SAME,
-    ),
-    Ask(
-        NOW,
-        Verdict(b"a@b", b"To: list@ex.org\nSubject: re: help\n\n"),
-        b"Posted",
-        SAME,
-    ),
-    Ask(
-        NOW,
-        Verdict(b"a@b", b"To: list@ex.org\nSubject: x\nSubject: help\n\n"),
-        b"Posted",
-        SAME,
-    ),
-    // Fields that name recipients, and whether they name the list.
-    Ask(
-        NOW,
-        Verdict(b"a@b", b"Subject: x\nTo: list@ex.org"),
-        b"Posted",
-        SAME,
-    ),
-    Ask(
-        NOW,
-        Verdict(b"a@b", b"Subject: x\ntO: <LIST@Ex.Org>\n\n"),
-        b"Posted",
-        SAME,
-    ),
-    Ask(
-        NOW,
-        Verdict(b"a@b", b"Subject: x\nTo: a@b, list@ex.org, c@d\n\n"),
-        b"Posted",
-        SAME,
-    ),
-    Ask(
-        NOW,
-        Verdict(b"a@b", b"Subject: x\nTo: a@b,\n\tlist@ex.org\n\n"),
-        b"Posted",
-        SAME,
-    ),
-    Ask(
-        NOW,
-        Verdict(
-            b"a@b",
-            b"Subject: x\nTo: a@b\nCc: c@d\ncc: \"L\" <list@ex.org>\n\n",
-        ),
-        b"Posted",
-        SAME,
-    ),
-    Ask(
-        NOW,
-        Verdict(b"a@b", b"Subject: x\nTo: mylist@ex.org list@ex.org\n\n"),
-        b"Posted",
-        SAME,
-    ),
-    Ask(
-        NOW,
-        Verdict(b"a@b", b"Subject: x\n\nTo: list@ex.org\n"),
-        b"NotAddressed",
-        SAME,
-    ),
-    Ask(
-        NOW,
-        Verdict(b"a@b", b"Subject: x\nBcc: list@ex.org\n\n"),
-        b"NotAddressed",
-        SAME,
-    ),
-    Ask(
-        NOW,
-        Verdict(b"a@b", b"Subject: x\nTo: mylist@ex.org\n\n"),
-        b"NotAddressed",
-        SAME,
-    ),
-    Ask(
-        NOW,
-        Verdict(b"a@b", b"Subject: x\nTo: my+list@ex.org\n\n"),
-        b"NotAddressed",
-        SAME,
-    ),
-    Ask(
-        NOW,
-        Verdict(b"a@b", b"Subject: x\nTo: a=list@ex.org\n\n"),
-        b"NotAddressed",
-        SAME,
-    ),
-    Ask(
-        NOW,
-        Verdict(b"a@b", b"Subject: x\nTo: list@ex.orgs\n\n"),
-        b"NotAddressed",
-        SAME,
-    ),
-    Ask(
-        NOW,
-        Verdict(b"a@b", b"Subject: x\nTo: list@ex.org.uk\n\n"),
-        b"NotAddressed",
-        SAME,
-    ),
-    Ask(
-        NOW,
-        Verdict(b"a@b", b"Subject: x\nTo: list@ex.org_\n\n"),
-        b"Posted",
-        SAME,
-    ),
-    // A damaged file is named where it is read.
-    List(b"k", MAX, DENY_CUT),
-    Ask(NOW, Verdict(b"a@b", M), b"damaged 6 29", SAME),
-    List(b"u", MAX, ALLOW_CUT),
-    Ask(NOW, Verdict(b"a@b", M), b"damaged 5 29", SAME),
-    List(b"", MAX, NUMBER_CUT),
-    Ask(NOW, Verdict(b"a@b", M), b"damaged 11 0", SAME),
-    List(b"", MAX, DENY_CUT),
-    Ask(NOW, Verdict(b"a@b", M), b"Posted", SAME),
-    List(b"m", MAX, NUMBER_CUT),
-    Ask(NOW, Verdict(b"a@b", M), b"Held", SAME),
-    // A verdict that reads six files.
-    List(b"ku", MAX, MODERATORS),
-    Reads(6, NOW, Verdict(b"a@b", M), b"Posted"),
-];
+const TABLE: &str = r#"
+# A message of 45 bytes.
+let m From: a@b\nTo: list@ex.org\nSubject: hello\n\nhi\n
+let looped Mailing-List: x\nTo: list@ex.org\nSubject: unsubscribe\n\n
+# Each row of the rules alone, and what is next to it.
+list run new => 0 | input {m}
+put subscribers/] Ta@b\0 | run verdict a@b '' 1000 => 0 Posted | same
+put subscribers/] Ta@b\0 | run verdict a@b '' 45 => 0 Posted | same
+put subscribers/] Ta@b\0 | run verdict a@b '' 44 => 0 TooBig | same
+list run new => 0 | put subscribers/] Ta@b\0 | input {m}
+run verdict '' '' 1000 => 0 BounceSender | same
+run verdict #@[] '' 1000 => 0 BounceSender | same
+run verdict ab '' 1000 => 0 BounceSender | same
+input mailing-LIST: x\nTo: list@ex.org\nSubject: hello\n\n | run verdict a@b '' 1000 => 0 Looped | same
+list run new => 0 | input {m}
+put deny/subscribers/] Ta@b\0 | run verdict a@b k 1000 => 0 Denied | same
+put deny/subscribers/] Ta@b\0 | run verdict A@B k 1000 => 0 Denied | same
+put deny/subscribers/] Ta@b\0 | run verdict a@b '' 1000 => 0 Posted | same
+put subscribers/] Ta@b\0 | run verdict a@b k 1000 => 0 Posted | same
+put subscribers/] Ta@b\0 | input To: list@ex.org\n\nhi\n | run verdict a@b '' 1000 => 0 NoSubject | same
+put subscribers/] Ta@b\0 | input Subject: \x09\nTo: list@ex.org\n\n | run verdict a@b '' 1000 => 0 NoSubject | same
+put subscribers/] Ta@b\0 | run verdict c@d u 1000 => 0 UsersOnly | same
+put subscribers/] Ta@b\0 | run verdict c@d '' 1000 => 0 Posted | same
+put subscribers/] Ta@b\0 | run verdict A@b u 1000 => 0 Posted | same
+put digest/subscribers/] Ta@b\0 | run verdict a@b u 1000 => 0 Posted | same
+put allow/subscribers/] Ta@b\0 | run verdict a@b u 1000 => 0 Posted | same
+put mod/subscribers/] Ta@b\0 | run verdict a@b u 1000 => 0 Posted | same
+put deny/subscribers/] Ta@b\0 | run verdict a@b u 1000 => 0 UsersOnly | same
+put subscribers/] Ta@b\0 | run verdict a@b m 1000 => 0 Held | same
+put num 99999999\n | run verdict a@b '' 1000 => 0 Full | same
+# Two rows of the rules hold: the first one counts.
+put subscribers/] Ta@b\0 | run verdict '' '' 44 => 0 TooBig | same
+put subscribers/] Ta@b\0 | input {looped} | run verdict '' '' 1000 => 0 BounceSender | same
+put deny/subscribers/] Ta@b\0 | input {looped} | run verdict a@b k 1000 => 0 Looped | same
+put deny/subscribers/] Ta@b\0 | input To: list@ex.org\n\n | run verdict a@b k 1000 => 0 Denied | same
+put subscribers/] Ta@b\0 | input To: x@y\n\n | run verdict a@b '' 1000 => 0 NoSubject | same
+put subscribers/] Ta@b\0 | input To: x@y\nSubject: help\n\n | run verdict a@b '' 1000 => 0 CommandSubject | same
+put subscribers/] Ta@b\0 | input To: x@y\nSubject: hello\n\n | run verdict c@d u 1000 => 0 NotAddressed | same
+put subscribers/] Ta@b\0 | run verdict c@d um 1000 => 0 UsersOnly | same
+put num 99999999\n | run verdict a@b m 1000 => 0 Held | same
+# Subjects, and whether they are commands.
+list run new => 0 | put subscribers/] Ta@b\0 | input {m}
+input To: list@ex.org\nSubject: subscribe\n\n | run verdict a@b '' 1000 => 0 CommandSubject | same
+input To: list@ex.org\nSubject: UnSubscribe\n\n | run verdict a@b '' 1000 => 0 CommandSubject | same
+input To: list@ex.org\nSubject:\n help \n\n | run verdict a@b '' 1000 => 0 CommandSubject | same
+input To: list@ex.org\nSubject: remove\n\n | run verdict a@b '' 1000 => 0 CommandSubject | same
+input To: list@ex.org\nSubject: signoff\n\n | run verdict a@b '' 1000 => 0 CommandSubject | same
+input To: list@ex.org\nSubject: subscribe me\n\n | run verdict a@b '' 1000 => 0 Posted | same
+input To: list@ex.org\nSubject: re: help\n\n | run verdict a@b '' 1000 => 0 Posted | same
+input To: list@ex.org\nSubject: x\nSubject: help\n\n | run verdict a@b '' 1000 => 0 Posted | same
+# Fields that name recipients, and whether they name the list.
+input Subject: x\nTo: list@ex.org | run verdict a@b '' 1000 => 0 Posted | same
+input Subject: x\ntO: <LIST@Ex.Org>\n\n | run verdict a@b '' 1000 => 0 Posted | same
+input Subject: x\nTo: a@b, list@ex.org, c@d\n\n | run verdict a@b '' 1000 => 0 Posted | same
+input Subject: x\nTo: a@b,\n\x09list@ex.org\n\n | run verdict a@b '' 1000 => 0 Posted | same
+input Subject: x\nTo: a@b\nCc: c@d\ncc: "L" <list@ex.org>\n\n | run verdict a@b '' 1000 => 0 Posted | same
+input Subject: x\nTo: mylist@ex.org list@ex.org\n\n | run verdict a@b '' 1000 => 0 Posted | same
+input Subject: x\n\nTo: list@ex.org\n | run verdict a@b '' 1000 => 0 NotAddressed | same
+input Subject: x\nBcc: list@ex.org\n\n | run verdict a@b '' 1000 => 0 NotAddressed | same
+input Subject: x\nTo: mylist@ex.org\n\n | run verdict a@b '' 1000 => 0 NotAddressed | same
+input Subject: x\nTo: my+list@ex.org\n\n | run verdict a@b '' 1000 => 0 NotAddressed | same
+input Subject: x\nTo: a=list@ex.org\n\n | run verdict a@b '' 1000 => 0 NotAddressed | same
+input Subject: x\nTo: list@ex.orgs\n\n | run verdict a@b '' 1000 => 0 NotAddressed | same
+input Subject: x\nTo: list@ex.org.uk\n\n | run verdict a@b '' 1000 => 0 NotAddressed | same
+input Subject: x\nTo: list@ex.org_\n\n | run verdict a@b '' 1000 => 0 Posted | same
+# A damaged file is named where it is read.
+list run new => 0 | input {m}
+put deny/subscribers/] Ta@b | run verdict a@b k 1000 => 0 damaged 6 29 | same
+put allow/subscribers/] Ta@b | run verdict a@b u 1000 => 0 damaged 5 29 | same
+put num 07\n | run verdict a@b '' 1000 => 0 damaged 11 0 | same
+put deny/subscribers/] Ta@b | run verdict a@b '' 1000 => 0 Posted | same
+put num 07\n | run verdict a@b m 1000 => 0 Held | same
+# A verdict that reads six files.
+turns 1 6 | put mod/subscribers/] Ta@b\0 | fail | run verdict a@b ku 1000 => 0 a read failed | same
+put mod/subscribers/] Ta@b\0 | fail 7 | run verdict a@b ku 1000 => 0 Posted
+"#;
 
 #[test]
 fn the_first_rule_that_holds_decides(rt: HostRuntime) -> Result<(), Fail> {
-    hold(rt.alloc(), "verdicts", VERDICTS)
+    hold::<Requests>(rt.alloc(), "verdicts", TABLE)
 }

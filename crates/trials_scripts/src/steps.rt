@@ -90,7 +90,7 @@ fn changed(
     Ok(Some(bytes))
 }
 
-// Fails where a file hasn't this text, or isn't absent where it is to `lack`.
+// Fails where a file hasn't this text, or isn't absent where it is to `lack` or the command to `lose` it.
 fn compare(
     alloc: Global,
     named: &Named,
@@ -100,14 +100,38 @@ fn compare(
     name: Name,
     text: &str,
 ) -> Result<(), Fail> {
-    let wanted = if verb == "has" {
+    let wanted = if verb == "has" || verb == "gets" {
         spelled_with(alloc, named, text)?
-    } else if verb == "lacks" {
+    } else if verb == "lacks" || verb == "loses" {
         Bytes::from_slice(alloc, b"-")?
     } else {
         return Err(Fail::new(format_args!("{place}: no step: {verb}")));
     };
     same(alloc, place, 0, file_of(image, name), wanted.as_slice())
+}
+
+// Takes a file that the last command was to change as one that was so before it: `gets` and `loses`.
+fn allow(alloc: Global, stage: &mut Stage, verb: &str, name: Name) -> Result<(), Fail> {
+    if verb == "loses" {
+        let _ = stage.before.files.remove(&name);
+    } else if verb == "gets" {
+        let text = Bytes::from_slice(alloc, file_of(&stage.image, name))?;
+        put(&mut stage.before, name, text)?;
+    }
+    Ok(())
+}
+
+// Gives the files of some numbers in a folder a text: `each FIRST LAST FOLDER TEXT`.
+fn put_each(alloc: Global, named: &Named, image: &mut Image, rest: &str) -> Result<(), Fail> {
+    let (first, rest) = rest.split_once(' ').unwrap_or((rest, ""));
+    let (last, rest) = rest.split_once(' ').unwrap_or((rest, ""));
+    let (folder, text) = rest.split_once(' ').unwrap_or((rest, ""));
+    for number in number_of(first)?..=number_of(last)? {
+        let path = format!(in alloc; "{folder}/{number}")?;
+        let text = spelled_with(alloc, named, text)?;
+        put(image, name_of(path.as_str())?, text)?;
+    }
+    Ok(())
 }
 
 // Does a step of a file: the changes above, `drop` and the comparisons.
@@ -127,7 +151,10 @@ fn of_file(
     }
     match changed(alloc, named, &stage.image, verb, name, text)? {
         Some(bytes) => put(&mut stage.image, name, bytes),
-        None => compare(alloc, named, place, &stage.image, verb, name, text),
+        None => {
+            compare(alloc, named, place, &stage.image, verb, name, text)?;
+            allow(alloc, stage, verb, name)
+        }
     }
 }
 
@@ -274,6 +301,8 @@ pub(crate) fn step<P: Program>(
     } else if verb == "members" {
         add_members(alloc, &mut stage.image.files, Set::List, number_of(rest)?)?;
         Ok(())
+    } else if verb == "each" {
+        put_each(alloc, named, &mut stage.image, rest)
     } else if verb == "same" {
         is_as_before(alloc, place, stage)
     } else if verb == "unread" {

@@ -24,7 +24,7 @@ pub fn spelled(alloc: Global, text: &str) -> Result<Bytes, Fail> {
 }
 
 /// The bytes of a text in which besides `{NAME}` is a text of this name, and `{A..B:TEXT}` is TEXT once for each number from A to B, with
-/// its digits for each `%`.
+/// its digits for each `%`. `{A..B NAME}` is so the text of this name.
 pub(crate) fn spelled_with(alloc: Global, named: &Named, text: &str) -> Result<Bytes, Fail> {
     let mut out = Bytes::new(alloc);
     for (at, piece) in text.split('{').enumerate() {
@@ -42,37 +42,39 @@ fn add_braced(alloc: Global, named: &Named, out: &mut Bytes, text: &str) -> Resu
     let Some((inner, behind)) = text.split_once('}') else {
         return Err(Fail::new(format_args!("no brace closes: {text}")));
     };
-    match inner.split_once(':') {
-        Some((range, each)) => add_times(alloc, out, range, each)?,
-        None => add_named(named, out, inner)?,
+    if let Some((range, each)) = inner.split_once(':') {
+        let mut text = Bytes::new(alloc);
+        add_plain(&mut text, each)?;
+        add_times(alloc, out, range, text.as_slice())?;
+    } else if let Some((range, name)) = inner.split_once(' ') {
+        add_times(alloc, out, range, named_text(named, name)?)?;
+    } else {
+        out.extend(named_text(named, inner)?)?;
     }
     add_plain(out, behind)
 }
 
-fn add_named(named: &Named, out: &mut Bytes, wanted: &str) -> Result<(), Fail> {
+fn named_text<'a>(named: &'a Named, wanted: &str) -> Result<&'a [u8], Fail> {
     for (name, text) in named.iter() {
         if name.as_str() == wanted {
-            out.extend(text.as_slice())?;
-            return Ok(());
+            return Ok(text.as_slice());
         }
     }
     Err(Fail::new(format_args!("no text has this name: {wanted}")))
 }
 
-fn add_times(alloc: Global, out: &mut Bytes, range: &str, each: &str) -> Result<(), Fail> {
+fn add_times(alloc: Global, out: &mut Bytes, range: &str, text: &[u8]) -> Result<(), Fail> {
     let Some((first, last)) = range.split_once("..") else {
         return Err(Fail::new(format_args!("no range: {range}")));
     };
     let (first, last) = (number_of(first)?, number_of(last)?);
-    let mut text = Bytes::new(alloc);
-    add_plain(&mut text, each)?;
-    if let [byte] = text.as_slice() {
+    if let [byte] = text {
         let count = last.saturating_sub(first).saturating_add(1);
         out.extend(&vec![in alloc; *byte; count as usize]?)?;
         return Ok(());
     }
     for number in first..=last {
-        add_numbered(out, text.as_slice(), number)?;
+        add_numbered(out, text, number)?;
     }
     Ok(())
 }

@@ -1,0 +1,130 @@
+// What is asked of a list in memory, as words. `new` makes a list. The calls are `verdict SENDER`, `post SENDER`, `mail SENDER RECIPIENT`, `due`,
+// and `answer TICKET LETTERS` with `accept` or `reject`. Behind a call may stand letters of options, and the most bytes of a post.
+ghost use Rattle.std.specs.Prelude.{IfOk};
+ghost use Rattle.ml_config.specs.Configuration.{IsConfig};
+
+use crate::asking::{Told, answered, found, mailed, posted, served};
+use crate::files::OnSite;
+use ml_base::{Bytes, Txn, read_number};
+use ml_config::Config;
+use ml_site::{Clock, Fill, Image, MemClock, MemSite, MemSource, Site, Source};
+use std::alloc::Global;
+use std::test::Fail;
+use trials_lists::{KEY, Made, config, copy, lay, make};
+use trials_scripts::Program;
+
+pub(crate) struct Requests;
+
+// The most bytes of a post where no word says it.
+const MAX: u64 = 1_048_576;
+
+// The most bytes of an input.
+const INPUT: usize = 65_536;
+
+// A closed gate.
+const LOG: &[u8] = b"\0";
+
+// The keys, the number of posts, and the counters of tickets and of ids.
+const NEW: &[Made] = &[
+    Made::Text(2, 0, &KEY),
+    Made::Text(11, 0, b"0\n"),
+    Made::Text(14, 0, b"1:1\n"),
+    Made::Text(18, 0, b"1:1\n"),
+];
+
+fn word(words: &[String], at: usize) -> &str {
+    match words.get(at) {
+        Some(word) => word.as_str(),
+        None => "",
+    }
+}
+
+// The configuration of these letters of options and this number of bytes. Subjects are marked with `[list]` where they are marked.
+fn configured(alloc: Global, letters: &str, max: &str) -> Result<Config, Fail>
+    ensures { IfOk result IsConfig }
+{
+    let letters = letters.as_bytes();
+    let prefix: &[u8] = if letters.contains(&b'f') {
+        b"[list]"
+    } else {
+        b""
+    };
+    let max = read_number(max.as_bytes()).unwrap_or(MAX);
+    config(alloc, letters, prefix, max)
+}
+
+// What a list is asked at a moment, with the input as the message.
+fn called(
+    alloc: Global,
+    words: &[String],
+    files: &mut OnSite,
+    now: u64,
+    message: &[u8],
+) -> Result<Told, Fail> {
+    let (verb, who) = (word(words, 0), word(words, 1));
+    if verb == "verdict" {
+        let config = configured(alloc, word(words, 2), word(words, 3))?;
+        found(alloc, files, &config, who.as_bytes(), message)
+    } else if verb == "post" {
+        let config = configured(alloc, word(words, 2), word(words, 3))?;
+        posted(alloc, files, &config, now, who.as_bytes(), message)
+    } else if verb == "answer" {
+        let config = configured(alloc, word(words, 4), word(words, 5))?;
+        answered(
+            alloc,
+            files,
+            &config,
+            now,
+            who,
+            word(words, 2),
+            word(words, 3),
+        )
+    } else if verb == "mail" {
+        let config = configured(alloc, word(words, 3), word(words, 4))?;
+        let recipient = word(words, 2).as_bytes();
+        mailed(
+            alloc,
+            files,
+            &config,
+            now,
+            who.as_bytes(),
+            recipient,
+            message,
+        )
+    } else if verb == "due" {
+        served(alloc, files, now)
+    } else {
+        Err(Fail::new("no call"))
+    }
+}
+
+// The files behind puts, and an output.
+fn behind(alloc: Global, mut image: Image, puts: &Txn, text: &[u8]) -> Result<MemSite, Fail> {
+    lay(alloc, &mut image.files, puts)?;
+    let mut site = MemSite::new(alloc, image, 1, 100)?;
+    site.give(text)?;
+    Ok(site)
+}
+
+impl Program for Requests {
+    fn ended(
+        alloc: Global,
+        words: &[String],
+        input: &mut MemSource,
+        site: MemSite,
+        clock: &mut MemClock,
+    ) -> Result<(u8, MemSite), Fail> {
+        let mut image = site.crash(alloc, 0, Fill::Old)?;
+        if word(words, 0) == "new" {
+            image.log = Bytes::from_slice(alloc, LOG)?;
+            make(alloc, &mut image.files, NEW)?;
+            return Ok((0, behind(alloc, image, &Txn::new(alloc), b"")?));
+        }
+        let mut message = vec![in alloc; 0; INPUT]?;
+        let len = input.read(&mut message)?;
+        let files = copy(alloc, &image.files)?;
+        let mut files = OnSite { site, files };
+        let (puts, text) = called(alloc, words, &mut files, clock.now()?, &message[..len])?;
+        Ok((0, behind(alloc, image, &puts, text.as_slice())?))
+    }
+}
