@@ -1,7 +1,6 @@
 -- The threads that keys with numbers make.
 use Rattle.std.proofs.Common.{◌≡◌, ◌≢◌, ◌<◌, ◌≤◌, ◌+◌, ◌^◌, ℕ, Bool, true, false, cond, ◌==◌, ◌&&◌, List, [], ◌∷◌, length, map, filter, Option, Some, None, refl, sym, ap, ◌∙◌, subst, arith}
 use Rattle.std.specs.Prelude.{unwrap_or, Vec}
-use Rattle.std.specs.Cmp.{tied_itself}
 use Rattle.std.specs.List.{AllByRecursion, flat_map, list_all}
 use Rattle.std.specs.List.Sorted.{IsStrictlySortedBy}
 use Rattle.std.specs.Map.{lookup}
@@ -15,12 +14,13 @@ use Rattle.std.proofs.lemmas.Slice.Eq.{bytes_eq-Decides}
 use Rattle.std.specs.declared.alloc.Global.{Global}
 use Rattle.ml_base.specs.Bytes.{Text}
 use Rattle.ml_base.specs.Dir.{Dir}
-use Rattle.ml_base.specs.Sorted.{byte_cmp, entry_of, is_sorted}
+use Rattle.ml_base.specs.Sorted.{byte_cmp, entry_of}
 use Rattle.ml_base.proofs.SortedLaws.{found_is, same_bytes, bytes_total, same_lists}
 use Rattle.ml_filing.specs.Subjects.{subject_key}
 use Rattle.ml_filing.specs.Threads.{IsThread, IsThreadFile, numbers_under, thread_place, thread_text}
 use Rattle.ml_filing.specs.declared.posts.Entry.{Entry}
 use Rattle.ml_filing.specs.declared.posts.Thread.{Thread}
+use Rattle.ml_filing.proofs.FoundThreads.{InOrder, find, all_found, under_found}
 use Rattle.ml_filing.proofs.KeyLengths.{key_short}
 use Rattle.ml_archive.specs.Breaks.{AreThreadsOf}
 use Rattle.ml_archive.specs.declared.keys.Places.{Places}
@@ -93,10 +93,6 @@ left_is a b is = (and_parts a b is).0
 right_is : (a b : Bool) → (a && b) ≡ true → b ≡ true
 right_is a b is = (and_parts a b is).1
 
-all_true : (f : Thread → Bool) (ts : List Thread) → list_all f ts ≡ true → AllByRecursion (λ t. f t ≡ true) ts
-all_true f [] is = tt
-all_true f (t ∷ ts) is = (left_is (f t) (list_all f ts) is, all_true f ts (right_is (f t) (list_all f ts) is))
-
 all_left : (f p : Thread → Bool) (ts : List Thread) → list_all f ts ≡ true → list_all f (filter p ts) ≡ true
 all_left f p [] is = refl
 all_left f p (t ∷ ts) is = go (p t) (all_left f p ts (right_is (f t) (list_all f ts) is))
@@ -104,9 +100,6 @@ all_left f p (t ∷ ts) is = go (p t) (all_left f p ts (right_is (f t) (list_all
     go : (b : Bool) → list_all f (filter p ts) ≡ true → list_all f (cond b (t ∷ filter p ts) (filter p ts)) ≡ true
     go true more = and_from _ _ (left_is (f t) (list_all f ts) is) more
     go false more = more
-
-abbrev InOrder : List Thread → Type 0
-InOrder ts = is_sorted byte_cmp (λ (t : Thread). t.key) ts ≡ true
 
 order_left : (p : Thread → Bool) (ts : List Thread) → InOrder ts → InOrder (filter p ts)
 order_left p [] is = refl
@@ -125,32 +118,7 @@ unfolding IsStrictlySortedBy
 in_order [] is = refl
 in_order (p ∷ ps) is = and_from _ _ (key_above p ps is.0) (in_order ps is.1)
 
--- what is found of each is true of all
-abbrev find : Text → List Thread → Option Thread
-find k ts = entry_of byte_cmp (λ (t : Thread). t.key) k ts
-
-all_found : (P : Thread → Type 0) (ts : List Thread) → InOrder ts → ((k : Text) (t : Thread) → find k ts ≡ Some t → P t) → AllByRecursion P ts
-all_found P [] is each = tt
-all_found P (t ∷ ts) is each =
-    let above = all_true (λ (u : Thread). is_lt (byte_cmp t.key u.key)) ts (left_is _ _ is) in (
-      each t.key t (ap (λ o. cond (is_eq o) (Some t) (find t.key ts)) (tied_itself bytes_total t.key)),
-      all_found P ts (right_is _ _ is) (λ k u there. each k u (behind k u above there)),
-    )
-  where
-    behind : (k : Text) (u : Thread) → AllByRecursion (λ (u : Thread). is_lt (byte_cmp t.key u.key) ≡ true) ts → find k ts ≡ Some u → find k (t ∷ ts) ≡ Some u
-    behind k u above there = go (byte_cmp k t.key) refl (found_is byte_cmp (λ (t : Thread). t.key) (λ (u : Thread). is_lt (byte_cmp t.key u.key) ≡ true) k u ts above there)
-      where
-        go : (o : Ordering) → byte_cmp k t.key ≡ o → (is_lt (byte_cmp t.key u.key) ≡ true) × (byte_cmp k u.key ≡ Equal) → cond (is_eq (byte_cmp k t.key)) (Some t) (find k ts) ≡ Some u
-        go Less e is = ap (λ o. cond (is_eq o) (Some t) (find k ts)) e ∙ there
-        go Greater e is = ap (λ o. cond (is_eq o) (Some t) (find k ts)) e ∙ there
-        go Equal e (less, same) =
-            let tied : byte_cmp t.key u.key ≡ Equal = ap (λ (q : Text). byte_cmp q u.key) (sym (same_bytes k t.key e)) ∙ same in
-            absurd (let bad : true ≡ false = sym less ∙ ap is_lt tied in cc)
-
 -- threads of one file that have the same numbers under each of its keys are the same
-under_found : (k : Text) (ts : List Thread) (o : Option Thread) → find k ts ≡ o → numbers_under k ts ≡ unwrap_or (option_map (λ (t : Thread). t.numbers) o) []
-under_found k ts o is = ap (λ (o : Option Thread). unwrap_or (option_map (λ (t : Thread). t.numbers) o) []) is
-
 same_threads : (n : ℕ) (ts us : List Thread) → InOrder ts → InOrder us → AllByRecursion (IsThread n) ts → AllByRecursion (IsThread n) us → ((k : Text) → thread_place k ≡ n → numbers_under k ts ≡ numbers_under k us) → ts ≡ us
 same_threads n ts us one two all each same = same_lists byte_cmp (λ (t : Thread). t.key) same_bytes bytes_total ts us one two (λ k. go k (find k ts) (find k us) refl refl)
   where

@@ -9,7 +9,7 @@ use Rattle.ml_header.specs.Lines.{begins_with}
 use Rattle.ml_filing.specs.Subjects.{squeezed, without_front, without_end, behind_word, behind_digits, behind_lower, behind_mark, stripped, subject_key}
 
 -- a text that is there is shorter than so many bytes
-abbrev Below : ℕ → Option Text → Type 0
+abbrev pub Below : ℕ → Option Text → Type 0
 Below n None = Unit {0}
 Below n (Some text) = length text < n
 
@@ -43,7 +43,7 @@ then_below : (n : ℕ) (o : Option Text) → Below n o → Below n (option_and_t
 then_below n None is = tt
 then_below n (Some t) is = wider (length t) n (behind_digits false t) (omega (arith, is)) (digits_below false t)
 
-mark_below : (prefix text : Text) → Below (length text) (behind_mark prefix text)
+pub mark_below : (prefix text : Text) → Below (length text) (behind_mark prefix text)
 mark_below prefix text =
     let n = length text in
     or_below n _ _ (word_below (lower prefix) text)

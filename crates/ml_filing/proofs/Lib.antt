@@ -1,6 +1,7 @@
 pub mod Exact
 pub mod Represented
 pub mod OneMore
+pub mod FoundThreads
 pub mod KeyLengths
 pub mod KeyTurns
 pub mod Parsed

@@ -1,18 +1,17 @@
 // Mails about an address that is to join or leave a set.
 ghost use Rattle.std.specs.Prelude.{◌≡◌, true, ◌||◌, IsTrue, IfOk};
-ghost use Rattle.ml_base.specs.Dir.{are_files, same_name, touches_only, with_puts};
+ghost use Rattle.ml_base.specs.Dir.{same_name, with_puts};
 ghost use Rattle.ml_base.specs.Ranges.{IsMoment};
-ghost use Rattle.ml_base.specs.ReadFiles.{IsReading, NamesDamaged};
 ghost use Rattle.ml_base.specs.declared.names.Set.TheVariants as sets;
 ghost use Rattle.ml_address.specs.Requests.{is_asked};
 ghost use Rattle.ml_config.specs.Configuration.{IsConfig};
 ghost use Rattle.ml_plain.specs.Answers as answers;
-ghost use Rattle.ml_plain.specs.Directory.{IsList, is_of_list};
-ghost use Rattle.ml_plain.specs.KeptFiles.{is_kept};
+ghost use Rattle.ml_plain.specs.Directory.{IsList};
 ghost use Rattle.ml_plain.specs.Mailing as spec;
 ghost use Rattle.ml_plain.specs.Plain.{Plain};
 ghost use Rattle.ml_queue.specs.Answers.{ids_name};
 ghost use Rattle.ml_reply.specs.declared.mails.Mail.TheVariants.{AskTc};
+ghost use Rattle.ml_acts.specs.Acting.{AnswersAct};
 ghost use Rattle.ml_acts.specs.Doing.{DoesList, HasIds, is_beside_queue, is_bucket, is_mailed_by};
 ghost use Rattle.ml_acts.specs.Damaged.{IsDamaged};
 ghost use Rattle.ml_joining.specs.Reads.{is_for_mail};
@@ -76,11 +75,7 @@ pub(crate) fn ask<F: Files>(
     requires asked { IsTrue (is_asked set) }
     requires room { IsTrue F.tells → HasIds (F.map files.now) }
     ensures value { IsTrue F.tells → IfOk result (λ done. (p : Plain) → IsList (F.map files.old) p → p.config ≡ config.now → DoesList (F.map files.old) done (spec.ask to.now now word set x.now p, answers.asked)) }
-    ensures own { IfOk result (λ done. touches_only is_of_list done.0 ≡ true) }
-    ensures files { IfOk result (λ done. IsTrue (are_files done.0)) }
-    ensures reply { IfOk result (λ done. is_kept done.1 ≡ true) }
-    ensures names { NamesDamaged ⟦<F as Files>⟧ (λ name. is_for_mail name ≡ true) (IsDamaged (F.map files.old)) result }
-    ensures reads { IsReading ⟦<F as Files>⟧ files.old files.new result }
+    ensures act { AnswersAct ⟦<F as Files>⟧ (λ name. is_for_mail name ≡ true) (IsDamaged (F.map files.old)) files.old files.new result }
 {
     let keys = key(alloc, files)?;
     let reply = confirm_address(alloc, config, &keys, word, set, x, now)?;
@@ -123,11 +118,7 @@ pub(crate) fn ask_moderators<F: Files>(
     requires asked { IsTrue (is_asked set) }
     requires room { IsTrue F.tells → HasIds (F.map files.now) }
     ensures value { IsTrue F.tells → IfOk result (λ done. (p : Plain) → IsList (F.map files.old) p → p.config ≡ config.now → DoesList (F.map files.old) done (spec.ask_moderators now set x.now p, answers.asked)) }
-    ensures own { IfOk result (λ done. touches_only is_of_list done.0 ≡ true) }
-    ensures files { IfOk result (λ done. IsTrue (are_files done.0)) }
-    ensures reply { IfOk result (λ done. is_kept done.1 ≡ true) }
-    ensures names { NamesDamaged ⟦<F as Files>⟧ (λ name. (is_for_mail name || is_bucket sets.Moderators name) ≡ true) (IsDamaged (F.map files.old)) result }
-    ensures reads { IsReading ⟦<F as Files>⟧ files.old files.new result }
+    ensures act { AnswersAct ⟦<F as Files>⟧ (λ name. (is_for_mail name || is_bucket sets.Moderators name) ≡ true) (IsDamaged (F.map files.old)) files.old files.new result }
 {
     let keys = key(alloc, files)?;
     let reply = confirm_address(alloc, config, &keys, Word::Tc, set, x, now)?;

@@ -3,17 +3,16 @@ ghost use Rattle.std.specs.Prelude.{◌≡◌, true, IsTrue, IfOk};
 ghost use Rattle.ml_base.specs.Address.{key};
 ghost use Rattle.ml_base.specs.Dir.{are_files, same_name, touches_only, with_puts};
 ghost use Rattle.ml_base.specs.Ranges.{IsMoment};
-ghost use Rattle.ml_base.specs.ReadFiles.{IsReading, NamesDamaged};
 ghost use Rattle.ml_address.specs.Requests.{is_asked};
 ghost use Rattle.ml_config.specs.Configuration.{IsConfig};
 ghost use Rattle.ml_plain.specs.Answers as answers;
-ghost use Rattle.ml_plain.specs.Directory.{IsList, is_of_list};
-ghost use Rattle.ml_plain.specs.KeptFiles.{is_kept};
+ghost use Rattle.ml_plain.specs.Directory.{IsList};
 ghost use Rattle.ml_plain.specs.Mailing.{mail_to};
 ghost use Rattle.ml_plain.specs.Managing as spec;
 ghost use Rattle.ml_plain.specs.Plain.{Plain};
 ghost use Rattle.ml_queue.specs.Answers.{ids_name};
 ghost use Rattle.ml_reply.specs.declared.mails.Mail.TheVariants as mails;
+ghost use Rattle.ml_acts.specs.Acting.{AnswersAct};
 ghost use Rattle.ml_acts.specs.Doing.{DoesList, HasIds, is_beside_queue};
 ghost use Rattle.ml_acts.specs.Damaged.{IsDamaged};
 ghost use Rattle.ml_joining.specs.Operations.{IsSubject, MayLeave, leaving_deed};
@@ -47,11 +46,7 @@ pub(crate) fn left<F: Files>(
     requires member { MayLeave x.now.member operation }
     requires room { IsTrue F.tells → HasIds (F.map files.now) }
     ensures value { IsTrue F.tells → IfOk result (λ done. (p : Plain) → IsList (F.map files.old) p → p.config ≡ config.now → IsSubject p set x.now → DoesList (F.map files.old) done (spec.done now set sender.now x.now.who p (leaving_deed operation))) }
-    ensures own { IfOk result (λ done. touches_only is_of_list done.0 ≡ true) }
-    ensures files { IfOk result (λ done. IsTrue (are_files done.0)) }
-    ensures reply { IfOk result (λ done. is_kept done.1 ≡ true) }
-    ensures names { NamesDamaged ⟦<F as Files>⟧ (λ name. is_read_to_leave set x.now.named name ≡ true) (IsDamaged (F.map files.old)) result }
-    ensures reads { IsReading ⟦<F as Files>⟧ files.old files.new result }
+    ensures act { AnswersAct ⟦<F as Files>⟧ (λ name. is_read_to_leave set x.now.named name ≡ true) (IsDamaged (F.map files.old)) files.old files.new result }
 {
     let who = &x.who;
     match operation {
@@ -76,11 +71,7 @@ fn tell_absent<F: Files>(
     requires moment { IsMoment now }
     requires room { IsTrue F.tells → HasIds (F.map files.now) }
     ensures value { IsTrue F.tells → IfOk result (λ done. (p : Plain) → IsList (F.map files.old) p → p.config ≡ config.now → DoesList (F.map files.old) done (mail_to sender.now now (mails.Absent sender.now set x.now) p, answers.absent)) }
-    ensures own { IfOk result (λ done. touches_only is_of_list done.0 ≡ true) }
-    ensures files { IfOk result (λ done. IsTrue (are_files done.0)) }
-    ensures reply { IfOk result (λ done. is_kept done.1 ≡ true) }
-    ensures names { NamesDamaged ⟦<F as Files>⟧ (λ name. same_name name ids_name ≡ true) (IsDamaged (F.map files.old)) result }
-    ensures reads { IsReading ⟦<F as Files>⟧ files.old files.new result }
+    ensures act { AnswersAct ⟦<F as Files>⟧ (λ name. same_name name ids_name ≡ true) (IsDamaged (F.map files.old)) files.old files.new result }
 {
     let mail = Mail::Absent {
         to: Bytes::from_slice(alloc, sender.bytes())?,
@@ -105,11 +96,7 @@ fn leave<F: Files>(
     requires member { x.now.member ≡ true }
     requires room { IsTrue F.tells → HasIds (F.map files.now) }
     ensures value { IsTrue F.tells → IfOk result (λ done. (p : Plain) → IsList (F.map files.old) p → p.config ≡ config.now → IsSubject p set x.now → DoesList (F.map files.old) done (spec.left now set x.now.who p)) }
-    ensures own { IfOk result (λ done. touches_only is_of_list done.0 ≡ true) }
-    ensures files { IfOk result (λ done. IsTrue (are_files done.0)) }
-    ensures reply { IfOk result (λ done. is_kept done.1 ≡ true) }
-    ensures names { NamesDamaged ⟦<F as Files>⟧ (λ name. is_read_to_leave set x.now.named name ≡ true) (IsDamaged (F.map files.old)) result }
-    ensures reads { IsReading ⟦<F as Files>⟧ files.old files.new result }
+    ensures act { AnswersAct ⟦<F as Files>⟧ (λ name. is_read_to_leave set x.now.named name ≡ true) (IsDamaged (F.map files.old)) files.old files.new result }
 {
     match remove_member(alloc, files, set, &x.named)? {
         Some(txn) => goodbye(alloc, files, config, now, set, &x.who, txn),
@@ -132,11 +119,7 @@ fn goodbye<F: Files>(
     requires others { touches_only is_beside_queue txn ≡ true }
     requires names { IsTrue (are_files txn) }
     ensures value { IsTrue F.tells → IfOk result (λ done. (p : Plain) → IsList (with_puts (F.map files.old) txn) p → p.config ≡ config.now → DoesList (F.map files.old) done (mail_to who.now now (mails.Goodbye who.now set who.now) p, answers.unsubscribed)) }
-    ensures own { IfOk result (λ done. touches_only is_of_list done.0 ≡ true) }
-    ensures files { IfOk result (λ done. IsTrue (are_files done.0)) }
-    ensures reply { IfOk result (λ done. is_kept done.1 ≡ true) }
-    ensures names { NamesDamaged ⟦<F as Files>⟧ (λ name. same_name name ids_name ≡ true) (IsDamaged (F.map files.old)) result }
-    ensures reads { IsReading ⟦<F as Files>⟧ files.old files.new result }
+    ensures act { AnswersAct ⟦<F as Files>⟧ (λ name. same_name name ids_name ≡ true) (IsDamaged (F.map files.old)) files.old files.new result }
 {
     let mail = Mail::Goodbye {
         to: Bytes::from_slice(alloc, who.bytes())?,

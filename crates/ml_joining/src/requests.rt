@@ -1,9 +1,8 @@
 // Requests to join and to leave, and confirmations.
-ghost use Rattle.std.specs.Prelude.{◌≡◌, true, IsTrue, IfOk, IfErr, Some};
+ghost use Rattle.std.specs.Prelude.{◌≡◌, true, IsTrue, IfOk, Some};
 ghost use Rattle.std.specs.Option.{option_map};
 ghost use Rattle.ml_base.specs.Address.{key};
-ghost use Rattle.ml_base.specs.Dir.{are_files, same_name, touches_only};
-ghost use Rattle.ml_base.specs.PartErrors.{OnDamaged};
+ghost use Rattle.ml_base.specs.Dir.{same_name};
 ghost use Rattle.ml_base.specs.Ranges.{IsMoment};
 ghost use Rattle.ml_base.specs.ReadFiles.{IsReading, NamesDamaged};
 ghost use Rattle.ml_address.specs.Requests.{if_who, is_asked, is_who, word_text};
@@ -11,11 +10,11 @@ ghost use Rattle.ml_address.specs.Views.{who_view};
 ghost use Rattle.ml_config.specs.Configuration.{IsConfig};
 ghost use Rattle.ml_config.specs.KeyFile.{key_name};
 ghost use Rattle.ml_plain.specs.Bouncing.{address_named};
-ghost use Rattle.ml_plain.specs.Directory.{IsList, is_of_list};
-ghost use Rattle.ml_plain.specs.KeptFiles.{is_kept};
+ghost use Rattle.ml_plain.specs.Directory.{IsList};
 ghost use Rattle.ml_plain.specs.Mailing.{is_good};
 ghost use Rattle.ml_plain.specs.Managing as spec;
 ghost use Rattle.ml_plain.specs.Plain.{Plain};
+ghost use Rattle.ml_acts.specs.Acting.{AnswersAct};
 ghost use Rattle.ml_acts.specs.Configured.{with_config};
 ghost use Rattle.ml_acts.specs.Doing.{DoesList, HasIds, HasRoom};
 ghost use Rattle.ml_acts.specs.Damaged.{IsDamaged};
@@ -51,12 +50,7 @@ pub fn subscribe<F: Files>(
     requires range { IsTrue (if_who (option_map who_view who)) }
     requires room { IsTrue F.tells → HasRoom (F.map files.now) }
     ensures value { IsTrue F.tells → IfOk result (λ done. (p : Plain) → IsList (with_config config.now (F.map files.old)) p → DoesList (with_config config.now (F.map files.old)) done (spec.subscribe now sender.now set (spec.subject_of p set sender.now (option_map who_view who.entry)) p)) }
-    ensures own { IfOk result (λ done. touches_only is_of_list done.0 ≡ true) }
-    ensures files { IfOk result (λ done. IsTrue (are_files done.0)) }
-    ensures reply { IfOk result (λ done. is_kept done.1 ≡ true) }
-    ensures names { NamesDamaged ⟦<F as Files>⟧ (λ name. is_read_to_subscribe config.now sender.now set (asked_of sender.now (option_map who_view who.entry)) name ≡ true) (IsDamaged (with_config config.now (F.map files.old))) result }
-    ensures sound { IsTrue F.tells → (p : Plain) → IsList (with_config config.now (F.map files.old)) p → IfErr result (λ e. OnDamaged e (λ _. ⊥)) }
-    ensures reads { IsReading ⟦<F as Files>⟧ files.old files.new result }
+    ensures act { AnswersAct ⟦<F as Files>⟧ (λ name. is_read_to_subscribe config.now sender.now set (asked_of sender.now (option_map who_view who.entry)) name ≡ true) (IsDamaged (with_config config.now (F.map files.old))) files.old files.new result }
 {
     let mut under = Configured::new(files, config);
     join_asked(alloc, &mut under, config, now, sender, set, who)
@@ -78,11 +72,7 @@ fn join_asked<F: Files>(
     requires range { IsTrue (if_who (option_map who_view who)) }
     requires room { IsTrue F.tells → HasIds (F.map files.now) }
     ensures value { IsTrue F.tells → IfOk result (λ done. (p : Plain) → IsList (F.map files.old) p → p.config ≡ config.now → DoesList (F.map files.old) done (spec.subscribe now sender.now set (spec.subject_of p set sender.now (option_map who_view who.entry)) p)) }
-    ensures own { IfOk result (λ done. touches_only is_of_list done.0 ≡ true) }
-    ensures files { IfOk result (λ done. IsTrue (are_files done.0)) }
-    ensures reply { IfOk result (λ done. is_kept done.1 ≡ true) }
-    ensures names { NamesDamaged ⟦<F as Files>⟧ (λ name. is_read_to_subscribe config.now sender.now set (asked_of sender.now (option_map who_view who.entry)) name ≡ true) (IsDamaged (F.map files.old)) result }
-    ensures reads { IsReading ⟦<F as Files>⟧ files.old files.new result }
+    ensures act { AnswersAct ⟦<F as Files>⟧ (λ name. is_read_to_subscribe config.now sender.now set (asked_of sender.now (option_map who_view who.entry)) name ≡ true) (IsDamaged (F.map files.old)) files.old files.new result }
 {
     let x = find_subject(alloc, files, set, sender, who)?;
     join_found(alloc, files, config, now, sender, set, &x)
@@ -110,11 +100,7 @@ fn join_found<F: Files>(
     requires asked { IsTrue (is_asked set) }
     requires room { IsTrue F.tells → HasIds (F.map files.now) }
     ensures value { IsTrue F.tells → IfOk result (λ done. (p : Plain) → IsList (F.map files.old) p → p.config ≡ config.now → IsSubject p set x.now → DoesList (F.map files.old) done (spec.subscribe now sender.now set x.now.who p)) }
-    ensures own { IfOk result (λ done. touches_only is_of_list done.0 ≡ true) }
-    ensures files { IfOk result (λ done. IsTrue (are_files done.0)) }
-    ensures reply { IfOk result (λ done. is_kept done.1 ≡ true) }
-    ensures names { NamesDamaged ⟦<F as Files>⟧ (λ name. is_read_to_subscribe config.now sender.now set x.now.named name ≡ true) (IsDamaged (F.map files.old)) result }
-    ensures reads { IsReading ⟦<F as Files>⟧ files.old files.new result }
+    ensures act { AnswersAct ⟦<F as Files>⟧ (λ name. is_read_to_subscribe config.now sender.now set x.now.named name ≡ true) (IsDamaged (F.map files.old)) files.old files.new result }
 {
     let moderator = moderates(alloc, files, asks_rank(config), sender)?;
     let facts = Facts {
@@ -143,12 +129,7 @@ pub fn unsubscribe<F: Files>(
     requires range { IsTrue (if_who (option_map who_view who)) }
     requires room { IsTrue F.tells → HasRoom (F.map files.now) }
     ensures value { IsTrue F.tells → IfOk result (λ done. (p : Plain) → IsList (with_config config.now (F.map files.old)) p → DoesList (with_config config.now (F.map files.old)) done (spec.unsubscribe now sender.now set (spec.subject_of p set sender.now (option_map who_view who.entry)) p)) }
-    ensures own { IfOk result (λ done. touches_only is_of_list done.0 ≡ true) }
-    ensures files { IfOk result (λ done. IsTrue (are_files done.0)) }
-    ensures reply { IfOk result (λ done. is_kept done.1 ≡ true) }
-    ensures names { NamesDamaged ⟦<F as Files>⟧ (λ name. is_read_to_unsubscribe config.now sender.now set (asked_of sender.now (option_map who_view who.entry)) name ≡ true) (IsDamaged (with_config config.now (F.map files.old))) result }
-    ensures sound { IsTrue F.tells → (p : Plain) → IsList (with_config config.now (F.map files.old)) p → IfErr result (λ e. OnDamaged e (λ _. ⊥)) }
-    ensures reads { IsReading ⟦<F as Files>⟧ files.old files.new result }
+    ensures act { AnswersAct ⟦<F as Files>⟧ (λ name. is_read_to_unsubscribe config.now sender.now set (asked_of sender.now (option_map who_view who.entry)) name ≡ true) (IsDamaged (with_config config.now (F.map files.old))) files.old files.new result }
 {
     let mut under = Configured::new(files, config);
     leave_asked(alloc, &mut under, config, now, sender, set, who)
@@ -170,11 +151,7 @@ fn leave_asked<F: Files>(
     requires range { IsTrue (if_who (option_map who_view who)) }
     requires room { IsTrue F.tells → HasIds (F.map files.now) }
     ensures value { IsTrue F.tells → IfOk result (λ done. (p : Plain) → IsList (F.map files.old) p → p.config ≡ config.now → DoesList (F.map files.old) done (spec.unsubscribe now sender.now set (spec.subject_of p set sender.now (option_map who_view who.entry)) p)) }
-    ensures own { IfOk result (λ done. touches_only is_of_list done.0 ≡ true) }
-    ensures files { IfOk result (λ done. IsTrue (are_files done.0)) }
-    ensures reply { IfOk result (λ done. is_kept done.1 ≡ true) }
-    ensures names { NamesDamaged ⟦<F as Files>⟧ (λ name. is_read_to_unsubscribe config.now sender.now set (asked_of sender.now (option_map who_view who.entry)) name ≡ true) (IsDamaged (F.map files.old)) result }
-    ensures reads { IsReading ⟦<F as Files>⟧ files.old files.new result }
+    ensures act { AnswersAct ⟦<F as Files>⟧ (λ name. is_read_to_unsubscribe config.now sender.now set (asked_of sender.now (option_map who_view who.entry)) name ≡ true) (IsDamaged (F.map files.old)) files.old files.new result }
 {
     let x = find_subject(alloc, files, set, sender, who)?;
     leave_found(alloc, files, config, now, sender, set, &x)
@@ -195,11 +172,7 @@ fn leave_found<F: Files>(
     requires asked { IsTrue (is_asked set) }
     requires room { IsTrue F.tells → HasIds (F.map files.now) }
     ensures value { IsTrue F.tells → IfOk result (λ done. (p : Plain) → IsList (F.map files.old) p → p.config ≡ config.now → IsSubject p set x.now → DoesList (F.map files.old) done (spec.unsubscribe now sender.now set x.now.who p)) }
-    ensures own { IfOk result (λ done. touches_only is_of_list done.0 ≡ true) }
-    ensures files { IfOk result (λ done. IsTrue (are_files done.0)) }
-    ensures reply { IfOk result (λ done. is_kept done.1 ≡ true) }
-    ensures names { NamesDamaged ⟦<F as Files>⟧ (λ name. is_read_to_unsubscribe config.now sender.now set x.now.named name ≡ true) (IsDamaged (F.map files.old)) result }
-    ensures reads { IsReading ⟦<F as Files>⟧ files.old files.new result }
+    ensures act { AnswersAct ⟦<F as Files>⟧ (λ name. is_read_to_unsubscribe config.now sender.now set x.now.named name ≡ true) (IsDamaged (F.map files.old)) files.old files.new result }
 {
     let moderator = moderates(alloc, files, config.flags.r, sender)?;
     let facts = Facts {
@@ -231,12 +204,7 @@ pub fn confirm<F: Files>(
     requires range { IsTrue (is_who (who_view who)) }
     requires room { IsTrue F.tells → HasRoom (F.map files.now) }
     ensures value { IsTrue F.tells → IfOk result (λ done. (p : Plain) → IsList (with_config config.now (F.map files.old)) p → DoesList (with_config config.now (F.map files.old)) done (spec.confirm now sender.now word set (record { time = time; cookie = cookie.now; who = who_view who.entry }) (spec.subject_of p set sender.now (Some (who_view who.entry))) p)) }
-    ensures own { IfOk result (λ done. touches_only is_of_list done.0 ≡ true) }
-    ensures files { IfOk result (λ done. IsTrue (are_files done.0)) }
-    ensures reply { IfOk result (λ done. is_kept done.1 ≡ true) }
-    ensures names { NamesDamaged ⟦<F as Files>⟧ (λ name. is_read_to_confirm word set (address_named (who_view who.entry)) name ≡ true) (IsDamaged (with_config config.now (F.map files.old))) result }
-    ensures sound { IsTrue F.tells → (p : Plain) → IsList (with_config config.now (F.map files.old)) p → IfErr result (λ e. OnDamaged e (λ _. ⊥)) }
-    ensures reads { IsReading ⟦<F as Files>⟧ files.old files.new result }
+    ensures act { AnswersAct ⟦<F as Files>⟧ (λ name. is_read_to_confirm word set (address_named (who_view who.entry)) name ≡ true) (IsDamaged (with_config config.now (F.map files.old))) files.old files.new result }
 {
     let mut under = Configured::new(files, config);
     confirm_asked(
@@ -263,11 +231,7 @@ fn confirm_asked<F: Files>(
     requires range { IsTrue (is_who (who_view who)) }
     requires room { IsTrue F.tells → HasIds (F.map files.now) }
     ensures value { IsTrue F.tells → IfOk result (λ done. (p : Plain) → IsList (F.map files.old) p → p.config ≡ config.now → DoesList (F.map files.old) done (spec.confirm now sender.now word set (record { time = time; cookie = cookie.now; who = who_view who.entry }) (spec.subject_of p set sender.now (Some (who_view who.entry))) p)) }
-    ensures own { IfOk result (λ done. touches_only is_of_list done.0 ≡ true) }
-    ensures files { IfOk result (λ done. IsTrue (are_files done.0)) }
-    ensures reply { IfOk result (λ done. is_kept done.1 ≡ true) }
-    ensures names { NamesDamaged ⟦<F as Files>⟧ (λ name. is_read_to_confirm word set (address_named (who_view who.entry)) name ≡ true) (IsDamaged (F.map files.old)) result }
-    ensures reads { IsReading ⟦<F as Files>⟧ files.old files.new result }
+    ensures act { AnswersAct ⟦<F as Files>⟧ (λ name. is_read_to_confirm word set (address_named (who_view who.entry)) name ≡ true) (IsDamaged (F.map files.old)) files.old files.new result }
 {
     let x = find_subject(alloc, files, set, sender, Some(who))?;
     confirm_found(
@@ -293,11 +257,7 @@ fn confirm_found<F: Files>(
     requires asked { IsTrue (is_asked set) }
     requires room { IsTrue F.tells → HasIds (F.map files.now) }
     ensures value { IsTrue F.tells → IfOk result (λ done. (p : Plain) → IsList (F.map files.old) p → p.config ≡ config.now → IsSubject p set x.now → DoesList (F.map files.old) done (spec.done now set sender.now x.now.who p (spec.confirming p set x.now.who word (is_good p (word_text word) set time (key x.now.who) cookie.now now)))) }
-    ensures own { IfOk result (λ done. touches_only is_of_list done.0 ≡ true) }
-    ensures files { IfOk result (λ done. IsTrue (are_files done.0)) }
-    ensures reply { IfOk result (λ done. is_kept done.1 ≡ true) }
-    ensures names { NamesDamaged ⟦<F as Files>⟧ (λ name. is_read_to_confirm word set x.now.named name ≡ true) (IsDamaged (F.map files.old)) result }
-    ensures reads { IsReading ⟦<F as Files>⟧ files.old files.new result }
+    ensures act { AnswersAct ⟦<F as Files>⟧ (λ name. is_read_to_confirm word set x.now.named name ≡ true) (IsDamaged (F.map files.old)) files.old files.new result }
 {
     let good = is_signed(alloc, files, now, word, set, time, cookie, &x.who)?;
     confirmed(alloc, files, config, now, sender, word, set, good, x)
@@ -341,11 +301,7 @@ fn confirmed<F: Files>(
     requires asked { IsTrue (is_asked set) }
     requires room { IsTrue F.tells → HasIds (F.map files.now) }
     ensures value { IsTrue F.tells → IfOk result (λ done. (p : Plain) → IsList (F.map files.old) p → p.config ≡ config.now → IsSubject p set x.now → DoesList (F.map files.old) done (spec.done now set sender.now x.now.who p (spec.confirming p set x.now.who word good))) }
-    ensures own { IfOk result (λ done. touches_only is_of_list done.0 ≡ true) }
-    ensures files { IfOk result (λ done. IsTrue (are_files done.0)) }
-    ensures reply { IfOk result (λ done. is_kept done.1 ≡ true) }
-    ensures names { NamesDamaged ⟦<F as Files>⟧ (λ name. is_read_to_confirm word set x.now.named name ≡ true) (IsDamaged (F.map files.old)) result }
-    ensures reads { IsReading ⟦<F as Files>⟧ files.old files.new result }
+    ensures act { AnswersAct ⟦<F as Files>⟧ (λ name. is_read_to_confirm word set x.now.named name ≡ true) (IsDamaged (F.map files.old)) files.old files.new result }
 {
     let member = x.member;
     match word {

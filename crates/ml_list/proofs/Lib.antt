@@ -12,4 +12,3 @@ pub mod Told
 mod Delivered
 mod Readable
 mod Requested
-mod Acting

@@ -8,7 +8,7 @@ ghost use Rattle.ml_plain.specs.Plain.{Plain};
 ghost use Rattle.ml_plain.specs.Steps as spec;
 ghost use Rattle.ml_plain.specs.Directory.{IsList};
 ghost use Rattle.ml_acts.specs.Doing.{DoesList};
-ghost use Rattle.ml_list.specs.Acting.{AnswersAct};
+ghost use Rattle.ml_acts.specs.Acting.{AnswersAct};
 ghost use Rattle.ml_list.specs.Applying.{addition_reply};
 ghost use Rattle.ml_list.specs.Damage.{IsDamagedInList, is_read_by};
 

@@ -12,7 +12,7 @@ ghost use Rattle.ml_plain.specs.Managing as spec;
 ghost use Rattle.ml_plain.specs.Plain.{Plain};
 ghost use Rattle.ml_acts.specs.Damaged.{IsDamaged};
 ghost use Rattle.ml_acts.specs.Doing.{DoesList, HasRoom};
-ghost use Rattle.ml_list.specs.Acting.{AnswersAct};
+ghost use Rattle.ml_acts.specs.Acting.{AnswersAct};
 ghost use Rattle.ml_list.specs.Delivering.{IsDamagedServed, IsDelivered, IsRequested};
 ghost use Rattle.ml_list.specs.Reads.{is_of_acts};
 

@@ -11,7 +11,7 @@ ghost use Rattle.ml_plain.specs.Managing as spec;
 ghost use Rattle.ml_plain.specs.Plain.{Plain};
 ghost use Rattle.ml_acts.specs.Doing.{DoesList, HasIds};
 ghost use Rattle.ml_post.specs.Answering.{IsDamagedOfTicket, accepts, is_answered_by};
-ghost use Rattle.ml_list.specs.Acting.{AnswersAct};
+ghost use Rattle.ml_acts.specs.Acting.{AnswersAct};
 ghost use Rattle.ml_list.specs.Moderating.{answer_to};
 
 use ml_base::{Address, Files, PartError, Txn};

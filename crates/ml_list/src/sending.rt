@@ -7,7 +7,7 @@ ghost use Rattle.ml_plain.specs.Steps as spec;
 ghost use Rattle.ml_queue.specs.Answers.{ids_name};
 ghost use Rattle.ml_acts.specs.Damaged.{IsDamaged};
 ghost use Rattle.ml_acts.specs.Doing.{DoesList};
-ghost use Rattle.ml_list.specs.Acting.{AnswersAct};
+ghost use Rattle.ml_acts.specs.Acting.{AnswersAct};
 
 use ml_base::{Files, PartError, Txn};
 use ml_plain::Reply;

@@ -9,7 +9,7 @@ ghost use Rattle.ml_plain.specs.Timing as spec;
 ghost use Rattle.ml_acts.specs.Asked.{IsDamagedOf, Undigested};
 ghost use Rattle.ml_acts.specs.Doing.{DoesList};
 ghost use Rattle.ml_timed.specs.Reads.{is_of_timed};
-ghost use Rattle.ml_list.specs.Acting.{AnswersAct};
+ghost use Rattle.ml_acts.specs.Acting.{AnswersAct};
 
 use crate::delivering::configuration;
 use ml_acts::is_worn;

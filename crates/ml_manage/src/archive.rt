@@ -4,17 +4,17 @@ ghost use Rattle.ml_filing.specs.Answers.{IsPostName};
 ghost use Rattle.ml_filing.specs.Archive.{number_name};
 ghost use Rattle.ml_filing.specs.Reads.{IsOfRow};
 ghost use Rattle.std.specs.List.{flat_map};
-ghost use Rattle.ml_base.specs.Dir.{are_files, same_name, touches_only};
+ghost use Rattle.ml_base.specs.Dir.{same_name};
 ghost use Rattle.ml_base.specs.Ranges.{IsMoment};
 ghost use Rattle.ml_base.specs.ReadFiles.{IsReading, NamesDamaged};
 ghost use Rattle.ml_base.specs.declared.names.Set.TheVariants as sets;
 ghost use Rattle.ml_config.specs.ConfigFile.{IsConfigFile, config_name};
 ghost use Rattle.ml_plain.specs.ArchiveText as texts;
-ghost use Rattle.ml_plain.specs.Directory.{IsList, is_of_list};
-ghost use Rattle.ml_plain.specs.KeptFiles.{is_kept};
+ghost use Rattle.ml_plain.specs.Directory.{IsList};
 ghost use Rattle.ml_plain.specs.Managing as spec;
 ghost use Rattle.ml_plain.specs.Plain.{Plain, is_in};
 ghost use Rattle.ml_queue.specs.Answers.{ids_name};
+ghost use Rattle.ml_acts.specs.Acting.{AnswersAct};
 ghost use Rattle.ml_acts.specs.Asked.{Group, IsDamagedOf, Range, ThreadOf};
 ghost use Rattle.ml_acts.specs.Damaged.{IsDamaged};
 ghost use Rattle.ml_acts.specs.Doing.{DoesList, HasIds, is_bucket_of};
@@ -44,11 +44,7 @@ pub(crate) fn get<F: Files>(
     requires moment { IsMoment now }
     requires room { IsTrue F.tells → HasIds (F.map files.now) }
     ensures value { IsTrue F.tells → IfOk result (λ done. (p : Plain) → IsList (F.map files.old) p → p.config ≡ config.now → DoesList (F.map files.old) done (spec.from_archive now sender.now p (spec.may_read p sender.now) (texts.get_text p from to))) }
-    ensures own { IfOk result (λ done. touches_only is_of_list done.0 ≡ true) }
-    ensures files { IfOk result (λ done. IsTrue (are_files done.0)) }
-    ensures reply { IfOk result (λ done. is_kept done.1 ≡ true) }
-    ensures names { NamesDamaged ⟦<F as Files>⟧ (λ name. (is_of_reader config.now sender.now name || is_of_posts from (unwrap_or to from) name || same_name name ids_name) ≡ true) (IsDamagedOf (F.map files.old) (Range from (unwrap_or to from))) result }
-    ensures reads { IsReading ⟦<F as Files>⟧ files.old files.new result }
+    ensures act { AnswersAct ⟦<F as Files>⟧ (λ name. (is_of_reader config.now sender.now name || is_of_posts from (unwrap_or to from) name || same_name name ids_name) ≡ true) (IsDamagedOf (F.map files.old) (Range from (unwrap_or to from))) files.old files.new result }
 {
     if !may_read(alloc, files, config, sender)? {
         return Ok((Txn::new(alloc), Reply::plain(Reply::PRIVATE)));
@@ -70,11 +66,7 @@ pub(crate) fn thread_of<F: Files>(
     requires room { IsTrue F.tells → HasIds (F.map files.now) }
     requires loaded { IsTrue F.tells → IsConfigFile (F.map files.now config_name) config.now }
     ensures value { IsTrue F.tells → IfOk result (λ done. (p : Plain) → IsList (F.map files.old) p → p.config ≡ config.now → DoesList (F.map files.old) done (spec.from_archive now sender.now p (spec.may_read p sender.now) (texts.thread_text p at))) }
-    ensures own { IfOk result (λ done. touches_only is_of_list done.0 ≡ true) }
-    ensures files { IfOk result (λ done. IsTrue (are_files done.0)) }
-    ensures reply { IfOk result (λ done. is_kept done.1 ≡ true) }
-    ensures names { NamesDamaged ⟦<F as Files>⟧ (λ name. (is_of_reader config.now sender.now name || is_of_thread name || same_name name ids_name) ≡ true) (IsDamagedOf (F.map files.old) (ThreadOf config.now.prefix at)) result }
-    ensures reads { IsReading ⟦<F as Files>⟧ files.old files.new result }
+    ensures act { AnswersAct ⟦<F as Files>⟧ (λ name. (is_of_reader config.now sender.now name || is_of_thread name || same_name name ids_name) ≡ true) (IsDamagedOf (F.map files.old) (ThreadOf config.now.prefix at)) files.old files.new result }
 {
     if !may_read(alloc, files, config, sender)? {
         return Ok((Txn::new(alloc), Reply::plain(Reply::PRIVATE)));
@@ -95,11 +87,7 @@ pub(crate) fn index_of<F: Files>(
     requires moment { IsMoment now }
     requires room { IsTrue F.tells → HasIds (F.map files.now) }
     ensures value { IsTrue F.tells → IfOk result (λ done. (p : Plain) → IsList (F.map files.old) p → p.config ≡ config.now → DoesList (F.map files.old) done (spec.from_archive now sender.now p (spec.may_read p sender.now) (texts.index_text p at))) }
-    ensures own { IfOk result (λ done. touches_only is_of_list done.0 ≡ true) }
-    ensures files { IfOk result (λ done. IsTrue (are_files done.0)) }
-    ensures reply { IfOk result (λ done. is_kept done.1 ≡ true) }
-    ensures names { NamesDamaged ⟦<F as Files>⟧ (λ name. (is_of_reader config.now sender.now name || is_of_index at name || same_name name ids_name) ≡ true) (IsDamagedOf (F.map files.old) (Group (at / 100))) result }
-    ensures reads { IsReading ⟦<F as Files>⟧ files.old files.new result }
+    ensures act { AnswersAct ⟦<F as Files>⟧ (λ name. (is_of_reader config.now sender.now name || is_of_index at name || same_name name ids_name) ≡ true) (IsDamagedOf (F.map files.old) (Group (at / 100))) files.old files.new result }
 {
     if !may_read(alloc, files, config, sender)? {
         return Ok((Txn::new(alloc), Reply::plain(Reply::PRIVATE)));
@@ -169,11 +157,7 @@ fn mail_lines<F: Files>(
     requires moment { IsMoment now }
     requires room { IsTrue F.tells → HasIds (F.map files.now) }
     ensures value { IsTrue F.tells → IfOk result (λ done. (p : Plain) → IsList (F.map files.old) p → p.config ≡ config.now → DoesList (F.map files.old) done (spec.from_archive now sender.now p true lines)) }
-    ensures own { IfOk result (λ done. touches_only is_of_list done.0 ≡ true) }
-    ensures files { IfOk result (λ done. IsTrue (are_files done.0)) }
-    ensures reply { IfOk result (λ done. is_kept done.1 ≡ true) }
-    ensures names { NamesDamaged ⟦<F as Files>⟧ (λ name. same_name name ids_name ≡ true) (IsDamaged (F.map files.old)) result }
-    ensures reads { IsReading ⟦<F as Files>⟧ files.old files.new result }
+    ensures act { AnswersAct ⟦<F as Files>⟧ (λ name. same_name name ids_name ≡ true) (IsDamaged (F.map files.old)) files.old files.new result }
 {
     let mail = Mail::Archive {
         to: Bytes::from_slice(alloc, sender.bytes())?,

@@ -2,7 +2,7 @@
 ghost use Rattle.std.specs.Prelude.{◌≡◌, ◌≤◌, ◌&&◌, ◌||◌, true, IsTrue, IfOk};
 ghost use Rattle.ml_address.specs.Requests.{is_mailed};
 ghost use Rattle.ml_base.specs.Address.{key};
-ghost use Rattle.ml_base.specs.Dir.{are_files, same_name, touches_only};
+ghost use Rattle.ml_base.specs.Dir.{same_name};
 ghost use Rattle.ml_base.specs.declared.names.Set.TheVariants as sets;
 ghost use Rattle.ml_base.specs.Ranges.{IsMoment};
 ghost use Rattle.ml_base.specs.ReadFiles.{IsReading, NamesDamaged};
@@ -10,14 +10,14 @@ ghost use Rattle.ml_bounce.specs.Answers.{puts_of};
 ghost use Rattle.ml_bounce.specs.Changes as changes;
 ghost use Rattle.ml_config.specs.KeyFile.{key_name};
 ghost use Rattle.ml_plain.specs.Bouncing as spec;
-ghost use Rattle.ml_plain.specs.Directory.{IsList, is_of_list};
-ghost use Rattle.ml_plain.specs.KeptFiles.{is_kept};
+ghost use Rattle.ml_plain.specs.Directory.{IsList};
 ghost use Rattle.ml_plain.specs.Mailing.{is_good as is_good_by};
 ghost use Rattle.ml_plain.specs.Answers as answers;
 ghost use Rattle.ml_plain.specs.Plain.{Plain, is_in, ledger_of, removed};
 ghost use Rattle.ml_filing.specs.Archive.{number_name};
 ghost use Rattle.ml_digest.specs.Due.{mark_name};
 ghost use Rattle.ml_subs.specs.Subscribers.{is_touched};
+ghost use Rattle.ml_acts.specs.Acting.{AnswersAct};
 ghost use Rattle.ml_acts.specs.Asked.{Count, IsDamagedOf};
 ghost use Rattle.ml_acts.specs.Damaged.{IsDamaged};
 ghost use Rattle.ml_acts.specs.Doing.{DoesList, is_bucket_of, is_entry_of};
@@ -47,11 +47,7 @@ pub(crate) fn bounced<F: Files>(
     requires mailed { is_mailed set ≡ true }
     requires number { number ≤ 99_999_999 }
     ensures value { IsTrue F.tells → IfOk result (λ done. (p : Plain) → IsList (F.map files.old) p → DoesList (F.map files.old) done (spec.bounced now set number x.now p)) }
-    ensures own { IfOk result (λ done. touches_only is_of_list done.0 ≡ true) }
-    ensures files { IfOk result (λ done. IsTrue (are_files done.0)) }
-    ensures reply { IfOk result (λ done. is_kept done.1 ≡ true) }
-    ensures names { NamesDamaged ⟦<F as Files>⟧ (λ name. is_of_bounce set x.now name ≡ true) (IsDamagedOf (F.map files.old) Count) result }
-    ensures reads { IsReading ⟦<F as Files>⟧ files.old files.new result }
+    ensures act { AnswersAct ⟦<F as Files>⟧ (λ name. is_of_bounce set x.now name ≡ true) (IsDamagedOf (F.map files.old) Count) files.old files.new result }
 {
     if !was_mailed(alloc, files, set, number, x)? {
         return Ok((Txn::new(alloc), Reply::plain(Reply::IGNORED)));
@@ -122,11 +118,7 @@ fn noted<F: Files>(
     requires mailed { is_mailed set ≡ true }
     requires number { number ≤ 99_999_999 }
     ensures value { IsTrue F.tells → IfOk result (λ done. (p : Plain) → IsList (F.map files.old) p → DoesList (F.map files.old) done (spec.if_changed p set (changes.note (key x.now) number now (ledger_of p set)))) }
-    ensures own { IfOk result (λ done. touches_only is_of_list done.0 ≡ true) }
-    ensures files { IfOk result (λ done. IsTrue (are_files done.0)) }
-    ensures reply { IfOk result (λ done. is_kept done.1 ≡ true) }
-    ensures names { NamesDamaged ⟦<F as Files>⟧ (λ name. is_entry_of set x.now name ≡ true) (IsDamaged (F.map files.old)) result }
-    ensures reads { IsReading ⟦<F as Files>⟧ files.old files.new result }
+    ensures act { AnswersAct ⟦<F as Files>⟧ (λ name. is_entry_of set x.now name ≡ true) (IsDamaged (F.map files.old)) files.old files.new result }
 {
     let answer = note(alloc, files, set, x, number, now)?;
     Ok(changed(alloc, answer))
@@ -156,11 +148,7 @@ pub(crate) fn warning_bounced<F: Files>(
     requires moment { IsMoment now }
     requires mailed { is_mailed set ≡ true }
     ensures value { IsTrue F.tells → IfOk result (λ done. (p : Plain) → IsList (F.map files.old) p → DoesList (F.map files.old) done (of_warning now set time letters.now x.now p)) }
-    ensures own { IfOk result (λ done. touches_only is_of_list done.0 ≡ true) }
-    ensures files { IfOk result (λ done. IsTrue (are_files done.0)) }
-    ensures reply { IfOk result (λ done. is_kept done.1 ≡ true) }
-    ensures names { NamesDamaged ⟦<F as Files>⟧ (λ name. is_of_warning set x.now name ≡ true) (IsDamaged (F.map files.old)) result }
-    ensures reads { IsReading ⟦<F as Files>⟧ files.old files.new result }
+    ensures act { AnswersAct ⟦<F as Files>⟧ (λ name. is_of_warning set x.now name ≡ true) (IsDamaged (F.map files.old)) files.old files.new result }
 {
     if !is_signed(alloc, files, now, b"warn", set, time, letters, x)? {
         return Ok((Txn::new(alloc), Reply::plain(Reply::IGNORED)));
@@ -221,11 +209,7 @@ fn warning_failed<F: Files>(
     requires moment { IsMoment now }
     requires mailed { is_mailed set ≡ true }
     ensures value { IsTrue F.tells → IfOk result (λ done. (p : Plain) → IsList (F.map files.old) p → DoesList (F.map files.old) done (spec.if_changed p set (changes.warn_failed (key x.now) time now (ledger_of p set)))) }
-    ensures own { IfOk result (λ done. touches_only is_of_list done.0 ≡ true) }
-    ensures files { IfOk result (λ done. IsTrue (are_files done.0)) }
-    ensures reply { IfOk result (λ done. is_kept done.1 ≡ true) }
-    ensures names { NamesDamaged ⟦<F as Files>⟧ (λ name. is_entry_of set x.now name ≡ true) (IsDamaged (F.map files.old)) result }
-    ensures reads { IsReading ⟦<F as Files>⟧ files.old files.new result }
+    ensures act { AnswersAct ⟦<F as Files>⟧ (λ name. is_entry_of set x.now name ≡ true) (IsDamaged (F.map files.old)) files.old files.new result }
 {
     let answer = warn_failed(alloc, files, set, x, time, now)?;
     Ok(changed(alloc, answer))
@@ -243,11 +227,7 @@ pub(crate) fn probe_bounced<F: Files>(
 ) -> Result<(Txn, Reply), PartError>
     requires { is_mailed set ≡ true }
     ensures value { IsTrue F.tells → IfOk result (λ done. (p : Plain) → IsList (F.map files.old) p → DoesList (F.map files.old) done (of_probe now set time letters.now x.now p)) }
-    ensures own { IfOk result (λ done. touches_only is_of_list done.0 ≡ true) }
-    ensures files { IfOk result (λ done. IsTrue (are_files done.0)) }
-    ensures reply { IfOk result (λ done. is_kept done.1 ≡ true) }
-    ensures names { NamesDamaged ⟦<F as Files>⟧ (λ name. is_of_probe set x.now name ≡ true) (IsDamaged (F.map files.old)) result }
-    ensures reads { IsReading ⟦<F as Files>⟧ files.old files.new result }
+    ensures act { AnswersAct ⟦<F as Files>⟧ (λ name. is_of_probe set x.now name ≡ true) (IsDamaged (F.map files.old)) files.old files.new result }
 {
     if !is_signed(alloc, files, now, b"probe", set, time, letters, x)? {
         return Ok((Txn::new(alloc), Reply::plain(Reply::IGNORED)));
@@ -265,11 +245,7 @@ fn probed<F: Files>(
 ) -> Result<(Txn, Reply), PartError>
     requires { is_mailed set ≡ true }
     ensures value { IsTrue F.tells → IfOk result (λ done. (p : Plain) → IsList (F.map files.old) p → is_in p set x.now ≡ true → DoesList (F.map files.old) done (spec.if_probed p set x.now (changes.probe_failed (key x.now) time (ledger_of p set)))) }
-    ensures own { IfOk result (λ done. touches_only is_of_list done.0 ≡ true) }
-    ensures files { IfOk result (λ done. IsTrue (are_files done.0)) }
-    ensures reply { IfOk result (λ done. is_kept done.1 ≡ true) }
-    ensures names { NamesDamaged ⟦<F as Files>⟧ (λ name. (is_touched set (key x.now) name || is_entry_of set x.now name) ≡ true) (IsDamaged (F.map files.old)) result }
-    ensures reads { IsReading ⟦<F as Files>⟧ files.old files.new result }
+    ensures act { AnswersAct ⟦<F as Files>⟧ (λ name. (is_touched set (key x.now) name || is_entry_of set x.now name) ≡ true) (IsDamaged (F.map files.old)) files.old files.new result }
 {
     let Some(_) = probe_failed(alloc, files, set, x, time)? else {
         return Ok((Txn::new(alloc), Reply::plain(Reply::IGNORED)));
@@ -285,11 +261,7 @@ fn dropped<F: Files>(
     x: &Address,
 ) -> Result<(Txn, Reply), PartError>
     ensures value { IsTrue F.tells → IfOk result (λ done. (p : Plain) → IsList (F.map files.old) p → is_in p set x.now ≡ true → DoesList (F.map files.old) done (removed set x.now p, answers.dropped)) }
-    ensures own { IfOk result (λ done. touches_only is_of_list done.0 ≡ true) }
-    ensures files { IfOk result (λ done. IsTrue (are_files done.0)) }
-    ensures reply { IfOk result (λ done. is_kept done.1 ≡ true) }
-    ensures names { NamesDamaged ⟦<F as Files>⟧ (λ name. (is_touched set (key x.now) name || is_entry_of set x.now name) ≡ true) (IsDamaged (F.map files.old)) result }
-    ensures reads { IsReading ⟦<F as Files>⟧ files.old files.new result }
+    ensures act { AnswersAct ⟦<F as Files>⟧ (λ name. (is_touched set (key x.now) name || is_entry_of set x.now name) ≡ true) (IsDamaged (F.map files.old)) files.old files.new result }
 {
     let Some(txn) = remove_member(alloc, files, set, x)? else {
         return Ok((Txn::new(alloc), Reply::plain(Reply::IGNORED)));

@@ -1,14 +1,13 @@
 // Who is in a set.
 ghost use Rattle.std.specs.Prelude.{◌≡◌, ◌&&◌, ◌||◌, true, IsTrue, IfOk};
-ghost use Rattle.ml_base.specs.Dir.{are_files, touches_only};
 ghost use Rattle.ml_base.specs.Ranges.{IsMoment};
 ghost use Rattle.ml_base.specs.ReadFiles.{IsReading, NamesDamaged};
 ghost use Rattle.ml_base.specs.declared.names.Set.TheVariants as sets;
-ghost use Rattle.ml_plain.specs.Directory.{IsList, is_of_list};
-ghost use Rattle.ml_plain.specs.KeptFiles.{is_kept};
+ghost use Rattle.ml_plain.specs.Directory.{IsList};
 ghost use Rattle.ml_plain.specs.Managing as spec;
 ghost use Rattle.ml_plain.specs.Plain.{Plain, addresses, is_in, is_moderator};
 ghost use Rattle.ml_reply.specs.declared.mails.Mail.TheVariants as mails;
+ghost use Rattle.ml_acts.specs.Acting.{AnswersAct};
 ghost use Rattle.ml_acts.specs.Damaged.{IsDamaged};
 ghost use Rattle.ml_acts.specs.Doing.{DoesList, HasIds, is_bucket, is_bucket_of};
 ghost use Rattle.ml_manage.specs.Reads.{is_of_members};
@@ -47,11 +46,7 @@ pub(crate) fn members<F: Files>(
     requires moment { IsMoment now }
     requires room { IsTrue F.tells → HasIds (F.map files.now) }
     ensures value { IsTrue F.tells → IfOk result (λ done. (p : Plain) → IsList (F.map files.old) p → p.config ≡ config.now → DoesList (F.map files.old) done (spec.list_members now sender.now set p (p.config.flags.l && is_moderator p sender.now))) }
-    ensures own { IfOk result (λ done. touches_only is_of_list done.0 ≡ true) }
-    ensures files { IfOk result (λ done. IsTrue (are_files done.0)) }
-    ensures reply { IfOk result (λ done. is_kept done.1 ≡ true) }
-    ensures names { NamesDamaged ⟦<F as Files>⟧ (λ name. is_of_members config.now sender.now set name ≡ true) (IsDamaged (F.map files.old)) result }
-    ensures reads { IsReading ⟦<F as Files>⟧ files.old files.new result }
+    ensures act { AnswersAct ⟦<F as Files>⟧ (λ name. is_of_members config.now sender.now set name ≡ true) (IsDamaged (F.map files.old)) files.old files.new result }
 {
     if !may_list(alloc, files, config, sender)? {
         return Ok((Txn::new(alloc), Reply::plain(Reply::PRIVATE)));

@@ -1,8 +1,7 @@
 // What a moderator answers about a post that waits.
-ghost use Rattle.std.specs.Prelude.{◌≡◌, true, false, Some, IsTrue, IfOk, IfErr, codes};
+ghost use Rattle.std.specs.Prelude.{◌≡◌, true, false, Some, IsTrue, IfOk, codes};
 ghost use Rattle.std.specs.Fmt.{decimal};
 ghost use Rattle.ml_base.specs.Dir.{are_files, touches_only, with_puts};
-ghost use Rattle.ml_base.specs.PartErrors.{OnDamaged};
 ghost use Rattle.ml_base.specs.Ranges.{IsMoment, is_drawn};
 ghost use Rattle.ml_base.specs.ReadFiles.{IsReading, NamesDamaged};
 ghost use Rattle.ml_base.specs.declared.names.Set.TheVariants as sets;
@@ -10,12 +9,12 @@ ghost use Rattle.ml_hold.specs.Held.{held_post, without_ticket};
 ghost use Rattle.ml_hold.specs.declared.posts.Held.{Held as TheHeld};
 ghost use Rattle.ml_hold.specs.Answers as waiting;
 ghost use Rattle.ml_reply.specs.declared.mails.Mail.TheVariants as mails;
-ghost use Rattle.ml_plain.specs.Directory.{IsList, is_of_list, held_kinds};
-ghost use Rattle.ml_plain.specs.KeptFiles.{is_kept};
+ghost use Rattle.ml_plain.specs.Directory.{IsList, held_kinds};
 ghost use Rattle.ml_plain.specs.Mailing as mailing;
 ghost use Rattle.ml_plain.specs.Managing as spec;
 ghost use Rattle.ml_plain.specs.Plain.{Plain, is_archive_full};
 ghost use Rattle.ml_config.specs.Configuration.{IsConfig};
+ghost use Rattle.ml_acts.specs.Acting.{AnswersAct};
 ghost use Rattle.ml_acts.specs.Asked.{IsDamagedOf, Next};
 ghost use Rattle.ml_acts.specs.Configured.{with_config};
 ghost use Rattle.ml_acts.specs.Doing.{DoesList, HasIds};
@@ -68,12 +67,7 @@ pub fn answer<F: Files>(
     requires moment { IsMoment now }
     requires room { IsTrue F.tells → HasIds (F.map files.now) }
     ensures value { IsTrue F.tells → IsConfig config.now → IfOk result (λ done. (p : Plain) → IsList (with_config config.now (F.map files.old)) p → DoesList (with_config config.now (F.map files.old)) done (spec.answer now ticket letters.now accept p)) }
-    ensures own { IfOk result (λ done. touches_only is_of_list done.0 ≡ true) }
-    ensures files { IfOk result (λ done. IsTrue (are_files done.0)) }
-    ensures reply { IfOk result (λ done. is_kept done.1 ≡ true) }
-    ensures names { NamesDamaged ⟦<F as Files>⟧ (λ name. is_answered_by ticket accept name ≡ true) (IsDamagedOfTicket (with_config config.now (F.map files.old)) config.now ticket) result }
-    ensures sound { IsTrue F.tells → (p : Plain) → IsList (with_config config.now (F.map files.old)) p → IfErr result (λ e. OnDamaged e (λ _. ⊥)) }
-    ensures reads { IsReading ⟦<F as Files>⟧ files.old files.new result }
+    ensures act { AnswersAct ⟦<F as Files>⟧ (λ name. is_answered_by ticket accept name ≡ true) (IsDamagedOfTicket (with_config config.now (F.map files.old)) config.now ticket) files.old files.new result }
 {
     decide(
         alloc,
@@ -104,12 +98,7 @@ pub fn decide<F: Files>(
     requires moment { IsMoment now }
     requires room { IsTrue F.tells → HasIds (F.map files.now) }
     ensures value { IsTrue F.tells → IsConfig config.now → IfOk result (λ done. (p : Plain) → IsList (with_config config.now (F.map files.old)) p → DoesList (with_config config.now (F.map files.old)) done (spec.answer now ticket letters.now (accepts decision) p)) }
-    ensures own { IfOk result (λ done. touches_only is_of_list done.0 ≡ true) }
-    ensures files { IfOk result (λ done. IsTrue (are_files done.0)) }
-    ensures reply { IfOk result (λ done. is_kept done.1 ≡ true) }
-    ensures names { NamesDamaged ⟦<F as Files>⟧ (λ name. is_answered_by ticket (accepts decision) name ≡ true) (IsDamagedOfTicket (with_config config.now (F.map files.old)) config.now ticket) result }
-    ensures sound { IsTrue F.tells → (p : Plain) → IsList (with_config config.now (F.map files.old)) p → IfErr result (λ e. OnDamaged e (λ _. ⊥)) }
-    ensures reads { IsReading ⟦<F as Files>⟧ files.old files.new result }
+    ensures act { AnswersAct ⟦<F as Files>⟧ (λ name. is_answered_by ticket (accepts decision) name ≡ true) (IsDamagedOfTicket (with_config config.now (F.map files.old)) config.now ticket) files.old files.new result }
 {
     let mut under = Configured::new(files, config);
     answer_ticket(alloc, &mut under, config, now, ticket, letters, decision)
@@ -128,11 +117,7 @@ fn answer_ticket<F: Files>(
     requires moment { IsMoment now }
     requires room { IsTrue F.tells → HasIds (F.map files.now) }
     ensures value { IsTrue F.tells → IfOk result (λ done. (p : Plain) → IsList (F.map files.old) p → p.config ≡ config.now → DoesList (F.map files.old) done (spec.answer now ticket letters.now (accepts decision) p)) }
-    ensures own { IfOk result (λ done. touches_only is_of_list done.0 ≡ true) }
-    ensures files { IfOk result (λ done. IsTrue (are_files done.0)) }
-    ensures reply { IfOk result (λ done. is_kept done.1 ≡ true) }
-    ensures names { NamesDamaged ⟦<F as Files>⟧ (λ name. is_answered_by ticket (accepts decision) name ≡ true) (IsDamagedOfTicket (F.map files.old) config.now ticket) result }
-    ensures reads { IsReading ⟦<F as Files>⟧ files.old files.new result }
+    ensures act { AnswersAct ⟦<F as Files>⟧ (λ name. is_answered_by ticket (accepts decision) name ≡ true) (IsDamagedOfTicket (F.map files.old) config.now ticket) files.old files.new result }
 {
     let Some(held) = look(alloc, files, ticket)? else {
         return Ok((Txn::new(alloc), Reply::plain(Reply::GONE)));
@@ -155,11 +140,7 @@ fn answer_held<F: Files>(
     requires drawn { IsTrue (is_drawn ticket) }
     requires room { IsTrue F.tells → HasIds (F.map files.now) }
     ensures value { IsTrue F.tells → IfOk result (λ done. (p : Plain) → IsList (F.map files.old) p → p.config ≡ config.now → held_post ticket p.held ≡ Some held.now → DoesList (F.map files.old) done (spec.answer_held now ticket letters.now p (accepts decision) (Some held.now))) }
-    ensures own { IfOk result (λ done. touches_only is_of_list done.0 ≡ true) }
-    ensures files { IfOk result (λ done. IsTrue (are_files done.0)) }
-    ensures reply { IfOk result (λ done. is_kept done.1 ≡ true) }
-    ensures names { NamesDamaged ⟦<F as Files>⟧ (λ name. is_answered_by ticket (accepts decision) name ≡ true) (IsDamagedOf (F.map files.old) (Next (sent_key config.now held.now.message))) result }
-    ensures reads { IsReading ⟦<F as Files>⟧ files.old files.new result }
+    ensures act { AnswersAct ⟦<F as Files>⟧ (λ name. is_answered_by ticket (accepts decision) name ≡ true) (IsDamagedOf (F.map files.old) (Next (sent_key config.now held.now.message))) files.old files.new result }
 {
     let keys = list_keys(alloc, files)?;
     if !is_signed(&keys, ticket, held.moment, letters) {
@@ -198,11 +179,7 @@ fn follow<F: Files>(
     requires drawn { IsTrue (is_drawn ticket) }
     requires room { IsTrue F.tells → HasIds (F.map files.now) }
     ensures value { IsTrue F.tells → IfOk result (λ done. (p : Plain) → IsList (F.map files.old) p → p.config ≡ config.now → held_post ticket p.held ≡ Some held.now → DoesList (F.map files.old) done (spec.answered now ticket held.now p (accepts decision))) }
-    ensures own { IfOk result (λ done. touches_only is_of_list done.0 ≡ true) }
-    ensures files { IfOk result (λ done. IsTrue (are_files done.0)) }
-    ensures reply { IfOk result (λ done. is_kept done.1 ≡ true) }
-    ensures names { NamesDamaged ⟦<F as Files>⟧ (λ name. is_followed_by ticket (accepts decision) name ≡ true) (IsDamagedOf (F.map files.old) (Next (sent_key config.now held.now.message))) result }
-    ensures reads { IsReading ⟦<F as Files>⟧ files.old files.new result }
+    ensures act { AnswersAct ⟦<F as Files>⟧ (λ name. is_followed_by ticket (accepts decision) name ≡ true) (IsDamagedOf (F.map files.old) (Next (sent_key config.now held.now.message))) files.old files.new result }
 {
     match decision {
         Decision::Accept => accepted(alloc, files, config, now, ticket, held),
@@ -223,11 +200,7 @@ fn accepted<F: Files>(
     requires drawn { IsTrue (is_drawn ticket) }
     requires room { IsTrue F.tells → HasIds (F.map files.now) }
     ensures value { IsTrue F.tells → IfOk result (λ done. (p : Plain) → IsList (F.map files.old) p → p.config ≡ config.now → held_post ticket p.held ≡ Some held.now → DoesList (F.map files.old) done (spec.accepted now ticket held.now p (is_archive_full p))) }
-    ensures own { IfOk result (λ done. touches_only is_of_list done.0 ≡ true) }
-    ensures files { IfOk result (λ done. IsTrue (are_files done.0)) }
-    ensures reply { IfOk result (λ done. is_kept done.1 ≡ true) }
-    ensures names { NamesDamaged ⟦<F as Files>⟧ (λ name. is_accepted_by ticket name ≡ true) (IsDamagedOf (F.map files.old) (Next (sent_key config.now held.now.message))) result }
-    ensures reads { IsReading ⟦<F as Files>⟧ files.old files.new result }
+    ensures act { AnswersAct ⟦<F as Files>⟧ (λ name. is_accepted_by ticket name ≡ true) (IsDamagedOf (F.map files.old) (Next (sent_key config.now held.now.message))) files.old files.new result }
 {
     let message = held.message.as_slice();
     let sender = &held.sender;
@@ -263,11 +236,7 @@ fn rejected<F: Files>(
     requires drawn { IsTrue (is_drawn ticket) }
     requires room { IsTrue F.tells → HasIds (F.map files.now) }
     ensures value { IsTrue F.tells → IfOk result (λ done. (p : Plain) → IsList (F.map files.old) p → p.config ≡ config.now → held_post ticket p.held ≡ Some held.now → DoesList (F.map files.old) done (spec.answered now ticket held.now p false)) }
-    ensures own { IfOk result (λ done. touches_only is_of_list done.0 ≡ true) }
-    ensures files { IfOk result (λ done. IsTrue (are_files done.0)) }
-    ensures reply { IfOk result (λ done. is_kept done.1 ≡ true) }
-    ensures names { NamesDamaged ⟦<F as Files>⟧ (λ name. is_rejected_by ticket name ≡ true) (IsDamagedOf (F.map files.old) (Next (sent_key config.now held.now.message))) result }
-    ensures reads { IsReading ⟦<F as Files>⟧ files.old files.new result }
+    ensures act { AnswersAct ⟦<F as Files>⟧ (λ name. is_rejected_by ticket name ≡ true) (IsDamagedOf (F.map files.old) (Next (sent_key config.now held.now.message))) files.old files.new result }
 {
     let txn = taken(alloc, files, ticket)?;
     let mail = rejection(alloc, held)?;

@@ -1,5 +1,5 @@
 // A post waits for the moderators, who are asked.
-ghost use Rattle.std.specs.Prelude.{◌≡◌, ◌≤◌, true, IsTrue, IfOk, IfErr, length};
+ghost use Rattle.std.specs.Prelude.{◌≡◌, ◌≤◌, true, IsTrue, IfOk, length};
 ghost use Rattle.ml_address.specs.Requests.{Accept, Reject, is_cookie, is_in_range};
 ghost use Rattle.ml_address.specs.Views.{request_view};
 ghost use Rattle.ml_address.specs.Writing.{request_text};
@@ -9,11 +9,11 @@ ghost use Rattle.ml_base.specs.ReadFiles.{IsReading, NamesDamaged};
 ghost use Rattle.ml_config.specs.Configuration.{IsConfig};
 ghost use Rattle.ml_config.specs.KeyFile.{key_name};
 ghost use Rattle.ml_plain.specs.Answers as answers;
-ghost use Rattle.ml_plain.specs.Directory.{IsList, is_of_list};
-ghost use Rattle.ml_plain.specs.KeptFiles.{is_kept};
+ghost use Rattle.ml_plain.specs.Directory.{IsList};
 ghost use Rattle.ml_plain.specs.Mailing as mailing;
 ghost use Rattle.ml_plain.specs.Plain.{Plain};
 ghost use Rattle.ml_plain.specs.Posting as spec;
+ghost use Rattle.ml_acts.specs.Acting.{AnswersAct};
 ghost use Rattle.ml_acts.specs.Damaged.{IsDamaged, IsNoKeys};
 ghost use Rattle.ml_acts.specs.Doing.{DoesList, HasIds, HasRoom};
 ghost use Rattle.ml_drawn.specs.Names.{is_of_series};
@@ -43,11 +43,7 @@ pub(crate) fn hold_post<F: Files>(
     requires size { length message.now ≤ 33_554_432 }
     requires room { IsTrue F.tells → HasRoom (F.map files.now) }
     ensures value { IsTrue F.tells → IfOk result (λ done. (p : Plain) → IsList (F.map files.old) p → p.config ≡ config.now → DoesList (F.map files.old) done (spec.held_now now sender message.now p)) }
-    ensures own { IfOk result (λ done. touches_only is_of_list done.0 ≡ true) }
-    ensures files { IfOk result (λ done. IsTrue (are_files done.0)) }
-    ensures reply { IfOk result (λ done. is_kept done.1 ≡ true) }
-    ensures names { NamesDamaged ⟦<F as Files>⟧ (λ name. is_held_by name ≡ true) (IsDamaged (F.map files.old)) result }
-    ensures reads { IsReading ⟦<F as Files>⟧ files.old files.new result }
+    ensures act { AnswersAct ⟦<F as Files>⟧ (λ name. is_held_by name ≡ true) (IsDamaged (F.map files.old)) files.old files.new result }
 {
     let held = Held {
         moment: now,
@@ -78,11 +74,7 @@ fn ask<F: Files>(
     requires own { touches_only (is_of_series Tickets) txn ≡ true }
     requires files { IsTrue (are_files txn) }
     ensures value { IsTrue F.tells → IfOk result (λ done. (p : Plain) → IsList (with_puts (F.map files.old) txn) p → p.config ≡ config.now → DoesList (F.map files.old) done (mailing.mail_moderators now (mailing.moderate_mail p ticket now message) p, answers.held ticket)) }
-    ensures own { IfOk result (λ done. touches_only is_of_list done.0 ≡ true) }
-    ensures files { IfOk result (λ done. IsTrue (are_files done.0)) }
-    ensures reply { IfOk result (λ done. is_kept done.1 ≡ true) }
-    ensures names { NamesDamaged ⟦<F as Files>⟧ (λ name. is_asked_by name ≡ true) (IsDamaged (F.map files.old)) result }
-    ensures reads { IsReading ⟦<F as Files>⟧ files.old files.new result }
+    ensures act { AnswersAct ⟦<F as Files>⟧ (λ name. is_asked_by name ≡ true) (IsDamaged (F.map files.old)) files.old files.new result }
 {
     let keys = list_keys(alloc, files)?;
     let mail = moderate_mail(alloc, config, &keys, ticket, now, message)?;

@@ -1,5 +1,5 @@
 -- What a site in memory shows.
-use Rattle.std.specs.Prelude.{ℕ, true, List, length, take}
+use Rattle.std.specs.Prelude.{◌≡◌, ℕ, ◌-◌, ◌^◌, true, List, [], length, take}
 use Rattle.std.specs.Vec.{vec_capacity}
 use Rattle.ml_site.specs.declared.mem.MemSite.{MemSite}
 use Rattle.ml_site.specs.Clauses.{OnDisk, SameNumbers}
@@ -77,3 +77,29 @@ MemOnDisk old new = OnDisk true mem_disk mem_output mem_calls mem_left_since sit
 -- neither a sync nor bytes for the log were counted
 abbrev pub MemSameNumbers : MemSite → MemSite → Type 0
 MemSameNumbers old new = SameNumbers true mem_syncs mem_log_bytes old new
+
+-- Over an image, with room for so many calls and so many bytes of output. No call was made, none is to fail, and nothing is pending.
+pub record IsNew (image : Contents) (calls output : ℕ) (site : MemSite) : Type 0 where
+  pub disk : mem_disk site ≡ at_rest image
+  pub put_out : mem_output site ≡ []
+  pub moment : mem_calls site ≡ 0
+  pub disk_calls : site_disk_calls site ≡ 0
+  pub disk_faults : site_disk_faults site ≡ 0
+  pub output_faults : site_output_faults site ≡ 0
+  pub room : call_room site ≡ calls
+  pub room_out : output_room site ≡ output
+  pub failing : site_failing site ≡ []
+  pub last : site_last site ≡ 2 ^ 64 - 1
+  pub made : site_made site ≡ 0
+
+-- nothing of a site has changed but which calls are to fail
+pub record ChangesPlan (old new : MemSite) : Type 0 where
+  pub made : site_made new ≡ site_made old
+  pub disk : mem_disk new ≡ mem_disk old
+  pub put_out : mem_output new ≡ mem_output old
+  pub calls : mem_calls new ≡ mem_calls old
+  pub room : call_room new ≡ call_room old
+  pub room_out : output_room new ≡ output_room old
+  pub disk_calls : site_disk_calls new ≡ site_disk_calls old
+  pub disk_faults : site_disk_faults new ≡ site_disk_faults old
+  pub output_faults : site_output_faults new ≡ site_output_faults old

@@ -51,8 +51,7 @@ pub struct MemSite {
 }
 
 impl MemSite {
-    ghost use Rattle.ml_site.specs.MemSites.{mem_disk, mem_disk_at, mem_output, mem_output_at, mem_left_since, mem_calls, call_room, output_room};
-    ghost use Rattle.ml_site.specs.MemSites.{site_disk_calls, site_disk_faults, site_output_faults, site_failing, site_last, site_made};
+    ghost use Rattle.ml_site.specs.MemSites.{IsNew, ChangesPlan, mem_disk_at, mem_output, mem_output_at, mem_left_since, mem_calls, site_failing, site_last};
 
     /// A site over an image, with room for `calls` calls and `output` bytes of output, which are reserved at once.
     /// No call is to fail, and nothing is pending.
@@ -62,17 +61,7 @@ impl MemSite {
         calls: usize,
         output: usize,
     ) -> Result<MemSite, AllocError>
-        ensures disk { IfOk result (λ site. mem_disk site ≡ at_rest (contents image.log image.files)) }
-        ensures output { IfOk result (λ site. mem_output site ≡ []) }
-        ensures moment { IfOk result (λ site. mem_calls site ≡ 0) }
-        ensures disk_calls { IfOk result (λ site. site_disk_calls site ≡ 0) }
-        ensures disk_faults { IfOk result (λ site. site_disk_faults site ≡ 0) }
-        ensures output_faults { IfOk result (λ site. site_output_faults site ≡ 0) }
-        ensures call_room { IfOk result (λ site. call_room site ≡ calls) }
-        ensures output_room { IfOk result (λ site. output_room site ≡ output) }
-        ensures failing { IfOk result (λ site. site_failing site ≡ []) }
-        ensures last { IfOk result (λ site. site_last site ≡ 2 ^ 64 - 1) }
-        ensures made { IfOk result (λ site. site_made site ≡ 0) }
+        ensures { IfOk result (IsNew (contents image.log image.files) calls output) }
     {
         let log = Bytes::from_slice(alloc, image.log.as_slice())?;
         let files = all_copied(&image.files)?;
@@ -98,15 +87,7 @@ impl MemSite {
         ensures ok { OnOk result (site_failing self.new ≡ calls.now) }
         ensures err { OnErr result (site_failing self.new ≡ site_failing self.old) }
         ensures last { site_last self.new ≡ site_last self.old }
-        ensures made { site_made self.new ≡ site_made self.old }
-        ensures disk { mem_disk self.new ≡ mem_disk self.old }
-        ensures output { mem_output self.new ≡ mem_output self.old }
-        ensures calls { mem_calls self.new ≡ mem_calls self.old }
-        ensures call_room { call_room self.new ≡ call_room self.old }
-        ensures output_room { output_room self.new ≡ output_room self.old }
-        ensures disk_calls { site_disk_calls self.new ≡ site_disk_calls self.old }
-        ensures disk_faults { site_disk_faults self.new ≡ site_disk_faults self.old }
-        ensures output_faults { site_output_faults self.new ≡ site_output_faults self.old }
+        ensures plan { ChangesPlan self.old self.new }
     {
         self.plan.failing = Numbers::from_vec(Vec::from_slice(alloc, calls)?);
         Ok(())
@@ -116,15 +97,7 @@ impl MemSite {
     pub fn stop_after(&mut self, k: u64)
         ensures last { site_last self.new ≡ k }
         ensures failing { site_failing self.new ≡ site_failing self.old }
-        ensures made { site_made self.new ≡ site_made self.old }
-        ensures disk { mem_disk self.new ≡ mem_disk self.old }
-        ensures output { mem_output self.new ≡ mem_output self.old }
-        ensures calls { mem_calls self.new ≡ mem_calls self.old }
-        ensures call_room { call_room self.new ≡ call_room self.old }
-        ensures output_room { output_room self.new ≡ output_room self.old }
-        ensures disk_calls { site_disk_calls self.new ≡ site_disk_calls self.old }
-        ensures disk_faults { site_disk_faults self.new ≡ site_disk_faults self.old }
-        ensures output_faults { site_output_faults self.new ≡ site_output_faults self.old }
+        ensures plan { ChangesPlan self.old self.new }
     {
         self.last_call = k;
     }

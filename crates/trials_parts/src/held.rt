@@ -1,6 +1,6 @@
 // Held posts, with texts written by hand.
 use crate::asked::{Asked, NoAnswer};
-use crate::parts::{OnSite, Parts, drawn, lay_text, line, lines, or_absent, push_number, sound};
+use crate::parts::{Parts, drawn, lay_text, line, lines, or_absent, push_number, sound};
 use crate::program::{Calls, told as with_status};
 use ml_base::{Bytes, Layer, Name, Txn, is_moment};
 use ml_hold::{Held, audit, hold, look, next_ticket, older, take};
@@ -9,7 +9,7 @@ use std::alloc::{AllocError, Global};
 use std::collections::BTreeMap;
 use std::test::Fail;
 use trials_lists::same;
-use trials_scripts::hold as hold_rows;
+use trials_scripts::{OnSite, hold as hold_rows};
 
 /// What a call answers: `hold SENDER` a message and the clock's moment, `look TICKET`, `take TICKET` behind which the files still stand for
 /// held posts, `next` the next ticket, `older MAX` the tickets of those that are held for 432,000 seconds, and `audit`.

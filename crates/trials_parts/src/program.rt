@@ -1,13 +1,13 @@
 // The calls of the parts, as words: `held`, `queue`, `ledgers` or `digests`, and what each of these modules takes behind it.
 use crate::asked::{Asked, NoAnswer};
-use crate::parts::{OnSite, Parts};
+use crate::parts::Parts;
 use crate::{digests, held, ledgers, queue};
 use ml_base::{Bytes, Layer, PartError, Txn};
 use ml_site::{Clock, Fill, Image, MemClock, MemSite, MemSource, Site, Source};
 use std::alloc::Global;
 use std::test::Fail;
 use trials_lists::{copy, error_text, lay};
-use trials_scripts::Program;
+use trials_scripts::{OnSite, Program};
 
 pub(crate) struct Calls;
 

@@ -1,7 +1,6 @@
 // What is asked of a list in memory, and the text of what it answers.
 ghost use Rattle.ml_config.specs.Configuration.{IsConfig};
 
-use crate::files::OnSite;
 use ml_address::read_request;
 use ml_base::{Bytes, PartError, Set, Txn, is_moment, read_number};
 use ml_bounce::{act, due};
@@ -13,6 +12,7 @@ use ml_post::{answer, post, verdict};
 use std::alloc::Global;
 use std::test::Fail;
 use trials_lists::{error_text, reply_text};
+use trials_scripts::OnSite;
 
 const MAX_MESSAGE: usize = 33_554_432;
 

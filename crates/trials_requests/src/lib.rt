@@ -10,8 +10,6 @@ mod bounces;
 #[cfg(test)]
 mod confirming;
 #[cfg(test)]
-mod files;
-#[cfg(test)]
 mod joining;
 #[cfg(test)]
 mod mails;

@@ -4,14 +4,13 @@ ghost use Rattle.std.specs.Prelude.{IfOk};
 ghost use Rattle.ml_config.specs.Configuration.{IsConfig};
 
 use crate::asking::{Told, answered, found, mailed, posted, served};
-use crate::files::OnSite;
 use ml_base::{Bytes, Txn, read_number};
 use ml_config::Config;
 use ml_site::{Clock, Fill, Image, MemClock, MemSite, MemSource, Site, Source};
 use std::alloc::Global;
 use std::test::Fail;
 use trials_lists::{KEY, Made, config, copy, lay, make};
-use trials_scripts::Program;
+use trials_scripts::{OnSite, Program};
 
 pub(crate) struct Requests;
 

@@ -1,12 +1,14 @@
 //! Tables of trials that are texts: the steps of their rows, over a list in memory.
 #![tactic(auto)]
 
+mod files;
 mod paths;
 mod rows;
 mod stage;
 mod steps;
 mod texts;
 
+pub use files::OnSite;
 pub use rows::hold;
 pub use stage::Program;
 pub use texts::spelled;

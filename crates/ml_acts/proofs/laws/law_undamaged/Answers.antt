@@ -1,4 +1,4 @@
-use Rattle.ml_acts.proofs.Agreeing.{keys_agree, bucket_agrees, count_agrees, post_agrees, index_agrees, number_agrees, held_agrees, tickets_agree, ledger_agrees, entry_agrees, ids_agree, threads_agree}
+use Rattle.ml_acts.proofs.Agreeing.{keys_agree, bucket_agrees, count_agrees, held_agrees, tickets_agree, ledger_agrees, entry_agrees, ids_agree}
 use Rattle.ml_acts.proofs.laws.law_undamaged.Goals as goal
 
 pub returns-clause-keys : goal.returns-clause-keys
@@ -9,15 +9,6 @@ returns-clause-bucket c = bucket_agrees
 
 pub returns-clause-count : goal.returns-clause-count
 returns-clause-count c = count_agrees
-
-pub returns-clause-post : goal.returns-clause-post
-returns-clause-post c = post_agrees
-
-pub returns-clause-index : goal.returns-clause-index
-returns-clause-index c = index_agrees
-
-pub returns-clause-number : goal.returns-clause-number
-returns-clause-number c = number_agrees
 
 pub returns-clause-held : goal.returns-clause-held
 returns-clause-held c = held_agrees
@@ -33,6 +24,3 @@ returns-clause-entry c = entry_agrees
 
 pub returns-clause-ids : goal.returns-clause-ids
 returns-clause-ids c = ids_agree
-
-pub returns-clause-threads : goal.returns-clause-threads
-returns-clause-threads c = threads_agree

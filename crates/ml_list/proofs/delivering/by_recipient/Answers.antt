@@ -3,7 +3,7 @@ use Rattle.ml_address.specs.Reading.{request_of}
 use Rattle.ml_address.specs.Requests.{PlainRequest}
 use Rattle.ml_address.specs.Views.{request_view}
 use Rattle.ml_acts.specs.Damaged.{IsDamaged}
-use Rattle.ml_list.specs.Acting.{AnswersAct}
+use Rattle.ml_acts.specs.Acting.{AnswersAct}
 use Rattle.ml_list.specs.Delivering.{IsRequested}
 use Rattle.ml_list.specs.Reads.{is_of_acts}
 use Rattle.ml_list.proofs.delivering.by_recipient.Goals as goal

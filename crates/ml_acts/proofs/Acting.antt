@@ -9,7 +9,7 @@ use Rattle.ml_base.proofs.DamagedNames.{err_damaged}
 use Rattle.ml_base.proofs.ReadingLemmas.{KeepsOn, reading_then}
 use Rattle.ml_plain.specs.declared.Reply.{Reply}
 use Rattle.ml_acts.proofs.Damages.{named_so}
-use Rattle.ml_list.specs.Acting.{AnswersAct}
+use Rattle.ml_acts.specs.Acting.{AnswersAct}
 
 module _ {F : Type 0} (told : Ghosts F) (r : Result (List Put × Reply) PartError) (May Bad Worse : Name → Type 0) where
   -- behind a call that only read

@@ -11,9 +11,9 @@ use trials_lists::Texts;
 
 /// The files of a site in memory. They tell nothing of themselves, as those of the real disk do. Each read is a call of the site.
 #[derive(Drop)]
-pub(crate) struct OnSite {
-    pub(crate) site: MemSite,
-    pub(crate) files: Texts,
+pub struct OnSite {
+    pub site: MemSite,
+    pub files: Texts,
 }
 
 impl Files for OnSite {
