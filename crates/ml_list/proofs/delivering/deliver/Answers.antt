@@ -11,7 +11,7 @@ use Rattle.ml_acts.specs.Damaged.{IsDamaged}
 use Rattle.ml_acts.specs.Doing.{DoesList}
 use Rattle.ml_list.specs.Delivering.{IsDamagedServed, IsDelivered}
 use Rattle.ml_list.specs.Reads.{is_of_acts}
-use Rattle.ml_acts.proofs.Acting.{act_then}
+use Rattle.ml_acts.proofs.OfActs.{act_then}
 use Rattle.ml_list.proofs.delivering.deliver.Goals as goal
 
 pub unless_worn-requires-clause-loaded : goal.unless_worn-requires-clause-loaded

@@ -10,7 +10,7 @@ use Rattle.ml_acts.specs.Doing.{DoesList}
 use Rattle.ml_acts.proofs.Damages.{named_so}
 use Rattle.ml_list.specs.Delivering.{IsDamagedServed, IsRequested, is_of_worn}
 use Rattle.ml_list.specs.Reads.{is_of_acts}
-use Rattle.ml_acts.proofs.Acting.{act_then}
+use Rattle.ml_acts.proofs.OfActs.{act_then}
 use Rattle.ml_list.proofs.Delivered.{does_so, served}
 use Rattle.ml_list.proofs.Readable.{of_worn}
 use Rattle.ml_list.proofs.delivering.unless_worn.Goals as goal

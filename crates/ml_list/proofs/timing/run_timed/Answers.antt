@@ -9,7 +9,7 @@ use Rattle.ml_plain.specs.Timing as spec
 use Rattle.ml_acts.specs.Asked.{IsDamagedOf, Undigested}
 use Rattle.ml_acts.specs.Doing.{DoesList}
 use Rattle.ml_timed.specs.Reads.{is_of_timed}
-use Rattle.ml_acts.proofs.Acting.{act_then}
+use Rattle.ml_acts.proofs.OfActs.{act_then}
 use Rattle.ml_list.proofs.timing.run_timed.Goals as goal
 
 pub returns-in-Ok-clause-value : goal.returns-in-Ok-clause-value

@@ -10,7 +10,7 @@ use Rattle.ml_acts.specs.Doing.{DoesList}
 use Rattle.ml_acts.proofs.Damages.{named_so}
 use Rattle.ml_timed.specs.Reads.{is_of_timed}
 use Rattle.ml_list.specs.Delivering.{is_of_worn}
-use Rattle.ml_acts.proofs.Acting.{act_then}
+use Rattle.ml_acts.proofs.OfActs.{act_then}
 use Rattle.ml_list.proofs.Delivered.{worn_other, worn_timed}
 use Rattle.ml_list.proofs.timing.run_unless_worn.Goals as goal
 
