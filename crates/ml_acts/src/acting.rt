@@ -1,7 +1,6 @@
 // Acts that send one mail.
 ghost use Rattle.std.specs.Prelude.{◌≡◌, true, IsTrue, IfOk};
 ghost use Rattle.ml_base.specs.Dir.{Dir, are_files, same_name, touches_only, with_puts};
-ghost use Rattle.ml_base.specs.Ranges.{IsMoment};
 ghost use Rattle.ml_base.specs.ReadFiles.{IsReading, NamesDamaged};
 ghost use Rattle.ml_base.specs.declared.names.Set.TheVariants as sets;
 ghost use Rattle.ml_plain.specs.Directory.{IsList, is_of_list};
@@ -11,7 +10,7 @@ ghost use Rattle.ml_queue.specs.Answers.{ids_name};
 ghost use Rattle.ml_acts.specs.Doing.{DoesList, HasIds, is_beside_mail, is_beside_queue, is_mailed_by};
 ghost use Rattle.ml_acts.specs.Damaged.{IsDamaged};
 
-use crate::{mail_moderators, mail_to};
+use crate::{Moment, mail_moderators, mail_to};
 use ml_base::{Address, Files, PartError, Txn};
 use ml_config::Config;
 use ml_plain::Reply;
@@ -26,15 +25,14 @@ pub fn with_mail<F: Files>(
     config: &Config,
     txn: Txn,
     to: &Address,
-    now: u64,
+    now: Moment,
     mail: Mail,
     reply: Reply,
 ) -> Result<(Txn, Reply), PartError>
-    requires moment { IsMoment now }
     requires room { IsTrue F.tells → HasIds (F.map files.now) }
     requires others { touches_only is_beside_queue txn ≡ true }
     requires names { IsTrue (are_files txn) }
-    ensures value { IsTrue F.tells → IfOk result (λ done. (p : Plain) → IsList (with_puts (F.map files.old) txn) p → p.config ≡ config.now → DoesList (F.map files.old) done (spec.mail_to to.now now mail p, reply)) }
+    ensures value { IsTrue F.tells → IfOk result (λ done. (p : Plain) → IsList (with_puts (F.map files.old) txn) p → p.config ≡ config.now → DoesList (F.map files.old) done (spec.mail_to to.now now.seconds mail p, reply)) }
     ensures own { IfOk result (λ done. touches_only is_of_list done.0 ≡ true) }
     ensures files { IfOk result (λ done. IsTrue (are_files done.0)) }
     ensures reply { IfOk result (λ done. done.1 ≡ reply) }
@@ -54,15 +52,14 @@ pub fn with_mail_to_moderators<F: Files>(
     files: &mut F,
     config: &Config,
     txn: Txn,
-    now: u64,
+    now: Moment,
     mail: Mail,
     reply: Reply,
 ) -> Result<(Txn, Reply), PartError>
-    requires moment { IsMoment now }
     requires room { IsTrue F.tells → HasIds (F.map files.now) }
     requires others { touches_only (is_beside_mail sets.Moderators) txn ≡ true }
     requires names { IsTrue (are_files txn) }
-    ensures value { IsTrue F.tells → IfOk result (λ done. (p : Plain) → IsList (with_puts (F.map files.old) txn) p → p.config ≡ config.now → DoesList (F.map files.old) done (spec.mail_moderators now mail p, reply)) }
+    ensures value { IsTrue F.tells → IfOk result (λ done. (p : Plain) → IsList (with_puts (F.map files.old) txn) p → p.config ≡ config.now → DoesList (F.map files.old) done (spec.mail_moderators now.seconds mail p, reply)) }
     ensures own { IfOk result (λ done. touches_only is_of_list done.0 ≡ true) }
     ensures files { IfOk result (λ done. IsTrue (are_files done.0)) }
     ensures reply { IfOk result (λ done. done.1 ≡ reply) }

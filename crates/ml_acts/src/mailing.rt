@@ -2,7 +2,6 @@
 ghost use Rattle.std.specs.Prelude.{◌≡◌, ◌∷◌, [], true, IsTrue, IfOk};
 ghost use Rattle.ml_base.specs.Address.{key};
 ghost use Rattle.ml_base.specs.Dir.{Dir, are_files, same_name, touches_only, with_puts};
-ghost use Rattle.ml_base.specs.Ranges.{IsMoment};
 ghost use Rattle.ml_base.specs.ReadFiles.{IsReading, NamesDamaged};
 ghost use Rattle.ml_base.specs.Sorted.{byte_cmp, is_sorted};
 ghost use Rattle.ml_base.specs.declared.names.Set.TheVariants as sets;
@@ -14,7 +13,7 @@ ghost use Rattle.ml_reply.specs.Mails.{mail_text};
 ghost use Rattle.ml_acts.specs.Doing.{Alike, DrawsId, HasIds, is_mailed_by, is_of_queue, is_with_queue};
 ghost use Rattle.ml_acts.specs.Damaged.{IsDamaged};
 
-use crate::{recipients, reply_path};
+use crate::{Moment, recipients, reply_path};
 use ml_address::Path;
 use ml_base::{Address, AddressList, Bytes, Files, PartError, Row, Set, Txn};
 use ml_config::Config;
@@ -74,11 +73,15 @@ fn one(alloc: Global, who: &Address) -> Result<AddressList, AllocError>
 }
 
 /// A mail as it is sent at this moment, in seconds since 1970. It takes the mail, so that no call that sends one lets it go.
-pub fn mail_body(alloc: Global, config: &Config, mail: Mail, now: u64) -> Result<Bytes, AllocError>
-    requires { IsMoment now }
-    ensures { IfOk result (λ body. body ≡ mail_text config.now mail now) }
+pub fn mail_body(
+    alloc: Global,
+    config: &Config,
+    mail: Mail,
+    now: Moment,
+) -> Result<Bytes, AllocError>
+    ensures { IfOk result (λ body. body ≡ mail_text config.now mail now.seconds) }
 {
-    text(alloc, config, &mail, now)
+    text(alloc, config, &mail, now.seconds)
 }
 
 /// A mail of this moment to one address: the puts that queue it. It reads the counter of ids.
@@ -87,12 +90,11 @@ pub fn mail_to<F: Files>(
     files: &mut F,
     config: &Config,
     to: &Address,
-    now: u64,
+    now: Moment,
     mail: Mail,
 ) -> Result<Txn, PartError>
-    requires moment { IsMoment now }
     requires room { IsTrue F.tells → HasIds (F.map files.now) }
-    ensures value { IsTrue F.tells → IfOk result (λ txn. (dir : Dir) (p : Plain) → Alike is_of_queue (F.map files.old) dir → IsList dir p → p.config ≡ config.now → IsList (with_puts dir txn) (spec.mail_to to.now now mail p)) }
+    ensures value { IsTrue F.tells → IfOk result (λ txn. (dir : Dir) (p : Plain) → Alike is_of_queue (F.map files.old) dir → IsList dir p → p.config ≡ config.now → IsList (with_puts dir txn) (spec.mail_to to.now now.seconds mail p)) }
     ensures own { IfOk result (λ txn. touches_only is_of_queue txn ≡ true) }
     ensures files { IfOk result (λ txn. IsTrue (are_files txn)) }
     ensures drawn { IsTrue F.tells → IfOk result (λ txn. DrawsId (F.map files.old) txn) }
@@ -111,12 +113,11 @@ pub fn mail_moderators<F: Files>(
     alloc: Global,
     files: &mut F,
     config: &Config,
-    now: u64,
+    now: Moment,
     mail: Mail,
 ) -> Result<Txn, PartError>
-    requires moment { IsMoment now }
     requires room { IsTrue F.tells → HasIds (F.map files.now) }
-    ensures value { IsTrue F.tells → IfOk result (λ txn. (dir : Dir) (p : Plain) → Alike (is_with_queue sets.Moderators) (F.map files.old) dir → IsList dir p → p.config ≡ config.now → IsList (with_puts dir txn) (spec.mail_moderators now mail p)) }
+    ensures value { IsTrue F.tells → IfOk result (λ txn. (dir : Dir) (p : Plain) → Alike (is_with_queue sets.Moderators) (F.map files.old) dir → IsList dir p → p.config ≡ config.now → IsList (with_puts dir txn) (spec.mail_moderators now.seconds mail p)) }
     ensures own { IfOk result (λ txn. touches_only is_of_queue txn ≡ true) }
     ensures files { IfOk result (λ txn. IsTrue (are_files txn)) }
     ensures names { NamesDamaged ⟦<F as Files>⟧ (λ name. is_mailed_by sets.Moderators name ≡ true) (IsDamaged (F.map files.old)) result }

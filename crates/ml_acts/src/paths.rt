@@ -2,7 +2,6 @@
 ghost use Rattle.std.specs.Prelude.{◌≡◌, ◌++◌, ◌∷◌, IfOk, IsTrue, codes};
 ghost use Rattle.std.specs.Fmt.{decimal};
 ghost use Rattle.ml_base.specs.Address.{IsAddress, key};
-ghost use Rattle.ml_base.specs.Ranges.{IsMoment};
 ghost use Rattle.ml_base.specs.Texts.{list_address};
 ghost use Rattle.ml_address.specs.Requests.{is_asked, set_front as front_of, word_text};
 ghost use Rattle.ml_address.specs.Writing.{ticket_text};
@@ -11,7 +10,7 @@ ghost use Rattle.ml_plain.specs.Mailing as spec;
 ghost use Rattle.ml_plain.specs.Plain.{Plain};
 ghost use Rattle.ml_acts.specs.Cookies.{bounce_base, cookie_of};
 
-use crate::new_cookie;
+use crate::{Moment, new_cookie};
 use ml_address::{Path, Request, Who, Word, write_request};
 use ml_base::{Address, Bytes, Set, write_number};
 use ml_config::{Config, Keys};
@@ -158,19 +157,18 @@ pub fn confirm_address(
     word: Word,
     set: Set,
     x: &Address,
-    now: u64,
+    now: Moment,
 ) -> Result<Bytes, AllocError>
     requires config { IsConfig config.now }
-    requires moment { IsMoment now }
     requires asked { IsTrue (is_asked set) }
-    ensures { IfOk result (λ address. (p : Plain) → p.config ≡ config.now → p.keys ≡ keys.now → address ≡ spec.confirm_address p word set x.now now) }
+    ensures { IfOk result (λ address. (p : Plain) → p.config ≡ config.now → p.keys ≡ keys.now → address ≡ spec.confirm_address p word set x.now now.seconds) }
 {
     let who = key_of(alloc, x)?;
-    let cookie = new_cookie(keys, word_kind(word), set, now, who.as_slice());
+    let cookie = new_cookie(keys, word_kind(word), set, now.seconds, who.as_slice());
     let request = Request::Confirm {
         word,
         set,
-        time: now,
+        time: now.seconds,
         cookie,
         who: Who {
             local: x.local(),

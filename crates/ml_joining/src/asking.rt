@@ -1,7 +1,5 @@
 // Mails about an address that is to join or leave a set.
 ghost use Rattle.std.specs.Prelude.{◌≡◌, true, ◌||◌, IsTrue, IfOk};
-ghost use Rattle.ml_base.specs.Dir.{same_name, with_puts};
-ghost use Rattle.ml_base.specs.Ranges.{IsMoment};
 ghost use Rattle.ml_base.specs.declared.names.Set.TheVariants as sets;
 ghost use Rattle.ml_address.specs.Requests.{is_asked};
 ghost use Rattle.ml_config.specs.Configuration.{IsConfig};
@@ -9,14 +7,13 @@ ghost use Rattle.ml_plain.specs.Answers as answers;
 ghost use Rattle.ml_plain.specs.Directory.{IsList};
 ghost use Rattle.ml_plain.specs.Mailing as spec;
 ghost use Rattle.ml_plain.specs.Plain.{Plain};
-ghost use Rattle.ml_queue.specs.Answers.{ids_name};
 ghost use Rattle.ml_reply.specs.declared.mails.Mail.TheVariants.{AskTc};
 ghost use Rattle.ml_acts.specs.Acting.{AnswersAct};
-ghost use Rattle.ml_acts.specs.Doing.{DoesList, HasIds, is_beside_queue, is_bucket, is_mailed_by};
+ghost use Rattle.ml_acts.specs.Doing.{DoesList, HasIds, is_bucket};
 ghost use Rattle.ml_acts.specs.Damaged.{IsDamaged};
 ghost use Rattle.ml_joining.specs.Reads.{is_for_mail};
 
-use ml_acts::{confirm_address, owner_address, with_mail, with_mail_to_moderators};
+use ml_acts::{Moment, confirm_address, owner_address, with_mail, with_mail_to_moderators};
 use ml_address::Word;
 use ml_base::{Address, Bytes, Files, PartError, Set, Txn};
 use ml_config::{Config, key};
@@ -64,17 +61,16 @@ pub(crate) fn ask<F: Files>(
     alloc: Global,
     files: &mut F,
     config: &Config,
-    now: u64,
+    now: Moment,
     word: Word,
     set: Set,
     to: &Address,
     x: &Address,
 ) -> Result<(Txn, Reply), PartError>
-    requires moment { IsMoment now }
     requires config { IsConfig config.now }
     requires asked { IsTrue (is_asked set) }
     requires room { IsTrue F.tells → HasIds (F.map files.now) }
-    ensures value { IsTrue F.tells → IfOk result (λ done. (p : Plain) → IsList (F.map files.old) p → p.config ≡ config.now → DoesList (F.map files.old) done (spec.ask to.now now word set x.now p, answers.asked)) }
+    ensures value { IsTrue F.tells → IfOk result (λ done. (p : Plain) → IsList (F.map files.old) p → p.config ≡ config.now → DoesList (F.map files.old) done (spec.ask to.now now.seconds word set x.now p, answers.asked)) }
     ensures act { AnswersAct ⟦<F as Files>⟧ (λ name. is_for_mail name ≡ true) (IsDamaged (F.map files.old)) files.old files.new result }
 {
     let keys = key(alloc, files)?;
@@ -109,15 +105,14 @@ pub(crate) fn ask_moderators<F: Files>(
     alloc: Global,
     files: &mut F,
     config: &Config,
-    now: u64,
+    now: Moment,
     set: Set,
     x: &Address,
 ) -> Result<(Txn, Reply), PartError>
-    requires moment { IsMoment now }
     requires config { IsConfig config.now }
     requires asked { IsTrue (is_asked set) }
     requires room { IsTrue F.tells → HasIds (F.map files.now) }
-    ensures value { IsTrue F.tells → IfOk result (λ done. (p : Plain) → IsList (F.map files.old) p → p.config ≡ config.now → DoesList (F.map files.old) done (spec.ask_moderators now set x.now p, answers.asked)) }
+    ensures value { IsTrue F.tells → IfOk result (λ done. (p : Plain) → IsList (F.map files.old) p → p.config ≡ config.now → DoesList (F.map files.old) done (spec.ask_moderators now.seconds set x.now p, answers.asked)) }
     ensures act { AnswersAct ⟦<F as Files>⟧ (λ name. (is_for_mail name || is_bucket sets.Moderators name) ≡ true) (IsDamaged (F.map files.old)) files.old files.new result }
 {
     let keys = key(alloc, files)?;

@@ -2,7 +2,6 @@
 ghost use Rattle.std.specs.Prelude.{◌≡◌, false, true, IsTrue, IfOk};
 ghost use Rattle.ml_base.specs.Address.{key};
 ghost use Rattle.ml_base.specs.Dir.{are_files, same_name, touches_only, with_puts};
-ghost use Rattle.ml_base.specs.Ranges.{IsMoment};
 ghost use Rattle.ml_address.specs.Requests.{is_asked};
 ghost use Rattle.ml_config.specs.Configuration.{IsConfig};
 ghost use Rattle.ml_plain.specs.Answers as answers;
@@ -22,7 +21,7 @@ ghost use Rattle.ml_joining.specs.Reads.{is_read_to_join, is_touched_with_mail};
 use crate::asking::{ask, ask_moderators};
 use crate::operations::{Joining, reply_of};
 use crate::subjects::Subject;
-use ml_acts::with_mail;
+use ml_acts::{Moment, with_mail};
 use ml_address::Word;
 use ml_base::{Address, Bytes, Files, PartError, Set, Txn};
 use ml_config::Config;
@@ -36,18 +35,17 @@ pub(crate) fn joined<F: Files>(
     alloc: Global,
     files: &mut F,
     config: &Config,
-    now: u64,
+    now: Moment,
     set: Set,
     sender: &Address,
     x: &Subject,
     operation: Joining,
 ) -> Result<(Txn, Reply), PartError>
-    requires moment { IsMoment now }
     requires config { IsConfig config.now }
     requires asked { IsTrue (is_asked set) }
     requires fresh { MayJoin x.now.member operation }
     requires room { IsTrue F.tells → HasIds (F.map files.now) }
-    ensures value { IsTrue F.tells → IfOk result (λ done. (p : Plain) → IsList (F.map files.old) p → p.config ≡ config.now → IsSubject p set x.now → DoesList (F.map files.old) done (spec.done now set sender.now x.now.who p (joining_deed operation))) }
+    ensures value { IsTrue F.tells → IfOk result (λ done. (p : Plain) → IsList (F.map files.old) p → p.config ≡ config.now → IsSubject p set x.now → DoesList (F.map files.old) done (spec.done now.seconds set sender.now x.now.who p (joining_deed operation))) }
     ensures act { AnswersAct ⟦<F as Files>⟧ (λ name. is_read_to_join set x.now.named name ≡ true) (IsDamaged (F.map files.old)) files.old files.new result }
 {
     let who = &x.who;
@@ -66,14 +64,13 @@ fn tell_already<F: Files>(
     alloc: Global,
     files: &mut F,
     config: &Config,
-    now: u64,
+    now: Moment,
     set: Set,
     sender: &Address,
     x: &Address,
 ) -> Result<(Txn, Reply), PartError>
-    requires moment { IsMoment now }
     requires room { IsTrue F.tells → HasIds (F.map files.now) }
-    ensures value { IsTrue F.tells → IfOk result (λ done. (p : Plain) → IsList (F.map files.old) p → p.config ≡ config.now → DoesList (F.map files.old) done (mail_to sender.now now (mails.Already sender.now set x.now) p, answers.already)) }
+    ensures value { IsTrue F.tells → IfOk result (λ done. (p : Plain) → IsList (F.map files.old) p → p.config ≡ config.now → DoesList (F.map files.old) done (mail_to sender.now now.seconds (mails.Already sender.now set x.now) p, answers.already)) }
     ensures act { AnswersAct ⟦<F as Files>⟧ (λ name. same_name name ids_name ≡ true) (IsDamaged (F.map files.old)) files.old files.new result }
 {
     let mail = Mail::Already {
@@ -91,16 +88,15 @@ fn join<F: Files>(
     alloc: Global,
     files: &mut F,
     config: &Config,
-    now: u64,
+    now: Moment,
     set: Set,
     who: &Address,
 ) -> Result<(Txn, Reply), PartError>
-    requires moment { IsMoment now }
     requires room { IsTrue F.tells → HasIds (F.map files.now) }
-    ensures value { IsTrue F.tells → IfOk result (λ done. (p : Plain) → IsList (F.map files.old) p → p.config ≡ config.now → is_in p set who.now ≡ false → DoesList (F.map files.old) done (spec.joined now set who.now (is_full p set) p)) }
+    ensures value { IsTrue F.tells → IfOk result (λ done. (p : Plain) → IsList (F.map files.old) p → p.config ≡ config.now → is_in p set who.now ≡ false → DoesList (F.map files.old) done (spec.joined now.seconds set who.now (is_full p set) p)) }
     ensures act { AnswersAct ⟦<F as Files>⟧ (λ name. is_touched_with_mail set who.now name ≡ true) (IsDamaged (F.map files.old)) files.old files.new result }
 {
-    match add(alloc, files, set, who, now)? {
+    match add(alloc, files, set, who, now.seconds)? {
         AddAnswer::Added(txn) => welcome(alloc, files, config, now, set, who, txn),
         AddAnswer::Already => Ok((Txn::new(alloc), Reply::plain(Reply::ALREADY))),
         AddAnswer::Full => Ok((Txn::new(alloc), Reply::plain(Reply::FULL))),
@@ -112,16 +108,15 @@ fn welcome<F: Files>(
     alloc: Global,
     files: &mut F,
     config: &Config,
-    now: u64,
+    now: Moment,
     set: Set,
     who: &Address,
     txn: Txn,
 ) -> Result<(Txn, Reply), PartError>
-    requires moment { IsMoment now }
     requires room { IsTrue F.tells → HasIds (F.map files.now) }
     requires touched { touches_only (is_touched set (key who.now)) txn ≡ true }
     requires names { IsTrue (are_files txn) }
-    ensures value { IsTrue F.tells → IfOk result (λ done. (p : Plain) → IsList (with_puts (F.map files.old) txn) p → p.config ≡ config.now → DoesList (F.map files.old) done (mail_to who.now now (mails.Welcome who.now set who.now) p, answers.subscribed)) }
+    ensures value { IsTrue F.tells → IfOk result (λ done. (p : Plain) → IsList (with_puts (F.map files.old) txn) p → p.config ≡ config.now → DoesList (F.map files.old) done (mail_to who.now now.seconds (mails.Welcome who.now set who.now) p, answers.subscribed)) }
     ensures act { AnswersAct ⟦<F as Files>⟧ (λ name. same_name name ids_name ≡ true) (IsDamaged (F.map files.old)) files.old files.new result }
 {
     let mail = Mail::Welcome {

@@ -1,8 +1,6 @@
 // An address that is to leave a set.
 ghost use Rattle.std.specs.Prelude.{◌≡◌, true, IsTrue, IfOk};
-ghost use Rattle.ml_base.specs.Address.{key};
 ghost use Rattle.ml_base.specs.Dir.{are_files, same_name, touches_only, with_puts};
-ghost use Rattle.ml_base.specs.Ranges.{IsMoment};
 ghost use Rattle.ml_address.specs.Requests.{is_asked};
 ghost use Rattle.ml_config.specs.Configuration.{IsConfig};
 ghost use Rattle.ml_plain.specs.Answers as answers;
@@ -21,7 +19,7 @@ ghost use Rattle.ml_joining.specs.Reads.{is_read_to_leave};
 use crate::asking::ask;
 use crate::operations::{Leaving, reply_of};
 use crate::subjects::Subject;
-use ml_acts::{remove_member, with_mail};
+use ml_acts::{Moment, remove_member, with_mail};
 use ml_address::Word;
 use ml_base::{Address, Bytes, Files, PartError, Set, Txn};
 use ml_config::Config;
@@ -34,18 +32,17 @@ pub(crate) fn left<F: Files>(
     alloc: Global,
     files: &mut F,
     config: &Config,
-    now: u64,
+    now: Moment,
     set: Set,
     sender: &Address,
     x: &Subject,
     operation: Leaving,
 ) -> Result<(Txn, Reply), PartError>
-    requires moment { IsMoment now }
     requires config { IsConfig config.now }
     requires asked { IsTrue (is_asked set) }
     requires member { MayLeave x.now.member operation }
     requires room { IsTrue F.tells → HasIds (F.map files.now) }
-    ensures value { IsTrue F.tells → IfOk result (λ done. (p : Plain) → IsList (F.map files.old) p → p.config ≡ config.now → IsSubject p set x.now → DoesList (F.map files.old) done (spec.done now set sender.now x.now.who p (leaving_deed operation))) }
+    ensures value { IsTrue F.tells → IfOk result (λ done. (p : Plain) → IsList (F.map files.old) p → p.config ≡ config.now → IsSubject p set x.now → DoesList (F.map files.old) done (spec.done now.seconds set sender.now x.now.who p (leaving_deed operation))) }
     ensures act { AnswersAct ⟦<F as Files>⟧ (λ name. is_read_to_leave set x.now.named name ≡ true) (IsDamaged (F.map files.old)) files.old files.new result }
 {
     let who = &x.who;
@@ -63,14 +60,13 @@ fn tell_absent<F: Files>(
     alloc: Global,
     files: &mut F,
     config: &Config,
-    now: u64,
+    now: Moment,
     set: Set,
     sender: &Address,
     x: &Address,
 ) -> Result<(Txn, Reply), PartError>
-    requires moment { IsMoment now }
     requires room { IsTrue F.tells → HasIds (F.map files.now) }
-    ensures value { IsTrue F.tells → IfOk result (λ done. (p : Plain) → IsList (F.map files.old) p → p.config ≡ config.now → DoesList (F.map files.old) done (mail_to sender.now now (mails.Absent sender.now set x.now) p, answers.absent)) }
+    ensures value { IsTrue F.tells → IfOk result (λ done. (p : Plain) → IsList (F.map files.old) p → p.config ≡ config.now → DoesList (F.map files.old) done (mail_to sender.now now.seconds (mails.Absent sender.now set x.now) p, answers.absent)) }
     ensures act { AnswersAct ⟦<F as Files>⟧ (λ name. same_name name ids_name ≡ true) (IsDamaged (F.map files.old)) files.old files.new result }
 {
     let mail = Mail::Absent {
@@ -88,14 +84,13 @@ fn leave<F: Files>(
     alloc: Global,
     files: &mut F,
     config: &Config,
-    now: u64,
+    now: Moment,
     set: Set,
     x: &Subject,
 ) -> Result<(Txn, Reply), PartError>
-    requires moment { IsMoment now }
     requires member { x.now.member ≡ true }
     requires room { IsTrue F.tells → HasIds (F.map files.now) }
-    ensures value { IsTrue F.tells → IfOk result (λ done. (p : Plain) → IsList (F.map files.old) p → p.config ≡ config.now → IsSubject p set x.now → DoesList (F.map files.old) done (spec.left now set x.now.who p)) }
+    ensures value { IsTrue F.tells → IfOk result (λ done. (p : Plain) → IsList (F.map files.old) p → p.config ≡ config.now → IsSubject p set x.now → DoesList (F.map files.old) done (spec.left now.seconds set x.now.who p)) }
     ensures act { AnswersAct ⟦<F as Files>⟧ (λ name. is_read_to_leave set x.now.named name ≡ true) (IsDamaged (F.map files.old)) files.old files.new result }
 {
     match remove_member(alloc, files, set, &x.named)? {
@@ -109,16 +104,15 @@ fn goodbye<F: Files>(
     alloc: Global,
     files: &mut F,
     config: &Config,
-    now: u64,
+    now: Moment,
     set: Set,
     who: &Address,
     txn: Txn,
 ) -> Result<(Txn, Reply), PartError>
-    requires moment { IsMoment now }
     requires room { IsTrue F.tells → HasIds (F.map files.now) }
     requires others { touches_only is_beside_queue txn ≡ true }
     requires names { IsTrue (are_files txn) }
-    ensures value { IsTrue F.tells → IfOk result (λ done. (p : Plain) → IsList (with_puts (F.map files.old) txn) p → p.config ≡ config.now → DoesList (F.map files.old) done (mail_to who.now now (mails.Goodbye who.now set who.now) p, answers.unsubscribed)) }
+    ensures value { IsTrue F.tells → IfOk result (λ done. (p : Plain) → IsList (with_puts (F.map files.old) txn) p → p.config ≡ config.now → DoesList (F.map files.old) done (mail_to who.now now.seconds (mails.Goodbye who.now set who.now) p, answers.unsubscribed)) }
     ensures act { AnswersAct ⟦<F as Files>⟧ (λ name. same_name name ids_name ≡ true) (IsDamaged (F.map files.old)) files.old files.new result }
 {
     let mail = Mail::Goodbye {

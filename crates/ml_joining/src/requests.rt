@@ -26,7 +26,7 @@ use crate::deciding::{Facts, confirmed_joining, confirmed_leaving, joining, leav
 use crate::joining::joined;
 use crate::leaving::left;
 use crate::subjects::{Subject, find_subject, moderates};
-use ml_acts::{Configured, is_good as good_cookie, key_of, word_kind};
+use ml_acts::{Configured, Moment, is_good as good_cookie, key_of, word_kind};
 use ml_address::{Who, Word};
 use ml_base::{Address, Files, PartError, Set, Txn};
 use ml_config::{Config, key as load_keys};
@@ -53,7 +53,15 @@ pub fn subscribe<F: Files>(
     ensures act { AnswersAct ⟦<F as Files>⟧ (λ name. is_read_to_subscribe config.now sender.now set (asked_of sender.now (option_map who_view who.entry)) name ≡ true) (IsDamaged (with_config config.now (F.map files.old))) files.old files.new result }
 {
     let mut under = Configured::new(files, config);
-    join_asked(alloc, &mut under, config, now, sender, set, who)
+    join_asked(
+        alloc,
+        &mut under,
+        config,
+        Moment { seconds: now },
+        sender,
+        set,
+        who,
+    )
 }
 
 // A sender asks that somebody joins a set, who is looked for there.
@@ -61,17 +69,16 @@ fn join_asked<F: Files>(
     alloc: Global,
     files: &mut F,
     config: &Config,
-    now: u64,
+    now: Moment,
     sender: &Address,
     set: Set,
     who: Option<Who<'_>>,
 ) -> Result<(Txn, Reply), PartError>
-    requires moment { IsMoment now }
     requires config { IsConfig config.now }
     requires asked { IsTrue (is_asked set) }
     requires range { IsTrue (if_who (option_map who_view who)) }
     requires room { IsTrue F.tells → HasIds (F.map files.now) }
-    ensures value { IsTrue F.tells → IfOk result (λ done. (p : Plain) → IsList (F.map files.old) p → p.config ≡ config.now → DoesList (F.map files.old) done (spec.subscribe now sender.now set (spec.subject_of p set sender.now (option_map who_view who.entry)) p)) }
+    ensures value { IsTrue F.tells → IfOk result (λ done. (p : Plain) → IsList (F.map files.old) p → p.config ≡ config.now → DoesList (F.map files.old) done (spec.subscribe now.seconds sender.now set (spec.subject_of p set sender.now (option_map who_view who.entry)) p)) }
     ensures act { AnswersAct ⟦<F as Files>⟧ (λ name. is_read_to_subscribe config.now sender.now set (asked_of sender.now (option_map who_view who.entry)) name ≡ true) (IsDamaged (F.map files.old)) files.old files.new result }
 {
     let x = find_subject(alloc, files, set, sender, who)?;
@@ -90,16 +97,15 @@ fn join_found<F: Files>(
     alloc: Global,
     files: &mut F,
     config: &Config,
-    now: u64,
+    now: Moment,
     sender: &Address,
     set: Set,
     x: &Subject,
 ) -> Result<(Txn, Reply), PartError>
-    requires moment { IsMoment now }
     requires config { IsConfig config.now }
     requires asked { IsTrue (is_asked set) }
     requires room { IsTrue F.tells → HasIds (F.map files.now) }
-    ensures value { IsTrue F.tells → IfOk result (λ done. (p : Plain) → IsList (F.map files.old) p → p.config ≡ config.now → IsSubject p set x.now → DoesList (F.map files.old) done (spec.subscribe now sender.now set x.now.who p)) }
+    ensures value { IsTrue F.tells → IfOk result (λ done. (p : Plain) → IsList (F.map files.old) p → p.config ≡ config.now → IsSubject p set x.now → DoesList (F.map files.old) done (spec.subscribe now.seconds sender.now set x.now.who p)) }
     ensures act { AnswersAct ⟦<F as Files>⟧ (λ name. is_read_to_subscribe config.now sender.now set x.now.named name ≡ true) (IsDamaged (F.map files.old)) files.old files.new result }
 {
     let moderator = moderates(alloc, files, asks_rank(config), sender)?;
@@ -132,7 +138,15 @@ pub fn unsubscribe<F: Files>(
     ensures act { AnswersAct ⟦<F as Files>⟧ (λ name. is_read_to_unsubscribe config.now sender.now set (asked_of sender.now (option_map who_view who.entry)) name ≡ true) (IsDamaged (with_config config.now (F.map files.old))) files.old files.new result }
 {
     let mut under = Configured::new(files, config);
-    leave_asked(alloc, &mut under, config, now, sender, set, who)
+    leave_asked(
+        alloc,
+        &mut under,
+        config,
+        Moment { seconds: now },
+        sender,
+        set,
+        who,
+    )
 }
 
 // A sender asks that somebody leaves a set, who is looked for there.
@@ -140,17 +154,16 @@ fn leave_asked<F: Files>(
     alloc: Global,
     files: &mut F,
     config: &Config,
-    now: u64,
+    now: Moment,
     sender: &Address,
     set: Set,
     who: Option<Who<'_>>,
 ) -> Result<(Txn, Reply), PartError>
-    requires moment { IsMoment now }
     requires config { IsConfig config.now }
     requires asked { IsTrue (is_asked set) }
     requires range { IsTrue (if_who (option_map who_view who)) }
     requires room { IsTrue F.tells → HasIds (F.map files.now) }
-    ensures value { IsTrue F.tells → IfOk result (λ done. (p : Plain) → IsList (F.map files.old) p → p.config ≡ config.now → DoesList (F.map files.old) done (spec.unsubscribe now sender.now set (spec.subject_of p set sender.now (option_map who_view who.entry)) p)) }
+    ensures value { IsTrue F.tells → IfOk result (λ done. (p : Plain) → IsList (F.map files.old) p → p.config ≡ config.now → DoesList (F.map files.old) done (spec.unsubscribe now.seconds sender.now set (spec.subject_of p set sender.now (option_map who_view who.entry)) p)) }
     ensures act { AnswersAct ⟦<F as Files>⟧ (λ name. is_read_to_unsubscribe config.now sender.now set (asked_of sender.now (option_map who_view who.entry)) name ≡ true) (IsDamaged (F.map files.old)) files.old files.new result }
 {
     let x = find_subject(alloc, files, set, sender, who)?;
@@ -162,16 +175,15 @@ fn leave_found<F: Files>(
     alloc: Global,
     files: &mut F,
     config: &Config,
-    now: u64,
+    now: Moment,
     sender: &Address,
     set: Set,
     x: &Subject,
 ) -> Result<(Txn, Reply), PartError>
-    requires moment { IsMoment now }
     requires config { IsConfig config.now }
     requires asked { IsTrue (is_asked set) }
     requires room { IsTrue F.tells → HasIds (F.map files.now) }
-    ensures value { IsTrue F.tells → IfOk result (λ done. (p : Plain) → IsList (F.map files.old) p → p.config ≡ config.now → IsSubject p set x.now → DoesList (F.map files.old) done (spec.unsubscribe now sender.now set x.now.who p)) }
+    ensures value { IsTrue F.tells → IfOk result (λ done. (p : Plain) → IsList (F.map files.old) p → p.config ≡ config.now → IsSubject p set x.now → DoesList (F.map files.old) done (spec.unsubscribe now.seconds sender.now set x.now.who p)) }
     ensures act { AnswersAct ⟦<F as Files>⟧ (λ name. is_read_to_unsubscribe config.now sender.now set x.now.named name ≡ true) (IsDamaged (F.map files.old)) files.old files.new result }
 {
     let moderator = moderates(alloc, files, config.flags.r, sender)?;
@@ -208,7 +220,16 @@ pub fn confirm<F: Files>(
 {
     let mut under = Configured::new(files, config);
     confirm_asked(
-        alloc, &mut under, config, now, sender, word, set, time, cookie, who,
+        alloc,
+        &mut under,
+        config,
+        Moment { seconds: now },
+        sender,
+        word,
+        set,
+        time,
+        cookie,
+        who,
     )
 }
 
@@ -217,7 +238,7 @@ fn confirm_asked<F: Files>(
     alloc: Global,
     files: &mut F,
     config: &Config,
-    now: u64,
+    now: Moment,
     sender: &Address,
     word: Word,
     set: Set,
@@ -225,12 +246,11 @@ fn confirm_asked<F: Files>(
     cookie: &[u8; 20],
     who: Who<'_>,
 ) -> Result<(Txn, Reply), PartError>
-    requires moment { IsMoment now }
     requires config { IsConfig config.now }
     requires asked { IsTrue (is_asked set) }
     requires range { IsTrue (is_who (who_view who)) }
     requires room { IsTrue F.tells → HasIds (F.map files.now) }
-    ensures value { IsTrue F.tells → IfOk result (λ done. (p : Plain) → IsList (F.map files.old) p → p.config ≡ config.now → DoesList (F.map files.old) done (spec.confirm now sender.now word set (record { time = time; cookie = cookie.now; who = who_view who.entry }) (spec.subject_of p set sender.now (Some (who_view who.entry))) p)) }
+    ensures value { IsTrue F.tells → IfOk result (λ done. (p : Plain) → IsList (F.map files.old) p → p.config ≡ config.now → DoesList (F.map files.old) done (spec.confirm now.seconds sender.now word set (record { time = time; cookie = cookie.now; who = who_view who.entry }) (spec.subject_of p set sender.now (Some (who_view who.entry))) p)) }
     ensures act { AnswersAct ⟦<F as Files>⟧ (λ name. is_read_to_confirm word set (address_named (who_view who.entry)) name ≡ true) (IsDamaged (F.map files.old)) files.old files.new result }
 {
     let x = find_subject(alloc, files, set, sender, Some(who))?;
@@ -244,7 +264,7 @@ fn confirm_found<F: Files>(
     alloc: Global,
     files: &mut F,
     config: &Config,
-    now: u64,
+    now: Moment,
     sender: &Address,
     word: Word,
     set: Set,
@@ -252,14 +272,13 @@ fn confirm_found<F: Files>(
     cookie: &[u8; 20],
     x: &Subject,
 ) -> Result<(Txn, Reply), PartError>
-    requires moment { IsMoment now }
     requires config { IsConfig config.now }
     requires asked { IsTrue (is_asked set) }
     requires room { IsTrue F.tells → HasIds (F.map files.now) }
-    ensures value { IsTrue F.tells → IfOk result (λ done. (p : Plain) → IsList (F.map files.old) p → p.config ≡ config.now → IsSubject p set x.now → DoesList (F.map files.old) done (spec.done now set sender.now x.now.who p (spec.confirming p set x.now.who word (is_good p (word_text word) set time (key x.now.who) cookie.now now)))) }
+    ensures value { IsTrue F.tells → IfOk result (λ done. (p : Plain) → IsList (F.map files.old) p → p.config ≡ config.now → IsSubject p set x.now → DoesList (F.map files.old) done (spec.done now.seconds set sender.now x.now.who p (spec.confirming p set x.now.who word (is_good p (word_text word) set time (key x.now.who) cookie.now now.seconds)))) }
     ensures act { AnswersAct ⟦<F as Files>⟧ (λ name. is_read_to_confirm word set x.now.named name ≡ true) (IsDamaged (F.map files.old)) files.old files.new result }
 {
-    let good = is_signed(alloc, files, now, word, set, time, cookie, &x.who)?;
+    let good = is_signed(alloc, files, now.seconds, word, set, time, cookie, &x.who)?;
     confirmed(alloc, files, config, now, sender, word, set, good, x)
 }
 
@@ -289,18 +308,17 @@ fn confirmed<F: Files>(
     alloc: Global,
     files: &mut F,
     config: &Config,
-    now: u64,
+    now: Moment,
     sender: &Address,
     word: Word,
     set: Set,
     good: bool,
     x: &Subject,
 ) -> Result<(Txn, Reply), PartError>
-    requires moment { IsMoment now }
     requires config { IsConfig config.now }
     requires asked { IsTrue (is_asked set) }
     requires room { IsTrue F.tells → HasIds (F.map files.now) }
-    ensures value { IsTrue F.tells → IfOk result (λ done. (p : Plain) → IsList (F.map files.old) p → p.config ≡ config.now → IsSubject p set x.now → DoesList (F.map files.old) done (spec.done now set sender.now x.now.who p (spec.confirming p set x.now.who word good))) }
+    ensures value { IsTrue F.tells → IfOk result (λ done. (p : Plain) → IsList (F.map files.old) p → p.config ≡ config.now → IsSubject p set x.now → DoesList (F.map files.old) done (spec.done now.seconds set sender.now x.now.who p (spec.confirming p set x.now.who word good))) }
     ensures act { AnswersAct ⟦<F as Files>⟧ (λ name. is_read_to_confirm word set x.now.named name ≡ true) (IsDamaged (F.map files.old)) files.old files.new result }
 {
     let member = x.member;

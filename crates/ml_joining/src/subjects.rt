@@ -1,7 +1,6 @@
 // Whom a request is about.
 ghost use Rattle.std.specs.Prelude.{◌≡◌, true, IsTrue, IfOk};
 ghost use Rattle.std.specs.Option.{option_map};
-ghost use Rattle.ml_base.specs.Address.{IsAddress};
 ghost use Rattle.ml_base.specs.ReadFiles.{IsReading, NamesDamaged};
 ghost use Rattle.ml_base.specs.declared.names.Set.TheVariants as sets;
 ghost use Rattle.ml_address.specs.Requests.{if_who, is_who};

@@ -12,7 +12,7 @@ write_request-requires-clause-host c = ap (has_byte 64) c.as_slice-3.ensures ∙
 
 pub write_request-requires-clause-range : goal.write_request-requires-clause-range
 write_request-requires-clause-range c =
-    let moment : is_moment c.args.now ≡ true = lt-ltb c.args.now 253_402_300_800 c.requires.moment in
+    let moment : is_moment c.args.now.seconds ≡ true = lt-ltb c.args.now.seconds 253_402_300_800 c.args.now.range in
     let who : is_who (record { local = c.local.result.now; host = c.host.result.now }) ≡ true =
     ap₂ (λ (l h : Text). is_who (record { local = l; host = h })) c.local.ensures c.host.ensures ∙ parts_are c.args.x.now c.key_of.ensures.address in
     and_from _ _ c.requires.asked (and_from _ _ (and_from _ _ moment c.new_cookie-cookie.ensures.letters) who)

@@ -1,12 +1,15 @@
-use Rattle.std.proofs.Common.{ap, ap₂, ◌∙◌}
+use Rattle.std.proofs.Common.{rules, ap, ap₂, ◌∙◌}
+use Rattle.std.proofs.lemmas.Bool.{or_right}
 use Rattle.ml_base.specs.Bytes.{Text}
+use Rattle.ml_base.specs.Dir.{same_name}
 use Rattle.ml_config.proofs.KeyLemmas.{one_key_file}
 use Rattle.ml_config.specs.KeyFile.{key_name}
+use Rattle.ml_queue.specs.Answers.{ids_name}
 use Rattle.ml_plain.specs.Answers.{asked}
 use Rattle.ml_plain.specs.Mailing as spec
 use Rattle.ml_plain.specs.declared.Reply.{Reply}
 use Rattle.ml_reply.specs.declared.mails.Mail.{Mail}
-use Rattle.ml_joining.proofs.Does.{told_by}
+use Rattle.ml_joining.proofs.Does.{act_kept, told_by}
 use Rattle.ml_joining.proofs.asking.ask.Goals as goal
 
 pub returns-clause-value : goal.returns-clause-value
@@ -15,8 +18,15 @@ returns-clause-value g c told =
     let to = c.args.to.now in
     let x = c.args.x.now in
     let same = g.met.F.Files.kept_map c.args.files.now c.key.new.files told c.key.ensures.reads.kept in
-    told_by old (g.F.Files.map c.key.new.files) c.new.result c.with_mail.result c.args.config.now (λ p. (spec.mail_to to c.args.now c.in_ok-mail.mail p, c.plain-reply.result)) (λ p. (spec.ask to c.args.now c.args.word c.args.set x p, asked)) same c.new.ensures
-    (λ p is e. ap₂ (λ (m : Mail) (r : Reply). (spec.mail_to to c.args.now m p, r))
+    told_by old (g.F.Files.map c.key.new.files) c.new.result c.with_mail.result c.args.config.now (λ p. (spec.mail_to to c.args.now.seconds c.in_ok-mail.mail p, c.plain-reply.result)) (λ p. (spec.ask to c.args.now.seconds c.args.word c.args.set x p, asked)) same c.new.ensures
+    (λ p is e. ap₂ (λ (m : Mail) (r : Reply). (spec.mail_to to c.args.now.seconds m p, r))
     (c.in_ok-mail.ensures ∙ ap (λ (a : Text). spec.question c.args.word to a c.args.set x) (c.in_ok-reply.ensures p e (one_key_file (old key_name) p.keys c.in_ok-keys.keys is.keys (c.in_ok-keys.ensures.value told))))
     c.plain-reply.ensures)
     (c.with_mail.ensures.value told)
+
+pub returns-clause-act : goal.returns-clause-act
+returns-clause-act g c =
+    let mailed = c.with_mail.ensures in
+    act_kept g.met.F.Files.kept_then g.met.F.Files.kept_map c.key.ensures.reads
+    (record { own = mailed.own; files = mailed.files; reply = search rules; names = mailed.names; reads = mailed.reads })
+    (λ name e. or_right (same_name name key_name) (same_name name ids_name) e)

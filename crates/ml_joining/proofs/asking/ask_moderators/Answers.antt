@@ -1,9 +1,8 @@
-use Rattle.std.proofs.Common.{◌≡◌, true, ◌||◌, sym, ap, ap₂, ◌∙◌, ◌⊎◌, inl, inr}
+use Rattle.std.proofs.Common.{◌≡◌, true, ◌||◌, sym, ap, ap₂, ◌∙◌, ◌⊎◌, inl, inr, rules}
 use Rattle.std.proofs.lemmas.Bool.{or_cases, or_left, or_right}
 use Rattle.ml_address.specs.declared.Word.TheVariants as words
 use Rattle.ml_base.specs.Bytes.{Text}
 use Rattle.ml_base.specs.Dir.{same_name}
-use Rattle.ml_base.proofs.ReadingLemmas.{kept_read, reading_then}
 use Rattle.ml_base.specs.declared.names.Name.{Name}
 use Rattle.ml_base.specs.declared.names.Set.TheVariants as sets
 use Rattle.ml_config.proofs.KeyLemmas.{one_key_file}
@@ -17,7 +16,7 @@ use Rattle.ml_reply.specs.declared.mails.Mail.{Mail}
 use Rattle.ml_reply.specs.declared.mails.Mail.TheVariants.{AskTc}
 use Rattle.ml_acts.specs.Doing.{is_bucket, is_mailed_by}
 use Rattle.ml_joining.specs.Reads.{is_for_mail}
-use Rattle.ml_joining.proofs.Does.{fewer_kept, told_by}
+use Rattle.ml_joining.proofs.Does.{act_kept, told_by}
 use Rattle.ml_joining.proofs.asking.ask_moderators.Goals as goal
 
 pub returns-clause-value : goal.returns-clause-value
@@ -25,11 +24,11 @@ returns-clause-value g c told =
     let old = g.F.Files.map c.args.files.now in
     let x = c.args.x.now in
     let same = g.met.F.Files.kept_map c.args.files.now c.key.new.files told c.key.ensures.reads.kept in
-    told_by old (g.F.Files.map c.key.new.files) c.new.result c.with_mail_to_moderators.result c.args.config.now (λ p. (spec.mail_moderators c.args.now c.in_ok-mail.mail p, c.plain-reply.result)) (λ p. (spec.ask_moderators c.args.now c.args.set x p, asked)) same c.new.ensures
-    (λ p is e. ap₂ (λ (m : Mail) (r : Reply). (spec.mail_moderators c.args.now m p, r))
+    told_by old (g.F.Files.map c.key.new.files) c.new.result c.with_mail_to_moderators.result c.args.config.now (λ p. (spec.mail_moderators c.args.now.seconds c.in_ok-mail.mail p, c.plain-reply.result)) (λ p. (spec.ask_moderators c.args.now.seconds c.args.set x p, asked)) same c.new.ensures
+    (λ p is e. ap₂ (λ (m : Mail) (r : Reply). (spec.mail_moderators c.args.now.seconds m p, r))
     (c.in_ok-mail.ensures
     ∙ ap (λ (a : Text). AskTc (spec.owner_address c.args.config.now) a c.args.set x) (c.in_ok-reply.ensures p e (one_key_file (old key_name) p.keys c.in_ok-keys.keys is.keys (c.in_ok-keys.ensures.value told)))
-    ∙ ap (λ (d : Config). AskTc (spec.owner_address d) (spec.confirm_address p words.Tc c.args.set x c.args.now) c.args.set x) (sym e))
+    ∙ ap (λ (d : Config). AskTc (spec.owner_address d) (spec.confirm_address p words.Tc c.args.set x c.args.now.seconds) c.args.set x) (sym e))
     c.plain-reply.ensures)
     (c.with_mail_to_moderators.ensures.value told)
 
@@ -40,12 +39,8 @@ wider name e = go (or_cases (is_bucket sets.Moderators name) (same_name name ids
     go (inl b) = or_right (is_for_mail name) (is_bucket sets.Moderators name) b
     go (inr i) = or_left (is_for_mail name) (is_bucket sets.Moderators name) (or_right (same_name name key_name) (same_name name ids_name) i)
 
-pub returns-clause-names : goal.returns-clause-names
-returns-clause-names g c =
-    fewer_kept g.F.Files c.args.files.now c.key.new.files (λ name. (is_for_mail name || is_bucket sets.Moderators name) ≡ true) (λ name. is_mailed_by sets.Moderators name ≡ true) c.with_mail_to_moderators.result
-    (λ told. g.met.F.Files.kept_map c.args.files.now c.key.new.files told c.key.ensures.reads.kept) wider c.with_mail_to_moderators.ensures.names
-
-pub returns-clause-reads : goal.returns-clause-reads
-returns-clause-reads g c =
-    reading_then g.F.Files g.met.F.Files.kept_then c.args.files.now c.key.new.files c.with_mail_to_moderators.new.files c.with_mail_to_moderators.result
-    (kept_read g.F.Files c.args.files.now c.key.new.files c.key.result c.key.ensures.reads) c.with_mail_to_moderators.ensures.reads
+pub returns-clause-act : goal.returns-clause-act
+returns-clause-act g c =
+    let mailed = c.with_mail_to_moderators.ensures in
+    act_kept g.met.F.Files.kept_then g.met.F.Files.kept_map c.key.ensures.reads
+    (record { own = mailed.own; files = mailed.files; reply = search rules; names = mailed.names; reads = mailed.reads }) wider

@@ -16,18 +16,12 @@ use Rattle.ml_joining.specs.Reads.{is_touched_with_mail}
 use Rattle.ml_joining.proofs.Does.{added_list, has_none, has_room, only_reply}
 use Rattle.ml_joining.proofs.joining.join.Goals as goal
 
-pub returns-in_err-txn-clause-names : goal.returns-in_err-txn-clause-names
-returns-in_err-txn-clause-names g c =
-    let who = c.args.who.now in
-    let names = change_named g.F.Files (λ name. is_touched_with_mail c.args.set who name ≡ true) _ (g.F.Files.map c.args.files.now) c.args.set (key who) false (λ name e. or_left (is_touched c.args.set (key who) name) (same_name name ids_name) e) c.in_err-txn.ensures.names in
-    search rules
-
 pub returns-in-Added-clause-value : goal.returns-in-Added-clause-value
 returns-in-Added-clause-value g c told =
     let old = g.F.Files.map c.args.files.now in
     let set = c.args.set in
     let who = c.args.who.now in
-    let now = c.args.now in
+    let now = c.args.now.seconds in
     let same = g.met.F.Files.kept_map c.args.files.now c.add.new.files told c.add.ensures.reads.kept in
     ok_then c.welcome.result
     (λ done value p is e fresh.
@@ -41,11 +35,17 @@ returns-in-Added-clause-value g c told =
 pub returns-in-Already-clause-value : goal.returns-in-Already-clause-value
 returns-in-Already-clause-value g c told p is e fresh =
     let old = g.F.Files.map c.args.files.now in
-    let a = subst (λ (o : AddAnswer). IsAddition old c.args.set (p.sets c.args.set) (record { who = c.args.who.now; since = c.args.now }) o) c.in-Already.is (c.in_ok-txn.ensures.value told (p.sets c.args.set) (is.sets c.args.set)) in
+    let a = subst (λ (o : AddAnswer). IsAddition old c.args.set (p.sets c.args.set) (record { who = c.args.who.now; since = c.args.now.seconds }) o) c.in-Already.is (c.in_ok-txn.ensures.value told (p.sets c.args.set) (is.sets c.args.set)) in
     absurd (let bad : true ≡ false = sym a ∙ fresh in cc)
 
 pub returns-in-Full-clause-value : goal.returns-in-Full-clause-value
 returns-in-Full-clause-value g c told p is e fresh =
     let old = g.F.Files.map c.args.files.now in
-    let a = subst (λ (o : AddAnswer). IsAddition old c.args.set (p.sets c.args.set) (record { who = c.args.who.now; since = c.args.now }) o) c.in-Full.is (c.in_ok-txn.ensures.value told (p.sets c.args.set) (is.sets c.args.set)) in
-    subst (λ s. DoesList old (c.new-in-Full.result, c.plain-in-Full.result) s) (sym (has_none old p c.args.set c.args.who.now c.args.now is a)) (only_reply old p c.new-in-Full.result c.plain-in-Full.result answers.full c.new-in-Full.ensures c.plain-in-Full.ensures is)
+    let a = subst (λ (o : AddAnswer). IsAddition old c.args.set (p.sets c.args.set) (record { who = c.args.who.now; since = c.args.now.seconds }) o) c.in-Full.is (c.in_ok-txn.ensures.value told (p.sets c.args.set) (is.sets c.args.set)) in
+    subst (λ s. DoesList old (c.new-in-Full.result, c.plain-in-Full.result) s) (sym (has_none old p c.args.set c.args.who.now c.args.now.seconds is a)) (only_reply old p c.new-in-Full.result c.plain-in-Full.result answers.full c.new-in-Full.ensures c.plain-in-Full.ensures is)
+
+pub returns-in_err-txn-clause-act : goal.returns-in_err-txn-clause-act
+returns-in_err-txn-clause-act g c =
+    let who = c.args.who.now in
+    let names = change_named g.F.Files (λ name. is_touched_with_mail c.args.set who name ≡ true) _ (g.F.Files.map c.args.files.now) c.args.set (key who) false (λ name e. or_left (is_touched c.args.set (key who) name) (same_name name ids_name) e) c.in_err-txn.ensures.names in
+    search rules

@@ -21,7 +21,7 @@ returns-in-Some-clause-value g c told =
     (λ done value p is e about.
     let there = subst (λ (o : Option (List Put)). Leaves old set x.named p o) c.in-Some.is (c.in_ok-txn.ensures.value told p is) in
     let gone = subst (λ (q : Plain). IsList (with_puts old c.in-Some.txn) q) (sym (same_removed set x.who x.named p (who_key p set x about))) there.1 in
-    subst (λ (d : Dir). DoesList d done (left c.args.now set x.who p)) same (value (removed set x.who p) (subst (λ (d : Dir). IsList (with_puts d c.in-Some.txn) (removed set x.who p)) (sym same) gone) (removed_config set x.who p ∙ e)))
+    subst (λ (d : Dir). DoesList d done (left c.args.now.seconds set x.who p)) same (value (removed set x.who p) (subst (λ (d : Dir). IsList (with_puts d c.in-Some.txn) (removed set x.who p)) (sym same) gone) (removed_config set x.who p ∙ e)))
     (c.goodbye.ensures.value told)
 
 pub returns-in-None-clause-value : goal.returns-in-None-clause-value
