@@ -8,4 +8,5 @@ mod Outcomes
 mod Moderated
 mod Fitting
 mod Beside
+mod Acted
 mod Sought

@@ -23,7 +23,7 @@ ghost use Rattle.ml_post.specs.Answering.{IsDamagedOfTicket, accepts, is_accepte
 
 use crate::holding::list_keys;
 use crate::publishing::publish;
-use ml_acts::{Configured, MailMemo, is_cookie, with_mail};
+use ml_acts::{Configured, MailMemo, Moment, is_cookie, with_mail};
 use ml_base::{Bytes, Files, PartError, Set, Txn, write_number};
 use ml_config::{Config, Keys};
 use ml_filing::Appended;
@@ -101,7 +101,15 @@ pub fn decide<F: Files>(
     ensures act { AnswersAct ⟦<F as Files>⟧ (λ name. is_answered_by ticket (accepts decision) name ≡ true) (IsDamagedOfTicket (with_config config.now (F.map files.old)) config.now ticket) files.old files.new result }
 {
     let mut under = Configured::new(files, config);
-    answer_ticket(alloc, &mut under, config, now, ticket, letters, decision)
+    answer_ticket(
+        alloc,
+        &mut under,
+        config,
+        Moment { seconds: now },
+        ticket,
+        letters,
+        decision,
+    )
 }
 
 // Looks for the post of the ticket first.
@@ -109,14 +117,13 @@ fn answer_ticket<F: Files>(
     alloc: Global,
     files: &mut F,
     config: &Config,
-    now: u64,
+    now: Moment,
     ticket: u64,
     letters: &[u8; 20],
     decision: Decision,
 ) -> Result<(Txn, Reply), PartError>
-    requires moment { IsMoment now }
     requires room { IsTrue F.tells → HasIds (F.map files.now) }
-    ensures value { IsTrue F.tells → IfOk result (λ done. (p : Plain) → IsList (F.map files.old) p → p.config ≡ config.now → DoesList (F.map files.old) done (spec.answer now ticket letters.now (accepts decision) p)) }
+    ensures value { IsTrue F.tells → IfOk result (λ done. (p : Plain) → IsList (F.map files.old) p → p.config ≡ config.now → DoesList (F.map files.old) done (spec.answer now.seconds ticket letters.now (accepts decision) p)) }
     ensures act { AnswersAct ⟦<F as Files>⟧ (λ name. is_answered_by ticket (accepts decision) name ≡ true) (IsDamagedOfTicket (F.map files.old) config.now ticket) files.old files.new result }
 {
     let Some(held) = look(alloc, files, ticket)? else {
@@ -130,16 +137,15 @@ fn answer_held<F: Files>(
     alloc: Global,
     files: &mut F,
     config: &Config,
-    now: u64,
+    now: Moment,
     ticket: u64,
     held: &Held,
     letters: &[u8; 20],
     decision: Decision,
 ) -> Result<(Txn, Reply), PartError>
-    requires moment { IsMoment now }
     requires drawn { IsTrue (is_drawn ticket) }
     requires room { IsTrue F.tells → HasIds (F.map files.now) }
-    ensures value { IsTrue F.tells → IfOk result (λ done. (p : Plain) → IsList (F.map files.old) p → p.config ≡ config.now → held_post ticket p.held ≡ Some held.now → DoesList (F.map files.old) done (spec.answer_held now ticket letters.now p (accepts decision) (Some held.now))) }
+    ensures value { IsTrue F.tells → IfOk result (λ done. (p : Plain) → IsList (F.map files.old) p → p.config ≡ config.now → held_post ticket p.held ≡ Some held.now → DoesList (F.map files.old) done (spec.answer_held now.seconds ticket letters.now p (accepts decision) (Some held.now))) }
     ensures act { AnswersAct ⟦<F as Files>⟧ (λ name. is_answered_by ticket (accepts decision) name ≡ true) (IsDamagedOf (F.map files.old) (Next (sent_key config.now held.now.message))) files.old files.new result }
 {
     let keys = list_keys(alloc, files)?;
@@ -170,15 +176,14 @@ fn follow<F: Files>(
     alloc: Global,
     files: &mut F,
     config: &Config,
-    now: u64,
+    now: Moment,
     ticket: u64,
     held: &Held,
     decision: Decision,
 ) -> Result<(Txn, Reply), PartError>
-    requires moment { IsMoment now }
     requires drawn { IsTrue (is_drawn ticket) }
     requires room { IsTrue F.tells → HasIds (F.map files.now) }
-    ensures value { IsTrue F.tells → IfOk result (λ done. (p : Plain) → IsList (F.map files.old) p → p.config ≡ config.now → held_post ticket p.held ≡ Some held.now → DoesList (F.map files.old) done (spec.answered now ticket held.now p (accepts decision))) }
+    ensures value { IsTrue F.tells → IfOk result (λ done. (p : Plain) → IsList (F.map files.old) p → p.config ≡ config.now → held_post ticket p.held ≡ Some held.now → DoesList (F.map files.old) done (spec.answered now.seconds ticket held.now p (accepts decision))) }
     ensures act { AnswersAct ⟦<F as Files>⟧ (λ name. is_followed_by ticket (accepts decision) name ≡ true) (IsDamagedOf (F.map files.old) (Next (sent_key config.now held.now.message))) files.old files.new result }
 {
     match decision {
@@ -192,14 +197,13 @@ fn accepted<F: Files>(
     alloc: Global,
     files: &mut F,
     config: &Config,
-    now: u64,
+    now: Moment,
     ticket: u64,
     held: &Held,
 ) -> Result<(Txn, Reply), PartError>
-    requires moment { IsMoment now }
     requires drawn { IsTrue (is_drawn ticket) }
     requires room { IsTrue F.tells → HasIds (F.map files.now) }
-    ensures value { IsTrue F.tells → IfOk result (λ done. (p : Plain) → IsList (F.map files.old) p → p.config ≡ config.now → held_post ticket p.held ≡ Some held.now → DoesList (F.map files.old) done (spec.accepted now ticket held.now p (is_archive_full p))) }
+    ensures value { IsTrue F.tells → IfOk result (λ done. (p : Plain) → IsList (F.map files.old) p → p.config ≡ config.now → held_post ticket p.held ≡ Some held.now → DoesList (F.map files.old) done (spec.accepted now.seconds ticket held.now p (is_archive_full p))) }
     ensures act { AnswersAct ⟦<F as Files>⟧ (λ name. is_accepted_by ticket name ≡ true) (IsDamagedOf (F.map files.old) (Next (sent_key config.now held.now.message))) files.old files.new result }
 {
     let message = held.message.as_slice();
@@ -228,14 +232,13 @@ fn rejected<F: Files>(
     alloc: Global,
     files: &mut F,
     config: &Config,
-    now: u64,
+    now: Moment,
     ticket: u64,
     held: &Held,
 ) -> Result<(Txn, Reply), PartError>
-    requires moment { IsMoment now }
     requires drawn { IsTrue (is_drawn ticket) }
     requires room { IsTrue F.tells → HasIds (F.map files.now) }
-    ensures value { IsTrue F.tells → IfOk result (λ done. (p : Plain) → IsList (F.map files.old) p → p.config ≡ config.now → held_post ticket p.held ≡ Some held.now → DoesList (F.map files.old) done (spec.answered now ticket held.now p false)) }
+    ensures value { IsTrue F.tells → IfOk result (λ done. (p : Plain) → IsList (F.map files.old) p → p.config ≡ config.now → held_post ticket p.held ≡ Some held.now → DoesList (F.map files.old) done (spec.answered now.seconds ticket held.now p false)) }
     ensures act { AnswersAct ⟦<F as Files>⟧ (λ name. is_rejected_by ticket name ≡ true) (IsDamagedOf (F.map files.old) (Next (sent_key config.now held.now.message))) files.old files.new result }
 {
     let txn = taken(alloc, files, ticket)?;

@@ -4,7 +4,7 @@ ghost use Rattle.ml_address.specs.Requests.{Accept, Reject, is_cookie, is_in_ran
 ghost use Rattle.ml_address.specs.Views.{request_view};
 ghost use Rattle.ml_address.specs.Writing.{request_text};
 ghost use Rattle.ml_base.specs.Dir.{Dir, are_files, touches_only, with_puts};
-ghost use Rattle.ml_base.specs.Ranges.{IsMoment, is_drawn};
+ghost use Rattle.ml_base.specs.Ranges.{is_drawn};
 ghost use Rattle.ml_base.specs.ReadFiles.{IsReading, NamesDamaged};
 ghost use Rattle.ml_config.specs.Configuration.{IsConfig};
 ghost use Rattle.ml_config.specs.KeyFile.{key_name};
@@ -20,7 +20,7 @@ ghost use Rattle.ml_drawn.specs.Names.{is_of_series};
 ghost use Rattle.ml_drawn.specs.declared.series.Series.TheVariants.{Tickets};
 ghost use Rattle.ml_post.specs.Holding.{is_asked_by, is_held_by};
 
-use ml_acts::{new_cookie, owner_address, with_mail_to_moderators};
+use ml_acts::{Moment, new_cookie, owner_address, with_mail_to_moderators};
 use ml_address::{Request, write_request};
 use ml_base::{Address, Bytes, Files, PartError, Set, Txn, is_drawn, write_number};
 use ml_config::{Config, Keys, key};
@@ -34,19 +34,18 @@ pub(crate) fn hold_post<F: Files>(
     alloc: Global,
     files: &mut F,
     config: &Config,
-    now: u64,
+    now: Moment,
     sender: Address,
     message: &[u8],
 ) -> Result<(Txn, Reply), PartError>
-    requires moment { IsMoment now }
     requires config { IsConfig config.now }
     requires size { length message.now ≤ 33_554_432 }
     requires room { IsTrue F.tells → HasRoom (F.map files.now) }
-    ensures value { IsTrue F.tells → IfOk result (λ done. (p : Plain) → IsList (F.map files.old) p → p.config ≡ config.now → DoesList (F.map files.old) done (spec.held_now now sender message.now p)) }
+    ensures value { IsTrue F.tells → IfOk result (λ done. (p : Plain) → IsList (F.map files.old) p → p.config ≡ config.now → DoesList (F.map files.old) done (spec.held_now now.seconds sender message.now p)) }
     ensures act { AnswersAct ⟦<F as Files>⟧ (λ name. is_held_by name ≡ true) (IsDamaged (F.map files.old)) files.old files.new result }
 {
     let held = Held {
-        moment: now,
+        moment: now.seconds,
         sender,
         message: Bytes::from_slice(alloc, message)?,
     };
@@ -62,22 +61,21 @@ fn ask<F: Files>(
     alloc: Global,
     files: &mut F,
     config: &Config,
-    now: u64,
+    now: Moment,
     ticket: u64,
     message: Bytes,
     txn: Txn,
 ) -> Result<(Txn, Reply), PartError>
-    requires moment { IsMoment now }
     requires config { IsConfig config.now }
     requires ticket { IsTrue (is_drawn ticket) }
     requires room { IsTrue F.tells → HasIds (F.map files.now) }
     requires own { touches_only (is_of_series Tickets) txn ≡ true }
     requires files { IsTrue (are_files txn) }
-    ensures value { IsTrue F.tells → IfOk result (λ done. (p : Plain) → IsList (with_puts (F.map files.old) txn) p → p.config ≡ config.now → DoesList (F.map files.old) done (mailing.mail_moderators now (mailing.moderate_mail p ticket now message) p, answers.held ticket)) }
+    ensures value { IsTrue F.tells → IfOk result (λ done. (p : Plain) → IsList (with_puts (F.map files.old) txn) p → p.config ≡ config.now → DoesList (F.map files.old) done (mailing.mail_moderators now.seconds (mailing.moderate_mail p ticket now.seconds message) p, answers.held ticket)) }
     ensures act { AnswersAct ⟦<F as Files>⟧ (λ name. is_asked_by name ≡ true) (IsDamaged (F.map files.old)) files.old files.new result }
 {
     let keys = list_keys(alloc, files)?;
-    let mail = moderate_mail(alloc, config, &keys, ticket, now, message)?;
+    let mail = moderate_mail(alloc, config, &keys, ticket, now.seconds, message)?;
     with_mail_to_moderators(alloc, files, config, txn, now, mail, Reply::held(ticket))
 }
 

@@ -95,7 +95,6 @@ fn of_sender<F: Files>(
 ) -> Result<Verdict, PartError>
     ensures value { IsTrue F.tells → IfOk result (λ found. (p : Plain) → IsList (F.map files.old) p → p.config ≡ config.now → row_of found ≡ rows.of_sender p who.now message.now) }
     ensures names { NamesDamaged ⟦<F as Files>⟧ (λ name. is_judged_by config.now who.now name ≡ true) (IsDamagedOf (F.map files.old) Count) result }
-    ensures sound { IsTrue F.tells → (p : Plain) → IsList (F.map files.old) p → IfErr result (λ e. OnDamaged e (λ _. ⊥)) }
     ensures reads { IsReading ⟦<F as Files>⟧ files.old files.new result }
 {
     if is_denied(alloc, files, config, who)? {
@@ -113,7 +112,6 @@ fn is_denied<F: Files>(
 ) -> Result<bool, PartError>
     ensures value { IsTrue F.tells → IfOk result (λ is. (p : Plain) → IsList (F.map files.old) p → p.config ≡ config.now → is ≡ (p.config.flags.k && is_in p sets.Deny who.now)) }
     ensures names { NamesDamaged ⟦<F as Files>⟧ (λ name. is_judged_by config.now who.now name ≡ true) (IsDamagedOf (F.map files.old) Count) result }
-    ensures sound { IsTrue F.tells → (p : Plain) → IsList (F.map files.old) p → IfErr result (λ e. OnDamaged e (λ _. ⊥)) }
     ensures reads { IsReading ⟦<F as Files>⟧ files.old files.new result }
 {
     if !config.flags.k {
@@ -132,7 +130,6 @@ fn of_text<F: Files>(
 ) -> Result<Verdict, PartError>
     ensures value { IsTrue F.tells → IfOk result (λ found. (p : Plain) → IsList (F.map files.old) p → p.config ≡ config.now → row_of found ≡ rows.of_text p who.now message.now) }
     ensures names { NamesDamaged ⟦<F as Files>⟧ (λ name. is_judged_by config.now who.now name ≡ true) (IsDamagedOf (F.map files.old) Count) result }
-    ensures sound { IsTrue F.tells → (p : Plain) → IsList (F.map files.old) p → IfErr result (λ e. OnDamaged e (λ _. ⊥)) }
     ensures reads { IsReading ⟦<F as Files>⟧ files.old files.new result }
 {
     let subject = subject(alloc, message)?;
@@ -168,7 +165,6 @@ fn of_user<F: Files>(
 ) -> Result<Verdict, PartError>
     ensures value { IsTrue F.tells → IfOk result (λ found. (p : Plain) → IsList (F.map files.old) p → p.config ≡ config.now → row_of found ≡ rows.of_user p who.now) }
     ensures names { NamesDamaged ⟦<F as Files>⟧ (λ name. is_judged_by config.now who.now name ≡ true) (IsDamagedOf (F.map files.old) Count) result }
-    ensures sound { IsTrue F.tells → (p : Plain) → IsList (F.map files.old) p → IfErr result (λ e. OnDamaged e (λ _. ⊥)) }
     ensures reads { IsReading ⟦<F as Files>⟧ files.old files.new result }
 {
     if is_stranger(alloc, files, config, who)? {
@@ -186,7 +182,6 @@ fn is_stranger<F: Files>(
 ) -> Result<bool, PartError>
     ensures value { IsTrue F.tells → IfOk result (λ is. (p : Plain) → IsList (F.map files.old) p → p.config ≡ config.now → is ≡ (p.config.flags.u && not (spec.is_user p who.now))) }
     ensures names { NamesDamaged ⟦<F as Files>⟧ (λ name. is_judged_by config.now who.now name ≡ true) (IsDamagedOf (F.map files.old) Count) result }
-    ensures sound { IsTrue F.tells → (p : Plain) → IsList (F.map files.old) p → IfErr result (λ e. OnDamaged e (λ _. ⊥)) }
     ensures reads { IsReading ⟦<F as Files>⟧ files.old files.new result }
 {
     if !config.flags.u {
@@ -200,7 +195,6 @@ fn is_stranger<F: Files>(
 fn is_user<F: Files>(alloc: Global, files: &mut F, who: &Address) -> Result<bool, PartError>
     ensures value { IsTrue F.tells → IfOk result (λ is. (p : Plain) → IsList (F.map files.old) p → is ≡ (spec.is_user p who.now)) }
     ensures names { NamesDamaged ⟦<F as Files>⟧ (λ name. is_of_user who.now name ≡ true) (IsDamagedOf (F.map files.old) Count) result }
-    ensures sound { IsTrue F.tells → (p : Plain) → IsList (F.map files.old) p → IfErr result (λ e. OnDamaged e (λ _. ⊥)) }
     ensures reads { IsReading ⟦<F as Files>⟧ files.old files.new result }
 {
     if is_in_either(alloc, files, Set::List, Set::Digest, who)? {
@@ -219,7 +213,6 @@ fn is_in_either<F: Files>(
 ) -> Result<bool, PartError>
     ensures value { IsTrue F.tells → IfOk result (λ is. (p : Plain) → IsList (F.map files.old) p → is ≡ (is_in p first who.now || is_in p second who.now)) }
     ensures names { NamesDamaged ⟦<F as Files>⟧ (λ name. (is_bucket_of first who.now name || is_bucket_of second who.now name) ≡ true) (IsDamagedOf (F.map files.old) Count) result }
-    ensures sound { IsTrue F.tells → (p : Plain) → IsList (F.map files.old) p → IfErr result (λ e. OnDamaged e (λ _. ⊥)) }
     ensures reads { IsReading ⟦<F as Files>⟧ files.old files.new result }
 {
     if is_member(alloc, files, first, who)? {
@@ -237,7 +230,6 @@ fn is_member<F: Files>(
 ) -> Result<bool, PartError>
     ensures value { IsTrue F.tells → IfOk result (λ is. (p : Plain) → IsList (F.map files.old) p → is ≡ (is_in p set who.now)) }
     ensures names { NamesDamaged ⟦<F as Files>⟧ (λ name. is_bucket_of set who.now name ≡ true) (IsDamagedOf (F.map files.old) Count) result }
-    ensures sound { IsTrue F.tells → (p : Plain) → IsList (F.map files.old) p → IfErr result (λ e. OnDamaged e (λ _. ⊥)) }
     ensures reads { IsReading ⟦<F as Files>⟧ files.old files.new result }
 {
     member(alloc, files, set, who)
@@ -247,7 +239,6 @@ fn is_member<F: Files>(
 fn of_room<F: Files>(alloc: Global, files: &mut F, config: &Config) -> Result<Verdict, PartError>
     ensures value { IsTrue F.tells → IfOk result (λ found. (p : Plain) → IsList (F.map files.old) p → p.config ≡ config.now → row_of found ≡ rows.of_room p) }
     ensures names { NamesDamaged ⟦<F as Files>⟧ (λ name. same_name name number_name ≡ true) (IsDamagedOf (F.map files.old) Count) result }
-    ensures sound { IsTrue F.tells → (p : Plain) → IsList (F.map files.old) p → IfErr result (λ e. OnDamaged e (λ _. ⊥)) }
     ensures reads { IsReading ⟦<F as Files>⟧ files.old files.new result }
 {
     if config.flags.m {

@@ -21,7 +21,7 @@ use crate::Verdict;
 use crate::holding::hold_post;
 use crate::judging::{judged, usable};
 use crate::publishing::publish;
-use ml_acts::{Configured, MailMemo};
+use ml_acts::{Configured, MailMemo, Moment};
 use ml_base::{Files, PartError, Txn};
 use ml_config::Config;
 use ml_filing::Appended;
@@ -70,7 +70,15 @@ pub fn post_with_memo<F: Files>(
     ensures act { AnswersAct ⟦<F as Files>⟧ (λ name. is_posted_by config.now sender.now name ≡ true) (IsDamagedOf (with_config config.now (F.map files.old)) (Next (sent_key config.now message.now))) files.old files.new result }
 {
     let mut under = Configured::new(files, config);
-    post_judged(alloc, &mut under, memo, config, now, sender, message)
+    post_judged(
+        alloc,
+        &mut under,
+        memo,
+        config,
+        Moment { seconds: now },
+        sender,
+        message,
+    )
 }
 
 // The same on a list that has the configuration.
@@ -79,14 +87,13 @@ fn post_judged<F: Files>(
     files: &mut F,
     memo: &mut MailMemo,
     config: &Config,
-    now: u64,
+    now: Moment,
     sender: &[u8],
     message: &[u8],
 ) -> Result<(Txn, Reply), PartError>
-    requires moment { IsMoment now }
     requires config { IsConfig config.now }
     requires room { IsTrue F.tells → HasRoom (F.map files.now) }
-    ensures value { IsTrue F.tells → IfOk result (λ done. (p : Plain) → IsList (F.map files.old) p → p.config ≡ config.now → DoesList (F.map files.old) done (spec.post now sender.now message.now p)) }
+    ensures value { IsTrue F.tells → IfOk result (λ done. (p : Plain) → IsList (F.map files.old) p → p.config ≡ config.now → DoesList (F.map files.old) done (spec.post now.seconds sender.now message.now p)) }
     ensures act { AnswersAct ⟦<F as Files>⟧ (λ name. is_posted_by config.now sender.now name ≡ true) (IsDamagedOf (F.map files.old) (Next (sent_key config.now message.now))) files.old files.new result }
 {
     let found = judged(alloc, files, config, sender, &Message::scan(message))?;
@@ -129,15 +136,14 @@ fn hold_message<F: Files>(
     alloc: Global,
     files: &mut F,
     config: &Config,
-    now: u64,
+    now: Moment,
     sender: &[u8],
     message: &[u8],
 ) -> Result<(Txn, Reply), PartError>
-    requires moment { IsMoment now }
     requires config { IsConfig config.now }
     requires size { length message.now ≤ 33_554_432 }
     requires room { IsTrue F.tells → HasRoom (F.map files.now) }
-    ensures value { IsTrue F.tells → IfOk result (λ done. (p : Plain) → IsList (F.map files.old) p → p.config ≡ config.now → verdicts.is_usable sender.now ≡ true → DoesList (F.map files.old) done (spec.held_now now (as_address sender.now) message.now p)) }
+    ensures value { IsTrue F.tells → IfOk result (λ done. (p : Plain) → IsList (F.map files.old) p → p.config ≡ config.now → verdicts.is_usable sender.now ≡ true → DoesList (F.map files.old) done (spec.held_now now.seconds (as_address sender.now) message.now p)) }
     ensures act { AnswersAct ⟦<F as Files>⟧ (λ name. is_held_by name ≡ true) (IsDamaged (F.map files.old)) files.old files.new result }
 {
     match usable(alloc, sender)? {
@@ -152,13 +158,12 @@ fn post_message<F: Files>(
     files: &mut F,
     memo: &mut MailMemo,
     config: &Config,
-    now: u64,
+    now: Moment,
     sender: &[u8],
     message: &[u8],
 ) -> Result<(Txn, Reply), PartError>
-    requires moment { IsMoment now }
     requires room { IsTrue F.tells → HasIds (F.map files.now) }
-    ensures value { IsTrue F.tells → IfOk result (λ done. (p : Plain) → IsList (F.map files.old) p → p.config ≡ config.now → verdicts.is_usable sender.now ≡ true → is_archive_full p ≡ false → DoesList (F.map files.old) done (spec.posted_now now (as_address sender.now) message.now p)) }
+    ensures value { IsTrue F.tells → IfOk result (λ done. (p : Plain) → IsList (F.map files.old) p → p.config ≡ config.now → verdicts.is_usable sender.now ≡ true → is_archive_full p ≡ false → DoesList (F.map files.old) done (spec.posted_now now.seconds (as_address sender.now) message.now p)) }
     ensures act { AnswersAct ⟦<F as Files>⟧ (λ name. is_published_by name ≡ true) (IsDamagedOf (F.map files.old) (Next (sent_key config.now message.now))) files.old files.new result }
 {
     let Some(who) = usable(alloc, sender)? else {

@@ -2,7 +2,6 @@
 ghost use Rattle.std.specs.Prelude.{◌≡◌, ◌<◌, ◌≤◌, true, IsTrue, IfOk, IfErr, length};
 ghost use Rattle.ml_base.specs.Dir.{Dir, are_files, touches_only, with_puts};
 ghost use Rattle.ml_base.specs.PartErrors.{OnDamaged};
-ghost use Rattle.ml_base.specs.Ranges.{IsMoment};
 ghost use Rattle.ml_base.specs.ReadFiles.{IsReading, NamesDamaged};
 ghost use Rattle.ml_base.specs.declared.names.Set.TheVariants as sets;
 ghost use Rattle.ml_filing.specs.Answers.{puts_of};
@@ -17,7 +16,7 @@ ghost use Rattle.ml_acts.specs.Doing.{Alike, HasIds, is_mailed_by, is_of_queue, 
 ghost use Rattle.ml_post.specs.Publishing.{Publishes, is_beside_held, is_published_by, number_of, sent_key};
 
 use crate::sending::sent_text;
-use ml_acts::{MailMemo, post_path, send_to_list};
+use ml_acts::{MailMemo, Moment, post_path, send_to_list};
 use ml_base::{Address, Bytes, Files, LAST_POST_NUMBER, LONGEST_POST, PartError, Txn};
 use ml_config::Config;
 use ml_filing::{Appended, append, count};
@@ -30,13 +29,12 @@ pub(crate) fn publish<F: Files>(
     files: &mut F,
     memo: &mut MailMemo,
     config: &Config,
-    now: u64,
+    now: Moment,
     sender: &Address,
     message: &[u8],
 ) -> Result<Appended, PartError>
-    requires moment { IsMoment now }
     requires room { IsTrue F.tells → HasIds (F.map files.now) }
-    ensures value { IsTrue F.tells → IfOk result (λ answer. (dir : Dir) (p : Plain) → Alike is_beside_held (F.map files.old) dir → IsList dir p → p.config ≡ config.now → Publishes dir now sender.now message.now p answer) }
+    ensures value { IsTrue F.tells → IfOk result (λ answer. (dir : Dir) (p : Plain) → Alike is_beside_held (F.map files.old) dir → IsList dir p → p.config ≡ config.now → Publishes dir now.seconds sender.now message.now p answer) }
     ensures own { IfOk result (λ answer. touches_only is_of_list (puts_of answer) ≡ true) }
     ensures files { IfOk result (λ answer. IsTrue (are_files (puts_of answer))) }
     ensures number { IfOk result (λ answer. number_of answer ≤ 99_999_999) }
@@ -49,7 +47,7 @@ pub(crate) fn publish<F: Files>(
     }
     let text = text_to_send(alloc, config, message)?;
     let prefix = config.prefix.as_slice();
-    match append(alloc, files, prefix, sender, now, text.as_slice())? {
+    match append(alloc, files, prefix, sender, now.seconds, text.as_slice())? {
         Appended::Full => Ok(Appended::Full),
         Appended::At(_, txn) => {
             let txn = with_mail(alloc, files, memo, config, count + 1, text, txn)?;

@@ -1,7 +1,9 @@
 use Rattle.std.proofs.Common.{◌≡◌, true, refl, ap, ◌∙◌, subst, sym, rules}
 use Rattle.std.proofs.lemmas.Bool.{or_left, or_right}
 use Rattle.ml_base.specs.Bytes.{Text}
-use Rattle.ml_base.specs.Dir.{Dir, touches_only, with_puts}
+use Rattle.ml_base.specs.Dir.{Dir, are_files, touches_only, with_puts}
+use Rattle.ml_base.specs.Name.{is_file}
+use Rattle.ml_base.proofs.ReadingLemmas.{kept_read, kept_then, reading_ok, reading_then}
 use Rattle.ml_filing.specs.Answers.{puts_of}
 use Rattle.ml_filing.specs.declared.posts.Appended.{Appended}
 use Rattle.ml_filing.specs.declared.posts.Appended.TheVariants.{At}
@@ -20,8 +22,8 @@ use Rattle.ml_post.proofs.Moderated.{accepts}
 use Rattle.ml_post.proofs.Waiting.{beside_held, held_listed}
 use Rattle.ml_post.proofs.answering.accepted.Goals as goal
 
-pub returns-in_err-answer-clause-names : goal.returns-in_err-answer-clause-names
-returns-in_err-answer-clause-names g c =
+pub returns-in_err-answer-clause-act : goal.returns-in_err-answer-clause-act
+returns-in_err-answer-clause-act g c =
     let dir = g.F.Files.map c.args.files.now in
     let config = c.args.config.now in
     let ticket = c.args.ticket in
@@ -30,21 +32,43 @@ returns-in_err-answer-clause-names g c =
     (λ name e bad. subst (λ (m : Text). IsDamagedOf dir (Next (sent_key config m)) name) c.as_slice-message.ensures bad) c.in_err-answer.ensures.names in
     search rules
 
-pub returns-in_err-txn-in-At-clause-names : goal.returns-in_err-txn-in-At-clause-names
-returns-in_err-txn-in-At-clause-names g c =
+pub returns-in_err-txn-in-At-clause-act : goal.returns-in_err-txn-in-At-clause-act
+returns-in_err-txn-in-At-clause-act g c =
     let dir = g.F.Files.map c.args.files.now in
     let ticket = c.args.ticket in
     let asked = Next (sent_key c.args.config.now c.args.held.now.message) in
-    let names = named_as g.F.Files (λ name. is_accepted_by ticket name ≡ true) _ dir (g.F.Files.map c.publish.new.files) (λ name. is_taken_by ticket name ≡ true) Breaks (IsDamagedOf dir asked)
-    (λ told. g.met.F.Files.kept_map c.args.files.now c.publish.new.files told c.publish.ensures.reads.kept) (λ name e. or_right (is_published_by name) (is_taken_by ticket name) e)
-    (λ name e bad. record { damaged = waiting bad; own = λ of. absurd (taken_other name ticket e of) }) c.in_err-txn-in-At.ensures.names in
-    search rules
+    record {
+      own = search rules;
+      files = search rules;
+      reply = search rules;
+      names =
+          let names = named_as g.F.Files (λ name. is_accepted_by ticket name ≡ true) _ dir (g.F.Files.map c.publish.new.files) (λ name. is_taken_by ticket name ≡ true) Breaks (IsDamagedOf dir asked)
+          (λ told. g.met.F.Files.kept_map c.args.files.now c.publish.new.files told c.publish.ensures.reads.kept) (λ name e. or_right (is_published_by name) (is_taken_by ticket name) e)
+          (λ name e bad. record { damaged = waiting bad; own = λ of. absurd (taken_other name ticket e of) }) c.in_err-txn-in-At.ensures.names in
+          search rules;
+      reads =
+          let read = reading_then g.F.Files g.met.F.Files.kept_then c.args.files.now c.publish.new.files c.taken.new.files c.taken.result
+          (kept_read g.F.Files c.args.files.now c.publish.new.files c.publish.result c.publish.ensures.reads) c.taken.ensures.reads in
+          search rules;
+    }
 
-pub returns-in_ok-join-in-At-clause-own : goal.returns-in_ok-join-in-At-clause-own
-returns-in_ok-join-in-At-clause-own g c =
-    ap (touches_only is_of_list) c.in_ok-join-in-At.ensures.ok
-    ∙ touches_both is_of_list c.in_ok-txn-in-At.txn c.in-At.more (touches_weaker (λ name. held_kinds name.kind) is_of_list c.in_ok-txn-in-At.txn held_listed c.in_ok-txn-in-At.ensures.own)
-    (subst (λ (a : Appended). touches_only is_of_list (puts_of a) ≡ true) c.in-At.is c.in_ok-answer.ensures.own)
+pub returns-in_ok-join-in-At-clause-act : goal.returns-in_ok-join-in-At-clause-act
+returns-in_ok-join-in-At-clause-act g c =
+    let txn = c.in_ok-txn-in-At.txn in
+    let more = c.in-At.more in
+    record {
+      own = ap (touches_only is_of_list) c.in_ok-join-in-At.ensures.ok
+          ∙ touches_both is_of_list txn more (touches_weaker (λ name. held_kinds name.kind) is_of_list txn held_listed c.in_ok-txn-in-At.ensures.own)
+          (subst (λ (a : Appended). touches_only is_of_list (puts_of a) ≡ true) c.in-At.is c.in_ok-answer.ensures.own);
+      files = ap are_files c.in_ok-join-in-At.ensures.ok
+          ∙ touches_both is_file txn more c.in_ok-txn-in-At.ensures.files (subst (λ (a : Appended). are_files (puts_of a) ≡ true) c.in-At.is c.in_ok-answer.ensures.files);
+      reply = search rules;
+      names = search rules;
+      reads = reading_ok g.F.Files c.args.files.now c.taken.new.files _
+          (kept_then g.F.Files g.met.F.Files.kept_then c.args.files.now c.publish.new.files c.taken.new.files
+          (kept_read g.F.Files c.args.files.now c.publish.new.files c.publish.result c.publish.ensures.reads)
+          (kept_read g.F.Files c.publish.new.files c.taken.new.files c.taken.result c.taken.ensures.reads));
+    }
 
 pub returns-in_ok-join-in-At-clause-value : goal.returns-in_ok-join-in-At-clause-value
 returns-in_ok-join-in-At-clause-value g c told p is same found =
@@ -56,7 +80,7 @@ returns-in_ok-join-in-At-clause-value g c told p is same found =
     let stands =
     subst (λ (d : Dir). IsList (with_puts d txn) after) kept (c.in_ok-txn-in-At.ensures.value told p held (subst (λ (d : Dir). IsList d p) (sym kept) is) found) in
     let posted = c.in_ok-answer.ensures.value told (with_puts dir txn) after (beside_held dir txn c.in_ok-txn-in-At.ensures.own) stands same in
-    accepts dir p c.args.now c.args.ticket held c.in-At.number txn c.in-At.more (c.join.new.self, c.posted.result)
-    (subst (λ (m : Text). Publishes (with_puts dir txn) c.args.now held.sender m after (At c.in-At.number c.in-At.more)) c.as_slice-message.ensures
-    (subst (λ (a : Appended). Publishes (with_puts dir txn) c.args.now held.sender c.as_slice-message.result.now after a) c.in-At.is posted))
+    accepts dir p c.args.now.seconds c.args.ticket held c.in-At.number txn c.in-At.more (c.join.new.self, c.posted.result)
+    (subst (λ (m : Text). Publishes (with_puts dir txn) c.args.now.seconds held.sender m after (At c.in-At.number c.in-At.more)) c.as_slice-message.ensures
+    (subst (λ (a : Appended). Publishes (with_puts dir txn) c.args.now.seconds held.sender c.as_slice-message.result.now after a) c.in-At.is posted))
     c.in_ok-join-in-At.ensures.ok c.posted.ensures

@@ -4,7 +4,6 @@ use Rattle.std.proofs.lemmas.Bool.{or_left, or_right}
 use Rattle.ml_base.specs.Dir.{Dir, same_name}
 use Rattle.ml_base.specs.declared.names.Name.{Name}
 use Rattle.ml_base.specs.declared.names.Set.TheVariants as sets
-use Rattle.ml_base.proofs.ReadingLemmas.{kept_read, reading_then}
 use Rattle.ml_config.specs.KeyFile.{key_name}
 use Rattle.ml_hold.specs.Held.{held_post}
 use Rattle.ml_plain.specs.Answers.{badcookie}
@@ -19,12 +18,13 @@ use Rattle.ml_acts.proofs.Asked.{named_as, other_name}
 use Rattle.ml_acts.proofs.Damages.{same_self}
 use Rattle.ml_post.specs.Answering.{accepts, is_answered_by, is_followed_by}
 use Rattle.ml_post.specs.Publishing.{sent_key}
+use Rattle.ml_post.proofs.Acted.{act_behind}
 use Rattle.ml_post.proofs.Damages.{ok_then}
 use Rattle.ml_post.proofs.Outcomes.{does_nothing}
 use Rattle.ml_post.proofs.answering.answer_held.Goals as goal
 
-pub returns-in_err-keys-clause-names : goal.returns-in_err-keys-clause-names
-returns-in_err-keys-clause-names g c =
+pub returns-in_err-keys-clause-act : goal.returns-in_err-keys-clause-act
+returns-in_err-keys-clause-act g c =
     let dir = g.F.Files.map c.args.files.now in
     let ticket = c.args.ticket in
     let accept = accepts c.args.decision in
@@ -41,8 +41,8 @@ returns-then-not-is_signed-clause-value g c told p is same found =
     let bad : c.is_signed.result ≡ false = search rules in
     let wrong : is_cookie p (codes "hold") sets.Moderators held.moment (decimal c.args.ticket) c.args.letters.now ≡ false = sym (c.is_signed.ensures p keys) ∙ bad in
     does_nothing (g.F.Files.map c.args.files.now) (c.new.result, c.plain.result) p badcookie
-    (if_signed c.args.now c.args.ticket held p (accepts c.args.decision) (is_cookie p (codes "hold") sets.Moderators held.moment (decimal c.args.ticket) c.args.letters.now))
-    (ap (if_signed c.args.now c.args.ticket held p (accepts c.args.decision)) wrong) c.new.ensures c.plain.ensures is
+    (if_signed c.args.now.seconds c.args.ticket held p (accepts c.args.decision) (is_cookie p (codes "hold") sets.Moderators held.moment (decimal c.args.ticket) c.args.letters.now))
+    (ap (if_signed c.args.now.seconds c.args.ticket held p (accepts c.args.decision)) wrong) c.new.ensures c.plain.ensures is
 
 pub returns-clause-value : goal.returns-clause-value
 returns-clause-value g c told =
@@ -52,23 +52,15 @@ returns-clause-value g c told =
     let kept = g.met.F.Files.kept_map c.args.files.now c.list_keys.new.files told c.list_keys.ensures.reads.kept in
     let good : c.is_signed.result ≡ true = search rules in
     let value =
-    subst (λ (d : Dir). IfOk c.follow.result (λ done. (p : Plain) → IsList d p → p.config ≡ config → held_post c.args.ticket p.held ≡ Some held → DoesList d done (answered c.args.now c.args.ticket held p (accepts c.args.decision)))) kept
+    subst (λ (d : Dir). IfOk c.follow.result (λ done. (p : Plain) → IsList d p → p.config ≡ config → held_post c.args.ticket p.held ≡ Some held → DoesList d done (answered c.args.now.seconds c.args.ticket held p (accepts c.args.decision)))) kept
     (c.follow.ensures.value told) in
     ok_then c.follow.result (λ done does p is same found.
     let keys = c.in_ok-keys.ensures.value told dir p refl is in
     let right : is_cookie p (codes "hold") sets.Moderators held.moment (decimal c.args.ticket) c.args.letters.now ≡ true = sym (c.is_signed.ensures p keys) ∙ good in
-    subst (λ (b : Bool). DoesList dir done (if_signed c.args.now c.args.ticket held p (accepts c.args.decision) b)) (sym right) (does p is same found)) value
+    subst (λ (b : Bool). DoesList dir done (if_signed c.args.now.seconds c.args.ticket held p (accepts c.args.decision) b)) (sym right) (does p is same found)) value
 
-pub returns-clause-names : goal.returns-clause-names
-returns-clause-names g c =
-    let dir = g.F.Files.map c.args.files.now in
+pub returns-clause-act : goal.returns-clause-act
+returns-clause-act g c =
     let ticket = c.args.ticket in
     let accept = accepts c.args.decision in
-    let asked = Next (sent_key c.args.config.now c.args.held.now.message) in
-    named_as g.F.Files (λ name. is_answered_by ticket accept name ≡ true) c.follow.result dir (g.F.Files.map c.list_keys.new.files) (λ name. is_followed_by ticket accept name ≡ true) (λ d. IsDamagedOf d asked) (IsDamagedOf dir asked)
-    (λ told. g.met.F.Files.kept_map c.args.files.now c.list_keys.new.files told c.list_keys.ensures.reads.kept) (λ name e. or_right (same_name name key_name) (is_followed_by ticket accept name) e) (λ name e bad. bad) c.follow.ensures.names
-
-pub returns-clause-reads : goal.returns-clause-reads
-returns-clause-reads g c =
-    reading_then g.F.Files g.met.F.Files.kept_then c.args.files.now c.list_keys.new.files c.follow.new.files c.follow.result
-    (kept_read g.F.Files c.args.files.now c.list_keys.new.files c.list_keys.result c.list_keys.ensures.reads) c.follow.ensures.reads
+    act_behind g.F.Files (λ d. IsDamagedOf d (Next (sent_key c.args.config.now c.args.held.now.message))) g.met.F.Files.kept_then g.met.F.Files.kept_map c.list_keys.ensures.reads c.follow.ensures.act (λ name e. or_right (same_name name key_name) (is_followed_by ticket accept name) e) (λ told name e bad. bad)

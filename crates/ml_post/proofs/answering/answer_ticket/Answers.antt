@@ -1,10 +1,8 @@
-use Rattle.std.proofs.Common.{◌≡◌, ◌&&◌, ℕ, Bool, true, false, IfOk, IfErr, Option, Some, refl, ap, subst, sym, rules}
+use Rattle.std.proofs.Common.{◌≡◌, ◌&&◌, ℕ, Bool, true, false, IfOk, Option, Some, refl, ap, subst, sym, rules}
 use Rattle.std.proofs.lemmas.Bool.{and_from, or_left, or_right}
 use Rattle.ml_base.specs.Dir.{Dir, same_name}
-use Rattle.ml_base.specs.PartErrors.{OnDamaged}
 use Rattle.ml_base.specs.Ranges.{is_drawn}
 use Rattle.ml_base.specs.declared.names.Name.{Name}
-use Rattle.ml_base.proofs.DamagedNames.{err_damaged}
 use Rattle.ml_config.specs.KeyFile.{key_name}
 use Rattle.ml_hold.specs.Answers.{Breaks, IsPostName, LooksBy, post_name, tickets_name}
 use Rattle.ml_hold.specs.Held.{held_post}
@@ -21,6 +19,7 @@ use Rattle.ml_acts.proofs.Asked.{named_as, other_name}
 use Rattle.ml_acts.proofs.Damages.{same_self}
 use Rattle.ml_post.specs.Answering.{IsDamagedOfTicket, accepts, is_answered_by, is_followed_by, is_taken_by}
 use Rattle.ml_post.specs.Publishing.{is_published_by, sent_key}
+use Rattle.ml_post.proofs.Acted.{act_behind}
 use Rattle.ml_post.proofs.Damages.{ok_then}
 use Rattle.ml_post.proofs.Outcomes.{does_nothing}
 use Rattle.ml_post.proofs.answering.answer_ticket.Goals as goal
@@ -41,8 +40,8 @@ followed ticket accept name is = go accept
 pub returns-in_default-clause-value : goal.returns-in_default-clause-value
 returns-in_default-clause-value g c told p is same =
     let found = subst (λ (o : Option Held). o ≡ held_post c.args.ticket p.held) c.in_default.is (c.in_ok-held.ensures.value told p.held is.held) in
-    does_nothing (g.F.Files.map c.args.files.now) (c.new.result, c.plain.result) p gone (answer c.args.now c.args.ticket c.args.letters.now (accepts c.args.decision) p)
-    (ap (answer_held c.args.now c.args.ticket c.args.letters.now p (accepts c.args.decision)) (sym found)) c.new.ensures c.plain.ensures is
+    does_nothing (g.F.Files.map c.args.files.now) (c.new.result, c.plain.result) p gone (answer c.args.now.seconds c.args.ticket c.args.letters.now (accepts c.args.decision) p)
+    (ap (answer_held c.args.now.seconds c.args.ticket c.args.letters.now p (accepts c.args.decision)) (sym found)) c.new.ensures c.plain.ensures is
 
 pub returns-clause-value : goal.returns-clause-value
 returns-clause-value g c told =
@@ -52,14 +51,14 @@ returns-clause-value g c told =
     let held = c.in-Some.held in
     let kept = g.met.F.Files.kept_map c.args.files.now c.look.new.files told c.look.ensures.reads.kept in
     let value =
-    subst (λ (d : Dir). IfOk c.answer_held.result (λ done. (p : Plain) → IsList d p → p.config ≡ config → held_post c.args.ticket p.held ≡ Some held → DoesList d done (answer_held c.args.now c.args.ticket letters p (accepts c.args.decision) (Some held)))) kept
+    subst (λ (d : Dir). IfOk c.answer_held.result (λ done. (p : Plain) → IsList d p → p.config ≡ config → held_post c.args.ticket p.held ≡ Some held → DoesList d done (answer_held c.args.now.seconds c.args.ticket letters p (accepts c.args.decision) (Some held)))) kept
     (c.answer_held.ensures.value told) in
     ok_then c.answer_held.result (λ done does p is same.
     let found = subst (λ (o : Option Held). o ≡ held_post c.args.ticket p.held) c.in-Some.is (c.in_ok-held.ensures.value told p.held is.held) in
-    subst (λ (o : Option Held). DoesList dir done (answer_held c.args.now c.args.ticket letters p (accepts c.args.decision) o)) found (does p is same (sym found))) value
+    subst (λ (o : Option Held). DoesList dir done (answer_held c.args.now.seconds c.args.ticket letters p (accepts c.args.decision) o)) found (does p is same (sym found))) value
 
-pub returns-in_err-held-clause-names : goal.returns-in_err-held-clause-names
-returns-in_err-held-clause-names g c =
+pub returns-in_err-held-clause-act : goal.returns-in_err-held-clause-act
+returns-in_err-held-clause-act g c =
     let dir = g.F.Files.map c.args.files.now in
     let ticket = c.args.ticket in
     let accept = accepts c.args.decision in
@@ -68,17 +67,10 @@ returns-in_err-held-clause-names g c =
     c.in_err-held.ensures.names in
     search rules
 
-pub returns-clause-names : goal.returns-clause-names
-returns-clause-names g c =
-    let dir = g.F.Files.map c.args.files.now in
-    let config = c.args.config.now in
-    let ticket = c.args.ticket in
+pub returns-clause-act : goal.returns-clause-act
+returns-clause-act g c =
     let held = c.in-Some.held in
-    let asked = Next (sent_key config held.message) in
-    record {
-      named = c.answer_held.ensures.names.named;
-      damaged = λ told.
-          let read = subst (λ (o : Option Held). LooksBy dir ticket o) c.in-Some.is (c.in_ok-held.ensures.read told) in
-          err_damaged c.answer_held.result (IsDamagedOf dir asked) (IsDamagedOfTicket dir config ticket) (λ name bad. record { damaged = bad.damaged; own = λ of. (held, read.1, bad.own of) })
-          (subst (λ (d : Dir). IfErr c.answer_held.result (λ e. OnDamaged e (IsDamagedOf d asked))) (g.met.F.Files.kept_map c.args.files.now c.look.new.files told c.look.ensures.reads.kept) (c.answer_held.ensures.names.damaged told));
-    }
+    act_behind g.F.Files (λ d. IsDamagedOf d (Next (sent_key c.args.config.now held.message))) g.met.F.Files.kept_then g.met.F.Files.kept_map c.look.ensures.reads c.answer_held.ensures.act (λ name e. e)
+    (λ told name e bad.
+    let read = subst (λ (o : Option Held). LooksBy (g.F.Files.map c.args.files.now) c.args.ticket o) c.in-Some.is (c.in_ok-held.ensures.read told) in
+    record { damaged = bad.damaged; own = λ of. (held, read.1, bad.own of) })

@@ -1,5 +1,5 @@
-use Rattle.std.proofs.Common.{◌≡◌, true, IfOk, refl, subst, sym, rules}
-use Rattle.std.proofs.lemmas.Bool.{or_left}
+use Rattle.std.proofs.Common.{◌≡◌, true, IfOk, nat_le, refl, ap, ◌∙◌, subst, sym, rules}
+use Rattle.std.proofs.lemmas.Bool.{and_parts, or_left, or_right}
 use Rattle.ml_base.specs.Dir.{Dir, same_name, with_puts}
 use Rattle.ml_base.specs.declared.names.Set.TheVariants as sets
 use Rattle.ml_config.specs.KeyFile.{key_name}
@@ -9,17 +9,20 @@ use Rattle.ml_drawn.specs.declared.series.Series.TheVariants.{Tickets}
 use Rattle.ml_plain.specs.declared.Reply.{Reply}
 use Rattle.ml_plain.specs.Answers as answers
 use Rattle.ml_plain.specs.Directory.{IsList}
+use Rattle.ml_plain.specs.KeptFiles.{is_kept}
 use Rattle.ml_plain.specs.Mailing.{mail_moderators}
 use Rattle.ml_plain.specs.Plain.{Plain}
+use Rattle.ml_acts.specs.Damaged.{IsDamaged}
 use Rattle.ml_acts.specs.Doing.{DoesList, HasIds, is_mailed_by}
 use Rattle.ml_acts.proofs.Damages.{keys_named, same_self}
 use Rattle.ml_post.specs.Holding.{is_asked_by}
+use Rattle.ml_post.proofs.Acted.{act_behind}
 use Rattle.ml_post.proofs.Damages.{ok_then}
 use Rattle.ml_post.proofs.Waiting.{asks, held_beside_mail}
 use Rattle.ml_post.proofs.holding.ask.Goals as goal
 
-pub returns-in_err-keys-clause-names : goal.returns-in_err-keys-clause-names
-returns-in_err-keys-clause-names g c =
+pub returns-in_err-keys-clause-act : goal.returns-in_err-keys-clause-act
+returns-in_err-keys-clause-act g c =
     let names = keys_named g.F.Files (λ name. is_asked_by name ≡ true) _ (g.F.Files.map c.args.files.now) (or_left (same_name key_name key_name) (is_mailed_by sets.Moderators key_name) (same_self key_name)) c.in_err-keys.ensures.names in
     search rules
 
@@ -38,9 +41,18 @@ returns-clause-value g c told =
     let mail = c.in_ok-mail.mail in
     let kept = g.met.F.Files.kept_map c.args.files.now c.list_keys.new.files told c.list_keys.ensures.reads.kept in
     let value =
-    subst (λ (d : Dir). IfOk c.with_mail_to_moderators.result (λ done. (p : Plain) → IsList (with_puts d txn) p → p.config ≡ config → DoesList d done (mail_moderators c.args.now mail p, answers.held c.args.ticket))) kept
-    (subst (λ (r : Reply). IfOk c.with_mail_to_moderators.result (λ done. (p : Plain) → IsList (with_puts (g.F.Files.map c.list_keys.new.files) txn) p → p.config ≡ config → DoesList (g.F.Files.map c.list_keys.new.files) done (mail_moderators c.args.now mail p, r))) c.held.ensures
+    subst (λ (d : Dir). IfOk c.with_mail_to_moderators.result (λ done. (p : Plain) → IsList (with_puts d txn) p → p.config ≡ config → DoesList d done (mail_moderators c.args.now.seconds mail p, answers.held c.args.ticket))) kept
+    (subst (λ (r : Reply). IfOk c.with_mail_to_moderators.result (λ done. (p : Plain) → IsList (with_puts (g.F.Files.map c.list_keys.new.files) txn) p → p.config ≡ config → DoesList (g.F.Files.map c.list_keys.new.files) done (mail_moderators c.args.now.seconds mail p, r))) c.held.ensures
     (c.with_mail_to_moderators.ensures.value told)) in
     ok_then c.with_mail_to_moderators.result (λ done does p is same.
-    asks dir p config c.in_ok-keys.keys c.args.now c.args.ticket c.args.message mail txn done same
+    asks dir p config c.in_ok-keys.keys c.args.now.seconds c.args.ticket c.args.message mail txn done same
     (c.in_ok-keys.ensures.value told (with_puts dir txn) p (left_alone (is_of_series Tickets) dir txn key_name c.requires.own refl) is) c.in_ok-mail.ensures (does p is same)) value
+
+pub returns-clause-act : goal.returns-clause-act
+returns-clause-act g c =
+    let ticket = c.args.ticket in
+    let mailed = c.with_mail_to_moderators.ensures in
+    let drawn : is_kept (answers.held ticket) ≡ true = (and_parts (nat_le 1 ticket) (nat_le ticket 1_000_000_000_000_000) c.requires.ticket).1 in
+    let reply = ok_then c.with_mail_to_moderators.result (λ done e. ap is_kept (e ∙ c.held.ensures) ∙ drawn) mailed.reply in
+    act_behind g.F.Files IsDamaged g.met.F.Files.kept_then g.met.F.Files.kept_map c.list_keys.ensures.reads (record { own = mailed.own; files = mailed.files; reply = reply; names = mailed.names; reads = mailed.reads })
+    (λ name e. or_right (same_name name key_name) (is_mailed_by sets.Moderators name) e) (λ told name e bad. bad)

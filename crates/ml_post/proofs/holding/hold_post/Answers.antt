@@ -1,10 +1,7 @@
-use Rattle.std.proofs.Common.{◌≡◌, true, IfOk, IfErr, subst, sym}
+use Rattle.std.proofs.Common.{◌≡◌, IfOk, subst, sym}
 use Rattle.std.proofs.lemmas.Bool.{or_right}
 use Rattle.ml_base.specs.Bytes.{Text}
 use Rattle.ml_base.specs.Dir.{Dir, same_name, with_puts}
-use Rattle.ml_base.specs.PartErrors.{OnDamaged}
-use Rattle.ml_base.proofs.DamagedNames.{err_damaged}
-use Rattle.ml_base.proofs.ReadingLemmas.{kept_read, reading_then}
 use Rattle.ml_hold.specs.Answers.{tickets_name}
 use Rattle.ml_plain.specs.Answers as answers
 use Rattle.ml_plain.specs.Directory.{IsList}
@@ -13,7 +10,8 @@ use Rattle.ml_plain.specs.Plain.{Plain}
 use Rattle.ml_plain.specs.Posting.{held_now}
 use Rattle.ml_acts.specs.Damaged.{IsDamaged}
 use Rattle.ml_acts.specs.Doing.{DoesList, HasIds}
-use Rattle.ml_post.specs.Holding.{is_asked_by, is_held_by}
+use Rattle.ml_post.specs.Holding.{is_asked_by}
+use Rattle.ml_post.proofs.Acted.{act_behind}
 use Rattle.ml_post.proofs.Damages.{ok_then}
 use Rattle.ml_post.proofs.Waiting.{has_ids, holds}
 use Rattle.ml_post.proofs.holding.hold_post.Goals as goal
@@ -26,7 +24,7 @@ pub returns-clause-value : goal.returns-clause-value
 returns-clause-value g c told =
     let dir = g.F.Files.map c.args.files.now in
     let config = c.args.config.now in
-    let now = c.args.now in
+    let now = c.args.now.seconds in
     let ticket = c.in_ok-ticket.ticket in
     let txn = c.in_ok-ticket.txn in
     let message = c.in_ok-from_slice.field-0 in
@@ -37,14 +35,6 @@ returns-clause-value g c told =
     subst (λ (m : Text). DoesList dir done (held_now now c.args.sender m p)) c.in_ok-from_slice.ensures
     (holds dir p config now ticket c.args.sender message txn done is same c.in_ok-ticket.ensures.others (c.in_ok-ticket.ensures.value told) does)) value
 
-pub returns-clause-names : goal.returns-clause-names
-returns-clause-names g c = record {
-  named = err_damaged c.ask.result (λ name. is_asked_by name ≡ true) (λ name. is_held_by name ≡ true) (λ name e. or_right (same_name name tickets_name) (is_asked_by name) e) c.ask.ensures.names.named;
-  damaged = λ told.
-      subst (λ (d : Dir). IfErr c.ask.result (λ e. OnDamaged e (IsDamaged d))) (g.met.F.Files.kept_map c.args.files.now c.hold.new.files told c.hold.ensures.reads.kept) (c.ask.ensures.names.damaged told);
-}
-
-pub returns-clause-reads : goal.returns-clause-reads
-returns-clause-reads g c =
-    reading_then g.F.Files g.met.F.Files.kept_then c.args.files.now c.hold.new.files c.ask.new.files c.ask.result
-    (kept_read g.F.Files c.args.files.now c.hold.new.files c.hold.result c.hold.ensures.reads) c.ask.ensures.reads
+pub returns-clause-act : goal.returns-clause-act
+returns-clause-act g c =
+    act_behind g.F.Files IsDamaged g.met.F.Files.kept_then g.met.F.Files.kept_map c.hold.ensures.reads c.ask.ensures.act (λ name e. or_right (same_name name tickets_name) (is_asked_by name) e) (λ told name e bad. bad)

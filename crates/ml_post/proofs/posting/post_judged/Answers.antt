@@ -8,12 +8,14 @@ use Rattle.ml_plain.specs.Plain.{Plain, is_archive_full}
 use Rattle.ml_plain.specs.Posting.{held_now, posted_now}
 use Rattle.ml_plain.specs.Verdicts.{is_usable, verdict}
 use Rattle.ml_acts.specs.Asked.{Count, IsDamagedOf, Next}
+use Rattle.ml_acts.specs.Damaged.{IsDamaged}
 use Rattle.ml_acts.specs.Doing.{DoesList}
-use Rattle.ml_acts.proofs.Asked.{asked_as, count_next, named_as, named_beside}
+use Rattle.ml_acts.proofs.Asked.{asked_as, count_next, named_as}
 use Rattle.ml_post.specs.Holding.{is_held_by}
 use Rattle.ml_post.specs.Judging.{is_judged_by}
 use Rattle.ml_post.specs.Posting.{is_posted_by}
 use Rattle.ml_post.specs.Publishing.{is_published_by, sent_key}
+use Rattle.ml_post.proofs.Acted.{act_behind}
 use Rattle.ml_post.proofs.Beside.{held_other}
 use Rattle.ml_post.proofs.Damages.{ok_then}
 use Rattle.ml_post.proofs.Outcomes.{follows_held, follows_posted}
@@ -28,12 +30,12 @@ returns-in-Held-clause-value g c told =
     let message = c.args.message.now in
     let kept = g.met.F.Files.kept_map c.args.files.now c.judged.new.files told c.judged.ensures.reads.kept in
     let value =
-    subst (λ (d : Dir). IfOk c.hold_message.result (λ done. (p : Plain) → IsList d p → p.config ≡ config → is_usable sender ≡ true → DoesList d done (held_now c.args.now (as_address sender) message p))) kept (c.hold_message.ensures.value told) in
+    subst (λ (d : Dir). IfOk c.hold_message.result (λ done. (p : Plain) → IsList d p → p.config ≡ config → is_usable sender ≡ true → DoesList d done (held_now c.args.now.seconds (as_address sender) message p))) kept (c.hold_message.ensures.value told) in
     ok_then c.hold_message.result (λ done does p is same.
-    follows_held dir p c.args.now sender message c.in_ok-found.found done (sym c.follows.ensures ∙ c.in-Held.is) (c.in_ok-found.ensures.value told p is same ∙ ap (verdict p sender) c.scan.ensures) (does p is same)) value
+    follows_held dir p c.args.now.seconds sender message c.in_ok-found.found done (sym c.follows.ensures ∙ c.in-Held.is) (c.in_ok-found.ensures.value told p is same ∙ ap (verdict p sender) c.scan.ensures) (does p is same)) value
 
-pub returns-in_err-found-clause-names : goal.returns-in_err-found-clause-names
-returns-in_err-found-clause-names g c =
+pub returns-in_err-found-clause-act : goal.returns-in_err-found-clause-act
+returns-in_err-found-clause-act g c =
     let dir = g.F.Files.map c.args.files.now in
     let config = c.args.config.now in
     let sender = c.args.sender.now in
@@ -43,13 +45,11 @@ returns-in_err-found-clause-names g c =
     c.in_err-found.ensures.names in
     search rules
 
-pub returns-in-Held-clause-names : goal.returns-in-Held-clause-names
-returns-in-Held-clause-names g c =
-    let config = c.args.config.now in
-    let sender = c.args.sender.now in
-    named_beside g.F.Files (λ name. is_posted_by config sender name ≡ true) c.hold_message.result (g.F.Files.map c.args.files.now) (g.F.Files.map c.judged.new.files) (Next (sent_key config c.args.message.now)) (λ name. is_held_by name ≡ true)
-    (λ told. g.met.F.Files.kept_map c.args.files.now c.judged.new.files told c.judged.ensures.reads.kept)
-    (λ name e. or_left (is_judged_by config sender name || is_held_by name) (is_published_by name) (or_right (is_judged_by config sender name) (is_held_by name) e)) held_other c.hold_message.ensures.names
+pub returns-in-Held-clause-act : goal.returns-in-Held-clause-act
+returns-in-Held-clause-act g c =
+    let judged = is_judged_by c.args.config.now c.args.sender.now in
+    act_behind g.F.Files IsDamaged g.met.F.Files.kept_then g.met.F.Files.kept_map c.judged.ensures.reads c.hold_message.ensures.act (λ name e. or_left (judged name || is_held_by name) (is_published_by name) (or_right (judged name) (is_held_by name) e))
+    (λ told name e bad. record { damaged = bad; own = λ of. absurd (held_other name e of) })
 
 pub returns-in-Posted-clause-value : goal.returns-in-Posted-clause-value
 returns-in-Posted-clause-value g c told =
@@ -59,19 +59,15 @@ returns-in-Posted-clause-value g c told =
     let message = c.args.message.now in
     let kept = g.met.F.Files.kept_map c.args.files.now c.judged.new.files told c.judged.ensures.reads.kept in
     let value =
-    subst (λ (d : Dir). IfOk c.post_message.result (λ done. (p : Plain) → IsList d p → p.config ≡ config → is_usable sender ≡ true → is_archive_full p ≡ false → DoesList d done (posted_now c.args.now (as_address sender) message p))) kept (c.post_message.ensures.value told) in
+    subst (λ (d : Dir). IfOk c.post_message.result (λ done. (p : Plain) → IsList d p → p.config ≡ config → is_usable sender ≡ true → is_archive_full p ≡ false → DoesList d done (posted_now c.args.now.seconds (as_address sender) message p))) kept (c.post_message.ensures.value told) in
     ok_then c.post_message.result (λ done does p is same.
-    follows_posted dir p c.args.now sender message c.in_ok-found.found done (sym c.follows.ensures ∙ c.in-Posted.is) (c.in_ok-found.ensures.value told p is same ∙ ap (verdict p sender) c.scan.ensures) (does p is same)) value
+    follows_posted dir p c.args.now.seconds sender message c.in_ok-found.found done (sym c.follows.ensures ∙ c.in-Posted.is) (c.in_ok-found.ensures.value told p is same ∙ ap (verdict p sender) c.scan.ensures) (does p is same)) value
 
-pub returns-in-Posted-clause-names : goal.returns-in-Posted-clause-names
-returns-in-Posted-clause-names g c =
-    let config = c.args.config.now in
-    let sender = c.args.sender.now in
-    let dir = g.F.Files.map c.args.files.now in
-    let key = sent_key config c.args.message.now in
-    named_as g.F.Files (λ name. is_posted_by config sender name ≡ true) c.post_message.result dir (g.F.Files.map c.judged.new.files) (λ name. is_published_by name ≡ true) (λ d. IsDamagedOf d (Next key)) (IsDamagedOf dir (Next key))
-    (λ told. g.met.F.Files.kept_map c.args.files.now c.judged.new.files told c.judged.ensures.reads.kept)
-    (λ name e. or_right (is_judged_by config sender name || is_held_by name) (is_published_by name) e) (λ name e bad. bad) c.post_message.ensures.names
+pub returns-in-Posted-clause-act : goal.returns-in-Posted-clause-act
+returns-in-Posted-clause-act g c =
+    let judged = is_judged_by c.args.config.now c.args.sender.now in
+    let key = sent_key c.args.config.now c.args.message.now in
+    act_behind g.F.Files (λ d. IsDamagedOf d (Next key)) g.met.F.Files.kept_then g.met.F.Files.kept_map c.judged.ensures.reads c.post_message.ensures.act (λ name e. or_right (judged name || is_held_by name) (is_published_by name) e) (λ told name e bad. bad)
 
 pub hold_message-requires-clause-size : goal.hold_message-requires-clause-size
 hold_message-requires-clause-size g c =

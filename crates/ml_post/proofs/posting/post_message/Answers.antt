@@ -18,5 +18,5 @@ returns-clause-value g c told p is same usable room =
     let sender = c.args.sender.now in
     let message = c.args.message.now in
     let found = subst (IsFound sender) c.in-Some.is c.in_ok-who.ensures in
-    subst (λ (s : Text). DoesList dir c.done_by.result (posted_now c.args.now s message p)) (sender_is sender c.in-Some.who usable found.1)
-    (posts dir p c.args.now c.in-Some.who message c.in_ok-answer.answer c.done_by.result (c.in_ok-answer.ensures.value told dir p (λ name e. refl) is same) room c.done_by.ensures.puts c.done_by.ensures.reply)
+    subst (λ (s : Text). DoesList dir c.done_by.result (posted_now c.args.now.seconds s message p)) (sender_is sender c.in-Some.who usable found.1)
+    (posts dir p c.args.now.seconds c.in-Some.who message c.in_ok-answer.answer c.done_by.result (c.in_ok-answer.ensures.value told dir p (λ name e. refl) is same) room c.done_by.ensures.puts c.done_by.ensures.reply)

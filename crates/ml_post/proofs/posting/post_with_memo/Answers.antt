@@ -1,4 +1,4 @@
-use Rattle.std.proofs.Common.{ap, sym, subst}
+use Rattle.std.proofs.Common.{ap, rules, sym, subst}
 use Rattle.ml_base.specs.Dir.{Dir}
 use Rattle.ml_plain.specs.Posting.{post}
 use Rattle.ml_acts.specs.Asked.{IsDamagedOf, Next}
@@ -15,10 +15,18 @@ pub returns-clause-value : goal.returns-clause-value
 returns-clause-value g c told =
     done_under c.args.config.now c.new-under.result.config.now (g.F.Files.map c.args.files.now) (g.F.Files.map c.new-under.result.files.now) c.new-under.ensures.config (ap g.F.Files.map c.new-under.ensures.files) c.post_judged.result (λ p. post c.args.now c.args.sender.now c.args.message.now p) c.requires.config (c.post_judged.ensures.value told)
 
-pub returns-clause-names : goal.returns-clause-names
-returns-clause-names g c = record {
-  named = c.post_judged.ensures.names.named;
-  damaged = λ told.
-      named_under c.args.config.now c.new-under.result.config.now (g.F.Files.map c.args.files.now) (g.F.Files.map c.new-under.result.files.now) c.new-under.ensures.config (ap g.F.Files.map c.new-under.ensures.files) c.post_judged.result
-      (λ d. IsDamagedOf d (Next (sent_key c.args.config.now c.args.message.now))) (c.post_judged.ensures.names.damaged told);
-}
+pub returns-clause-act : goal.returns-clause-act
+returns-clause-act g c =
+    let act = c.post_judged.ensures.act in
+    record {
+      own = act.own;
+      files = act.files;
+      reply = act.reply;
+      names = record {
+        named = act.names.named;
+        damaged = λ told.
+            named_under c.args.config.now c.new-under.result.config.now (g.F.Files.map c.args.files.now) (g.F.Files.map c.new-under.result.files.now) c.new-under.ensures.config (ap g.F.Files.map c.new-under.ensures.files) c.post_judged.result
+            (λ d. IsDamagedOf d (Next (sent_key c.args.config.now c.args.message.now))) (act.names.damaged told);
+      };
+      reads = search rules;
+    }

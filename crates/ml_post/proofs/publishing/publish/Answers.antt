@@ -70,8 +70,8 @@ returns-in-Full-clause-value g c told dir p alike is same =
     let old = g.F.Files.map c.args.files.now in
     let config = c.args.config.now in
     let kept = g.met.F.Files.kept_map c.args.files.now c.count.new.files told c.count.ensures.reads.kept in
-    full_here old dir p config c.args.now c.args.sender.now c.in_ok-text.text alike is same
-    (appends_so c.args.now c.args.sender.now old (g.F.Files.map c.count.new.files) c.as_slice-prefix.result.now config.prefix c.as_slice.result.now c.in_ok-text.text c.in_ok-append.field-0 Full kept c.as_slice-prefix.ensures c.as_slice.ensures c.in-Full.is
+    full_here old dir p config c.args.now.seconds c.args.sender.now c.in_ok-text.text alike is same
+    (appends_so c.args.now.seconds c.args.sender.now old (g.F.Files.map c.count.new.files) c.as_slice-prefix.result.now config.prefix c.as_slice.result.now c.in_ok-text.text c.in_ok-append.field-0 Full kept c.as_slice-prefix.ensures c.as_slice.ensures c.in-Full.is
     (c.in_ok-append.ensures.value told))
 
 pub returns-in_ok-txn-in-At-clause-value : goal.returns-in_ok-txn-in-At-clause-value
@@ -81,9 +81,9 @@ returns-in_ok-txn-in-At-clause-value g c told dir p alike is same =
     let kept = g.met.F.Files.kept_map c.args.files.now c.count.new.files told c.count.ensures.reads.kept in
     let kept2 = g.met.F.Files.kept_map c.count.new.files c.append.new.files told c.append.ensures.reads.kept in
     let only = subst (λ (a : Appended). touches_only is_of_archive (puts_of a) ≡ true) c.in-At.is c.in_ok-append.ensures.others in
-    publishes old dir p config c.args.now c.args.sender.now c.in_ok-text.text alike is same c.args.message.now c.in_ok-count.count c.in-At.field-0 c.in-At.txn c.in_ok-txn-in-At.txn
+    publishes old dir p config c.args.now.seconds c.args.sender.now c.in_ok-text.text alike is same c.args.message.now c.in_ok-count.count c.in-At.field-0 c.in-At.txn c.in_ok-txn-in-At.txn
     (c.in_ok-count.ensures.read told) c.in_ok-text.ensures.text only
-    (appends_so c.args.now c.args.sender.now old (g.F.Files.map c.count.new.files) c.as_slice-prefix.result.now config.prefix c.as_slice.result.now c.in_ok-text.text c.in_ok-append.field-0 (At c.in-At.field-0 c.in-At.txn) kept c.as_slice-prefix.ensures c.as_slice.ensures c.in-At.is
+    (appends_so c.args.now.seconds c.args.sender.now old (g.F.Files.map c.count.new.files) c.as_slice-prefix.result.now config.prefix c.as_slice.result.now c.in_ok-text.text c.in_ok-append.field-0 (At c.in-At.field-0 c.in-At.txn) kept c.as_slice-prefix.ensures c.as_slice.ensures c.in-At.is
     (c.in_ok-append.ensures.value told))
     (λ q stands own. c.in_ok-txn-in-At.ensures.value told dir q (λ name needs. alike name (needs_none_held sets.List name needs) ∙ sym (ap (λ (d : Dir). d name) (kept2 ∙ kept))) stands own)
 
