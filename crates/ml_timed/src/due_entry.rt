@@ -2,7 +2,6 @@
 ghost use Rattle.std.specs.Prelude.{◌≡◌, true, Some, IsTrue, IfOk};
 ghost use Rattle.ml_base.specs.Address.{key};
 ghost use Rattle.ml_base.specs.Dir.{are_files, touches_only, with_puts};
-ghost use Rattle.ml_base.specs.Ranges.{IsMoment};
 ghost use Rattle.ml_base.specs.ReadFiles.{IsReading, NamesDamaged};
 ghost use Rattle.ml_bounce.specs.Answers.{action_key, has_ledger};
 ghost use Rattle.ml_bounce.specs.Changes.{action_of};
@@ -18,6 +17,7 @@ ghost use Rattle.ml_timed.specs.Reads.{is_followed_by};
 ghost use Rattle.ml_timed.specs.Telling.{is_mailed};
 
 use crate::telling::{cookie_kind, mail_for, tell};
+use ml_acts::Moment;
 use ml_base::{Address, Files, PartError, Set, Txn};
 use ml_bounce::{Action, act, forget};
 use ml_config::{Config, Keys};
@@ -32,12 +32,11 @@ pub(crate) fn follow_up<F: Files>(
     keys: &Keys,
     set: Set,
     action: &Action,
-    now: u64,
+    now: Moment,
 ) -> Result<Txn, PartError>
     requires ledger { IsTrue (has_ledger set) }
-    requires moment { IsMoment now }
     requires room { IsTrue F.tells → HasIds (F.map files.now) }
-    ensures value { IsTrue F.tells → IfOk result (λ txn. (p : Plain) (e : LedgerEntry) → IsList (F.map files.old) p → p.config ≡ config.now → p.keys ≡ keys.now → find_entry e.key (ledger_of p set) ≡ Some e → action_of e ≡ action.now → IsList (with_puts (F.map files.old) txn) (spec.follow_up now p (set, e))) }
+    ensures value { IsTrue F.tells → IfOk result (λ txn. (p : Plain) (e : LedgerEntry) → IsList (F.map files.old) p → p.config ≡ config.now → p.keys ≡ keys.now → find_entry e.key (ledger_of p set) ≡ Some e → action_of e ≡ action.now → IsList (with_puts (F.map files.old) txn) (spec.follow_up now.seconds p (set, e))) }
     ensures own { IfOk result (λ txn. touches_only is_of_time txn ≡ true) }
     ensures files { IfOk result (λ txn. IsTrue (are_files txn)) }
     ensures drawn { IsTrue F.tells → IfOk result (λ txn. DrawsId (F.map files.old) txn) }
@@ -60,14 +59,13 @@ fn inform<F: Files>(
     set: Set,
     action: &Action,
     to: &Address,
-    now: u64,
+    now: Moment,
 ) -> Result<Txn, PartError>
     requires ledger { IsTrue (has_ledger set) }
-    requires moment { IsMoment now }
     requires mailed { is_mailed action.now ≡ true }
     requires to { action_key action.now ≡ to.now }
     requires room { IsTrue F.tells → HasIds (F.map files.now) }
-    ensures value { IsTrue F.tells → IfOk result (λ txn. (p : Plain) (e : LedgerEntry) → IsList (F.map files.old) p → p.config ≡ config.now → p.keys ≡ keys.now → find_entry e.key (ledger_of p set) ≡ Some e → action_of e ≡ action.now → IsList (with_puts (F.map files.old) txn) (spec.follow_up now p (set, e))) }
+    ensures value { IsTrue F.tells → IfOk result (λ txn. (p : Plain) (e : LedgerEntry) → IsList (F.map files.old) p → p.config ≡ config.now → p.keys ≡ keys.now → find_entry e.key (ledger_of p set) ≡ Some e → action_of e ≡ action.now → IsList (with_puts (F.map files.old) txn) (spec.follow_up now.seconds p (set, e))) }
     ensures own { IfOk result (λ txn. touches_only is_of_time txn ≡ true) }
     ensures files { IfOk result (λ txn. IsTrue (are_files txn)) }
     ensures drawn { IsTrue F.tells → IfOk result (λ txn. DrawsId (F.map files.old) txn) }
@@ -98,21 +96,20 @@ fn change<F: Files>(
     files: &mut F,
     set: Set,
     action: &Action,
-    now: u64,
+    now: Moment,
     txn: Txn,
 ) -> Result<Txn, PartError>
     requires ledger { IsTrue (has_ledger set) }
-    requires moment { IsMoment now }
     requires queue { touches_only is_of_queue txn ≡ true }
     requires names { IsTrue (are_files txn) }
-    ensures value { IsTrue F.tells → IfOk result (λ done. (p : Plain) (e : LedgerEntry) → IsList (with_puts (F.map files.old) txn) p → find_entry (key (action_key action.now)) (ledger_of p set) ≡ Some e → IsList (with_puts (F.map files.old) done) (spec.change_entry now set e p)) }
+    ensures value { IsTrue F.tells → IfOk result (λ done. (p : Plain) (e : LedgerEntry) → IsList (with_puts (F.map files.old) txn) p → find_entry (key (action_key action.now)) (ledger_of p set) ≡ Some e → IsList (with_puts (F.map files.old) done) (spec.change_entry now.seconds set e p)) }
     ensures own { IfOk result (λ done. touches_only is_of_time done ≡ true) }
     ensures files { IfOk result (λ done. IsTrue (are_files done)) }
     ensures drawn { IsTrue F.tells → DrawsId (F.map files.old) txn → IfOk result (λ done. DrawsId (F.map files.old) done) }
     ensures names { NamesDamaged ⟦<F as Files>⟧ (λ name. is_entry_of set (action_key action.now) name ≡ true) (IsDamaged (F.map files.old)) result }
     ensures reads { IsReading ⟦<F as Files>⟧ files.old files.new result }
 {
-    let more = act(alloc, files, set, action, now)?;
+    let more = act(alloc, files, set, action, now.seconds)?;
     let mut txn = txn;
     txn.join(more)?;
     Ok(txn)

@@ -2,7 +2,6 @@
 ghost use Rattle.std.specs.Prelude.{◌≡◌, ◌+◌, ℕ, true, fold, length, Some, IsTrue, IfOk, OnErr};
 ghost use Rattle.ml_base.specs.Dir.{with_puts};
 ghost use Rattle.ml_base.specs.Layers.{files_below, puts_over};
-ghost use Rattle.ml_base.specs.Ranges.{IsMoment};
 ghost use Rattle.ml_base.specs.ReadFiles.{IsReading, NamesDamaged};
 ghost use Rattle.ml_bounce.specs.Answers.{has_ledger};
 ghost use Rattle.ml_bounce.specs.Changes.{action_of};
@@ -19,6 +18,7 @@ ghost use Rattle.ml_timed.specs.Ahead.{HasIdsFor, IsAhead, of_set};
 ghost use Rattle.ml_timed.specs.Reads.{is_followed_by, is_of_following};
 
 use crate::due_entry::follow_up;
+use ml_acts::Moment;
 use ml_base::{Files, Layer, PartError, Set};
 use ml_bounce::{Action, due};
 use ml_config::{Config, Keys, key};
@@ -38,20 +38,19 @@ pub(crate) fn follow_all_up<F: Files>(
     alloc: Global,
     files: &mut Layer<F>,
     config: &Config,
-    now: u64,
+    now: Moment,
 ) -> Result<(), PartError>
-    requires moment { IsMoment now }
     requires room { IsTrue F.tells → HasIdsUpTo (with_puts (F.map (files_below files.now)) (puts_over files.now)) 999_999_999_998_001 }
-    ensures value { IsTrue F.tells → IfOk result (λ _. (p : Plain) → IsList (with_puts (F.map (files_below files.old)) (puts_over files.old)) p → p.config ≡ config.now → IsList (with_puts (F.map (files_below files.old)) (puts_over files.new)) (spec.follow_all_up now p)) }
+    ensures value { IsTrue F.tells → IfOk result (λ _. (p : Plain) → IsList (with_puts (F.map (files_below files.old)) (puts_over files.old)) p → p.config ≡ config.now → IsList (with_puts (F.map (files_below files.old)) (puts_over files.new)) (spec.follow_all_up now.seconds p)) }
     ensures room { IsTrue F.tells → IfOk result (λ _. HasIdsUpTo (with_puts (F.map (files_below files.old)) (puts_over files.new)) 1_000_000_000_000_001) }
     ensures harmless { IsTrue F.tells → DamagesNothing (with_puts (F.map (files_below files.old)) (puts_over files.old)) (with_puts (F.map (files_below files.old)) (puts_over files.new)) }
     ensures grown { IsGrown is_of_time (puts_over files.old) (puts_over files.new) }
     ensures names { NamesDamaged ⟦<F as Files>⟧ (λ name. is_of_following name ≡ true) (IsDamaged (with_puts (F.map (files_below files.old)) (puts_over files.new))) result }
     ensures reads { IsReading ⟦<F as Files>⟧ (files_below files.old) (files_below files.new) result }
 {
-    let list = due(alloc, files, Set::List, now, MOST_DUE)?;
+    let list = due(alloc, files, Set::List, now.seconds, MOST_DUE)?;
     let left = MOST_DUE.saturating_sub(list.as_slice().len() as u64);
-    let digest = due(alloc, files, Set::Digest, now, left)?;
+    let digest = due(alloc, files, Set::Digest, now.seconds, left)?;
     if list.as_slice().is_empty() && digest.as_slice().is_empty() {
         return Ok(());
     }
@@ -76,12 +75,11 @@ fn follow_each<F: Files>(
     keys: &Keys,
     set: Set,
     actions: &[Action],
-    now: u64,
+    now: Moment,
 ) -> Result<(), PartError>
     requires ledger { IsTrue (has_ledger set) }
-    requires moment { IsMoment now }
     requires room { IsTrue F.tells → HasIdsFor (with_puts (F.map (files_below files.now)) (puts_over files.now)) (length actions.now) }
-    ensures value { IsTrue F.tells → IfOk result (λ _. (p : Plain) (es : Ledger) → IsAhead (with_puts (F.map (files_below files.old)) (puts_over files.old)) config.now keys.now set actions.now p es → IsList (with_puts (F.map (files_below files.old)) (puts_over files.new)) (fold (spec.follow_up now) p (of_set set es))) }
+    ensures value { IsTrue F.tells → IfOk result (λ _. (p : Plain) (es : Ledger) → IsAhead (with_puts (F.map (files_below files.old)) (puts_over files.old)) config.now keys.now set actions.now p es → IsList (with_puts (F.map (files_below files.old)) (puts_over files.new)) (fold (spec.follow_up now.seconds) p (of_set set es))) }
     ensures harmless { IsTrue F.tells → DamagesNothing (with_puts (F.map (files_below files.old)) (puts_over files.old)) (with_puts (F.map (files_below files.old)) (puts_over files.new)) }
     ensures drawn { IsTrue F.tells → IfOk result (λ _. (more : ℕ) → HasIdsFor (with_puts (F.map (files_below files.old)) (puts_over files.old)) (length actions.now + more) → HasIdsFor (with_puts (F.map (files_below files.old)) (puts_over files.new)) more) }
     ensures grown { IsGrown is_of_time (puts_over files.old) (puts_over files.new) }
@@ -104,12 +102,11 @@ fn follow_one<F: Files>(
     keys: &Keys,
     set: Set,
     action: &Action,
-    now: u64,
+    now: Moment,
 ) -> Result<(), PartError>
     requires ledger { IsTrue (has_ledger set) }
-    requires moment { IsMoment now }
     requires room { IsTrue F.tells → HasIds (with_puts (F.map (files_below files.now)) (puts_over files.now)) }
-    ensures value { IsTrue F.tells → IfOk result (λ _. (p : Plain) (e : LedgerEntry) → IsList (with_puts (F.map (files_below files.old)) (puts_over files.old)) p → p.config ≡ config.now → p.keys ≡ keys.now → find_entry e.key (ledger_of p set) ≡ Some e → action_of e ≡ action.now → IsList (with_puts (F.map (files_below files.old)) (puts_over files.new)) (spec.follow_up now p (set, e))) }
+    ensures value { IsTrue F.tells → IfOk result (λ _. (p : Plain) (e : LedgerEntry) → IsList (with_puts (F.map (files_below files.old)) (puts_over files.old)) p → p.config ≡ config.now → p.keys ≡ keys.now → find_entry e.key (ledger_of p set) ≡ Some e → action_of e ≡ action.now → IsList (with_puts (F.map (files_below files.old)) (puts_over files.new)) (spec.follow_up now.seconds p (set, e))) }
     ensures same { OnErr result (puts_over files.new ≡ puts_over files.old) }
     ensures harmless { IsTrue F.tells → DamagesNothing (with_puts (F.map (files_below files.old)) (puts_over files.old)) (with_puts (F.map (files_below files.old)) (puts_over files.new)) }
     ensures drawn { IsTrue F.tells → IfOk result (λ _. (more : ℕ) → HasIdsFor (with_puts (F.map (files_below files.old)) (puts_over files.old)) (more + 1) → HasIdsFor (with_puts (F.map (files_below files.old)) (puts_over files.new)) more) }

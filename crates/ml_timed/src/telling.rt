@@ -2,7 +2,6 @@
 ghost use Rattle.std.specs.Prelude.{◌≡◌, ◌∷◌, [], true, IsTrue, IfOk};
 ghost use Rattle.ml_base.specs.Address.{key};
 ghost use Rattle.ml_base.specs.Dir.{are_files, same_name, touches_only, with_puts};
-ghost use Rattle.ml_base.specs.Ranges.{IsMoment};
 ghost use Rattle.ml_base.specs.ReadFiles.{IsReading, NamesDamaged};
 ghost use Rattle.ml_base.specs.Sorted.{byte_cmp, is_sorted};
 ghost use Rattle.ml_plain.specs.Directory.{IsList};
@@ -13,7 +12,7 @@ ghost use Rattle.ml_acts.specs.Damaged.{IsDamaged};
 ghost use Rattle.ml_acts.specs.Doing.{DrawsId, HasIds, is_of_queue};
 ghost use Rattle.ml_timed.specs.Telling as telling;
 
-use ml_acts::{bounce_path, key_of, mail_body, send};
+use ml_acts::{Moment, bounce_path, key_of, mail_body, send};
 use ml_base::{Address, AddressList, Bytes, Files, PartError, Row, Set, Txn};
 use ml_bounce::Action;
 use ml_config::{Config, Keys};
@@ -65,11 +64,10 @@ pub(crate) fn tell<F: Files>(
     set: Set,
     who: &Address,
     mail: Mail,
-    now: u64,
+    now: Moment,
 ) -> Result<Txn, PartError>
-    requires moment { IsMoment now }
     requires room { IsTrue F.tells → HasIds (F.map files.now) }
-    ensures value { IsTrue F.tells → IfOk result (λ txn. (p : Plain) → IsList (F.map files.old) p → p.config ≡ config.now → p.keys ≡ keys.now → IsList (with_puts (F.map files.old) txn) (spec.bounce_mail kind.now set who.now now mail p)) }
+    ensures value { IsTrue F.tells → IfOk result (λ txn. (p : Plain) → IsList (F.map files.old) p → p.config ≡ config.now → p.keys ≡ keys.now → IsList (with_puts (F.map files.old) txn) (spec.bounce_mail kind.now set who.now now.seconds mail p)) }
     ensures own { IfOk result (λ txn. touches_only is_of_queue txn ≡ true) }
     ensures files { IfOk result (λ txn. IsTrue (are_files txn)) }
     ensures drawn { IsTrue F.tells → IfOk result (λ txn. DrawsId (F.map files.old) txn) }
@@ -78,7 +76,7 @@ pub(crate) fn tell<F: Files>(
 {
     let body = mail_body(alloc, config, mail, now)?;
     let key = key_of(alloc, who)?;
-    let way = bounce_path(alloc, config, keys, kind, set, key.as_slice(), now)?;
+    let way = bounce_path(alloc, config, keys, kind, set, key.as_slice(), now.seconds)?;
     let to = alone(alloc, who)?;
     send(alloc, files, way, body, to)
 }

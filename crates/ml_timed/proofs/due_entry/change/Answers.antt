@@ -16,7 +16,7 @@ returns-in_err-more-clause-names g c =
 pub returns-clause-value : goal.returns-clause-value
 returns-clause-value g c tells p e is found =
     both_changed (g.F.Files.map c.args.files.now) c.args.set (key (action_key c.args.action.now)) c.args.txn c.in_ok-more.more c.join.new.self c.requires.ledger c.requires.queue
-    c.in_ok-more.ensures.others c.in_ok-join.ensures.ok c.args.now e p is found (c.in_ok-more.ensures.value tells)
+    c.in_ok-more.ensures.others c.in_ok-join.ensures.ok c.args.now.seconds e p is found (c.in_ok-more.ensures.value tells)
 
 pub returns-clause-own : goal.returns-clause-own
 returns-clause-own g c =
@@ -29,4 +29,4 @@ returns-clause-drawn g c told draws =
     let k = key (action_key c.args.action.now) in
     let read = c.in_ok-more.ensures.read told in
     both_drawn dir c.args.set k c.args.txn c.in_ok-more.more c.join.new.self c.requires.ledger c.requires.queue c.in_ok-more.ensures.others c.in_ok-join.ensures.ok draws
-    (acted_spelled dir c.args.set k read.0 read.1 c.args.now c.in_ok-more.more c.requires.ledger read.2 (c.in_ok-more.ensures.value told))
+    (acted_spelled dir c.args.set k read.0 read.1 c.args.now.seconds c.in_ok-more.more c.requires.ledger read.2 (c.in_ok-more.ensures.value told))

@@ -12,6 +12,6 @@ returns-in-Lapse-clause-value g c tells =
     let dir = g.F.Files.map c.args.files.now in
     ok_then c.change.result
     (λ txn value p e is config keys found act.
-    subst (λ (q : Plain). IsList (with_puts dir txn) q) (sym (lapsed_is c.args.now c.args.set p e c.in-Lapse.to (act ∙ c.in-Lapse.is)))
+    subst (λ (q : Plain). IsList (with_puts dir txn) q) (sym (lapsed_is c.args.now.seconds c.args.set p e c.in-Lapse.to (act ∙ c.in-Lapse.is)))
     (value p e (subst (λ (t : List Put). IsList (with_puts dir t) p) (sym c.new.ensures) is) (found_action dir p c.args.set e c.requires.ledger is found c.args.action.now act)))
     (c.change.ensures.value tells)

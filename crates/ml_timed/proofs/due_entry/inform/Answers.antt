@@ -27,8 +27,8 @@ returns-in_default-clause-value g c tells =
     let same = g.met.F.Files.kept_map c.args.files.now c.find.new.files tells c.find.ensures.reads.kept in
     ok_then c.drop_entry.result
     (λ txn value p e is config keys found act.
-    dropped_by dir _ c.args.set c.args.now c.args.to.now txn same value p e is
-    (informed_none dir p c.args.set e c.requires.ledger is found c.args.now c.args.action.now c.args.to.now act c.requires.mailed c.requires.to (sym c.in_default.is ∙ c.in_ok-member.ensures.value tells (p.sets c.args.set) (is.sets c.args.set))))
+    dropped_by dir _ c.args.set c.args.now.seconds c.args.to.now txn same value p e is
+    (informed_none dir p c.args.set e c.requires.ledger is found c.args.now.seconds c.args.action.now c.args.to.now act c.requires.mailed c.requires.to (sym c.in_default.is ∙ c.in_ok-member.ensures.value tells (p.sets c.args.set) (is.sets c.args.set))))
     (c.drop_entry.ensures.value tells)
 
 pub returns-in_err-txn-clause-names : goal.returns-in_err-txn-clause-names
@@ -54,10 +54,10 @@ returns-clause-value g c tells =
     let kind = cookie_kind action in
     ok_then c.change.result
     (λ done value p e is config keys found act.
-    changed_by dir _ set c.args.now action kind who c.in_ok-mail.mail c.in_ok-txn.txn done (told_same ∙ found_same) c.requires.ledger value p e is found act
-    (subst (λ (d : Dir). IsList d p → IsList (with_puts d c.in_ok-txn.txn) (bounce_mail kind set who c.args.now c.in_ok-mail.mail p)) found_same (λ over. subst (λ (k : Text). IsList (with_puts (g.F.Files.map c.find.new.files) c.in_ok-txn.txn) (bounce_mail k set who c.args.now c.in_ok-mail.mail p)) c.cookie_kind.ensures (c.in_ok-txn.ensures.value tells p over config keys)) is)
-    (informed_some dir p set e c.requires.ledger is found c.args.now action c.args.to.now c.in-Some.member act c.requires.mailed c.requires.to (sym c.in-Some.is ∙ c.in_ok-member.ensures.value tells (p.sets set) (is.sets set))
-    ∙ ap (λ (mail : Mail). change_entry c.args.now set e (bounce_mail kind set who c.args.now mail p)) (sym c.in_ok-mail.ensures)))
+    changed_by dir _ set c.args.now.seconds action kind who c.in_ok-mail.mail c.in_ok-txn.txn done (told_same ∙ found_same) c.requires.ledger value p e is found act
+    (subst (λ (d : Dir). IsList d p → IsList (with_puts d c.in_ok-txn.txn) (bounce_mail kind set who c.args.now.seconds c.in_ok-mail.mail p)) found_same (λ over. subst (λ (k : Text). IsList (with_puts (g.F.Files.map c.find.new.files) c.in_ok-txn.txn) (bounce_mail k set who c.args.now.seconds c.in_ok-mail.mail p)) c.cookie_kind.ensures (c.in_ok-txn.ensures.value tells p over config keys)) is)
+    (informed_some dir p set e c.requires.ledger is found c.args.now.seconds action c.args.to.now c.in-Some.member act c.requires.mailed c.requires.to (sym c.in-Some.is ∙ c.in_ok-member.ensures.value tells (p.sets set) (is.sets set))
+    ∙ ap (λ (mail : Mail). change_entry c.args.now.seconds set e (bounce_mail kind set who c.args.now.seconds mail p)) (sym c.in_ok-mail.ensures)))
     (c.change.ensures.value tells)
 
 pub returns-clause-drawn : goal.returns-clause-drawn

@@ -47,7 +47,7 @@ returns-then-is_empty-2-clause-value g c tells p is config =
     let no_list = sym c.as_slice-2.ensures ∙ none_left c.as_slice-2.result.now (omega (arith, eqb-true (length c.as_slice-2.result.now) 0 (sym c.is_empty.ensures ∙ c.if-is_empty.true))) in
     let no_digest = sym c.as_slice-then-is_empty.ensures ∙ none_left c.as_slice-then-is_empty.result.now (omega (arith, eqb-true (length c.as_slice-then-is_empty.result.now) 0 (sym c.is_empty-then-is_empty.ensures ∙ c.if-is_empty-2.true))) in
     let is_digest : IsLedger (with_puts (g.F.Files.map (files_below c.due.new.files)) (puts_over c.due.new.files)) 16 p.digest_ledger = subst (λ (d : Dir). IsLedger d 16 p.digest_ledger) (sym (ap₂ with_puts (g.met.F.Files.kept_map (files_below c.args.files.now) (files_below c.due.new.files) tells c.due.ensures.reads.kept.0) (c.due.ensures.reads.kept.1))) is.digest_ledger in
-    let none = in_none c.args.now 1000 c.saturating_sub-left.result p c.in_ok-list.list c.in_ok-digest.digest (c.in_ok-list.ensures.value tells p.list_ledger is.list_ledger) left (c.in_ok-digest.ensures.value tells p.digest_ledger is_digest)
+    let none = in_none c.args.now.seconds 1000 c.saturating_sub-left.result p c.in_ok-list.list c.in_ok-digest.digest (c.in_ok-list.ensures.value tells p.list_ledger is.list_ledger) left (c.in_ok-digest.ensures.value tells p.digest_ledger is_digest)
     no_list no_digest in
     subst (λ (q : Plain). IsList (with_puts (g.F.Files.map (files_below c.args.files.now)) (puts_over c.due-2.new.files)) q) (sym none) (subst (λ (puts : List Put). IsList (with_puts (g.F.Files.map (files_below c.args.files.now)) puts) p) (sym (c.due-2.ensures.reads.kept.1 ∙ c.due.ensures.reads.kept.1)) is)
 
@@ -62,7 +62,7 @@ pub follow_each-requires-clause-room : goal.follow_each-requires-clause-room
 follow_each-requires-clause-room g c tells =
     let n = length c.as_slice-3.result.now in
     let due = c.in_ok-list.ensures.read tells in
-    let few : n ≤ 1000 = omega (arith, ap length c.as_slice-3.ensures, few_due c.args.now 1000 due.0 c.in_ok-list.list due.2) in
+    let few : n ≤ 1000 = omega (arith, ap length c.as_slice-3.ensures, few_due c.args.now.seconds 1000 due.0 c.in_ok-list.list due.2) in
     subst (λ (d : Dir). HasIdsFor d n) (sym (ap₂ with_puts (g.met.F.Files.kept_map (files_below c.due-2.new.files) (files_below c.key.new.files) tells c.key.ensures.reads.kept.0 ∙ g.met.F.Files.kept_map (files_below c.due.new.files) (files_below c.due-2.new.files) tells c.due-2.ensures.reads.kept.0 ∙ g.met.F.Files.kept_map (files_below c.args.files.now) (files_below c.due.new.files) tells c.due.ensures.reads.kept.0) (c.key.ensures.reads.kept.1 ∙ c.due-2.ensures.reads.kept.1 ∙ c.due.ensures.reads.kept.1))) (ids_due (with_puts (g.F.Files.map (files_below c.args.files.now)) (puts_over c.args.files.now)) n (c.requires.room tells) few)
 
 pub returns-in_err-list-clause-harmless : goal.returns-in_err-list-clause-harmless
@@ -104,7 +104,7 @@ follow_each-requires-2-clause-room g c tells =
     let list = c.in_ok-list.ensures.read tells in
     let digest = c.in_ok-digest.ensures.read tells in
     let left : c.saturating_sub-left.result ≡ 1000 - length c.in_ok-list.list = omega (arith, c.saturating_sub-left.ensures, ap length c.as_slice.ensures) in
-    let few : a + b ≤ 1000 = omega (arith, left, ap length c.as_slice-3.ensures, ap length c.as_slice-4.ensures, few_due c.args.now 1000 list.0 c.in_ok-list.list list.2, few_due c.args.now c.saturating_sub-left.result digest.0 c.in_ok-digest.digest digest.2) in
+    let few : a + b ≤ 1000 = omega (arith, left, ap length c.as_slice-3.ensures, ap length c.as_slice-4.ensures, few_due c.args.now.seconds 1000 list.0 c.in_ok-list.list list.2, few_due c.args.now.seconds c.saturating_sub-left.result digest.0 c.in_ok-digest.digest digest.2) in
     subst (λ (d : Dir). HasIdsFor (with_puts d (puts_over c.follow_each.new.files)) b) (sym (g.met.F.Files.kept_map (files_below c.key.new.files) (files_below c.follow_each.new.files) tells c.follow_each.ensures.reads.kept))
     (c.in_ok-follow_each.ensures.drawn tells b (subst (λ (d : Dir). HasIdsFor d (a + b)) (sym (ap₂ with_puts (g.met.F.Files.kept_map (files_below c.due-2.new.files) (files_below c.key.new.files) tells c.key.ensures.reads.kept.0 ∙ g.met.F.Files.kept_map (files_below c.due.new.files) (files_below c.due-2.new.files) tells c.due-2.ensures.reads.kept.0 ∙ g.met.F.Files.kept_map (files_below c.args.files.now) (files_below c.due.new.files) tells c.due.ensures.reads.kept.0) (c.key.ensures.reads.kept.1 ∙ c.due-2.ensures.reads.kept.1 ∙ c.due.ensures.reads.kept.1))) (ids_due (with_puts (g.F.Files.map (files_below c.args.files.now)) (puts_over c.args.files.now)) (a + b) (c.requires.room tells) few)))
 
@@ -119,18 +119,18 @@ returns-clause-value g c tells =
     let is_keys : IsKeyFile ((with_puts (g.F.Files.map (files_below c.due-2.new.files)) (puts_over c.due-2.new.files)) key_name) p.keys = subst (λ (d : Dir). IsKeyFile (d key_name) p.keys) (sym (ap₂ with_puts (g.met.F.Files.kept_map (files_below c.due.new.files) (files_below c.due-2.new.files) tells c.due-2.ensures.reads.kept.0 ∙ g.met.F.Files.kept_map (files_below c.args.files.now) (files_below c.due.new.files) tells c.due.ensures.reads.kept.0) (c.due-2.ensures.reads.kept.1 ∙ c.due.ensures.reads.kept.1))) is.keys in
     let keys_are = sym (c.in_ok-keys.ensures.read tells p.keys is_keys) in
     let start = subst (λ (d : Dir). IsList d p) (sym over) is in
-    let ahead = ahead_list c.args.now 1000 c.saturating_sub-left.result p c.as_slice-3.result.now c.in_ok-digest.digest list_is left digest_is (with_puts (g.F.Files.map (files_below c.key.new.files)) (puts_over c.key.new.files)) c.args.config.now c.in_ok-keys.keys start config keys_are in
-    let due = list_due c.args.now 1000 c.saturating_sub-left.result p c.as_slice-3.result.now c.in_ok-digest.digest list_is left digest_is in
+    let ahead = ahead_list c.args.now.seconds 1000 c.saturating_sub-left.result p c.as_slice-3.result.now c.in_ok-digest.digest list_is left digest_is (with_puts (g.F.Files.map (files_below c.key.new.files)) (puts_over c.key.new.files)) c.args.config.now c.in_ok-keys.keys start config keys_are in
+    let due = list_due c.args.now.seconds 1000 c.saturating_sub-left.result p c.as_slice-3.result.now c.in_ok-digest.digest list_is left digest_is in
     let halfway_is = c.in_ok-follow_each.ensures.value tells p due ahead in
     let below = g.met.F.Files.kept_map (files_below c.key.new.files) (files_below c.follow_each.new.files) tells c.follow_each.ensures.reads.kept in
-    let then = subst (λ (d : Dir). IsList (with_puts d (puts_over c.follow_each.new.files)) (halfway c.args.now 1000 c.saturating_sub-left.result p c.as_slice-3.result.now c.in_ok-digest.digest list_is left digest_is)) (sym below) halfway_is in
-    let next = ahead_digest c.args.now 1000 c.saturating_sub-left.result p c.as_slice-3.result.now c.in_ok-digest.digest list_is left digest_is (with_puts (g.F.Files.map (files_below c.key.new.files)) (puts_over c.key.new.files)) (with_puts (g.F.Files.map (files_below c.follow_each.new.files)) (puts_over c.follow_each.new.files)) c.args.config.now c.in_ok-keys.keys start then config keys_are in
-    let next_due = digest_due c.args.now 1000 c.saturating_sub-left.result p c.as_slice-3.result.now c.in_ok-digest.digest list_is left digest_is in
-    let middle = halfway c.args.now 1000 c.saturating_sub-left.result p c.as_slice-3.result.now c.in_ok-digest.digest list_is left digest_is in
+    let then = subst (λ (d : Dir). IsList (with_puts d (puts_over c.follow_each.new.files)) (halfway c.args.now.seconds 1000 c.saturating_sub-left.result p c.as_slice-3.result.now c.in_ok-digest.digest list_is left digest_is)) (sym below) halfway_is in
+    let next = ahead_digest c.args.now.seconds 1000 c.saturating_sub-left.result p c.as_slice-3.result.now c.in_ok-digest.digest list_is left digest_is (with_puts (g.F.Files.map (files_below c.key.new.files)) (puts_over c.key.new.files)) (with_puts (g.F.Files.map (files_below c.follow_each.new.files)) (puts_over c.follow_each.new.files)) c.args.config.now c.in_ok-keys.keys start then config keys_are in
+    let next_due = digest_due c.args.now.seconds 1000 c.saturating_sub-left.result p c.as_slice-3.result.now c.in_ok-digest.digest list_is left digest_is in
+    let middle = halfway c.args.now.seconds 1000 c.saturating_sub-left.result p c.as_slice-3.result.now c.in_ok-digest.digest list_is left digest_is in
     let here = subst (λ (actions : List Action). IsAhead (with_puts (g.F.Files.map (files_below c.follow_each.new.files)) (puts_over c.follow_each.new.files)) c.args.config.now c.in_ok-keys.keys sets.Digest actions middle next_due) (sym c.as_slice-4.ensures) next in
-    let whole = in_two c.args.now 1000 c.saturating_sub-left.result p c.as_slice-3.result.now c.in_ok-digest.digest list_is left digest_is in
+    let whole = in_two c.args.now.seconds 1000 c.saturating_sub-left.result p c.as_slice-3.result.now c.in_ok-digest.digest list_is left digest_is in
     subst (λ (q : Plain). IsList (with_puts (g.F.Files.map (files_below c.args.files.now)) (puts_over c.follow_each-2.new.files)) q) (sym whole)
-    (subst (λ (d : Dir). IsList (with_puts d (puts_over c.follow_each-2.new.files)) (fold (follow_up c.args.now) middle (of_set sets.Digest next_due))) (below ∙ g.met.F.Files.kept_map (files_below c.due-2.new.files) (files_below c.key.new.files) tells c.key.ensures.reads.kept.0 ∙ g.met.F.Files.kept_map (files_below c.due.new.files) (files_below c.due-2.new.files) tells c.due-2.ensures.reads.kept.0 ∙ g.met.F.Files.kept_map (files_below c.args.files.now) (files_below c.due.new.files) tells c.due.ensures.reads.kept.0) (value middle next_due here)))
+    (subst (λ (d : Dir). IsList (with_puts d (puts_over c.follow_each-2.new.files)) (fold (follow_up c.args.now.seconds) middle (of_set sets.Digest next_due))) (below ∙ g.met.F.Files.kept_map (files_below c.due-2.new.files) (files_below c.key.new.files) tells c.key.ensures.reads.kept.0 ∙ g.met.F.Files.kept_map (files_below c.due.new.files) (files_below c.due-2.new.files) tells c.due-2.ensures.reads.kept.0 ∙ g.met.F.Files.kept_map (files_below c.args.files.now) (files_below c.due.new.files) tells c.due.ensures.reads.kept.0) (value middle next_due here)))
     (c.follow_each-2.ensures.value tells)
 
 pub returns-clause-harmless : goal.returns-clause-harmless
@@ -171,7 +171,7 @@ returns-clause-room g c tells =
     let list = c.in_ok-list.ensures.read tells in
     let digest = c.in_ok-digest.ensures.read tells in
     let left : c.saturating_sub-left.result ≡ 1000 - length c.in_ok-list.list = omega (arith, c.saturating_sub-left.ensures, ap length c.as_slice.ensures) in
-    let few : a + b ≤ 1000 = omega (arith, left, ap length c.as_slice-3.ensures, ap length c.as_slice-4.ensures, few_due c.args.now 1000 list.0 c.in_ok-list.list list.2, few_due c.args.now c.saturating_sub-left.result digest.0 c.in_ok-digest.digest digest.2) in
+    let few : a + b ≤ 1000 = omega (arith, left, ap length c.as_slice-3.ensures, ap length c.as_slice-4.ensures, few_due c.args.now.seconds 1000 list.0 c.in_ok-list.list list.2, few_due c.args.now.seconds c.saturating_sub-left.result digest.0 c.in_ok-digest.digest digest.2) in
     let maps = g.met.F.Files.kept_map (files_below c.due-2.new.files) (files_below c.key.new.files) tells c.key.ensures.reads.kept.0 ∙ g.met.F.Files.kept_map (files_below c.due.new.files) (files_below c.due-2.new.files) tells c.due-2.ensures.reads.kept.0 ∙ g.met.F.Files.kept_map (files_below c.args.files.now) (files_below c.due.new.files) tells c.due.ensures.reads.kept.0 in
     let below = g.met.F.Files.kept_map (files_below c.key.new.files) (files_below c.follow_each.new.files) tells c.follow_each.ensures.reads.kept in
     let over = ap₂ with_puts maps (c.key.ensures.reads.kept.1 ∙ c.due-2.ensures.reads.kept.1 ∙ c.due.ensures.reads.kept.1) in

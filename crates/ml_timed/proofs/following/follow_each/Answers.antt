@@ -57,13 +57,13 @@ loop-rest-preserved g c =
           (c.in_ok-follow_one.ensures.drawn tells (length more + n)) (subst (λ (k : ℕ). HasIdsFor (with_puts below (puts_over c.loop-rest.files)) k) (omega arith) there);
       amid = λ tells p es ahead.
           let same = g.met.F.Files.kept_map (files_below c.args.files.now) (files_below c.loop-rest.files) tells c.loop-rest.invariant.kept.kept in
-          amid_next c.args.now c.args.config.now c.args.keys.now c.args.set p es (with_puts below (puts_over c.loop-rest.files)) (with_puts below (puts_over c.follow_one.new.files)) rest more c.action-item.result c.requires.ledger split
+          amid_next c.args.now.seconds c.args.config.now c.args.keys.now c.args.set p es (with_puts below (puts_over c.loop-rest.files)) (with_puts below (puts_over c.follow_one.new.files)) rest more c.action-item.result c.requires.ledger split
           (subst (λ (d : Dir). (q : Plain) (e : LedgerEntry) → IsList (with_puts d (puts_over c.loop-rest.files)) q → q.config ≡ c.args.config.now → q.keys ≡ c.args.keys.now → find_entry e.key (ledger_of q c.args.set) ≡ Some e → action_of e ≡ c.action-item.result
-          → IsList (with_puts d (puts_over c.follow_one.new.files)) (follow_up c.args.now q (c.args.set, e))) same (c.in_ok-follow_one.ensures.value tells))
+          → IsList (with_puts d (puts_over c.follow_one.new.files)) (follow_up c.args.now.seconds q (c.args.set, e))) same (c.in_ok-follow_one.ensures.value tells))
           (c.loop-rest.invariant.amid tells p es ahead);
     }
 
 pub returns-clause-value : goal.returns-clause-value
 returns-clause-value g c tells p es ahead =
     let dir = with_puts (g.F.Files.map (files_below c.args.files.now)) (puts_over c.loop-rest.files) in
-    amid_last c.args.now c.args.config.now c.args.keys.now c.args.set p es dir c.loop-rest.rest.now (none_left c.loop-rest.rest.now (omega (arith, c.in_default.len_below))) (c.loop-rest.invariant.amid tells p es ahead)
+    amid_last c.args.now.seconds c.args.config.now c.args.keys.now c.args.set p es dir c.loop-rest.rest.now (none_left c.loop-rest.rest.now (omega (arith, c.in_default.len_below))) (c.loop-rest.invariant.amid tells p es ahead)

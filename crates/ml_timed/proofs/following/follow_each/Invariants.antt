@@ -21,5 +21,5 @@ invariant-loop-rest g l = record {
   ids : IsTrue g.F.Files.tells → (more : ℕ) → HasIdsFor (with_puts (g.F.Files.map (files_below l.fn.files)) (puts_over l.fn.files)) (length l.fn.actions + more)
       → HasIdsFor (with_puts (g.F.Files.map (files_below l.fn.files)) (puts_over l.files)) (length l.rest + more);
   amid : IsTrue g.F.Files.tells → (p : Plain) (es : Ledger) → IsAhead (with_puts (g.F.Files.map (files_below l.fn.files)) (puts_over l.fn.files)) l.config l.keys l.set l.fn.actions p es
-      → IsAmid l.now (with_puts (g.F.Files.map (files_below l.fn.files)) (puts_over l.files)) l.config l.keys l.set l.rest p es;
+      → IsAmid l.now.seconds (with_puts (g.F.Files.map (files_below l.fn.files)) (puts_over l.files)) l.config l.keys l.set l.rest p es;
 }

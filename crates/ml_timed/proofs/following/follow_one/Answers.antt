@@ -12,7 +12,7 @@ pub returns-clause-value : goal.returns-clause-value
 returns-clause-value g c tells p e is config keys found act =
     let below = g.F.Files.map (files_below c.args.files.now) in
     let over = laid_more below (puts_over c.args.files.now) (puts_over c.follow_up.new.files) c.in_ok-txn.txn (puts_over c.lay.new.self) c.follow_up.ensures.reads.kept.1 c.in_ok-lay.ensures.ok in
-    subst (λ (d : Dir). IsList d (follow_up c.args.now p (c.args.set, e))) (sym over) (c.in_ok-txn.ensures.value tells p e is config keys found act)
+    subst (λ (d : Dir). IsList d (follow_up c.args.now.seconds p (c.args.set, e))) (sym over) (c.in_ok-txn.ensures.value tells p e is config keys found act)
 
 pub returns-clause-drawn : goal.returns-clause-drawn
 returns-clause-drawn g c tells more has =
