@@ -23,10 +23,6 @@ named_is l h text address fits spelled e =
     let read : Some address ≡ Some (l ++ 64 ∷ lower h) = sym e ∙ ap address_of spelled ∙ ap (λ (b : Bool). cond b (Some (as_address t)) None) fits ∙ ap Some whole in
     cc
 
--- what was found of an address in a set
-pub subject_by : (p : Plain) (set : Set) (s : Subject) (o : Option Member) → o ≡ member_of (key s.named) (p.sets set) → s.who ≡ option_map_or (λ m. m.who) o s.named → s.member ≡ is_some o → IsSubject p set s
-subject_by p set s o found who member = record { who = who ∙ ap (λ (m : Option Member). option_map_or (λ m. m.who) m s.named) found; member = member ∙ ap is_some found }
-
 module _ (p : Plain) (set : Set) (s : Subject) (is : IsSubject p set s) where
   pub who_key : key s.who ≡ key s.named
   who_key = ap key is.who ∙ key_spelled p set s.named

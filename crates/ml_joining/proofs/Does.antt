@@ -21,12 +21,13 @@ use Rattle.ml_subs.specs.declared.changing.AddAnswer.TheVariants.{Added, Full}
 use Rattle.ml_plain.specs.declared.Reply.{Reply}
 use Rattle.ml_plain.specs.Directory.{IsList}
 use Rattle.ml_plain.specs.KeptFiles.{is_kept}
-use Rattle.ml_plain.specs.Managing.{Operation, done, joined}
+use Rattle.ml_plain.specs.Managing.{joined}
 use Rattle.ml_plain.specs.Plain.{Plain, added, is_full, ledger_of, removed, with_ledger_of, with_members}
 use Rattle.ml_plain.proofs.Changes.{members_changed}
 use Rattle.ml_acts.specs.Acting.{AnswersAct}
-use Rattle.ml_acts.specs.Doing.{DoesList, HasIds, HasRoom}
+use Rattle.ml_acts.specs.Doing.{DoesList}
 use Rattle.ml_acts.specs.Damaged.{IsDamaged}
+use Rattle.ml_acts.proofs.Damages.{ok_then}
 use Rattle.ml_acts.proofs.OfActs.{act_so, act_then}
 use Rattle.ml_joining.specs.Operations.{IsSubject}
 use Rattle.ml_joining.specs.declared.subjects.Subject.{Subject}
@@ -66,26 +67,17 @@ without_key_of set k p = with_ledger_of set (forget k (ledger_of p set)) (record
 pub same_removed : (set : Set) (a b : Text) (p : Plain) → key a ≡ key b → removed set a p ≡ removed set b p
 same_removed set a b p e = ap (λ (k : Text). without_key_of set k p) e
 
--- there is room for an entry, also behind reads
-pub ids_left : (old dir : Dir) → dir ≡ old → HasRoom old → HasIds dir
-ids_left old dir same room = subst (λ (d : Dir). HasIds d) (sym same) (λ low next counted. let le = room.ids low next counted in omega (arith, le))
+-- an answer of a call on files that were kept, about whom a request is about
+module _ {old dir : Dir} (r : Result (List Put × Reply) PartError) {c : Config} {set : Set} {s : Subject} {step other : Plain → Plain × Reply} where
+  pub found_by : dir ≡ old → ((p : Plain) → IsList old p → p.config ≡ c → IsSubject p set s → step p ≡ other p) → IfOk r (λ answer. (p : Plain) → IsList dir p → p.config ≡ c → IsSubject p set s → DoesList dir answer (step p))
+      → IfOk r (λ answer. (p : Plain) → IsList old p → p.config ≡ c → IsSubject p set s → DoesList old answer (other p))
+  found_by same f value = ok_then r (λ answer does p is e about.
+      subst (λ (t : Plain × Reply). DoesList old answer t) (f p is e about) (subst (λ (d : Dir). DoesList d answer (step p)) same (does p (subst (λ (d : Dir). IsList d p) (sym same) is) e about))) value
 
--- the same about whom a request is about
-pub asked_by : (old dir : Dir) (r : Result (List Put × Reply) PartError) (c : Config) (set : Set) (s : Subject) (step other : Plain → Plain × Reply) → dir ≡ old → ((p : Plain) → IsList old p → IsSubject p set s)
-    → ((p : Plain) → IsList old p → p.config ≡ c → IsSubject p set s → step p ≡ other p)
-    → IfOk r (λ answer. (p : Plain) → IsList dir p → p.config ≡ c → IsSubject p set s → DoesList dir answer (step p)) → IfOk r (λ answer. (p : Plain) → IsList old p → p.config ≡ c → DoesList old answer (other p))
-asked_by old dir (Err e) c set s step other same whom f value = tt
-asked_by old dir (Ok answer) c set s step other same whom f value = λ p is e.
-    let about = whom p is in
-    subst (λ (d : Dir). DoesList d answer (other p)) same
-    (subst (λ (t : Plain × Reply). DoesList dir answer t) (f p is e about) (value p (subst (λ (d : Dir). IsList d p) (sym same) is) e about))
-
--- the same of a operation that is this one
-pub deed_is : {D : Type 0} (dir : Dir) (r : Result (List Put × Reply) PartError) (c : Config) (now : ℕ) (set : Set) (sender : Text) (s : Subject) (view : D → Operation) (operation arm : D) → operation ≡ arm
-    → IfOk r (λ answer. (p : Plain) → IsList dir p → p.config ≡ c → DoesList dir answer (done now set sender s.who p (view arm)))
-    → IfOk r (λ answer. (p : Plain) → IsList dir p → p.config ≡ c → IsSubject p set s → DoesList dir answer (done now set sender s.who p (view operation)))
-deed_is dir (Err e) c now set sender s view operation arm same value = tt
-deed_is {D = D} dir (Ok answer) c now set sender s view operation arm same value = λ p is e about. subst (λ (d : D). DoesList dir answer (done now set sender s.who p (view d))) (sym same) (value p is e)
+  -- who was found by a read
+  pub asked_by : dir ≡ old → ((p : Plain) → IsList old p → IsSubject p set s) → ((p : Plain) → IsList old p → p.config ≡ c → IsSubject p set s → step p ≡ other p)
+      → IfOk r (λ answer. (p : Plain) → IsList dir p → p.config ≡ c → IsSubject p set s → DoesList dir answer (step p)) → IfOk r (λ answer. (p : Plain) → IsList old p → p.config ≡ c → DoesList old answer (other p))
+  asked_by same whom f value = ok_then r (λ answer does p is e. does p is e (whom p is)) (found_by same f value)
 
 -- an act that may read more
 pub act_fewer : {F : Type 0} {told : Ghosts F} {old new : F} {May Few Bad : Name → Type 0} {r : Result (List Put × Reply) PartError} → AnswersAct told Few Bad old new r → ((name : Name) → Few name → May name) → AnswersAct told May Bad old new r

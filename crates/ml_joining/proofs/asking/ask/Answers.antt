@@ -1,10 +1,8 @@
 use Rattle.std.proofs.Common.{rules, ap, ap₂, ◌∙◌}
-use Rattle.std.proofs.lemmas.Bool.{or_right}
+use Rattle.std.proofs.lemmas.Bool.{or_right, or_left}
 use Rattle.ml_base.specs.Bytes.{Text}
-use Rattle.ml_base.specs.Dir.{same_name}
 use Rattle.ml_config.proofs.KeyLemmas.{one_key_file}
 use Rattle.ml_config.specs.KeyFile.{key_name}
-use Rattle.ml_queue.specs.Answers.{ids_name}
 use Rattle.ml_plain.specs.Answers.{asked}
 use Rattle.ml_plain.specs.Mailing as spec
 use Rattle.ml_plain.specs.declared.Reply.{Reply}
@@ -29,4 +27,4 @@ returns-clause-act g c =
     let mailed = c.with_mail.ensures in
     act_kept g.met.F.Files.kept_then g.met.F.Files.kept_map c.key.ensures.reads
     (record { own = mailed.own; files = mailed.files; reply = search rules; names = mailed.names; reads = mailed.reads })
-    (λ name e. or_right (same_name name key_name) (same_name name ids_name) e)
+    (λ name e. search (rules, or_left, or_right))

@@ -1,21 +1,15 @@
-use Rattle.std.proofs.Common.{◌≡◌, true, ◌||◌, sym, ap, ap₂, ◌∙◌, ◌⊎◌, inl, inr, rules}
-use Rattle.std.proofs.lemmas.Bool.{or_cases, or_left, or_right}
+use Rattle.std.proofs.Common.{sym, ap, ap₂, ◌∙◌, rules, arith}
+use Rattle.std.proofs.lemmas.Grind.{common_steps}
 use Rattle.ml_address.specs.declared.Word.TheVariants as words
 use Rattle.ml_base.specs.Bytes.{Text}
-use Rattle.ml_base.specs.Dir.{same_name}
-use Rattle.ml_base.specs.declared.names.Name.{Name}
-use Rattle.ml_base.specs.declared.names.Set.TheVariants as sets
 use Rattle.ml_config.proofs.KeyLemmas.{one_key_file}
 use Rattle.ml_config.specs.KeyFile.{key_name}
 use Rattle.ml_config.specs.declared.configuration.Config.{Config}
-use Rattle.ml_queue.specs.Answers.{ids_name}
 use Rattle.ml_plain.specs.Answers.{asked}
 use Rattle.ml_plain.specs.Mailing as spec
 use Rattle.ml_plain.specs.declared.Reply.{Reply}
 use Rattle.ml_reply.specs.declared.mails.Mail.{Mail}
 use Rattle.ml_reply.specs.declared.mails.Mail.TheVariants.{AskTc}
-use Rattle.ml_acts.specs.Doing.{is_bucket, is_mailed_by}
-use Rattle.ml_joining.specs.Reads.{is_for_mail}
 use Rattle.ml_joining.proofs.Does.{act_kept, told_by}
 use Rattle.ml_joining.proofs.asking.ask_moderators.Goals as goal
 
@@ -32,15 +26,8 @@ returns-clause-value g c told =
     c.plain-reply.ensures)
     (c.with_mail_to_moderators.ensures.value told)
 
-wider : (name : Name) → is_mailed_by sets.Moderators name ≡ true → (is_for_mail name || is_bucket sets.Moderators name) ≡ true
-wider name e = go (or_cases (is_bucket sets.Moderators name) (same_name name ids_name) e)
-  where
-    go : ((is_bucket sets.Moderators name ≡ true) ⊎ (same_name name ids_name ≡ true)) → (is_for_mail name || is_bucket sets.Moderators name) ≡ true
-    go (inl b) = or_right (is_for_mail name) (is_bucket sets.Moderators name) b
-    go (inr i) = or_left (is_for_mail name) (is_bucket sets.Moderators name) (or_right (same_name name key_name) (same_name name ids_name) i)
-
 pub returns-clause-act : goal.returns-clause-act
 returns-clause-act g c =
     let mailed = c.with_mail_to_moderators.ensures in
     act_kept g.met.F.Files.kept_then g.met.F.Files.kept_map c.key.ensures.reads
-    (record { own = mailed.own; files = mailed.files; reply = search rules; names = mailed.names; reads = mailed.reads }) wider
+    (record { own = mailed.own; files = mailed.files; reply = search rules; names = mailed.names; reads = mailed.reads }) (λ name e. grind (arith, common_steps))

@@ -1,14 +1,7 @@
 use Rattle.std.proofs.Common.{◌≡◌, true, false, sym, ◌∙◌, subst, rules}
 use Rattle.std.proofs.lemmas.Bool.{or_left}
 use Rattle.ml_base.specs.Address.{key}
-use Rattle.ml_base.specs.Dir.{Dir, same_name, touches_only, with_puts}
-use Rattle.ml_queue.specs.Answers.{ids_name}
-use Rattle.ml_subs.specs.Answers.{IsAddition, puts_of}
-use Rattle.ml_subs.specs.Subscribers.{is_touched}
-use Rattle.ml_subs.specs.declared.changing.AddAnswer.{AddAnswer}
 use Rattle.ml_plain.specs.Answers as answers
-use Rattle.ml_plain.specs.Directory.{IsList}
-use Rattle.ml_plain.specs.Managing.{joined}
 use Rattle.ml_plain.specs.Plain.{added}
 use Rattle.ml_acts.specs.Doing.{DoesList}
 use Rattle.ml_acts.proofs.Damages.{change_named, ok_then}
@@ -24,28 +17,26 @@ returns-in-Added-clause-value g c told =
     let now = c.args.now.seconds in
     let same = g.met.F.Files.kept_map c.args.files.now c.add.new.files told c.add.ensures.reads.kept in
     ok_then c.welcome.result
-    (λ done value p is e fresh.
-    let a = subst (λ (o : AddAnswer). IsAddition old set (p.sets set) (record { who = who; since = now }) o) c.in-Added.is (c.in_ok-txn.ensures.value told (p.sets set) (is.sets set)) in
-    let only = subst (λ (o : AddAnswer). touches_only (is_touched set (key who)) (puts_of o) ≡ true) c.in-Added.is c.in_ok-txn.ensures.others in
-    subst (λ s. DoesList old done s) (sym (has_room old p set who now is c.in-Added.txn a))
-    (subst (λ (d : Dir). DoesList d done (joined now set who false p)) same
-    (value (added set who now p) (subst (λ (d : Dir). IsList (with_puts d c.in-Added.txn) (added set who now p)) (sym same) (added_list old p set who now is c.in-Added.txn a only)) e)))
+    (λ done does p is e fresh.
+    let added_by = rw c.in-Added.is at c.in_ok-txn.ensures.value told (p.sets set) (is.sets set) in
+    let only = rw c.in-Added.is at c.in_ok-txn.ensures.others in
+    subst (λ s. DoesList old done s) (sym (has_room old p set who now is c.in-Added.txn added_by))
+    (rw (← same) (does (added set who now p) (rw same (added_list old p set who now is c.in-Added.txn added_by only)) e)))
     (c.welcome.ensures.value told)
 
 pub returns-in-Already-clause-value : goal.returns-in-Already-clause-value
 returns-in-Already-clause-value g c told p is e fresh =
-    let old = g.F.Files.map c.args.files.now in
-    let a = subst (λ (o : AddAnswer). IsAddition old c.args.set (p.sets c.args.set) (record { who = c.args.who.now; since = c.args.now.seconds }) o) c.in-Already.is (c.in_ok-txn.ensures.value told (p.sets c.args.set) (is.sets c.args.set)) in
-    absurd (let bad : true ≡ false = sym a ∙ fresh in cc)
+    let there = rw c.in-Already.is at c.in_ok-txn.ensures.value told (p.sets c.args.set) (is.sets c.args.set) in
+    absurd (let bad : true ≡ false = sym there ∙ fresh in cc)
 
 pub returns-in-Full-clause-value : goal.returns-in-Full-clause-value
 returns-in-Full-clause-value g c told p is e fresh =
     let old = g.F.Files.map c.args.files.now in
-    let a = subst (λ (o : AddAnswer). IsAddition old c.args.set (p.sets c.args.set) (record { who = c.args.who.now; since = c.args.now.seconds }) o) c.in-Full.is (c.in_ok-txn.ensures.value told (p.sets c.args.set) (is.sets c.args.set)) in
-    subst (λ s. DoesList old (c.new-in-Full.result, c.plain-in-Full.result) s) (sym (has_none old p c.args.set c.args.who.now c.args.now.seconds is a)) (only_reply old p c.new-in-Full.result c.plain-in-Full.result answers.full c.new-in-Full.ensures c.plain-in-Full.ensures is)
+    let full = rw c.in-Full.is at c.in_ok-txn.ensures.value told (p.sets c.args.set) (is.sets c.args.set) in
+    subst (λ s. DoesList old (c.new-in-Full.result, c.plain-in-Full.result) s) (sym (has_none old p c.args.set c.args.who.now c.args.now.seconds is full)) (only_reply old p c.new-in-Full.result c.plain-in-Full.result answers.full c.new-in-Full.ensures c.plain-in-Full.ensures is)
 
 pub returns-in_err-txn-clause-act : goal.returns-in_err-txn-clause-act
 returns-in_err-txn-clause-act g c =
     let who = c.args.who.now in
-    let names = change_named g.F.Files (λ name. is_touched_with_mail c.args.set who name ≡ true) _ (g.F.Files.map c.args.files.now) c.args.set (key who) false (λ name e. or_left (is_touched c.args.set (key who) name) (same_name name ids_name) e) c.in_err-txn.ensures.names in
+    let names = change_named g.F.Files (λ name. is_touched_with_mail c.args.set who name ≡ true) _ (g.F.Files.map c.args.files.now) c.args.set (key who) false (λ name e. search (rules, or_left)) c.in_err-txn.ensures.names in
     search rules

@@ -6,11 +6,11 @@ use Rattle.ml_joining.proofs.requests.confirm.Goals as goal
 
 pub returns-clause-value : goal.returns-clause-value
 returns-clause-value g c told =
-    done_under c.args.config.now c.new-under.result.config.now (g.F.Files.map c.args.files.now) (g.F.Files.map c.new-under.result.files.now) c.new-under.ensures.config (ap g.F.Files.map c.new-under.ensures.files) c.confirm_asked.result
+    done_under _ _ _ _ c.new-under.ensures.config (ap g.F.Files.map c.new-under.ensures.files) c.confirm_asked.result
     (λ p. spec.confirm c.args.now c.args.sender.now c.args.word c.args.set (record { time = c.args.time; cookie = c.args.cookie.now; who = who_view c.args.who }) (spec.subject_of p c.args.set c.args.sender.now (Some (who_view c.args.who))) p)
     c.requires.config (c.confirm_asked.ensures.value told)
 
 pub returns-clause-act : goal.returns-clause-act
 returns-clause-act g c =
-    let damaged = λ (told : IsTrue g.F.Files.tells). bad_under c.args.config.now c.new-under.result.config.now (g.F.Files.map c.args.files.now) (g.F.Files.map c.new-under.result.files.now) c.new-under.ensures.config (ap g.F.Files.map c.new-under.ensures.files) c.confirm_asked.result (c.confirm_asked.ensures.act.names.damaged told) in
+    let damaged = λ (told : IsTrue g.F.Files.tells). bad_under _ _ _ _ c.new-under.ensures.config (ap g.F.Files.map c.new-under.ensures.files) c.confirm_asked.result (c.confirm_asked.ensures.act.names.damaged told) in
     search rules

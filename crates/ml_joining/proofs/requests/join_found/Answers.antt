@@ -1,40 +1,28 @@
-use Rattle.std.proofs.Common.{◌≡◌, Bool, true, ◌&&◌, ◌∙◌, ap, sym, subst, rules}
-use Rattle.std.proofs.lemmas.Bool.{or_left}
-use Rattle.ml_base.specs.Dir.{Dir}
-use Rattle.ml_base.specs.declared.names.Set.TheVariants as sets
-use Rattle.ml_plain.specs.Directory.{IsList}
+use Rattle.std.proofs.Common.{Bool, ◌&&◌, ◌∙◌, ap, rules}
+use Rattle.std.proofs.lemmas.Bool.{or_left, or_right}
 use Rattle.ml_plain.specs.Managing as spec
 use Rattle.ml_plain.specs.Plain.{is_moderator}
-use Rattle.ml_acts.specs.Doing.{DoesList, is_bucket_of}
-use Rattle.ml_acts.proofs.Damages.{ok_then}
-use Rattle.ml_joining.specs.Operations.{joining_deed}
-use Rattle.ml_joining.specs.Reads.{asks_rank, is_read_to_join}
 use Rattle.ml_joining.proofs.Asked.{who_there}
 use Rattle.ml_joining.proofs.Decided.{joining_is, own_is}
-use Rattle.ml_joining.proofs.Does.{act_kept, act_err}
-use Rattle.ml_joining.proofs.Ways.{to_subscribe}
+use Rattle.ml_joining.proofs.Does.{act_kept, act_err, found_by}
 use Rattle.ml_joining.proofs.requests.join_found.Goals as goal
 
 pub returns-clause-value : goal.returns-clause-value
 returns-clause-value g c told =
-    let old = g.F.Files.map c.args.files.now in
     let x = c.args.x.now in
-    let config = c.args.config.now in
     let set = c.args.set in
     let sender = c.args.sender.now in
-    let same = g.met.F.Files.kept_map c.args.files.now c.moderates.new.files told c.moderates.ensures.reads.kept in
-    ok_then c.joined.result
-    (λ done value p is e about.
-    let operation = c.joining-operation.ensures.operation ∙ joining_is p config set sender x.who (record { moderator = c.in_ok-moderator.moderator; member = x.member; own = c.same.result }) e (who_there p set x about) (own_is c.same.result x.who sender c.same.ensures) (c.in_ok-moderator.ensures.value told p is ∙ ap (λ (a : Bool). a && is_moderator p sender) c.asks_rank.ensures) in
-    subst (λ (d : spec.Operation). DoesList old done (spec.done c.args.now.seconds set sender x.who p d)) operation
-    (subst (λ (d : Dir). DoesList d done (spec.done c.args.now.seconds set sender x.who p (joining_deed c.joining-operation.result))) same (value p (subst (λ (d : Dir). IsList d p) (sym same) is) e about)))
+    found_by _ (g.met.F.Files.kept_map c.args.files.now c.moderates.new.files told c.moderates.ensures.reads.kept)
+    (λ p is e about. ap (spec.done c.args.now.seconds set sender x.who p)
+    (c.joining-operation.ensures.operation
+    ∙ joining_is p c.args.config.now set sender x.who (record { moderator = c.in_ok-moderator.moderator; member = x.member; own = c.same.result }) e (who_there p set x about) (own_is c.same.result x.who sender c.same.ensures) (c.in_ok-moderator.ensures.value told p is ∙ ap (λ (a : Bool). a && is_moderator p sender) c.asks_rank.ensures)))
     (c.joined.ensures.value told)
 
 pub returns-in_err-moderator-clause-act : goal.returns-in_err-moderator-clause-act
 returns-in_err-moderator-clause-act g c =
     act_err c.in_err-moderator.ensures.names c.in_err-moderator.ensures.reads
-    (λ name e. or_left (asks_rank c.args.config.now && is_bucket_of sets.Moderators c.args.sender.now name) (is_read_to_join c.args.set c.args.x.now.named name) (subst (λ (a : Bool). (a && is_bucket_of sets.Moderators c.args.sender.now name) ≡ true) c.asks_rank.ensures e)) (search rules)
+    (λ name e. search (rules, or_left, or_right)) (search rules)
 
 pub returns-clause-act : goal.returns-clause-act
 returns-clause-act g c = act_kept g.met.F.Files.kept_then g.met.F.Files.kept_map c.moderates.ensures.reads c.joined.ensures.act
-    (λ name e. to_subscribe c.args.set c.args.x.now.named name c.args.config.now c.args.sender.now e)
+    (λ name e. search (rules, or_left, or_right))
