@@ -23,7 +23,7 @@ use Rattle.ml_run.specs.Groups.{IsOfNext}
 use Rattle.ml_run.specs.Leaving.{HasState, IsAfterSome}
 use Rattle.ml_run.proofs.Leaving.{same_state}
 use Rattle.ml_run.proofs.Named.{names_map}
-use Rattle.ml_run.proofs.Settled.{settled_not}
+use Rattle.ml_run.proofs.Streamed.{settled_not}
 use Rattle.ml_stream.specs.Stream.{End}
 use Rattle.ml_stream.specs.Writing.{stream_text}
 use Rattle.ml_exercise.specs.Exercising.{answered_all, behind, ExercisesList, IsExercising, IsOfItem, items_of}
@@ -97,10 +97,10 @@ module _ {S : Type 0} (told : Ghosts S) (reads_told : IsTrue told.tells_all → 
         inr (record { end = e.0; hindered = e.1 });
     at_rest = λ _ q state t. weaker told.moment told.left_since told.disk told.output old mid (IsAfterSome q (items_of q count) (told.output old)) (IsExercising q count (told.output old)) (some_moments t q state t)
         (λ left out p. inl p);
-    rest = runs.rest;
-    gate = runs.gate;
-    of_disk = runs.of_disk;
-    of_output = runs.of_output;
+    rest = runs.closed.rest;
+    gate = runs.closed.gate;
+    of_disk = runs.counts.of_disk;
+    of_output = runs.counts.of_output;
     named = λ r e. inl (run_named r e);
     nolist = λ r files dir none. absurd (has_one (directory (told.disk old).reads) config files (found r) dir none);
   }
@@ -125,17 +125,17 @@ module _ {S : Type 0} (told : Ghosts S) (reads_told : IsTrue told.tells_all → 
       at_rest = λ _ q state t.
           let e = ended (reads_told t) q state in
           joins told.moment told.left_since told.disk told.output old mid new (IsAfterSome q (items_of q count) (told.output old)) (IsLooking (directory (told.disk mid).reads) count (behind q count).plain (told.output mid)) (IsExercising q count (told.output old))
-          (some_moments t q state t) (sums.at_rest (runs.settled is t) (behind q count) e.state t) (λ left out p. inl p)
+          (some_moments t q state t) (sums.at_rest (runs.closed.settled is t) (behind q count) e.state t) (λ left out p. inl p)
           (λ left out p. inr (record {
             state = same_state (directory (told.disk mid).reads) (directory left) (behind q count) p.0 e.state;
             put = subst (λ (b : Text). IsSummingUp count (behind q count).plain b out) (e.put t) p.1;
           }));
-      rest = λ none one two. sums.rest (λ rose. none (rose_earlier (told.disk_faults old) (told.disk_faults mid) (told.disk_faults new) runs.disk_later rose)) one two;
+      rest = λ none one two. sums.rest (λ rose. none (rose_earlier (told.disk_faults old) (told.disk_faults mid) (told.disk_faults new) runs.counts.disk_later rose)) one two;
       gate = λ some one two three r.
-          let here = runs.gate some (λ e. settled_not run 71 refl is e) (λ e. settled_not run 73 refl is e) (λ e. settled_not run 111 refl is e) r in
+          let here = runs.closed.gate some (λ e. settled_not run 71 refl is e) (λ e. settled_not run 73 refl is e) (λ e. settled_not run 111 refl is e) r in
           sums.gate (gate_some (told.disk mid).reads here) one two three r;
-      of_disk = λ e. rose_earlier (told.disk_faults old) (told.disk_faults mid) (told.disk_faults new) runs.disk_later (sums.of_disk e);
-      of_output = λ e. rose_earlier (told.output_faults old) (told.output_faults mid) (told.output_faults new) runs.output_later (sums.of_output e);
+      of_disk = λ e. rose_earlier (told.disk_faults old) (told.disk_faults mid) (told.disk_faults new) runs.counts.disk_later (sums.of_disk e);
+      of_output = λ e. rose_earlier (told.output_faults old) (told.output_faults mid) (told.output_faults new) runs.counts.output_later (sums.of_output e);
       named = λ r e. inr (sums.named r e);
       nolist = λ r files dir none. absurd (has_one (directory (told.disk old).reads) config files (found r) dir none);
     }

@@ -1,16 +1,14 @@
 -- What a run of the items of an exercise does.
-use Rattle.std.specs.Prelude.{◌≡◌, ◌≤◌, ℕ, Bool, ◌==◌, ◌||◌, IsTrue, IsSome, List, [], ◌∷◌, Some}
-use Rattle.ml_base.specs.Bytes.{nul}
-use Rattle.ml_base.specs.Faults.{Rose}
+use Rattle.std.specs.Prelude.{◌≡◌, ℕ, Bool, ◌==◌, ◌||◌, IsTrue, List, [], Some}
 use Rattle.ml_config.specs.declared.configuration.Config.{Config}
 use Rattle.ml_generated.specs.Items.{generated}
 use Rattle.ml_plain.specs.Histories.{State}
-use Rattle.ml_plain.specs.Replies.{is_status}
 use Rattle.ml_plain.specs.declared.Item.{Item}
 use Rattle.ml_site.specs.Disk.{IsAtRest}
 use Rattle.ml_site.specs.declared.site.Site.{Ghosts}
 use Rattle.ml_journal.specs.Calls.{Leaves}
 use Rattle.ml_journal.specs.Log.{directory}
+use Rattle.ml_run.specs.Clauses.{ClosesRun, CountsSite}
 use Rattle.ml_run.specs.Endings.{Brings, Names, Runs}
 use Rattle.ml_run.specs.Groups.{IsOfNext}
 use Rattle.ml_run.specs.Leaving.{HasState, IsAfterSome}
@@ -32,12 +30,7 @@ pub record RunsItems {S : Type 0} (told : Ghosts S) (items : List Item) (count :
   pub whole : IsTrue told.tells_reads → (q : State) → HasState (directory (told.disk old).reads) q
       → Runs (IsTrue told.tells_all) ⊥ status count answered (told.disk new).reads (told.output new) items End q (told.output old)
   pub at_rest : IsAtRest (told.disk old) → (q : State) → HasState (directory (told.disk old).reads) q → Leaves told old new (IsAfterSome q items (told.output old))
-  pub settled : IsTrue (is_status status) → IsTrue told.tells_all → IsAtRest (told.disk new)
-  pub rest : (Rose (told.disk_faults old) (told.disk_faults new) → ⊥) → (status ≡ 71 → ⊥) → (status ≡ 73 → ⊥) → IsTrue told.tells_all → IsAtRest (told.disk new)
-  pub gate : IsSome (directory (told.disk old).reads) → (status ≡ 71 → ⊥) → (status ≡ 73 → ⊥) → (status ≡ 111 → ⊥) → IsTrue told.tells_reads → (told.disk new).reads.log ≡ nul ∷ []
-  pub of_disk : status ≡ 111 → Rose (told.disk_faults old) (told.disk_faults new)
-  pub of_output : status ≡ 73 → Rose (told.output_faults old) (told.output_faults new)
+  pub closed : ClosesRun told status old new
+  pub counts : CountsSite told status old new
   pub named : IsTrue told.tells_reads → status ≡ 75
       → Names (IsTrue told.tells_all) (IsOfNext (Brings (Some (stream_text items))) answered) (directory (told.disk old).reads) (directory (told.disk new).reads) (told.output new)
-  pub disk_later : told.disk_faults old ≤ told.disk_faults new
-  pub output_later : told.output_faults old ≤ told.output_faults new

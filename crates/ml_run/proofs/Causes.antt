@@ -4,7 +4,6 @@ use Rattle.std.proofs.lemmas.Bool.Decides.{nat_tests}
 use Rattle.ml_base.specs.Faults.{Rose}
 use Rattle.ml_base.specs.declared.names.Name.{Name}
 use Rattle.ml_site.specs.declared.site.Site.{Ghosts}
-use Rattle.ml_journal.specs.Calls.{IsClean}
 use Rattle.ml_plain.specs.Replies.{is_status}
 use Rattle.ml_ending.specs.declared.lines.Why.{Why}
 use Rattle.ml_ending.specs.declared.lines.Why.TheVariants as whys
@@ -14,9 +13,9 @@ use Rattle.ml_run.specs.declared.groups.GroupEnd.{GroupEnd}
 use Rattle.ml_run.specs.declared.groups.GroupEnd.TheVariants as ends
 use Rattle.ml_run.specs.Groups.{HasReason, EndsWithReason}
 use Rattle.ml_run.specs.Spending.{IsRefused}
-use Rattle.ml_ending.proofs.Finished.{rose_later, rose_earlier, memory_status, disk_status}
-use Rattle.ml_ending.specs.Endings.{StopLine, Says, ClosesTo, Finishes, Refuses}
-use Rattle.ml_run.specs.Endings.{HasLineReason, HasCauses}
+use Rattle.ml_ending.proofs.Finished.{rose_earlier, memory_status, disk_status}
+use Rattle.ml_ending.specs.Endings.{Says, Refuses}
+use Rattle.ml_run.specs.Endings.{HasCauses}
 
 -- what follows from the causes of a reason
 pub reason_map : (why : Why) (input input' d d' : Type 0) (damaged damaged' : Name → Type 0) → (input → input') → (d → d') → ((name : Name) → damaged name → damaged' name) → HasReason why input d damaged → HasReason why input' d' damaged'
@@ -44,16 +43,6 @@ end_reason ends.Full input input' disk damaged f r = r
 end_reason ends.Last input input' disk damaged f r = r
 end_reason (ends.Stopped who why) input input' disk damaged f r = reason_map why input input' disk disk damaged (λ name. Unit {0}) f (λ d. d) (λ name d. tt) r
 
-line_weaker : (line : StopLine) (input d d' : Type 0) (damaged : Name → Type 0) → (d → d') → HasLineReason line input d damaged → HasLineReason line input d' damaged
-line_weaker None input d d' damaged f r = r
-line_weaker (Some line) input d d' damaged f r = reason_weaker line.1 input d d' damaged f r
-
-closes_reason : (line final : StopLine) (rest disk input d d' : Type 0) (damaged : Name → Type 0) → ClosesTo line final rest disk → (d → d') → (disk → d') → HasLineReason line input d damaged → HasLineReason final input d' damaged
-closes_reason line final rest disk input d d' damaged c f g r =
-    let P : StopLine → Type 0 = λ l. HasLineReason l input d' damaged in
-    let same = line_weaker line input d d' damaged f r in
-    ⊎_elim (λ e. subst P (sym e.0) same) (λ more. ⊎_elim (λ e. subst P (sym e.0) same) (λ other. ⊎_elim (λ m. subst P (sym m.0) tt) (λ e. subst P (sym e.0) (g e.2)) other) more) c
-
 other_status : (status : ℕ) (input disk output : Type 0) → IsTrue (is_run_status status) → (status ≡ 74 → ⊥) → (status ≡ 111 → ⊥) → (status ≡ 73 → ⊥) → HasCauses status input disk output
 other_status status input disk output known one two three = record { known = known; of_input = λ e. absurd (one e); of_disk = λ e. absurd (two e); of_output = λ e. absurd (three e) }
 
@@ -76,14 +65,8 @@ why_causes whys.Absent input d o damaged r = absurd r
 cut_causes : (input d o : Type 0) → o → HasCauses 73 input d o
 cut_causes input d o rose = record { known = refl; of_input = λ e. absurd (omega (arith, e)); of_disk = λ e. absurd (omega (arith, e)); of_output = λ e. rose }
 
-status_run : (last : ℕ) → is_status last ≡ true → is_run_status last ≡ true
-status_run last is = grind (arith, nat_tests)
-
 pub status_not : (last n : ℕ) → is_status last ≡ true → 0 < n → n < 100 → ¬ (last ≡ n)
 status_not last n is low high e = grind (arith, nat_tests)
-
-status_not_111 : (last : ℕ) → is_status last ≡ true → ¬ (last ≡ 111)
-status_not_111 last is e = grind (arith, nat_tests)
 
 module _ {S : Type 0} (told : Ghosts S) where
   pub said_causes : (mid new : S) (d0 o0 status : ℕ) (who : Option ℕ) (why : Why) (input : Type 0) (damaged : Name → Type 0) → o0 ≤ told.output_faults mid → HasReason why input (Rose d0 (told.disk_faults mid)) damaged → Says told mid new status who why
@@ -95,18 +78,6 @@ module _ {S : Type 0} (told : Ghosts S) where
       (reason_weaker why input (Rose d0 (told.disk_faults mid)) (Rose d0 (told.disk_faults new)) damaged (λ rose. subst (λ (n : ℕ). Rose d0 n) (sym s.disk_faults) rose) r)))
       (λ cut. subst P (sym cut.0) (cut_causes input (Rose d0 (told.disk_faults new)) (Rose o0 (told.output_faults new)) (rose_earlier o0 (told.output_faults mid) (told.output_faults new) le cut.1)))
       s.line
-
-  pub finished_causes : (now new : S) (d0 o0 status last : ℕ) (line : StopLine) (input : Type 0) (damaged : Name → Type 0) → d0 ≤ told.disk_faults now → o0 ≤ told.output_faults now → is_status last ≡ true
-      → HasLineReason line input (Rose d0 (told.disk_faults now)) damaged → Finishes told now new line status last → HasCauses status input (Rose d0 (told.disk_faults new)) (Rose o0 (told.output_faults new))
-  finished_causes now new d0 o0 status last line input damaged dle ole is r f =
-      let reason : HasLineReason f.final input (Rose d0 (told.disk_faults f.mid)) damaged = closes_reason line f.final (IsClean told f.mid) (Rose (told.disk_faults now) (told.disk_faults f.mid)) input
-      (Rose d0 (told.disk_faults now)) (Rose d0 (told.disk_faults f.mid)) damaged f.closes (λ rose. rose_later d0 (told.disk_faults now) (told.disk_faults f.mid) rose f.faults) (λ rose. rose_earlier d0 (told.disk_faults now) (told.disk_faults f.mid) dle rose) r in
-      ⊎_elim
-      (λ quiet. subst (λ (n : ℕ). HasCauses n input (Rose d0 (told.disk_faults new)) (Rose o0 (told.output_faults new))) (sym quiet.1)
-      (other_status last input (Rose d0 (told.disk_faults new)) (Rose o0 (told.output_faults new)) (status_run last is) (status_not last 74 is (omega arith) (omega arith)) (status_not_111 last is) (status_not last 73 is (omega arith) (omega arith))))
-      (λ said. said_causes f.mid new d0 o0 status said.0 said.1 input damaged (omega (arith, ole, f.others))
-      (subst (λ (l : StopLine). HasLineReason l input (Rose d0 (told.disk_faults f.mid)) damaged) said.2 reason) said.3)
-      f.said
 
   -- a refused group has one of these statuses
   pub refused_status : (mid new : S) (status : ℕ) (first : Option ℕ) (why : Option Why) (disk output : Type 0) → IsRefused why disk output → Refuses told mid new first why status

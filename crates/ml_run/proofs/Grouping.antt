@@ -99,10 +99,6 @@ number_cut (suc more) item rest later some is = subst (λ (l : List Item). IsNum
 pub same_group : (g : Group) (txn : List Put) (lines : Text) → txn ≡ g.txn → lines ≡ g.lines → record { txn = txn; lines = lines; count = g.count; size = g.size; first = g.first; last = g.last } ≡ g
 same_group g txn lines e f = λ i. record { txn = e i; lines = f i; count = g.count; size = g.size; first = g.first; last = g.last }
 
--- a line that was added is taken off again
-pub taken_off : (lines line now cut : Text) (before : ℕ) → now ≡ lines ++ line → before ≡ length lines → cut ≡ take before now → cut ≡ lines
-taken_off lines line now cut before is size off = off ∙ ap (take before) is ∙ take_at lines line before (sym size)
-
 some_first : (first : Option ℕ) (number : ℕ) → IsSome (first_number first number)
 some_first None number = refl
 some_first (Some n) number = refl

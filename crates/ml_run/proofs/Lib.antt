@@ -16,6 +16,5 @@ pub mod Complete
 pub mod Taking
 pub mod Taken
 pub mod Streamed
-pub mod Settled
 pub mod Unfailing
 pub mod InHand

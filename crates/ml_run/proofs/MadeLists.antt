@@ -16,7 +16,7 @@ use Rattle.ml_site.specs.Disk.{Contents, Disk, IsImage, Giving, IsAtRest, Now}
 use Rattle.ml_site.specs.Moments.{LeavesOnly, FromFirstSync}
 use Rattle.ml_site.specs.declared.site.Site.{Ghosts}
 use Rattle.ml_site.proofs.Steps.{goes_on, joins, weaker, rest_contents}
-use Rattle.ml_journal.specs.Calls.{Leaves, ChangesDirectory, IsClean}
+use Rattle.ml_journal.specs.Calls.{Leaves, ChangesDirectory}
 use Rattle.ml_journal.specs.Kept.{IsStill}
 use Rattle.ml_journal.specs.Log.{directory}
 use Rattle.ml_journal.specs.Moments.{with_txn, IsOld, IsOldOrNew}
@@ -29,7 +29,7 @@ use Rattle.ml_ending.specs.Stops.{status_of_why, why_of_open}
 use Rattle.ml_ending.specs.Endings.{IsUnopened, Says, Finishes, Opens, TellsClosed}
 use Rattle.ml_run.specs.Leaving.{HasState}
 use Rattle.ml_run.specs.Making.{IsOneOf, IsMaking, IsUnmade, Makes}
-use Rattle.ml_ending.proofs.Said.{says_front, tells_front, some_stays, final_why, opening_then}
+use Rattle.ml_ending.proofs.Said.{says_front, tells_front, final_why, opening_then}
 
 -- where no list is made, the directory is the one before or the whole new one
 pub one_of : (why : Why) (dir held : Option Dir) (txn : List Put) → IsUnmade why dir txn held → IsOneOf dir txn held
@@ -133,18 +133,6 @@ module _ {S : Type 0} (told : Ghosts S) where
 
   pub commit_images : (old new : S) (txn : List Put) → ChangesDirectory told txn old new → IsTrue told.tells_all → (left : Contents) → IsImage (told.disk new) left → IsOneOf (directory (told.disk old).reads) txn (directory left)
   commit_images old new txn c t left image = ((c.moments t).now left image).0
-
-  -- a list was not made, and the store was closed
-  pub finished_makes : (start old new : S) (dir : Option Dir) (txn : List Put) (line : Text) (status : ℕ) (why : Why) → IsTrue told.tells_reads → (IsTrue told.tells_all → told.output old ≡ told.output start)
-      → directory (told.disk old).reads ≡ dir → IsUnmade why dir txn dir → Finishes told old new (Some (None, why)) status 0 → Makes (IsTrue told.tells_all) status dir txn line (told.output start) (told.disk new).reads (told.output new)
-  finished_makes start old new dir txn line status why r put is u f = ⊎_elim
-      (λ quiet. absurd (some_stays (None, why) f.final (IsClean told f.mid) _ f.closes quiet.0))
-      (λ said. let w = final_why why f.final said.0 said.1 _ _ f.closes said.2 in
-      let here : IsUnmade said.1 dir txn (directory (told.disk f.mid).reads) = ⊎_elim
-      (λ e. subst (λ (y : Why). IsUnmade y dir txn (directory (told.disk f.mid).reads)) (sym e.1) (subst (λ (d : Option Dir). IsUnmade why dir txn d) (sym (f.same r ∙ is)) u))
-      (λ m. either_unmade said.1 dir (directory (told.disk f.mid).reads) txn m.1 (inl (f.same r ∙ is))) w in
-      said_makes start f.mid new dir txn line status said.1 r (λ t. f.output t ∙ put t) here (subst (λ (o : Option ℕ). Says told f.mid new status o said.1) (⊎_elim (λ e. e.0) (λ m. m.0) w) said.3))
-      f.said
 
   pub finished_making : (start old new : S) (dir : Option Dir) (txn : List Put) (line : Text) (status : ℕ) (why : Why) → LeavesOnly told.moment told.left_since told.disk told.output start old (IsMaking dir txn line (told.output start))
       → told.output old ≡ told.output start → directory (told.disk old).reads ≡ dir → Finishes told old new (Some (None, why)) status 0 → IsTrue told.tells_all

@@ -151,9 +151,6 @@ all_done limit all done behind split is = empty behind (omega (arith, ap length 
     empty [] e = refl
     empty (x ∷ l) e = absurd (omega (arith, e))
 
-some_not_none : (n : ℕ) → Some n ≡ None → ⊥
-some_not_none n e = cc
-
 -- a line without a number, which says nothing of memory, stands behind all items, or the source failed
 pub line_dash : (line : StopLine) (input : Type 0) (limit : ℕ) (held : Contents) (all : List Item) (ending : StreamEnd) (q : State) (done behind : List Item) → take limit all ≡ done ++ behind → (IsMemory line → ⊥)
     → IsLine line input limit held all ending q done behind → who_of line ≡ None → (done ≡ []) ⊎ ((behind ≡ []) ⊎ input)

@@ -1,5 +1,5 @@
 -- The bound on syncs.
-use Rattle.std.proofs.Common.{◌≡◌, ◌⊎◌, inl, inr, ⊎_elim, ℕ, ◌+◌, ◌-◌, ◌*◌, ◌/◌, ◌^◌, ◌≤◌, ◌<◌, min, List, length, ap, ◌∙◌, arith}
+use Rattle.std.proofs.Common.{◌≡◌, ◌⊎◌, ⊎_elim, ℕ, ◌+◌, ◌-◌, ◌*◌, ◌/◌, ◌^◌, ◌≤◌, ◌<◌, min, List, length, ap, arith}
 use Rattle.std.proofs.lemmas.Bool.{cases_lt}
 use Rattle.ml_base.specs.declared.puts.Put.{Put}
 use Rattle.ml_journal.specs.Records.{content_size}
@@ -82,16 +82,6 @@ costs_of {S} told old read new txn same syncs bytes s =
       content = omega (arith, s.handed, bytes);
       few = λ le. ⊎_elim (λ a. (omega (arith, a.1.syncs, syncs), omega (arith, a.1.grows, bytes, log))) (λ b. absurd (omega (arith, le, b.0, size))) s.cost;
       many = λ lt. ⊎_elim (λ a. absurd (omega (arith, lt, a.0, size))) (λ b. (omega (arith, b.1.syncs, syncs), b.1.short, omega (arith, b.1.paid, bytes, log))) s.cost;
-    }
-
--- what a commit spent, and then lines were put out
-pub spent_on : {S : Type 0} (told : Ghosts S) (size contents : ℕ) (old mid new : S) → (told.disk new).reads ≡ (told.disk mid).reads → told.syncs new ≡ told.syncs mid → told.log_bytes new ≡ told.log_bytes mid
-    → Spends told size contents old mid → Spends told size contents old new
-spent_on {S} told size contents old mid new same syncs bytes s =
-    let log : length (told.disk new).reads.log ≡ length (told.disk mid).reads.log = ap (λ (held : Contents). length held.log) same in record {
-      handed = omega (arith, s.handed, bytes);
-      cost = ⊎_elim (λ a. inl (a.0, record { syncs = omega (arith, a.1.syncs, syncs); grows = omega (arith, a.1.grows, bytes, log) }))
-          (λ b. inr (b.0, record { syncs = omega (arith, b.1.syncs, syncs); paid = omega (arith, b.1.paid, bytes); short = log ∙ b.1.short })) s.cost;
     }
 
 -- a group that the run goes on behind: it is full, or heavy, or the last that is to be read

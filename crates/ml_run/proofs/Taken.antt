@@ -29,6 +29,7 @@ use Rattle.ml_run.proofs.Causes.{status_not}
 use Rattle.ml_run.proofs.Leaving.{same_state, other_list, reached_none, saying}
 use Rattle.ml_stream.proofs.Locality.{item_local}
 use Rattle.ml_ending.proofs.Said.{says_front}
+use Rattle.ml_run.proofs.Streamed.{is_failing, failing_not}
 use Rattle.ml_run.proofs.Taking.{spells_joined, spells_stream}
 
 -- whole items of some bytes are items of more bytes
@@ -131,9 +132,9 @@ few_taken before left left' bytes status limit answered count m0 more reader nex
     }
 
 -- nothing was taken
-pub few_none : (before : Option Text) (bytes : Text) (status limit : ℕ) → before ≡ Some bytes → (status ≡ 72 → ⊥) → TakesFew status limit before before
-few_none before bytes status limit is other =
-    record { taken = []; rest = bytes; before_is = is; after_is = is; items = []; ending = End; stream = refl; few = omega arith; more = λ e. absurd (other e) }
+pub few_none : (before : Option Text) (bytes : Text) (status limit : ℕ) → before ≡ Some bytes → is_failing status ≡ true → TakesFew status limit before before
+few_none before bytes status limit is failing =
+    record { taken = []; rest = bytes; before_is = is; after_is = is; items = []; ending = End; stream = refl; few = omega arith; more = λ e. absurd (failing_not status 72 refl failing e) }
 
 pub nothing_taken : (before : Option Text) (bytes : Text) (P : List Item → Type 0) → before ≡ Some bytes → P [] → FromTaken before before P
 nothing_taken before bytes P is p = record { taken = []; rest = bytes; before_is = is; after_is = is; items = []; ending = End; stream = refl; holds = p }

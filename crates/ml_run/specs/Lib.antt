@@ -6,4 +6,5 @@ pub mod Making
 pub mod Spending
 pub mod Feeds
 pub mod Held
+pub mod Clauses
 pub mod Single

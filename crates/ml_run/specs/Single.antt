@@ -1,9 +1,5 @@
 -- What a run does whose stream is one item.
-use Rattle.std.specs.Prelude.{◌≡◌, ◌≤◌, ◌+◌, ◌-◌, ◌/◌, ℕ, Bool, ◌==◌, ◌||◌, IsTrue, IsSome, List, [], ◌∷◌, Some, None}
-use Rattle.ml_base.specs.Bytes.{nul}
-use Rattle.ml_base.specs.Dir.{Dir}
-use Rattle.ml_base.specs.Faults.{Rose}
-use Rattle.ml_config.specs.ConfigFile.{config_name}
+use Rattle.std.specs.Prelude.{◌≡◌, ◌≤◌, ◌+◌, ◌-◌, ◌/◌, ℕ, Bool, ◌==◌, ◌||◌, IsTrue, List, [], ◌∷◌}
 use Rattle.ml_site.specs.Disk.{IsAtRest}
 use Rattle.ml_site.specs.declared.site.Site.{Ghosts}
 use Rattle.ml_journal.specs.Calls.{Leaves}
@@ -11,11 +7,12 @@ use Rattle.ml_journal.specs.Log.{directory}
 use Rattle.ml_plain.specs.Histories.{State}
 use Rattle.ml_plain.specs.Replies.{is_status}
 use Rattle.ml_plain.specs.declared.Item.{Item}
-use Rattle.ml_ending.specs.Endings.{Opens, MissesList}
+use Rattle.ml_ending.specs.Endings.{Opens}
 use Rattle.ml_ending.specs.declared.closing.Ending.{Ending}
 use Rattle.ml_stream.specs.Stream.{StreamEnd, End}
 use Rattle.ml_run.specs.Groups.{IsOfNext}
-use Rattle.ml_run.specs.Endings.{AnswersAll, AnswersEach, Runs, Names}
+use Rattle.ml_run.specs.Clauses.{ClosesRun, CountsSite, SaysRefusal}
+use Rattle.ml_run.specs.Endings.{AnswersAll, AnswersEach, Runs}
 use Rattle.ml_run.specs.Leaving.{HasState, IsAfterSome}
 
 -- the items of a stream are this one alone, and then it ends
@@ -40,14 +37,7 @@ pub record RunsItem {S : Type 0} (told : Ghosts S) (item : Item) (old new : S) (
   pub at_rest : IsAtRest (told.disk old) → (q : State) → HasState (directory (told.disk old).reads) q
       → Leaves told old new (IsAfterSome q (item ∷ []) (told.output old))
   pub answers : IsTrue (is_status ending.status) → AnswersEach (IsTrue told.tells_all) ending.status (item ∷ []) (told.output old) (told.output new)
-  pub rest : (Rose (told.disk_faults old) (told.disk_faults new) → ⊥) → (ending.status ≡ 71 → ⊥) → (ending.status ≡ 73 → ⊥) → IsTrue told.tells_all → IsAtRest (told.disk new)
-  pub settled : IsTrue (is_status ending.status) → IsTrue told.tells_all → IsAtRest (told.disk new)
-  pub gate : IsSome (directory (told.disk old).reads) → (ending.status ≡ 71 → ⊥) → (ending.status ≡ 73 → ⊥) → (ending.status ≡ 111 → ⊥) → IsTrue told.tells_reads → (told.disk new).reads.log ≡ nul ∷ []
-  pub nolist : IsTrue told.tells_reads → (files : Dir) → directory (told.disk old).reads ≡ Some files → files config_name ≡ None → MissesList (IsTrue told.tells_all) ending.status (told.output old) (told.output new)
-  pub named : IsTrue told.tells_reads → ending.status ≡ 75
-      → Names (IsTrue told.tells_all) (IsOfNext (IsAlone item) ending.answered) (directory (told.disk old).reads) (directory (told.disk new).reads) (told.output new)
-  pub of_disk : ending.status ≡ 111 → Rose (told.disk_faults old) (told.disk_faults new)
-  pub of_output : ending.status ≡ 73 → Rose (told.output_faults old) (told.output_faults new)
-  pub disk_later : told.disk_faults old ≤ told.disk_faults new
-  pub output_later : told.output_faults old ≤ told.output_faults new
+  pub closed : ClosesRun told ending.status old new
+  pub refusals : SaysRefusal told (IsOfNext (IsAlone item) ending.answered) ending.status old new
+  pub counts : CountsSite told ending.status old new
   pub syncs : IsTrue told.tells_all → told.syncs new ≤ told.syncs old + 16 + (told.log_bytes new - told.log_bytes old) / 1_048_576

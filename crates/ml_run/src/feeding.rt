@@ -1,23 +1,21 @@
 // A whole run over what gives its items.
-ghost use Rattle.std.specs.Prelude.{◌≡◌, ◌⊎◌, ◌≤◌, ◌<◌, ◌+◌, ◌-◌, ◌*◌, ◌/◌, ℕ, List, [], ◌∷◌, take, length, IsTrue, IsSome, Some, None};
+ghost use Rattle.std.specs.Prelude.{◌≡◌, ◌≤◌, ◌<◌, ◌+◌, ◌-◌, ◌*◌, ◌/◌, List, [], ◌∷◌, take, length, IsTrue, Some, None};
 ghost use Rattle.ml_base.specs.Bytes.{Text};
 ghost use Rattle.ml_base.specs.Dir.{Dir};
 ghost use Rattle.ml_base.specs.Faults.{Rose};
 ghost use Rattle.ml_config.specs.ConfigFile.{config_name};
-ghost use Rattle.ml_site.specs.Disk.{IsAtRest, Now};
+ghost use Rattle.ml_site.specs.Disk.{IsAtRest};
 ghost use Rattle.ml_plain.specs.declared.Item.{Item as TheItem};
 ghost use Rattle.ml_journal.specs.Log.{directory};
 ghost use Rattle.ml_journal.specs.Stores.{site_of};
 ghost use Rattle.ml_plain.specs.Histories.{State};
-ghost use Rattle.ml_plain.specs.Replies.{is_status};
 ghost use Rattle.ml_ending.specs.Endings.{Opens, MissesList};
 ghost use Rattle.ml_run.specs.Feeds.{IsFresh};
+ghost use Rattle.ml_run.specs.Clauses.{AnswersStream, ClosesRun, CountsRun, CrashesAfterSome, SaysRefusal};
 ghost use Rattle.ml_run.specs.Groups.{IsOfNext};
-ghost use Rattle.ml_run.specs.Endings.{AnswersEach, Begins, Brings, Runs, Names, FromTaken, TakesFew, TellsStream};
+ghost use Rattle.ml_run.specs.Endings.{Begins, Brings, Runs, Names, FromTaken, TakesFew};
 ghost use Rattle.ml_journal.specs.Calls.{Leaves};
 ghost use Rattle.ml_run.specs.Leaving.{IsAfterSome};
-ghost use Rattle.ml_ending.specs.Stops.{why_of_open};
-ghost use Rattle.ml_run.specs.Stops.{is_run_status};
 ghost use Rattle.ml_stream.specs.Stream.{StreamEnd};
 
 use crate::feed::Feed;
@@ -45,37 +43,17 @@ pub(crate) fn run_feed<F: Feed, S: Site>(
         Begins (F.left feed.old) (S.disk site).reads all ending q →
         Runs (IsTrue S.tells_all) (Rose (F.faults feed.old) (F.faults feed.new)) result.0.status limit result.0.answered
         (S.disk result.1).reads (S.output result.1) all ending q (S.output site) }
-    ensures moments { IsTrue S.tells_all → (all : List TheItem) (ending : StreamEnd) (q : State) →
-        Begins (F.left feed.old) (S.disk site).reads all ending q →
-        Opens ⟦<S as Site>⟧ site result.1 (IsAfterSome q (take limit all) (S.output site)) }
-    ensures at_rest { IsAtRest (S.disk site) → (all : List TheItem) (ending : StreamEnd) (q : State) →
-        Begins (F.left feed.old) (S.disk site).reads all ending q →
-        Leaves ⟦<S as Site>⟧ site result.1 (IsAfterSome q (take limit all) (S.output site)) }
+    ensures crashes { CrashesAfterSome ⟦<S as Site>⟧ (F.left feed.old) limit site result.1 }
     ensures taken { IsTrue S.tells_reads → (all : List TheItem) (ending : StreamEnd) (q : State) →
         Begins (F.left feed.old) (S.disk site).reads all ending q → FromTaken (F.left feed.old) (F.left feed.new) (λ items.
         (IsTrue S.tells_all → IsAfterSome q (take limit items) (S.output site) (S.disk result.1).reads (S.output result.1))
         × (result.0.status ≡ 74 → result.0.answered ≡ length items)) }
     ensures few { (bytes : Text) → F.left feed.old ≡ Some bytes → TakesFew result.0.status limit (F.left feed.old) (F.left feed.new) }
-    ensures streamed { (all : List TheItem) (ending : StreamEnd) → Brings (F.left feed.old) all ending → TellsStream result.0.status limit result.0.answered all ending }
-    ensures answers { (all : List TheItem) (ending : StreamEnd) → Brings (F.left feed.old) all ending → IsTrue (is_status result.0.status) →
-        AnswersEach (IsTrue S.tells_all) result.0.status all (S.output site) (S.output result.1) }
-    ensures rest { (Rose (S.disk_faults site) (S.disk_faults result.1) → ⊥) → (result.0.status ≡ 71 → ⊥) → (result.0.status ≡ 73 → ⊥)
-        → IsTrue S.tells_all → IsAtRest (S.disk result.1) }
-    ensures gate { IsSome (directory (S.disk site).reads) → (result.0.status ≡ 71 → ⊥) → (result.0.status ≡ 73 → ⊥) → (result.0.status ≡ 111 → ⊥)
-        → IsTrue S.tells_reads → (S.disk result.1).reads.log ≡ 0 ∷ [] }
-    ensures nolist { IsTrue S.tells_reads → (files : Dir) → directory (S.disk site).reads ≡ Some files → files config_name ≡ None →
-        MissesList (IsTrue S.tells_all) result.0.status (S.output site) (S.output result.1) }
-    ensures settled { IsTrue (is_status result.0.status) → IsTrue S.tells_all → IsAtRest (S.disk result.1) }
-    ensures statuses { IsTrue (is_run_status result.0.status) }
-    ensures answered { result.0.answered ≤ limit }
-    ensures input { result.0.status ≡ 74 → Rose (F.faults feed.old) (F.faults feed.new) }
-    ensures disk { result.0.status ≡ 111 → Rose (S.disk_faults site) (S.disk_faults result.1) }
-    ensures output { result.0.status ≡ 73 → Rose (S.output_faults site) (S.output_faults result.1) }
-    ensures named { IsTrue S.tells_reads → result.0.status ≡ 75 → Names (IsTrue S.tells_all) (IsOfNext (Brings (F.left feed.old)) result.0.answered) (directory (S.disk site).reads) (directory (S.disk result.1).reads) (S.output result.1) }
+    ensures stream { AnswersStream ⟦<S as Site>⟧ (F.left feed.old) result.0.status limit result.0.answered site result.1 }
+    ensures refusals { SaysRefusal ⟦<S as Site>⟧ (IsOfNext (Brings (F.left feed.old)) result.0.answered) result.0.status site result.1 }
+    ensures closed { ClosesRun ⟦<S as Site>⟧ result.0.status site result.1 }
+    ensures counts { CountsRun ⟦<S as Site>⟧ result.0.status limit result.0.answered (F.faults feed.old) (F.faults feed.new) site result.1 }
     ensures through { F.through feed.new ≡ F.through feed.old }
-    ensures input_later { F.faults feed.old ≤ F.faults feed.new }
-    ensures disk_later { S.disk_faults site ≤ S.disk_faults result.1 }
-    ensures output_later { S.output_faults site ≤ S.output_faults result.1 }
     ensures syncs { IsTrue S.tells_all → S.syncs result.1 ≤ S.syncs site + 16 + 2 * (result.0.answered / 16)
         + (S.log_bytes result.1 - S.log_bytes site) / 1_048_576 }
 {
@@ -115,25 +93,16 @@ fn opened<F: Feed, S: Site>(
         Leaves ⟦<S as Site>⟧ (site_of store) result.1 (IsAfterSome q (take limit items) (S.output (site_of store)))
         × (result.0.status ≡ 74 → result.0.answered ≡ length items)) }
     ensures few { (bytes : Text) → F.left feed.old ≡ Some bytes → TakesFew result.0.status limit (F.left feed.old) (F.left feed.new) }
-    ensures answers { (all : List TheItem) (ending : StreamEnd) → Brings (F.left feed.old) all ending → IsTrue (is_status result.0.status) →
-        AnswersEach (IsTrue S.tells_all) result.0.status all (S.output (site_of store)) (S.output result.1) }
-    ensures streamed { (all : List TheItem) (ending : StreamEnd) → Brings (F.left feed.old) all ending → TellsStream result.0.status limit result.0.answered all ending }
+    ensures stream { AnswersStream ⟦<S as Site>⟧ (F.left feed.old) result.0.status limit result.0.answered (site_of store) result.1 }
     ensures rest { (Rose (S.disk_faults (site_of store)) (S.disk_faults result.1) → ⊥) → (result.0.status ≡ 71 → ⊥) → (result.0.status ≡ 73 → ⊥)
         → IsTrue S.tells_all → IsAtRest (S.disk result.1) }
     ensures gate { (result.0.status ≡ 71 → ⊥) → (result.0.status ≡ 73 → ⊥) → (result.0.status ≡ 111 → ⊥) → IsTrue S.tells_reads → (S.disk result.1).reads.log ≡ 0 ∷ [] }
     ensures nolist { IsTrue S.tells_reads → (files : Dir) → directory (S.disk (site_of store)).reads ≡ Some files → files config_name ≡ None →
         MissesList (IsTrue S.tells_all) result.0.status (S.output (site_of store)) (S.output result.1) }
     ensures settled { (result.0.status ≡ 71 → ⊥) → (result.0.status ≡ 73 → ⊥) → (result.0.status ≡ 111 → ⊥) → IsTrue S.tells_all → IsAtRest (S.disk result.1) }
-    ensures statuses { IsTrue (is_run_status result.0.status) }
-    ensures answered { result.0.answered ≤ limit }
-    ensures input { result.0.status ≡ 74 → Rose (F.faults feed.old) (F.faults feed.new) }
-    ensures disk { result.0.status ≡ 111 → Rose (S.disk_faults (site_of store)) (S.disk_faults result.1) }
-    ensures output { result.0.status ≡ 73 → Rose (S.output_faults (site_of store)) (S.output_faults result.1) }
     ensures named { IsTrue S.tells_reads → (files : Dir) → directory (S.disk (site_of store)).reads ≡ Some files → result.0.status ≡ 75 → Names (IsTrue S.tells_all) (IsOfNext (Brings (F.left feed.old)) result.0.answered) (Some files) (directory (S.disk result.1).reads) (S.output result.1) }
+    ensures counts { CountsRun ⟦<S as Site>⟧ result.0.status limit result.0.answered (F.faults feed.old) (F.faults feed.new) (site_of store) result.1 }
     ensures through { F.through feed.new ≡ F.through feed.old }
-    ensures input_later { F.faults feed.old ≤ F.faults feed.new }
-    ensures disk_later { S.disk_faults (site_of store) ≤ S.disk_faults result.1 }
-    ensures output_later { S.output_faults (site_of store) ≤ S.output_faults result.1 }
     ensures syncs { IsTrue S.tells_all → (S.disk (site_of store)).reads.log ≡ 0 ∷ [] →
         S.syncs result.1 ≤ S.syncs (site_of store) + 8 + 2 * (result.0.answered / 16) + (S.log_bytes result.1 - S.log_bytes (site_of store)) / 1_048_576 }
 {

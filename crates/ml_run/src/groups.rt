@@ -1,8 +1,8 @@
 // A group of items that are committed together.
-ghost use Rattle.std.specs.Prelude.{◌≡◌, ◌≤◌, ◌<◌, ◌+◌, ◌-◌, ◌^◌, ◌++◌, [], ◌∷◌, min, true, ℕ, IsTrue, OnOk, OnErr, IfErr, Some, None};
+ghost use Rattle.std.specs.Prelude.{◌≡◌, ◌<◌, ◌+◌, ◌-◌, ◌^◌, ◌++◌, [], ◌∷◌, min, IsTrue, OnOk, OnErr, IfErr, Some, None};
 ghost use Rattle.ml_base.specs.Dir.{are_files};
 ghost use Rattle.ml_journal.specs.Records.{content_size};
-ghost use Rattle.ml_plain.specs.Replies.{is_code, is_status, line, status_of};
+ghost use Rattle.ml_plain.specs.Replies.{is_code, is_status, line};
 ghost use Rattle.ml_run.specs.Groups.{IsGroup, IsEmptyGroup, HasNext, first_number};
 
 use crate::laying::laid;

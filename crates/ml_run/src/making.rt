@@ -1,5 +1,5 @@
 // A new list.
-ghost use Rattle.std.specs.Prelude.{◌≡◌, ◌≢◌, ◌⊎◌, ◌≤◌, IsTrue, IfOk, Some, None};
+ghost use Rattle.std.specs.Prelude.{◌≡◌, ◌≢◌, ◌⊎◌, IsTrue, IfOk, Some, None};
 ghost use Rattle.ml_base.specs.Dir.{Dir, are_files};
 ghost use Rattle.ml_base.specs.Faults.{Rose};
 ghost use Rattle.ml_base.specs.Name.{is_file};
@@ -13,9 +13,10 @@ ghost use Rattle.ml_journal.specs.Log.{directory};
 ghost use Rattle.ml_journal.specs.Stores.{site_of};
 ghost use Rattle.ml_plain.specs.Histories.{fresh};
 ghost use Rattle.ml_plain.specs.Plain.{new_list};
-ghost use Rattle.ml_ending.specs.Endings.{Opens, Finishes, Tells, TellsClosed};
+ghost use Rattle.ml_ending.specs.Endings.{Opens, Finishes};
 ghost use Rattle.ml_run.specs.Leaving.{HasState};
 ghost use Rattle.ml_ending.specs.Lines.{HasPath};
+ghost use Rattle.ml_run.specs.Clauses.{CountsSite};
 ghost use Rattle.ml_run.specs.Making.{IsMaking, Makes, is_make_status, made_text};
 
 use ml_base::{Bytes, Files, FilesError, Name, Txn};
@@ -53,10 +54,7 @@ pub fn make<S: Site>(alloc: Global, config: &Config, key: &[u8; 32], site: S) ->
 
     // Which statuses there are, and where the counts rose.
     ensures statuses { IsTrue (is_make_status result.0) }
-    ensures disk { result.0 ≡ 111 → Rose (S.disk_faults site) (S.disk_faults result.1) }
-    ensures output { result.0 ≡ 73 → Rose (S.output_faults site) (S.output_faults result.1) }
-    ensures disk_later { S.disk_faults site ≤ S.disk_faults result.1 }
-    ensures output_later { S.output_faults site ≤ S.output_faults result.1 }
+    ensures counts { CountsSite ⟦<S as Site>⟧ result.0 site result.1 }
 {
     let Ok((txn, line)) = prepared(alloc, config, key) else {
         return stop(site, Why::Memory);
@@ -102,10 +100,7 @@ fn made<S: Site>(alloc: Global, store: Store<S>, txn: &Txn, line: &[u8]) -> (u8,
     ensures rest { (Rose (S.disk_faults (site_of store)) (S.disk_faults result.1) → ⊥) → (result.0 ≡ 71 → ⊥) → (result.0 ≡ 73 → ⊥)
         → IsTrue S.tells_all → IsAtRest (S.disk result.1) }
     ensures statuses { IsTrue (is_make_status result.0) }
-    ensures disk { result.0 ≡ 111 → Rose (S.disk_faults (site_of store)) (S.disk_faults result.1) }
-    ensures output { result.0 ≡ 73 → Rose (S.output_faults (site_of store)) (S.output_faults result.1) }
-    ensures disk_later { S.disk_faults (site_of store) ≤ S.disk_faults result.1 }
-    ensures output_later { S.output_faults (site_of store) ≤ S.output_faults result.1 }
+    ensures counts { CountsSite ⟦<S as Site>⟧ result.0 (site_of store) result.1 }
 {
     let mut store = store;
     match store.get(alloc, Name::CONFIG) {
@@ -124,10 +119,7 @@ fn committed<S: Site>(alloc: Global, store: Store<S>, txn: &Txn, line: &[u8]) ->
     ensures rest { (Rose (S.disk_faults (site_of store)) (S.disk_faults result.1) → ⊥) → (result.0 ≡ 71 → ⊥) → (result.0 ≡ 73 → ⊥)
         → IsTrue S.tells_all → IsAtRest (S.disk result.1) }
     ensures statuses { IsTrue (is_make_status result.0) }
-    ensures disk { result.0 ≡ 111 → Rose (S.disk_faults (site_of store)) (S.disk_faults result.1) }
-    ensures output { result.0 ≡ 73 → Rose (S.output_faults (site_of store)) (S.output_faults result.1) }
-    ensures disk_later { S.disk_faults (site_of store) ≤ S.disk_faults result.1 }
-    ensures output_later { S.output_faults (site_of store) ≤ S.output_faults result.1 }
+    ensures counts { CountsSite ⟦<S as Site>⟧ result.0 (site_of store) result.1 }
 {
     match store.commit(alloc, txn) {
         Ok(store) => told(alloc, store, line),

@@ -1,7 +1,6 @@
 // A group, committed and answered.
-ghost use Rattle.std.specs.Prelude.{◌≡◌, ◌≢◌, ◌⊎◌, ◌≤◌, ◌<◌, ◌+◌, ◌++◌, [], ℕ, take, length, IsTrue, IsSome, Some, None, IfOk, IfErr, OnOk, OnErr};
+ghost use Rattle.std.specs.Prelude.{◌≡◌, ◌≢◌, ◌⊎◌, ◌≤◌, ◌<◌, ◌+◌, ◌++◌, [], ℕ, take, length, IsTrue, IsSome, Some, None, IfOk, IfErr};
 ghost use Rattle.ml_base.specs.Dir.{are_files, with_puts};
-ghost use Rattle.ml_base.specs.Bytes.{Text};
 ghost use Rattle.ml_base.specs.Faults.{Rose};
 ghost use Rattle.ml_journal.specs.Log.{directory};
 ghost use Rattle.ml_journal.specs.Moments.{with_txn, IsGiving};
@@ -12,7 +11,6 @@ ghost use Rattle.ml_run.specs.Leaving.{IsSettling};
 ghost use Rattle.ml_journal.specs.Spending.{Spends};
 ghost use Rattle.ml_ending.specs.Endings.{CostsAtMost};
 ghost use Rattle.ml_run.specs.Spending.{IsRefused};
-ghost use Rattle.ml_ending.specs.Stops.{why_of_commit};
 
 use ml_base::Txn;
 use ml_ending::{Why, why_refused};

@@ -13,6 +13,6 @@ returns-in-Ok g c = subst (λ (o : Option (Config × Text)). MakesAsked g.S.Site
   moments = c.make.ensures.moments;
   at_rest = c.make.ensures.at_rest;
   rest = c.make.ensures.rest;
-  of_disk = c.make.ensures.disk;
-  of_output = c.make.ensures.output;
+  of_disk = c.make.ensures.counts.of_disk;
+  of_output = c.make.ensures.counts.of_output;
 }))

@@ -26,11 +26,11 @@ returns g c =
       moments = r.moments;
       at_rest = r.at_rest;
       answers = r.answers;
-      rest = r.rest;
-      of_disk = r.of_disk;
-      of_output = r.of_output;
-      named = λ t e. names_map told (IsOfNext (IsAlone item) answered) (IsOwn item) (directory old.reads) (directory new.reads) output (λ files who name of. own_item answered item files who name of) (r.named t e);
-      gate = r.gate;
-      nolist = r.nolist;
+      rest = r.closed.rest;
+      of_disk = r.counts.of_disk;
+      of_output = r.counts.of_output;
+      named = λ t e. names_map told (IsOfNext (IsAlone item) answered) (IsOwn item) (directory old.reads) (directory new.reads) output (λ files who name of. own_item answered item files who name of) (r.refusals.named t e);
+      gate = r.closed.gate;
+      nolist = r.refusals.nolist;
       syncs = r.syncs;
     }

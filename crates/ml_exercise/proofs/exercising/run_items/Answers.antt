@@ -33,19 +33,14 @@ returns g c =
     let brings : Brings (Some (generated_left c.new-items.result)) items End = record { bytes = stream_text items; left_is = ap Some is; stream = stream } in
     let begins : (q : State) → HasState (directory old.reads) q → Begins (Some (generated_left c.new-items.result)) old.reads items End q =
     λ q state. record { bytes = stream_text items; left_is = ap Some is; stream = stream; state = state } in
-    let tells = c.run-site.ensures.streamed items End brings in
+    let tells = c.run-site.ensures.stream.streamed items End brings in
     let long = count_is config count in
     record {
       answered = c.run-site.result.0.answered;
-      known = items_known status c.run-site.ensures.statuses (λ e. never_broken (tells.broken e).0) (λ e. never_more count (items) long (tells.more e).1) (λ e. none_rose (c.run-site.ensures.input e));
+      known = items_known status c.run-site.ensures.counts.statuses (λ e. never_broken (tells.broken e).0) (λ e. never_more count (items) long (tells.more e).1) (λ e. none_rose (c.run-site.ensures.counts.of_input e));
       whole = λ r q state. never_fails (IsTrue g.S.Site.tells_all) _ status count c.run-site.result.0.answered held out items End q (g.S.Site.output c.args.site) none_rose (c.run-site.ensures.whole r items End q (begins q state));
-      at_rest = λ rest q state. subst (λ (all : List Item). Leaves g.S.Site c.args.site c.run-site.result.1 (IsAfterSome q all (g.S.Site.output c.args.site))) (all_taken config count) (c.run-site.ensures.at_rest rest items End q (begins q state));
-      settled = c.run-site.ensures.settled;
-      rest = c.run-site.ensures.rest;
-      gate = c.run-site.ensures.gate;
-      of_disk = c.run-site.ensures.disk;
-      of_output = c.run-site.ensures.output;
-      named = λ r e. subst (λ (left : Text). Names (IsTrue g.S.Site.tells_all) (IsOfNext (Brings (Some left)) c.run-site.result.0.answered) (directory old.reads) (directory held) out) is (c.run-site.ensures.named r e);
-      disk_later = c.run-site.ensures.disk_later;
-      output_later = c.run-site.ensures.output_later;
+      at_rest = λ rest q state. subst (λ (all : List Item). Leaves g.S.Site c.args.site c.run-site.result.1 (IsAfterSome q all (g.S.Site.output c.args.site))) (all_taken config count) (c.run-site.ensures.crashes.at_rest rest items End q (begins q state));
+      closed = c.run-site.ensures.closed;
+      counts = c.run-site.ensures.counts.site;
+      named = λ r e. subst (λ (left : Text). Names (IsTrue g.S.Site.tells_all) (IsOfNext (Brings (Some left)) c.run-site.result.0.answered) (directory old.reads) (directory held) out) is (c.run-site.ensures.refusals.named r e);
     }

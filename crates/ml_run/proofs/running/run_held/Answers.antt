@@ -25,25 +25,22 @@ returns g c =
     let answered = c.run_feed.result.0.answered in
     let brings = brings_item item c.requires.ranges c.requires.typed in
     let begins : (q : State) → HasState (directory old.reads) q → Begins (Some (spelled_item item)) old.reads (item ∷ []) End q = λ q s. begins_item item old.reads q c.requires.ranges c.requires.typed s in
-    let tells = c.run_feed.ensures.streamed (item ∷ []) End brings in
-    let never : status ≡ 74 → ⊥ = λ e. none_rose (c.run_feed.ensures.input e) in record {
-      known = status_known status answered item never tells c.run_feed.ensures.statuses;
-      few = c.run_feed.ensures.answered;
+    let tells = c.run_feed.ensures.stream.streamed (item ∷ []) End brings in
+    let never : status ≡ 74 → ⊥ = λ e. none_rose (c.run_feed.ensures.counts.of_input e) in record {
+      known = status_known status answered item never tells c.run_feed.ensures.counts.statuses;
+      few = c.run_feed.ensures.counts.few;
       done = λ is. (tells.whole is).1;
       whole = λ t q s. never_fails told _ status 1 answered new.reads output (item ∷ []) End q before none_rose (c.run_feed.ensures.whole t (item ∷ []) End q (begins q s));
       complete = λ t q s. answers_all told _ status 1 answered new.reads output (item ∷ []) q before (omega arith) (c.run_feed.ensures.whole t (item ∷ []) End q (begins q s));
-      moments = λ t q s. c.run_feed.ensures.moments t (item ∷ []) End q (begins q s);
-      at_rest = λ rest q s. c.run_feed.ensures.at_rest rest (item ∷ []) End q (begins q s);
-      answers = λ is. c.run_feed.ensures.answers (item ∷ []) End brings is;
-      rest = c.run_feed.ensures.rest;
-      settled = c.run_feed.ensures.settled;
-      gate = c.run_feed.ensures.gate;
-      nolist = c.run_feed.ensures.nolist;
-      named = λ t e. names_map told (IsOfNext (Brings (Some (spelled_item item))) answered) (IsOfNext (IsAlone item) answered) (directory old.reads) (directory new.reads) output
-          (λ files who name of. alone_next item answered files who name c.requires.ranges c.requires.typed of) (c.run_feed.ensures.named t e);
-      of_disk = c.run_feed.ensures.disk;
-      of_output = c.run_feed.ensures.output;
-      disk_later = c.run_feed.ensures.disk_later;
-      output_later = c.run_feed.ensures.output_later;
-      syncs = λ t. let bound = c.run_feed.ensures.syncs t in let few = c.run_feed.ensures.answered in omega (arith, bound, few);
+      moments = λ t q s. c.run_feed.ensures.crashes.moments t (item ∷ []) End q (begins q s);
+      at_rest = λ rest q s. c.run_feed.ensures.crashes.at_rest rest (item ∷ []) End q (begins q s);
+      answers = λ is. c.run_feed.ensures.stream.answers (item ∷ []) End brings is;
+      closed = c.run_feed.ensures.closed;
+      refusals = record {
+        nolist = c.run_feed.ensures.refusals.nolist;
+        named = λ t e. names_map told (IsOfNext (Brings (Some (spelled_item item))) answered) (IsOfNext (IsAlone item) answered) (directory old.reads) (directory new.reads) output
+            (λ files who name of. alone_next item answered files who name c.requires.ranges c.requires.typed of) (c.run_feed.ensures.refusals.named t e);
+      };
+      counts = c.run_feed.ensures.counts.site;
+      syncs = λ t. let bound = c.run_feed.ensures.syncs t in let few = c.run_feed.ensures.counts.few in omega (arith, bound, few);
     }
