@@ -8,10 +8,9 @@ use Rattle.ml_base.specs.declared.names.Set.TheVariants as sets
 use Rattle.ml_filing.specs.Threads.{is_of_archive}
 use Rattle.ml_config.specs.KeyFile.{key_name}
 use Rattle.ml_hold.specs.Answers.{post_name, tickets_name}
-use Rattle.ml_queue.specs.Answers.{ids_name}
 use Rattle.ml_acts.specs.Doing.{is_mailed_by}
-use Rattle.ml_acts.proofs.Asked.{ids_other, mailed_other, same_other}
-use Rattle.ml_post.specs.Answering.{is_rejected_by, is_taken_by}
+use Rattle.ml_acts.proofs.Asked.{mailed_other, same_other}
+use Rattle.ml_post.specs.Answering.{is_taken_by}
 use Rattle.ml_post.specs.Holding.{is_asked_by, is_held_by}
 
 module _ (name : Name) where
@@ -25,6 +24,3 @@ module _ (name : Name) where
   taken_other ticket e of =
       ⊎_elim (λ a. same_other name (post_name ticket) refl (and_parts (is_drawn ticket) (same_name name (post_name ticket)) a).1 of) (λ b. same_other name tickets_name refl b of)
       (or_cases (is_drawn ticket && same_name name (post_name ticket)) (same_name name tickets_name) e)
-
-  pub rejected_other : (ticket : ℕ) → is_rejected_by ticket name ≡ true → is_of_archive name ≡ true → ⊥
-  rejected_other ticket e of = ⊎_elim (λ a. taken_other ticket a of) (λ b. ids_other name b of) (or_cases (is_taken_by ticket name) (same_name name ids_name) e)

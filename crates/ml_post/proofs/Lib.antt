@@ -1,5 +1,4 @@
 mod Recipients
-mod Damages
 mod Rows
 mod SentText
 mod Posts

@@ -1,6 +1,5 @@
 -- What a verdict says of the rows before the one that was found.
-use Rattle.std.proofs.Common.{◌≡◌, ◌≤◌, ◌+◌, ℕ, Bool, true, false, cond, List, [], length, refl, sym, ap, ◌∙◌, subst, arith}
-use Rattle.std.proofs.lemmas.Bool.{le-leb}
+use Rattle.std.proofs.Common.{◌≡◌, ◌+◌, ℕ, Bool, true, false, cond, List, [], length, refl, sym, ap, ◌∙◌, subst}
 use Rattle.std.specs.Prelude.{codes, nat_lt, not, ◌&&◌, Some, None}
 use Rattle.ml_base.specs.Address.{as_address, address_of}
 use Rattle.ml_base.specs.Bytes.{Text, is_empty, lower}
@@ -15,7 +14,6 @@ use Rattle.ml_header.specs.Fields.{has_field}
 use Rattle.ml_plain.specs.declared.Reply.{Reply}
 use Rattle.ml_plain.specs.Answers as answers
 use Rattle.ml_plain.specs.Directory.{IsList}
-use Rattle.ml_plain.specs.KeptFiles.{is_kept}
 use Rattle.ml_plain.specs.Plain.{Plain, is_in, is_archive_full}
 use Rattle.ml_plain.specs.Posting.{by_verdict, held_now, post, posted_now, sent_text, with_text}
 use Rattle.ml_plain.specs.Verdicts.{verdict, is_usable, is_command, is_addressed, is_user}
@@ -23,7 +21,7 @@ use Rattle.ml_plain.specs.Verdicts as verdicts
 use Rattle.ml_acts.specs.Doing.{DoesList}
 use Rattle.ml_post.specs.Judging as rows
 use Rattle.ml_post.specs.Posting.{outcome_of, reply_of}
-use Rattle.ml_post.specs.Publishing.{Publishes, number_of}
+use Rattle.ml_post.specs.Publishing.{Publishes}
 use Rattle.ml_post.specs.declared.posting.Outcome.TheVariants as fates
 use Rattle.ml_post.specs.declared.verdicts.Verdict.{Verdict as Found}
 use Rattle.ml_post.specs.declared.verdicts.Verdict.TheVariants as found
@@ -80,22 +78,6 @@ posted_room p sender m e =
     text_by p sender m (past (p.config.flags.k && is_in p sets.Deny sender) verdicts.Denied (rows.of_text p sender m) verdicts.Posted three.1 (λ bad. cc)).1
 
 -- what follows a verdict
-refused_same : (a b : Reply) → fates.Refused a ≡ fates.Refused b → a ≡ b
-refused_same a b e = cc
-
-pub refused_is : (now : ℕ) (sender m : Text) (p : Plain) (v : Found) (reply : Reply) → outcome_of v ≡ fates.Refused reply → by_verdict now sender m p (rows.row_of v) ≡ (p, reply)
-refused_is now sender m p found.TooBig reply e = ap (λ (r : Reply). (p, r)) (refused_same _ reply e)
-refused_is now sender m p found.BounceSender reply e = ap (λ (r : Reply). (p, r)) (refused_same _ reply e)
-refused_is now sender m p found.Looped reply e = ap (λ (r : Reply). (p, r)) (refused_same _ reply e)
-refused_is now sender m p found.Denied reply e = ap (λ (r : Reply). (p, r)) (refused_same _ reply e)
-refused_is now sender m p found.NoSubject reply e = ap (λ (r : Reply). (p, r)) (refused_same _ reply e)
-refused_is now sender m p found.CommandSubject reply e = ap (λ (r : Reply). (p, r)) (refused_same _ reply e)
-refused_is now sender m p found.NotAddressed reply e = ap (λ (r : Reply). (p, r)) (refused_same _ reply e)
-refused_is now sender m p found.UsersOnly reply e = ap (λ (r : Reply). (p, r)) (refused_same _ reply e)
-refused_is now sender m p found.Full reply e = ap (λ (r : Reply). (p, r)) (refused_same _ reply e)
-refused_is now sender m p found.Held reply e = absurd (cc)
-refused_is now sender m p found.Posted reply e = absurd (cc)
-
 pub held_is : (v : Found) → outcome_of v ≡ fates.Held → rows.row_of v ≡ verdicts.Held
 held_is found.TooBig e = absurd (cc)
 held_is found.BounceSender e = absurd (cc)
@@ -137,9 +119,6 @@ some_same a b e = cc
 pub sender_is : (sender who : Text) → is_usable sender ≡ true → address_of sender ≡ Some who → who ≡ as_address sender
 sender_is sender who usable e = some_same who (as_address sender) (sym e ∙ ap (λ (t : Bool). cond t (Some (as_address sender)) None) usable)
 
-pub not_usable : (sender : Text) → is_usable sender ≡ false → is_usable sender ≡ true → ⊥
-not_usable sender no_address e = let bad : false ≡ true = sym no_address ∙ e in cc
-
 -- an answer by which a message was posted
 pub posts : (dir : Dir) (p : Plain) (now : ℕ) (sender m : Text) (answer : Appended) (done : List Put × Reply) → Publishes dir now sender m p answer → is_archive_full p ≡ false → done.0 ≡ puts_of answer → done.1 ≡ reply_of answer
     → DoesList dir done (posted_now now sender m p)
@@ -150,20 +129,8 @@ posts dir p now sender m (At n txn) done is room e f = record {
 }
 posts dir p now sender m Full done is room e f = absurd (let bad : true ≡ false = sym is ∙ room in cc)
 
--- its reply is one that is kept
-pub kept_reply : (answer : Appended) → number_of answer ≤ 99_999_999 → is_kept (reply_of answer) ≡ true
-kept_reply (At n txn) few = le-leb n 1_000_000_000_000_000 (omega (arith, few))
-kept_reply Full few = refl
-
-pub kept_by : (done : List Put × Reply) (answer : Appended) → done.1 ≡ reply_of answer → number_of answer ≤ 99_999_999 → is_kept done.1 ≡ true
-kept_by done answer e few = ap is_kept e ∙ kept_reply answer few
-
 -- what a post does, by what follows its verdict
 module _ (dir : Dir) (p : Plain) (now : ℕ) (sender m : Text) (v : Found) (done : List Put × Reply) where
-  pub follows_refused : (reply : Reply) → outcome_of v ≡ fates.Refused reply → rows.row_of v ≡ verdict p sender m → done.0 ≡ [] → done.1 ≡ reply → IsList dir p → DoesList dir done (post now sender m p)
-  follows_refused reply outcome row e f is =
-      does_nothing dir done p reply (post now sender m p) (ap (by_verdict now sender m p) (sym row) ∙ refused_is now sender m p v reply outcome) e f is
-
   pub follows_held : outcome_of v ≡ fates.Held → rows.row_of v ≡ verdict p sender m → (is_usable sender ≡ true → DoesList dir done (held_now now (as_address sender) m p)) → DoesList dir done (post now sender m p)
   follows_held outcome row does =
       let found = sym row ∙ held_is v outcome in

@@ -83,10 +83,6 @@ needs_none_held set name e = ap not (both_ways (held_kinds name.kind) (is_with_q
 count_here : (old dir : Dir) (p : Plain) (count : ℕ) → Alike is_beside_held old dir → IsList dir p → IsNumberFile (old number_name) count → count ≡ length p.posts
 count_here old dir p count alike is file = counted_is dir p.posts (is.archive).filed count (subst (λ (f : Option Text). IsNumberFile f count) (sym (alike number_name refl)) file)
 
--- the archive is full
-pub full_by_count : (old dir : Dir) (p : Plain) (count : ℕ) → Alike is_beside_held old dir → IsList dir p → IsNumberFile (old number_name) count → count ≡ 99_999_999 → is_archive_full p ≡ true
-full_by_count old dir p count alike is file all = let same = count_here old dir p count alike is file in le-leb 99_999_999 (length p.posts) (omega (arith, same, all))
-
 module _ (old dir : Dir) (p : Plain) (c : Config) (now : ℕ) (sender text : Text) (alike : Alike is_beside_held old dir) (is : IsList dir p) (same : p.config ≡ c) where
   -- what the archive's call says of each directory that reads alike, it says of this one
   pub appended_here : (answer : Appended)

@@ -12,9 +12,6 @@ first_pieces o m p q a z = simp append_assoc refl
 pub seven_pieces : (a b c d e f g : Text) → (a ++ (b ++ (c ++ []))) ++ d ++ e ++ f ++ g ≡ a ++ (b ++ (c ++ (d ++ (e ++ (f ++ (g ++ []))))))
 seven_pieces a b c d e f g = simp (append_assoc, append-nil) refl
 
-pub three_pieces : (a b c : Text) → a ++ b ++ c ≡ a ++ (b ++ (c ++ []))
-three_pieces a b c = simp (append_assoc, append-nil) refl
-
 -- the trailer, by whether there is one
 pub trailer_by : (c : Config) (b : Bool) → c.flags.t ≡ b → trailer_of c ≡ cond b (Some (list_trailer c.local c.host)) None
 trailer_by c b e = ap (λ (t : Bool). cond t (Some (list_trailer c.local c.host)) None) e

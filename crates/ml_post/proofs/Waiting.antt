@@ -1,17 +1,14 @@
 -- A post that waits, and the mail that asks about it.
-use Rattle.std.proofs.Common.{◌≡◌, ◌⊎◌, inl, inr, ◌≤◌, ℕ, Bool, true, false, eqb, leb, ◌&&◌, ◌||◌, not, List, refl, ap, subst, arith}
-use Rattle.std.proofs.lemmas.Bool.{or_cases, and_from, eqb-true, le-leb}
+use Rattle.std.proofs.Common.{◌≡◌, ◌⊎◌, inl, inr, ℕ, Bool, true, false, eqb, leb, ◌&&◌, ◌||◌, not, List, refl, ap, subst, arith}
+use Rattle.std.proofs.lemmas.Bool.{or_cases, and_from, eqb-true}
 use Rattle.ml_base.specs.Bytes.{Text}
 use Rattle.ml_base.specs.Dir.{Dir, with_puts, touches_only}
-use Rattle.ml_base.specs.Drawn.{IsCounter}
-use Rattle.ml_base.specs.Ranges.{is_drawn}
 use Rattle.ml_base.specs.declared.names.Name.{Name}
 use Rattle.ml_base.specs.declared.puts.Put.{Put}
 use Rattle.ml_base.proofs.Laid.{left_alone}
 use Rattle.ml_config.specs.declared.configuration.Config.{Config}
 use Rattle.ml_drawn.specs.Names.{is_of_series}
 use Rattle.ml_drawn.specs.declared.series.Series.TheVariants.{Tickets}
-use Rattle.ml_hold.specs.Answers.{tickets_name}
 use Rattle.ml_hold.specs.Held.{Pending, IsPending, hold}
 use Rattle.ml_plain.specs.declared.Reply.{Reply}
 use Rattle.ml_plain.specs.Answers as answers
@@ -44,15 +41,6 @@ held_listed name e = go (or_cases (eqb name.kind 13) (eqb name.kind 14) e)
     go : ((eqb name.kind 13 ≡ true) ⊎ (eqb name.kind 14 ≡ true)) → is_of_list name ≡ true
     go (inl k) = ap (λ kind. (leb 1 kind && leb kind 18) || eqb kind 20) (eqb-true name.kind 13 k)
     go (inr k) = ap (λ kind. (leb 1 kind && leb kind 18) || eqb kind 20) (eqb-true name.kind 14 k)
-
--- the next ticket may be drawn, where there is room
-pub next_drawn : (dir : Dir) (p : Plain) (ticket : ℕ) → IsList dir p → ((low next : ℕ) → IsCounter (dir tickets_name) low next → next ≤ 1_000_000_000_000_000) → ticket ≡ p.held.next → is_drawn ticket ≡ true
-next_drawn dir p ticket is room e =
-    let counted = (is.held).counted in
-    let top = room (is.held).low (p.held).next counted in
-    let low = counted.from_one in
-    let up = counted.up_to_next in
-    and_from (leb 1 ticket) (leb ticket 1_000_000_000_000_000) (le-leb 1 ticket (omega (arith, e, low, up))) (le-leb ticket 1_000_000_000_000_000 (omega (arith, e, top)))
 
 -- files that a mail to a set needs are none of the held posts
 pub held_beside_mail : (puts : List Put) → touches_only (is_of_series Tickets) puts ≡ true → touches_only (is_beside_mail sets.Moderators) puts ≡ true

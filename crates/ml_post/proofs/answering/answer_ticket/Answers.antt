@@ -1,13 +1,8 @@
-use Rattle.std.proofs.Common.{◌≡◌, ◌&&◌, ℕ, Bool, true, false, IfOk, Option, Some, refl, ap, subst, sym, rules}
-use Rattle.std.proofs.lemmas.Bool.{and_from, or_left, or_right}
-use Rattle.ml_base.specs.Dir.{Dir, same_name}
-use Rattle.ml_base.specs.Ranges.{is_drawn}
-use Rattle.ml_base.specs.declared.names.Name.{Name}
-use Rattle.ml_config.specs.KeyFile.{key_name}
-use Rattle.ml_hold.specs.Answers.{Breaks, IsPostName, LooksBy, post_name, tickets_name}
+use Rattle.std.proofs.Common.{◌≡◌, true, IfOk, Option, Some, refl, ap, subst, sym, rules}
+use Rattle.ml_base.specs.Dir.{Dir}
+use Rattle.ml_hold.specs.Answers.{Breaks, IsPostName, LooksBy, post_name}
 use Rattle.ml_hold.specs.Held.{held_post}
 use Rattle.ml_hold.specs.declared.posts.Held.{Held}
-use Rattle.ml_queue.specs.Answers.{ids_name}
 use Rattle.ml_plain.specs.Answers.{gone}
 use Rattle.ml_plain.specs.Directory.{IsList}
 use Rattle.ml_plain.specs.Managing.{answer, answer_held}
@@ -16,26 +11,13 @@ use Rattle.ml_acts.specs.Asked.{IsDamagedOf, Next}
 use Rattle.ml_acts.specs.Damaged.{waiting}
 use Rattle.ml_acts.specs.Doing.{DoesList}
 use Rattle.ml_acts.proofs.Asked.{named_as, other_name}
-use Rattle.ml_acts.proofs.Damages.{same_self}
-use Rattle.ml_post.specs.Answering.{IsDamagedOfTicket, accepts, is_answered_by, is_followed_by, is_taken_by}
-use Rattle.ml_post.specs.Publishing.{is_published_by, sent_key}
+use Rattle.ml_post.specs.Answering.{IsDamagedOfTicket, accepts, is_answered_by}
+use Rattle.ml_post.specs.Publishing.{sent_key}
 use Rattle.ml_post.proofs.Acted.{act_behind}
-use Rattle.ml_post.proofs.Damages.{ok_then}
+use Rattle.ml_acts.proofs.Damages.{ok_then}
+use Rattle.ml_post.proofs.Moderated.{own_read}
 use Rattle.ml_post.proofs.Outcomes.{does_nothing}
 use Rattle.ml_post.proofs.answering.answer_ticket.Goals as goal
-
--- the file of the post is among those that an answer may read
-followed : (ticket : ℕ) (accept : Bool) (name : Name) → IsPostName ticket name → is_followed_by ticket accept name ≡ true
-followed ticket accept name is = go accept
-  where
-    there : is_taken_by ticket name ≡ true
-    there =
-        or_left (is_drawn ticket && same_name name (post_name ticket)) (same_name name tickets_name)
-        (and_from (is_drawn ticket) (same_name name (post_name ticket)) is.0 (subst (λ (a : Name). same_name a (post_name ticket) ≡ true) (sym is.1) (same_self (post_name ticket))))
-
-    go : (b : Bool) → is_followed_by ticket b name ≡ true
-    go true = or_right (is_published_by name) (is_taken_by ticket name) there
-    go false = or_left (is_taken_by ticket name) (same_name name ids_name) there
 
 pub returns-in_default-clause-value : goal.returns-in_default-clause-value
 returns-in_default-clause-value g c told p is same =
@@ -63,7 +45,7 @@ returns-in_err-held-clause-act g c =
     let ticket = c.args.ticket in
     let accept = accepts c.args.decision in
     let names = named_as g.F.Files (λ name. is_answered_by ticket accept name ≡ true) _ dir dir (IsPostName ticket) Breaks (IsDamagedOfTicket dir c.args.config.now ticket) (λ told. refl)
-    (λ name is. or_right (same_name name key_name) (is_followed_by ticket accept name) (followed ticket accept name is)) (λ name is bad. record { damaged = waiting bad; own = λ of. absurd (other_name name (post_name ticket) refl is.1 of) })
+    (own_read ticket accept) (λ name is bad. record { damaged = waiting bad; own = λ of. absurd (other_name name (post_name ticket) refl is.1 of) })
     c.in_err-held.ensures.names in
     search rules
 

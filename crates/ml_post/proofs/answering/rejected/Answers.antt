@@ -21,7 +21,7 @@ use Rattle.ml_acts.specs.Damaged.{IsDamaged}
 use Rattle.ml_plain.specs.KeptFiles.{is_kept}
 use Rattle.ml_post.proofs.Acted.{act_behind}
 use Rattle.ml_post.proofs.Beside.{taken_other}
-use Rattle.ml_post.proofs.Damages.{ok_then}
+use Rattle.ml_acts.proofs.Damages.{ok_then}
 use Rattle.ml_post.proofs.Waiting.{held_beside_queue}
 use Rattle.ml_post.proofs.answering.rejected.Goals as goal
 

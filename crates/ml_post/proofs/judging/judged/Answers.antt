@@ -10,7 +10,7 @@ use Rattle.ml_header.specs.Places.{text_of}
 use Rattle.ml_plain.proofs.Leaving.{key_checked}
 use Rattle.ml_plain.specs.Verdicts.{verdict, is_usable, TooBig, BounceSender, Looped}
 use Rattle.ml_post.specs.Judging as rows
-use Rattle.ml_post.proofs.Damages.{ok_then, fewer_named}
+use Rattle.ml_acts.proofs.Damages.{fewer_named, ok_then}
 use Rattle.ml_post.proofs.Fitting.{each_ok}
 use Rattle.ml_post.proofs.Rows.{row_first, row_second, row_third, no_row, same_sender, same_files, has_some}
 use Rattle.ml_post.proofs.judging.judged.Goals as goal
@@ -65,7 +65,7 @@ pub returns-clause-names : goal.returns-clause-names
 returns-clause-names g c =
     let sender = c.args.sender.now in
     let usable = subst (IsFound sender) c.in-Some.is (c.in_ok-who.ensures) in
-    fewer_named g.F.Files _ _ c.of_sender.result (λ name. rows.is_judged_by c.args.config.now c.in-Some.who name ≡ true)
+    fewer_named g.F.Files _ c.of_sender.result (λ name. rows.is_judged_by c.args.config.now c.in-Some.who name ≡ true) _
     (λ name e. sym (same_files c.args.config.now c.in-Some.who sender name (key_checked sender c.in-Some.who usable.1)) ∙ e) c.of_sender.ensures.names
 
 pub returns-then-bytes-config-clause-fits : goal.returns-then-bytes-config-clause-fits

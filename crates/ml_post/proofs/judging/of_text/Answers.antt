@@ -5,7 +5,7 @@ use Rattle.ml_base.specs.Bytes.{lower, is_empty}
 use Rattle.ml_config.specs.declared.configuration.Config.{Config}
 use Rattle.ml_plain.specs.Verdicts as spec
 use Rattle.ml_post.specs.Judging as rows
-use Rattle.ml_post.proofs.Damages.{ok_then}
+use Rattle.ml_acts.proofs.Damages.{ok_then}
 use Rattle.ml_post.proofs.Rows.{row_second, row_third, no_row, filled}
 use Rattle.ml_post.proofs.judging.of_text.Goals as goal
 

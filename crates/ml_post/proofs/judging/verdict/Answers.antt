@@ -6,7 +6,7 @@ use Rattle.ml_acts.specs.Asked.{Count, IsDamagedOf}
 use Rattle.ml_acts.specs.Configured.{with_config}
 use Rattle.ml_acts.specs.Damaged.{IsDamaged}
 use Rattle.ml_acts.proofs.UnderConfig.{config_of, named_under, sound_under}
-use Rattle.ml_post.proofs.Damages.{ok_then}
+use Rattle.ml_acts.proofs.Damages.{ok_then}
 use Rattle.ml_post.proofs.judging.verdict.Goals as goal
 
 pub returns-clause-value : goal.returns-clause-value
