@@ -1,8 +1,9 @@
-use Rattle.std.proofs.Common.{◌∙◌, sym}
+use Rattle.std.proofs.Common.{◌∙◌, sym, arith}
+use Rattle.std.proofs.lemmas.Grind.{common_steps}
 use Rattle.ml_acts.proofs.Damages.{ok_then}
 use Rattle.ml_joining.specs.Operations.{answer_reply}
 use Rattle.ml_joining.proofs.Asked.{unspelled}
-use Rattle.ml_joining.proofs.Does.{act_reply, only_reply}
+use Rattle.ml_joining.proofs.Does.{act_fewer, act_reply, only_reply}
 use Rattle.ml_joining.proofs.joining.joined.Goals as goal
 
 pub returns-in-Only-clause-value : goal.returns-in-Only-clause-value
@@ -27,3 +28,6 @@ returns-in-Join-clause-value g c told =
 
 pub returns-in-Only-clause-act : goal.returns-in-Only-clause-act
 returns-in-Only-clause-act g c = act_reply g.met.F.Files.kept_self c.new.ensures c.reply_of.ensures.kept
+
+pub returns-in-AskModerators-clause-act : goal.returns-in-AskModerators-clause-act
+returns-in-AskModerators-clause-act g c = act_fewer c.ask_moderators.ensures.act (λ name e. grind (arith, common_steps))
