@@ -6,3 +6,4 @@ mod Sending
 mod Senders
 pub mod Others
 mod OfArchive
+mod ForRequests

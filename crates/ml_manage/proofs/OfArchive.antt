@@ -1,22 +1,25 @@
--- Which damaged files are those of the archive that a request asks for.
-use Rattle.std.proofs.Common.{◌≡◌, ⊎_elim, true, ◌&&◌, ◌||◌, Result}
-use Rattle.std.proofs.lemmas.Bool.{and_parts, or_cases}
-use Rattle.ml_address.specs.Requests.{PlainRequest, Post, Help, Other, Owner, Subscribe, Unsubscribe, Confirm, Members, Get, Index, Thread, Accept, Reject, Bounce, WarnBounce, ProbeBounce, ReplyBounce}
+-- What an answer from the archive says, by what its calls say.
+use Rattle.std.proofs.Common.{◌≡◌, ⊎_elim, Bool, true, ◌&&◌, ◌||◌, IsTrue, List, Result, refl}
+use Rattle.std.proofs.lemmas.Bool.{and_parts, or_cases, or_left, or_right}
 use Rattle.ml_base.specs.Bytes.{Text}
-use Rattle.ml_base.specs.Dir.{Dir}
-use Rattle.ml_base.specs.ReadFiles.{NamesDamaged}
+use Rattle.ml_base.specs.Dir.{Dir, same_name}
+use Rattle.ml_base.specs.ReadFiles.{AreKept, NamesDamaged}
 use Rattle.ml_base.specs.declared.files.Files.{Ghosts}
 use Rattle.ml_base.specs.declared.names.Name.{Name}
 use Rattle.ml_base.specs.declared.names.Set.TheVariants as sets
 use Rattle.ml_base.specs.declared.part.PartError.{PartError}
+use Rattle.ml_base.specs.declared.puts.Put.{Put}
+use Rattle.ml_base.proofs.ReadingLemmas.{KeepsOn, reading_then}
 use Rattle.ml_filing.specs.Threads.{is_of_archive}
 use Rattle.ml_config.specs.declared.configuration.Config.{Config}
-use Rattle.ml_acts.specs.Asked.{Asked, IsBadFor, IsDamagedOf}
+use Rattle.ml_plain.specs.declared.Reply.{Reply}
+use Rattle.ml_queue.specs.Answers.{ids_name}
+use Rattle.ml_acts.specs.Acting.{AnswersAct}
+use Rattle.ml_acts.specs.Asked.{Asked, IsDamagedOf}
 use Rattle.ml_acts.specs.Damaged.{IsDamaged}
 use Rattle.ml_acts.specs.Doing.{is_bucket_of}
-use Rattle.ml_acts.proofs.Asked.{bucket_other}
-use Rattle.ml_acts.proofs.Damages.{named_so}
-use Rattle.ml_manage.specs.Reads.{IsDamagedFor, IsForRequest, is_of_reader}
+use Rattle.ml_acts.proofs.Asked.{bucket_other, ids_other, named_as, named_beside}
+use Rattle.ml_manage.specs.Reads.{is_of_reader}
 
 -- what tells whether the archive is open is none of it
 pub reader_other : (name : Name) (c : Config) (sender : Text) → is_of_reader c sender name ≡ true → is_of_archive name ≡ true → ⊥
@@ -27,33 +30,34 @@ reader_other name c sender e of =
     (λ more. ⊎_elim (λ a. bucket_other name sets.List sender a of) (λ b. bucket_other name sets.Digest sender b of) (or_cases list digest (and_parts c.flags.g (list || digest) more).1))
     (or_cases (is_bucket_of sets.Moderators sender name) (c.flags.g && (list || digest)) e)
 
--- a request that reads nothing of the archive
-pub for_other : {F T : Type 0} (told : Ghosts F) (May : Name → Type 0) (r : Result T PartError) (dir : Dir) (c : Config) (request : PlainRequest) → ((name : Name) → IsForRequest dir c request name)
-    → NamesDamaged told May (IsDamaged dir) r → NamesDamaged told May (IsDamagedFor dir c request) r
-for_other told May r dir c request none is = named_so told May r May (IsDamaged dir) (IsDamagedFor dir c request) (λ name e. e) (λ name e bad. record { damaged = bad; own = none name }) is
+module _ {F : Type 0} (told : Ghosts F) (asked : Asked) where
+  -- an act that names none of its files, behind a call that only read
+  pub beside_act : (May Few : Name → Type 0) (r : Result (List Put × Reply) PartError) → KeepsOn told → (first second third : F) → AreKept told first second → (IsTrue told.tells → told.map second ≡ told.map first)
+      → ((name : Name) → Few name → May name) → ((name : Name) → Few name → is_of_archive name ≡ true → ⊥) → AnswersAct told Few (IsDamaged (told.map second)) second third r → AnswersAct told May (IsDamagedOf (told.map first) asked) first third r
+  beside_act May Few r on first second third kept same may beside act = record {
+    own = act.own;
+    files = act.files;
+    reply = act.reply;
+    names = named_beside told May r (told.map first) (told.map second) asked Few same may beside act.names;
+    reads = reading_then told on first second third r kept act.reads;
+  }
 
--- one that asks this of it
-pub for_asked : {F T : Type 0} (told : Ghosts F) (May : Name → Type 0) (r : Result T PartError) (dir : Dir) (c : Config) (request : PlainRequest) (asked : Asked)
-    → ((name : Name) → (is_of_archive name ≡ true → IsBadFor dir asked name) → IsForRequest dir c request name) → NamesDamaged told May (IsDamagedOf dir asked) r → NamesDamaged told May (IsDamagedFor dir c request) r
-for_asked told May r dir c request asked own is = named_so told May r May (IsDamagedOf dir asked) (IsDamagedFor dir c request) (λ name e. e) (λ name e bad. record { damaged = bad.damaged; own = own name bad.own }) is
+  -- an answer from the archive names what tells whether it is open, and the counter of ids
+  module _ (c : Config) (sender : Text) (part : Name → Bool) where
+    abbrev IsOfAnswer : Name → Type 0
+    IsOfAnswer name = (is_of_reader c sender name || part name || same_name name ids_name) ≡ true
 
--- a file that is none of the archive's, whatever the request
-module _ (dir : Dir) (c : Config) (name : Name) (none : is_of_archive name ≡ true → ⊥) where
-  pub beside_request : (request : PlainRequest) → IsForRequest dir c request name
-  beside_request Post = tt
-  beside_request Help = tt
-  beside_request Other = tt
-  beside_request Owner = tt
-  beside_request (Subscribe set who) = tt
-  beside_request (Unsubscribe set who) = tt
-  beside_request (Confirm word set s) = tt
-  beside_request (Members set) = tt
-  beside_request (Get from to) = λ of. absurd (none of)
-  beside_request (Index at) = λ of. absurd (none of)
-  beside_request (Thread at) = λ of. absurd (none of)
-  beside_request (Accept ticket cookie) = tt
-  beside_request (Reject ticket cookie) = tt
-  beside_request (Bounce set number who) = λ of. absurd (none of)
-  beside_request (WarnBounce set s) = tt
-  beside_request (ProbeBounce set s) = tt
-  beside_request (ReplyBounce set) = tt
+    pub reader_named : {T : Type 0} (r : Result T PartError) (dir : Dir) → NamesDamaged told (λ name. is_of_reader c sender name ≡ true) (IsDamaged dir) r → NamesDamaged told IsOfAnswer (IsDamagedOf dir asked) r
+    reader_named r dir is =
+        named_beside told IsOfAnswer r dir dir asked (λ name. is_of_reader c sender name ≡ true) (λ t. refl)
+        (λ name e. or_left (is_of_reader c sender name || part name) (same_name name ids_name) (or_left (is_of_reader c sender name) (part name) e)) (λ name e of. reader_other name c sender e of) is
+
+    pub part_named : {T : Type 0} (r : Result T PartError) (later dir : Dir) → (IsTrue told.tells → later ≡ dir) → NamesDamaged told (λ name. part name ≡ true) (IsDamagedOf later asked) r → NamesDamaged told IsOfAnswer (IsDamagedOf dir asked) r
+    part_named r later dir same is =
+        named_as told IsOfAnswer r dir later (λ name. part name ≡ true) (λ d. IsDamagedOf d asked) (IsDamagedOf dir asked) same
+        (λ name e. or_left (is_of_reader c sender name || part name) (same_name name ids_name) (or_right (is_of_reader c sender name) (part name) e)) (λ name e bad. bad) is
+
+    pub answer_act : (r : Result (List Put × Reply) PartError) → KeepsOn told → (first second third : F) → AreKept told first second → (IsTrue told.tells → told.map second ≡ told.map first)
+        → AnswersAct told (λ name. same_name name ids_name ≡ true) (IsDamaged (told.map second)) second third r → AnswersAct told IsOfAnswer (IsDamagedOf (told.map first) asked) first third r
+    answer_act r on first second third kept same act =
+        beside_act IsOfAnswer (λ name. same_name name ids_name ≡ true) r on first second third kept same (λ name e. or_right (is_of_reader c sender name || part name) (same_name name ids_name) e) (λ name e of. ids_other name e of) act

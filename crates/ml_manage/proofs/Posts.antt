@@ -1,5 +1,5 @@
 -- Posts by their numbers, and their texts.
-use Rattle.std.proofs.Common.{◌≡◌, inl, inr, ◌<◌, ℕ, zero, suc, ◌+◌, ◌-◌, ◌/◌, min, Bool, true, false, cond, ◌&&◌, ◌==◌, nat_lt, nat_le, List, [], ◌∷◌, ◌++◌, length, map, filter, Option, Some, None, codes, get_or, refl, sym, ap, ap₂, ◌∙◌, arith, subst, zero-add}
+use Rattle.std.proofs.Common.{◌≡◌, inl, inr, ◌<◌, ℕ, zero, suc, ◌-◌, ◌/◌, min, Bool, true, false, cond, ◌&&◌, ◌==◌, nat_lt, nat_le, List, [], ◌∷◌, ◌++◌, length, map, filter, Option, Some, None, codes, get_or, refl, sym, ap, ap₂, ◌∙◌, arith, subst, zero-add}
 use Rattle.std.proofs.lemmas.Bool.{and_from, le-leb, lt-ltb, ltb-true, or_left, or_right}
 use Rattle.std.specs.Prelude.{slice_get}
 use Rattle.std.specs.List.{flat_map, AllByRecursion, IsAmong}

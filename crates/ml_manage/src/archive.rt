@@ -5,7 +5,6 @@ ghost use Rattle.ml_filing.specs.Archive.{number_name};
 ghost use Rattle.ml_filing.specs.Reads.{IsOfRow};
 ghost use Rattle.std.specs.List.{flat_map};
 ghost use Rattle.ml_base.specs.Dir.{same_name};
-ghost use Rattle.ml_base.specs.Ranges.{IsMoment};
 ghost use Rattle.ml_base.specs.ReadFiles.{IsReading, NamesDamaged};
 ghost use Rattle.ml_base.specs.declared.names.Set.TheVariants as sets;
 ghost use Rattle.ml_config.specs.ConfigFile.{IsConfigFile, config_name};
@@ -23,7 +22,7 @@ ghost use Rattle.ml_manage.specs.Texts as words;
 
 use crate::members::is_member;
 use crate::texts::{add_post, entries_text, no_posts};
-use ml_acts::with_mail;
+use ml_acts::{Moment, with_mail};
 use ml_base::{Address, Bytes, Files, PartError, Set, Txn};
 use ml_config::Config;
 use ml_filing::{index, post, range, thread};
@@ -36,14 +35,13 @@ pub(crate) fn get<F: Files>(
     alloc: Global,
     files: &mut F,
     config: &Config,
-    now: u64,
+    now: Moment,
     sender: &Address,
     from: u64,
     to: Option<u64>,
 ) -> Result<(Txn, Reply), PartError>
-    requires moment { IsMoment now }
     requires room { IsTrue F.tells → HasIds (F.map files.now) }
-    ensures value { IsTrue F.tells → IfOk result (λ done. (p : Plain) → IsList (F.map files.old) p → p.config ≡ config.now → DoesList (F.map files.old) done (spec.from_archive now sender.now p (spec.may_read p sender.now) (texts.get_text p from to))) }
+    ensures value { IsTrue F.tells → IfOk result (λ done. (p : Plain) → IsList (F.map files.old) p → p.config ≡ config.now → DoesList (F.map files.old) done (spec.from_archive now.seconds sender.now p (spec.may_read p sender.now) (texts.get_text p from to))) }
     ensures act { AnswersAct ⟦<F as Files>⟧ (λ name. (is_of_reader config.now sender.now name || is_of_posts from (unwrap_or to from) name || same_name name ids_name) ≡ true) (IsDamagedOf (F.map files.old) (Range from (unwrap_or to from))) files.old files.new result }
 {
     if !may_read(alloc, files, config, sender)? {
@@ -58,14 +56,13 @@ pub(crate) fn thread_of<F: Files>(
     alloc: Global,
     files: &mut F,
     config: &Config,
-    now: u64,
+    now: Moment,
     sender: &Address,
     at: u64,
 ) -> Result<(Txn, Reply), PartError>
-    requires moment { IsMoment now }
     requires room { IsTrue F.tells → HasIds (F.map files.now) }
     requires loaded { IsTrue F.tells → IsConfigFile (F.map files.now config_name) config.now }
-    ensures value { IsTrue F.tells → IfOk result (λ done. (p : Plain) → IsList (F.map files.old) p → p.config ≡ config.now → DoesList (F.map files.old) done (spec.from_archive now sender.now p (spec.may_read p sender.now) (texts.thread_text p at))) }
+    ensures value { IsTrue F.tells → IfOk result (λ done. (p : Plain) → IsList (F.map files.old) p → p.config ≡ config.now → DoesList (F.map files.old) done (spec.from_archive now.seconds sender.now p (spec.may_read p sender.now) (texts.thread_text p at))) }
     ensures act { AnswersAct ⟦<F as Files>⟧ (λ name. (is_of_reader config.now sender.now name || is_of_thread name || same_name name ids_name) ≡ true) (IsDamagedOf (F.map files.old) (ThreadOf config.now.prefix at)) files.old files.new result }
 {
     if !may_read(alloc, files, config, sender)? {
@@ -80,13 +77,12 @@ pub(crate) fn index_of<F: Files>(
     alloc: Global,
     files: &mut F,
     config: &Config,
-    now: u64,
+    now: Moment,
     sender: &Address,
     at: u64,
 ) -> Result<(Txn, Reply), PartError>
-    requires moment { IsMoment now }
     requires room { IsTrue F.tells → HasIds (F.map files.now) }
-    ensures value { IsTrue F.tells → IfOk result (λ done. (p : Plain) → IsList (F.map files.old) p → p.config ≡ config.now → DoesList (F.map files.old) done (spec.from_archive now sender.now p (spec.may_read p sender.now) (texts.index_text p at))) }
+    ensures value { IsTrue F.tells → IfOk result (λ done. (p : Plain) → IsList (F.map files.old) p → p.config ≡ config.now → DoesList (F.map files.old) done (spec.from_archive now.seconds sender.now p (spec.may_read p sender.now) (texts.index_text p at))) }
     ensures act { AnswersAct ⟦<F as Files>⟧ (λ name. (is_of_reader config.now sender.now name || is_of_index at name || same_name name ids_name) ≡ true) (IsDamagedOf (F.map files.old) (Group (at / 100))) files.old files.new result }
 {
     if !may_read(alloc, files, config, sender)? {
@@ -150,13 +146,12 @@ fn mail_lines<F: Files>(
     alloc: Global,
     files: &mut F,
     config: &Config,
-    now: u64,
+    now: Moment,
     sender: &Address,
     lines: Bytes,
 ) -> Result<(Txn, Reply), PartError>
-    requires moment { IsMoment now }
     requires room { IsTrue F.tells → HasIds (F.map files.now) }
-    ensures value { IsTrue F.tells → IfOk result (λ done. (p : Plain) → IsList (F.map files.old) p → p.config ≡ config.now → DoesList (F.map files.old) done (spec.from_archive now sender.now p true lines)) }
+    ensures value { IsTrue F.tells → IfOk result (λ done. (p : Plain) → IsList (F.map files.old) p → p.config ≡ config.now → DoesList (F.map files.old) done (spec.from_archive now.seconds sender.now p true lines)) }
     ensures act { AnswersAct ⟦<F as Files>⟧ (λ name. same_name name ids_name ≡ true) (IsDamaged (F.map files.old)) files.old files.new result }
 {
     let mail = Mail::Archive {

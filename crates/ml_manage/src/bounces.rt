@@ -4,7 +4,6 @@ ghost use Rattle.ml_address.specs.Requests.{is_mailed};
 ghost use Rattle.ml_base.specs.Address.{key};
 ghost use Rattle.ml_base.specs.Dir.{same_name};
 ghost use Rattle.ml_base.specs.declared.names.Set.TheVariants as sets;
-ghost use Rattle.ml_base.specs.Ranges.{IsMoment};
 ghost use Rattle.ml_base.specs.ReadFiles.{IsReading, NamesDamaged};
 ghost use Rattle.ml_bounce.specs.Answers.{puts_of};
 ghost use Rattle.ml_bounce.specs.Changes as changes;
@@ -25,7 +24,7 @@ ghost use Rattle.ml_manage.specs.Leaving.{change_reply, of_probe, of_warning};
 ghost use Rattle.ml_manage.specs.Reads.{is_counted_in, is_of_bounce, is_of_probe, is_of_signed, is_of_warning};
 
 use crate::members::is_member;
-use ml_acts::{is_good, key_of, remove_member};
+use ml_acts::{Moment, is_good, key_of, remove_member};
 use ml_base::{Address, Files, PartError, Set, Txn};
 use ml_bounce::{note, probe_failed, warn_failed};
 use ml_config::key;
@@ -38,15 +37,14 @@ use std::alloc::Global;
 pub(crate) fn bounced<F: Files>(
     alloc: Global,
     files: &mut F,
-    now: u64,
+    now: Moment,
     set: Set,
     number: u64,
     x: &Address,
 ) -> Result<(Txn, Reply), PartError>
-    requires moment { IsMoment now }
     requires mailed { is_mailed set ≡ true }
     requires number { number ≤ 99_999_999 }
-    ensures value { IsTrue F.tells → IfOk result (λ done. (p : Plain) → IsList (F.map files.old) p → DoesList (F.map files.old) done (spec.bounced now set number x.now p)) }
+    ensures value { IsTrue F.tells → IfOk result (λ done. (p : Plain) → IsList (F.map files.old) p → DoesList (F.map files.old) done (spec.bounced now.seconds set number x.now p)) }
     ensures act { AnswersAct ⟦<F as Files>⟧ (λ name. is_of_bounce set x.now name ≡ true) (IsDamagedOf (F.map files.old) Count) files.old files.new result }
 {
     if !was_mailed(alloc, files, set, number, x)? {
@@ -109,18 +107,17 @@ fn is_post<F: Files>(alloc: Global, files: &mut F, number: u64) -> Result<bool, 
 fn noted<F: Files>(
     alloc: Global,
     files: &mut F,
-    now: u64,
+    now: Moment,
     set: Set,
     number: u64,
     x: &Address,
 ) -> Result<(Txn, Reply), PartError>
-    requires moment { IsMoment now }
     requires mailed { is_mailed set ≡ true }
     requires number { number ≤ 99_999_999 }
-    ensures value { IsTrue F.tells → IfOk result (λ done. (p : Plain) → IsList (F.map files.old) p → DoesList (F.map files.old) done (spec.if_changed p set (changes.note (key x.now) number now (ledger_of p set)))) }
+    ensures value { IsTrue F.tells → IfOk result (λ done. (p : Plain) → IsList (F.map files.old) p → DoesList (F.map files.old) done (spec.if_changed p set (changes.note (key x.now) number now.seconds (ledger_of p set)))) }
     ensures act { AnswersAct ⟦<F as Files>⟧ (λ name. is_entry_of set x.now name ≡ true) (IsDamaged (F.map files.old)) files.old files.new result }
 {
-    let answer = note(alloc, files, set, x, number, now)?;
+    let answer = note(alloc, files, set, x, number, now.seconds)?;
     Ok(changed(alloc, answer))
 }
 
@@ -139,18 +136,17 @@ fn changed(alloc: Global, answer: Option<Txn>) -> (Txn, Reply)
 pub(crate) fn warning_bounced<F: Files>(
     alloc: Global,
     files: &mut F,
-    now: u64,
+    now: Moment,
     set: Set,
     time: u64,
     letters: &[u8; 20],
     x: &Address,
 ) -> Result<(Txn, Reply), PartError>
-    requires moment { IsMoment now }
     requires mailed { is_mailed set ≡ true }
-    ensures value { IsTrue F.tells → IfOk result (λ done. (p : Plain) → IsList (F.map files.old) p → DoesList (F.map files.old) done (of_warning now set time letters.now x.now p)) }
+    ensures value { IsTrue F.tells → IfOk result (λ done. (p : Plain) → IsList (F.map files.old) p → DoesList (F.map files.old) done (of_warning now.seconds set time letters.now x.now p)) }
     ensures act { AnswersAct ⟦<F as Files>⟧ (λ name. is_of_warning set x.now name ≡ true) (IsDamaged (F.map files.old)) files.old files.new result }
 {
-    if !is_signed(alloc, files, now, b"warn", set, time, letters, x)? {
+    if !is_signed(alloc, files, now.seconds, b"warn", set, time, letters, x)? {
         return Ok((Txn::new(alloc), Reply::plain(Reply::IGNORED)));
     }
     warning_failed(alloc, files, now, set, time, x)
@@ -201,17 +197,16 @@ fn is_cookie<F: Files>(
 fn warning_failed<F: Files>(
     alloc: Global,
     files: &mut F,
-    now: u64,
+    now: Moment,
     set: Set,
     time: u64,
     x: &Address,
 ) -> Result<(Txn, Reply), PartError>
-    requires moment { IsMoment now }
     requires mailed { is_mailed set ≡ true }
-    ensures value { IsTrue F.tells → IfOk result (λ done. (p : Plain) → IsList (F.map files.old) p → DoesList (F.map files.old) done (spec.if_changed p set (changes.warn_failed (key x.now) time now (ledger_of p set)))) }
+    ensures value { IsTrue F.tells → IfOk result (λ done. (p : Plain) → IsList (F.map files.old) p → DoesList (F.map files.old) done (spec.if_changed p set (changes.warn_failed (key x.now) time now.seconds (ledger_of p set)))) }
     ensures act { AnswersAct ⟦<F as Files>⟧ (λ name. is_entry_of set x.now name ≡ true) (IsDamaged (F.map files.old)) files.old files.new result }
 {
-    let answer = warn_failed(alloc, files, set, x, time, now)?;
+    let answer = warn_failed(alloc, files, set, x, time, now.seconds)?;
     Ok(changed(alloc, answer))
 }
 

@@ -25,7 +25,7 @@ use crate::bounces::{bounced, probe_bounced, warning_bounced};
 use crate::helping::{helped, to_owner};
 use crate::members::members;
 use crate::naming::named;
-use ml_acts::Configured;
+use ml_acts::{Configured, Moment};
 use ml_address::{Request, Who};
 use ml_base::{Address, AddressError, Files, PartError, Set, Txn};
 use ml_config::Config;
@@ -58,6 +58,7 @@ pub fn manage<F: Files>(
     ensures act { AnswersAct ⟦<F as Files>⟧ (λ name. is_read_for_sender config.now sender.now (request_view request.now) name ≡ true) (IsDamagedFor (with_config config.now (F.map files.old)) config.now (request_view request.now)) files.old files.new result }
 {
     let mut under = Configured::new(files, config);
+    let now = Moment { seconds: now };
     by_request(alloc, &mut under, config, now, sender, request, message)
 }
 
@@ -66,17 +67,16 @@ fn by_request<F: Files>(
     alloc: Global,
     files: &mut F,
     config: &Config,
-    now: u64,
+    now: Moment,
     sender: &[u8],
     request: &Request<'_>,
     message: &[u8],
 ) -> Result<(Txn, Reply), PartError>
-    requires moment { IsMoment now }
     requires config { IsConfig config.now }
     requires loaded { IsTrue F.tells → IsConfigFile (F.map files.now config_name) config.now }
     requires room { IsTrue F.tells → HasRoom (F.map files.now) }
     requires request { is_managed (request_view request.now) ≡ true }
-    ensures value { IsTrue F.tells → IfOk result (λ done. (p : Plain) → IsList (F.map files.old) p → p.config ≡ config.now → DoesList (F.map files.old) done (spec.by_request now sender.now message.now p (request_view request.now))) }
+    ensures value { IsTrue F.tells → IfOk result (λ done. (p : Plain) → IsList (F.map files.old) p → p.config ≡ config.now → DoesList (F.map files.old) done (spec.by_request now.seconds sender.now message.now p (request_view request.now))) }
     ensures act { AnswersAct ⟦<F as Files>⟧ (λ name. is_read_for_sender config.now sender.now (request_view request.now) name ≡ true) (IsDamagedFor (F.map files.old) config.now (request_view request.now)) files.old files.new result }
 {
     match request {
@@ -92,7 +92,7 @@ fn by_request<F: Files>(
             time,
             cookie,
             who,
-        } => of_probe(alloc, files, now, *set, *time, cookie, who),
+        } => of_probe(alloc, files, now.seconds, *set, *time, cookie, who),
         Request::ReplyBounce { .. } => Ok((Txn::new(alloc), Reply::plain(Reply::IGNORED))),
         Request::Owner => to_owner(alloc, files, config, message),
         _ => by_sender(alloc, files, config, now, sender, request, message),
@@ -103,14 +103,13 @@ fn by_request<F: Files>(
 fn of_bounce<F: Files>(
     alloc: Global,
     files: &mut F,
-    now: u64,
+    now: Moment,
     set: Set,
     number: u64,
     who: &Who<'_>,
 ) -> Result<(Txn, Reply), PartError>
-    requires moment { IsMoment now }
     requires range { IsTrue (is_in_range (Bounce set number (who_view who.now))) }
-    ensures value { IsTrue F.tells → IfOk result (λ done. (p : Plain) → IsList (F.map files.old) p → DoesList (F.map files.old) done (bouncing.bounced now set number (address_named (who_view who.now)) p)) }
+    ensures value { IsTrue F.tells → IfOk result (λ done. (p : Plain) → IsList (F.map files.old) p → DoesList (F.map files.old) done (bouncing.bounced now.seconds set number (address_named (who_view who.now)) p)) }
     ensures act { AnswersAct ⟦<F as Files>⟧ (λ name. is_of_bounce set (address_named (who_view who.now)) name ≡ true) (IsDamagedOf (F.map files.old) Count) files.old files.new result }
 {
     let x = named(alloc, who)?;
@@ -121,15 +120,14 @@ fn of_bounce<F: Files>(
 fn of_warning<F: Files>(
     alloc: Global,
     files: &mut F,
-    now: u64,
+    now: Moment,
     set: Set,
     time: u64,
     letters: &[u8; 20],
     who: &Who<'_>,
 ) -> Result<(Txn, Reply), PartError>
-    requires moment { IsMoment now }
     requires range { IsTrue (is_in_range (WarnBounce set (signed time letters.now (who_view who.now)))) }
-    ensures value { IsTrue F.tells → IfOk result (λ done. (p : Plain) → IsList (F.map files.old) p → DoesList (F.map files.old) done (bouncing.warning_bounced now set (signed time letters.now (who_view who.now)) (address_named (who_view who.now)) p)) }
+    ensures value { IsTrue F.tells → IfOk result (λ done. (p : Plain) → IsList (F.map files.old) p → DoesList (F.map files.old) done (bouncing.warning_bounced now.seconds set (signed time letters.now (who_view who.now)) (address_named (who_view who.now)) p)) }
     ensures act { AnswersAct ⟦<F as Files>⟧ (λ name. is_of_warning set (address_named (who_view who.now)) name ≡ true) (IsDamaged (F.map files.old)) files.old files.new result }
 {
     let x = named(alloc, who)?;
@@ -159,17 +157,16 @@ fn by_sender<F: Files>(
     alloc: Global,
     files: &mut F,
     config: &Config,
-    now: u64,
+    now: Moment,
     sender: &[u8],
     request: &Request<'_>,
     message: &[u8],
 ) -> Result<(Txn, Reply), PartError>
-    requires moment { IsMoment now }
     requires config { IsConfig config.now }
     requires loaded { IsTrue F.tells → IsConfigFile (F.map files.now config_name) config.now }
     requires room { IsTrue F.tells → HasRoom (F.map files.now) }
     requires request { is_managed (request_view request.now) ≡ true }
-    ensures value { IsTrue F.tells → IfOk result (λ done. (p : Plain) → IsList (F.map files.old) p → p.config ≡ config.now → DoesList (F.map files.old) done (spec.by_sender now message.now p (request_view request.now) (address_of sender.now))) }
+    ensures value { IsTrue F.tells → IfOk result (λ done. (p : Plain) → IsList (F.map files.old) p → p.config ≡ config.now → DoesList (F.map files.old) done (spec.by_sender now.seconds message.now p (request_view request.now) (address_of sender.now))) }
     ensures act { AnswersAct ⟦<F as Files>⟧ (λ name. is_read_for config.now (address_of sender.now) (request_view request.now) name ≡ true) (IsDamagedFor (F.map files.old) config.now (request_view request.now)) files.old files.new result }
 {
     let Some(who) = usable(alloc, sender)? else {
@@ -204,24 +201,23 @@ fn managed<F: Files>(
     alloc: Global,
     files: &mut F,
     config: &Config,
-    now: u64,
+    now: Moment,
     sender: &Address,
     request: &Request<'_>,
 ) -> Result<(Txn, Reply), PartError>
-    requires moment { IsMoment now }
     requires config { IsConfig config.now }
     requires loaded { IsTrue F.tells → IsConfigFile (F.map files.now config_name) config.now }
     requires room { IsTrue F.tells → HasRoom (F.map files.now) }
     requires request { is_managed (request_view request.now) ≡ true }
-    ensures value { IsTrue F.tells → IfOk result (λ done. (p : Plain) → IsList (F.map files.old) p → p.config ≡ config.now → DoesList (F.map files.old) done (spec.managed now sender.now p (request_view request.now))) }
+    ensures value { IsTrue F.tells → IfOk result (λ done. (p : Plain) → IsList (F.map files.old) p → p.config ≡ config.now → DoesList (F.map files.old) done (spec.managed now.seconds sender.now p (request_view request.now))) }
     ensures act { AnswersAct ⟦<F as Files>⟧ (λ name. is_asked_of config.now sender.now (request_view request.now) name ≡ true) (IsDamagedFor (F.map files.old) config.now (request_view request.now)) files.old files.new result }
 {
     match request {
         Request::Subscribe { set, who } => {
-            subscribe(alloc, files, config, now, sender, *set, *who)
+            subscribe(alloc, files, config, now.seconds, sender, *set, *who)
         }
         Request::Unsubscribe { set, who } => {
-            unsubscribe(alloc, files, config, now, sender, *set, *who)
+            unsubscribe(alloc, files, config, now.seconds, sender, *set, *who)
         }
         Request::Confirm {
             word,
@@ -230,7 +226,16 @@ fn managed<F: Files>(
             cookie,
             who,
         } => confirm(
-            alloc, files, config, now, sender, *word, *set, *time, cookie, *who,
+            alloc,
+            files,
+            config,
+            now.seconds,
+            sender,
+            *word,
+            *set,
+            *time,
+            cookie,
+            *who,
         ),
         Request::Members { set } => members(alloc, files, config, now, sender, *set),
         Request::Get { from, to } => get(alloc, files, config, now, sender, *from, *to),

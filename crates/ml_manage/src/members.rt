@@ -1,6 +1,5 @@
 // Who is in a set.
 ghost use Rattle.std.specs.Prelude.{◌≡◌, ◌&&◌, ◌||◌, true, IsTrue, IfOk};
-ghost use Rattle.ml_base.specs.Ranges.{IsMoment};
 ghost use Rattle.ml_base.specs.ReadFiles.{IsReading, NamesDamaged};
 ghost use Rattle.ml_base.specs.declared.names.Set.TheVariants as sets;
 ghost use Rattle.ml_plain.specs.Directory.{IsList};
@@ -12,7 +11,7 @@ ghost use Rattle.ml_acts.specs.Damaged.{IsDamaged};
 ghost use Rattle.ml_acts.specs.Doing.{DoesList, HasIds, is_bucket, is_bucket_of};
 ghost use Rattle.ml_manage.specs.Reads.{is_of_members};
 
-use ml_acts::with_mail;
+use ml_acts::{Moment, with_mail};
 use ml_base::{Address, Bytes, Files, PartError, Set, Txn};
 use ml_config::Config;
 use ml_plain::Reply;
@@ -39,13 +38,12 @@ pub(crate) fn members<F: Files>(
     alloc: Global,
     files: &mut F,
     config: &Config,
-    now: u64,
+    now: Moment,
     sender: &Address,
     set: Set,
 ) -> Result<(Txn, Reply), PartError>
-    requires moment { IsMoment now }
     requires room { IsTrue F.tells → HasIds (F.map files.now) }
-    ensures value { IsTrue F.tells → IfOk result (λ done. (p : Plain) → IsList (F.map files.old) p → p.config ≡ config.now → DoesList (F.map files.old) done (spec.list_members now sender.now set p (p.config.flags.l && is_moderator p sender.now))) }
+    ensures value { IsTrue F.tells → IfOk result (λ done. (p : Plain) → IsList (F.map files.old) p → p.config ≡ config.now → DoesList (F.map files.old) done (spec.list_members now.seconds sender.now set p (p.config.flags.l && is_moderator p sender.now))) }
     ensures act { AnswersAct ⟦<F as Files>⟧ (λ name. is_of_members config.now sender.now set name ≡ true) (IsDamaged (F.map files.old)) files.old files.new result }
 {
     if !may_list(alloc, files, config, sender)? {

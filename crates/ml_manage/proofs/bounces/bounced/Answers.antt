@@ -10,9 +10,11 @@ use Rattle.ml_plain.specs.Plain.{Plain, is_in, ledger_of}
 use Rattle.std.proofs.lemmas.Result.{IfOk-weaker}
 use Rattle.ml_acts.specs.Asked.{Count}
 use Rattle.ml_acts.specs.Doing.{DoesList, is_bucket_of, is_entry_of}
-use Rattle.ml_acts.proofs.Asked.{entry_other, named_beside}
+use Rattle.ml_acts.proofs.Asked.{entry_other}
 use Rattle.ml_manage.specs.Reads.{is_counted_in, is_of_bounce}
 use Rattle.ml_manage.proofs.Bounced.{not_noted, noted}
+use Rattle.ml_base.proofs.ReadingLemmas.{kept_read}
+use Rattle.ml_manage.proofs.OfArchive.{beside_act}
 use Rattle.ml_manage.proofs.bounces.bounced.Goals as goal
 
 pub returns-then-not-branch-clause-value : goal.returns-then-not-branch-clause-value
@@ -20,7 +22,7 @@ returns-then-not-branch-clause-value g c told p is =
     let dir = g.F.Files.map c.args.files.now in
     let set = c.args.set in
     let x = c.args.x.now in
-    not_noted dir p set (c.new.result, c.plain.result) (is_in p set x && is_used p set c.args.number) (note (key x) c.args.number c.args.now (ledger_of p set)) is
+    not_noted dir p set (c.new.result, c.plain.result) (is_in p set x && is_used p set c.args.number) (note (key x) c.args.number c.args.now.seconds (ledger_of p set)) is
     (sym (c.in_ok-was_mailed.ensures.value told p is) ∙ c.if-not-branch.true) c.new.ensures c.plain.ensures
 
 pub returns-clause-value : goal.returns-clause-value
@@ -30,15 +32,17 @@ returns-clause-value g c told =
     let x = c.args.x.now in
     let same = g.met.F.Files.kept_map c.args.files.now c.was_mailed.new.files told c.was_mailed.ensures.reads.kept in
     IfOk-weaker c.noted.result _ _
-    (λ done does p is. noted dir p set done (is_in p set x && is_used p set c.args.number) (note (key x) c.args.number c.args.now (ledger_of p set))
+    (λ done does p is. noted dir p set done (is_in p set x && is_used p set c.args.number) (note (key x) c.args.number c.args.now.seconds (ledger_of p set))
     (sym (c.in_ok-was_mailed.ensures.value told p is) ∙ c.if-not-branch.false)
-    (subst (λ (d : Dir). (q : Plain) → IsList d q → DoesList d done (if_changed q set (note (key x) c.args.number c.args.now (ledger_of q set)))) same does p is))
+    (subst (λ (d : Dir). (q : Plain) → IsList d q → DoesList d done (if_changed q set (note (key x) c.args.number c.args.now.seconds (ledger_of q set)))) same does p is))
     (c.noted.ensures.value told)
 
-pub returns-clause-names : goal.returns-clause-names
-returns-clause-names g c =
+pub returns-clause-act : goal.returns-clause-act
+returns-clause-act g c =
     let set = c.args.set in
     let x = c.args.x.now in
-    named_beside g.F.Files (λ name. is_of_bounce set x name ≡ true) c.noted.result (g.F.Files.map c.args.files.now) (g.F.Files.map c.was_mailed.new.files) Count (λ name. is_entry_of set x name ≡ true)
-    (λ told. g.met.F.Files.kept_map c.args.files.now c.was_mailed.new.files told c.was_mailed.ensures.reads.kept)
-    (λ name e. or_right (is_bucket_of set x name || is_counted_in set name) (is_entry_of set x name) e) (λ name e of. entry_other name set x e of) c.noted.ensures.names
+    let first = c.args.files.now in
+    let second = c.was_mailed.new.files in
+    let kept = kept_read g.F.Files first second c.was_mailed.result c.was_mailed.ensures.reads in
+    beside_act g.F.Files Count (λ name. is_of_bounce set x name ≡ true) (λ name. is_entry_of set x name ≡ true) c.noted.result g.met.F.Files.kept_then first second c.noted.new.files kept (λ told. g.met.F.Files.kept_map first second told kept.kept)
+    (λ name e. or_right (is_bucket_of set x name || is_counted_in set name) (is_entry_of set x name) e) (λ name e of. entry_other name set x e of) c.noted.ensures.act

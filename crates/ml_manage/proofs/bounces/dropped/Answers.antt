@@ -1,4 +1,4 @@
-use Rattle.std.proofs.Common.{◌≡◌, true, false, List, Option, sym, ◌∙◌, subst}
+use Rattle.std.proofs.Common.{◌≡◌, true, false, List, Option, sym, ◌∙◌, subst, rules}
 use Rattle.ml_base.specs.Dir.{touches_only}
 use Rattle.ml_base.specs.declared.puts.Put.{Put}
 use Rattle.ml_subs.specs.Answers.{puts_if}
@@ -18,5 +18,7 @@ returns-clause-value g c told p is member =
     let left = subst (λ (o : Option (List Put)). Leaves dir c.args.set c.args.x.now p o) c.in-Some.is (c.in_ok-txn.ensures.value told p is) in
     record { reply = c.plain-2.ensures; list = left.1 }
 
-pub returns-clause-own : goal.returns-clause-own
-returns-clause-own g c = beside_own c.in-Some.txn (subst (λ (o : Option (List Put)). touches_only is_beside_queue (puts_if o) ≡ true) c.in-Some.is c.in_ok-txn.ensures.own)
+pub returns-clause-act : goal.returns-clause-act
+returns-clause-act g c =
+    let own = beside_own c.in-Some.txn (subst (λ (o : Option (List Put)). touches_only is_beside_queue (puts_if o) ≡ true) c.in-Some.is c.in_ok-txn.ensures.own) in
+    search rules

@@ -10,24 +10,23 @@ use Rattle.ml_manage.proofs.bounces.noted.Goals as goal
 pub note-requires-clause-ledger : goal.note-requires-clause-ledger
 note-requires-clause-ledger g c = mailed_ledger c.args.set c.requires.mailed
 
-pub returns-in_err-answer-clause-names : goal.returns-in_err-answer-clause-names
-returns-in_err-answer-clause-names g c =
-    let dir = g.F.Files.map c.args.files.now in
-    let set = c.args.set in
-    let x = c.args.x.now in
-    let names = entry_named g.F.Files (λ name. is_entry_of set x name ≡ true) _ dir set x (mailed_ledger set c.requires.mailed) (λ name e. e) c.in_err-answer.ensures.names in
-    search rules
-
 pub returns-clause-value : goal.returns-clause-value
 returns-clause-value g c told p is =
     let dir = g.F.Files.map c.args.files.now in
     let set = c.args.set in
     let x = c.args.x.now in
-    changed_list dir p x c.changed.result set c.in_ok-answer.answer (note (key x) c.args.number c.args.now (ledger_of p set)) c.requires.mailed is
+    changed_list dir p x c.changed.result set c.in_ok-answer.answer (note (key x) c.args.number c.args.now.seconds (ledger_of p set)) c.requires.mailed is
     (c.in_ok-answer.ensures.value told dir (ledger_of p set) refl (ledger_is dir p set c.requires.mailed is)) c.in_ok-answer.ensures.others c.changed.ensures.puts c.changed.ensures.reply
 
-pub returns-clause-own : goal.returns-clause-own
-returns-clause-own g c = changed_own c.args.set c.args.x.now c.in_ok-answer.answer c.changed.result.0 c.requires.mailed c.in_ok-answer.ensures.others c.changed.ensures.puts
+pub returns-in_err-answer-clause-act : goal.returns-in_err-answer-clause-act
+returns-in_err-answer-clause-act g c =
+    let set = c.args.set in
+    let x = c.args.x.now in
+    let names = entry_named g.F.Files (λ name. is_entry_of set x name ≡ true) _ (g.F.Files.map c.args.files.now) set x (mailed_ledger set c.requires.mailed) (λ name e. e) c.in_err-answer.ensures.names in
+    search rules
 
-pub returns-clause-reply : goal.returns-clause-reply
-returns-clause-reply g c = change_kept c.in_ok-answer.answer c.changed.result.1 c.changed.ensures.reply
+pub returns-clause-act : goal.returns-clause-act
+returns-clause-act g c =
+    let own = changed_own c.args.set c.args.x.now c.in_ok-answer.answer c.changed.result.0 c.requires.mailed c.in_ok-answer.ensures.others c.changed.ensures.puts in
+    let reply = change_kept c.in_ok-answer.answer c.changed.result.1 c.changed.ensures.reply in
+    search rules

@@ -19,15 +19,6 @@ use Rattle.ml_manage.proofs.bounces.probed.Goals as goal
 pub probe_failed-requires : goal.probe_failed-requires
 probe_failed-requires g c = mailed_ledger c.args.set c.requires
 
-pub returns-in_err-probe_failed-clause-names : goal.returns-in_err-probe_failed-clause-names
-returns-in_err-probe_failed-clause-names g c =
-    let dir = g.F.Files.map c.args.files.now in
-    let set = c.args.set in
-    let x = c.args.x.now in
-    let names = entry_named g.F.Files (λ name. (is_touched set (key x) name || is_entry_of set x name) ≡ true) _ dir set x (mailed_ledger set c.requires)
-    (λ name e. or_right (is_touched set (key x) name) (is_entry_of set x name) e) c.in_err-probe_failed.ensures.names in
-    search rules
-
 pub returns-in_default-clause-value : goal.returns-in_default-clause-value
 returns-in_default-clause-value g c told p is member =
     let dir = g.F.Files.map c.args.files.now in
@@ -49,3 +40,11 @@ returns-clause-value g c told =
     dropped_so dir p x done set c.in-Some.field-0 (probe_failed (key x) c.args.time (ledger_of p set)) (subst (λ (o : Option (List Put)). LeadsTo dir set o (probe_failed (key x) c.args.time (ledger_of p set))) c.in-Some.is leads)
     (subst (λ (d : Dir). (q : Plain) → IsList d q → is_in q set x ≡ true → DoesList d done (removed set x q, dropped)) same does p is member))
     (c.dropped.ensures.value told)
+
+pub returns-in_err-probe_failed-clause-act : goal.returns-in_err-probe_failed-clause-act
+returns-in_err-probe_failed-clause-act g c =
+    let set = c.args.set in
+    let x = c.args.x.now in
+    let names = entry_named g.F.Files (λ name. (is_touched set (key x) name || is_entry_of set x name) ≡ true) _ (g.F.Files.map c.args.files.now) set x (mailed_ledger set c.requires)
+    (λ name e. or_right (is_touched set (key x) name) (is_entry_of set x name) e) c.in_err-probe_failed.ensures.names in
+    search rules

@@ -17,7 +17,7 @@ returns-then-not-branch-clause-value g c told p is =
     let dir = g.F.Files.map c.args.files.now in
     let set = c.args.set in
     let x = c.args.x.now in
-    not_noted dir p set (c.new.result, c.plain.result) (is_in p set x && is_good p (codes "warn") set c.args.time (key x) c.args.letters.now c.args.now) (warn_failed (key x) c.args.time c.args.now (ledger_of p set)) is
+    not_noted dir p set (c.new.result, c.plain.result) (is_in p set x && is_good p (codes "warn") set c.args.time (key x) c.args.letters.now c.args.now.seconds) (warn_failed (key x) c.args.time c.args.now.seconds (ledger_of p set)) is
     (sym (c.in_ok-is_signed.ensures.value told p is) ∙ c.if-not-branch.true) c.new.ensures c.plain.ensures
 
 pub returns-clause-value : goal.returns-clause-value
@@ -27,7 +27,7 @@ returns-clause-value g c told =
     let x = c.args.x.now in
     let same = g.met.F.Files.kept_map c.args.files.now c.is_signed.new.files told c.is_signed.ensures.reads.kept in
     IfOk-weaker c.warning_failed.result _ _
-    (λ done does p is. noted dir p set done (is_in p set x && is_good p (codes "warn") set c.args.time (key x) c.args.letters.now c.args.now) (warn_failed (key x) c.args.time c.args.now (ledger_of p set))
+    (λ done does p is. noted dir p set done (is_in p set x && is_good p (codes "warn") set c.args.time (key x) c.args.letters.now c.args.now.seconds) (warn_failed (key x) c.args.time c.args.now.seconds (ledger_of p set))
     (sym (c.in_ok-is_signed.ensures.value told p is) ∙ c.if-not-branch.false)
-    (subst (λ (d : Dir). (q : Plain) → IsList d q → DoesList d done (if_changed q set (warn_failed (key x) c.args.time c.args.now (ledger_of q set)))) same does p is))
+    (subst (λ (d : Dir). (q : Plain) → IsList d q → DoesList d done (if_changed q set (warn_failed (key x) c.args.time c.args.now.seconds (ledger_of q set)))) same does p is))
     (c.warning_failed.ensures.value told)

@@ -1,4 +1,4 @@
-use Rattle.std.proofs.Common.{◌∷◌, [], List, refl, sym, subst}
+use Rattle.std.proofs.Common.{◌∷◌, [], List, refl, sym, subst, rules}
 use Rattle.ml_address.specs.declared.Path.{Path}
 use Rattle.ml_base.specs.Bytes.{Text}
 use Rattle.ml_base.specs.Dir.{with_puts}
@@ -22,5 +22,7 @@ returns-clause-value g c told p is same =
       list = subst (λ (k : Config). IsList now (send (reply_path k) c.args.message.now (k.owner ∷ []) p)) (sym same) three;
     }
 
-pub returns-clause-own : goal.returns-clause-own
-returns-clause-own g c = queue_own c.in_ok-txn.txn c.in_ok-txn.ensures.own
+pub returns-clause-act : goal.returns-clause-act
+returns-clause-act g c =
+    let own = queue_own c.in_ok-txn.txn c.in_ok-txn.ensures.own in
+    search rules

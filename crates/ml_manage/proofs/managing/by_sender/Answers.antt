@@ -3,29 +3,31 @@ use Rattle.std.proofs.lemmas.Result.{IfOk-weaker}
 use Rattle.ml_address.specs.Views.{request_view}
 use Rattle.ml_base.specs.Address.{address_of}
 use Rattle.ml_base.specs.Bytes.{Text}
-use Rattle.ml_base.specs.ReadFiles.{NamesDamaged}
 use Rattle.ml_manage.specs.Reads.{IsDamagedFor, is_read_for}
 use Rattle.ml_manage.proofs.Senders.{of_list, of_nobody, of_somebody}
+use Rattle.ml_acts.specs.Acting.{AnswersAct}
 use Rattle.ml_manage.proofs.managing.by_sender.Goals as goal
 
 pub returns-in_default-clause-value : goal.returns-in_default-clause-value
 returns-in_default-clause-value g c told p is same =
-    of_nobody (g.F.Files.map c.args.files.now) p c.args.now c.args.message.now (request_view c.args.request.now) (c.new.result, c.plain.result) (address_of c.args.sender.now) is
+    of_nobody (g.F.Files.map c.args.files.now) p c.args.now.seconds c.args.message.now (request_view c.args.request.now) (c.new.result, c.plain.result) (address_of c.args.sender.now) is
     (sym c.in_ok-who.ensures ∙ c.in_default.is) c.new.ensures c.plain.ensures
 
 pub returns-then-is_from_list-clause-value : goal.returns-then-is_from_list-clause-value
 returns-then-is_from_list-clause-value g c told p is same =
-    of_list (g.F.Files.map c.args.files.now) p c.args.now c.args.message.now (request_view c.args.request.now) (c.new-then-is_from_list.result, c.plain-then-is_from_list.result) (address_of c.args.sender.now) c.in-Some.who is
+    of_list (g.F.Files.map c.args.files.now) p c.args.now.seconds c.args.message.now (request_view c.args.request.now) (c.new-then-is_from_list.result, c.plain-then-is_from_list.result) (address_of c.args.sender.now) c.in-Some.who is
     (sym c.in_ok-who.ensures ∙ c.in-Some.is) (sym c.is_from_list.ensures ∙ c.if-is_from_list.true) c.new-then-is_from_list.ensures c.plain-then-is_from_list.ensures
 
 pub returns-clause-value : goal.returns-clause-value
 returns-clause-value g c told =
     IfOk-weaker c.managed.result _ _
-    (λ done does p is same. of_somebody (g.F.Files.map c.args.files.now) p c.args.now c.args.message.now (request_view c.args.request.now) done (address_of c.args.sender.now) c.in-Some.who
+    (λ done does p is same. of_somebody (g.F.Files.map c.args.files.now) p c.args.now.seconds c.args.message.now (request_view c.args.request.now) done (address_of c.args.sender.now) c.in-Some.who
     (sym c.in_ok-who.ensures ∙ c.in-Some.is) (sym c.is_from_list.ensures ∙ c.if-is_from_list.false) (does p is same))
     (c.managed.ensures.value told)
 
-pub returns-clause-names : goal.returns-clause-names
-returns-clause-names g c =
+pub returns-clause-act : goal.returns-clause-act
+returns-clause-act g c =
+    let config = c.args.config.now in
+    let request = request_view c.args.request.now in
     let some : Some c.in-Some.who ≡ address_of c.args.sender.now = sym (sym c.in_ok-who.ensures ∙ c.in-Some.is) in
-    subst (λ (o : Option Text). NamesDamaged g.F.Files (λ name. is_read_for c.args.config.now o (request_view c.args.request.now) name ≡ true) (IsDamagedFor (g.F.Files.map c.args.files.now) c.args.config.now (request_view c.args.request.now)) c.managed.result) some c.managed.ensures.names
+    subst (λ (o : Option Text). AnswersAct g.F.Files (λ name. is_read_for config o request name ≡ true) (IsDamagedFor (g.F.Files.map c.args.files.now) config request) c.args.files.now c.managed.new.files c.managed.result) some c.managed.ensures.act

@@ -1,15 +1,12 @@
-use Rattle.std.proofs.Common.{IfErr, ap, ap₂, sym, subst}
+use Rattle.std.proofs.Common.{ap, sym, subst, rules}
 use Rattle.ml_address.specs.Views.{request_view}
 use Rattle.ml_base.specs.Dir.{Dir}
-use Rattle.ml_base.specs.PartErrors.{OnDamaged}
-use Rattle.ml_base.proofs.DamagedNames.{err_damaged}
 use Rattle.ml_config.specs.ConfigFile.{IsConfigFile, config_name}
 use Rattle.ml_config.specs.declared.configuration.Config.{Config}
 use Rattle.ml_plain.specs.Managing as spec
 use Rattle.ml_acts.specs.Configured.{with_config}
-use Rattle.ml_acts.specs.Damaged.{IsDamaged}
 use Rattle.ml_acts.specs.Doing.{HasRoom}
-use Rattle.ml_acts.proofs.UnderConfig.{config_there, done_under, room_under, sound_under}
+use Rattle.ml_acts.proofs.UnderConfig.{config_there, done_under, named_under, room_under}
 use Rattle.ml_manage.specs.Reads.{IsDamagedFor}
 use Rattle.ml_manage.proofs.managing.manage.Goals as goal
 
@@ -27,16 +24,18 @@ returns-clause-value g c told =
     done_under c.args.config.now c.new-under.result.config.now (g.F.Files.map c.args.files.now) (g.F.Files.map c.new-under.result.files.now) c.new-under.ensures.config (ap g.F.Files.map c.new-under.ensures.files) c.by_request.result
     (λ p. spec.by_request c.args.now c.args.sender.now c.args.message.now p (request_view c.args.request.now)) c.requires.config (c.by_request.ensures.value told)
 
-pub returns-clause-names : goal.returns-clause-names
-returns-clause-names g c = record {
-  named = c.by_request.ensures.names.named;
-  damaged = λ told.
-      subst (λ (d : Dir). IfErr c.by_request.result (λ e. OnDamaged e (IsDamagedFor d c.args.config.now (request_view c.args.request.now)))) (ap₂ with_config c.new-under.ensures.config (ap g.F.Files.map c.new-under.ensures.files))
-      (c.by_request.ensures.names.damaged told);
-}
-
-pub returns-clause-sound : goal.returns-clause-sound
-returns-clause-sound g c told p is =
-    let there = with_config c.new-under.result.config.now (g.F.Files.map c.new-under.result.files.now) in
-    sound_under c.args.config.now c.new-under.result.config.now (g.F.Files.map c.args.files.now) (g.F.Files.map c.new-under.result.files.now) c.new-under.ensures.config (ap g.F.Files.map c.new-under.ensures.files) c.by_request.result p is
-    (err_damaged c.by_request.result (IsDamagedFor there c.args.config.now (request_view c.args.request.now)) (IsDamaged there) (λ name bad. bad.damaged) (c.by_request.ensures.names.damaged told))
+pub returns-clause-act : goal.returns-clause-act
+returns-clause-act g c =
+    let act = c.by_request.ensures.act in
+    record {
+      own = act.own;
+      files = act.files;
+      reply = act.reply;
+      names = record {
+        named = act.names.named;
+        damaged = λ told.
+            named_under c.args.config.now c.new-under.result.config.now (g.F.Files.map c.args.files.now) (g.F.Files.map c.new-under.result.files.now) c.new-under.ensures.config (ap g.F.Files.map c.new-under.ensures.files) c.by_request.result
+            (λ d. IsDamagedFor d c.args.config.now (request_view c.args.request.now)) (act.names.damaged told);
+      };
+      reads = search rules;
+    }

@@ -1,13 +1,13 @@
 use Rattle.std.proofs.Common.{◌≡◌, true, IfOk, subst}
 use Rattle.std.proofs.lemmas.Bool.{and_parts, leb-true}
 use Rattle.ml_base.specs.Bytes.{Text}
-use Rattle.ml_base.specs.ReadFiles.{NamesDamaged}
 use Rattle.ml_plain.specs.Directory.{IsList}
 use Rattle.ml_plain.specs.Plain.{Plain}
 use Rattle.ml_acts.specs.Asked.{Count, IsDamagedOf}
 use Rattle.ml_acts.specs.Doing.{DoesList}
 use Rattle.ml_plain.specs.Bouncing.{bounced}
 use Rattle.ml_manage.specs.Reads.{is_of_bounce}
+use Rattle.ml_acts.specs.Acting.{AnswersAct}
 use Rattle.ml_manage.proofs.managing.of_bounce.Goals as goal
 
 pub named-requires : goal.named-requires
@@ -22,8 +22,8 @@ bounced-requires-clause-number g c = leb-true c.args.number 99_999_999 (and_part
 pub returns-clause-value : goal.returns-clause-value
 returns-clause-value g c told =
     let dir = g.F.Files.map c.args.files.now in
-    subst (λ (x : Text). IfOk c.bounced.result (λ done. (p : Plain) → IsList dir p → DoesList dir done (bounced c.args.now c.args.set c.args.number x p))) c.in_ok-x.ensures (c.bounced.ensures.value told)
+    subst (λ (x : Text). IfOk c.bounced.result (λ done. (p : Plain) → IsList dir p → DoesList dir done (bounced c.args.now.seconds c.args.set c.args.number x p))) c.in_ok-x.ensures (c.bounced.ensures.value told)
 
-pub returns-clause-names : goal.returns-clause-names
-returns-clause-names g c =
-    subst (λ (x : Text). NamesDamaged g.F.Files (λ name. is_of_bounce c.args.set x name ≡ true) (IsDamagedOf (g.F.Files.map c.args.files.now) Count) c.bounced.result) c.in_ok-x.ensures (c.bounced.ensures.names)
+pub returns-clause-act : goal.returns-clause-act
+returns-clause-act g c =
+    subst (λ (x : Text). AnswersAct g.F.Files (λ name. is_of_bounce c.args.set x name ≡ true) (IsDamagedOf (g.F.Files.map c.args.files.now) Count) c.args.files.now c.bounced.new.files c.bounced.result) c.in_ok-x.ensures c.bounced.ensures.act

@@ -1,13 +1,13 @@
 use Rattle.std.proofs.Common.{◌≡◌, true, IfOk, subst}
 use Rattle.std.proofs.lemmas.Bool.{and_parts}
 use Rattle.ml_base.specs.Bytes.{Text}
-use Rattle.ml_base.specs.ReadFiles.{NamesDamaged}
 use Rattle.ml_plain.specs.Directory.{IsList}
 use Rattle.ml_plain.specs.Plain.{Plain}
 use Rattle.ml_acts.specs.Damaged.{IsDamaged}
 use Rattle.ml_acts.specs.Doing.{DoesList}
 use Rattle.ml_manage.specs.Leaving.{of_probe}
 use Rattle.ml_manage.specs.Reads.{is_of_probe}
+use Rattle.ml_acts.specs.Acting.{AnswersAct}
 use Rattle.ml_manage.proofs.managing.of_probe.Goals as goal
 
 pub named-requires : goal.named-requires
@@ -21,6 +21,6 @@ returns-clause-value g c told =
     let dir = g.F.Files.map c.args.files.now in
     subst (λ (x : Text). IfOk c.probe_bounced.result (λ done. (p : Plain) → IsList dir p → DoesList dir done (of_probe c.args.now c.args.set c.args.time c.args.letters.now x p))) c.in_ok-x.ensures (c.probe_bounced.ensures.value told)
 
-pub returns-clause-names : goal.returns-clause-names
-returns-clause-names g c =
-    subst (λ (x : Text). NamesDamaged g.F.Files (λ name. is_of_probe c.args.set x name ≡ true) (IsDamaged (g.F.Files.map c.args.files.now)) c.probe_bounced.result) c.in_ok-x.ensures (c.probe_bounced.ensures.names)
+pub returns-clause-act : goal.returns-clause-act
+returns-clause-act g c =
+    subst (λ (x : Text). AnswersAct g.F.Files (λ name. is_of_probe c.args.set x name ≡ true) (IsDamaged (g.F.Files.map c.args.files.now)) c.args.files.now c.probe_bounced.new.files c.probe_bounced.result) c.in_ok-x.ensures c.probe_bounced.ensures.act

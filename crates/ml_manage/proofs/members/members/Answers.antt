@@ -15,7 +15,7 @@ use Rattle.ml_manage.proofs.members.members.Goals as goal
 
 pub returns-then-not-branch-clause-value : goal.returns-then-not-branch-clause-value
 returns-then-not-branch-clause-value g c told p is same =
-    unlisted (g.F.Files.map c.args.files.now) p c.args.now c.args.sender.now (c.new.result, c.plain.result) (p.config.flags.l && is_moderator p c.args.sender.now) c.args.set is
+    unlisted (g.F.Files.map c.args.files.now) p c.args.now.seconds c.args.sender.now (c.new.result, c.plain.result) (p.config.flags.l && is_moderator p c.args.sender.now) c.args.set is
     (sym (c.in_ok-may_list.ensures.value told p is same) ∙ c.if-not-branch.true) c.new.ensures c.plain.ensures
 
 pub with_mail-requires-clause-room : goal.with_mail-requires-clause-room
@@ -28,7 +28,7 @@ pub returns-clause-value : goal.returns-clause-value
 returns-clause-value g c told =
     let old = g.F.Files.map c.args.files.now in
     let sender = c.args.sender.now in
-    let now = c.args.now in
+    let now = c.args.now.seconds in
     let set = c.args.set in
     let first = g.met.F.Files.kept_map c.args.files.now c.may_list.new.files told c.may_list.ensures.reads.kept in
     let all = g.met.F.Files.kept_map c.may_list.new.files c.members_mail.new.files told c.members_mail.ensures.reads.kept ∙ first in

@@ -1,0 +1,85 @@
+-- What is said of a request, by what is said of the one that it is.
+use Rattle.std.proofs.Common.{◌≡◌, true, IfOk, IsTrue, List, Result, sym, subst}
+use Rattle.std.proofs.lemmas.Result.{IfOk-weaker}
+use Rattle.ml_address.specs.Requests.{PlainRequest, Post, Help, Other, Owner, Subscribe, Unsubscribe, Confirm, Members, Get, Index, Thread, Accept, Reject, Bounce, WarnBounce, ProbeBounce, ReplyBounce}
+use Rattle.ml_address.specs.Views.{request_view}
+use Rattle.ml_address.specs.declared.Request.{Request}
+use Rattle.ml_base.specs.Dir.{Dir}
+use Rattle.ml_base.specs.declared.files.Files.{Ghosts}
+use Rattle.ml_base.specs.declared.names.Name.{Name}
+use Rattle.ml_base.specs.declared.part.PartError.{PartError}
+use Rattle.ml_base.specs.declared.puts.Put.{Put}
+use Rattle.ml_filing.specs.Threads.{is_of_archive}
+use Rattle.ml_config.specs.ConfigFile.{IsConfigFile, config_name}
+use Rattle.ml_config.specs.declared.configuration.Config.{Config}
+use Rattle.ml_plain.specs.Directory.{IsList}
+use Rattle.ml_plain.specs.Plain.{Plain}
+use Rattle.ml_plain.specs.declared.Reply.{Reply}
+use Rattle.ml_acts.specs.Acting.{AnswersAct}
+use Rattle.ml_acts.specs.Asked.{Asked, IsBadFor, IsDamagedOf}
+use Rattle.ml_acts.specs.Configured.{with_config}
+use Rattle.ml_acts.specs.Damaged.{IsDamaged}
+use Rattle.ml_acts.specs.Doing.{DoesList}
+use Rattle.ml_acts.proofs.HeldConfig.{listed, named_held}
+use Rattle.ml_acts.proofs.OfActs.{act_so}
+use Rattle.ml_manage.specs.Reads.{IsDamagedFor, IsForRequest}
+
+-- what an act does for a request
+module _ (r : Result (List Put × Reply) PartError) (dir : Dir) (c : Config) (step : Plain → PlainRequest → Plain × Reply) {q this : Request} (is : q ≡ this) where
+  abbrev Does : Request → Type 0
+  Does s = IfOk r (λ done. (p : Plain) → IsList dir p → p.config ≡ c → DoesList dir done (step p (request_view s)))
+
+  pub done_for : Does this → Does q
+  done_for does = subst Does (sym is) does
+
+  -- one that does it whatever the configuration
+  pub done_of : IfOk r (λ done. (p : Plain) → IsList dir p → DoesList dir done (step p (request_view this))) → Does q
+  done_of does = done_for (IfOk-weaker r _ _ (λ done so p list same. so p list) does)
+
+  -- or that says so under the configuration
+  pub done_held : IfOk r (λ done. (p : Plain) → IsList (with_config c dir) p → DoesList (with_config c dir) done (step p (request_view this))) → Does q
+  done_held does = done_for (IfOk-weaker r _ _ (λ done so p list same. listed c dir p done _ list same (so p)) does)
+
+-- an act for a request, of files that tell which are damaged for that
+module _ {F : Type 0} (told : Ghosts F) (May : PlainRequest → Name → Type 0) {r : Result (List Put × Reply) PartError} {dir : Dir} {c : Config} {old new : F} {q this : Request} (is : q ≡ this) where
+  of_this : (Bad : Name → Type 0) → ((name : Name) → Bad name → IsDamagedFor dir c (request_view this) name) → AnswersAct told (May (request_view this)) Bad old new r → AnswersAct told (May (request_view q)) (IsDamagedFor dir c (request_view q)) old new r
+  of_this Bad so act =
+      let for = IsDamagedFor dir c (request_view this) in
+      subst (λ (s : Request). AnswersAct told (May (request_view s)) (IsDamagedFor dir c (request_view s)) old new r) (sym is)
+      (act_so told r (May (request_view this)) Bad for (May (request_view this)) old new (λ name e. e) (λ name e bad. so name bad) act)
+
+  -- one that reads nothing of the archive
+  pub for_other : ((name : Name) → IsForRequest dir c (request_view this) name) → AnswersAct told (May (request_view this)) (IsDamaged dir) old new r → AnswersAct told (May (request_view q)) (IsDamagedFor dir c (request_view q)) old new r
+  for_other none act = of_this (IsDamaged dir) (λ name bad. record { damaged = bad; own = none name }) act
+
+  -- or that says so under the configuration
+  pub for_held : ((name : Name) → IsForRequest dir c (request_view this) name) → (IsTrue told.tells → IsConfigFile (dir config_name) c) → AnswersAct told (May (request_view this)) (IsDamaged (with_config c dir)) old new r
+      → AnswersAct told (May (request_view q)) (IsDamagedFor dir c (request_view q)) old new r
+  for_held none held act =
+      for_other none (record { own = act.own; files = act.files; reply = act.reply; names = named_held c dir told (May (request_view this)) IsDamaged r held act.names; reads = act.reads })
+
+  -- one that asks this of the archive
+  pub for_asked : (asked : Asked) → ((name : Name) → (is_of_archive name ≡ true → IsBadFor dir asked name) → IsForRequest dir c (request_view this) name) → AnswersAct told (May (request_view this)) (IsDamagedOf dir asked) old new r
+      → AnswersAct told (May (request_view q)) (IsDamagedFor dir c (request_view q)) old new r
+  for_asked asked own act = of_this (IsDamagedOf dir asked) (λ name bad. record { damaged = bad.damaged; own = own name bad.own }) act
+
+-- a file that is none of the archive's, whatever the request
+module _ (dir : Dir) (c : Config) (name : Name) (none : is_of_archive name ≡ true → ⊥) where
+  pub beside_request : (request : PlainRequest) → IsForRequest dir c request name
+  beside_request Post = tt
+  beside_request Help = tt
+  beside_request Other = tt
+  beside_request Owner = tt
+  beside_request (Subscribe set who) = tt
+  beside_request (Unsubscribe set who) = tt
+  beside_request (Confirm word set s) = tt
+  beside_request (Members set) = tt
+  beside_request (Get from to) = λ of. absurd (none of)
+  beside_request (Index at) = λ of. absurd (none of)
+  beside_request (Thread at) = λ of. absurd (none of)
+  beside_request (Accept ticket cookie) = tt
+  beside_request (Reject ticket cookie) = tt
+  beside_request (Bounce set number who) = λ of. absurd (none of)
+  beside_request (WarnBounce set s) = tt
+  beside_request (ProbeBounce set s) = tt
+  beside_request (ReplyBounce set) = tt
