@@ -27,6 +27,7 @@ use crate::rising::raise;
 use crate::sending::sent_entry;
 use crate::slots::{Found, Known, keep, kept_reply, replies_name};
 use crate::timing::run_timed;
+use ml_acts::Moment;
 use ml_base::{Bytes, Files, Name, PartError, Put, Txn, copied};
 use ml_plain::{Act, Item, Reply};
 use std::alloc::{AllocError, Global};
@@ -221,7 +222,9 @@ fn change<F: Files>(
             alloc,
             files,
             &mut memo.mail,
-            item.moment,
+            Moment {
+                seconds: item.moment,
+            },
             sender.as_slice(),
             recipient.as_slice(),
             message.as_slice(),

@@ -3,7 +3,6 @@ ghost use Rattle.std.specs.Prelude.{◌≡◌, true, IsTrue, IfOk, IfErr, IfSome
 ghost use Rattle.ml_address.specs.Reading.{request_of};
 ghost use Rattle.ml_address.specs.Views.{request_view};
 ghost use Rattle.ml_base.specs.PartErrors.{OnDamaged};
-ghost use Rattle.ml_base.specs.Ranges.{IsMoment};
 ghost use Rattle.ml_base.specs.ReadFiles.{IsReading};
 ghost use Rattle.ml_config.specs.ConfigFile.{IsConfigFile, config_name};
 ghost use Rattle.ml_config.specs.Configuration.{IsConfig};
@@ -17,7 +16,7 @@ ghost use Rattle.ml_list.specs.Delivering.{IsDamagedServed, IsDelivered, IsReque
 ghost use Rattle.ml_list.specs.Reads.{is_of_acts};
 
 use crate::moderating::moderated;
-use ml_acts::{MailMemo, is_worn};
+use ml_acts::{MailMemo, Moment, is_worn};
 use ml_address::{Request, read_request};
 use ml_base::{Files, PartError, Txn};
 use ml_config::Config;
@@ -40,13 +39,12 @@ pub(crate) fn deliver<F: Files>(
     alloc: Global,
     files: &mut F,
     memo: &mut MailMemo,
-    now: u64,
+    now: Moment,
     sender: &[u8],
     recipient: &[u8],
     message: &[u8],
 ) -> Result<(Txn, Reply), PartError>
-    requires moment { IsMoment now }
-    ensures value { IsTrue F.tells → IfOk result (λ done. (p : Plain) → IsList (F.map files.old) p → DoesList (F.map files.old) done (spec.deliver now sender.now recipient.now message.now p)) }
+    ensures value { IsTrue F.tells → IfOk result (λ done. (p : Plain) → IsList (F.map files.old) p → DoesList (F.map files.old) done (spec.deliver now.seconds sender.now recipient.now message.now p)) }
     ensures act { AnswersAct ⟦<F as Files>⟧ (λ name. is_of_acts name ≡ true) (λ name. IsDamaged (F.map files.old) name × IsDelivered (F.map files.old) sender.now recipient.now message.now name) files.old files.new result }
 {
     let config = configuration(alloc, files)?;
@@ -59,15 +57,14 @@ fn unless_worn<F: Files>(
     files: &mut F,
     memo: &mut MailMemo,
     config: &Config,
-    now: u64,
+    now: Moment,
     sender: &[u8],
     recipient: &[u8],
     message: &[u8],
 ) -> Result<(Txn, Reply), PartError>
-    requires moment { IsMoment now }
     requires config { IsConfig config.now }
     requires loaded { IsTrue F.tells → IsConfigFile (F.map files.now config_name) config.now }
-    ensures value { IsTrue F.tells → IfOk result (λ done. (p : Plain) → IsList (F.map files.old) p → p.config ≡ config.now → DoesList (F.map files.old) done (spec.deliver now sender.now recipient.now message.now p)) }
+    ensures value { IsTrue F.tells → IfOk result (λ done. (p : Plain) → IsList (F.map files.old) p → p.config ≡ config.now → DoesList (F.map files.old) done (spec.deliver now.seconds sender.now recipient.now message.now p)) }
     ensures act { AnswersAct ⟦<F as Files>⟧ (λ name. is_of_acts name ≡ true) (IsDamagedServed (F.map files.old) config.now sender.now message.now (request_of config.now.local config.now.host recipient.now)) files.old files.new result }
 {
     if is_worn(alloc, files)? {
@@ -110,16 +107,15 @@ fn by_recipient<F: Files>(
     files: &mut F,
     memo: &mut MailMemo,
     config: &Config,
-    now: u64,
+    now: Moment,
     sender: &[u8],
     recipient: &[u8],
     message: &[u8],
 ) -> Result<(Txn, Reply), PartError>
-    requires moment { IsMoment now }
     requires config { IsConfig config.now }
     requires loaded { IsTrue F.tells → IsConfigFile (F.map files.now config_name) config.now }
     requires room { IsTrue F.tells → HasRoom (F.map files.now) }
-    ensures value { IsTrue F.tells → IfOk result (λ done. (p : Plain) → IsList (F.map files.old) p → p.config ≡ config.now → DoesList (F.map files.old) done (spec.by_recipient now sender.now message.now p (request_of config.now.local config.now.host recipient.now))) }
+    ensures value { IsTrue F.tells → IfOk result (λ done. (p : Plain) → IsList (F.map files.old) p → p.config ≡ config.now → DoesList (F.map files.old) done (spec.by_recipient now.seconds sender.now message.now p (request_of config.now.local config.now.host recipient.now))) }
     ensures act { AnswersAct ⟦<F as Files>⟧ (λ name. is_of_acts name ≡ true) (λ name. IsDamaged (F.map files.old) name × IsRequested (F.map files.old) config.now sender.now message.now (request_of config.now.local config.now.host recipient.now) name) files.old files.new result }
 {
     let local = config.local.as_slice();
@@ -137,22 +133,21 @@ fn by_request<F: Files>(
     files: &mut F,
     memo: &mut MailMemo,
     config: &Config,
-    now: u64,
+    now: Moment,
     sender: &[u8],
     recipient: &[u8],
     request: &Request<'_>,
     message: &[u8],
 ) -> Result<(Txn, Reply), PartError>
-    requires moment { IsMoment now }
     requires config { IsConfig config.now }
     requires loaded { IsTrue F.tells → IsConfigFile (F.map files.now config_name) config.now }
     requires room { IsTrue F.tells → HasRoom (F.map files.now) }
     requires read { request_of config.now.local config.now.host recipient.now ≡ Some (request_view request.now) }
-    ensures value { IsTrue F.tells → IfOk result (λ done. (p : Plain) → IsList (F.map files.old) p → p.config ≡ config.now → DoesList (F.map files.old) done (spec.by_request now sender.now message.now p (request_view request.now))) }
+    ensures value { IsTrue F.tells → IfOk result (λ done. (p : Plain) → IsList (F.map files.old) p → p.config ≡ config.now → DoesList (F.map files.old) done (spec.by_request now.seconds sender.now message.now p (request_view request.now))) }
     ensures act { AnswersAct ⟦<F as Files>⟧ (λ name. is_of_acts name ≡ true) (λ name. IsDamaged (F.map files.old) name × IsRequested (F.map files.old) config.now sender.now message.now (Some (request_view request.now)) name) files.old files.new result }
 {
     match request {
-        Request::Post => post_with_memo(alloc, files, memo, config, now, sender, message),
+        Request::Post => post_with_memo(alloc, files, memo, config, now.seconds, sender, message),
         Request::Accept { ticket, cookie } => {
             let decision = Decision::Accept;
             moderated(
@@ -165,6 +160,6 @@ fn by_request<F: Files>(
                 alloc, files, config, now, sender, message, *ticket, cookie, decision,
             )
         }
-        _ => manage(alloc, files, config, now, sender, request, message),
+        _ => manage(alloc, files, config, now.seconds, sender, request, message),
     }
 }

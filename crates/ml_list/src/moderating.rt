@@ -2,7 +2,6 @@
 ghost use Rattle.std.specs.Prelude.{◌≡◌, true, codes, is_some, IsTrue, IfOk};
 ghost use Rattle.ml_address.specs.Requests.{Accept, Reject, PlainRequest};
 ghost use Rattle.ml_base.specs.Address.{address_of};
-ghost use Rattle.ml_base.specs.Ranges.{IsMoment};
 ghost use Rattle.ml_config.specs.ConfigFile.{IsConfigFile, config_name};
 ghost use Rattle.ml_config.specs.Configuration.{IsConfig};
 ghost use Rattle.ml_header.specs.Fields.{has_field};
@@ -14,6 +13,7 @@ ghost use Rattle.ml_post.specs.Answering.{IsDamagedOfTicket, accepts, is_answere
 ghost use Rattle.ml_acts.specs.Acting.{AnswersAct};
 ghost use Rattle.ml_list.specs.Moderating.{answer_to};
 
+use ml_acts::Moment;
 use ml_base::{Address, Files, PartError, Txn};
 use ml_config::Config;
 use ml_header::Message;
@@ -26,18 +26,17 @@ pub(crate) fn moderated<F: Files>(
     alloc: Global,
     files: &mut F,
     config: &Config,
-    now: u64,
+    now: Moment,
     sender: &[u8],
     message: &[u8],
     ticket: u64,
     letters: &[u8; 20],
     decision: Decision,
 ) -> Result<(Txn, Reply), PartError>
-    requires moment { IsMoment now }
     requires config { IsConfig config.now }
     requires loaded { IsTrue F.tells → IsConfigFile (F.map files.now config_name) config.now }
     requires room { IsTrue F.tells → HasIds (F.map files.now) }
-    ensures value { IsTrue F.tells → IfOk result (λ done. (p : Plain) → IsList (F.map files.old) p → p.config ≡ config.now → DoesList (F.map files.old) done (spec.by_sender now message.now p (answer_to ticket letters.now (accepts decision)) (address_of sender.now))) }
+    ensures value { IsTrue F.tells → IfOk result (λ done. (p : Plain) → IsList (F.map files.old) p → p.config ≡ config.now → DoesList (F.map files.old) done (spec.by_sender now.seconds message.now p (answer_to ticket letters.now (accepts decision)) (address_of sender.now))) }
     ensures act { AnswersAct ⟦<F as Files>⟧ (λ name. is_answered_by ticket (accepts decision) name ≡ true) (IsDamagedOfTicket (F.map files.old) config.now ticket) files.old files.new result }
 {
     if !is_usable(sender) {
@@ -46,7 +45,7 @@ pub(crate) fn moderated<F: Files>(
     if is_from_list(message) {
         return Ok((Txn::new(alloc), Reply::plain(Reply::LOOPED)));
     }
-    decide(alloc, files, config, now, ticket, letters, decision)
+    decide(alloc, files, config, now.seconds, ticket, letters, decision)
 }
 
 // Whether an envelope sender is an address.

@@ -12,7 +12,7 @@ ghost use Rattle.ml_timed.specs.Reads.{is_of_timed};
 ghost use Rattle.ml_acts.specs.Acting.{AnswersAct};
 
 use crate::delivering::configuration;
-use ml_acts::is_worn;
+use ml_acts::{Moment, is_worn};
 use ml_base::{Files, PartError, Txn};
 use ml_config::Config;
 use ml_plain::Reply;
@@ -36,7 +36,7 @@ pub(crate) fn run_timed<F: Files>(
 {
     let mut files = files;
     match configuration(alloc, &mut files) {
-        Ok(config) => run_unless_worn(alloc, files, &config, now),
+        Ok(config) => run_unless_worn(alloc, files, &config, Moment { seconds: now }),
         Err(error) => (files, Err(error)),
     }
 }
@@ -46,17 +46,16 @@ fn run_unless_worn<F: Files>(
     alloc: Global,
     files: F,
     config: &Config,
-    now: u64,
+    now: Moment,
 ) -> (F, Result<(Txn, Reply), PartError>)
-    requires moment { IsMoment now }
     requires config { IsConfig config.now }
-    ensures value { IsTrue F.tells → IfOk result.1 (λ done. (p : Plain) → IsList (F.map files) p → p.config ≡ config.now → DoesList (F.map files) done (spec.timed now p)) }
+    ensures value { IsTrue F.tells → IfOk result.1 (λ done. (p : Plain) → IsList (F.map files) p → p.config ≡ config.now → DoesList (F.map files) done (spec.timed now.seconds p)) }
     ensures act { AnswersAct ⟦<F as Files>⟧ (λ name. is_of_timed name ≡ true) (IsDamagedOf (F.map files) Undigested) files result.0 result.1 }
 {
     let mut files = files;
     match is_worn(alloc, &mut files) {
         Ok(true) => (files, Ok((Txn::new(alloc), Reply::plain(Reply::FULL)))),
-        Ok(false) => timed(alloc, files, config, now),
+        Ok(false) => timed(alloc, files, config, now.seconds),
         Err(error) => (files, Err(error)),
     }
 }

@@ -24,7 +24,7 @@ returns-clause-value g c told =
     let same_map = g.met.F.Files.kept_map c.args.files.now c.configuration.new.files told c.configuration.ensures.reads.kept in
     IfOk-weaker c.unless_worn.result _ _
     (λ done does p is.
-    subst (λ (d : Dir). DoesList d done (spec.deliver c.args.now c.args.sender.now c.args.recipient.now c.args.message.now p)) same_map
+    subst (λ (d : Dir). DoesList d done (spec.deliver c.args.now.seconds c.args.sender.now c.args.recipient.now c.args.message.now p)) same_map
     (does p (subst (λ (d : Dir). IsList d p) (sym same_map) is) (one_in_file (old config_name) p.config c.in_ok-config.config is.config (c.in_ok-config.ensures.value told))))
     (c.unless_worn.ensures.value told)
 

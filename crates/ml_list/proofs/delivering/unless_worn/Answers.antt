@@ -21,8 +21,8 @@ returns-clause-value g c told =
     IfOk-weaker c.by_recipient.result _ _
     (λ done does p is same.
     does_so (g.F.Files.map c.args.files.now) done _ _
-    (served c.args.now c.args.sender.now c.args.recipient.now c.args.message.now p c.args.config.now same (sym (c.in_ok-is_worn.ensures.value told p is) ∙ c.if-branch.false))
-    (subst (λ (d : Dir). DoesList d done (spec.by_recipient c.args.now c.args.sender.now c.args.message.now p (request_of c.args.config.now.local c.args.config.now.host c.args.recipient.now))) same_map (does p (subst (λ (d : Dir). IsList d p) (sym same_map) is) same)))
+    (served c.args.now.seconds c.args.sender.now c.args.recipient.now c.args.message.now p c.args.config.now same (sym (c.in_ok-is_worn.ensures.value told p is) ∙ c.if-branch.false))
+    (subst (λ (d : Dir). DoesList d done (spec.by_recipient c.args.now.seconds c.args.sender.now c.args.message.now p (request_of c.args.config.now.local c.args.config.now.host c.args.recipient.now))) same_map (does p (subst (λ (d : Dir). IsList d p) (sym same_map) is) same)))
     (c.by_recipient.ensures.value told)
 
 pub returns-in_err-is_worn-clause-act : goal.returns-in_err-is_worn-clause-act

@@ -19,15 +19,14 @@ returns-in-Ok-false-clause-value g c told =
     let same_map = g.met.F.Files.kept_map c.args.files c.is_worn.new.files told c.is_worn.ensures.reads.kept in
     IfOk-weaker c.timed.result.1 _ _
     (λ done does p is same.
-    subst (λ (d : Dir). DoesList d done (spec.timed c.args.now p)) same_map (does p (subst (λ (d : Dir). IsList d p) (sym same_map) is) same))
+    subst (λ (d : Dir). DoesList d done (spec.timed c.args.now.seconds p)) same_map (does p (subst (λ (d : Dir). IsList d p) (sym same_map) is) same))
     (c.timed.ensures.value told)
 
 pub returns-in-Ok-false-clause-act : goal.returns-in-Ok-false-clause-act
 returns-in-Ok-false-clause-act g c =
     act_then g.F.Files c.timed.result.1 (λ name. is_of_timed name ≡ true) (IsDamagedOf (g.F.Files.map c.is_worn.new.files) Undigested) (IsDamagedOf (g.F.Files.map c.args.files) Undigested)
     g.met.F.Files.kept_then c.args.files c.is_worn.new.files c.timed.result.0 (kept_read g.F.Files c.args.files c.is_worn.new.files c.is_worn.result c.is_worn.ensures.reads)
-    (λ told name bad. subst (λ (d : Dir). IsDamagedOf d Undigested name) (g.met.F.Files.kept_map c.args.files c.is_worn.new.files told c.is_worn.ensures.reads.kept) bad)
-    (record { own = c.timed.ensures.own; files = c.timed.ensures.files; reply = c.timed.ensures.reply; names = c.timed.ensures.names; reads = c.timed.ensures.reads })
+    (λ told name bad. subst (λ (d : Dir). IsDamagedOf d Undigested name) (g.met.F.Files.kept_map c.args.files c.is_worn.new.files told c.is_worn.ensures.reads.kept) bad) c.timed.ensures.act
 
 pub returns-in-Err-clause-act : goal.returns-in-Err-clause-act
 returns-in-Err-clause-act g c =
