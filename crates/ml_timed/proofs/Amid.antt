@@ -71,9 +71,6 @@ pub record IsAmid (now : ℕ) (dir : Dir) (c : Config) (keys : Keys) (set : Set)
   pub same : fold (follow_up now) p (of_set set es) ≡ fold (follow_up now) reached (of_set set left)
 
 module _ (now : ℕ) (c : Config) (keys : Keys) (set : Set) (p : Plain) (es : Ledger) where
-  pub amid_first : (dir : Dir) (actions : List Action) → IsAhead dir c keys set actions p es → IsAmid now dir c keys set actions p es
-  amid_first dir actions ahead = record { reached = p; left = es; ahead = ahead; same = refl }
-
   -- once all are followed up
   pub amid_last : (dir : Dir) (actions : List Action) → actions ≡ [] → IsAmid now dir c keys set actions p es → IsList dir (fold (follow_up now) p (of_set set es))
   amid_last dir actions none amid = subst (λ (q : Plain). IsList dir q) (sym (amid.same ∙ go amid.left (sym none ∙ (amid.ahead).actions_are))) (amid.ahead).list

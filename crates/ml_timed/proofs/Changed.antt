@@ -111,9 +111,6 @@ draws_none old set k puts has only spelled = record {
   spelled = spelled;
 }
 
-pub draws_nothing : (old : Dir) → DrawsId old []
-draws_nothing old = record { up = λ dir most alike up low next is. omega (arith, up low next is); spelled = tt }
-
 -- puts of the queue, and behind them those of such a file
 module _ (dir : Dir) (set : Set) (k : Text) (txn more done : List Put) (has : has_ledger set ≡ true) (queue : touches_only is_of_queue txn ≡ true)
     (only : touches_only (is_key_file set k) more ≡ true) (joined : done ≡ txn ++ more) where

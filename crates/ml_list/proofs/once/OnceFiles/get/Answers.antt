@@ -1,4 +1,4 @@
-use Rattle.std.proofs.Common.{◌≡◌, ◌∙◌, Some, sym, rules}
+use Rattle.std.proofs.Common.{◌≡◌, Some, rules}
 use Rattle.ml_base.specs.Dir.{newest_put}
 use Rattle.ml_list.proofs.Told.{told_newest}
 use Rattle.ml_list.proofs.once.OnceFiles.get.Goals as goal
