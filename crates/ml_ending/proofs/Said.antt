@@ -17,8 +17,8 @@ use Rattle.ml_journal.specs.declared.errors.OpenError.{OpenError}
 use Rattle.ml_journal.specs.declared.errors.OpenError.TheVariants as opens
 use Rattle.ml_ending.specs.declared.lines.Why.{Why}
 use Rattle.ml_ending.specs.declared.lines.Why.TheVariants as whys
-use Rattle.ml_ending.specs.Lines.{stop_text, HasPath}
-use Rattle.ml_ending.specs.Stops.{status_of_why, why_of_commit, why_of_open}
+use Rattle.ml_ending.specs.Lines.{stop_text}
+use Rattle.ml_ending.specs.Stops.{status_of_why, why_of_commit}
 use Rattle.ml_ending.specs.Endings.{StopLine, who_of, Says, ClosesTo, Tells, IsUnopened, Opens}
 
 same_line : (a b : Option ℕ × Why) → ◌≡◌ {A = StopLine} (Some a) (Some b) → (a.0 ≡ b.0) × (a.1 ≡ b.1)
@@ -51,11 +51,6 @@ closes_who line final rest disk who why c is = ⊎_elim (λ same. ap who_of (sym
 pub commit_why : (error : CommitError) → (why_of_commit error ≡ whys.Memory) ⊎ (why_of_commit error ≡ whys.Disk)
 commit_why commits.Fault = inr refl
 commit_why commits.Memory = inl refl
-
-pub open_path : (error : OpenError) → HasPath (why_of_open error)
-open_path opens.Fault = tt
-open_path opens.Memory = tt
-open_path opens.Damaged = refl
 
 -- what holds of the site behind a call holds of the one that it answers
 pub at_site : {S E : Type 0} {told : Ghosts S} (P : S → Type 0) (r x : Result (Store S told) (E × S)) → r ≡ x → P (site_after r) → P (site_after x)
