@@ -1,4 +1,5 @@
-//! Tests of the public calls on held posts, the outgoing queue, the ledgers of bounces and the digests, as tables that are texts.
+//! Tests of the public calls on a list's sets, and, as tables that are texts, on held posts, the outgoing queue, the ledgers of bounces and
+//! the digests.
 #![tactic(auto)]
 
 #[cfg(test)]
@@ -19,3 +20,7 @@ mod program;
 mod queue;
 #[cfg(test)]
 mod reading;
+#[cfg(test)]
+mod set_script;
+#[cfg(test)]
+mod sets;

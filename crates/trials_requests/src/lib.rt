@@ -1,4 +1,4 @@
-//! Tests of what posts, moderators' answers and mail to a list's other addresses do.
+//! Tests of what posts, moderators' answers, mail to a list's other addresses and timed runs do.
 #![tactic(auto)]
 
 #[cfg(test)]
@@ -9,6 +9,8 @@ mod asking;
 mod bounces;
 #[cfg(test)]
 mod confirming;
+#[cfg(test)]
+mod given_back;
 #[cfg(test)]
 mod joining;
 #[cfg(test)]
@@ -21,6 +23,14 @@ mod posts;
 mod program;
 #[cfg(test)]
 mod rules;
+#[cfg(test)]
+mod timed_bounces;
+#[cfg(test)]
+mod timed_digests;
+#[cfg(test)]
+mod timed_lines;
+#[cfg(test)]
+mod timed_runs;
 #[cfg(test)]
 mod verdicts;
 #[cfg(test)]

@@ -1,9 +1,11 @@
 //! Tests of the public calls on items and streams: what a stream is answered over a list, what a run leaves wherever it is
-//! stopped, how items are read and written, and what an item does to the files of a list.
+//! stopped, how items are read and written, what an item does to the files of a list, and the items of an exercise.
 #![tactic(auto)]
 
 #[cfg(test)]
 mod ends;
+#[cfg(test)]
+mod exercises;
 #[cfg(test)]
 mod items;
 #[cfg(test)]

@@ -267,8 +267,8 @@ fn hold_failure(alloc: Global, trial: &Trial, call: u64) -> Result<(), Fail> {
     Ok(())
 }
 
-// Fails where the next run doesn't make good a failure of one of the calls from FIRST on, or a stop after it, before LAST or the end of the
-// run. It is an error that the run has no end before the room for calls is taken.
+// Fails where the next run doesn't make good a stop after so many calls, from FIRST on and before LAST or the end of the run, or a failure of
+// the call behind. It is an error that the run has no end before the room for calls is taken.
 fn hold_calls(
     alloc: Global,
     make: &str,
@@ -280,12 +280,10 @@ fn hold_calls(
     let trial = trial_of(alloc, make, script, most)?;
     let mut left = Vec::new(alloc);
     for calls in first..last {
-        if calls > 0 {
-            hold_failure(alloc, &trial, calls)?;
-        }
         if hold_stop(alloc, &trial, calls, &mut left)? {
             return Ok(());
         }
+        hold_failure(alloc, &trial, calls + 1)?;
     }
     if last == CALLS {
         return Err("a run has no end".into());

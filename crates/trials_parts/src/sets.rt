@@ -1,5 +1,5 @@
 // The rows: texts written by hand, each call that takes memory once, a failing read handed on, and the ends of a set's size.
-use super::script::{Ask, Change, Read, Row, Start, check_all};
+use crate::set_script::{Ask, Change, Read, Row, Start, check_all};
 use std::test::Fail;
 
 const ONE: &[u8] = b"layout 2\nTa@b\x001000000400\x00";

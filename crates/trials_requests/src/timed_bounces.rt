@@ -1,6 +1,6 @@
 // What follows mail that bounced.
-use crate::lines::Line::{self, List, Run};
-use crate::lines::{SAME, hold};
+use crate::timed_lines::Line::{self, List, Run};
+use crate::timed_lines::{SAME, hold};
 use std::test::Fail;
 use trials_lists::Left::{Among, Only};
 use trials_lists::Made::{Buckets, Text};
