@@ -1,17 +1,12 @@
 -- What acts do, said of the files as they were before the reads.
-use Rattle.std.proofs.Common.{◌≡◌, ℕ, Bool, true, false, List, [], length, Result, Ok, Err, IfOk, IsTrue, refl, sym, ap, subst, arith}
+use Rattle.std.proofs.Common.{◌≡◌, ℕ, Bool, true, false, List, [], length, Result, Ok, Err, IfOk, sym, ap, subst, arith}
 use Rattle.std.proofs.lemmas.Bool.{le-leb, lt-leb}
 use Rattle.ml_base.specs.Address.{key}
 use Rattle.ml_base.specs.Bytes.{Text}
 use Rattle.ml_base.specs.Dir.{Dir, touches_only, with_puts}
-use Rattle.ml_base.specs.ReadFiles.{IsReading, NamesDamaged}
-use Rattle.ml_base.specs.declared.files.Files.{Ghosts}
-use Rattle.ml_base.specs.declared.names.Name.{Name}
 use Rattle.ml_base.specs.declared.names.Set.{Set}
 use Rattle.ml_base.specs.declared.part.PartError.{PartError}
 use Rattle.ml_base.specs.declared.puts.Put.{Put}
-use Rattle.ml_base.proofs.DamagedNames.{on_damaged}
-use Rattle.ml_base.proofs.ReadingLemmas.{KeepsItself, KeepsOn, kept_read, kept_self, reading_ok}
 use Rattle.ml_bounce.specs.Ledger.{forget}
 use Rattle.ml_config.specs.declared.configuration.Config.{Config}
 use Rattle.ml_subs.specs.Answers.{IsAddition}
@@ -20,21 +15,13 @@ use Rattle.ml_subs.specs.Subscribers.{is_touched}
 use Rattle.ml_subs.specs.declared.changing.AddAnswer.TheVariants.{Added, Full}
 use Rattle.ml_plain.specs.declared.Reply.{Reply}
 use Rattle.ml_plain.specs.Directory.{IsList}
-use Rattle.ml_plain.specs.KeptFiles.{is_kept}
 use Rattle.ml_plain.specs.Managing.{joined}
 use Rattle.ml_plain.specs.Plain.{Plain, added, is_full, ledger_of, removed, with_ledger_of, with_members}
 use Rattle.ml_plain.proofs.Changes.{members_changed}
-use Rattle.ml_acts.specs.Acting.{AnswersAct}
 use Rattle.ml_acts.specs.Doing.{DoesList}
-use Rattle.ml_acts.specs.Damaged.{IsDamaged}
 use Rattle.ml_acts.proofs.Damages.{ok_then}
-use Rattle.ml_acts.proofs.OfActs.{act_so, act_then}
 use Rattle.ml_joining.specs.Operations.{IsSubject}
 use Rattle.ml_joining.specs.declared.subjects.Subject.{Subject}
-
--- what files tell of themselves is the same where they were kept
-abbrev KeepsMap : {F : Type 0} → Ghosts F → Type 0
-KeepsMap {F} told = (old new : F) → IsTrue told.tells → told.kept old new → told.map new ≡ told.map old
 
 -- an answer of a call on the files as they were kept, behind no puts
 pub told_by : (old dir : Dir) (txn : List Put) (r : Result (List Put × Reply) PartError) (c : Config) (step other : Plain → Plain × Reply) → dir ≡ old → txn ≡ []
@@ -78,34 +65,3 @@ module _ {old dir : Dir} (r : Result (List Put × Reply) PartError) {c : Config}
   pub asked_by : dir ≡ old → ((p : Plain) → IsList old p → IsSubject p set s) → ((p : Plain) → IsList old p → p.config ≡ c → IsSubject p set s → step p ≡ other p)
       → IfOk r (λ answer. (p : Plain) → IsList dir p → p.config ≡ c → IsSubject p set s → DoesList dir answer (step p)) → IfOk r (λ answer. (p : Plain) → IsList old p → p.config ≡ c → DoesList old answer (other p))
   asked_by same whom f value = ok_then r (λ answer does p is e. does p is e (whom p is)) (found_by same f value)
-
--- an act that may read more
-pub act_fewer : {F : Type 0} {told : Ghosts F} {old new : F} {May Few Bad : Name → Type 0} {r : Result (List Put × Reply) PartError} → AnswersAct told Few Bad old new r → ((name : Name) → Few name → May name) → AnswersAct told May Bad old new r
-act_fewer {told = told} {old = old} {new = new} {May = May} {Few = Few} {Bad = Bad} {r = r} act may = act_so told r May Bad Bad Few old new may (λ name few bad. bad) act
-
--- the same on files that a read kept
-pub act_kept : {F T : Type 0} {told : Ghosts F} {first second third : F} {May Few : Name → Type 0} {r : Result (List Put × Reply) PartError} {found : Result T PartError} → KeepsOn told → KeepsMap told → IsReading told first second found
-    → AnswersAct told Few (IsDamaged (told.map second)) second third r → ((name : Name) → Few name → May name) → AnswersAct told May (IsDamaged (told.map first)) first third r
-act_kept {told = told} {first = first} {second = second} {third = third} {Few = Few} {r = r} {found = found} on maps read act =
-    act_fewer (act_then told r Few (IsDamaged (told.map second)) (IsDamaged (told.map first)) on first second third (kept_read told first second found read)
-    (λ t name bad. subst (λ (d : Dir). IsDamaged d name) (maps first second t read.kept) bad) act)
-
--- a read that failed, whose file may be read
-pub act_err : {F T : Type 0} {told : Ghosts F} {old new : F} {May Few Bad : Name → Type 0} {r : Result (List Put × Reply) PartError} {e : PartError} → NamesDamaged {T = T} told Few Bad (Err e) → IsReading {T = T} told old new (Err e) → ((name : Name) → Few name → May name) → r ≡ Err e → AnswersAct told May Bad old new r
-act_err {told = told} {old = old} {new = new} {May = May} {Few = Few} {Bad = Bad} {e = e} named read may is = subst (λ (r : Result (List Put × Reply) PartError). AnswersAct told May Bad old new r) (sym is) (record {
-  own = tt;
-  files = tt;
-  reply = tt;
-  names = record { named = on_damaged e Few May may named.named; damaged = named.damaged };
-  reads = record { kept = read.kept; later = read.later; cause = λ bad. read.cause (cc) };
-})
-
--- a reply alone
-pub act_reply : {F : Type 0} {told : Ghosts F} {files : F} {May Bad : Name → Type 0} {puts : List Put} {reply : Reply} → KeepsItself told → puts ≡ [] → is_kept reply ≡ true → AnswersAct told May Bad files files (Ok (puts, reply))
-act_reply {told = told} {files = files} {May = May} {Bad = Bad} {reply = reply} itself none kept = subst (λ (t : List Put). AnswersAct told May Bad files files (Ok (t, reply))) (sym none) (record {
-  own = refl;
-  files = refl;
-  reply = kept;
-  names = record { named = tt; damaged = λ t. tt };
-  reads = reading_ok told files files ([], reply) (kept_self told itself files);
-})

@@ -1,14 +1,11 @@
 -- What a delivery does, from its parts.
-use Rattle.std.proofs.Common.{◌≡◌, ◌⊎◌, ⊎_elim, inl, inr, ◌∙◌, ℕ, Bool, cond, true, false, List, [], IsTrue, Option, Some, None, Result, is_some, refl, sym, ap, subst}
+use Rattle.std.proofs.Common.{◌≡◌, ◌⊎◌, ⊎_elim, inl, inr, ◌∙◌, ℕ, Bool, cond, true, false, List, [], Option, Some, None, is_some, refl, sym, ap, subst}
 use Rattle.std.specs.Prelude.{codes}
 use Rattle.ml_base.specs.Bytes.{Text}
 use Rattle.ml_base.specs.Dir.{Dir, with_puts}
 use Rattle.ml_base.specs.Dir.{touches_only}
-use Rattle.ml_base.specs.declared.files.Files.{Ghosts}
 use Rattle.ml_base.specs.declared.names.Name.{Name}
-use Rattle.ml_base.specs.declared.part.PartError.{PartError}
 use Rattle.ml_base.specs.declared.puts.Put.{Put}
-use Rattle.ml_config.specs.ConfigFile.{IsConfigFile, config_name}
 use Rattle.ml_config.specs.declared.configuration.Config.{Config}
 use Rattle.ml_address.specs.Reading.{request_of}
 use Rattle.ml_drawn.specs.Names.{is_of_series}
@@ -26,11 +23,8 @@ use Rattle.ml_plain.specs.Plain.{Plain, is_worn}
 use Rattle.ml_plain.specs.Steps as spec
 use Rattle.ml_plain.proofs.PartChanges.{queue_changed}
 use Rattle.ml_filing.specs.Threads.{is_of_archive}
-use Rattle.ml_acts.specs.Acting.{AnswersAct}
-use Rattle.ml_acts.specs.Configured.{with_config}
 use Rattle.ml_acts.specs.Doing.{DoesList}
 use Rattle.ml_acts.proofs.Asked.{same_other}
-use Rattle.ml_acts.proofs.HeldConfig.{named_held}
 use Rattle.ml_acts.proofs.Queued.{queue_own}
 use Rattle.ml_base.specs.Dir.{same_name}
 use Rattle.ml_base.proofs.Bools.{one_name}
@@ -95,8 +89,3 @@ worn_timed name e = go (or_cases (same_name name ids_name) (same_name name ticke
 -- neither is one of the archive
 pub worn_other : (name : Name) → is_of_worn name ≡ true → is_of_archive name ≡ true → ⊥
 worn_other name e of = ⊎_elim (λ a. same_other name ids_name refl a of) (λ b. same_other name tickets_name refl b of) (or_cases (same_name name ids_name) (same_name name tickets_name) e)
-
--- an act that was said under a configuration which the files hold
-pub act_held : {F : Type 0} {May : Name → Type 0} {old new : F} {r : Result (List Put × Reply) PartError} (c : Config) (dir : Dir) (told : Ghosts F) (Bad : Dir → Name → Type 0) → (IsTrue told.tells → IsConfigFile (dir config_name) c) → AnswersAct told May (Bad (with_config c dir)) old new r
-    → AnswersAct told May (Bad dir) old new r
-act_held {May = May} {r = r} c dir told Bad held is = record { own = is.own; files = is.files; reply = is.reply; names = named_held c dir told May Bad r held is.names; reads = is.reads }

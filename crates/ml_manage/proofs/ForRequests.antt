@@ -20,8 +20,8 @@ use Rattle.ml_acts.specs.Asked.{Asked, IsBadFor, IsDamagedOf}
 use Rattle.ml_acts.specs.Configured.{with_config}
 use Rattle.ml_acts.specs.Damaged.{IsDamaged}
 use Rattle.ml_acts.specs.Doing.{DoesList}
-use Rattle.ml_acts.proofs.HeldConfig.{listed, named_held}
-use Rattle.ml_acts.proofs.OfActs.{act_so}
+use Rattle.ml_acts.proofs.HeldConfig.{listed}
+use Rattle.ml_acts.proofs.OfActs.{act_held, act_so}
 use Rattle.ml_manage.specs.Reads.{IsDamagedFor, IsForRequest}
 
 -- what an act does for a request
@@ -55,8 +55,7 @@ module _ {F : Type 0} (told : Ghosts F) (May : PlainRequest → Name → Type 0)
   -- or that says so under the configuration
   pub for_held : ((name : Name) → IsForRequest dir c (request_view this) name) → (IsTrue told.tells → IsConfigFile (dir config_name) c) → AnswersAct told (May (request_view this)) (IsDamaged (with_config c dir)) old new r
       → AnswersAct told (May (request_view q)) (IsDamagedFor dir c (request_view q)) old new r
-  for_held none held act =
-      for_other none (record { own = act.own; files = act.files; reply = act.reply; names = named_held c dir told (May (request_view this)) IsDamaged r held act.names; reads = act.reads })
+  for_held none held act = for_other none (act_held c dir told IsDamaged held act)
 
   -- one that asks this of the archive
   pub for_asked : (asked : Asked) → ((name : Name) → (is_of_archive name ≡ true → IsBadFor dir asked name) → IsForRequest dir c (request_view this) name) → AnswersAct told (May (request_view this)) (IsDamagedOf dir asked) old new r

@@ -9,7 +9,7 @@ use Rattle.ml_base.specs.declared.names.Name.{Name}
 use Rattle.ml_base.specs.declared.names.Set.TheVariants as sets
 use Rattle.ml_base.specs.declared.part.PartError.{PartError}
 use Rattle.ml_base.specs.declared.puts.Put.{Put}
-use Rattle.ml_base.proofs.ReadingLemmas.{KeepsOn, reading_then}
+use Rattle.ml_base.proofs.ReadingLemmas.{KeepsOn}
 use Rattle.ml_filing.specs.Threads.{is_of_archive}
 use Rattle.ml_config.specs.declared.configuration.Config.{Config}
 use Rattle.ml_plain.specs.declared.Reply.{Reply}
@@ -19,6 +19,7 @@ use Rattle.ml_acts.specs.Asked.{Asked, IsDamagedOf}
 use Rattle.ml_acts.specs.Damaged.{IsDamaged}
 use Rattle.ml_acts.specs.Doing.{is_bucket_of}
 use Rattle.ml_acts.proofs.Asked.{bucket_other, ids_other, named_as, named_beside}
+use Rattle.ml_acts.proofs.OfActs.{act_beside}
 use Rattle.ml_manage.specs.Reads.{is_of_reader}
 
 -- what tells whether the archive is open is none of it
@@ -31,17 +32,6 @@ reader_other name c sender e of =
     (or_cases (is_bucket_of sets.Moderators sender name) (c.flags.g && (list || digest)) e)
 
 module _ {F : Type 0} (told : Ghosts F) (asked : Asked) where
-  -- an act that names none of its files, behind a call that only read
-  pub beside_act : (May Few : Name → Type 0) (r : Result (List Put × Reply) PartError) → KeepsOn told → (first second third : F) → AreKept told first second → (IsTrue told.tells → told.map second ≡ told.map first)
-      → ((name : Name) → Few name → May name) → ((name : Name) → Few name → is_of_archive name ≡ true → ⊥) → AnswersAct told Few (IsDamaged (told.map second)) second third r → AnswersAct told May (IsDamagedOf (told.map first) asked) first third r
-  beside_act May Few r on first second third kept same may beside act = record {
-    own = act.own;
-    files = act.files;
-    reply = act.reply;
-    names = named_beside told May r (told.map first) (told.map second) asked Few same may beside act.names;
-    reads = reading_then told on first second third r kept act.reads;
-  }
-
   -- an answer from the archive names what tells whether it is open, and the counter of ids
   module _ (c : Config) (sender : Text) (part : Name → Bool) where
     abbrev IsOfAnswer : Name → Type 0
@@ -60,4 +50,4 @@ module _ {F : Type 0} (told : Ghosts F) (asked : Asked) where
     pub answer_act : (r : Result (List Put × Reply) PartError) → KeepsOn told → (first second third : F) → AreKept told first second → (IsTrue told.tells → told.map second ≡ told.map first)
         → AnswersAct told (λ name. same_name name ids_name ≡ true) (IsDamaged (told.map second)) second third r → AnswersAct told IsOfAnswer (IsDamagedOf (told.map first) asked) first third r
     answer_act r on first second third kept same act =
-        beside_act IsOfAnswer (λ name. same_name name ids_name ≡ true) r on first second third kept same (λ name e. or_right (is_of_reader c sender name || part name) (same_name name ids_name) e) (λ name e of. ids_other name e of) act
+        act_beside told asked on kept same (λ name e. or_right (is_of_reader c sender name || part name) (same_name name ids_name) e) (λ name e of. ids_other name e of) act

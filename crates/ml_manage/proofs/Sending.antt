@@ -1,9 +1,7 @@
 -- Answers that are one mail, or none.
-use Rattle.std.proofs.Common.{◌≡◌, ◌⊎◌, inl, inr, ◌≤◌, ℕ, Bool, true, false, eqb, leb, ◌&&◌, ◌||◌, List, [], sym, ap, arith, subst}
-use Rattle.std.proofs.lemmas.Bool.{and_from, or_cases, eqb-true, le-leb}
+use Rattle.std.proofs.Common.{◌≡◌, ℕ, Bool, true, false, List, [], sym, arith, subst}
 use Rattle.ml_base.specs.Bytes.{Text}
 use Rattle.ml_base.specs.Dir.{Dir, touches_only}
-use Rattle.ml_base.specs.declared.names.Name.{Name}
 use Rattle.ml_base.specs.declared.names.Set.{Set}
 use Rattle.ml_base.specs.declared.puts.Put.{Put}
 use Rattle.ml_plain.specs.declared.Reply.{Reply}
@@ -13,21 +11,11 @@ use Rattle.ml_plain.specs.Managing.{from_archive, list_members}
 use Rattle.ml_plain.specs.Plain.{Plain}
 use Rattle.ml_acts.specs.Doing.{DoesList, HasIds, HasRoom, is_of_queue}
 use Rattle.ml_manage.proofs.Bounced.{does_by}
-use Rattle.ml_acts.proofs.Queued.{touches_weaker}
-
-queue_file : (name : Name) → is_of_queue name ≡ true → is_of_list name ≡ true
-queue_file name e = go (or_cases (eqb name.kind 17) (eqb name.kind 18) e)
-  where
-    low : 1 ≤ name.kind → name.kind ≤ 18 → ((leb 1 name.kind && leb name.kind 18) || eqb name.kind 20) ≡ true
-    low least most = ap (λ (b : Bool). b || eqb name.kind 20) (and_from (leb 1 name.kind) (leb name.kind 18) (le-leb 1 name.kind least) (le-leb name.kind 18 most))
-
-    go : ((eqb name.kind 17 ≡ true) ⊎ (eqb name.kind 18 ≡ true)) → is_of_list name ≡ true
-    go (inl k) = let kind = eqb-true name.kind 17 k in low (omega (arith, kind)) (omega (arith, kind))
-    go (inr k) = let kind = eqb-true name.kind 18 k in low (omega (arith, kind)) (omega (arith, kind))
+use Rattle.ml_acts.proofs.Queued.{queue_list, touches_weaker}
 
 -- the queue's files are the list's
 pub queue_own : (txn : List Put) → touches_only is_of_queue txn ≡ true → touches_only is_of_list txn ≡ true
-queue_own txn only = touches_weaker is_of_queue is_of_list txn queue_file only
+queue_own txn only = touches_weaker is_of_queue is_of_list txn queue_list only
 
 pub room_ids : (dir : Dir) → HasRoom dir → HasIds dir
 room_ids dir room low next is = let most = room.ids low next is in omega (arith, most)

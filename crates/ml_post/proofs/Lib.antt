@@ -7,5 +7,4 @@ mod Outcomes
 mod Moderated
 mod Fitting
 mod Beside
-mod Acted
 mod Sought

@@ -1,20 +1,17 @@
 -- What is found of a post, and the files that tell it.
 use Rattle.std.specs.Prelude.{Bool, not, ◌&&◌, ◌||◌, [], ◌∷◌}
-use Rattle.ml_base.specs.Address.{key}
 use Rattle.ml_base.specs.Bytes.{Text}
 use Rattle.ml_base.specs.Dir.{same_name}
 use Rattle.ml_base.specs.declared.names.Name.{Name}
-use Rattle.ml_base.specs.declared.names.Set.{Set}
 use Rattle.ml_base.specs.declared.names.Set.TheVariants as sets
 use Rattle.ml_filing.specs.Archive.{number_name}
 use Rattle.ml_config.specs.declared.configuration.Config.{Config}
-use Rattle.ml_subs.specs.Buckets.{bucket_of}
-use Rattle.ml_subs.specs.Subscribers.{bucket_name}
 use Rattle.ml_filing.specs.Subjects.{subject}
 use Rattle.ml_base.specs.Bytes.{lower, is_empty}
 use Rattle.ml_plain.specs.Plain.{Plain, is_in, is_archive_full, first_row}
 use Rattle.ml_plain.specs.Verdicts.{is_command, is_addressed, is_user}
 use Rattle.ml_plain.specs.Verdicts.{Verdict, TooBig, BounceSender, Looped, Denied, NoSubject, CommandSubject, NotAddressed, UsersOnly, Held, Full, Posted}
+use Rattle.ml_acts.specs.Doing.{is_bucket_of}
 use Rattle.ml_post.specs.declared.verdicts.Verdict.{Verdict as Found}
 use Rattle.ml_post.specs.declared.verdicts.Verdict.TheVariants as found
 
@@ -46,10 +43,6 @@ of_text p who m =
 
 abbrev pub of_sender : Plain → Text → Text → Verdict
 of_sender p who m = first_row ((p.config.flags.k && is_in p sets.Deny who, Denied) ∷ []) (of_text p who m)
-
--- the file of a set that has an address, where it has it
-abbrev pub is_bucket_of : Set → Text → Name → Bool
-is_bucket_of set who name = same_name name (bucket_name set (bucket_of (key who)))
 
 -- the files of the four sets whose members are users
 abbrev pub is_of_user : Text → Name → Bool

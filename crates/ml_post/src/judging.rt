@@ -13,7 +13,8 @@ ghost use Rattle.ml_base.specs.declared.names.Set.TheVariants as sets;
 ghost use Rattle.ml_config.specs.Configuration.{IsConfig};
 ghost use Rattle.ml_acts.specs.Asked.{Count, IsDamagedOf};
 ghost use Rattle.ml_acts.specs.Configured.{with_config};
-ghost use Rattle.ml_post.specs.Judging.{row_of, is_judged_by, is_bucket_of, is_of_user};
+ghost use Rattle.ml_acts.specs.Doing.{is_bucket_of};
+ghost use Rattle.ml_post.specs.Judging.{row_of, is_judged_by, is_of_user};
 ghost use Rattle.ml_post.specs.Judging as rows;
 ghost use Rattle.ml_post.specs.declared.verdicts.Verdict.TheVariants.{TooBig};
 

@@ -1,6 +1,6 @@
 -- What the puts of one act make of a list.
 use Rattle.std.proofs.Common.{◌≡◌, ◌≤◌, ◌+◌, inl, inr, ℕ, Bool, true, false, List, [], ◌∷◌, ◌++◌, Option, Some, None, eqb, leb, ◌&&◌, refl, sym, ap, ◌∙◌, subst, arith, codes}
-use Rattle.std.proofs.lemmas.Bool.{and_parts, and_from, eq-eqb, eqb-true, false≢true, or_cases, le-leb}
+use Rattle.std.proofs.lemmas.Bool.{and_from, eq-eqb, eqb-true, false≢true, or_cases, le-leb}
 use Rattle.std.proofs.lemmas.Nat.{mod_below}
 use Rattle.ml_address.specs.declared.Path.{Path}
 use Rattle.ml_base.specs.Address.{key}
@@ -15,7 +15,7 @@ use Rattle.ml_base.specs.declared.puts.Put.{Put}
 use Rattle.ml_base.proofs.Laid.{laid_joined, left_alone}
 use Rattle.ml_bounce.specs.Answers.{has_ledger, key_file, ledger_kind, action_key}
 use Rattle.ml_bounce.specs.Changes.{act, action_at, action_of}
-use Rattle.ml_bounce.specs.Files.{IsLedger, ledger_place}
+use Rattle.ml_bounce.specs.Files.{IsLedger}
 use Rattle.ml_bounce.specs.Ledger.{Ledger, find_entry, forget}
 use Rattle.ml_bounce.specs.declared.entries.LedgerEntry.{LedgerEntry}
 use Rattle.ml_bounce.specs.declared.entries.Stage.{Stage}
@@ -37,6 +37,7 @@ use Rattle.ml_plain.proofs.PartChanges.{list_ledger_changed, digest_ledger_chang
 use Rattle.ml_acts.specs.Doing.{DrawsId, HasIdsUpTo, is_of_queue, without_entry}
 use Rattle.ml_acts.specs.Growing.{is_of_time}
 use Rattle.ml_acts.specs.Spelled.{AreSpelled}
+use Rattle.ml_acts.proofs.Left.{entry_kind}
 use Rattle.ml_acts.proofs.Queued.{touches_both, touches_weaker}
 use Rattle.ml_acts.proofs.Spelled.{spelled_both}
 use Rattle.ml_timed.specs.Telling.{cookie_kind, is_mailed, mail_for}
@@ -45,9 +46,6 @@ use Rattle.ml_timed.proofs.Entries.{found_lowered, mail_ledger}
 -- the file of a key in a set's ledger
 abbrev pub is_key_file : Set → Text → Name → Bool
 is_key_file set k name = same_name name (key_file set k)
-
-pub file_kind : (set : Set) (k : Text) (name : Name) → is_key_file set k name ≡ true → name.kind ≡ ledger_kind set
-file_kind set k name e = eqb-true name.kind (ledger_kind set) (and_parts (eqb name.kind (ledger_kind set)) (eqb name.at (ledger_place k)) e).0
 
 -- is none of the queue's
 file_beside : (set : Set) (k : Text) → has_ledger set ≡ true → is_of_queue (key_file set k) ≡ false
@@ -69,8 +67,8 @@ timed_kind : (kind : ℕ) → 12 ≤ kind → kind ≤ 18 → (leb 12 kind && le
 timed_kind kind least most = and_from (leb 12 kind) (leb kind 18) (le-leb 12 kind least) (le-leb kind 18 most)
 
 pub file_timed : (set : Set) (k : Text) → has_ledger set ≡ true → (name : Name) → is_key_file set k name ≡ true → is_of_time name ≡ true
-file_timed sets.List k has name e = ap (λ kind. leb 12 kind && leb kind 18) (file_kind sets.List k name e)
-file_timed sets.Digest k has name e = ap (λ kind. leb 12 kind && leb kind 18) (file_kind sets.Digest k name e)
+file_timed sets.List k has name e = ap (λ kind. leb 12 kind && leb kind 18) (entry_kind sets.List k name e)
+file_timed sets.Digest k has name e = ap (λ kind. leb 12 kind && leb kind 18) (entry_kind sets.Digest k name e)
 file_timed sets.Allow k has name e = absurd (false≢true has)
 file_timed sets.Deny k has name e = absurd (false≢true has)
 file_timed sets.Moderators k has name e = absurd (false≢true has)
@@ -93,9 +91,9 @@ ledger_there dir sets.Moderators p has is = absurd (false≢true has)
 pub ledger_changed : (dir : Dir) (set : Set) (k : Text) (p : Plain) (puts : List Put) (ledger : Ledger) → has_ledger set ≡ true → IsList dir p
     → touches_only (is_key_file set k) puts ≡ true → IsLedger (with_puts dir puts) (ledger_kind set) ledger → IsList (with_puts dir puts) (with_ledger_of set ledger p)
 ledger_changed dir sets.List k p puts ledger has is only now =
-    list_ledger_changed dir p puts ledger is (touches_weaker (is_key_file sets.List k) (λ name. list_ledger_kinds name.kind) puts (λ name e. eq-eqb name.kind 15 (file_kind sets.List k name e)) only) now
+    list_ledger_changed dir p puts ledger is (touches_weaker (is_key_file sets.List k) (λ name. list_ledger_kinds name.kind) puts (λ name e. eq-eqb name.kind 15 (entry_kind sets.List k name e)) only) now
 ledger_changed dir sets.Digest k p puts ledger has is only now =
-    digest_ledger_changed dir p puts ledger is (touches_weaker (is_key_file sets.Digest k) (λ name. digest_ledger_kinds name.kind) puts (λ name e. eq-eqb name.kind 16 (file_kind sets.Digest k name e)) only) now
+    digest_ledger_changed dir p puts ledger is (touches_weaker (is_key_file sets.Digest k) (λ name. digest_ledger_kinds name.kind) puts (λ name e. eq-eqb name.kind 16 (entry_kind sets.Digest k name e)) only) now
 ledger_changed dir sets.Allow k p puts ledger has is only now = absurd (false≢true has)
 ledger_changed dir sets.Deny k p puts ledger has is only now = absurd (false≢true has)
 ledger_changed dir sets.Moderators k p puts ledger has is only now = absurd (false≢true has)

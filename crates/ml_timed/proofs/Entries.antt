@@ -17,6 +17,7 @@ use Rattle.ml_bounce.specs.Ledger.{Ledger, find_entry, forget, is_blank_at, sett
 use Rattle.ml_bounce.specs.declared.entries.LedgerEntry.{LedgerEntry}
 use Rattle.ml_bounce.specs.declared.entries.Stage.{Stage}
 use Rattle.ml_bounce.specs.declared.entries.Stage.TheVariants.{Unwarned, Warned, WarnFailed, Probed}
+use Rattle.ml_bounce.proofs.Acted.{after_key}
 use Rattle.ml_reply.specs.declared.mails.Mail.{Mail}
 use Rattle.ml_subs.specs.Members.{member_of}
 use Rattle.ml_subs.specs.declared.member_list.Member.{Member}
@@ -41,12 +42,6 @@ above_apart a b above = go (eq_by_cmp byte_cmp b a) refl
 pub found_lowered : (dir : Dir) (kind : ℕ) (ledger : Ledger) (k : Text) (e : LedgerEntry) → IsLedger dir kind ledger → find_entry k ledger ≡ Some e → ledger_place k < 53 → lower e.key ≡ e.key
 found_lowered dir kind ledger k e is found within =
     ((found_is byte_cmp (λ f. f.key) (IsEntry (ledger_place k)) k e (is.buckets (ledger_place k)) (is.files (ledger_place k) within).each (sym (is.by_key k) ∙ found)).0).lowered
-
-key_after : (now : ℕ) (s : Stage) (e : LedgerEntry) → (after_at now s e).key ≡ e.key
-key_after now Unwarned e = refl
-key_after now (Warned t) e = refl
-key_after now (WarnFailed t) e = refl
-key_after now (Probed t) e = refl
 
 ledger_put : (set : Set) → has_ledger set ≡ true → (ledger : Ledger) (p : Plain) → ledger_of (with_ledger_of set ledger p) set ≡ ledger
 ledger_put sets.List has ledger p = refl
@@ -79,7 +74,7 @@ module _ (k : Text) (e : LedgerEntry) (apart : eq_by_cmp byte_cmp k e.key ≡ fa
 
   module _ (now : ℕ) (set : Set) (has : has_ledger set ≡ true) where
     changed_else : (p : Plain) → find_entry k (ledger_of (change_entry now set e p) set) ≡ find_entry k (ledger_of p set)
-    changed_else p = ap (find_entry k) (ledger_put set has (act now e (ledger_of p set)) p) ∙ settled_else (after_at now e.stage e) (ledger_of p set) (key_after now e.stage e)
+    changed_else p = ap (find_entry k) (ledger_put set has (act now e (ledger_of p set)) p) ∙ settled_else (after_at now e.stage e) (ledger_of p set) (after_key now e.stage e)
 
     dropped_else : (p : Plain) → find_entry k (ledger_of (drop_entry set e p) set) ≡ find_entry k (ledger_of p set)
     dropped_else p = ap (find_entry k) (ledger_put set has (forget e.key (ledger_of p set)) p) ∙ forgotten_else (ledger_of p set)

@@ -10,7 +10,8 @@ use Rattle.ml_plain.specs.Mailing as spec
 use Rattle.ml_plain.specs.declared.Reply.{Reply}
 use Rattle.ml_reply.specs.declared.mails.Mail.{Mail}
 use Rattle.ml_reply.specs.declared.mails.Mail.TheVariants.{AskTc}
-use Rattle.ml_joining.proofs.Does.{act_kept, told_by}
+use Rattle.ml_acts.proofs.OfActs.{act_kept}
+use Rattle.ml_joining.proofs.Does.{told_by}
 use Rattle.ml_joining.proofs.asking.ask_moderators.Goals as goal
 
 pub returns-clause-value : goal.returns-clause-value

@@ -1,9 +1,10 @@
 use Rattle.std.proofs.Common.{◌∙◌, sym, arith}
 use Rattle.std.proofs.lemmas.Grind.{common_steps}
 use Rattle.ml_acts.proofs.Damages.{ok_then}
+use Rattle.ml_acts.proofs.OfActs.{act_fewer, act_reply}
 use Rattle.ml_joining.specs.Operations.{answer_reply}
 use Rattle.ml_joining.proofs.Asked.{unspelled}
-use Rattle.ml_joining.proofs.Does.{act_fewer, act_reply, only_reply}
+use Rattle.ml_joining.proofs.Does.{only_reply}
 use Rattle.ml_joining.proofs.joining.joined.Goals as goal
 
 pub returns-in-Only-clause-value : goal.returns-in-Only-clause-value

@@ -1,8 +1,9 @@
 use Rattle.std.proofs.Common.{rules}
 use Rattle.std.proofs.lemmas.Bool.{or_left, or_right}
 use Rattle.ml_acts.proofs.Damages.{ok_then}
+use Rattle.ml_acts.proofs.OfActs.{act_reply, act_fewer}
 use Rattle.ml_joining.specs.Operations.{answer_reply}
-use Rattle.ml_joining.proofs.Does.{act_reply, act_fewer, only_reply}
+use Rattle.ml_joining.proofs.Does.{only_reply}
 use Rattle.ml_joining.proofs.leaving.left.Goals as goal
 
 pub returns-in-Only-clause-value : goal.returns-in-Only-clause-value

@@ -2,9 +2,10 @@ use Rattle.std.proofs.Common.{Some, ap, rules}
 use Rattle.ml_base.specs.Bytes.{Text}
 use Rattle.ml_address.specs.Views.{who_view}
 use Rattle.ml_plain.specs.Managing as spec
+use Rattle.ml_acts.proofs.OfActs.{act_kept, act_err}
 use Rattle.ml_joining.specs.Operations.{asked_of}
 use Rattle.ml_joining.proofs.Asked.{subject_is}
-use Rattle.ml_joining.proofs.Does.{act_kept, act_err, asked_by}
+use Rattle.ml_joining.proofs.Does.{asked_by}
 use Rattle.ml_joining.proofs.Ways.{bucket_to_confirm}
 use Rattle.ml_joining.proofs.requests.confirm_asked.Goals as goal
 

@@ -1,6 +1,7 @@
 use Rattle.std.proofs.Common.{Bool, rules, ap}
 use Rattle.ml_plain.specs.Managing as spec
-use Rattle.ml_joining.proofs.Does.{act_err, act_kept, found_by}
+use Rattle.ml_acts.proofs.OfActs.{act_err, act_kept}
+use Rattle.ml_joining.proofs.Does.{found_by}
 use Rattle.ml_joining.proofs.Ways.{keys_to_confirm}
 use Rattle.ml_joining.proofs.requests.confirm_found.Goals as goal
 

@@ -2,9 +2,10 @@ use Rattle.std.proofs.Common.{Bool, ◌&&◌, ◌∙◌, ap, rules}
 use Rattle.std.proofs.lemmas.Bool.{or_left, or_right}
 use Rattle.ml_plain.specs.Managing as spec
 use Rattle.ml_plain.specs.Plain.{is_moderator}
+use Rattle.ml_acts.proofs.OfActs.{act_kept, act_err}
 use Rattle.ml_joining.proofs.Asked.{who_there}
 use Rattle.ml_joining.proofs.Decided.{joining_is, own_is}
-use Rattle.ml_joining.proofs.Does.{act_kept, act_err, found_by}
+use Rattle.ml_joining.proofs.Does.{found_by}
 use Rattle.ml_joining.proofs.requests.join_found.Goals as goal
 
 pub returns-clause-value : goal.returns-clause-value

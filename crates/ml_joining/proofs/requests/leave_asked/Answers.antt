@@ -4,8 +4,9 @@ use Rattle.std.specs.Option.{option_map}
 use Rattle.ml_base.specs.Bytes.{Text}
 use Rattle.ml_address.specs.Views.{who_view}
 use Rattle.ml_plain.specs.Managing as spec
+use Rattle.ml_acts.proofs.OfActs.{act_kept, act_err}
 use Rattle.ml_joining.proofs.Asked.{subject_is}
-use Rattle.ml_joining.proofs.Does.{act_kept, act_err, asked_by}
+use Rattle.ml_joining.proofs.Does.{asked_by}
 use Rattle.ml_joining.proofs.requests.leave_asked.Goals as goal
 
 pub returns-clause-value : goal.returns-clause-value

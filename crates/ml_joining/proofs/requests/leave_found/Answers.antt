@@ -1,9 +1,10 @@
 use Rattle.std.proofs.Common.{◌∙◌, rules, ap}
 use Rattle.std.proofs.lemmas.Bool.{or_left, or_right}
 use Rattle.ml_plain.specs.Managing as spec
+use Rattle.ml_acts.proofs.OfActs.{act_kept, act_err}
 use Rattle.ml_joining.proofs.Asked.{who_there}
 use Rattle.ml_joining.proofs.Decided.{leaving_is, own_is}
-use Rattle.ml_joining.proofs.Does.{act_kept, act_err, found_by}
+use Rattle.ml_joining.proofs.Does.{found_by}
 use Rattle.ml_joining.proofs.requests.leave_found.Goals as goal
 
 pub returns-clause-value : goal.returns-clause-value

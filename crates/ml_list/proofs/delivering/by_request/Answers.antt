@@ -18,11 +18,11 @@ use Rattle.ml_acts.specs.Asked.{IsDamagedOf, Next}
 use Rattle.ml_acts.specs.Damaged.{IsDamaged}
 use Rattle.ml_acts.proofs.HeldConfig.{listed}
 use Rattle.ml_acts.specs.Acting.{AnswersAct}
+use Rattle.ml_acts.proofs.OfActs.{act_so, act_held}
 use Rattle.ml_list.specs.Delivering.{IsRequested}
 use Rattle.ml_list.specs.Reads.{is_of_acts}
-use Rattle.ml_acts.proofs.OfActs.{act_so}
 use Rattle.ml_list.proofs.Requested.{mail_other, requested_other}
-use Rattle.ml_list.proofs.Delivered.{act_held, does_so}
+use Rattle.ml_list.proofs.Delivered.{does_so}
 use Rattle.ml_list.proofs.Readable.{of_answered, of_managed, of_posted}
 use Rattle.ml_list.proofs.delivering.by_request.Goals as goal
 

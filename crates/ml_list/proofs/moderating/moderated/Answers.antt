@@ -5,9 +5,10 @@ use Rattle.ml_base.specs.declared.puts.Put.{Put}
 use Rattle.ml_plain.specs.declared.Reply.{Reply}
 use Rattle.ml_plain.specs.Answers as answers
 use Rattle.ml_acts.proofs.HeldConfig.{listed}
+use Rattle.ml_acts.proofs.OfActs.{act_held}
 use Rattle.ml_post.specs.Answering.{IsDamagedOfTicket, accepts}
 use Rattle.ml_list.specs.Moderating.{answer_to}
-use Rattle.ml_list.proofs.Delivered.{act_held, answered_by, does_so, looped_back, no_sender, unchanged}
+use Rattle.ml_list.proofs.Delivered.{answered_by, does_so, looped_back, no_sender, unchanged}
 use Rattle.ml_list.proofs.moderating.moderated.Goals as goal
 
 pub returns-then-not-is_usable-clause-value : goal.returns-then-not-is_usable-clause-value

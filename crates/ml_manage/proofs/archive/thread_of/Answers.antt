@@ -8,11 +8,11 @@ use Rattle.ml_plain.specs.Managing.{from_archive, may_read}
 use Rattle.ml_plain.specs.Plain.{Plain}
 use Rattle.ml_acts.specs.Asked.{ThreadOf}
 use Rattle.ml_acts.specs.Doing.{DoesList, HasIds}
+use Rattle.ml_acts.proofs.OfActs.{act_err}
 use Rattle.ml_manage.specs.Reads.{is_of_thread}
 use Rattle.ml_manage.proofs.OfArchive.{answer_act, part_named, reader_named}
 use Rattle.ml_manage.proofs.Sending.{closed, opened}
 use Rattle.ml_base.proofs.ReadingLemmas.{kept_read, kept_then, reading_then}
-use Rattle.ml_joining.proofs.Does.{act_err}
 use Rattle.ml_manage.proofs.archive.thread_of.Goals as goal
 
 pub returns-then-not-branch-clause-value : goal.returns-then-not-branch-clause-value

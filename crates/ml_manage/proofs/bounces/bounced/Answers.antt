@@ -1,4 +1,4 @@
-use Rattle.std.proofs.Common.{◌≡◌, ◌||◌, true, ◌∙◌, sym, subst}
+use Rattle.std.proofs.Common.{◌||◌, true, ◌∙◌, sym, subst}
 use Rattle.std.proofs.lemmas.Bool.{or_right}
 use Rattle.std.specs.Prelude.{◌&&◌}
 use Rattle.ml_base.specs.Address.{key}
@@ -11,10 +11,10 @@ use Rattle.std.proofs.lemmas.Result.{IfOk-weaker}
 use Rattle.ml_acts.specs.Asked.{Count}
 use Rattle.ml_acts.specs.Doing.{DoesList, is_bucket_of, is_entry_of}
 use Rattle.ml_acts.proofs.Asked.{entry_other}
-use Rattle.ml_manage.specs.Reads.{is_counted_in, is_of_bounce}
+use Rattle.ml_acts.proofs.OfActs.{act_beside}
+use Rattle.ml_manage.specs.Reads.{is_counted_in}
 use Rattle.ml_manage.proofs.Bounced.{not_noted, noted}
 use Rattle.ml_base.proofs.ReadingLemmas.{kept_read}
-use Rattle.ml_manage.proofs.OfArchive.{beside_act}
 use Rattle.ml_manage.proofs.bounces.bounced.Goals as goal
 
 pub returns-then-not-branch-clause-value : goal.returns-then-not-branch-clause-value
@@ -44,5 +44,5 @@ returns-clause-act g c =
     let first = c.args.files.now in
     let second = c.was_mailed.new.files in
     let kept = kept_read g.F.Files first second c.was_mailed.result c.was_mailed.ensures.reads in
-    beside_act g.F.Files Count (λ name. is_of_bounce set x name ≡ true) (λ name. is_entry_of set x name ≡ true) c.noted.result g.met.F.Files.kept_then first second c.noted.new.files kept (λ told. g.met.F.Files.kept_map first second told kept.kept)
+    act_beside g.F.Files Count g.met.F.Files.kept_then kept (λ told. g.met.F.Files.kept_map first second told kept.kept)
     (λ name e. or_right (is_bucket_of set x name || is_counted_in set name) (is_entry_of set x name) e) (λ name e of. entry_other name set x e of) c.noted.ensures.act

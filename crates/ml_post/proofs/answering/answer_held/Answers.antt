@@ -16,9 +16,9 @@ use Rattle.ml_acts.specs.Damaged.{IsNoKeys, keys}
 use Rattle.ml_acts.specs.Doing.{DoesList}
 use Rattle.ml_acts.proofs.Asked.{named_as, other_name}
 use Rattle.ml_acts.proofs.Damages.{ok_then, same_self}
+use Rattle.ml_acts.proofs.OfActs.{act_behind}
 use Rattle.ml_post.specs.Answering.{accepts, is_answered_by, is_followed_by}
 use Rattle.ml_post.specs.Publishing.{sent_key}
-use Rattle.ml_post.proofs.Acted.{act_behind}
 use Rattle.ml_post.proofs.Outcomes.{does_nothing}
 use Rattle.ml_post.proofs.answering.answer_held.Goals as goal
 

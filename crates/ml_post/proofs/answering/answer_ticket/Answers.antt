@@ -13,8 +13,8 @@ use Rattle.ml_acts.specs.Doing.{DoesList}
 use Rattle.ml_acts.proofs.Asked.{named_as, other_name}
 use Rattle.ml_post.specs.Answering.{IsDamagedOfTicket, accepts, is_answered_by}
 use Rattle.ml_post.specs.Publishing.{sent_key}
-use Rattle.ml_post.proofs.Acted.{act_behind}
 use Rattle.ml_acts.proofs.Damages.{ok_then}
+use Rattle.ml_acts.proofs.OfActs.{act_behind}
 use Rattle.ml_post.proofs.Moderated.{own_read}
 use Rattle.ml_post.proofs.Outcomes.{does_nothing}
 use Rattle.ml_post.proofs.answering.answer_ticket.Goals as goal

@@ -19,9 +19,9 @@ use Rattle.ml_post.specs.Answering.{is_rejected_by, is_taken_by}
 use Rattle.ml_post.specs.Publishing.{sent_key}
 use Rattle.ml_acts.specs.Damaged.{IsDamaged}
 use Rattle.ml_plain.specs.KeptFiles.{is_kept}
-use Rattle.ml_post.proofs.Acted.{act_behind}
 use Rattle.ml_post.proofs.Beside.{taken_other}
 use Rattle.ml_acts.proofs.Damages.{ok_then}
+use Rattle.ml_acts.proofs.OfActs.{act_behind}
 use Rattle.ml_post.proofs.Waiting.{held_beside_queue}
 use Rattle.ml_post.proofs.answering.rejected.Goals as goal
 

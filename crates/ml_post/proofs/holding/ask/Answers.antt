@@ -15,8 +15,8 @@ use Rattle.ml_plain.specs.Plain.{Plain}
 use Rattle.ml_acts.specs.Damaged.{IsDamaged}
 use Rattle.ml_acts.specs.Doing.{DoesList, HasIds, is_mailed_by}
 use Rattle.ml_acts.proofs.Damages.{keys_named, ok_then, same_self}
+use Rattle.ml_acts.proofs.OfActs.{act_behind}
 use Rattle.ml_post.specs.Holding.{is_asked_by}
-use Rattle.ml_post.proofs.Acted.{act_behind}
 use Rattle.ml_post.proofs.Waiting.{asks, held_beside_mail}
 use Rattle.ml_post.proofs.holding.ask.Goals as goal
 

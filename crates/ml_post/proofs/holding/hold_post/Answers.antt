@@ -11,8 +11,8 @@ use Rattle.ml_plain.specs.Posting.{held_now}
 use Rattle.ml_acts.specs.Damaged.{IsDamaged}
 use Rattle.ml_acts.specs.Doing.{DoesList, HasIds}
 use Rattle.ml_post.specs.Holding.{is_asked_by}
-use Rattle.ml_post.proofs.Acted.{act_behind}
 use Rattle.ml_acts.proofs.Damages.{ok_then}
+use Rattle.ml_acts.proofs.OfActs.{act_behind}
 use Rattle.ml_post.proofs.Waiting.{has_ids, holds}
 use Rattle.ml_post.proofs.holding.hold_post.Goals as goal
 

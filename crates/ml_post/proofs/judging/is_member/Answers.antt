@@ -1,8 +1,8 @@
 use Rattle.std.proofs.Common.{◌≡◌, true, refl}
 use Rattle.ml_acts.specs.Asked.{Count}
+use Rattle.ml_acts.specs.Doing.{is_bucket_of}
 use Rattle.ml_acts.proofs.Asked.{bucket_other, named_beside}
 use Rattle.ml_acts.proofs.Damages.{bucket_named}
-use Rattle.ml_post.specs.Judging.{is_bucket_of}
 use Rattle.ml_post.proofs.judging.is_member.Goals as goal
 
 pub returns-clause-names : goal.returns-clause-names

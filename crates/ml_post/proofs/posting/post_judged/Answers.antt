@@ -15,9 +15,9 @@ use Rattle.ml_post.specs.Holding.{is_held_by}
 use Rattle.ml_post.specs.Judging.{is_judged_by}
 use Rattle.ml_post.specs.Posting.{is_posted_by}
 use Rattle.ml_post.specs.Publishing.{is_published_by, sent_key}
-use Rattle.ml_post.proofs.Acted.{act_behind}
 use Rattle.ml_post.proofs.Beside.{held_other}
 use Rattle.ml_acts.proofs.Damages.{ok_then}
+use Rattle.ml_acts.proofs.OfActs.{act_behind}
 use Rattle.ml_post.proofs.Outcomes.{follows_held, follows_posted}
 use Rattle.ml_post.proofs.Fitting.{held_fits, holdable}
 use Rattle.ml_post.proofs.posting.post_judged.Goals as goal
