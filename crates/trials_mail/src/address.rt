@@ -46,6 +46,27 @@ const PROBE_BOUNCE: Request<'static> = Request::ProbeBounce {
     who: WHO,
 };
 
+const DIGEST_SUBSCRIPTION: Request<'static> = Request::Subscribe {
+    set: Set::Digest,
+    who: Some(WHO),
+};
+
+const RANGE: Request<'static> = Request::Get {
+    from: 5,
+    to: Some(20),
+};
+
+const REJECTION: Request<'static> = Request::Reject {
+    ticket: 3,
+    cookie: COOKIE,
+};
+
+const POST_BOUNCE: Request<'static> = Request::Bounce {
+    set: Set::List,
+    number: 1,
+    who: WHO,
+};
+
 fn ask(recipient: &[u8]) -> Option<Request<'_>> {
     read_request(b"list", b"ex.org", recipient)
 }
@@ -539,52 +560,20 @@ fn push_written(alloc: Global, out: &mut Bytes, request: &Request) -> Result<(),
 }
 
 fn written(alloc: Global) -> Result<String, Fail> {
+    let leave = Request::Unsubscribe {
+        set: Set::List,
+        who: None,
+    };
     let mut out = Bytes::new(alloc);
     push_written(alloc, &mut out, &Request::Post)?;
     push_written(alloc, &mut out, &Request::Help)?;
-    push_written(
-        alloc,
-        &mut out,
-        &Request::Subscribe {
-            set: Set::Digest,
-            who: Some(WHO),
-        },
-    )?;
-    push_written(
-        alloc,
-        &mut out,
-        &Request::Unsubscribe {
-            set: Set::List,
-            who: None,
-        },
-    )?;
+    push_written(alloc, &mut out, &DIGEST_SUBSCRIPTION)?;
+    push_written(alloc, &mut out, &leave)?;
     push_written(alloc, &mut out, &Request::Members { set: Set::Allow })?;
     push_written(alloc, &mut out, &UNSUBSCRIPTION)?;
-    push_written(
-        alloc,
-        &mut out,
-        &Request::Get {
-            from: 5,
-            to: Some(20),
-        },
-    )?;
-    push_written(
-        alloc,
-        &mut out,
-        &Request::Reject {
-            ticket: 3,
-            cookie: COOKIE,
-        },
-    )?;
-    push_written(
-        alloc,
-        &mut out,
-        &Request::Bounce {
-            set: Set::List,
-            number: 1,
-            who: WHO,
-        },
-    )?;
+    push_written(alloc, &mut out, &RANGE)?;
+    push_written(alloc, &mut out, &REJECTION)?;
+    push_written(alloc, &mut out, &POST_BOUNCE)?;
     push_written(alloc, &mut out, &PROBE_BOUNCE)?;
     push_written(alloc, &mut out, &Request::ReplyBounce { set: Set::List })?;
     Ok(String::from_utf8(out.into_vec())?)
