@@ -1,7 +1,7 @@
 // What has to reach the disk before a sync is good.
 use crate::descriptors::{length_of, open_folder, open_to_sync};
 use crate::folder::barred_or;
-use crate::log::{FoundLog, find, new_log, open_log, remove_new_log, rename_new_log};
+use crate::log::{FoundLog, find, first_log, new_log, open_log, remove_new_log, rename_new_log};
 use crate::places::{Paths, Place, depth_of};
 use ml_base::Name;
 use std::alloc::{AllocError, Global};
@@ -24,6 +24,8 @@ pub(crate) struct Changes {
     is_touched: bool,
     // Whether the log that was found is one closed gate: nothing was pending.
     is_closed: bool,
+    // Whether the log that was found has no closed gate, and wasn't changed since.
+    lacks_gate: bool,
     // Whether each entry that this run found is on the disk, so that only those that it makes and removes are to be synced.
     are_names_settled: bool,
     // Each with the descriptor that it was written by, as far as these are kept: on Linux the one that was written is told
@@ -50,6 +52,7 @@ impl Changes {
             is_log_settled: false,
             is_touched: false,
             is_closed: false,
+            lacks_gate: false,
             are_names_settled: false,
             files: BTreeMap::new(alloc),
             kept: 0,
@@ -64,6 +67,28 @@ impl Changes {
     pub fn note_log(&mut self) {
         self.log = true;
         self.is_touched = true;
+        self.lacks_gate = false;
+    }
+
+    /// Whether the log that this run found has at most one byte, and that is no closed gate.
+    pub fn lacks_gate(&self) -> bool {
+        self.lacks_gate
+    }
+
+    /// Gives a log that lacks a gate these bytes, at least one. They go into a new file, which is synced and then takes the log's name. So
+    /// where one closed gate reads, its block was written well once: had the sync of a log's first byte failed, and a later run had written on in
+    /// that block, ext4 could show it, call it synced, and have zeros on the disk.
+    pub fn begin_log(
+        &mut self,
+        rt: &HostRuntime,
+        paths: &mut Paths<'_>,
+        log: &mut Option<File>,
+        bytes: &[u8],
+    ) -> io::Result<()> {
+        self.log = true;
+        self.is_touched = true;
+        let new = first_log(rt, paths, bytes);
+        self.name_log(rt, paths, log, new)
     }
 
     /// Whether an entry that is there may be missing on the disk: an earlier run that was killed leaves such ones.
@@ -228,6 +253,7 @@ impl Changes {
             self.sync_short_log(rt, paths, log.as_ref())?;
         }
         self.is_closed = standing == FoundLog::Gate && !self.is_touched;
+        self.lacks_gate = standing == FoundLog::Little;
         self.is_log_settled = true;
         Ok(())
     }
@@ -264,14 +290,27 @@ impl Changes {
         let Some(old) = log else {
             return Ok(());
         };
-        match renewed(rt, paths, old, &mut self.is_lost) {
+        let new = new_log(rt, paths, old);
+        self.name_log(rt, paths, log, new)
+    }
+
+    // Brings a new file to the disk, and gives it the log's name.
+    fn name_log(
+        &mut self,
+        rt: &HostRuntime,
+        paths: &mut Paths<'_>,
+        log: &mut Option<File>,
+        new: io::Result<File>,
+    ) -> io::Result<()> {
+        match named(rt, paths, new, &mut self.is_lost) {
             Ok(new) => {
                 *log = Some(new);
                 self.list = true;
+                self.lacks_gate = false;
                 Ok(())
             }
             Err(error) => {
-                // Its space may be wanted. Where it can't be removed, the next run writes over it.
+                // Its space may be wanted. If it can't be removed, the next run writes over it.
                 let _ = remove_new_log(rt, paths);
                 Err(error)
             }
@@ -329,14 +368,14 @@ impl Changes {
     }
 }
 
-// A new file with the log's bytes, on the disk and under the log's name.
-fn renewed(
+// A new file, on the disk and under the log's name.
+fn named(
     rt: &HostRuntime,
     paths: &mut Paths<'_>,
-    log: &File,
+    new: io::Result<File>,
     is_lost: &mut bool,
 ) -> io::Result<File> {
-    let new = new_log(rt, paths, log)?;
+    let new = new?;
     settled(new.sync_data(), is_lost)?;
     rename_new_log(rt, paths)?;
     Ok(new)

@@ -11,13 +11,19 @@ use crate::places::{Paths, Place, depth_of};
 use memchr::memchr_iter;
 use ml_base::{Bytes, Name};
 use std::alloc::{AllocError, Global};
-use std::fs::File;
-use std::io;
+use std::fs::{File, TryLockError};
 use std::io::{ErrorKind, Read, Write};
 use std::os::unix::fs::FileExt;
+use std::time::Duration;
+use std::{io, thread};
 
 // The most bytes of a configuration that is kept. One that the program makes has fewer.
 const LARGEST_CONFIG: usize = 4096;
+
+// How often a run tries a lock that another run has, and the longest pause between two tries in milliseconds: ten seconds in all.
+const LOCK_TRIES: u32 = 205;
+
+const LONGEST_PAUSE: u64 = 50;
 
 /// The folder of a list, which is made and locked at its first use. It counts no faults.
 #[derive(Drop)]
@@ -27,6 +33,8 @@ pub(crate) struct Folder<'a> {
     paths: Paths<'a>,
     // The lock ends when this file is closed.
     lock: Option<File>,
+    // Whether this run has waited for the lock. It waits once: after that each further call tries the lock once.
+    has_waited: bool,
     // The log, from the first sync that finds it or from its first change on.
     log: Option<File>,
     // The file that was last looked for and not there: each item of a stream asks for the floor, which most lists haven't. The
@@ -47,6 +55,7 @@ impl<'a> Folder<'a> {
             dir,
             paths: Paths::new(rt.alloc(), dir),
             lock: None,
+            has_waited: false,
             log: None,
             absent: None,
             config: None,
@@ -60,7 +69,7 @@ impl<'a> Folder<'a> {
         self.paths.take_room(alloc)
     }
 
-    // Makes the folder and takes its lock, where that isn't done. After an error the next call tries again.
+    // Makes the folder and takes its lock, unless that is done. After an error the next call tries again.
     fn ready(&mut self) -> io::Result<()> {
         if self.lock.is_some() {
             return Ok(());
@@ -73,7 +82,9 @@ impl<'a> Folder<'a> {
         let path = self.paths.below(b"lock")?;
         length_of(self.rt, path)?;
         let lock = open_to_write(self.rt, path)?;
-        lock.try_lock()?;
+        let tries = if self.has_waited { 1 } else { LOCK_TRIES };
+        self.has_waited = true;
+        take_lock(self.rt, &lock, tries)?;
         self.lock = Some(lock);
         Ok(())
     }
@@ -128,6 +139,11 @@ impl<'a> Folder<'a> {
 
     /// Writes a piece into the log from this byte on.
     pub fn write_log(&mut self, at: u64, bytes: &[u8]) -> io::Result<()> {
+        if at == 0 && !bytes.is_empty() && self.changes.lacks_gate() {
+            return self
+                .changes
+                .begin_log(self.rt, &mut self.paths, &mut self.log, bytes);
+        }
         self.log()?.write_all_at(bytes, at)
     }
 
@@ -273,7 +289,11 @@ impl<'a> Folder<'a> {
                 return Err(error);
             }
         };
-        let written = write_whole(&file, found.unwrap_or(0), bytes);
+        let written = if found.is_some() && self.changes.may_miss_entries() {
+            write_anew(&file, bytes)
+        } else {
+            write_whole(&file, found.unwrap_or(0), bytes)
+        };
         self.changes.keep_file(name, file);
         written
     }
@@ -383,6 +403,33 @@ fn write_whole(file: &File, most: u64, bytes: &[u8]) -> io::Result<()> {
     } else {
         Ok(())
     }
+}
+
+// Gives a file these bytes and no others, in none of the blocks that it had.
+//
+// An earlier run may have written it, and its sync may have failed. ext4 keeps a block of a new file as one that was never written until
+// a write of it is done. Once that write has failed, bytes that are written over it in place read well, and their sync is good, and
+// the file is zeros after the machine was started again. A file that was cut has none of these blocks.
+fn write_anew(file: &File, bytes: &[u8]) -> io::Result<()> {
+    file.set_len(0)?;
+    file.write_all_at(bytes, 0)
+}
+
+// Takes the lock of a list, by at most so many tries. Most runs have it for a moment only, so the pauses between are short at first.
+// A file system that has no locks, or none left, says so at once.
+fn take_lock(rt: &HostRuntime, lock: &File, tries: u32) -> io::Result<()> {
+    let mut pause: u64 = 1;
+    for _ in 1..tries {
+        match lock.try_lock() {
+            Ok(()) => return Ok(()),
+            Err(TryLockError::Error(error)) if error.kind() != ErrorKind::Interrupted => {
+                return Err(error);
+            }
+            Err(_) => thread::sleep(rt, Duration::from_millis(pause)),
+        }
+        pause = pause.saturating_mul(2).min(LONGEST_PAUSE);
+    }
+    Ok(lock.try_lock()?)
 }
 
 // Brings the entries of a folder above the list's own to the disk.

@@ -53,6 +53,13 @@ pub(crate) fn new_log(rt: &HostRuntime, paths: &mut Paths<'_>, log: &File) -> io
     Ok(new)
 }
 
+/// A log's first bytes, in a new file.
+pub(crate) fn first_log(rt: &HostRuntime, paths: &mut Paths<'_>, bytes: &[u8]) -> io::Result<File> {
+    let new = open_anew(rt, paths.below(NEW_LOG)?)?;
+    new.write_all_at(bytes, 0)?;
+    Ok(new)
+}
+
 /// Gives the new file the log's name. Its bytes are on the disk by then: else a crash could leave the log empty, or half of it.
 pub(crate) fn rename_new_log(rt: &HostRuntime, paths: &mut Paths<'_>) -> io::Result<()> {
     let (new, log) = paths.both(NEW_LOG, LOG)?;

@@ -290,14 +290,18 @@ fn posts_are_given_as_a_mailbox(rt: HostRuntime) -> Result<(), Fail> {
 }
 
 // A text, and what an import from 900 on at 1,000,000,500 answers.
-const IN: [(&[u8], &[u8]); 9] = [
+const IN: [(&[u8], &[u8]); 10] = [
     (MAILBOX, STREAM),
     (b"", b""),
     (b"\n", b""),
     (b"\n\n\n", b""),
     (b"hello\n", b"bad 0"),
     (b"\nhello\n", b"bad 0"),
-    (b"\r\nFrom a@b\n", b"bad 0"),
+    (b"\r\r\nFrom a@b\n", b"bad 0"),
+    (
+        b"\r\n\nFrom a@b x\nS: t\n\nhi\n",
+        b"D3:900,10:1000000500,3:a@b,11:list@ex.org,9:S: t\n\nhi\n,",
+    ),
     (
         b"From a@b x\nFrom  y\nS: t\n\nhi\n\n",
         b"D3:900,10:1000000500,3:a@b,11:list@ex.org,1:\n,D3:901,10:1000000500,0:,11:list@ex.org,9:S: t\n\nhi\n,",
