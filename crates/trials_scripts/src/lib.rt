@@ -10,5 +10,5 @@ mod texts;
 
 pub use files::OnSite;
 pub use rows::hold;
-pub use stage::Program;
+pub use stage::{Program, ended_with, read_whole};
 pub use texts::spelled;

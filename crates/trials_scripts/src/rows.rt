@@ -2,6 +2,7 @@
 use crate::stage::{Program, Stage, beginning, empty, run};
 use crate::steps::step;
 use crate::texts::{Named, number_of, spelled_with};
+use ml_base::Bytes;
 use std::alloc::Global;
 use std::test::Fail;
 
@@ -21,10 +22,10 @@ fn row<P: Program>(
     Ok(())
 }
 
-// Does a row once for each number of its loop: `FIRST LAST | STEPS`.
+// Does a row once for each number of its loop: `FIRST LAST | STEPS`. Its digits are the text `turn` in these.
 fn turns<P: Program>(
     alloc: Global,
-    named: &Named,
+    named: &mut Named,
     name: &str,
     list: &Stage,
     text: &str,
@@ -38,7 +39,11 @@ fn turns<P: Program>(
     for turn in number_of(first)?..=number_of(last)? {
         let name = format!(in alloc; "{name}, turn {turn}")?;
         let mut stage = beginning(alloc, list)?;
+        let digits = format!(in alloc; "{turn}")?;
+        let digits = Bytes::from_slice(alloc, digits.as_bytes())?;
+        named.push((String::from_str(alloc, "turn")?, digits))?;
         row::<P>(alloc, named, name.as_str(), &mut stage, steps, turn)?;
+        let _ = named.pop();
     }
     Ok(())
 }
@@ -91,7 +96,7 @@ pub fn hold<P: Program>(alloc: Global, table: &str, text: &str) -> Result<(), Fa
         } else if let Some(steps) = line.strip_prefix("then ") {
             row::<P>(alloc, &named, name, &mut last, steps, 0)?;
         } else if let Some(text) = line.strip_prefix("turns ") {
-            turns::<P>(alloc, &named, name, &list, text)?;
+            turns::<P>(alloc, &mut named, name, &list, text)?;
         } else {
             last = beginning(alloc, &list)?;
             row::<P>(alloc, &named, name, &mut last, line, 0)?;

@@ -1,7 +1,7 @@
 // A list in memory, and one command over it.
 use crate::texts::{Named, spelled_with};
 use ml_base::{Bytes, Numbers};
-use ml_site::{Fill, Image, MemClock, MemSite, MemSource, Source};
+use ml_site::{Fill, Image, MemClock, MemSite, MemSource, Site, Source};
 use std::alloc::{AllocError, Global};
 use std::collections::BTreeMap;
 use std::test::Fail;
@@ -19,17 +19,18 @@ pub trait Program {
     ) -> Result<(u8, MemSite), Fail>;
 }
 
-// What the next command meets: the moment that the clock shows, if it does, the input, the read of it that fails, the call that fails, the
-// room for calls and for its output, and the call behind which it is stopped.
+// What the next command meets: the moment that the clock shows, if it does, the input, the reads of it that fail, the calls that fail, the
+// room for calls and for its output, the call after which it is stopped, and what is left then of what no sync has settled.
 #[derive(Drop)]
 pub(crate) struct Next {
     pub(crate) moment: Option<u64>,
     pub(crate) input: Bytes,
-    pub(crate) read: u64,
-    pub(crate) call: u64,
+    pub(crate) reads: Numbers,
+    pub(crate) failing: Numbers,
     pub(crate) calls: usize,
     pub(crate) room: usize,
     pub(crate) stop: u64,
+    pub(crate) fill: Fill,
 }
 
 /// A list as it stands at a step, as it stood before the last command, how many bytes that one left of its input, and what the next one
@@ -51,11 +52,12 @@ fn plain(alloc: Global, moment: Option<u64>) -> Next {
     Next {
         moment,
         input: Bytes::new(alloc),
-        read: 0,
-        call: 0,
+        reads: Numbers::new(alloc),
+        failing: Numbers::new(alloc),
         calls: CALLS,
         room: ROOM,
         stop: u64::MAX,
+        fill: Fill::Old,
     }
 }
 
@@ -111,7 +113,7 @@ fn words_of(alloc: Global, named: &Named, text: &str) -> Result<Vec<String>, Fai
 
 fn source(alloc: Global, next: &Next) -> Result<MemSource, AllocError> {
     let bytes = Bytes::from_slice(alloc, next.input.as_slice())?;
-    let reads = Numbers::from_vec(Vec::from_slice(alloc, &[next.read])?);
+    let reads = Numbers::from_vec(Vec::from_slice(alloc, next.reads.as_slice())?);
     Ok(MemSource::new(bytes, reads))
 }
 
@@ -138,6 +140,31 @@ fn unread(input: &mut MemSource) -> usize {
     count
 }
 
+/// The whole of an input.
+pub fn read_whole(alloc: Global, input: &mut MemSource) -> Result<Bytes, Fail> {
+    let mut bytes = Bytes::new(alloc);
+    let mut buffer = [0; 4096];
+    for _ in 0..u64::MAX {
+        match input.read(&mut buffer)? {
+            0 => break,
+            count => bytes.extend(&buffer[..count])?,
+        }
+    }
+    Ok(bytes)
+}
+
+/// How a command ends that leaves this image: its status, and a site that has put this text out.
+pub fn ended_with(
+    alloc: Global,
+    status: u8,
+    image: Image,
+    text: &[u8],
+) -> Result<(u8, MemSite), Fail> {
+    let mut site = MemSite::new(alloc, image, 1, text.len())?;
+    site.give(text)?;
+    Ok((status, site))
+}
+
 /// Runs the program with these words, and answers its status and what it put out.
 pub(crate) fn run<P: Program>(
     alloc: Global,
@@ -148,14 +175,14 @@ pub(crate) fn run<P: Program>(
     let words = words_of(alloc, named, words)?;
     let next = &stage.next;
     let mut site = MemSite::new(alloc, copied(alloc, &stage.image)?, next.calls, next.room)?;
-    site.fail(alloc, &[next.call])?;
+    site.fail(alloc, next.failing.as_slice())?;
     let mut input = source(alloc, next)?;
     let mut clock = clock(alloc, next.moment)?;
     let (status, site) = P::ended(alloc, &words, &mut input, site, &mut clock)?;
     let output = Bytes::from_slice(alloc, site.output())?;
     stage.unread = unread(&mut input);
     stage.before = copied(alloc, &stage.image)?;
-    stage.image = site.crash(alloc, stage.next.stop, Fill::Old)?;
+    stage.image = site.crash(alloc, stage.next.stop, stage.next.fill)?;
     stage.next = plain(alloc, stage.next.moment);
     Ok((status, output))
 }

@@ -2,8 +2,8 @@
 use crate::paths::name_of;
 use crate::stage::{Program, Stage, run};
 use crate::texts::{Named, number_of, spelled_with};
-use ml_base::{Bytes, Name, Set, split_first};
-use ml_site::Image;
+use ml_base::{Bytes, Name, Numbers, Set, split_first};
+use ml_site::{Fill, Image};
 use std::alloc::Global;
 use std::test::Fail;
 use trials_lists::{Left, add_members, check_left, same, text_of};
@@ -17,7 +17,27 @@ fn number_or(text: &str, turn: u64) -> Result<u64, Fail> {
     }
 }
 
-// Does a step, if it says what the next command meets: `at`, `input`, `read`, `fail`, `calls`, `room` or `stop`.
+// The numbers of a step, with single spaces between them, or that of the row's loop.
+fn numbers_or(alloc: Global, text: &str, turn: u64) -> Result<Numbers, Fail> {
+    let mut numbers = Numbers::new(alloc);
+    for number in text.split(' ') {
+        numbers.push(number_or(number, turn)?)?;
+    }
+    Ok(numbers)
+}
+
+// What is left of what no sync has settled: `old`, `new`, or the byte of this number in its place.
+fn fill_of(text: &str) -> Result<Fill, Fail> {
+    if text == "old" {
+        Ok(Fill::Old)
+    } else if text == "new" {
+        Ok(Fill::New)
+    } else {
+        Ok(Fill::Byte(number_of(text)?.min(255) as u8))
+    }
+}
+
+// Does a step, if it says what the next command meets: `at`, `input`, `read`, `fail`, `calls`, `room`, `stop` or `fill`.
 fn prepare(
     alloc: Global,
     named: &Named,
@@ -33,11 +53,13 @@ fn prepare(
     } else if verb == "input" {
         stage.next.input = spelled_with(alloc, named, rest)?;
     } else if verb == "read" {
-        stage.next.read = number_or(rest, turn)?;
+        stage.next.reads = numbers_or(alloc, rest, turn)?;
     } else if verb == "fail" {
-        stage.next.call = number_or(rest, turn)?;
+        stage.next.failing = numbers_or(alloc, rest, turn)?;
     } else if verb == "stop" {
         stage.next.stop = number_or(rest, turn)?;
+    } else if verb == "fill" {
+        stage.next.fill = fill_of(rest)?;
     } else if verb == "calls" {
         stage.next.calls = number_of(rest)? as usize;
     } else if verb == "room" {
@@ -280,10 +302,10 @@ fn is_as_before(alloc: Global, place: &str, stage: &Stage) -> Result<(), Fail> {
     )
 }
 
-// Fails where the last command left other than so many bytes of its input.
-fn is_unread(alloc: Global, place: &str, stage: &Stage, rest: &str) -> Result<(), Fail> {
-    let left = format!(in alloc; "{}", stage.unread)?;
-    same(alloc, place, 0, left.as_bytes(), rest.as_bytes())
+// Fails unless a number is this one: `unread` of the bytes that the last command left of its input, and `files` of the files that are there.
+fn is_count(alloc: Global, place: &str, count: usize, rest: &str) -> Result<(), Fail> {
+    let count = format!(in alloc; "{count}")?;
+    same(alloc, place, 0, count.as_bytes(), rest.as_bytes())
 }
 
 /// Does a step, in this turn of its row's loop, and fails where it doesn't come out as it says.
@@ -306,7 +328,9 @@ pub(crate) fn step<P: Program>(
     } else if verb == "same" {
         is_as_before(alloc, place, stage)
     } else if verb == "unread" {
-        is_unread(alloc, place, stage, rest)
+        is_count(alloc, place, stage.unread, rest)
+    } else if verb == "files" {
+        is_count(alloc, place, stage.image.files.len(), rest)
     } else if prepare(alloc, named, stage, verb, rest, turn)? {
         Ok(())
     } else {
