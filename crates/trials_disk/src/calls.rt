@@ -1,59 +1,53 @@
-// What a row does with a site in memory: its calls, one after the other, and what each answers.
-use ml_base::{Bytes, Name};
+// The steps on a site. Each answers a line: `done`, `failed`, or the bytes that it reads, with `-` for a file that is absent. A step is a verb
+// and what stands after it, with `=` between them. A file is named by its kind and its place, as `3.29`.
+use ml_base::{Bytes, Name, read_number, split_first};
 use ml_site::{Fill, Image, MemSite, Site, SiteError, Unfailing};
 use std::alloc::{AllocError, Global};
-use std::collections::BTreeMap;
-use std::test::Fail;
-use trials_lists::{same, text_of};
+use trials_lists::text_of;
 
-pub(crate) const KEY: Name = Name { kind: 2, at: 0 };
-
-pub(crate) const LIST: Name = Name { kind: 3, at: 1 };
-
-// A call answers `done`, `failed`, or the bytes that it reads, with `-` for a file that is absent.
-#[derive(Clone, Copy)]
-pub(crate) enum Step {
-    ReadLog,
-    // The log is written from its front on.
-    WriteLog(&'static [u8]),
-    // It is read, and then written from the byte of this number on.
-    WriteAt(u64, &'static [u8]),
-    // It is cut to nothing.
-    CutLog,
-    // It is read, and then cut to so many bytes.
-    CutTo(u64),
-    ReadFile(Name),
-    WriteFile(Name, &'static [u8]),
-    RemoveFile(Name),
-    Sync,
-    Give(&'static [u8]),
-    // No call succeeds after so many.
-    StopAfter(u64),
-    // What a crash leaves after each number of calls from a first to a last one: the log, the key and the list.
-    Crash(u64, u64, Fill),
-    // What was put out.
-    Output,
+// The parts of a step that `=` stands between: the first, and what is behind it.
+pub(crate) fn parts(step: &[u8]) -> (&[u8], &[u8]) {
+    split_first(b'=', step).unwrap_or((step, &[]))
 }
 
-// Steps on a site with a log and the key `key`, which has room for so many calls and bytes of output and whose named calls fail.
-pub(crate) struct Calls {
-    pub(crate) name: &'static str,
-    pub(crate) log: &'static [u8],
-    pub(crate) calls: usize,
-    pub(crate) room: usize,
-    pub(crate) failing: &'static [u64],
-    // Whether the steps are made on a site that doesn't fail, too.
-    pub(crate) on_unfailing: bool,
-    pub(crate) steps: &'static [(Step, &'static [u8])],
+// The number of these digits, or 0.
+pub(crate) fn number(text: &[u8]) -> u64 {
+    read_number(text).unwrap_or(0)
 }
 
-fn image(alloc: Global, log: &[u8]) -> Result<Image, AllocError> {
-    let mut files = BTreeMap::new(alloc);
-    files.insert(KEY, Bytes::from_slice(alloc, b"key")?)?;
-    Ok(Image {
-        log: Bytes::from_slice(alloc, log)?,
-        files,
-    })
+// The file of a kind and a place. The log stands for what is none.
+pub(crate) fn name(text: &[u8]) -> Name {
+    let (kind, at) = split_first(b'.', text).unwrap_or((&[], &[]));
+    Name {
+        kind: number(kind).min(255) as u8,
+        at: number(at),
+    }
+}
+
+// A call on a file, if there is one of this name: what it has, `-` where it is absent, or nothing where it is changed.
+fn on_file<S: Site>(
+    alloc: Global,
+    site: &mut S,
+    verb: &[u8],
+    rest: &[u8],
+) -> Result<Bytes, SiteError> {
+    let (name_text, bytes) = parts(rest);
+    let name = name(name_text);
+    if name.kind == 0 || !name.is_in_table() {
+        return Ok(Bytes::from_slice(alloc, b"no file")?);
+    }
+    if verb == b"read".as_slice() {
+        return match site.read_file(alloc, name)? {
+            Some(bytes) => Ok(bytes),
+            None => Ok(Bytes::from_slice(alloc, b"-")?),
+        };
+    }
+    if verb == b"write".as_slice() {
+        site.write_file(alloc, name, bytes)?;
+    } else {
+        site.remove_file(alloc, name)?;
+    }
+    Ok(Bytes::from_slice(alloc, b"done")?)
 }
 
 // Writes to the log where it has so many bytes, or else at its end.
@@ -68,116 +62,130 @@ fn cut_to<S: Site>(alloc: Global, site: &mut S, size: u64) -> Result<(), SiteErr
     site.cut_log(len.min(size)).map_err(|_| SiteError::Failed)
 }
 
-// A call on a file, if there is one of this name: what it has, `-` where it is absent, or nothing where it is changed.
-fn on_file<S: Site>(
+// What a call answers, or that it failed.
+fn called<S: Site>(
     alloc: Global,
     site: &mut S,
-    name: Name,
-    step: Step,
+    verb: &[u8],
+    rest: &[u8],
 ) -> Result<Bytes, SiteError> {
-    if name.kind == 0 || !name.is_in_table() {
-        return Ok(Bytes::from_slice(alloc, b"no file")?);
-    }
-    match step {
-        Step::WriteFile(_, bytes) => site.write_file(alloc, name, bytes)?,
-        Step::RemoveFile(_) => site.remove_file(alloc, name)?,
-        _ => {
-            return match site.read_file(alloc, name)? {
-                Some(bytes) => Ok(bytes),
-                None => Ok(Bytes::from_slice(alloc, b"-")?),
-            };
-        }
-    }
-    Ok(Bytes::from_slice(alloc, b"done")?)
-}
-
-// What a call answers, or that it failed.
-fn called<S: Site>(alloc: Global, site: &mut S, step: Step) -> Result<Bytes, SiteError> {
-    match step {
-        Step::ReadLog => return site.read_log(alloc),
-        Step::ReadFile(name) | Step::WriteFile(name, _) | Step::RemoveFile(name) => {
-            return on_file(alloc, site, name, step);
-        }
-        Step::WriteLog(bytes) => site.write_log(alloc, 0, bytes)?,
-        Step::WriteAt(at, bytes) => write_at(alloc, site, at, bytes)?,
-        Step::CutLog => site.cut_log(0).map_err(|_| SiteError::Failed)?,
-        Step::CutTo(size) => cut_to(alloc, site, size)?,
-        Step::Sync => site.sync().map_err(|_| SiteError::Failed)?,
-        Step::Give(bytes) => site.give(bytes).map_err(|_| SiteError::Failed)?,
-        _ => {}
+    let (first, behind) = parts(rest);
+    if verb == b"read_log".as_slice() {
+        return site.read_log(alloc);
+    } else if verb == b"read".as_slice()
+        || verb == b"write".as_slice()
+        || verb == b"remove".as_slice()
+    {
+        return on_file(alloc, site, verb, rest);
+    } else if verb == b"write_log".as_slice() {
+        site.write_log(alloc, 0, rest)?
+    } else if verb == b"byte".as_slice() {
+        site.write_log(alloc, 0, &[number(rest).min(255) as u8])?
+    } else if verb == b"write_at".as_slice() {
+        write_at(alloc, site, number(first), behind)?
+    } else if verb == b"cut_log".as_slice() {
+        site.cut_log(0).map_err(|_| SiteError::Failed)?
+    } else if verb == b"cut_to".as_slice() {
+        cut_to(alloc, site, number(rest))?
+    } else if verb == b"sync".as_slice() {
+        site.sync().map_err(|_| SiteError::Failed)?
+    } else if verb == b"give".as_slice() {
+        site.give(rest).map_err(|_| SiteError::Failed)?
+    } else {
+        return Ok(Bytes::from_slice(alloc, b"no step")?);
     }
     Ok(Bytes::from_slice(alloc, b"done")?)
 }
 
-// The answer of a call as text.
-fn told<S: Site>(alloc: Global, site: &mut S, step: Step) -> Result<Bytes, AllocError> {
-    match called(alloc, site, step) {
-        Ok(text) => Ok(text),
-        Err(SiteError::Failed) => Bytes::from_slice(alloc, b"failed"),
+// Adds the answer of a call as a line.
+pub(crate) fn push_answer<S: Site>(
+    alloc: Global,
+    site: &mut S,
+    verb: &[u8],
+    rest: &[u8],
+    out: &mut Bytes,
+) -> Result<(), AllocError> {
+    match called(alloc, site, verb, rest) {
+        Ok(text) => out.extend(text.as_slice()),
+        Err(SiteError::Failed) => out.extend(b"failed"),
         Err(SiteError::Memory) => Err(AllocError),
     }
 }
 
-// The log, the key and the list, each but the last with a bar behind it, and `-` for a file that is absent.
-fn shown(alloc: Global, image: &Image) -> Result<Bytes, AllocError> {
-    let mut text = Bytes::from_slice(alloc, image.log.as_slice())?;
-    for name in [KEY, LIST] {
-        text.push(b'|')?;
-        text.extend(text_of(&image.files, name))?;
-    }
-    Ok(text)
-}
-
-// What crashes leave after each number of calls from the first to the last. Where it isn't always the same, each other image follows.
-fn crashed(
-    alloc: Global,
-    site: &MemSite,
-    first: u64,
-    last: u64,
-    fill: Fill,
-) -> Result<Bytes, AllocError> {
-    let left = shown(alloc, &site.crash(alloc, first, fill)?)?;
-    let mut text = left.clone()?;
-    for moment in first..=last {
-        let other = shown(alloc, &site.crash(alloc, moment, fill)?)?;
-        if other.as_slice() != left.as_slice() {
-            text.extend(b" or ")?;
-            text.extend(other.as_slice())?;
-        }
-    }
-    Ok(text)
-}
-
-// What a step answers on a site in memory.
-fn stepped(alloc: Global, site: &mut MemSite, step: Step) -> Result<Bytes, AllocError> {
-    match step {
-        Step::StopAfter(last) => {
-            site.stop_after(last);
-            Bytes::from_slice(alloc, b"done")
-        }
-        Step::Crash(first, last, fill) => crashed(alloc, site, first, last, fill),
-        Step::Output => Bytes::from_slice(alloc, site.output()),
-        _ => told(alloc, site, step),
+// What a crash leaves of what no sync has settled: `old`, `new`, or the byte of this number in its place.
+pub(crate) fn fill(text: &[u8]) -> Fill {
+    if text == b"old".as_slice() {
+        Fill::Old
+    } else if text == b"new".as_slice() {
+        Fill::New
+    } else {
+        Fill::Byte(number(text).min(255) as u8)
     }
 }
 
-// Fails where a step of a row isn't answered so on a site in memory, and names the row and the step.
-pub(crate) fn holds(alloc: Global, row: &Calls) -> Result<(), Fail> {
-    let mut site = MemSite::new(alloc, image(alloc, row.log)?, row.calls, row.room)?;
-    site.fail(alloc, row.failing)?;
-    for (number, (step, wanted)) in row.steps.iter().enumerate() {
-        let came = stepped(alloc, &mut site, *step)?;
-        same(alloc, row.name, number, came.as_slice(), wanted)?;
+// Adds the log and these files, with bars between them, and `-` for a file that is absent.
+pub(crate) fn push_image(image: &Image, names: &[Name], out: &mut Bytes) -> Result<(), AllocError> {
+    out.extend(image.log.as_slice())?;
+    for name in names {
+        out.push(b'|')?;
+        out.extend(text_of(&image.files, *name))?;
     }
     Ok(())
+}
+
+// A step that the site in memory has beside its calls, or a call.
+fn stepped(
+    alloc: Global,
+    site: &mut MemSite,
+    step: &[u8],
+    out: &mut Bytes,
+) -> Result<(), AllocError> {
+    let (verb, rest) = parts(step);
+    if verb == b"stop_after".as_slice() {
+        site.stop_after(number(rest));
+        out.extend(b"done")
+    } else if verb == b"output".as_slice() {
+        out.extend(site.output())
+    } else if verb == b"crash".as_slice() {
+        let (moment, left) = parts(rest);
+        let image = site.crash(alloc, number(moment), fill(left))?;
+        push_image(
+            &image,
+            &[Name { kind: 2, at: 0 }, Name { kind: 3, at: 1 }],
+            out,
+        )
+    } else {
+        push_answer(alloc, site, verb, rest, out)
+    }
+}
+
+// What steps on a site in memory answer, a line each.
+pub(crate) fn site_answers(
+    alloc: Global,
+    site: MemSite,
+    steps: &[u8],
+) -> Result<Bytes, AllocError> {
+    let mut site = site;
+    let mut out = Bytes::new(alloc);
+    for step in steps.split(|byte| *byte == b'\n') {
+        stepped(alloc, &mut site, step, &mut out)?;
+        out.push(b'\n')?;
+    }
+    Ok(out)
 }
 
 // The same on a site that doesn't fail.
-pub(crate) fn holds_unfailing(alloc: Global, row: &Calls) -> Result<(), Fail> {
-    let mut site = Unfailing::new(image(alloc, row.log)?);
-    for (number, (step, wanted)) in row.steps.iter().enumerate() {
-        let came = told(alloc, &mut site, *step)?;
-        same(alloc, row.name, number, came.as_slice(), wanted)?;
+pub(crate) fn unfailing_answers(
+    alloc: Global,
+    image: Image,
+    steps: &[u8],
+) -> Result<Bytes, AllocError> {
+    let mut site = Unfailing::new(image);
+    let mut out = Bytes::new(alloc);
+    for step in steps.split(|byte| *byte == b'\n') {
+        let (verb, rest) = parts(step);
+        push_answer(alloc, &mut site, verb, rest, &mut out)?;
+        out.push(b'\n')?;
     }
-    Ok(())
+    Ok(out)
 }

@@ -4,10 +4,12 @@
 #[cfg(test)]
 mod calls;
 #[cfg(test)]
-mod holding;
+mod disk;
 #[cfg(test)]
 mod logs;
 #[cfg(test)]
 mod sites;
 #[cfg(test)]
 mod stores;
+#[cfg(test)]
+mod storing;
