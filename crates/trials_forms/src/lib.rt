@@ -1,11 +1,13 @@
-//! Tests of the public calls of the crates that hold names, numbers and texts, the configuration, and the codes of replies.
+//! Tests of the calls that write and read forms: texts by hand, configurations and words, codes, and layers.
 #![tactic(auto)]
 
 #[cfg(test)]
-mod codes;
-#[cfg(test)]
 mod configuration;
 #[cfg(test)]
+mod forms;
+#[cfg(test)]
 mod layers;
+#[cfg(test)]
+mod tables;
 #[cfg(test)]
 mod texts;
