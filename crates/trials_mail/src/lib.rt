@@ -1,4 +1,4 @@
-//! Tests of the public calls of the crates that hold messages, addresses of requests and mails.
+//! Tests of the public calls of the crates that hold messages, requests with senders and cookies, and mails.
 #![tactic(auto)]
 
 #[cfg(test)]
@@ -6,4 +6,8 @@ mod address;
 #[cfg(test)]
 mod header;
 #[cfg(test)]
+mod program;
+#[cfg(test)]
 mod reply;
+#[cfg(test)]
+mod tables;
