@@ -3,6 +3,8 @@
 #![tactic(auto)]
 
 #[cfg(test)]
+mod applying;
+#[cfg(test)]
 mod ends;
 #[cfg(test)]
 mod exercises;
@@ -11,18 +13,14 @@ mod items;
 #[cfg(test)]
 mod lines;
 #[cfg(test)]
-mod names;
+mod program;
 #[cfg(test)]
 mod reading;
 #[cfg(test)]
+mod running;
+#[cfg(test)]
 mod runs;
-#[cfg(test)]
-mod script;
-#[cfg(test)]
-mod stepping;
 #[cfg(test)]
 mod stops;
 #[cfg(test)]
 mod streams;
-#[cfg(test)]
-mod texts;

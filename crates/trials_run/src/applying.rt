@@ -1,0 +1,131 @@
+// Items over the files of a list: what they are answered, and what is found then.
+ghost use Rattle.ml_plain.specs.Items.{IsItem};
+
+use ml_base::{Bytes, Layer, Name, PartError, Txn, read_number};
+use ml_list::{apply, floor, load};
+use ml_plain::Item;
+use ml_site::{Fill, Image, MemSite, MemSource};
+use ml_stream::Items;
+use std::alloc::{AllocError, Global};
+use std::test::Fail;
+use trials_lists::{copy, error_text, lay, reply_text, text_of};
+use trials_scripts::{OnSite, ended_with};
+
+// The files, and what the items before have made of them.
+type List = Layer<OnSite>;
+
+// The list after an item, whose answer is added as a line: the code and the number of its reply, or an error.
+fn applied(alloc: Global, list: List, item: &Item, out: &mut Bytes) -> Result<List, Fail>
+    requires { IsItem item.now }
+{
+    let (mut list, answer) = apply(alloc, list, item);
+    let text = match answer {
+        Ok((txn, reply)) => {
+            list.lay(txn)?;
+            reply_text(alloc, reply.code, reply.number)?
+        }
+        Err(error) => error_text(alloc, error)?,
+    };
+    out.extend(text.as_slice())?;
+    out.push(b'\n')?;
+    Ok(list)
+}
+
+// The list after the items of a stream, one applied over the other.
+fn all_applied(
+    alloc: Global,
+    list: List,
+    input: &mut MemSource,
+    out: &mut Bytes,
+) -> Result<List, Fail> {
+    let mut list = list;
+    let mut items = Items::new();
+    for _ in 0..u64::MAX {
+        match items.next(alloc, input)? {
+            Some(item) => list = applied(alloc, list, &item, out)?,
+            None => break,
+        }
+    }
+    Ok(list)
+}
+
+// The floor, or an error.
+fn floor_text(alloc: Global, list: &mut List) -> Result<Bytes, AllocError> {
+    match floor(alloc, list) {
+        Ok(at) => Bytes::from_slice(alloc, format!(in alloc; "{at}")?.as_bytes()),
+        Err(error) => error_text(alloc, error),
+    }
+}
+
+// Whether there is a list, `list` or `none`, or an error.
+fn load_text(alloc: Global, list: &mut List) -> Result<Bytes, AllocError> {
+    match load(alloc, list) {
+        Ok(Some(())) => Bytes::from_slice(alloc, b"list"),
+        Ok(None) => Bytes::from_slice(alloc, b"none"),
+        Err(error) => error_text(alloc, error),
+    }
+}
+
+// The nine bytes of each number in the file of the kept replies of 512 numbers, or `-` where that isn't as long as it is to be.
+fn kept(alloc: Global, image: &Image, words: &[String]) -> Result<Bytes, AllocError> {
+    let mut out = Bytes::new(alloc);
+    for word in words {
+        let number = read_number(word.as_bytes()).unwrap_or(0);
+        let at = number / 512;
+        let file = text_of(&image.files, Name { kind: 19, at });
+        let from = 9 * (number % 512) as usize;
+        if file.len() == 4608 {
+            out.extend(&file[from..from + 9])?;
+        } else {
+            out.push(b'-')?;
+        }
+    }
+    Ok(out)
+}
+
+// Of the files of the kept replies, how many of so many first ones are there.
+fn groups(alloc: Global, image: &Image, words: &[String]) -> Result<Bytes, AllocError> {
+    let count = match words.first() {
+        Some(word) => read_number(word.as_bytes()).unwrap_or(0),
+        None => 0,
+    };
+    let mut there: u64 = 0;
+    for at in 0..count {
+        if image.files.contains_key(&Name { kind: 19, at }) {
+            there = there.saturating_add(1);
+        }
+    }
+    let mut out = Bytes::new(alloc);
+    out.push_number(there)?;
+    Ok(out)
+}
+
+// How a call on the files of a site ends.
+pub(crate) fn ended(
+    alloc: Global,
+    site: MemSite,
+    verb: &str,
+    words: &[String],
+    input: &mut MemSource,
+) -> Result<(u8, MemSite), Fail> {
+    let mut image = site.crash(alloc, 0, Fill::Old)?;
+    let files = copy(alloc, &image.files)?;
+    let mut list = Layer::new(OnSite { site, files }, Txn::new(alloc));
+    let mut out = Bytes::new(alloc);
+    if verb == "apply" {
+        list = all_applied(alloc, list, input, &mut out)?
+    } else if verb == "floor" {
+        out = floor_text(alloc, &mut list)?
+    } else if verb == "load" {
+        out = load_text(alloc, &mut list)?
+    } else if verb == "kept" {
+        out = kept(alloc, &image, words)?
+    } else if verb == "groups" {
+        out = groups(alloc, &image, words)?
+    } else {
+        return Err(Fail::new(format_args!("no call: {verb}")));
+    }
+    let (_, puts) = list.parts();
+    lay(alloc, &mut image.files, &puts)?;
+    ended_with(alloc, 0, image, out.as_slice())
+}
