@@ -103,7 +103,10 @@ pub(crate) fn told(alloc: Global, verb: &str, words: &[String]) -> Result<String
 
 // A code's word, its status, and whether a number follows.
 fn code(alloc: Global, code: u64) -> Result<String, Fail> {
-    let code = code.min(255) as u8;
+    if code < 1 || code > 36 {
+        return Err(Fail::new("no code"));
+    }
+    let code = code as u8;
     let word = str::from_utf8(word_of(code))?;
     Ok(format!(in alloc; "{word} {} {}", status(code), has_number(code))?)
 }
