@@ -98,7 +98,9 @@ read 1 | run import 900 => {input} | unread 356 | same
 read 2 | run import 900 => {input} | unread 0 | same
 read 3 | run import 900 => 0 {stream} | same
 input hello\n | run import 900 => {bad} | same
-input \x0D\n{box} | run import 900 => {bad} | same
+input \x0D\x0D\n{box} | run import 900 => {bad} | same
+input \x0D\n\n\x0D\n{box} | run import 900 => 0 {stream} | same
+input \x0D\n\n\x0D\n | run import 900 => 0 | same
 # The store is opened by the calls 1 and 2, the configuration is read by 3, and 4 gives the text or the line.
 turns 1 3 | fail | run import 900 => {disk} | same | has log \0
 fail 4 | run import 900 => 73 | same
