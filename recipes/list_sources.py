@@ -80,21 +80,32 @@ def sender(mail: Mail, header: email.message.Message) -> bytes:
     return b''
 
 
+def shown(text: str) -> bytes:
+    """A text in one line, with ? for each control character."""
+    return re.sub(r'[\x00-\x1f\x7f-\x9f]', '?', ' '.join(text.split())).encode(errors='replace')
+
+
 def subject(mail: Mail) -> bytes:
-    """The subject of a mail as it is written, in one line."""
-    return b' '.join(str(mail.header().get('Subject', '')).encode(errors='replace').split())[:200]
+    """The subject of a mail as it is written, to be shown."""
+    return shown(str(mail.header().get('Subject', ''))[:200])
 
 
 # Sources.
 
 class Growing:
-    """The bytes of a mail as it is read. Beyond what the program takes they are only counted. Empty lines at its end aren't in its key."""
+    """The bytes of a mail as it is read. Beyond what the program takes they are only counted. Empty lines at its end aren't in its key.
 
-    def __init__(self) -> None:
+    A mail whose first line ends in CR LF has LF for each of them, as mail has on the disk.
+    """
+
+    def __init__(self, line: bytes = b'') -> None:
         self.pieces: list[bytes] = []
         self.size, self.hash, self.empty = 0, hashlib.sha256(), b''
+        self.end = b'\r\n' if line.endswith(b'\r\n') else b'\n'
 
     def add(self, line: bytes) -> None:
+        if self.end == b'\r\n' and line.endswith(self.end):
+            line = line[:-2] + b'\n'
         if not line.strip(b'\r\n') and len(self.empty) < LONGEST:
             self.empty += line
             return
@@ -132,8 +143,8 @@ def of_mailbox(path: pathlib.Path) -> Iterator[Mail]:
             if found:
                 if place:
                     yield growing.separated(place, who, came)
-                growing, place, who, came = Growing(), f'{path}:{line_number}', found[1], separated(found[2])
-                growing.hash.update(line)
+                growing, place, who, came = Growing(line), f'{path}:{line_number}', found[1], separated(found[2])
+                growing.hash.update(line.rstrip())
             elif place:
                 growing.add(b'>' + line if line.startswith(b'From ') else line)
             elif line.strip():
@@ -144,8 +155,9 @@ def of_mailbox(path: pathlib.Path) -> Iterator[Mail]:
 
 def of_file(path: pathlib.Path, came: float | None) -> Mail:
     """A mail that stands in a file of its own; `came` is when, if its name tells that."""
-    growing = Growing()
     with open(path, 'rb') as file:
+        growing = Growing(file.readline())
+        file.seek(0)
         for line in file:
             growing.add(QUOTED.sub(rb'>\1', line))
     return growing.mail(str(path), b'', [came, path.stat().st_mtime])
