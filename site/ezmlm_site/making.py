@@ -51,10 +51,10 @@ class Maker:
             self.web = files.Web(self.site.web)
             posts, written = self.bring(self.opened())
             self.web.clear()
-        return f'{posts} posts, {written} files written'
+        return f'{posts} posts, {written} pages written'
 
     def bring(self, store: Store) -> tuple[int, int]:
-        """Takes in what is new, and writes the pages. The answer is how many posts there are, and how many files were written."""
+        """Takes in what is new, and writes the pages. The answer is how many posts there are, and how many pages were written."""
         listing = self.archive.listing()
         if not self.goes_on(store, listing):
             print(f'ezmlm-site: {self.site.name}: the archive isn\'t the one that was shown before, and all is made anew', file=sys.stderr)
@@ -175,9 +175,10 @@ class Maker:
                 store.mark(changes.named_by(store, post.thread))
 
     def write(self, store: Store) -> int:
-        """Writes the pages that are marked, and the style. The answer is how many files got other bytes."""
+        """Writes the pages that are marked, and the style. The answer is how many pages got other bytes."""
         made = pages.Pages(self.site, self.local, self.host, store)
-        count = int(self.web.put('style.css', pages.style(self.site)))
+        self.web.put('style.css', pages.style(self.site))
+        count = 0
         while marked := store.marked(BATCH):
             before = count
             for page in marked:

@@ -102,7 +102,7 @@ ROWS: list[tuple[str, bytes]] = [
     ('a part of a mail that is external', header('message/external-body; access-type=x')),
 ]
 ELEMENTS = {'html', 'head', 'meta', 'title', 'link', 'body', 'a', 'header', 'p', 'form', 'label', 'input', 'button', 'main', 'h1', 'h2', 'h3', 'article',
-            'span', 'time', 'pre', 'blockquote', 'br', 'details', 'summary', 'ul', 'ol', 'li', 'small', 'dl', 'dt', 'dd', 'nav', 'footer', 'section'}
+            'span', 'bdi', 'time', 'pre', 'blockquote', 'br', 'details', 'summary', 'ul', 'ol', 'li', 'small', 'dl', 'dt', 'dd', 'nav', 'footer', 'section'}
 ATTRIBUTES = {'lang', 'charset', 'name', 'content', 'rel', 'href', 'type', 'title', 'class', 'id', 'action', 'method', 'role', 'for', 'maxlength', 'value',
               'dir', 'datetime', 'tabindex', 'download', 'aria-label', 'aria-labelledby'}
 

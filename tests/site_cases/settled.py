@@ -261,7 +261,7 @@ def case_command(world: World) -> None:
     status, said, wrong = run(path)
     holds(f'{status} {said!a} {wrong!a}', status == 1 and said == '' and wrong.startswith('ezmlm-site: gone: ') and wrong.count('\n') == 1)
     holds('the other list has no site', (web / '1.html').exists())
-    equal('one list', run('--verbose', path, 'cats'), (0, 'cats: 1 posts, 0 files written\n', ''))
+    equal('one list', run('--verbose', path, 'cats'), (0, 'cats: 1 posts, 0 pages written\n', ''))
     equal('modes', [oct(os.stat(name).st_mode & 0o777) for name in (web, web / '1.html', world.place / 'st/cats.sqlite')], ['0o755', '0o644', '0o640'])
     equal('a list that isn\'t there', run(path, 'dogs')[0], 2)
     equal('settings that aren\'t there', run(str(world.place / 'none'))[0], 2)
