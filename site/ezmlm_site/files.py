@@ -59,13 +59,14 @@ class Web:
         if found is not None and not attachments:
             os.rmdir(folder)
 
-    def settle(self) -> None:
-        """Brings to the disk what was written."""
-        subprocess.run(['sync', '-f', self.root], check=True)
-
     def clear(self) -> None:
         """Removes what a run that was killed left half written."""
         self.remove(NEW)
+
+
+def settle(folder: pathlib.Path) -> None:
+    """Brings to the disk what was written to the file system of a folder."""
+    subprocess.run(['sync', '-f', str(folder)], check=True)
 
 
 def safe_names(attachments: list[message.Attachment]) -> list[str]:

@@ -21,7 +21,7 @@ from collections.abc import Iterator
 from . import archive, changes, files, message, pages, settings, words
 from .store import Page, Post, Store
 
-BATCH = 500  # pages that are written between two syncs
+BATCH = 4000  # pages that are written between two syncs: on a busy disk a sync takes longer than they do
 
 
 class Busy(Exception):
@@ -49,7 +49,11 @@ class Maker:
         self.site.state.mkdir(parents=True, exist_ok=True)
         with alone(self.site.state / f'{self.site.name}.lock'):
             self.web = files.Web(self.site.web)
-            posts, written = self.bring(self.opened())
+            try:
+                posts, written = self.bring(self.opened())
+            except sqlite3.DatabaseError:
+                self.coming.unlink(missing_ok=True)  # It may be what a crash of the machine left, since it isn't synced.
+                raise
             self.web.clear()
         return f'{posts} posts, {written} pages written'
 
@@ -66,6 +70,7 @@ class Maker:
         self.leave_out(store)
         if is_coming:
             store.close()
+            files.settle(self.site.state)
             os.replace(self.coming, self.path)
             store = Store(self.path)
         try:
@@ -83,7 +88,7 @@ class Maker:
     def usable(self, path: pathlib.Path) -> Store | None:
         """The store in a file, unless it can't be read or was made by other settings, or its pages are gone."""
         try:
-            store = Store(path)
+            store = Store(path, is_synced=path == self.path)
             if store.told('basis') == self.basis and (path == self.coming or store.marked(1) or (self.site.web / 'index.html').exists()):
                 return store
             store.close()
@@ -95,7 +100,7 @@ class Maker:
         """An empty store beside the one that there is."""
         for name in (self.coming, pathlib.Path(f'{self.coming}-journal')):
             name.unlink(missing_ok=True)
-        store = Store(self.coming)
+        store = Store(self.coming, is_synced=False)
         os.chmod(self.coming, 0o640)
         with store.change():
             store.tell('basis', self.basis)
@@ -188,7 +193,7 @@ class Maker:
                 else:
                     count += self.web.put(name, content)
             if count > before:
-                self.web.settle()
+                files.settle(self.site.web)
             store.written(marked)
         if store.told('is_swept') != 'yes':
             changes.sweep(self.site, self.web, store)

@@ -64,12 +64,14 @@ class Page:
 
 
 class Store:
-    """An open file."""
+    """An open file. One that is being made anew isn't synced with each change: if the machine stops it is begun again."""
 
-    def __init__(self, path: pathlib.Path) -> None:
+    def __init__(self, path: pathlib.Path, is_synced: bool = True) -> None:
         self.path = path
         self.database = sqlite3.connect(path, timeout=WAIT, isolation_level=None)
         self.database.execute('PRAGMA cache_size = -16000')
+        if not is_synced:
+            self.database.execute('PRAGMA synchronous = OFF')
         if not self.rows("SELECT 1 FROM sqlite_master WHERE name = 'words'"):
             self.database.executescript(f'BEGIN IMMEDIATE; {SCHEMA} COMMIT;')
 
