@@ -9,6 +9,8 @@ import subprocess
 import xml.etree.ElementTree
 from typing import Any
 
+from ezmlm_site import pages
+
 from .growing import small_pages
 from .world import Skipped, World, equal, holds, mail, tree
 
@@ -105,3 +107,32 @@ def case_text_browsers(world: World) -> None:
         index = dumped('index.html')
         for text in ('All about cats', 'Latest threads', 'later', 'By month', 'January 2002', 'subscribe'):
             holds(f'{words[0]} shows no {text} on the index', text in index)
+
+
+def luminance(colour: str) -> float:
+    """The relative luminance of a colour, as WCAG 2.1 has it."""
+    parts = [int(colour[at:at + 2], 16) / 255 for at in (1, 3, 5)]
+    linear = [part / 12.92 if part <= 0.04045 else ((part + 0.055) / 1.055) ** 2.4 for part in parts]
+    return float(0.2126 * linear[0] + 0.7152 * linear[1] + 0.0722 * linear[2])
+
+
+def contrast(one: str, other: str) -> float:
+    brighter, darker = sorted((luminance(one), luminance(other)), reverse=True)
+    return (brighter + 0.05) / (darker + 0.05)
+
+
+def case_contrast(_: World) -> None:
+    """The style's colours have a contrast of 4.5 at least, light and dark; what has focus is outlined, and it prints."""
+    equal('the contrast of black and white', round(contrast('#000000', '#ffffff'), 1), 21.0)
+    style = pages.OWN.joinpath('style.css').read_text()
+    schemes = [dict(re.findall(r'--(\w+): (#[0-9a-f]{6});', text)) for text in re.split(r'@media \(prefers-color-scheme: dark\)', style.partition('* {')[0])]
+    equal('how many schemes there are', len(schemes), 2)
+    for scheme in schemes:
+        for ink in ('ink', 'soft', 'link', 'quote'):
+            for paper in ('paper', 'tint'):
+                found = contrast(scheme[ink], scheme[paper])
+                holds(f'{ink} {scheme[ink]} on {paper} {scheme[paper]} has a contrast of {found:.2f}', found >= 4.5)
+        holds('what is marked has too little contrast', contrast(scheme['ink'], scheme['mark']) >= 4.5)
+    holds('focus isn\'t seen', 'a:focus-visible' in style and 'outline: none' not in style and 'outline: 0' not in style)
+    holds('it has no rules for print', '@media print' in style)
+    holds('it loads something', 'url(' not in style and '@import' not in style)
