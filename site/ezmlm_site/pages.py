@@ -115,7 +115,7 @@ def environment(site: settings.Site) -> jinja2.Environment:
     """Templates of the site's folder, if it has one, or else of the package. All that they put in is escaped."""
     folders = [str(folder) for folder in (site.templates, OWN) if folder is not None]
     made = jinja2.Environment(loader=jinja2.FileSystemLoader(folders), autoescape=True, trim_blocks=True, lstrip_blocks=True,
-                              undefined=jinja2.StrictUndefined, keep_trailing_newline=True)
+                              undefined=jinja2.StrictUndefined, keep_trailing_newline=True, auto_reload=False)
     when = functools.partial(shown_time, zone=zoneinfo.ZoneInfo(site.timezone))
     made.filters.update(marked_up=markup.marked_up, when=when, rfc3339=rfc3339, bytes=bytes_in_words, mailto=mailto)
     made.globals.update(site=site, up='')
