@@ -159,8 +159,9 @@ class Maker:
         if self.site.gives_source:
             self.web.put(f'{post.n}.eml', raw)
         cut = self.shorten
+        message_id = '' if self.site.addresses == 'hidden' else shown.message_id  # Many have the writer's host in them.
         return Post(post.n, post.thread, post.place, post.moment, post.month, False, cut(shown.author or words.one_line(entry.sender.decode('latin-1'), 200)),
-                    cut(shown.subject), cut(shown.text), shown.message_id, shown.is_source, tuple(shown.notes),
+                    cut(shown.subject), cut(shown.text), message_id, shown.is_source, tuple(shown.notes),
                     tuple((name, cut(value)) for name, value in shown.fields),
                     tuple((name, cut(a.name), a.kind, len(a.content)) for name, a in zip(names, shown.attachments)))
 

@@ -89,16 +89,18 @@ def case_left_out(world: World) -> None:
 def case_addresses_of_pages(world: World) -> None:
     """Addresses on the pages, in fields and texts too: shortened, hidden with no source, and shown."""
     world.make_list()
-    world.post(mail('to jo@sub.net', 'write to jo@sub.net or cats@ex.org\n', 'jo@sub.net', more='Cc: <jo@sub.net>\nReply-To: jo@sub.net\n'), sender=b'env@sub.net')
+    world.post(mail('to jo@sub.net', 'write to jo@sub.net or cats@ex.org\n', 'jo@sub.net', more='Cc: <jo@sub.net>\nReply-To: jo@sub.net\nMessage-ID: <1@id.net>\n'),
+               sender=b'env@sub.net')
     world.make()
     pages = {name: content for name, content in tree(world.web).items() if name.endswith(('.html', '.xml'))}
     holds('an address is shown', not any(b'sub.net' in content for content in pages.values()))
     holds('it is shortened', 'write to jo@…' in world.page('1.html'))
+    holds('whoever answers names the mail', 'mailto:cats@ex.org?In-Reply-To=%3C1%40id.net%3E&amp;Subject=Re%3A%20to%20jo%40' in world.page('1.html'))
     holds('the list\'s own stays', 'or cats@ex.org' in world.page('1.html'))
     world.set(addresses='hidden')
     world.make()
     all_files = tree(world.web)
-    holds('an address is there', not any(b'sub.net' in content or b'jo@' in content for content in all_files.values()))
+    holds('an address is there', not any(b'sub.net' in content or b'jo@' in content or b'id.net' in content for content in all_files.values()))
     holds('the source is there', '1.eml' not in all_files)
     equal('what is made anew', all_files, world.anew())
     world.set(addresses='shown')
