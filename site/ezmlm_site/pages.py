@@ -61,9 +61,9 @@ class Pages:
         post = self.store.post(n)
         if post is None:
             return None
-        before, behind = (self.store.number('SELECT n FROM post WHERE thread = ? AND place = ?', post.thread, post.place + step) for step in (-1, 1))
+        before, after = (self.store.number('SELECT n FROM post WHERE thread = ? AND place = ?', post.thread, post.place + step) for step in (-1, 1))
         older, newer = (self.store.number('SELECT n FROM post WHERE n = ?', n + step) for step in (-1, 1))
-        return self.render('post.html', post=post, before=before, behind=behind, older=older, newer=newer, page=f'{n}.html')
+        return self.render('post.html', post=post, before=before, after=after, older=older, newer=newer, page=f'{n}.html')
 
     def name_of(self, thread: int) -> Post | None:
         """The first post of a thread that isn't left out, by which the thread is named."""
@@ -76,7 +76,7 @@ class Pages:
             return None
         is_last = not self.store.rows('SELECT 1 FROM post WHERE thread = ? AND place = ?', thread, first + THREAD_POSTS)
         return self.render('thread.html', name=self.name_of(thread), posts=posts, k=k, up='../', first=first + 1, most=THREAD_TEXT,
-                           before=numbered(str(thread), k - 1) if k > 1 else None, behind=None if is_last else numbered(str(thread), k + 1),
+                           before=numbered(str(thread), k - 1) if k > 1 else None, after=None if is_last else numbered(str(thread), k + 1),
                            page=f'thread/{numbered(str(thread), k)}')
 
     def month(self, month: str, k: int) -> bytes | None:
@@ -92,7 +92,7 @@ class Pages:
         later = self.store.rows('SELECT min(month) FROM month WHERE month > ?', month)[0][0]
         return self.render('month.html', month=month, threads=threads, posts=posts, count=all_threads, k=k, first=first + 1, earlier=earlier, later=later,
                            before=numbered(month, k - 1) if k > 1 else None,
-                           behind=numbered(month, k + 1) if all_threads > first + MONTH_THREADS else None, page=numbered(month, k))
+                           after=numbered(month, k + 1) if all_threads > first + MONTH_THREADS else None, page=numbered(month, k))
 
     def index(self) -> bytes:
         years: dict[str, list[tuple[str, int]]] = {}

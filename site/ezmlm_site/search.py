@@ -186,10 +186,10 @@ def answer(site: settings.Site, asked: str) -> tuple[str, bytes]:
     result = found(site, text, by_rank, k)
     hits = result.hits
     links = {name: urllib.parse.urlencode({'q': text, 'by': 'rank' if by_rank else 'date', 'page': number})
-             for name, number in (('before', k - 1), ('behind', k + 1))}
+             for name, number in (('before', k - 1), ('after', k + 1))}
     shown = template(site).render(
         title_of_list=result.title, query=text, hits=hits[:HITS], why=result.why, by_rank=by_rank, k=k, robots=True, first=HITS * (k - 1) + 1,
-        before=links['before'] if k > 1 else None, behind=links['behind'] if len(hits) > HITS and k < LAST_PAGE else None)
+        before=links['before'] if k > 1 else None, after=links['after'] if len(hits) > HITS and k < LAST_PAGE else None)
     return result.status, shown.encode('utf-8', 'replace')
 
 

@@ -121,7 +121,7 @@ class Store:
         return next(iter(self.posts('WHERE n = ?', n)), None)
 
     def add(self, thread: int, post: Post) -> None:
-        """Keeps a post, which is behind all that are kept."""
+        """Keeps a post, which is after all that are kept."""
         change = self.database.execute
         change('INSERT INTO thread VALUES (?, 0, 0) ON CONFLICT DO NOTHING', (thread,))
         place = self.number('SELECT posts FROM thread WHERE thread = ?', thread)

@@ -147,7 +147,7 @@ def case_hostile(world: World) -> None:
 
 
 def case_moments(world: World) -> None:
-    """Posts of 1970 and of the end of the year 9999, in a time zone before UTC and one behind it."""
+    """Posts of 1970 and of the end of the year 9999, in a time zone before UTC and one after it."""
     world.make_list()
     world.post(mail('first'), moment=0)
     world.post(mail('last'), moment=LAST)
