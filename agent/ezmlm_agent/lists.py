@@ -1,8 +1,9 @@
 """Which lists there are, and which one a recipient names."""
 
 import logging
+import typing
 
-from . import folder, notes
+from . import folder, mailing, notes
 
 log = logging.getLogger('ezmlm-agent')
 
@@ -11,13 +12,20 @@ class Unavailable(Exception):
     """The recipient is, or may be, one of a list that can't be served now."""
 
 
+class Named(typing.NamedTuple):
+    """What a recipient names."""
+    list: mailing.MailingList
+    rest: bytes | None  # of LOCAL-REST@HOST; None for LOCAL@HOST
+
+
 def named_by(recipient, lists):
-    """What stands in a map by LOCAL and HOST for a recipient: LOCAL@HOST, or LOCAL-REST@HOST with the longest LOCAL that there is."""
-    local, _, host = recipient.lower().rpartition(b'@')
+    """What stands in a map by LOCAL and HOST for a recipient, and REST or None: LOCAL@HOST, or LOCAL-REST@HOST with the longest LOCAL that
+    there is."""
+    local, _, host = recipient.rpartition(b'@')
     words = local.split(b'-')
     for many in range(len(words), 0, -1):
-        if (found := lists.get((b'-'.join(words[:many]), host))) is not None:
-            return found
+        if (found := lists.get((b'-'.join(words[:many]).lower(), host.lower()))) is not None:
+            return found, b'-'.join(words[many:]) if many < len(words) else None
     return None
 
 
@@ -44,15 +52,17 @@ class Lists:
             return None
 
     def find(self, recipient):
-        """The list that a recipient names, or None. It is Unavailable where the list can't be served now."""
+        """The list that a recipient names, with the rest of its address, or None. It is Unavailable if the list can't be served now."""
         if self.seen is None or self.seen != self.stamp():
             self.look()
         found = named_by(recipient, self.by_address)
-        if isinstance(found, str):
-            raise Unavailable(found)
         if found is None and self.is_unsure:
             raise Unavailable('a list can\'t be read, and it may be the one of this address')
-        return found
+        if found is None:
+            return None
+        if isinstance(found[0], str):
+            raise Unavailable(found[0])
+        return Named(*found)
 
     def look(self, again=False):
         """Looks which lists are there. One that is served is only looked at again where that is asked for."""

@@ -23,6 +23,7 @@ REFUSALS = {
     'private': '550 5.7.2 This list doesn\'t give this to its senders.',
     'full': '552 5.2.4 The list is full.',
     'notours': '550 5.1.1 The list has no such address.',
+    'automatic': '550 5.7.1 This list takes no posts that a machine sent (Auto-Submitted).',
 }
 
 
@@ -171,7 +172,7 @@ class Session:
 
     async def answers(self, message):
         """The lists' answers, which are waited for also when the agent stops."""
-        given = asyncio.gather(*(to.deliver(self.sender, recipient, message) for to, recipient in self.recipients))
+        given = asyncio.gather(*(named.list.receive(self.sender, recipient, named.rest, message) for named, recipient in self.recipients))
         task = asyncio.current_task()
         self.server.answering.add(task)
         try:

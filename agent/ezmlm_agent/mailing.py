@@ -8,7 +8,7 @@ import logging
 import time
 from typing import Callable
 
-from . import folder, notes, outgoing, program, wire
+from . import folder, notes, outgoing, program, weed, wire
 
 log = logging.getLogger('ezmlm-agent')
 MOST_MAILS, MOST_BYTES = 128, 8 << 20  # at once; a run with so many takes no more
@@ -105,6 +105,20 @@ class MailingList:
         self.ended = True
         self.wake.set()
         await self.task
+
+    async def receive(self, sender, recipient, rest, message):
+        """The answer to a mail that came in for LOCAL-REST@HOST, or LOCAL@HOST if the rest is None. What is weeded isn't given to the list."""
+        place = weed.place_of(None if rest is None else rest.decode('latin-1'))
+        why = None
+        if place is weed.Place.LIST and self.settings.auto_posts == 'refuse':
+            if await asyncio.to_thread(weed.is_automatic, message):
+                why = program.Answer(100, 'automatic')
+        elif self.settings.weed and (word := await asyncio.to_thread(weed.verdict, message, place)):
+            why = program.Answer(0, f'weeded {word}')
+        if why is None:
+            return await self.deliver(sender, recipient, message)
+        log.info('%s - %s %s: %s', self.folder.name, wire.shown(sender), wire.shown(recipient), why.words)
+        return why
 
     async def deliver(self, sender, recipient, message):
         """The list's answer to a mail, or why there is none."""

@@ -5,25 +5,48 @@ import dataclasses
 import ipaddress
 import pathlib
 import socket
+from collections.abc import Callable
+from typing import Any
+
+
+def is_yes(text: str) -> bool:
+    """What `yes` and `no` say. Another word is a ValueError."""
+    if text not in ('yes', 'no'):
+        raise ValueError(f'{text} is neither yes nor no')
+    return text == 'yes'
+
+
+def posts(text: str) -> str:
+    """One of the words of auto_posts. Another word is a ValueError."""
+    if text not in ('take', 'refuse'):
+        raise ValueError(f'{text} is neither take nor refuse')
+    return text
+
+
+def setting(read: Callable[[str], Any], default: Any = dataclasses.MISSING) -> Any:
+    """A setting: what reads its text, and its value where there is no line of it."""
+    return dataclasses.field(default=default, metadata={'read': read})
 
 
 @dataclasses.dataclass(frozen=True)
 class Settings:
-    program: str                # the program
-    lists: pathlib.Path         # each folder in it that has a configuration is a list
-    state: pathlib.Path         # what the agent remembers
-    listen: str                 # where mail comes in: a socket's path, or HOST:PORT of loopback
-    mta: str = '127.0.0.1:25'   # where mail goes out: HOST:PORT, or a socket's path
-    name: str = ''              # how the agent calls itself
-    batch: int = 100            # copies in one transaction
-    connections: int = 8        # to the transfer agent, at once
-    runs: int = 4               # of the program, at once
-    memory: int = 128           # MiB of mail that wait at once, and as many that are handed on
-    keep_days: int = 15         # how long a mail may come again: the transfer agent's queue lifetime and a margin
-    patience: int = 300         # seconds in which a list that another run holds is tried again
+    program: str = setting(str)                 # the program
+    lists: pathlib.Path = setting(pathlib.Path)  # each folder in it that has a configuration is a list
+    state: pathlib.Path = setting(pathlib.Path)  # what the agent remembers
+    listen: str = setting(str)                  # where mail comes in: a socket's path, or HOST:PORT of loopback
+    mta: str = setting(str, '127.0.0.1:25')     # where mail goes out: HOST:PORT, or a socket's path
+    name: str = setting(str, '')                # how the agent calls itself
+    batch: int = setting(int, 100)              # copies in one transaction
+    connections: int = setting(int, 8)          # to the transfer agent, at once
+    runs: int = setting(int, 4)                 # of the program, at once
+    memory: int = setting(int, 128)             # MiB of mail that wait at once, and as many that are handed on
+    keep_days: int = setting(int, 15)           # how long a mail may come again: the transfer agent's queue lifetime and a margin
+    patience: int = setting(int, 300)           # seconds in which a list that another run holds is tried again
+    weed: bool = setting(is_yes, True)          # whether mail that a machine sent is kept from return addresses and requests
+    auto_posts: str = setting(posts, 'take')    # what is done with posts that a machine sent
 
 
-def read(path):
+def read(path: str) -> Settings:
     """Reads the settings from the section `agent` of a file. A wrong one is a ValueError."""
     parser = configparser.ConfigParser(interpolation=None)
     try:
@@ -32,31 +55,37 @@ def read(path):
         given = dict(parser['agent'])
     except (OSError, configparser.Error, KeyError) as error:
         raise ValueError(f'{path}: {error}') from error
-    kinds = {field.name: field.type for field in dataclasses.fields(Settings)}
-    unknown = given.keys() - kinds.keys()
-    missing = {'program', 'lists', 'state', 'listen'} - given.keys()
+    fields = {field.name: field for field in dataclasses.fields(Settings)}
+    unknown = given.keys() - fields.keys()
+    missing = {name for name, field in fields.items() if field.default is dataclasses.MISSING} - given.keys()
     if unknown or missing:
         raise ValueError(f'{path}: unknown {sorted(unknown)}, missing {sorted(missing)}')
     try:
-        chosen = Settings(**{name: kinds[name](value) for name, value in given.items()})
+        chosen = Settings(**{name: fields[name].metadata['read'](value) for name, value in given.items()})
         check(chosen)
     except ValueError as error:
         raise ValueError(f'{path}: {error}') from error
     return dataclasses.replace(chosen, name=chosen.name or socket.gethostname())
 
 
-def check(chosen):
+def check(chosen: Settings) -> None:
     """A ValueError where a setting is out of its range."""
     for name in ('batch', 'connections', 'runs', 'memory', 'keep_days'):
         if getattr(chosen, name) < 1:
             raise ValueError(f'{name} is below 1')
     endpoint(chosen.mta)
-    match endpoint(chosen.listen):
-        case (host, _) if host != 'localhost' and not ipaddress.ip_address(host).is_loopback:
-            raise ValueError(f'{host} is not loopback, and whoever reaches the agent can give it mail')
+    if not is_near(chosen.listen):
+        raise ValueError(f'{chosen.listen} is not loopback, and whoever reaches the agent can give it mail')
 
 
-def endpoint(text):
+def is_near(address: str) -> bool:
+    """Whether an address is a socket's path, or HOST:PORT of loopback. One that is none of both, or has another name for HOST, is a
+    ValueError."""
+    where = endpoint(address)
+    return isinstance(where, str) or where[0] == 'localhost' or ipaddress.ip_address(where[0]).is_loopback
+
+
+def endpoint(text: str) -> str | tuple[str, int]:
     """A socket's path, or a host and a port."""
     if '/' in text:
         return text
