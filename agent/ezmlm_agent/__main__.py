@@ -1,5 +1,6 @@
 """ezmlm-agent [--check] SETTINGS: gives the lists of a host their mail, and hands on what they send."""
 
+import argparse
 import asyncio
 import contextlib
 import fcntl
@@ -9,86 +10,107 @@ import pathlib
 import resource
 import signal
 import sys
+from typing import NoReturn, TextIO
 
-from . import check, lists, lmtp, mailing, program, settings, smtp, wire
+from . import VERSION, check, listening, lists, lmtp, mailing, mails, policy, program, settings, smtp, wire
 
 log = logging.getLogger('ezmlm-agent')
-LOOKS = 60  # seconds between two looks for lists and for timed runs
+LOOKS = 60  # seconds between two looks for lists
+ENDING = 60  # seconds until what is in hand at the end is left as it is
 DESCRIPTORS = 65536
 SWITCH = 0.0005  # seconds: threads wait for runs of the program and for the disk, and each is soon served
+WRONG = 78  # EX_CONFIG of sysexits.h: settings that are wrong, for which systemd doesn't start the agent again
+
+
+class Shown(logging.Formatter):
+    """What a line of the log says, without a byte that ends it or moves a terminal's cursor."""
+
+    def format(self, record: logging.LogRecord) -> str:
+        return ''.join(char if char.isprintable() else wire.printable(char) for char in super().format(record))
 
 
 class Agent:
-    def __init__(self, chosen):
+    def __init__(self, chosen: settings.Settings) -> None:
         self.settings = chosen
-        self.program = program.Program(chosen.program, chosen.runs)
         self.exchange = smtp.Exchange(chosen.mta, chosen.name, chosen.connections)
-        self.room = wire.Room(chosen.memory << 20)
+        size = chosen.memory << 20
+        self.shared = mails.Shared(chosen, program.Program(chosen.program, chosen.runs), self.exchange, wire.Room(size), wire.Room(size))
         self.lists = lists.Lists(chosen, self.take_up)
-        self.server = lmtp.Server(chosen.name, self.lists.find, chosen.memory << 20)
+        self.server = lmtp.Server(chosen.name, self.lists.find, size, chosen.replies)
+        self.policy = policy.Policy(self.lists.find)
+        self.listener = listening.Listener()
         self.ended = asyncio.Event()
 
-    def take_up(self, folder):
-        found = mailing.MailingList(folder, self.settings, self.program, self.exchange, self.room)
+    def take_up(self, folder: pathlib.Path) -> mailing.MailingList:
+        found = mailing.MailingList(folder, self.shared)
         found.start()
         return found
 
-    async def run(self):
+    async def run(self) -> None:
+        """Serves until it is ended by a signal."""
         loop = asyncio.get_running_loop()
         for number in (signal.SIGTERM, signal.SIGINT):
             loop.add_signal_handler(number, self.ended.set)
-        try:
-            server = await listen(self.settings.listen, self.server.serve)
-        except OSError as error:
-            sys.exit(f'ezmlm-agent: {self.settings.listen}: {error}')
+        for address, serve in ((self.settings.listen, self.server.serve), (self.settings.policy, self.policy.serve)):
+            try:
+                if address:
+                    await self.listener.listen(address, serve)
+            except OSError as error:
+                sys.exit(f'ezmlm-agent: {address}: {error}')
         log.info('mail comes in at %s', self.settings.listen)
-        while not self.ended.is_set():
-            self.tend()
-            with contextlib.suppress(TimeoutError):
-                async with asyncio.timeout(LOOKS):
-                    await self.ended.wait()
+        tending = asyncio.create_task(self.tend())
+        await self.ended.wait()
         log.info('stops')
-        server.close()
+        tending.cancel()
+        self.listener.close()
+        self.policy.stop()
         await self.stop()
 
-    def tend(self):
+    async def tend(self) -> None:
         """What is done each minute."""
-        self.lists.look(again=True)
-        self.exchange.close_unused()
-        for found in self.lists.live():
-            found.wake.set()
+        while True:
+            try:
+                await self.lists.look(again=True)
+            except Exception as error:  # Whatever it is, mail goes on.
+                log.error('the lists can\'t be looked at: %s: %s', type(error).__name__, error)
+            self.exchange.close_unused()
+            await asyncio.sleep(LOOKS)
 
-    async def stop(self):
-        """Ends behind what is in hand."""
-        served = self.lists.served.values()
+    async def stop(self) -> None:
+        """Ends after what is in hand. What hangs then is left: nothing is lost by it."""
+        served = list(self.lists.served.values())
         for found in served:
             found.hurry()
         await self.server.stop()
-        await asyncio.gather(*(found.stop() for found in served))
+        ends = [asyncio.create_task(found.stop()) for found in served]
+        if ends:
+            _, hang = await asyncio.wait(ends, timeout=ENDING)
+            for found in served:
+                found.abandon()
+            if hang:
+                log.warning('%d lists have something in hand that hangs, and are left', len(hang))
         self.exchange.close_unused(0)
 
 
-async def listen(address, serve):
-    match settings.endpoint(address):
-        case (host, port):
-            return await asyncio.start_server(serve, host, port, backlog=1024)
-        case path:
-            if pathlib.Path(path).is_socket():
-                os.unlink(path)
-            server = await asyncio.start_unix_server(serve, path, backlog=1024)
-            os.chmod(path, 0o660)
-            return server
+def words_of(words: list[str]) -> argparse.Namespace:
+    parser = argparse.ArgumentParser(prog='ezmlm-agent', description='Gives the lists of a host their mail, and hands on what they send.')
+    parser.add_argument('--check', action='store_true', help='look whether the settings, the lists and the transfer agent are in order, and end')
+    parser.add_argument('--version', action='version', version=f'ezmlm-agent {VERSION}')
+    parser.add_argument('settings', metavar='SETTINGS', help='a file of settings; ezmlm-agent(8) tells what is in it')
+    return parser.parse_args(words)
 
 
-def main(words):
-    logging.basicConfig(format='%(message)s', level=logging.INFO, stream=sys.stderr)
-    if not words or words[:-1] not in ([], ['--check']):
-        sys.exit('usage: ezmlm-agent [--check] SETTINGS')
+def main(words: list[str]) -> NoReturn:
+    handler = logging.StreamHandler(sys.stderr)
+    handler.setFormatter(Shown('%(message)s'))
+    logging.basicConfig(level=logging.INFO, handlers=[handler])
+    asked = words_of(words)
     try:
-        chosen = settings.read(words[-1])
+        chosen = settings.read(asked.settings)
     except ValueError as error:
-        sys.exit(f'ezmlm-agent: {error}')
-    if words[:-1]:
+        print(f'ezmlm-agent: {error}', file=sys.stderr)
+        sys.exit(WRONG)
+    if asked.check:
         sys.exit(asyncio.run(check.check(chosen)))
     os.umask(0o077)
     most = resource.getrlimit(resource.RLIMIT_NOFILE)[1]
@@ -96,9 +118,10 @@ def main(words):
     sys.setswitchinterval(SWITCH)
     with alone(chosen.state):
         asyncio.run(run(chosen))
+    sys.exit(0)
 
 
-def alone(state):
+def alone(state: pathlib.Path) -> TextIO:
     """Keeps other agents of the same state away, as long as what it answers is open."""
     try:
         state.mkdir(parents=True, exist_ok=True)
@@ -111,8 +134,15 @@ def alone(state):
     return lock
 
 
-async def run(chosen):
-    await Agent(chosen).run()
+async def run(chosen: settings.Settings) -> None:
+    agent = Agent(chosen)
+    await agent.run()
+    if any(found.is_stuck() for found in agent.lists.served.values()):
+        # Python would wait for them: tasks that can't be cancelled, and the program's runs that can't be killed.
+        logging.shutdown()
+        with contextlib.suppress(OSError):
+            sys.stderr.flush()
+        os._exit(0)
 
 
 if __name__ == '__main__':

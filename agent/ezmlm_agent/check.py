@@ -1,27 +1,65 @@
 """Looks whether the agent can do its work, before mail depends on it."""
 
 import asyncio
+import contextlib
+import ipaddress
 import os
 import pathlib
+import pwd
+import socket
+import sqlite3
+import subprocess
+from collections.abc import Iterable
 
-from . import folder, program, smtp, wire
+from . import folder, notes, program, settings, smtp, trouble, wire
 
 TRIES = 20  # while another run has a list, a second each
+MOST = 5    # lines that say the same of one list
+UNIT = 'ezmlm-agent.service'
+
+Addresses = dict[pathlib.Path, notes.Address]
 
 
-def modes(path):
-    """What is wrong with the owner and the mode of a file or folder."""
-    state = path.lstat()
+def modes(path: pathlib.Path, owner: int) -> list[str]:
+    """What is wrong with the owner and the mode of a file or folder. One that is gone meanwhile, as an entry that was sent, is in order."""
+    try:
+        state = path.lstat()
+    except FileNotFoundError:
+        return []
     wrong = []
-    if state.st_uid != os.geteuid():
-        wrong.append(f'{path} belongs to another user')
+    if state.st_uid != owner:
+        wrong.append(f'{shown(path)} belongs to another user')
     if state.st_mode & 0o077:
-        wrong.append(f'{path} is open to others: mode {state.st_mode & 0o7777:o}')
+        wrong.append(f'{shown(path)} is open to others: mode {state.st_mode & 0o7777:o}')
     return wrong
 
 
-async def whole(runs, path):
+def shown(path: pathlib.Path | str) -> str:
+    return wire.printable(str(path))
+
+
+def all_below(path: pathlib.Path) -> Iterable[pathlib.Path]:
+    """A folder and all that stands in it, without what is gone meanwhile."""
+    for place, folders, files in os.walk(path):
+        yield pathlib.Path(place)
+        yield from (pathlib.Path(place, name) for name in files)
+
+
+def some(wrong: list[str]) -> list[str]:
+    """The first of these lines, and how many there are beside them."""
+    return wrong if len(wrong) <= MOST + 1 else [*wrong[:MOST], f'and {len(wrong) - MOST} lines more like the last one']
+
+
+def user(number: int) -> str:
+    try:
+        return pwd.getpwuid(number).pw_name
+    except KeyError:
+        return str(number)
+
+
+async def whole(runs: program.Program, path: pathlib.Path) -> tuple[int, str]:
     """The status and the line by which the program says whether a list is whole."""
+    status, text = 0, b''
     for _ in range(TRIES):
         status, text = await runs.run(path, 'check')
         if status != program.HELD:
@@ -30,11 +68,12 @@ async def whole(runs, path):
     return status, text.decode('ascii', 'replace').strip()
 
 
-def found(chosen):
+def found(chosen: settings.Settings) -> tuple[Addresses, list[str]]:
     """The lists by their folders, and what is wrong where there are none of their own."""
-    addresses, wrong = {}, []
+    addresses: Addresses = {}
+    wrong = []
     try:
-        paths = sorted(path for path in chosen.lists.iterdir() if path.is_dir())
+        paths = sorted(path for path in chosen.lists.iterdir() if path.name != 'lost+found' and path.is_dir())
     except OSError as error:
         return {}, [str(error)]
     for path in paths:
@@ -44,13 +83,23 @@ def found(chosen):
             wrong.append(str(error))
             continue
         if address in addresses.values():
-            wrong.append(f'{path} has the address of another list')
+            wrong.append(f'{shown(path)} has the address of another list')
         elif address is not None:
             addresses[path] = address
     return addresses, wrong or ([] if addresses else [f'there is no list in {chosen.lists}'])
 
 
-async def lists(chosen, addresses):
+def moderation(path: pathlib.Path, line: str) -> list[str]:
+    """What is wrong with the moderators of a list that is whole, of which `check` says this line."""
+    flags = (folder.configuration(path) or {}).get(b'flags', b'')
+    if line.split()[6:7] != ['0']:
+        return []
+    name = shown(path.name)
+    posts = [f'{name}: its posts wait for a moderator (m), and it has none: each goes back to its author after five days'] * (b'm' in flags)
+    return posts + [f'{name}: subscriptions wait for a moderator (s), and it has none'] * (b's' in flags)
+
+
+async def lists(chosen: settings.Settings, addresses: Addresses, owner: int) -> list[str]:
     """What is wrong with the lists, each named."""
     runs = program.Program(chosen.program, 1)
     status, _ = await runs.run('/', 'usage')
@@ -58,16 +107,32 @@ async def lists(chosen, addresses):
         return [f'{chosen.program} is not the program: status {status}']
     wrong = []
     for path, address in addresses.items():
-        wrong += [fault for each in (path, *path.rglob('*')) for fault in modes(each)]
+        wrong += some([fault for each in all_below(path) for fault in modes(each, owner)])
         status, line = await whole(runs, path)
         if status:
-            wrong.append(f'{path}: {status} {line}')
+            _, _, words = line.partition(f'{status} ')
+            wrong.append(f'{shown(path)}: {status} {words}: {trouble.of_ending(path, status, words)}')
         else:
-            print(f'{path.name}: {b"@".join(address).decode("ascii", "replace")}, {line}')
+            print(f'{shown(path.name)}: {wire.shown(b"@".join(address))}, {line}')
+            wrong += moderation(path, line)
     return wrong
 
 
-async def transfer_agent(chosen, addresses):
+def all_notes(chosen: settings.Settings) -> list[str]:
+    """What is wrong with the agent's notes, each file of which is opened and read."""
+    wrong = []
+    for path in sorted(chosen.state.glob('*.sqlite')):
+        try:
+            with contextlib.closing(sqlite3.connect(f'{path.absolute().as_uri()}?mode=ro', uri=True)) as database:
+                faults = notes.faults(database)
+        except sqlite3.Error as error:
+            faults = str(error)
+        if faults:
+            wrong.append(f'{shown(path)}: these notes are damaged: {faults}; the agent sets them aside when it starts, and begins new ones')
+    return wrong
+
+
+async def transfer_agent(chosen: settings.Settings, addresses: Addresses) -> list[str]:
     """What is wrong with the transfer agent. It is asked whether it would take mail of each list for its owner, and gets none."""
     wrong = []
     try:
@@ -75,10 +140,10 @@ async def transfer_agent(chosen, addresses):
         await connection.greet(chosen.name)
         print(f'{chosen.mta} takes: {" ".join(sorted(connection.extensions))}')
         for path, address in addresses.items():
-            owner = folder.configuration(path).get(b'owner', b'')
+            owner = (folder.configuration(path) or {}).get(b'owner', b'')
             commands = connection.commands(b'-return-@'.join(address), False, [owner], b'')
             replies = [reply async for reply in connection.ask([*commands, b'RSET\r\n'])]
-            wrong += [f'{path.name}, mail to its owner: {code} {words[0]}' for code, words in replies if code >= 400]
+            wrong += [f'{shown(path.name)}, mail to its owner: {reply.code} {reply.words()}' for reply in replies if reply.code >= 400]
         connection.close()
     except wire.Gone as error:
         return [*wrong, str(error)]
@@ -87,18 +152,57 @@ async def transfer_agent(chosen, addresses):
     return wrong
 
 
-async def check(chosen):
-    """Tells all that is wrong. The status is 0 where nothing is."""
-    wrong = modes(chosen.state) if chosen.state.exists() else []
+def keeps_away(chosen: settings.Settings) -> list[str]:
+    """Whether the unit keeps the agent from a transfer agent on another host, as it does unless IPAddressAllow names that."""
+    where = settings.endpoint(chosen.mta)
+    if isinstance(where, str):
+        return []
+    try:
+        hosts = {ipaddress.ip_address(str(row[4][0]).partition('%')[0]) for row in socket.getaddrinfo(*where)}
+        far = [host for host in hosts if not host.is_loopback]
+        told = subprocess.run(['systemctl', 'show', '-p', 'IPAddressAllow', '-p', 'IPAddressDeny', UNIT], capture_output=True, text=True,
+                              timeout=10, check=True).stdout
+    except (OSError, subprocess.SubprocessError):
+        return []
+    return [f'{UNIT} has IPAddressDeny, by which the agent can\'t reach {host} (mta): add IPAddressAllow={host} to it'
+            for host in far if is_denied(host, told)]
+
+
+def is_denied(host: ipaddress.IPv4Address | ipaddress.IPv6Address, told: str) -> bool:
+    """Whether a unit of which `systemctl show` tells this may not reach a host: what is allowed goes first (systemd.resource-control(5))."""
+    rows = dict(line.split('=', 1) for line in told.splitlines() if '=' in line)
+    allowed, denied = ([ipaddress.ip_network(word, strict=False) for word in rows.get(name, '').split()]
+                       for name in ('IPAddressAllow', 'IPAddressDeny'))
+    return any(host in network for network in denied) and not any(host in network for network in allowed)
+
+
+def place(chosen: settings.Settings) -> list[str]:
+    """What is wrong with the folders of the settings."""
+    wrong = []
     if chosen.lists.exists() and chosen.lists.stat().st_mode & 0o022:
         wrong.append(f'{chosen.lists} can be written by others')
-    socket = pathlib.Path(chosen.listen)
-    if '/' in chosen.listen and not os.access(socket.parent, os.W_OK | os.X_OK):
-        wrong.append(f'{socket.parent}: no socket can be made there')
-    addresses, others = found(chosen)
-    wrong += others
-    wrong += await lists(chosen, addresses)
-    wrong += await transfer_agent(chosen, addresses)
+    for address in (chosen.listen, chosen.policy):
+        path = pathlib.Path(address)
+        if '/' in address and not os.access(path.parent, os.W_OK | os.X_OK):
+            wrong.append(f'{path.parent}: no socket can be made there')
+    return wrong
+
+
+async def check(chosen: settings.Settings) -> int:
+    """Tells all that is wrong. The status is 0 where nothing is."""
+    wrong = []
+    owner = chosen.lists.stat().st_uid if chosen.lists.exists() else os.geteuid()
+    is_other = owner != os.geteuid()
+    if is_other:
+        wrong.append(f'this is run by {user(os.geteuid())}, and {chosen.lists} belongs to {user(owner)}: run it as the user that the agent runs as, '
+                     f'by runuser -u {user(owner)} --')
+    else:
+        wrong += modes(chosen.state, owner) if chosen.state.exists() else []
+        wrong += place(chosen)
+        addresses, others = found(chosen)
+        wrong += [*others, *await lists(chosen, addresses, owner), *all_notes(chosen)]
+        wrong += await transfer_agent(chosen, addresses)
+        wrong += keeps_away(chosen)
     for line in wrong:
         print('! ' + line)
     return 1 if wrong else 0

@@ -1,8 +1,14 @@
 """What the agent reads of a list's folder, as docs/FORMATS.md has it."""
 
 import fcntl
+import os
+import pathlib
 import re
+import stat
+from collections.abc import Callable, Iterable
+from typing import TypeVar
 
+Result = TypeVar('Result')
 SLOTS, SLOT = 512, 9
 NO_MAIL = 500_000_000_000  # numbers from here on are given to moves of members
 ENTRY = re.compile('[1-9][0-9]{0,15}', re.ASCII)
@@ -16,33 +22,45 @@ class Unsettled(Exception):
     """A run was stopped, and the list's log has what its files haven't. Any other run sees to that."""
 
 
-def settled(folder, call):
-    """What a call reads of the list's files, which stand still meanwhile."""
-    with open(folder / 'lock', 'ab') as lock:
-        try:
-            fcntl.flock(lock, fcntl.LOCK_EX | fcntl.LOCK_NB)
-        except BlockingIOError as error:
-            raise Held('another run has the list') from error
+def settled(folder: pathlib.Path, call: Callable[[pathlib.Path], Result]) -> Result:
+    """What a call reads of the list's files, which stand still meanwhile. Held and Unsettled say why it can't."""
+    lock = opened(folder / 'lock', os.O_WRONLY | os.O_CREAT | os.O_APPEND)
+    try:
+        fcntl.flock(lock, fcntl.LOCK_EX | fcntl.LOCK_NB)
         if size_or_none(folder / 'log') not in (0, 1):
             raise Unsettled('a run was stopped')
         return call(folder)
+    except BlockingIOError as error:
+        raise Held('another run has the list') from error
+    finally:
+        os.close(lock)
 
 
-def size_or_none(path):
+def opened(path: pathlib.Path, flags: int) -> int:
+    """A descriptor of a regular file. Whatever else stands in its place is an OSError: a pipe would keep who reads it waiting."""
+    file = os.open(path, flags | os.O_NONBLOCK | os.O_CLOEXEC, 0o600)
+    if not stat.S_ISREG(os.fstat(file).st_mode):
+        os.close(file)
+        raise OSError(f'{path} is no file')
+    return file
+
+
+def size_or_none(path: pathlib.Path) -> int | None:
     try:
         return path.stat().st_size
     except FileNotFoundError:
         return None
 
 
-def bytes_or_none(path):
+def bytes_or_none(path: pathlib.Path) -> bytes | None:
     try:
-        return path.read_bytes()
+        with open(opened(path, os.O_RDONLY), 'rb') as file:
+            return file.read()
     except FileNotFoundError:
         return None
 
 
-def names(folder):
+def names(folder: pathlib.Path) -> list[str]:
     """The names of the files in a folder, and none where it isn't there."""
     try:
         return [path.name for path in folder.iterdir()]
@@ -50,16 +68,19 @@ def names(folder):
         return []
 
 
-def configuration(folder):
+def configuration(folder: pathlib.Path) -> dict[bytes, bytes] | None:
     """The lines of the configuration by their names, or None where there is no list."""
     try:
         lines = bytes_or_none(folder / 'config')
     except NotADirectoryError:
         return None
-    return None if lines is None else dict(line.split(b' ', 1) for line in lines.split(b'\n') if b' ' in line)
+    if lines is None:
+        return None
+    pairs = (line.split(b' ', 1) for line in lines.split(b'\n') if b' ' in line)
+    return {name: value for name, value in pairs}
 
 
-def address(folder):
+def address(folder: pathlib.Path) -> tuple[bytes, bytes] | None:
     """LOCAL and HOST of the list in a folder, in lower case, or None where there is no list."""
     lines = configuration(folder)
     if lines is None:
@@ -69,25 +90,56 @@ def address(folder):
     return lines[b'local'].lower(), lines[b'host'].lower()
 
 
-def queue(folder):
+def free(folder: pathlib.Path) -> tuple[bytes, bytes] | None:
+    """The address of the list in a folder, or None where there is no list. It is Held where another run has the list now."""
+    found = address(folder)
+    if found is None or not (folder / 'lock').exists():
+        return found
+    lock = opened(folder / 'lock', os.O_RDONLY)
+    try:
+        fcntl.flock(lock, fcntl.LOCK_SH | fcntl.LOCK_NB)
+        return found
+    except BlockingIOError as error:
+        raise Held('another run has the list') from error
+    finally:
+        os.close(lock)
+
+
+def queue(folder: pathlib.Path) -> list[int]:
     """The ids of the entries in the outgoing queue, oldest first."""
     return sorted(int(name) for name in names(folder / 'queue') if ENTRY.fullmatch(name))
 
 
-def entries(folder, ids):
+def entries(folder: pathlib.Path, ids: Iterable[int]) -> dict[int, bytes | None]:
     """These entries of the outgoing queue, each as its file spells it, or None where there is none."""
     return {entry: bytes_or_none(folder / 'queue' / str(entry)) for entry in ids}
 
 
-def floor(folder):
+def sizes(folder: pathlib.Path, ids: Iterable[int]) -> dict[int, int]:
+    """The bytes of these entries' files, in this order, without those that are gone."""
+    found = ((entry, size_or_none(folder / 'queue' / str(entry))) for entry in ids)
+    return {entry: size for entry, size in found if size is not None}
+
+
+def entries_with_times(folder: pathlib.Path, ids: Iterable[int]) -> dict[int, tuple[bytes, float]]:
+    """These entries of the outgoing queue, each as its file spells it, and when that was written, without those that are gone."""
+    found: dict[int, tuple[bytes, float]] = {}
+    for entry in ids:
+        text = bytes_or_none(folder / 'queue' / str(entry))
+        if text is not None:
+            found[entry] = text, (folder / 'queue' / str(entry)).stat().st_mtime
+    return found
+
+
+def floor(folder: pathlib.Path) -> int:
     return int(bytes_or_none(folder / 'floor') or 1)
 
 
-def behind_answers(folder):
-    """The first number behind all that the list has answered, but for those that are no mail's, and not below its floor."""
+def behind_answers(folder: pathlib.Path) -> int:
+    """The first number after all that the list has answered, but for those that are no mail's, and not below its floor."""
     groups = [int(name) for name in names(folder / 'done') if name.isdecimal() and int(name) < NO_MAIL // SLOTS]
     if not groups:
         return floor(folder)
-    kept = (folder / 'done' / str(max(groups))).read_bytes()
+    kept = bytes_or_none(folder / 'done' / str(max(groups))) or b''
     last = max((slot for slot in range(SLOTS) if any(kept[SLOT * slot:SLOT * slot + SLOT])), default=SLOTS - 1)
     return max(floor(folder), SLOTS * max(groups) + last + 1)

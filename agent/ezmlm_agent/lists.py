@@ -1,24 +1,34 @@
 """Which lists there are, and which one a recipient names."""
 
+import asyncio
+import dataclasses
 import logging
-import typing
+import pathlib
+import time
+from collections.abc import Callable, Iterable, Mapping
+from typing import NamedTuple, TypeVar
 
-from . import folder, mailing, notes
+from . import aside, folder, mailing, notes, settings, wire
 
 log = logging.getLogger('ezmlm-agent')
+Thing = TypeVar('Thing')
+FRESH = 0.01    # seconds for which what was looked at serves for the address of a list that is known
+SOON = 1.0      # seconds for which mail of a list that is known waits until the folders are looked at
+AT_ONCE = 16    # folders that are read at once
+NONE = {'lost+found'}  # a file system's own, which the agent's user can't even look into
 
 
 class Unavailable(Exception):
     """The recipient is, or may be, one of a list that can't be served now."""
 
 
-class Named(typing.NamedTuple):
+class Named(NamedTuple):
     """What a recipient names."""
     list: mailing.MailingList
     rest: bytes | None  # of LOCAL-REST@HOST; None for LOCAL@HOST
 
 
-def named_by(recipient, lists):
+def named_by(recipient: bytes, lists: Mapping[notes.Address, Thing]) -> tuple[Thing, bytes | None] | None:
     """What stands in a map by LOCAL and HOST for a recipient, and REST or None: LOCAL@HOST, or LOCAL-REST@HOST with the longest LOCAL that
     there is."""
     local, _, host = recipient.rpartition(b'@')
@@ -29,32 +39,66 @@ def named_by(recipient, lists):
     return None
 
 
+Times = tuple[int, ...]
+
+
+@dataclasses.dataclass(frozen=True)
+class Seen:
+    """What a folder was when it was read: the list of an address, or none, or why that can't be told. `times` are those of the folder and of
+    its configuration, by which it is seen whether it became another, and None where even these couldn't be had."""
+    times: Times | None
+    address: notes.Address | None = None
+    wrong: str | None = None
+
+
+def times_of(path: pathlib.Path) -> Times:
+    """What changes when a folder or its configuration does."""
+    times: list[int] = []
+    for each in (path, path / 'config'):
+        try:
+            state = each.stat()
+            times += [state.st_mtime_ns, state.st_ctime_ns, state.st_ino]
+        except OSError as error:
+            times.append(error.errno or 0)
+    return tuple(times)
+
+
+def seen(path: pathlib.Path) -> Seen:
+    """Reads a folder."""
+    times = times_of(path)
+    try:
+        return Seen(times, folder.address(path))
+    except OSError as error:
+        return Seen(times, wrong=str(error))
+
+
 class Lists:
     """The lists in a folder. Those that are there are served; of the others that were the addresses are known by their notes."""
 
-    def __init__(self, settings, take_up):
-        self.settings, self.take_up = settings, take_up
-        self.served = {}      # lists, by their folders
-        self.addresses = {}   # of lists that are served or have notes, by the folder's name
-        self.by_address = {}  # a list, or why it can't be served
-        self.trouble = {}     # what is wrong, by the folder's name
-        self.seen = None      # when the folder of lists was changed last before it was looked at
-        self.is_unsure = False  # whether a list may be there whose address isn't known
+    def __init__(self, chosen: settings.Settings, take_up: Callable[[pathlib.Path], mailing.MailingList]) -> None:
+        self.settings, self.take_up = chosen, take_up
+        self.threads = aside.Aside()
+        self.served: dict[pathlib.Path, mailing.MailingList] = {}
+        self.addresses: dict[str, notes.Address] = {}  # of lists that are served or have notes, by the folder's name
+        self.by_address: dict[notes.Address, mailing.MailingList | str] = {}  # a list, or why it can't be served
+        self.others: dict[pathlib.Path, Seen] = {}  # folders that have no list, or can't be read
+        self.trouble: dict[str, str] = {}  # what is wrong, by the folder's name
+        self.stamp: Times | None = None    # of the folder of lists when it was looked at
+        self.looked = float('-inf')        # when it was last seen that nothing has changed
+        self.looking: asyncio.Task[None] | None = None
+        self.is_unsure = True  # whether a list may be there whose address isn't known
 
-    def live(self):
+    def live(self) -> list[mailing.MailingList]:
         """The lists that can be served now."""
         return [found for found in self.by_address.values() if not isinstance(found, str)]
 
-    def stamp(self):
-        try:
-            return self.settings.lists.stat().st_mtime_ns
-        except OSError:
-            return None
-
-    def find(self, recipient):
+    async def find(self, recipient: bytes) -> Named | None:
         """The list that a recipient names, with the rest of its address, or None. It is Unavailable if the list can't be served now."""
-        if self.seen is None or self.seen != self.stamp():
-            self.look()
+        found = named_by(recipient, self.by_address)
+        if found is None or isinstance(found[0], str):
+            await self.refreshed()
+        elif time.monotonic() - self.looked > FRESH:
+            await asyncio.wait([self.refreshing()], timeout=SOON)
         found = named_by(recipient, self.by_address)
         if found is None and self.is_unsure:
             raise Unavailable('a list can\'t be read, and it may be the one of this address')
@@ -62,50 +106,101 @@ class Lists:
             return None
         if isinstance(found[0], str):
             raise Unavailable(found[0])
-        return Named(*found)
+        return Named(found[0], found[1])
 
-    def look(self, again=False):
-        """Looks which lists are there. One that is served is only looked at again where that is asked for."""
-        stamp, trouble = self.stamp(), {}
-        found = self.found(again, trouble)
-        is_whole = found.pop(None, None) is None
-        remembered = self.remembered()
-        self.is_unsure = bool(trouble.keys() - remembered.keys())
-        self.by_address = {address: f'the list {name} can\'t be read now' for name, address in remembered.items()}
-        for address, paths in found.items():
-            self.by_address[address] = self.one_of(paths, address, trouble)
-        self.tell(trouble)
-        self.seen = stamp if is_whole and not trouble else None
+    # What changes in the folder of lists.
 
-    def found(self, again, trouble):
-        """The folders by the addresses of their lists; by None those of no list."""
+    def refreshing(self) -> 'asyncio.Task[None]':
+        """The look that goes on, or a new one."""
+        if self.looking is None or self.looking.done():
+            self.looking = asyncio.create_task(self.look_where_changed())
+        return self.looking
+
+    async def refreshed(self) -> None:
+        """Ends when a look has that begins now or later: what is made before this is called is seen."""
+        if self.looking is not None and not self.looking.done():
+            await asyncio.wait([self.looking])
+        await asyncio.wait([self.refreshing()])
+
+    async def look_where_changed(self) -> None:
+        begun = time.monotonic()
+        if await self.is_changed():
+            await self.look()
+        self.looked = begun
+
+    async def is_changed(self) -> bool:
+        """Whether the folder of lists is another than before, or a folder in it that has no list or couldn't be read."""
+        known = {path: other.times for path, other in self.others.items() if other.times is not None}
         try:
-            folders = sorted(path for path in self.settings.lists.iterdir() if path.is_dir())
+            stamp, times = await self.threads.call('lists', self.stamps, list(known))
+        except OSError:
+            return self.stamp is not None
+        return stamp is None or stamp != self.stamp or times != known
+
+    def stamps(self, paths: Iterable[pathlib.Path]) -> tuple[Times | None, dict[pathlib.Path, Times]]:
+        try:
+            state = self.settings.lists.stat()
+        except OSError:
+            return None, {}
+        return (state.st_mtime_ns, state.st_nlink, state.st_ino, state.st_dev), {path: times_of(path) for path in paths}
+
+    async def look(self, again: bool = False) -> None:
+        """Looks which lists are there. One that is served, and a folder that has none, are only read again where that is asked for."""
+        trouble: dict[str, str] = {}
+        try:
+            stamp, _ = await self.threads.call('lists', self.stamps, [])
+            paths = await self.threads.call('lists', self.folders)
         except OSError as error:
-            folders, trouble['.'] = [], str(error)
-        found = {}
-        for path in folders:
-            address = self.addresses[path.name] if path in self.served and not again else self.address(path, trouble)
-            found.setdefault(address, []).append(path)
+            stamp, paths, trouble['.'] = None, [], str(error)
+        found = await self.found(paths, again, trouble)
+        remembered, unknown = await self.threads.call('state', self.remembered, seconds=None)
+        trouble |= {name: 'its folder isn\'t there, and its notes don\'t tell its address' for name in unknown - {path.name for path in paths}}
+        self.is_unsure = bool(trouble.keys() - remembered.keys())
+        by_address: dict[notes.Address, mailing.MailingList | str] = {
+            address: f'the list {wire.printable(name)} can\'t be read now' for name, address in remembered.items()}
+        for address, folders in found.items():
+            by_address[address] = self.one_of(folders, address, trouble)
+        self.by_address, self.stamp = by_address, stamp
+        self.tell(trouble)
+
+    def folders(self) -> list[pathlib.Path]:
+        """What may be a list's folder. Nothing in it is looked at, as it may be of a disk that is gone."""
+        return sorted(path for path in self.settings.lists.iterdir() if path.name not in NONE)
+
+    async def found(self, paths: list[pathlib.Path], again: bool, trouble: dict[str, str]) -> dict[notes.Address, list[pathlib.Path]]:
+        """The folders by the addresses of their lists."""
+        turns = asyncio.Semaphore(AT_ONCE)
+
+        async def read(path: pathlib.Path) -> Seen:
+            if path in self.served and not again:
+                return Seen(None, self.addresses[path.name])
+            async with turns:
+                try:
+                    return await self.threads.call(path.name, seen, path)
+                except OSError as error:
+                    return Seen(None, wrong=str(error))
+        found: dict[notes.Address, list[pathlib.Path]] = {}
+        others: dict[pathlib.Path, Seen] = {}
+        for path, each in zip(paths, await asyncio.gather(*map(read, paths))):
+            if each.address is not None:
+                found.setdefault(each.address, []).append(path)
+                continue
+            others[path] = each
+            if each.wrong is not None:
+                trouble[path.name] = each.wrong
+        self.others = others
         return found
 
-    def address(self, path, trouble):
-        """The address of the list in a folder, or None."""
-        try:
-            return folder.address(path)
-        except OSError as error:
-            trouble[path.name] = str(error)
-            return None
-
-    def remembered(self):
-        """The addresses of the lists that were served, by the folders' names. The folder may be gone."""
+    def remembered(self) -> tuple[dict[str, notes.Address], set[str]]:
+        """The addresses of the lists that were served, by the folders' names, and the names whose address can't be told. The folder may be
+        gone."""
         names = {path.stem for path in self.settings.state.glob('*.sqlite')} | {path.name for path in self.served}
         for name in names - self.addresses.keys():
             if (address := notes.address(self.settings.state / f'{name}.sqlite')) is not None:
                 self.addresses[name] = address
-        return {name: self.addresses[name] for name in names if name in self.addresses}
+        return {name: self.addresses[name] for name in names if name in self.addresses}, names - self.addresses.keys()
 
-    def one_of(self, paths, address, trouble):
+    def one_of(self, paths: list[pathlib.Path], address: notes.Address, trouble: dict[str, str]) -> mailing.MailingList | str:
         """The list of an address, or why there is none. Of several folders the one is it that was served before: the others are copies."""
         known = [path for path in paths if path in self.served or (self.settings.state / f'{path.name}.sqlite').exists()]
         if len(paths) > 1:
@@ -118,9 +213,9 @@ class Lists:
         self.addresses[paths[0].name] = address
         return self.served[paths[0]]
 
-    def tell(self, trouble):
+    def tell(self, trouble: dict[str, str]) -> None:
         """Says what is wrong, once."""
         for name, why in trouble.items():
             if self.trouble.get(name) != why:
-                log.error('%s: %s', name, why)
+                log.error('%s: %s', wire.printable(name), wire.printable(why))
         self.trouble = trouble

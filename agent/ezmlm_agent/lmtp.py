@@ -1,58 +1,46 @@
 """Mail in, by LMTP (RFC 2033)."""
 
 import asyncio
+import re
+from collections.abc import Awaitable, Callable
 
-from . import lists, wire
+from . import lists, program, refusals, replies, wire
 
 LONGEST_MAIL = 33_554_432  # of a message, with LF at its lines' ends
+LONGEST_SENT = 2 * LONGEST_MAIL  # as it is sent, where an end of line is two bytes
 LONGEST_PATH = 1000
 MOST_RECIPIENTS = 1000
 MOST_SESSIONS = 1000
+PER_RECIPIENT = 500  # bytes of memory for each, beside its address
 LEAVING = 10  # seconds for who is told the last replies, when the agent stops
-REFUSALS = {
-    'toobig': '552 5.3.4 The message is longer than this list takes.',
-    'nosender': '550 5.7.1 The sender of the envelope is no address that this list can answer.',
-    'looped': '554 5.4.6 The message came from a mailing list already.',
-    'denied': '550 5.7.1 The sender may not post to this list.',
-    'nosubject': '554 5.6.0 The message has no subject.',
-    'command': '554 5.6.0 The subject is a command. Commands are addresses of their own: write to the list\'s -help address.',
-    'notaddressed': '554 5.6.0 Neither To nor Cc names this list.',
-    'usersonly': '550 5.7.2 Only those who are known to this list may post.',
-    'badcookie': '550 5.7.1 The letters of this address are wrong or too old. Ask for new ones.',
-    'gone': '550 5.7.1 The message that this address answers for waits no longer.',
-    'private': '550 5.7.2 This list doesn\'t give this to its senders.',
-    'full': '552 5.2.4 The list is full.',
-    'notours': '550 5.1.1 The list has no such address.',
-    'automatic': '550 5.7.1 This list takes no posts that a machine sent (Auto-Submitted).',
-}
+OFTEN = '450 4.7.1 This sender has asked the lists here for too many answers in the last hour; later.'
+CROWDED = '452 4.3.1 Too much mail waits; later.'
+SIZE = re.compile(rb'(?:^| )SIZE=(\d{1,20})(?: |$)', re.IGNORECASE)  # RFC 1870
 
-
-def reply_for(answer):
-    """What the transfer agent is told for an answer of the list."""
-    if answer.is_answer and answer.status == 0:
-        return f'250 2.0.0 {answer.words}'
-    if answer.is_answer and answer.words in REFUSALS:
-        return REFUSALS[answer.words]
-    return f'451 4.3.0 {answer.status} {answer.words}'
+Find = Callable[[bytes], Awaitable[lists.Named | None]]
 
 
 class Server:
     """What all connections share: the lists, and how much mail may wait in memory."""
 
-    def __init__(self, name, find, memory):
-        self.name, self.find, self.room = name, find, wire.Room(memory)
+    def __init__(self, name: str, find: Find, memory: int, answers: int) -> None:
+        self.name, self.find, self.room, self.replies = name, find, wire.Room(memory), replies.Replies(answers)
         self.stopping = False
-        self.sessions, self.answering = set(), set()
+        self.sessions: set[asyncio.Task[None]] = set()
+        self.answering: set[asyncio.Task[None]] = set()
 
-    async def serve(self, reader, writer):
+    async def serve(self, reader: asyncio.StreamReader, writer: asyncio.StreamWriter) -> None:
         if len(self.sessions) >= MOST_SESSIONS:
             writer.write(b'421 4.3.2 Too many connections.\r\n')
             return writer.close()
         session = Session(self, wire.Wire(reader, writer))
         task = asyncio.current_task()
+        assert task
         self.sessions.add(task)
         try:
             await session.talk()
+        except wire.TooLong:
+            writer.write(b'500 5.5.2 A line is longer than %d bytes.\r\n' % wire.LONGEST_LINE)
         except wire.Gone:
             pass
         except asyncio.CancelledError:
@@ -62,7 +50,7 @@ class Server:
             session.forget()
             writer.close()
 
-    async def stop(self):
+    async def stop(self) -> None:
         """Ends the connections: at once those that have given no mail, the others when it is answered."""
         self.stopping = True
         for task in self.sessions - self.answering:
@@ -76,19 +64,24 @@ class Server:
 class Session:
     """One connection."""
 
-    def __init__(self, server, connection):
+    def __init__(self, server: Server, connection: wire.Wire) -> None:
         self.server, self.wire = server, connection
+        self.is_greeted = False
         self.held = 0
-        self.commands = {b'LHLO': self.hello, b'MAIL': self.mail, b'RCPT': self.rcpt, b'DATA': self.data,
-                         b'RSET': self.reset, b'NOOP': self.noop}
+        self.counted = 0  # recipients that a list would answer, and that weren't answered yet
+        self.sender: bytes | None = None
+        self.recipients: list[tuple[lists.Named, bytes]] = []
+        self.commands: dict[bytes, Callable[[bytes], Awaitable[None]]] = {
+            b'LHLO': self.hello, b'MAIL': self.mail, b'RCPT': self.rcpt, b'DATA': self.data, b'RSET': self.reset, b'NOOP': self.noop}
         self.forget()
 
-    def forget(self):
+    def forget(self) -> None:
         """There is no mail in hand."""
-        self.sender, self.recipients, self.size = None, [], 0
+        self.server.replies.give_back(self.sender or b'', self.counted)
+        self.counted, self.sender, self.recipients, self.size = 0, None, [], 0
         self.give_room()
 
-    async def talk(self):
+    async def talk(self) -> None:
         await self.say(f'220 {self.server.name} LMTP ezmlm-agent')
         while not self.server.stopping:
             line = await self.wire.line()
@@ -98,34 +91,39 @@ class Session:
             await self.commands.get(word, self.unknown)(line)
         await self.say('421 4.3.2 The agent stops.')
 
-    async def say(self, *lines):
+    async def say(self, *lines: str) -> None:
         await self.wire.say(b''.join(line.encode('utf-8', 'replace') + b'\r\n' for line in lines))
 
-    async def unknown(self, _):
+    async def unknown(self, _: bytes) -> None:
         await self.say('500 5.5.1 Unknown command')
 
-    async def hello(self, _):
+    async def hello(self, _: bytes) -> None:
         self.forget()
-        await self.say(f'250-{self.server.name}', '250-PIPELINING', '250-8BITMIME', '250-SMTPUTF8', f'250-SIZE {2 * LONGEST_MAIL}',
+        self.is_greeted = True
+        await self.say(f'250-{self.server.name}', '250-PIPELINING', '250-8BITMIME', '250-SMTPUTF8', f'250-SIZE {LONGEST_SENT}',
                        '250 ENHANCEDSTATUSCODES')
 
-    async def noop(self, _):
+    async def noop(self, _: bytes) -> None:
         await self.say('250 2.0.0 Ok')
 
-    async def reset(self, _):
+    async def reset(self, _: bytes) -> None:
         self.forget()
         await self.say('250 2.0.0 Ok')
 
-    async def mail(self, line):
+    async def mail(self, line: bytes) -> None:
+        if not self.is_greeted:
+            return await self.say('503 5.5.1 LHLO comes first')
         if self.sender is not None:
             return await self.say('503 5.5.1 There is a sender already')
         sender = path_of(line)
         if sender is None:
             return await self.say(f'501 5.1.7 MAIL FROM:<address> of at most {LONGEST_PATH} bytes')
+        if declared_size(line) > LONGEST_SENT:
+            return await self.say(refusals.SENTENCES['toobig'])
         self.sender = sender
         await self.say('250 2.1.0 Ok')
 
-    async def rcpt(self, line):
+    async def rcpt(self, line: bytes) -> None:
         if self.sender is None:
             return await self.say('503 5.5.1 There is no sender')
         recipient = path_of(line)
@@ -134,55 +132,83 @@ class Session:
         if len(self.recipients) == MOST_RECIPIENTS:
             return await self.say('452 4.5.3 Too many recipients')
         try:
-            found = self.server.find(recipient)
+            found = await self.server.find(recipient)
         except lists.Unavailable as error:
             return await self.say(f'451 4.3.0 {error}')
         if found is None:
             return await self.say('550 5.1.1 There is no list of this address.')
+        if replies.is_answered(found.rest) and self.sender:
+            if not self.server.replies.take(self.sender):
+                return await self.say(OFTEN)
+            self.counted += 1
+        if not self.take_room(len(recipient) + PER_RECIPIENT):
+            return await self.say(CROWDED)
         self.recipients.append((found, recipient))
         await self.say('250 2.1.5 Ok')
 
-    def refusal(self, size):
+    def take_room(self, size: int) -> bool:
+        has_room = self.server.room.take(size)
+        self.held += size * has_room
+        return has_room
+
+    def refusal(self, size: int) -> str | None:
         """Why a further piece of a mail isn't taken, or None."""
         self.size += size
-        if self.size > 2 * LONGEST_MAIL:
-            return REFUSALS['toobig']
-        if self.server.room.take(size):
-            self.held += size
+        if self.size > LONGEST_SENT:
+            return refusals.SENTENCES['toobig']
+        if self.take_room(size):
             return None
         self.give_room()
-        return '452 4.3.1 Too much mail waits; later.'
+        return CROWDED
 
-    def give_room(self):
+    def give_room(self) -> None:
         self.server.room.give(self.held)
         self.held = 0
 
-    async def data(self, _):
+    async def data(self, _: bytes) -> None:
         if not self.recipients:
             return await self.say('503 5.5.1 There is no recipient')
         await self.say('354 End with a dot alone')
         sent, refused = await self.wire.mail(self.refusal)
-        message = b'' if refused else wire.with_line_feeds(sent)
+        message = wire.with_line_feeds(sent) if sent is not None else b''
         del sent
         if len(message) > LONGEST_MAIL:
-            refused = REFUSALS['toobig']
+            refused = refusals.SENTENCES['toobig']
         replies = [refused] * len(self.recipients) if refused else await self.answers(message)
         self.forget()
         await self.say(*replies)
 
-    async def answers(self, message):
-        """The lists' answers, which are waited for also when the agent stops."""
-        given = asyncio.gather(*(named.list.receive(self.sender, recipient, named.rest, message) for named, recipient in self.recipients))
-        task = asyncio.current_task()
+    async def answers(self, message: bytes) -> list[str]:
+        """The replies by the lists' answers, which are waited for also when the agent stops."""
+        sender, task = self.sender or b'', asyncio.current_task()
+        assert task
+        given = asyncio.gather(*(named.list.receive(sender, recipient, named.rest, message) for named, recipient in self.recipients))
         self.server.answering.add(task)
         try:
-            return [reply_for(answer) for answer in await given]
+            answers = await given
         finally:
             self.server.answering.discard(task)
+        rests = [named.rest for named, _ in self.recipients]
+        self.counted -= sum(replies.is_answered(rest) and is_mailed(answer) for rest, answer in zip(rests, answers)) if sender else 0
+        return [refusals.reply_for(answer, rest) for answer, rest in zip(answers, rests)]
 
 
-def path_of(line):
+def is_mailed(answer: program.Answer) -> bool:
+    """Whether a list has answered with a mail, as it does unless it refuses."""
+    return answer.is_answer and answer.status == 0 and not answer.words.startswith('weeded')
+
+
+def path_of(line: bytes) -> bytes | None:
     """The address of MAIL or RCPT as the list has it, or None where it is none or too long."""
     path = wire.PATH.fullmatch(line)
-    address = path and wire.unquoted(path[1])
-    return address if path and len(address) <= LONGEST_PATH else None
+    if path is None:
+        return None
+    address = wire.unquoted(path[1])
+    return address if len(address) <= LONGEST_PATH else None
+
+
+def declared_size(line: bytes) -> int:
+    """The bytes that MAIL says the message has, or 0 where it says none."""
+    path = wire.PATH.fullmatch(line)
+    found = SIZE.search(path[2] or b'') if path else None
+    return int(found[1]) if found else 0

@@ -2,111 +2,96 @@
 
 import asyncio
 import collections
-import dataclasses
-import hashlib
+import functools
 import logging
+import os
+import pathlib
 import time
-from typing import Callable
+import zlib
+from collections.abc import Callable
+from typing import TypeVar
 
-from . import folder, notes, outgoing, program, weed, wire
+from . import aside, folder, mails, notes, outgoing, program, retrying, weed, wire
 
+Result = TypeVar('Result')
 log = logging.getLogger('ezmlm-agent')
-MOST_MAILS, MOST_BYTES = 128, 8 << 20  # at once; a run with so many takes no more
 GATHERING = 0.02, 0.1  # seconds for which mails, and reports alone, wait for others
 HOUR, DAY = 3600, 86400
 OPEN = 1  # seconds for which a run goes while mail comes
 STEP = 512_000  # by which the floor may rise at once
-AGAIN = 60      # seconds until a list is tried again of which nothing could be read or written
+PATIENT = 5.0  # seconds for which a list without mail waits for its turn to begin, or for its timed run
+ENDING = 10    # seconds until a run that nobody waits for any more is ended, when the agent stops
 
 
-class Refused(Exception):
-    """The program can't do what the agent needs."""
-
-
-@dataclasses.dataclass
-class Mail:
-    sender: bytes
-    recipient: bytes
-    message: bytes
-    came: float
-    answer: asyncio.Future
-    number: int = 0
-
-    def key(self):
-        """What a mail is known by where it comes again. A recipient is the same in any case of letters."""
-        return hashlib.sha256(program.item(b'', self.sender, self.recipient.lower(), hashlib.sha256(self.message).digest())).digest()
-
-    def settle(self, answer):
-        if not self.answer.done():
-            self.answer.set_result(answer)
-
-
-@dataclasses.dataclass
-class Item:
-    text: bytes
-    settle: Callable[[program.Answer], None]  # told the answer, or why there is none
-
-
-@dataclasses.dataclass
-class Load:
-    """What a run was given so far."""
-    until: float
-    mails: int = 0
-    size: int = 0
-    stale: list = dataclasses.field(default_factory=list)  # keys of mails whose numbers are below the floor
-
-    def is_full(self):
-        return bool(self.stale) or self.mails >= MOST_MAILS or self.size >= MOST_BYTES or time.monotonic() > self.until
-
-
-class Patience:
-    """How long a list is tried again that another run has."""
-
-    def __init__(self, mailing_list):
-        self.list, self.until, self.pause = mailing_list, time.monotonic() + mailing_list.settings.patience, 0.05
-        self.is_told = False
-
-    async def lasts(self, status):
-        """Waits a little. The answer is whether it makes sense to try again."""
-        if self.list.stopping or time.monotonic() > self.until:
-            return False
-        if status == program.HELD and not self.is_told:
-            self.is_told = True
-            log.info('%s: another run has the list, or its disk failed; it is tried again', self.list.folder.name)
-        await asyncio.sleep(self.pause)
-        self.pause = min(2 * self.pause, 2)
-        return True
+def own_second(name: str) -> int:
+    """The second of the hour at which a list of this folder's name has its timed run."""
+    return zlib.crc32(os.fsencode(name)) % HOUR
 
 
 class MailingList:
-    def __init__(self, path, settings, runs, exchange, room):
-        self.folder, self.settings, self.program = path, settings, runs
+    def __init__(self, path: pathlib.Path, shared: mails.Shared) -> None:
+        self.folder, self.shared, self.settings, self.program = path, shared, shared.settings, shared.program
+        self.name = wire.printable(path.name)
+        self.threads = aside.Aside()
         self.turn = asyncio.Lock()  # one run of the program at once
         self.wake = asyncio.Event()
-        self.waiting = collections.deque()  # mails
-        self.notes = None
-        self.next_timed = 0.0
+        self.waiting: collections.deque[mails.Mail] = collections.deque()
+        self.expected = 0  # mails without an answer
+        self.notes: notes.Notes | None = None
+        self.is_due = False  # whether a timed run is
         self.stopping = self.ended = False
-        self.queue = outgoing.Queue(self, exchange, room)
+        self.health = retrying.Health(path, self.name, self.threads, self.wake.set)
+        self.said_out = retrying.Said(self.name, 'mail is handed on again')
+        self.running: program.Run | None = None
+        self.stuck = 0  # bytes in hand of a run that nobody waits for
+        self.queue = outgoing.Queue(self, shared.exchange, shared.room)
 
-    def start(self):
+    def start(self) -> None:
         self.task = asyncio.create_task(self.work())
         self.queue.start()
+        self.wait_for_hour()
+        self.wake.set()
 
-    def hurry(self):
+    def wait_for_hour(self) -> None:
+        """A timed run is due each hour, at a second that is the list's own: so those of many lists don't come at once."""
+        seconds = (own_second(self.folder.name) - time.time()) % HOUR
+        self.hour = asyncio.get_running_loop().call_later(seconds or HOUR, self.strike)
+
+    def strike(self) -> None:
+        self.is_due = True
+        self.wake.set()
+        self.wait_for_hour()
+
+    def hurry(self) -> None:
         """No more is handed on but what is in hand, and a list that another run has isn't waited for."""
         self.stopping = True
         self.queue.changed.set()
 
-    async def stop(self):
-        """Ends behind what is in hand. No more mail may come."""
+    async def stop(self) -> None:
+        """Ends after what is in hand. No more mail may come."""
         self.hurry()
+        self.hour.cancel()
         await self.queue.task
         self.ended = True
         self.wake.set()
+        await asyncio.wait([self.task], timeout=ENDING)
+        if self.running:
+            program.kill(self.running.process)
         await self.task
 
-    async def receive(self, sender, recipient, rest, message):
+    def abandon(self) -> None:
+        """Leaves what hangs."""
+        self.health.again.worked()
+        if self.running:
+            program.kill(self.running.process)
+
+    def is_stuck(self) -> bool:
+        """Whether something of the list's hangs when the agent has ended."""
+        return not self.task.done() or not self.queue.task.done() or bool(self.queue.in_hand)
+
+    # Mail that comes.
+
+    async def receive(self, sender: bytes, recipient: bytes, rest: bytes | None, message: bytes) -> program.Answer:
         """The answer to a mail that came in for LOCAL-REST@HOST, or LOCAL@HOST if the rest is None. What is weeded isn't given to the list."""
         place = weed.place_of(None if rest is None else rest.decode('latin-1'))
         why = None
@@ -117,22 +102,38 @@ class MailingList:
             why = program.Answer(0, f'weeded {word}')
         if why is None:
             return await self.deliver(sender, recipient, message)
-        log.info('%s - %s %s: %s', self.folder.name, wire.shown(sender), wire.shown(recipient), why.words)
+        log.info('%s - %s %s: %s', self.name, wire.shown(sender), wire.shown(recipient), why.words)
         return why
 
-    async def deliver(self, sender, recipient, message):
-        """The list's answer to a mail, or why there is none."""
-        mail = Mail(sender, recipient, message, time.monotonic(), asyncio.get_running_loop().create_future())
+    async def deliver(self, sender: bytes, recipient: bytes, message: bytes) -> program.Answer:
+        """The list's answer to a mail, or why there is none `patience` seconds after it came. What the list answers later is kept under the
+        mail's number, and told when it comes again."""
+        mail = mails.Mail(sender, recipient, message, time.monotonic(), asyncio.get_running_loop().create_future())
         self.waiting.append(mail)
+        self.expected += 1
         self.wake.set()
-        answer = await mail.answer
-        log.info('%s %d %s %s: %d %s, %d ms', self.folder.name, mail.number, wire.shown(sender), wire.shown(recipient),
+        await asyncio.wait([mail.answer], timeout=self.settings.patience)
+        self.expected -= 1
+        if not mail.answer.done():
+            self.give_up(mail)
+        answer = mail.answer.result()
+        log.info('%s %d %s %s: %d %s, %d ms', self.name, mail.number, wire.shown(sender), wire.shown(recipient),
                  answer.status, answer.words, 1000 * (time.monotonic() - mail.came))
         return answer
 
+    def give_up(self, mail: mails.Mail) -> None:
+        """Nobody waits for a mail any more. Where a run has it in hand its bytes count, so that runs which hang don't fill the memory."""
+        mail.settle(self.health.ending())
+        if mail in self.waiting:
+            self.waiting.remove(mail)
+        elif self.running and self.shared.stuck.take(len(mail.message)):
+            self.stuck += len(mail.message)
+        elif self.running:
+            program.kill(self.running.process)
+
     # What the list is given.
 
-    async def work(self):
+    async def work(self) -> None:
         """Gives the list what waits, as long as there is an agent. Nothing else gives it items."""
         last = False
         while not last:
@@ -141,133 +142,172 @@ class MailingList:
             last = self.ended
             if not self.stopping:
                 await asyncio.sleep(GATHERING[not self.waiting])
-            mails = self.take()
-            try:
-                await self.begin()
-                await self.give(mails)
-            except Exception as error:
-                self.fail(mails, error)
+            if self.waiting or self.stopping:
+                await self.work_once()
+            else:
+                async with aside.within(self.shared.gentle, PATIENT):
+                    await self.work_once()
             if self.waiting:
                 self.wake.set()
             self.queue.changed.set()
 
-    def again(self):
-        asyncio.get_running_loop().call_later(AGAIN, self.wake.set)
+    async def work_once(self) -> None:
+        batch = self.take()
+        try:
+            opened = await self.begin()
+            await self.give(opened, [mail for mail in batch if mail.is_wanted()])
+        except Exception as error:
+            await self.fail(batch, error)
 
-    def take(self):
+    def take(self) -> list[mails.Mail]:
         """The first mails that wait, as many as one run gets."""
-        mails, size = [], 0
-        while self.waiting and len(mails) < MOST_MAILS and (not mails or size + len(self.waiting[0].message) <= MOST_BYTES):
-            mails.append(self.waiting.popleft())
-            size += len(mails[-1].message)
-        return mails
+        batch: list[mails.Mail] = []
+        size = 0
+        while self.waiting and len(batch) < mails.MOST_MAILS and (not batch or size + len(self.waiting[0].message) <= mails.MOST_BYTES):
+            batch.append(self.waiting.popleft())
+            size += len(batch[-1].message)
+        return batch
 
-    async def begin(self):
-        """Opens the notes; no number is drawn that the list has answered. The program isn't run where there is no list."""
-        if (address := folder.address(self.folder)) is None:
-            raise Refused('there is no list')
-        if self.notes is not None:
-            return
-        behind, entries = await self.reading(lambda path: (folder.behind_answers(path), folder.queue(path)))
-        opened = await asyncio.to_thread(notes.Notes, self.settings.state / f'{self.folder.name}.sqlite')
-        await opened.begin(address, behind, entries)
-        self.notes = opened
+    async def aside(self, call: Callable[..., Result], *words: object) -> Result:
+        """What a call reads of the list's folder. It is aside.Blocked if it takes too long."""
+        return await self.threads.call('folder', call, *words)
 
-    async def reading(self, call):
-        """What a call reads of the list's files, with nothing left in its log: any run of the program sees to that."""
-        patience = Patience(self)
+    async def begin(self) -> notes.Notes:
+        """The list's notes, which it opens at first; no number is drawn that the list has answered. The program isn't run where there is no
+        list."""
+        if (address := await self.free()) is None:
+            raise retrying.Refused('there is no list')
+        if self.notes is None:
+            behind, entries = await self.reading(lambda path: (folder.behind_answers(path), folder.queue(path)))
+            opened, done = await self.threads.call('notes', notes.opened, self.settings.state / f'{self.folder.name}.sqlite', seconds=None)
+            if done:
+                log.error('%s: %s', self.name, done)
+            await opened.begin(address, behind, entries)
+            self.notes = opened
+        return self.notes
+
+    async def free(self) -> notes.Address | None:
+        """The list's address, when no other run has it: the program would wait for that, and nobody would know what for."""
+        patience = retrying.Patience(self)
         while True:
+            try:
+                return await self.aside(folder.free, self.folder)
+            except folder.Held as error:
+                if not await patience.lasts(program.HELD):
+                    raise retrying.Refused(str(error), await self.health.find(program.Ending(program.HELD, 'disk'))) from error
+
+    async def reading(self, call: Callable[[pathlib.Path], Result]) -> Result:
+        """What a call reads of the list's files, with nothing left in its log: any run of the program sees to that."""
+        patience = retrying.Patience(self)
+        while True:
+            words = 'disk'
             async with self.turn:
                 try:
-                    return await self.program.aside(folder.settled, self.folder, call)
+                    return await self.aside(folder.settled, self.folder, call)
                 except folder.Held:
                     status = program.HELD
                 except folder.Unsettled:
-                    status, _ = await self.program.run(self.folder, *program.SETTLES)
+                    status, text = await self.program.run(self.folder, *program.SETTLES)
+                    words = text.decode('ascii', 'replace').partition(str(status))[2].strip()
             if status not in (0, 100, program.HELD) or not await patience.lasts(status):
-                raise Refused(f'the list can\'t be read ({status})')
+                raise retrying.Refused(f'{status} {words}', await self.health.find(program.Ending(status, words)))
 
-    async def give(self, mails):
+    async def give(self, opened: notes.Notes, batch: list[mails.Mail]) -> None:
         """One run of the program: these mails, what comes while it goes, and what else the list is to be told."""
-        self.load = Load(time.monotonic() + OPEN)
+        self.load = mails.Load(time.monotonic() + OPEN)
         now = int(time.time())
-        items = await self.items(mails)
-        items += [Item(program.item(b'S', 0, now, entry), self.reported(entry)) for entry in self.queue.handed_on]
-        if time.monotonic() >= self.next_timed and not self.stopping:
-            self.next_timed = time.monotonic() + HOUR
-            items += await self.timed(now)
-        await self.run(items)
+        items = await self.items(opened, batch)
+        items += [program.Item(program.item(b'S', 0, now, entry), functools.partial(self.reported, entry)) for entry in self.queue.handed_on]
+        if self.is_due and not self.stopping:
+            self.is_due = False
+            items += await self.timed(opened, now)
+        await self.run(opened, items)
         if self.load.stale:
-            await self.notes.forget(self.load.stale, await self.reading(folder.behind_answers))
+            await opened.forget(self.load.stale, await self.reading(folder.behind_answers))
 
-    async def more(self):
+    async def more(self, opened: notes.Notes) -> list[program.Item]:
         """Items of the mails that came while a run goes, for a second at most."""
         if not self.waiting:
             await asyncio.sleep(GATHERING[0])
         if self.stopping or self.load.is_full():
             return []
-        mails = self.take()
+        return await self.joining(opened)
+
+    async def joining(self, opened: notes.Notes) -> list[program.Item]:
+        """Items of the mails that came meanwhile."""
+        batch = self.take()
         try:
-            return await self.items(mails)
+            return await self.items(opened, batch)
         except Exception as error:
-            self.fail(mails, error)
+            await self.fail(batch, error)
             return []
 
-    def fail(self, mails, error):
-        """Whatever it is, the mail comes again, and the other lists go on."""
-        log.error('%s: %s: %s', self.folder.name, type(error).__name__, error)
-        self.again()
-        for mail in mails:
-            mail.settle(program.Ending(75, 'the agent can\'t write its notes or read the list'))
-
-    async def items(self, mails):
+    async def items(self, opened: notes.Notes, batch: list[mails.Mail]) -> list[program.Item]:
         """The items of mails, each under its number."""
-        keys = [mail.key() for mail in mails]
+        keys = [mail.key() for mail in batch]
         left = frozenset(self.queue.left)
-        for mail, number in zip(mails, await self.notes.numbers(keys, left)):
+        for mail, number in zip(batch, await opened.numbers(keys, left)):
             mail.number = number
         self.queue.left -= left
         now = int(time.time())
-        self.load.mails += len(mails)
-        self.load.size += sum(len(mail.message) for mail in mails)
-        return [Item(program.item(b'D', mail.number, now, mail.sender, mail.recipient, mail.message), self.delivered(mail, key))
-                for mail, key in zip(mails, keys)]
+        self.load.mails += len(batch)
+        self.load.size += sum(len(mail.message) for mail in batch)
+        return [program.Item(program.item(b'D', mail.number, now, mail.sender, mail.recipient, mail.message),
+                             functools.partial(self.delivered, mail, key), mail.is_wanted) for mail, key in zip(batch, keys)]
 
-    async def run(self, items):
-        """Gives the list these items, again those that got no answer while another run has it."""
-        patience = Patience(self)
+    async def run(self, opened: notes.Notes, items: list[program.Item]) -> None:
+        """Gives the list these items, again those that got no answer while another run has it, and with them what comes meanwhile."""
+        patience = retrying.Patience(self)
+        more = functools.partial(self.more, opened)
         while items:
             async with self.turn:
-                items, ending = await self.program.spool(self.folder, items, self.more)
-            if items and (ending.status != program.HELD or not await patience.lasts(ending.status)):
-                log.error('%s: %d %s', self.folder.name, ending.status, ending.words)
+                items, ending = await self.program.spool(self.folder, items, more, self.began)
+                self.began(None)
+            if not items:
+                return self.health.works()
+            if ending.status != program.HELD or not await patience.lasts(ending.status):
+                await self.health.ended(ending)
                 for item in items:
                     item.settle(ending)
                 return
+            items = [item for item in items if item.is_wanted()] + await self.joining(opened)
 
-    def delivered(self, mail, key):
-        def settle(answer):
-            if answer.words == 'stale':  # The floor was raised by hand. The mail gets a number above it when it comes again.
-                self.load.stale.append(key)
-                answer = program.Ending(75, answer.words)
-            mail.settle(answer)
-        return settle
+    def began(self, run: program.Run | None) -> None:
+        """Which run the list has, and no bytes that nobody waits for."""
+        self.running = run
+        self.shared.stuck.give(self.stuck)
+        self.stuck = 0
 
-    def reported(self, entry):
-        def settle(answer):
-            if answer.is_answer:
-                self.queue.has_left(entry)
-            else:
-                self.again()
-        return settle
+    def delivered(self, mail: mails.Mail, key: bytes, answer: program.Answer) -> None:
+        if answer.words == 'stale':  # The floor was raised by hand. The mail gets a number above it when it comes again.
+            self.load.stale.append(key)
+            answer = program.Ending(75, answer.words)
+        mail.settle(answer)
 
-    async def timed(self, now):
+    def reported(self, entry: int, answer: program.Answer) -> None:
+        if answer.is_answer:
+            self.queue.has_left(entry)
+
+    async def timed(self, opened: notes.Notes, now: int) -> list[program.Item]:
         """A timed run, and the floor: mails that can't come again are forgotten, by the notes and then by the list."""
-        def settle(answer):
-            log.info('%s: %d %s', self.folder.name, answer.status, answer.words)
-            if not answer.is_answer:
-                self.next_timed = time.monotonic() + AGAIN
-        lowest = await self.notes.forget_before(now - self.settings.keep_days * DAY)
-        floor = folder.floor(self.folder)
+        def settle(answer: program.Answer) -> None:
+            log.info('%s: %d %s', self.name, answer.status, answer.words)
+            self.is_due = self.is_due or not answer.is_answer
+        lowest = await opened.forget_before(now - self.settings.keep_days * DAY)
+        floor = await self.aside(folder.floor, self.folder)
         floors = [*range(floor + STEP, lowest, STEP), lowest] if lowest > max(floor, notes.FIRST) else []
-        return [Item(program.item(b'T', 0, now), settle), *(Item(program.item(b'F', 0, now, floor), settle) for floor in floors)]
+        return [program.Item(program.item(b'T', 0, now), settle),
+                *(program.Item(program.item(b'F', 0, now, floor), settle) for floor in floors)]
+
+    async def fail(self, batch: list[mails.Mail], error: Exception) -> None:
+        """Whatever it is, the mail comes again, and the other lists go on."""
+        ending = await self.health.failed(error, self.settings.state)
+        self.heed(error)
+        for mail in batch:
+            mail.settle(ending)
+
+    def heed(self, error: BaseException) -> None:
+        """Lets notes go that are damaged: they are opened anew, and set aside then."""
+        if notes.is_damage(error) and self.notes is not None:
+            self.notes = None
+            self.wake.set()

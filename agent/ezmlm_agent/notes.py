@@ -6,8 +6,13 @@ place, a mail that comes again may count twice, and a copy may go out twice; non
 
 import asyncio
 import contextlib
+import pathlib
 import sqlite3
 import time
+from collections.abc import Callable, Collection, Iterable, Sequence
+from typing import Any
+
+from . import aside
 
 TABLES = '''
     PRAGMA journal_mode = WAL;
@@ -21,32 +26,87 @@ TABLES = '''
 '''
 FIRST = 512  # the smaller numbers are free for who gives items by hand
 
+COLUMNS = 'key, number, first FROM mail', 'number FROM next', 'entry, mark, recipients FROM handed', 'local, host FROM list'
+DAMAGE = sqlite3.SQLITE_CORRUPT, sqlite3.SQLITE_NOTADB
 
-def address(path):
+Address = tuple[bytes, bytes]  # LOCAL and HOST of a list, in lower case
+Execute = Callable[..., sqlite3.Cursor]
+
+
+def address(path: pathlib.Path) -> Address | None:
     """The address of the list that a file of notes is of, or None where it can't be told."""
     try:
         with contextlib.closing(sqlite3.connect(f'{path.absolute().as_uri()}?mode=ro', uri=True)) as database:
-            return database.execute('SELECT local, host FROM list').fetchone()
+            row: Address | None = database.execute('SELECT local, host FROM list').fetchone()
+            return row
     except sqlite3.Error:
         return None
 
 
+class Damaged(sqlite3.DatabaseError):
+    """The notes aren't what the agent wrote."""
+
+
+def faults(database: sqlite3.Connection) -> str:
+    """What is wrong with notes, or nothing. All of them is read."""
+    found = database.execute('PRAGMA quick_check(1)').fetchone()[0]
+    try:
+        for columns in COLUMNS:
+            database.execute(f'SELECT {columns} LIMIT 1').fetchone()
+    except sqlite3.OperationalError as error:
+        return str(error)
+    return '' if found == 'ok' else str(found)
+
+
+def is_damage(error: BaseException) -> bool:
+    return isinstance(error, Damaged) or getattr(error, 'sqlite_errorcode', 0) & 0xff in DAMAGE
+
+
+def opened(path: pathlib.Path) -> tuple['Notes', str]:
+    """Notes that are opened, and what was done with them where they were damaged: they are set aside then, and begun anew."""
+    try:
+        return Notes(path), ''
+    except sqlite3.DatabaseError as error:
+        if not is_damage(error):
+            raise
+        to = set_aside(path)
+        return Notes(path), f'its notes were damaged ({error}), and are set aside as {to}; mail that comes again may count twice'
+
+
+def set_aside(path: pathlib.Path) -> pathlib.Path:
+    """Gives notes another name, with the files that SQLite has beside them."""
+    to = path.with_name(f'{path.name}.bad-{time.strftime("%Y%m%dT%H%M%S")}')
+    for end in ('-wal', '-shm', ''):
+        with contextlib.suppress(FileNotFoundError):
+            path.with_name(path.name + end).rename(to.with_name(to.name + end))
+    return to
+
+
 class Notes:
-    def __init__(self, path):
+    """Notes that are open. Their changes go in threads, one at once."""
+
+    def __init__(self, path: pathlib.Path) -> None:
         self.database = sqlite3.connect(path, isolation_level=None, check_same_thread=False, timeout=30)
-        self.database.executescript(TABLES)
+        try:
+            self.database.executescript(TABLES)
+            if why := faults(self.database):
+                raise Damaged(why)
+        except BaseException:
+            self.database.close()
+            raise
         self.turn = asyncio.Lock()
-        self.unwritten = []
-        self.handed = {}  # by entry and its mark, the recipients
+        self.threads = aside.Aside()
+        self.unwritten: list[tuple[int, bytes, bytes]] = []
+        self.handed: dict[tuple[int, bytes], set[bytes]] = {}  # by entry and its mark, the recipients
         for entry, mark, recipients in self.database.execute('SELECT * FROM handed'):
             self.handed.setdefault((entry, mark), set()).update(recipients.split(b'\0'))
 
-    async def change(self, call, *words):
+    async def change(self, call: Callable[..., Any], *words: Any) -> Any:
         """Makes one transaction of a call."""
         async with self.turn:
-            return await asyncio.to_thread(self.transaction, call, *words)
+            return await self.threads.call('notes', self.transaction, call, *words, seconds=None)
 
-    def transaction(self, call, *words):
+    def transaction(self, call: Callable[..., Any], *words: Any) -> Any:
         self.database.execute('BEGIN IMMEDIATE')
         try:
             result = call(self.database.execute, *words)
@@ -57,9 +117,9 @@ class Notes:
                 self.database.execute('ROLLBACK')
             raise
 
-    async def begin(self, address, behind, entries):
+    async def begin(self, address: Address, behind: int, entries: Collection[int]) -> None:
         """A start: whose notes these are, that no number below `behind` is drawn, and which entries there still are."""
-        def begin(run):
+        def begin(run: Execute) -> None:
             run('DELETE FROM list')
             run('INSERT INTO list VALUES (?, ?)', address)
             run('UPDATE next SET number = max(number, ?)', (behind,))
@@ -69,15 +129,15 @@ class Notes:
 
     # Numbers.
 
-    async def numbers(self, keys, left):
+    async def numbers(self, keys: Sequence[bytes], left: Collection[int]) -> list[int]:
         """The number of each mail: the one that it had, or the next one. The copies of entries that left the queue are forgotten."""
         if not keys and not left:
             return []
-        numbers = await self.change(self.draw, keys, left)
+        numbers: list[int] = await self.change(self.draw, keys, left)
         self.handed = {copies: recipients for copies, recipients in self.handed.items() if copies[0] not in left}
         return numbers
 
-    def draw(self, run, keys, left):
+    def draw(self, run: Execute, keys: Sequence[bytes], left: Collection[int]) -> list[int]:
         (following,) = run('SELECT number FROM next').fetchone()
         numbers = []
         for key in keys:
@@ -90,39 +150,40 @@ class Notes:
         self.forget_copies(run, left)
         return numbers
 
-    def forget_copies(self, run, entries):
+    def forget_copies(self, run: Execute, entries: Iterable[int]) -> None:
         for entry in entries:
             run('DELETE FROM handed WHERE entry = ?', (entry,))
 
-    async def forget(self, keys, behind):
+    async def forget(self, keys: Sequence[bytes], behind: int) -> None:
         """The mails of these keys get new numbers where they come again, and none below `behind`."""
-        def forget(run):
+        def forget(run: Execute) -> None:
             for key in keys:
                 run('DELETE FROM mail WHERE key = ?', (key,))
             run('UPDATE next SET number = max(number, ?)', (behind,))
         await self.change(forget)
 
-    async def forget_before(self, moment):
+    async def forget_before(self, moment: float) -> int:
         """Forgets the mails that came first before this moment. The answer is the lowest number that a mail still has, or the next."""
-        def forget(run):
+        def forget(run: Execute) -> Any:
             run('DELETE FROM mail WHERE first < ?', (int(moment),))
             return run('SELECT coalesce(min(number), (SELECT number FROM next)) FROM mail').fetchone()[0]
-        return await self.change(forget)
+        lowest: int = await self.change(forget)
+        return lowest
 
     # Copies.
 
-    def handed_before(self, entry, mark):
+    def handed_before(self, entry: int, mark: bytes) -> Collection[bytes]:
         """To whom this entry was handed on."""
         return self.handed.get((entry, mark), frozenset())
 
-    async def hand(self, entry, mark, recipients):
+    async def hand(self, entry: int, mark: bytes, recipients: Sequence[bytes]) -> None:
         """Notes that an entry was handed on to these. In memory it holds at once, also where it can't be written."""
         if recipients:
             self.handed.setdefault((entry, mark), set()).update(recipients)
             self.unwritten.append((entry, mark, b'\0'.join(recipients)))
         await self.write()
 
-    async def write(self):
+    async def write(self) -> None:
         """Writes what isn't written yet of the copies. What several tasks note at once is one transaction."""
         if not self.unwritten:
             return
@@ -131,7 +192,12 @@ class Notes:
             if not rows:
                 return
             try:
-                await asyncio.to_thread(self.transaction, lambda run: [run('INSERT INTO handed VALUES (?, ?, ?)', row) for row in rows])
+                await self.threads.call('notes', self.transaction, insert, rows, seconds=None)
             except BaseException:
                 self.unwritten = rows + self.unwritten
                 raise
+
+
+def insert(run: Execute, rows: Iterable[tuple[int, bytes, bytes]]) -> None:
+    for row in rows:
+        run('INSERT INTO handed VALUES (?, ?, ?)', row)

@@ -2,23 +2,25 @@
 
 import asyncio
 import collections
-import concurrent.futures
 import contextlib
 import dataclasses
 import os
-import subprocess
+import pathlib
+from collections.abc import Awaitable, Callable
+
+from . import aside
 
 
-def netstring(content):
+def netstring(content: bytes) -> bytes:
     return b'%d:%b,' % (len(content), content)
 
 
-def item(letter, *elements):
+def item(letter: bytes, *elements: int | bytes) -> bytes:
     """One item of the stream. A number is an element by its digits."""
     return letter + b''.join(netstring(b'%d' % e if isinstance(e, int) else e) for e in elements)
 
 
-def netstrings(text):
+def netstrings(text: bytes) -> list[bytes]:
     """The contents of a row of netstrings. Another text is a ValueError."""
     at, contents = 0, []
     while at < len(text):
@@ -33,6 +35,7 @@ def netstrings(text):
 
 
 LONGEST_RUN = 600  # seconds; a run that is ended loses nothing that was answered
+WAITS = 0.25       # seconds for which a list waits for one of the runs that all share, before it gets one of its own
 HELD = 111         # another run has the list, or its disk failed
 FILLING = 15       # items behind the last one, by which it is committed and answered
 FILL = item(b'S', 0, 0, 10**15)  # an item that does nothing: the report of an entry that was never there
@@ -52,89 +55,108 @@ class Ending(Answer):
     is_answer = False
 
 
-def answer_of(line):
+@dataclasses.dataclass
+class Item:
+    """An item for a run: its bytes, what is told the answer or why there is none, and whether somebody still waits for that."""
+    text: bytes
+    settle: Callable[[Answer], None]
+    is_wanted: Callable[[], bool] = lambda: True
+
+
+More = Callable[[], Awaitable[list[Item]]]  # further items for a run, or none when it is to end
+
+
+def answer_of(line: bytes) -> Answer:
     """What a line of the program says. Another line is a ValueError."""
     _, status, words = line.decode('ascii', 'replace').split(' ', 2)
     return (Answer if status in ('0', '100') else Ending)(int(status), words)
 
 
 class Program:
-    """The program, run a few times at once. Each run goes in the list's folder: where that is gone there is no run, and none makes another
-    one in its place."""
+    """The program. Its runs share `runs` turns; a list that has waited for one gets a run of its own, so that runs which hang hold up no
+    other list. Each run goes in the list's folder: where that is gone there is no run, and none makes another one in its place."""
 
-    def __init__(self, path, runs):
+    def __init__(self, path: str, runs: int) -> None:
         self.path = os.path.abspath(path) if '/' in path else path
-        self.threads = concurrent.futures.ThreadPoolExecutor(runs, 'program')
-        self.free = asyncio.Semaphore(runs)
+        self.turns = asyncio.Semaphore(runs)
 
-    async def aside(self, call, *words):
-        """What a call answers that may take its time."""
-        return await asyncio.get_running_loop().run_in_executor(self.threads, call, *words)
-
-    async def run(self, folder, *words, given=b''):
+    async def run(self, folder: str | pathlib.Path, *words: str, given: bytes = b'') -> tuple[int, bytes]:
         """The status and the output of one run."""
-        return await self.aside(self.run_now, folder, words, given)
-
-    def run_now(self, folder, words, given):
-        try:
-            done = subprocess.run([self.path, '.', *words], cwd=folder, input=given, stdout=subprocess.PIPE, timeout=LONGEST_RUN)
-        except subprocess.TimeoutExpired as ended:
-            return 71, ended.stdout or b''
-        except OSError as error:
-            return 71, b'- 71 %b\n' % str(error).encode('ascii', 'replace')
-        return done.returncode, done.stdout
-
-    async def spool(self, folder, items, more):
-        """Gives one run items, each of which is told its answer as it comes, and then what `more` has, until it has nothing. The answer is
-        the items that got none, and why the run ended before them."""
-        async with self.free:
+        async with aside.within(self.turns, WAITS):
             try:
-                words = self.path, '.', 'spool'
-                process = await asyncio.create_subprocess_exec(*words, cwd=folder, stdin=subprocess.PIPE, stdout=subprocess.PIPE)
+                process = await self.begin(folder, *words)
+            except OSError as error:
+                return 71, b'- 71 %b\n' % str(error).encode('ascii', 'replace')
+            try:
+                async with asyncio.timeout(LONGEST_RUN):
+                    text, _ = await process.communicate(given)
+            except TimeoutError:
+                return 71, b'- 71 it took too long\n'
+            finally:
+                kill(process)
+            return process.returncode or 0, text
+
+    async def begin(self, folder: str | pathlib.Path, *words: str) -> asyncio.subprocess.Process:
+        return await asyncio.create_subprocess_exec(self.path, '.', *words, cwd=folder, stdin=asyncio.subprocess.PIPE,
+                                                    stdout=asyncio.subprocess.PIPE)
+
+    async def spool(self, folder: pathlib.Path, items: list[Item], more: More,
+                    began: Callable[['Run'], None] = lambda run: None) -> tuple[list[Item], Ending]:
+        """Gives one run items, each of which is told its answer as it comes, and then what `more` has, until it has nothing. The answer is
+        the items that got none, and why the run ended before them. `began` gets the run, by which it can be ended."""
+        async with aside.within(self.turns, WAITS):
+            try:
+                run = Run(await self.begin(folder, 'spool'))
             except OSError as error:
                 return items, Ending(71, str(error))
-            run = Run(process)
+            began(run)
             reading = asyncio.create_task(run.read())
             try:
                 async with asyncio.timeout(LONGEST_RUN):
                     await run.feed(items, more)
                     await reading
-                    await process.wait()
+                    await run.process.wait()
             except TimeoutError:
                 run.ending = Ending(71, 'it took too long')
             finally:
-                if process.returncode is None:
-                    process.kill()
-                await asyncio.gather(reading, process.wait())
-        return [item for item in run.given if item], run.ending or Ending(process.returncode, 'no answer')
+                kill(run.process)
+                await asyncio.gather(reading, run.process.wait())
+        return [item for item in run.given if item], run.ending or Ending(run.process.returncode or 0, 'no answer')
+
+
+def kill(process: asyncio.subprocess.Process) -> None:
+    if process.returncode is None:
+        with contextlib.suppress(ProcessLookupError):
+            process.kill()
 
 
 class Run:
     """A run of `spool` while it goes."""
 
-    def __init__(self, process):
-        self.process = process
-        self.given = collections.deque()  # items without an answer yet, and None for one that only fills up
+    def __init__(self, process: asyncio.subprocess.Process) -> None:
+        assert process.stdin and process.stdout
+        self.process, self.stdin, self.stdout = process, process.stdin, process.stdout
+        self.given: collections.deque[Item | None] = collections.deque()  # without an answer yet; None is one that only fills up
         self.left = 0  # items without an answer yet
-        self.ending = None
+        self.ending: Ending | None = None
         self.is_over = False
         self.answered = asyncio.Event()
 
-    async def read(self):
+    async def read(self) -> None:
         """Reads the answers to the end."""
         line = b''
         try:
-            async for line in self.process.stdout:
+            async for line in self.stdout:
                 self.told(answer_of(line.rstrip(b'\n')))
         except (ValueError, IndexError):
             self.ending = Ending(71, f'{line[:80]!a} is no answer')
         self.is_over = True
         self.answered.set()
 
-    def told(self, answer):
+    def told(self, answer: Answer) -> None:
         if self.ending:
             raise ValueError('a line behind the last one')
-        if not answer.is_answer:
+        if isinstance(answer, Ending):
             self.ending = answer
         elif item := self.given.popleft():
             item.settle(answer)
@@ -142,9 +164,8 @@ class Run:
             if not self.left:
                 self.answered.set()
 
-    async def feed(self, items, more):
+    async def feed(self, items: list[Item], more: More) -> None:
         """Gives items, and more when they are answered. The program answers sixteen at once, so the last ones need others behind them."""
-        stdin = self.process.stdin
         while items:
             self.answered.clear()
             self.left = len(items)
@@ -152,10 +173,10 @@ class Run:
             if self.is_over:
                 break
             with contextlib.suppress(OSError):  # It may be about to end, and says why.
-                stdin.write(b''.join(item.text for item in items) + FILL * FILLING)
-                await stdin.drain()
+                self.stdin.write(b''.join(item.text for item in items) + FILL * FILLING)
+                await self.stdin.drain()
             await self.answered.wait()
             items = [] if self.left else await more()
-        stdin.close()
+        self.stdin.close()
         with contextlib.suppress(OSError):
-            await stdin.wait_closed()
+            await self.stdin.wait_closed()

@@ -41,9 +41,11 @@ class Settings:
     runs: int = setting(int, 4)                 # of the program, at once
     memory: int = setting(int, 128)             # MiB of mail that wait at once, and as many that are handed on
     keep_days: int = setting(int, 15)           # how long a mail may come again: the transfer agent's queue lifetime and a margin
-    patience: int = setting(int, 300)           # seconds in which a list that another run holds is tried again
+    patience: int = setting(int, 30)            # seconds after which a mail that the list hasn't answered is put off
     weed: bool = setting(is_yes, True)          # whether mail that a machine sent is kept from return addresses and requests
     auto_posts: str = setting(posts, 'take')    # what is done with posts that a machine sent
+    replies: int = setting(int, 20)             # answers that one sender gets in an hour; 0 for any number
+    policy: str = setting(str, '')              # where Postfix asks what a list refuses by the envelope: as listen, or nowhere
 
 
 def read(path: str) -> Settings:
@@ -52,14 +54,19 @@ def read(path: str) -> Settings:
     try:
         with open(path, encoding='utf-8') as file:
             parser.read_file(file)
-        given = dict(parser['agent'])
-    except (OSError, configparser.Error, KeyError) as error:
-        raise ValueError(f'{path}: {error}') from error
+    except OSError as error:
+        raise ValueError(f'{path}: {error.strerror}') from error
+    except (configparser.Error, UnicodeError) as error:
+        raise ValueError(f'{path}: {" ".join(str(error).split())}') from error
+    if 'agent' not in parser:
+        raise ValueError(f'{path}: there is no section [agent]')
+    given = dict(parser['agent'])
     fields = {field.name: field for field in dataclasses.fields(Settings)}
     unknown = given.keys() - fields.keys()
     missing = {name for name, field in fields.items() if field.default is dataclasses.MISSING} - given.keys()
     if unknown or missing:
-        raise ValueError(f'{path}: unknown {sorted(unknown)}, missing {sorted(missing)}')
+        raise ValueError(f'{path}: ' + ', '.join(f'{what} {", ".join(sorted(names))}' for what, names in
+                                                (('unknown', unknown), ('missing', missing)) if names))
     try:
         chosen = Settings(**{name: fields[name].metadata['read'](value) for name, value in given.items()})
         check(chosen)
@@ -70,12 +77,15 @@ def read(path: str) -> Settings:
 
 def check(chosen: Settings) -> None:
     """A ValueError where a setting is out of its range."""
-    for name in ('batch', 'connections', 'runs', 'memory', 'keep_days'):
+    for name in ('batch', 'connections', 'runs', 'memory', 'keep_days', 'patience'):
         if getattr(chosen, name) < 1:
             raise ValueError(f'{name} is below 1')
     endpoint(chosen.mta)
-    if not is_near(chosen.listen):
-        raise ValueError(f'{chosen.listen} is not loopback, and whoever reaches the agent can give it mail')
+    if chosen.replies < 0:
+        raise ValueError('replies is below 0')
+    for address in (chosen.listen, chosen.policy):
+        if address and not is_near(address):
+            raise ValueError(f'{address} is not loopback, and whoever reaches the agent can give it mail')
 
 
 def is_near(address: str) -> bool:

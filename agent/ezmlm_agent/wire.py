@@ -2,6 +2,7 @@
 
 import asyncio
 import re
+from collections.abc import Callable
 
 LONGEST_LINE = 4096
 PIECE = 1 << 16
@@ -14,12 +15,21 @@ class Gone(Exception):
     """The other side hung up, kept quiet, or says what can't be read."""
 
 
-def shown(address):
+class TooLong(Gone):
+    """A line of the other side is longer than 4,096 bytes."""
+
+
+def printable(text: str) -> str:
+    """Words of a stranger as they stand in the log and in replies: nothing of them ends a line or moves a terminal's cursor."""
+    return ascii(text)[1:-1]
+
+
+def shown(address: bytes) -> str:
     """An address as it stands in the log."""
-    return ascii(address.decode('utf-8', 'surrogateescape'))[1:-1] or '<>'
+    return printable(address.decode('utf-8', 'surrogateescape')) or '<>'
 
 
-def unquoted(address):
+def unquoted(address: bytes) -> bytes:
     """An address as the list has it: without quotes (RFC 5321 4.1.2)."""
     local, at, host = address.rpartition(b'@')
     if local[:1] == local[-1:] == b'"' and len(local) > 1:
@@ -27,7 +37,7 @@ def unquoted(address):
     return local + at + host
 
 
-def quoted(address):
+def quoted(address: bytes) -> bytes:
     """An address as a transfer agent reads it: with quotes where the part before the @ has more than plain bytes."""
     local, at, host = address.rpartition(b'@')
     if at and not ATOM.fullmatch(local):
@@ -35,12 +45,12 @@ def quoted(address):
     return local + at + host
 
 
-def with_line_feeds(sent):
+def with_line_feeds(sent: bytes) -> bytes:
     """A mail with LF at its lines' ends from what is sent for it, which begins and ends with CR LF."""
     return sent.replace(b'\r\n.', b'\r\n')[2:].replace(b'\r\n', b'\n')
 
 
-def as_sent(mail):
+def as_sent(mail: bytes) -> bytes:
     """What is sent for a mail with LF at its lines' ends, the line that ends it too. A CR elsewhere stays."""
     text = (b'\n' + mail if mail.endswith(b'\n') else b'\n' + mail + b'\n').replace(b'\n', b'\r\n')
     return text.replace(b'\r\n.', b'\r\n..')[2:] + b'.\r\n'
@@ -49,28 +59,28 @@ def as_sent(mail):
 class Room:
     """Bytes of mail that may stand in memory at once."""
 
-    def __init__(self, size):
+    def __init__(self, size: int) -> None:
         self.size, self.taken = size, 0
 
-    def take(self, size):
+    def take(self, size: int) -> bool:
         """Whether there was room for so many more bytes, which is taken then. Where there is nothing else there always is."""
         if self.taken and self.taken + size > self.size:
             return False
         self.taken += size
         return True
 
-    def give(self, size):
+    def give(self, size: int) -> None:
         self.taken -= size
 
 
 class Wire:
     """A connection, read by lines and by mails."""
 
-    def __init__(self, reader, writer):
+    def __init__(self, reader: asyncio.StreamReader, writer: asyncio.StreamWriter) -> None:
         self.reader, self.writer = reader, writer
         self.read = bytearray()
 
-    async def fill(self, until):
+    async def fill(self, until: float) -> int:
         """Reads a piece before this moment of the loop's clock."""
         try:
             async with asyncio.timeout_at(until):
@@ -82,17 +92,17 @@ class Wire:
         self.read += more
         return len(more)
 
-    async def line(self, seconds=QUIET):
+    async def line(self, seconds: float = QUIET) -> bytes:
         until = asyncio.get_running_loop().time() + seconds
         while (end := self.read.find(b'\n')) < 0:
             if len(self.read) > LONGEST_LINE:
-                raise Gone('a line is too long')
+                raise TooLong('a line is too long')
             await self.fill(until)
         line = bytes(self.read[:end])
         del self.read[:end + 1]
         return line.rstrip(b'\r')
 
-    async def mail(self, refusal):
+    async def mail(self, refusal: Callable[[int], str | None]) -> tuple[bytes | None, str | None]:
         """What is sent for a mail, with CR LF before it, and None; or None, and the first refusal of one of its pieces."""
         refused = refusal(len(self.read))
         self.read[:0] = b'\r\n'
@@ -108,7 +118,7 @@ class Wire:
         del self.read[:end + 5]
         return sent, refused
 
-    async def say(self, text, seconds=QUIET):
+    async def say(self, text: bytes, seconds: float = QUIET) -> None:
         try:
             self.writer.write(text)
             async with asyncio.timeout(seconds):
@@ -116,5 +126,5 @@ class Wire:
         except OSError as error:
             raise Gone(str(error) or 'takes nothing') from error
 
-    def close(self):
+    def close(self) -> None:
         self.writer.close()

@@ -8,7 +8,7 @@ import pathlib
 import sys
 import traceback
 
-from . import killed, mail_in, mail_out, numbers, set_up, trouble, weeding
+from . import backscatter, beside, hosts, killed, mail_in, mail_out, numbers, set_up, trouble, weeding
 from .world import TOP, World, Wrong
 
 AT_ONCE = 4
@@ -17,7 +17,7 @@ AT_ONCE = 4
 def cases():
     """The cases by their names, the longest first."""
     found = {f'killed{part}': functools.partial(killed.case_killed, part=part) for part in range(killed.PARTS)}
-    for module in (mail_out, trouble, weeding, mail_in, numbers, set_up):
+    for module in (mail_out, beside, trouble, weeding, backscatter, hosts, mail_in, numbers, set_up):
         found.update({name.removeprefix('case_'): call for name, call in vars(module).items() if name.startswith('case_')})
     return found
 
@@ -57,7 +57,7 @@ def main():
     if not program.is_file() or not os.access(program, os.X_OK):
         sys.exit(f'agent: there is no program {program}: tools/install and .ci/run prove and build it, tests/quick without proof')
     if words.long:
-        killed.STRIDE[0], trouble.HELD[0] = 1, 60
+        killed.STRIDE[0], trouble.HELD[0], beside.MANY[0] = 1, 60, 3000
     failed, names = 0, [name for name in cases() if words.k in name]
     with concurrent.futures.ProcessPoolExecutor(AT_ONCE) as pool:
         runs = {pool.submit(run, name, program): name for name in names}

@@ -12,7 +12,7 @@ PARTS = 4  # which are run beside one another
 KILLED = '''
 import asyncio, os, signal, sys
 sys.path.insert(0, sys.argv[1])
-from ezmlm_agent import __main__, notes, program
+from ezmlm_agent import __main__, folder, notes, program
 left = [int(sys.argv[2])]
 def step():
     left[0] -= 1
@@ -29,7 +29,7 @@ def counted(call, behind):
     return counting
 asyncio.events.Handle._run = counted(asyncio.events.Handle._run, False)
 notes.Notes.transaction = counted(notes.Notes.transaction, True)
-program.Program.run_now = counted(program.Program.run_now, True)
+folder.settled = counted(folder.settled, True)
 program.answer_of = counted(program.answer_of, True)
 __main__.main(sys.argv[3:])
 '''

@@ -148,6 +148,7 @@ def case_many_at_once(world):
 
 def case_large_mail(world):
     """A mail of 16 MB is posted where the list takes it; one that is longer than any list takes is refused, to the byte."""
+    world.rows['patience'] = 600  # A program that was built without proof takes its time.
     world.list(words=['--max', '16777216'])
     world.begin()
     line = 'x' * 70 + '\n'

@@ -6,7 +6,7 @@ import signal
 import threading
 import time
 
-from .world import HOST, MEMBERS, Client, begins, check, post, same, until
+from .world import HASTY, HOST, MEMBERS, Client, begins, check, post, same, until
 
 
 def case_given_again(world):
@@ -53,7 +53,6 @@ def case_lost_answers(world):
     world.list()
     world.stands_in()
     world.begin()
-    check(world.tells('timed'), 'there was no timed run')
     for n, word in enumerate(('lose', 'kill', 'mute', 'babble', 'bad', 'lose'), 1):
         check(world.is_out(3 * n - 3) and world.posts() == n - 1, 'the list is not at rest')
         (world.place / word).touch()
@@ -136,7 +135,7 @@ def case_forgotten(world):
     world.end()
     world.notes('UPDATE mail SET first = first - 15 * 86400 - 10 WHERE number < 514',
                 'UPDATE mail SET first = first - 15 * 86400 + 900 WHERE number = 514')
-    world.begin()
+    world.begin(words=HASTY)
     floor = world.folder() / 'floor'
     check(until(lambda: floor.exists() and floor.read_text() == '514\n'), 'the floor did not rise')
     same(world.run('cats', 'sub', '513', 'list', 'x@y').split()[2], 'stale', 'an answer below the floor')
@@ -156,7 +155,7 @@ def case_forgotten_in_order(world):
     world.end()
     # The notes forgot the mail, and the list still has its answer.
     world.notes('DELETE FROM mail')
-    world.begin()
+    world.begin(words=HASTY)
     same(world.post(1), '250 2.0.0 posted 2', 'one that was forgotten counts again')
     floor = world.folder() / 'floor'
     check(until(lambda: floor.exists() and floor.read_text() == '513\n'), 'the floor did not rise')
@@ -171,7 +170,7 @@ def case_floor_in_steps(world):
     check(world.is_out(3), 'it did not go out')
     world.end()
     world.notes('DELETE FROM mail', 'UPDATE next SET number = 1500000')
-    world.begin()
+    world.begin(words=HASTY)
     floor = world.folder() / 'floor'
     check(until(lambda: floor.exists() and floor.read_text() == '1500000\n'), 'the floor did not rise')
     same(world.post(2), '250 2.0.0 posted 2', 'a new one')

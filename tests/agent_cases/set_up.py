@@ -6,23 +6,13 @@ import socket
 import subprocess
 
 from .sink import Sink
-from .world import HOST, TOP, Client, check, post, same
-
-# The agent whose hours and minutes are short.
-HASTY = '''
-import sys
-sys.path.insert(0, sys.argv[1])
-from ezmlm_agent import __main__, mailing
-__main__.LOOKS, mailing.HOUR = 0.05, 0
-__main__.main(sys.argv[2:])
-'''
-
+from .world import HASTY, HOST, TOP, Client, check, post, same
 
 def case_by_itself(world):
     """Each hour there is a timed run of each list, and what somebody else gave the list to send goes out within a minute."""
     for name in ('cats', 'dogs'):
         world.list(name)
-    world.begin(words=('/usr/bin/python3', '-c', HASTY, TOP / 'agent'))
+    world.begin(words=HASTY)
     check(world.tells('cats: 0 timed', 'dogs: 0 timed', times=3), 'not each list has its timed runs')
     same(world.run('cats', 'deliver', '0', 'w@m.net', f'cats@{HOST}', given=post()), '0 0 posted 1\n', 'a post by hand')
     check(world.is_out(3), f'{len(world.sink.copies)} copies')
@@ -75,14 +65,15 @@ def case_two_agents(world):
 def case_settings(world):
     """Settings that make no sense are refused by name, and so are folders that can't be had."""
     (world.place / 'file').touch()
-    rows = [('listen', '192.0.2.1:24', 'not loopback'), ('batch', '0', 'batch is below 1'), ('mta', 'somewhere', 'neither a path'),
-            ('colour', 'red', "unknown ['colour']"), ('runs', 'x', 'invalid literal'),
-            ('listen', world.place / 'none/lmtp', 'No such file'), ('state', world.place / 'file/state', 'Not a directory')]
-    for name, value, wanted in rows:
+    rows = [('listen', '192.0.2.1:24', 'not loopback', 78), ('batch', '0', 'batch is below 1', 78), ('mta', 'somewhere', 'neither a path', 78),
+            ('colour', 'red', 'unknown colour', 78), ('runs', 'x', 'invalid literal', 78), ('patience', '0', 'patience is below 1', 78),
+            ('weed', 'perhaps', 'neither yes nor no', 78), ('auto_posts', 'hold', 'neither take nor refuse', 78),
+            ('listen', world.place / 'none/lmtp', 'No such file', 1), ('state', world.place / 'file/state', 'Not a directory', 1)]
+    for name, value, wanted, status in rows:
         kept = dict(world.rows)
         world.rows[name] = value
         said = subprocess.run([*world.words, world.settings()], capture_output=True, text=True, check=False)
-        check(said.returncode == 1 and wanted in said.stderr and said.stderr.count('\n') == 1, f'{name}: {said.stderr}')
+        check(said.returncode == status and wanted in said.stderr and said.stderr.count('\n') == 1, f'{name}: {said.stderr}')
         world.rows = kept
 
 

@@ -30,7 +30,7 @@ class Sink:
         self.transactions = []      # recipients of each
         self.asked = []             # recipients that were proposed
         self.refuse, self.defer = set(), set()
-        self.refuses_all = False
+        self.refuses_all, self.refusal = False, '550 5.1.1 No such user'
         self.most_errors = 1000     # behind which it hangs up
         self.hang_up = 0            # how many transactions end in the middle
         self.holds = never          # whether a transaction of these recipients, whose copies were kept, has no reply yet
@@ -59,7 +59,7 @@ class Sink:
             if session.errors > self.most_errors:
                 server.transport.close()
                 return '421 4.7.0 Too many errors'
-            return '451 4.3.0 Later' if address in self.defer else '550 5.1.1 No such user'
+            return '451 4.3.0 Later' if address in self.defer else self.refusal
         envelope.rcpt_tos.append(address)
         return '250 Ok'
 

@@ -3,7 +3,8 @@ else.
 
     stand_in.py FOLDER PROGRAM WORD ..
 
-A file of the name `says` has what is said of each post. Each other one counts for one run.
+A file of the name `says` has what is said of each post, and one of the name `hangs` has the folders of lists whose runs hang. Each other one
+counts for one run.
 """
 
 import os
@@ -12,6 +13,7 @@ import re
 import signal
 import subprocess
 import sys
+import time
 
 PLACE, PROGRAM, WORDS = pathlib.Path(sys.argv[1]), sys.argv[2], sys.argv[3:]
 
@@ -47,6 +49,8 @@ def says(file):
 
 
 if WORDS[1:] == ['spool']:
+    if (PLACE / 'hangs').exists() and pathlib.Path.cwd().name in (PLACE / 'hangs').read_text().split():
+        time.sleep(3600)
     if is_told('move'):
         pathlib.Path.cwd().rename(PLACE / 'aside')
     if (PLACE / 'says').exists():

@@ -23,6 +23,14 @@ HOST = 'ex.org'
 KEY = '0' * 64
 MEMBERS = ['a@m.net', 'b@m.net', 'c@m.net']
 LISTENS = b'mail comes in at'
+# The agent whose hours and minutes are short.
+HASTY = ('/usr/bin/python3', '-c', '''
+import sys
+sys.path.insert(0, sys.argv[1])
+from ezmlm_agent import __main__, mailing, retrying
+__main__.LOOKS, mailing.HOUR, retrying.SHORTEST = 0.05, 1, 1
+__main__.main(sys.argv[2:])
+''', TOP / 'agent')
 LONG = 900  # seconds behind which what has to come is given up. Nothing else depends on time, as a machine may be slow
 
 

@@ -1,16 +1,19 @@
 """What people do with lists, and what goes wrong between."""
 
 import collections
+import fcntl
 import os
 import re
 import signal
 import smtplib
+import subprocess
 import time
 
 from agent_cases.sink import Sink
 
-from .setting import SINK, eventually
+from .setting import SINK, SMTPD, eventually
 
+MANY = 3000  # mails at once for one list
 ODD = ['m@m.net', 'A_b+C.d@m.net', 'x=y@m.net', 'a,b@m.net']
 
 
@@ -27,7 +30,7 @@ class Course:
         self.setting.list('dogs', ['z@m.net'], '-m')
         self.setting.asked('dogs', 'sub', '0', 'mod', 'mod@m.net')
         self.setting.begin_agent()
-        for step in (self.members, self.archive, self.moderation, self.domains, self.refused_here, self.bounces, self.leaving, self.kills):
+        for step in (self.members, self.archive, self.moderation, self.domains, self.refused_here, self.bounces, self.leaving, self.beside, self.kills):
             step()
             print(f'ok      {step.__doc__}', flush=True)
 
@@ -122,6 +125,38 @@ class Course:
         self.setting.send('z@m.net', found[1])
         self.mail_for('z@m.net', 'Subject: goodbye')
         assert not self.is_member('cats', 'z@m.net'), 'z is a member still'
+
+    def posts(self, name):
+        return int((self.setting.place / 'lists' / name / 'num').read_text())
+
+    def beside(self):
+        """beside 25 mails to a list that another run has, and beside 3,000 mails to one, mail to another list is posted"""
+        self.setting.end_agent()
+        self.setting.begin_agent()
+        for name in ('held', 'busy', 'other'):
+            self.setting.list(name, ['z@m.net'])
+        with open(self.setting.place / 'lists/held/lock', encoding='ascii') as lock:
+            fcntl.flock(lock, fcntl.LOCK_EX)
+            for n in range(25):
+                self.setting.send('w@m.net', 'held@ex.org', f'number {n}')
+            eventually(self.setting.tells('held: 111 disk: another run has the list'), 'the held list is not tried')
+            took = self.other(1)
+        eventually(lambda: self.posts('held') == 25, 'not all is posted')
+        print(f'        {took:.1f} s beside 25 mails to a held list')
+        subprocess.run(['smtp-source', '-s', '20', '-m', str(MANY), '-l', '2048', '-S', 'hello', '-f', 'w@m.net', '-t', 'busy@ex.org',
+                        f'127.0.0.1:{SMTPD}'], check=True)
+        before = self.posts('busy')
+        took = self.other(2)
+        assert before < MANY, 'all were posted before'
+        print(f'        {took:.1f} s beside {MANY - before} mails that wait for one list')
+        eventually(lambda: self.posts('busy') == MANY, 'not all is posted')
+
+    def other(self, number):
+        """Posts to another list. The answer is how many seconds it took."""
+        begun = time.monotonic()
+        self.setting.send('w@m.net', 'other@ex.org', f'number {number}')
+        eventually(lambda: self.posts('other') == number, 'the other list waits')
+        return time.monotonic() - begun
 
     def kills(self):
         """400 posts under 20 kills: each once in the archive, and each member has each"""

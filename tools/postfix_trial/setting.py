@@ -39,6 +39,7 @@ default_destination_concurrency_limit = 20
 minimal_backoff_time = 2s
 queue_run_delay = 2s
 maximal_backoff_time = 4s
+ezmlm_destination_recipient_limit = 1
 mlmmj_destination_recipient_limit = 1
 recipe_destination_recipient_limit = 1
 
@@ -82,7 +83,7 @@ recipe unix - n n - 1 pipe
 mlmmj unix - n n - - pipe
   flags=ORhu user=nobody argv=/usr/bin/mlmmj-receive -F -L {place}/mlmmj/$nexthop
 '''
-LISTS = r'''/^(cats|dogs|birds|fish)(-.*)?@ex\.org$/ ezmlm:unix:ezmlm/lmtp
+LISTS = r'''/^(cats|dogs|birds|fish|held|busy|other)(-.*)?@ex\.org$/ ezmlm:unix:ezmlm/lmtp
 /^news(-.*)?@local\.org$/ ezmlm:unix:ezmlm/lmtp
 /^talk(-.*)?@virtual\.org$/ ezmlm:unix:ezmlm/lmtp
 /^cats(\+.*)?@mlm\.org$/ mlmmj:cats

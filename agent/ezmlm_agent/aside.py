@@ -1,0 +1,74 @@
+"""Calls that may block, as on a disk that is gone, each in a thread of its own and with an end."""
+
+import asyncio
+import contextlib
+import threading
+from collections.abc import AsyncIterator, Callable
+from typing import Any, TypeVar
+
+Result = TypeVar('Result')
+LONGEST = 10.0  # seconds for a read of a list's folder
+
+
+class Blocked(OSError):
+    """A call didn't end in time. Its thread goes on, and nothing waits for it."""
+
+
+class Aside:
+    """Calls by what they are of. While one of these is stuck no other of the same is begun, so that threads stay few."""
+
+    def __init__(self) -> None:
+        self.stuck: dict[str, int] = {}  # how many calls didn't end in time and go on
+
+    async def call(self, of: str, call: Callable[..., Result], *words: Any, seconds: float | None = LONGEST) -> Result:
+        """What a call answers. It is Blocked if that takes longer than so many seconds, or an earlier call of the same is stuck."""
+        if self.stuck.get(of):
+            raise Blocked('an earlier look is stuck, as on a disk that is gone')
+        future: asyncio.Future[Result] = asyncio.get_running_loop().create_future()
+        future.add_done_callback(lambda ended: ended.cancelled() or ended.exception())  # Nobody may ask for it any more.
+        # The interpreter doesn't wait for such a thread at its end.
+        threading.Thread(target=run, args=(future, call, words), daemon=True).start()
+        done, _ = await asyncio.wait([future], timeout=seconds)
+        if not done:
+            self.stuck[of] = self.stuck.get(of, 0) + 1
+            future.add_done_callback(lambda _: self.free(of))
+            raise Blocked(f'it takes longer than {seconds:g} seconds')
+        return future.result()
+
+    def free(self, of: str) -> None:
+        self.stuck[of] -= 1
+
+
+def run(future: asyncio.Future[Any], call: Callable[..., Any], words: tuple[Any, ...]) -> None:
+    """Makes a call in a thread, and tells its loop what came of it."""
+    result, error = None, None
+    try:
+        result = call(*words)
+    except BaseException as why:
+        error = why
+    with contextlib.suppress(RuntimeError):  # The loop is closed where the agent has ended meanwhile.
+        future.get_loop().call_soon_threadsafe(settle, future, result, error)
+
+
+def settle(future: asyncio.Future[Any], result: Any, error: BaseException | None) -> None:
+    if future.cancelled():
+        return
+    if error is None:
+        future.set_result(result)
+    else:
+        future.set_exception(error)
+
+
+@contextlib.asynccontextmanager
+async def within(turns: asyncio.Semaphore, seconds: float) -> AsyncIterator[None]:
+    """Waits for a turn, but not longer than so many seconds: then it goes on without one. So what hangs with a turn holds up others for that
+    long alone."""
+    has_turn = False
+    with contextlib.suppress(TimeoutError):
+        async with asyncio.timeout(seconds):
+            has_turn = await turns.acquire()
+    try:
+        yield
+    finally:
+        if has_turn:
+            turns.release()

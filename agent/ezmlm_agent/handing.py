@@ -1,0 +1,131 @@
+"""One entry of a list's outgoing queue is handed on to the transfer agent: which copies go, and what each reply means."""
+
+import asyncio
+import dataclasses
+import hashlib
+import logging
+import random
+import time
+from typing import TYPE_CHECKING
+
+from . import copies, program, smtp, wire
+
+if TYPE_CHECKING:
+    from . import outgoing
+
+log = logging.getLogger('ezmlm-agent')
+DAY = 86400  # for which an entry stays of which all copies are refused
+HOPELESS = 100  # copies that were refused and none taken, behind which no more are tried for now
+
+
+@dataclasses.dataclass
+class Attempt:
+    """One try to hand an entry on."""
+    entry: int
+    mark: bytes      # what the entry is, beside its id
+    mail: bytes      # what is sent for its mail
+    age: float       # seconds
+    is_named: bool   # whether its copies' senders name their recipients, so that the list learns from bounces
+    recipients: int  # of the whole entry
+    is_taken: bool   # whether a copy was ever taken
+    refused: list[tuple[copies.Copy, smtp.Reply]] = dataclasses.field(default_factory=list)  # copies that were refused for good
+    put_off: int = 0  # copies that are to be tried again
+
+    def is_hopeless(self) -> bool:
+        return not self.is_taken and len(self.refused) >= HOPELESS and self.age < DAY
+
+
+def attempt_of(text: bytes, entry: int, age: float, before: frozenset[bytes], size: int,
+               verp: bool) -> tuple[Attempt, list[copies.Transaction]]:
+    """What is to be done for an entry that a file spells so, and the transactions."""
+    elements = program.netstrings(text)
+    rows = copies.batches(elements, size, verp, before)
+    random.shuffle(rows)  # Where an attempt ends early the next one begins with others.
+    mail = wire.as_sent(elements[3])
+    return Attempt(entry, hashlib.sha256(text).digest(), mail, age, copies.is_named(elements), len(elements) - 4, bool(before)), rows
+
+
+class Handing:
+    """Hands entries of a queue on."""
+
+    def __init__(self, queue: 'outgoing.Queue') -> None:
+        self.queue, self.list = queue, queue.list
+        self.exchange: smtp.Exchange = queue.exchange
+
+    async def hand_on(self, entry: int, text: bytes, written: float, verp: bool) -> bool:
+        """Whether all copies of an entry are done with. `written` is when it came into the queue."""
+        assert self.list.notes
+        mark = hashlib.sha256(text).digest()
+        before = frozenset(self.list.notes.handed_before(entry, mark))
+        attempt, rows = attempt_of(text, entry, time.time() - written, before, self.list.settings.batch, verp)
+        del text
+        ends = await asyncio.gather(*(self.hand_on_row(attempt, *row) for row in rows), return_exceptions=True)
+        is_told = await self.tell_refused(attempt)
+        for error in ends:
+            if isinstance(error, BaseException):
+                raise error
+        return is_told and not attempt.put_off
+
+    async def hand_on_row(self, attempt: Attempt, sender: bytes, named: bool, row: list[copies.Copy]) -> None:
+        """Hands one transaction on."""
+        assert self.list.notes
+        async with self.queue.lanes, self.exchange.free:
+            if self.list.stopping or attempt.is_hopeless():
+                attempt.put_off += len(row)
+                return
+            await self.list.notes.write()
+            replies: list[smtp.Reply] | None = None
+            try:
+                replies = await self.exchange.hand_on(sender, named, [recipient for _, recipient in row], attempt.mail)
+            except smtp.Untouched:
+                if len(row) == 1:
+                    raise
+            # The connection is free for others when this is noted. So what a crash may double is one transaction for each connection.
+            if replies is not None:
+                await self.note(attempt, row, replies)
+        if replies is None:  # It may have hung up since it refused too many at once.
+            half = len(row) // 2
+            await self.hand_on_row(attempt, sender, named, row[:half])
+            await self.hand_on_row(attempt, sender, named, row[half:])
+
+    async def note(self, attempt: Attempt, row: list[copies.Copy], replies: list[smtp.Reply]) -> None:
+        """Notes whose copies were taken, and of which the transfer agent said something else."""
+        assert self.list.notes
+        taken = [recipient for (_, recipient), reply in zip(row, replies) if smtp.is_good(reply)]
+        attempt.is_taken = attempt.is_taken or bool(taken)
+        for copy, reply in zip(row, replies):
+            if smtp.is_good(reply):
+                continue
+            log.warning('%s: entry %d to %s: %d %s', self.list.name, attempt.entry, wire.shown(copy[1]), reply.code, reply.words())
+            if reply.code >= 500 or attempt.age >= self.list.settings.keep_days * DAY:
+                attempt.refused.append((copy, reply))
+            else:
+                attempt.put_off += 1
+        await self.list.notes.hand(attempt.entry, attempt.mark, taken)
+
+    async def tell_refused(self, attempt: Attempt) -> bool:
+        """Whether the list knows of all copies that were refused for good. Where none was ever taken it isn't told for a day: by a
+        transfer agent that refuses all, each member of each post would bounce. A single recipient that is refused by itself is no such case.
+        """
+        if attempt.refused and not attempt.is_taken and attempt.age < DAY and not self.is_refused_alone(attempt):
+            return False
+        return all(await asyncio.gather(*(self.bounce(attempt, *refused) for refused in attempt.refused)))
+
+    def is_refused_alone(self, attempt: Attempt) -> bool:
+        """Whether an entry's one recipient is what was refused. A refusal by policy (RFC 3463 3.8: 5.7) may be of this host, and so of all,
+        unless the transfer agent took other mail."""
+        (_, reply), *others = attempt.refused
+        is_alone = attempt.recipients == 1 and not others and reply.is_of_recipient
+        return is_alone and (self.exchange.has_taken or not reply.lines[0].startswith('5.7.'))
+
+    async def bounce(self, attempt: Attempt, copy: copies.Copy, reply: smtp.Reply) -> bool:
+        """Gives the list the bounce that a refused copy is, unless it is one of the list's own answers: of these it learns nothing. The
+        answer is whether the copy is done with."""
+        assert self.list.notes
+        sender, recipient = copy
+        if attempt.is_named:
+            message = b'Subject: refused\n\n%d to %b: %d %b\n' % (attempt.entry, recipient, reply.code, reply.lines[0].encode())
+            if not (await self.list.deliver(b'', sender, message)).is_answer:
+                return False
+        await self.list.notes.hand(attempt.entry, attempt.mark, [recipient])
+        return True

@@ -1,0 +1,55 @@
+"""A mail on its way into a list, and what a run of the program was given of such."""
+
+import asyncio
+import dataclasses
+import hashlib
+import time
+
+from . import program, settings, smtp, wire
+
+MOST_MAILS, MOST_BYTES = 128, 8 << 20  # of a run; one with so many takes no more
+GENTLE = 4  # lists without mail that begin, or have a timed run, at once
+
+
+@dataclasses.dataclass
+class Mail:
+    sender: bytes
+    recipient: bytes
+    message: bytes
+    came: float
+    answer: 'asyncio.Future[program.Answer]'
+    number: int = 0
+
+    def key(self) -> bytes:
+        """What a mail is known by where it comes again. A recipient is the same in any case of letters."""
+        return hashlib.sha256(program.item(b'', self.sender, self.recipient.lower(), hashlib.sha256(self.message).digest())).digest()
+
+    def settle(self, answer: program.Answer) -> None:
+        if not self.answer.done():
+            self.answer.set_result(answer)
+
+    def is_wanted(self) -> bool:
+        return not self.answer.done()
+
+
+@dataclasses.dataclass
+class Load:
+    """What a run was given so far."""
+    until: float
+    mails: int = 0
+    size: int = 0
+    stale: list[bytes] = dataclasses.field(default_factory=list)  # keys of mails whose numbers are below the floor
+
+    def is_full(self) -> bool:
+        return bool(self.stale) or self.mails >= MOST_MAILS or self.size >= MOST_BYTES or time.monotonic() > self.until
+
+
+@dataclasses.dataclass
+class Shared:
+    """What all lists have together."""
+    settings: settings.Settings
+    program: program.Program
+    exchange: smtp.Exchange
+    room: wire.Room   # for mail that is handed on
+    stuck: wire.Room  # for mail that a run has in hand, and that nobody waits for any more
+    gentle: asyncio.Semaphore = dataclasses.field(default_factory=lambda: asyncio.Semaphore(GENTLE))
