@@ -57,6 +57,8 @@ class Agent:
                     await self.listener.listen(address, serve)
             except OSError as error:
                 sys.exit(f'ezmlm-agent: {address}: {error}')
+        for name in self.listener.unknown():
+            log.error('ezmlm-agent.socket has a socket at %s, which no setting names', name)
         log.info('mail comes in at %s', self.settings.listen)
         tending = asyncio.create_task(self.tend())
         await self.ended.wait()

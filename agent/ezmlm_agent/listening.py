@@ -71,6 +71,14 @@ class Listener:
         else:
             self.servers.append(await asyncio.start_server(serve, where[0], where[1], backlog=BACKLOG))
 
+    def unknown(self) -> list[str]:
+        """Where sockets of systemd's are that no setting names. They are closed, so that nobody waits there in vain."""
+        names = [str(found.getsockname()) for found in self.sockets]
+        for found in self.sockets:
+            found.close()
+        self.sockets = []
+        return names
+
     def close(self) -> None:
         for server in self.servers:
             server.close()

@@ -42,14 +42,15 @@ def case_ports(world):
 
 
 def case_unit(world):
-    """The unit for systemd is in order, and keeps away what the agent has no need of."""
+    """The units for systemd are in order, and keep away what the agent has no need of."""
     if shutil.which('systemd-analyze') is None:
         world.note = 'not tried, as there is no systemd-analyze'
         return
-    unit = world.place / 'ezmlm-agent.service'
-    unit.write_text((TOP / 'agent/ezmlm-agent.service').read_text().replace('/usr/local/lib/ezmlm', str(TOP / 'agent')))
-    for words in (['verify'], ['security', '--offline=true', '--threshold=20']):
-        done = subprocess.run(['systemd-analyze', *words, unit], capture_output=True, text=True, check=False)
+    units = [world.place / f'ezmlm-agent.{kind}' for kind in ('service', 'socket')]
+    for unit in units:
+        unit.write_text((TOP / 'agent' / unit.name).read_text().replace('/usr/local/lib/ezmlm', str(TOP / 'agent')))
+    for words in (['verify', *units], ['security', '--offline=true', '--threshold=20', units[0]]):
+        done = subprocess.run(['systemd-analyze', *words], capture_output=True, text=True, check=False)
         same((done.returncode, done.stderr), (0, ''), words[0])
 
 

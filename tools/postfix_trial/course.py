@@ -11,7 +11,7 @@ import time
 
 from agent_cases.sink import Sink
 
-from .setting import SINK, SMTPD, eventually
+from .setting import ASKING, SINK, SMTPD, eventually
 
 MANY = 3000  # mails at once for one list
 ODD = ['m@m.net', 'A_b+C.d@m.net', 'x=y@m.net', 'a,b@m.net']
@@ -30,7 +30,7 @@ class Course:
         self.setting.list('dogs', ['z@m.net'], '-m')
         self.setting.asked('dogs', 'sub', '0', 'mod', 'mod@m.net')
         self.setting.begin_agent()
-        for step in (self.members, self.archive, self.moderation, self.domains, self.refused_here, self.bounces, self.leaving, self.beside, self.kills):
+        for step in (self.members, self.archive, self.moderation, self.domains, self.refused_here, self.late, self.forged, self.bounces, self.leaving, self.beside, self.kills):
             step()
             print(f'ok      {step.__doc__}', flush=True)
 
@@ -102,6 +102,41 @@ class Course:
                    'not all have it')
         assert self.setting.agent_log().count('refused.net@ex.org: 0 bounce,') == 30, 'not each refusal is a bounce'
 
+    def late(self):
+        """a notice that mail is late, and an automatic answer to the confirmation address, aren't given to the list"""
+        notice = ('From: MAILER-DAEMON@m.net\r\nTo: x\r\nMIME-Version: 1.0\r\nContent-Type: multipart/report; report-type=delivery-status;'
+                  ' boundary=x\r\n\r\n--x\r\nContent-Type: message/delivery-status\r\n\r\nReporting-MTA: dns; m.net\r\n\r\n'
+                  'Final-Recipient: rfc822; a@m.net\r\nAction: delayed\r\n\r\n--x--\r\n')
+        with smtplib.SMTP('127.0.0.1', SMTPD) as smtp:
+            smtp.sendmail('', ['cats-return-1-a=m.net@ex.org'], notice)
+        eventually(self.setting.tells('cats - <> cats-return-1-a=m.net@ex.org: weeded delayed'), 'it was not weeded')
+        assert not any((self.setting.place / 'lists/cats/bounce').glob('*')), 'a bounce was noted'
+        self.setting.send('c@m.net', 'cats-subscribe@ex.org')
+        _, found = self.mail_for('c@m.net', r'(?m)^Reply-To: (cats-\S*sc\S+)\r')
+        self.setting.send('c@m.net', found[1], 'away\r\nAuto-Submitted: auto-replied')
+        eventually(self.setting.tells(f'c@m.net {re.escape(found[1])}: weeded automatic'), 'it was not weeded')
+        assert not self.is_member('cats', 'c@m.net'), 'an automatic answer subscribed'
+
+    def forged(self):
+        """mail that a list would refuse by its envelope is refused before it is taken, and no bounce goes to its sender"""
+        self.setting.list('other', ['z@m.net'], '-uk')
+        self.setting.asked('other', 'sub', '0', 'deny', 'z@m.net')
+        for sender, recipient in (('z@m.net', 'other@ex.org'), ('forged@m.net', 'other@ex.org'), ('forged@m.net', 'other-nonsense@ex.org'),
+                                  ('forged@m.net', 'other-list@ex.org')):
+            try:
+                self.setting.send(sender, recipient, port=ASKING)
+            except smtplib.SMTPRecipientsRefused as error:
+                assert error.recipients[recipient][0] == 550, error.recipients
+            else:
+                raise AssertionError(f'{recipient} of {sender} was taken')
+        self.setting.send('y@m.net', 'other-help@ex.org', port=ASKING)
+        self.mail_for('y@m.net', 'other-subscribe@ex.org')
+        assert not any(to == 'forged@m.net' for _, to, _ in self.sink.copies), 'a bounce went out'
+        self.setting.end_agent()
+        self.setting.send('y@m.net', 'other-help@ex.org', port=ASKING)  # Nobody answers, and it is taken.
+        self.setting.begin_agent()
+        self.mail_for('y@m.net', 'other-subscribe@ex.org')
+
     def bounces(self):
         """a bounce by Postfix, the warning, the probe, dropped; the digest was made"""
         self.sink.refuse = {'a@m.net'}
@@ -133,7 +168,7 @@ class Course:
         """beside 25 mails to a list that another run has, and beside 3,000 mails to one, mail to another list is posted"""
         self.setting.end_agent()
         self.setting.begin_agent()
-        for name in ('held', 'busy', 'other'):
+        for name in ('held', 'busy', 'fair'):
             self.setting.list(name, ['z@m.net'])
         with open(self.setting.place / 'lists/held/lock', encoding='ascii') as lock:
             fcntl.flock(lock, fcntl.LOCK_EX)
@@ -154,8 +189,8 @@ class Course:
     def other(self, number):
         """Posts to another list. The answer is how many seconds it took."""
         begun = time.monotonic()
-        self.setting.send('w@m.net', 'other@ex.org', f'number {number}')
-        eventually(lambda: self.posts('other') == number, 'the other list waits')
+        self.setting.send('w@m.net', 'fair@ex.org', f'number {number}')
+        eventually(lambda: self.posts('fair') == number, 'the other list waits')
         return time.monotonic() - begun
 
     def kills(self):

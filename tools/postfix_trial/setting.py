@@ -13,7 +13,7 @@ import sys
 import time
 
 TOP = pathlib.Path(__file__).resolve().parent.parent.parent
-SMTPD, SINK = 12525, 12526
+SMTPD, SINK, ASKING = 12525, 12526, 12527  # where mail comes in, where it goes, and where it comes in if the policy service allows it
 USER = 'list'  # who has the lists and runs the agent
 KEY = '0' * 63 + '1'
 
@@ -53,6 +53,9 @@ relay_domains = ex.org, mlm.org, small.org
 relay_recipient_maps = regexp:{place}/etc/lists
 '''
 MASTER = '''127.0.0.1:{smtpd} inet n - n - - smtpd
+127.0.0.1:{asking} inet n - n - - smtpd
+  -o {{ smtpd_recipient_restrictions = reject_unauth_destination, check_policy_service unix:ezmlm/policy }}
+  -o smtpd_policy_service_default_action=DUNNO
 pickup unix n - n 60 1 pickup
 cleanup unix n - n - 0 cleanup
 qmgr unix n - n 300 1 qmgr
@@ -83,7 +86,7 @@ recipe unix - n n - 1 pipe
 mlmmj unix - n n - - pipe
   flags=ORhu user=nobody argv=/usr/bin/mlmmj-receive -F -L {place}/mlmmj/$nexthop
 '''
-LISTS = r'''/^(cats|dogs|birds|fish|held|busy|other)(-.*)?@ex\.org$/ ezmlm:unix:ezmlm/lmtp
+LISTS = r'''/^(cats|dogs|birds|fish|held|busy|fair|other)(-.*)?@ex\.org$/ ezmlm:unix:ezmlm/lmtp
 /^news(-.*)?@local\.org$/ ezmlm:unix:ezmlm/lmtp
 /^talk(-.*)?@virtual\.org$/ ezmlm:unix:ezmlm/lmtp
 /^cats(\+.*)?@mlm\.org$/ mlmmj:cats
@@ -105,7 +108,7 @@ class Setting:
 
     def begin(self, sink):
         """Starts Postfix. `sink` starts what takes its mail."""
-        for port in (SMTPD, SINK):
+        for port in (SMTPD, SINK, ASKING):
             with socket.socket() as probe:
                 if probe.connect_ex(('127.0.0.1', port)) == 0:
                     sys.exit(f'something listens at {port} already')
@@ -113,7 +116,7 @@ class Setting:
         for name in ('etc', 'spool', 'data', 'lists', 'state', 'mlmmj'):
             (self.place / name).mkdir()
         shutil.chown(self.place / 'data', 'postfix')
-        values = {'place': self.place, 'smtpd': SMTPD, 'sink': SINK, 'chroot': self.chroot, 'user': USER, 'program': self.program}
+        values = {'place': self.place, 'smtpd': SMTPD, 'sink': SINK, 'asking': ASKING, 'chroot': self.chroot, 'user': USER, 'program': self.program}
         for name, text in (('main.cf', MAIN.format(**values)), ('master.cf', MASTER.format(**values)), ('lists', LISTS), ('refused', REFUSED)):
             (self.place / 'etc' / name).write_text(text)
         shutil.copy('/etc/postfix/dynamicmaps.cf', self.place / 'etc')
@@ -130,17 +133,19 @@ class Setting:
         shutil.chown(self.place / 'spool/ezmlm', USER, 'postfix')
         (self.place / 'spool/ezmlm').chmod(0o2750)
         (self.place / 'agent.conf').write_text(f'[agent]\nprogram = {self.program}\nlists = {self.place}/lists\nstate = {self.place}/state\n'
-                                               f'listen = {self.place}/spool/ezmlm/lmtp\nmta = 127.0.0.1:{SMTPD}\nname = mx.ex.org\n')
+                                               f'listen = {self.place}/spool/ezmlm/lmtp\nmta = 127.0.0.1:{SMTPD}\nname = mx.ex.org\n'
+                                               f'policy = {self.place}/spool/ezmlm/policy\n')
 
     def begin_agent(self, days=0):
-        """Starts the agent, with a clock that is so many days ahead."""
+        """Starts the agent, with a clock that is so many days ahead and with timed runs every few seconds then."""
         ahead = f'import sys, time; real = time.time; time.time = lambda: real() + {86400 * days}; sys.path.insert(0, "{TOP}/agent"); ' \
-                f'from ezmlm_agent import __main__; __main__.main(["{self.place}/agent.conf"])'
+                f'from ezmlm_agent import __main__, mailing; mailing.HOUR = {3 if days else 3600}; __main__.main(["{self.place}/agent.conf"])'
         socket_path = self.place / 'spool/ezmlm/lmtp'
-        socket_path.unlink(missing_ok=True)
+        for name in ('lmtp', 'policy'):
+            socket_path.with_name(name).unlink(missing_ok=True)
         with open(self.place / 'agent.log', 'a', encoding='ascii') as log:
             self.agent = subprocess.Popen(['/usr/bin/python3', '-P', '-c', ahead], stderr=log, user=USER, group=USER, extra_groups=[])
-        eventually(socket_path.exists, 'the agent makes no socket')
+        eventually(socket_path.with_name('policy').exists, 'the agent makes no socket')
 
     def end_agent(self, number=signal.SIGTERM):
         self.agent.send_signal(number)
@@ -165,8 +170,8 @@ class Setting:
         self.asked(name, 'spool', given=b''.join(b'A1:0,%d:%b,4:list,%d:%b,' % (len(now), now, len(m), m.encode()) for m in members))
         return self.place / 'lists' / name
 
-    def send(self, sender, recipient, subject='hello', body='hi', to=None):
-        with smtplib.SMTP('127.0.0.1', SMTPD) as smtp:
+    def send(self, sender, recipient, subject='hello', body='hi', to=None, port=SMTPD):
+        with smtplib.SMTP('127.0.0.1', port) as smtp:
             smtp.sendmail(sender, [recipient], f'From: {sender}\r\nTo: {to or recipient}\r\nSubject: {subject}\r\n\r\n{body}\r\n')
 
     def queue(self):
