@@ -1,13 +1,18 @@
-"""Calls that may block, as on a disk that is gone, each in a thread of its own and with an end."""
+"""Calls that may block, as on a disk that is gone, in threads and with an end."""
 
 import asyncio
 import contextlib
+import queue
 import threading
 from collections.abc import AsyncIterator, Callable
 from typing import Any, TypeVar
 
 Result = TypeVar('Result')
 LONGEST = 10.0  # seconds for a read of a list's folder
+KEPT = 16  # threads that wait for a further call, at most
+
+Job = tuple['asyncio.Future[Any]', Callable[..., Any], tuple[Any, ...]]
+idle: list['queue.SimpleQueue[Job]'] = []  # of the threads that wait for a call, how one is given it
 
 
 class Blocked(OSError):
@@ -26,8 +31,7 @@ class Aside:
             raise Blocked('an earlier look is stuck, as on a disk that is gone')
         future: asyncio.Future[Result] = asyncio.get_running_loop().create_future()
         future.add_done_callback(lambda ended: ended.cancelled() or ended.exception())  # Nobody may ask for it any more.
-        # The interpreter doesn't wait for such a thread at its end.
-        threading.Thread(target=run, args=(future, call, words), daemon=True).start()
+        begin((future, call, words))
         done, _ = await asyncio.wait([future], timeout=seconds)
         if not done:
             self.stuck[of] = self.stuck.get(of, 0) + 1
@@ -37,6 +41,23 @@ class Aside:
 
     def free(self, of: str) -> None:
         self.stuck[of] -= 1
+
+
+def begin(job: Job) -> None:
+    """Gives a call to a thread that waits for one, or to a new one. The interpreter doesn't wait for such a thread at its end."""
+    try:
+        idle.pop().put(job)
+    except IndexError:
+        threading.Thread(target=work, args=(job,), daemon=True).start()
+
+
+def work(job: Job) -> None:
+    """What such a thread does: this call, and others as long as not too many threads wait for any."""
+    jobs: 'queue.SimpleQueue[Job]' = queue.SimpleQueue()
+    run(*job)
+    while len(idle) < KEPT:
+        idle.append(jobs)
+        run(*jobs.get())
 
 
 def run(future: asyncio.Future[Any], call: Callable[..., Any], words: tuple[Any, ...]) -> None:

@@ -1,6 +1,7 @@
 """One entry of a list's outgoing queue is handed on to the transfer agent: which copies go, and what each reply means."""
 
 import asyncio
+import contextlib
 import dataclasses
 import hashlib
 import logging
@@ -28,6 +29,7 @@ class Attempt:
     is_named: bool   # whether its copies' senders name their recipients, so that the list learns from bounces
     recipients: int  # of the whole entry
     is_taken: bool   # whether a copy was ever taken
+    is_tried: bool = False  # whether the entry was tried before
     refused: list[tuple[copies.Copy, smtp.Reply]] = dataclasses.field(default_factory=list)  # copies that were refused for good
     put_off: int = 0  # copies that are to be tried again
 
@@ -52,13 +54,15 @@ class Handing:
         self.queue, self.list = queue, queue.list
         self.exchange: smtp.Exchange = queue.exchange
 
-    async def hand_on(self, entry: int, text: bytes, written: float, verp: bool) -> bool:
-        """Whether all copies of an entry are done with. `written` is when it came into the queue."""
+    async def hand_on(self, entry: int, text: bytes, written: float, verp: bool, is_tried: bool) -> bool:
+        """Whether all copies of an entry are done with. `written` is when it came into the queue, and `is_tried` whether it was tried since
+        the agent began."""
         assert self.list.notes
         mark = hashlib.sha256(text).digest()
         before = frozenset(self.list.notes.handed_before(entry, mark))
         attempt, rows = attempt_of(text, entry, time.time() - written, before, self.list.settings.batch, verp)
         del text
+        attempt.is_tried = is_tried
         ends = await asyncio.gather(*(self.hand_on_row(attempt, *row) for row in rows), return_exceptions=True)
         is_told = await self.tell_refused(attempt)
         for error in ends:
@@ -69,7 +73,10 @@ class Handing:
     async def hand_on_row(self, attempt: Attempt, sender: bytes, named: bool, row: list[copies.Copy]) -> None:
         """Hands one transaction on."""
         assert self.list.notes
-        async with self.queue.lanes, self.exchange.free:
+        turn: contextlib.AbstractAsyncContextManager[None] = contextlib.nullcontext()
+        if attempt.is_tried:
+            turn = self.queue.tried
+        async with turn, self.queue.lanes, self.exchange.free:
             if self.list.stopping or attempt.is_hopeless():
                 attempt.put_off += len(row)
                 return

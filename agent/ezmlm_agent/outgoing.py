@@ -16,6 +16,7 @@ ENTRIES = 512  # read at once
 AT_ONCE = 16   # of them that are taken apart
 TRIED = 8      # entries in hand that were tried before, at most
 OTHERS = 2  # connections that are for other lists alone
+FRESH = 2  # of a list's connections, those that are for entries alone that weren't tried yet
 SHORTEST, LONGEST = 5, 900  # seconds until an entry is tried again
 LOOKS = 60  # seconds until the queue is looked at again, whatever comes
 CROWDED = 1  # seconds until there may be room in memory
@@ -26,7 +27,9 @@ class Queue:
         self.list, self.folder = mailing_list, mailing_list.folder
         self.exchange: smtp.Exchange = exchange
         self.room = room
-        self.lanes: asyncio.Semaphore = asyncio.Semaphore(max(1, exchange.connections - OTHERS))
+        lanes = max(1, exchange.connections - OTHERS)
+        self.lanes: asyncio.Semaphore = asyncio.Semaphore(lanes)
+        self.tried: asyncio.Semaphore = asyncio.Semaphore(max(1, lanes - FRESH))  # of them, for entries that were tried before
         self.handing = handing.Handing(self)
         self.at_once = asyncio.Semaphore(AT_ONCE)
         self.changed = asyncio.Event()
@@ -130,7 +133,7 @@ class Queue:
         """Hands an entry's copies on, but those that were before, and has it reported when all are."""
         try:
             async with self.at_once:
-                done = await self.handing.hand_on(entry, text, written, verp)
+                done = await self.handing.hand_on(entry, text, written, verp, entry in self.later)
         except Exception as error:  # Whatever it is, the entry stays, and the others go on.
             log.error('%s: entry %d stays: %s: %s', self.list.name, entry, type(error).__name__, error)
             self.list.heed(error)

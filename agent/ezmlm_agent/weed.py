@@ -42,11 +42,14 @@ class Place(enum.Enum):
     OTHER = enum.auto()
 
 
+WEEDED = Place.BOUNCES, Place.OTHER  # where not all mail is given to the list
+
+
 def verdict(mail: bytes, place: Place) -> str | None:
     """Why a mail to this address isn't given to the list, as a word, or None where it is. What can't be read is given.
 
     To the list's own address and its owner's everything is given: the list's rules decide of the one, and a person reads the other."""
-    if place not in (Place.BOUNCES, Place.OTHER):
+    if place not in WEEDED:
         return None
     if place is Place.OTHER:
         return 'automatic' if is_automatic(mail) else None

@@ -184,7 +184,7 @@ class Course:
         took = self.other(2)
         assert before < MANY, 'all were posted before'
         print(f'        {took:.1f} s beside {MANY - before} mails that wait for one list')
-        eventually(lambda: self.posts('busy') == MANY, 'not all is posted')
+        eventually(lambda: self.posts('busy') == MANY and self.setting.entries('busy') == 0 and not self.setting.queue(), 'not all is out')
 
     def other(self, number):
         """Posts to another list. The answer is how many seconds it took."""
