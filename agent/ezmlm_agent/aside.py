@@ -9,6 +9,7 @@ from typing import Any, TypeVar
 
 Result = TypeVar('Result')
 LONGEST = 10.0  # seconds for a read of a list's folder
+TURNS, WAITS = 32, 1.0  # calls at once, and seconds for which one waits for its turn: then those that have one are stuck
 KEPT = 16  # threads that wait for a further call, at most
 
 Job = tuple['asyncio.Future[Any]', Callable[..., Any], tuple[Any, ...]]
@@ -22,13 +23,18 @@ class Blocked(OSError):
 class Aside:
     """Calls by what they are of. While one of these is stuck no other of the same is begun, so that threads stay few."""
 
-    def __init__(self) -> None:
+    def __init__(self, turns: asyncio.Semaphore | None = None) -> None:
+        self.turns = turns or asyncio.Semaphore(TURNS)
         self.stuck: dict[str, int] = {}  # how many calls didn't end in time and go on
 
     async def call(self, of: str, call: Callable[..., Result], *words: Any, seconds: float | None = LONGEST) -> Result:
         """What a call answers. It is Blocked if that takes longer than so many seconds, or an earlier call of the same is stuck."""
         if self.stuck.get(of):
             raise Blocked('an earlier look is stuck, as on a disk that is gone')
+        async with within(self.turns, WAITS):
+            return await self.call_now(of, call, words, seconds)
+
+    async def call_now(self, of: str, call: Callable[..., Result], words: tuple[Any, ...], seconds: float | None) -> Result:
         future: asyncio.Future[Result] = asyncio.get_running_loop().create_future()
         future.add_done_callback(lambda ended: ended.cancelled() or ended.exception())  # Nobody may ask for it any more.
         begin((future, call, words))
@@ -92,4 +98,18 @@ async def within(turns: asyncio.Semaphore, seconds: float) -> AsyncIterator[None
         yield
     finally:
         if has_turn:
+            turns.release()
+
+
+@contextlib.asynccontextmanager
+async def lent(turns: asyncio.Semaphore, seconds: float) -> AsyncIterator[None]:
+    """Waits for a turn, and gives it back after so many seconds also where what has it goes on. So what hangs with a turn keeps it for that
+    long alone."""
+    await turns.acquire()
+    timer = asyncio.get_running_loop().call_later(seconds, turns.release)
+    try:
+        yield
+    finally:
+        if timer.when() > asyncio.get_running_loop().time():
+            timer.cancel()
             turns.release()

@@ -19,7 +19,7 @@ GATHERING = 0.02, 0.1  # seconds for which mails, and reports alone, wait for ot
 HOUR, DAY = 3600, 86400
 OPEN = 1  # seconds for which a run goes while mail comes
 STEP = 512_000  # by which the floor may rise at once
-PATIENT = 5.0  # seconds for which a list without mail waits for its turn to begin, or for its timed run
+PATIENT = 2.0  # seconds for which a list without mail has its turn to begin, or for its timed run
 ENDING = 10    # seconds until a run that nobody waits for any more is ended, when the agent stops
 
 
@@ -32,7 +32,7 @@ class MailingList:
     def __init__(self, path: pathlib.Path, shared: mails.Shared) -> None:
         self.folder, self.shared, self.settings, self.program = path, shared, shared.settings, shared.program
         self.name = wire.printable(path.name)
-        self.threads = aside.Aside()
+        self.threads = aside.Aside(shared.reads)
         self.turn = asyncio.Lock()  # one run of the program at once
         self.wake = asyncio.Event()
         self.waiting: collections.deque[mails.Mail] = collections.deque()
@@ -50,7 +50,6 @@ class MailingList:
         self.task = asyncio.create_task(self.work())
         self.queue.start()
         self.wait_for_hour()
-        self.wake.set()
 
     def wait_for_hour(self) -> None:
         """A timed run is due each hour, at a second that is the list's own: so those of many lists don't come at once."""
@@ -145,7 +144,7 @@ class MailingList:
             if self.waiting or self.stopping:
                 await self.work_once()
             else:
-                async with aside.within(self.shared.gentle, PATIENT):
+                async with aside.lent(self.shared.gentle, PATIENT):
                     await self.work_once()
             if self.waiting:
                 self.wake.set()
@@ -291,8 +290,10 @@ class MailingList:
     async def timed(self, opened: notes.Notes, now: int) -> list[program.Item]:
         """A timed run, and the floor: mails that can't come again are forgotten, by the notes and then by the list."""
         def settle(answer: program.Answer) -> None:
-            log.info('%s: %d %s', self.name, answer.status, answer.words)
-            self.is_due = self.is_due or not answer.is_answer
+            if answer.is_answer:
+                log.info('%s: %d %s', self.name, answer.status, answer.words)
+            else:
+                self.is_due = True
         lowest = await opened.forget_before(now - self.settings.keep_days * DAY)
         floor = await self.aside(folder.floor, self.folder)
         floors = [*range(floor + STEP, lowest, STEP), lowest] if lowest > max(floor, notes.FIRST) else []

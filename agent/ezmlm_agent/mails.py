@@ -5,13 +5,13 @@ import dataclasses
 import hashlib
 import time
 
-from . import program, settings, smtp, wire
+from . import aside, program, settings, smtp, wire
 
 MOST_MAILS, MOST_BYTES = 128, 8 << 20  # of a run; one with so many takes no more
 GENTLE = 4  # lists without mail that begin, or have a timed run, at once
 
 
-@dataclasses.dataclass
+@dataclasses.dataclass(eq=False)
 class Mail:
     sender: bytes
     recipient: bytes
@@ -52,4 +52,5 @@ class Shared:
     exchange: smtp.Exchange
     room: wire.Room   # for mail that is handed on
     stuck: wire.Room  # for mail that a run has in hand, and that nobody waits for any more
+    reads: asyncio.Semaphore = dataclasses.field(default_factory=lambda: asyncio.Semaphore(aside.TURNS))  # of folders
     gentle: asyncio.Semaphore = dataclasses.field(default_factory=lambda: asyncio.Semaphore(GENTLE))

@@ -2,6 +2,7 @@
 
 import asyncio
 import logging
+import random
 import time
 from collections.abc import Iterable
 from typing import TYPE_CHECKING
@@ -51,7 +52,7 @@ class Queue:
         while not self.list.stopping:
             self.changed.clear()
             try:
-                begun = self.list.notes is not None and len(self.in_hand) <= ENTRIES // 2 and await self.begin()
+                begun = len(self.in_hand) <= ENTRIES // 2 and await self.begin()
                 pause = SHORTEST
             except Exception as error:  # Whatever it is, the other lists go on.
                 self.list.said_out.say(f'nothing is handed on: {type(error).__name__}: {error}')
@@ -79,7 +80,7 @@ class Queue:
         """Waits until the queue may have changed, or an entry is due again."""
         soonest = min((at for at, _ in self.later.values()), default=time.monotonic() + LOOKS) - time.monotonic()
         try:
-            async with asyncio.timeout(min(max(soonest, CROWDED), LOOKS)):
+            async with asyncio.timeout(min(max(soonest, CROWDED), LOOKS * random.uniform(0.5, 1))):
                 await self.changed.wait()
         except TimeoutError:
             pass
@@ -99,6 +100,10 @@ class Queue:
     async def begin(self) -> bool:
         """Begins with the entries that are due and have room in memory. The answer is whether there are any."""
         due = self.due(await self.list.aside(folder.queue, self.folder))
+        if self.list.notes is None:  # A list that has nothing to do isn't begun with.
+            if due:
+                self.list.wake.set()
+            return False
         sizes = self.reserved(await self.list.aside(folder.sizes, self.folder, due) if due else {})
         begun: list[int] = []
         texts: dict[int, tuple[bytes, float]] = {}
