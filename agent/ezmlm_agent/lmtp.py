@@ -14,7 +14,6 @@ MOST_SESSIONS = 1000
 PER_RECIPIENT = 500  # bytes of memory for each, beside its address
 LEAVING = 10  # seconds for who is told the last replies, when the agent stops
 OFTEN = '450 4.7.1 This sender has asked the lists here for too many answers in the last hour; later.'
-CROWDED = '452 4.3.1 Too much mail waits; later.'
 SIZE = re.compile(rb'(?:^| )SIZE=(\d{1,20})(?: |$)', re.IGNORECASE)  # RFC 1870
 
 Find = Callable[[bytes], Awaitable[lists.Named | None]]
@@ -142,7 +141,7 @@ class Session:
                 return await self.say(OFTEN)
             self.counted += 1
         if not self.take_room(len(recipient) + PER_RECIPIENT):
-            return await self.say(CROWDED)
+            return await self.say(refusals.CROWDED)
         self.recipients.append((found, recipient))
         await self.say('250 2.1.5 Ok')
 
@@ -159,7 +158,7 @@ class Session:
         if self.take_room(size):
             return None
         self.give_room()
-        return CROWDED
+        return refusals.CROWDED
 
     def give_room(self) -> None:
         self.server.room.give(self.held)

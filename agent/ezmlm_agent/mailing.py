@@ -36,7 +36,7 @@ class MailingList:
         self.turn = asyncio.Lock()  # one run of the program at once
         self.wake = asyncio.Event()
         self.waiting: collections.deque[mails.Mail] = collections.deque()
-        self.expected = 0  # mails without an answer
+        self.unanswered = mails.Unanswered((self.settings.memory << 20) // 4)
         self.notes: notes.Notes | None = None
         self.is_due = False  # whether a timed run is
         self.stopping = self.ended = False
@@ -88,8 +88,6 @@ class MailingList:
         """Whether something of the list's hangs when the agent has ended."""
         return not self.task.done() or not self.queue.task.done() or bool(self.queue.in_hand)
 
-    # Mail that comes.
-
     async def receive(self, sender: bytes, recipient: bytes, rest: bytes | None, message: bytes) -> program.Answer:
         """The answer to a mail that came in for LOCAL-REST@HOST, or LOCAL@HOST if the rest is None. What is weeded isn't given to the list."""
         place = weed.place_of(None if rest is None else rest.decode('latin-1'))
@@ -108,17 +106,23 @@ class MailingList:
         """The list's answer to a mail, or why there is none `patience` seconds after it came. What the list answers later is kept under the
         mail's number, and told when it comes again."""
         mail = mails.Mail(sender, recipient, message, time.monotonic(), asyncio.get_running_loop().create_future())
-        self.waiting.append(mail)
-        self.expected += 1
-        self.wake.set()
-        await asyncio.wait([mail.answer], timeout=self.settings.patience)
-        self.expected -= 1
-        if not mail.answer.done():
-            self.give_up(mail)
+        if self.unanswered.is_crowded(len(message), self.health.cause is not None):
+            mail.settle(program.Ending(75, 'crowded'))
+        else:
+            await self.wait_for(mail)
         answer = mail.answer.result()
         log.info('%s %d %s %s: %d %s, %d ms', self.name, mail.number, wire.shown(sender), wire.shown(recipient),
                  answer.status, answer.words, 1000 * (time.monotonic() - mail.came))
         return answer
+
+    async def wait_for(self, mail: mails.Mail) -> None:
+        self.unanswered.mails[mail] = None
+        self.waiting.append(mail)
+        self.wake.set()
+        await asyncio.wait([mail.answer], timeout=self.settings.patience)
+        del self.unanswered.mails[mail]
+        if not mail.answer.done():
+            self.give_up(mail)
 
     def give_up(self, mail: mails.Mail) -> None:
         """Nobody waits for a mail any more. Where a run has it in hand its bytes count, so that runs which hang don't fill the memory."""

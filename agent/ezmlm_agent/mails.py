@@ -8,6 +8,7 @@ import time
 from . import aside, program, settings, smtp, wire
 
 MOST_MAILS, MOST_BYTES = 128, 8 << 20  # of a run; one with so many takes no more
+SLOW = 5  # seconds after which a list that hasn't answered counts as one that doesn't
 GENTLE = 4  # lists without mail that begin, or have a timed run, at once
 
 
@@ -30,6 +31,21 @@ class Mail:
 
     def is_wanted(self) -> bool:
         return not self.answer.done()
+
+
+class Unanswered:
+    """The mails that wait for a list's answer. A list that doesn't answer has a part of the memory at most, so that others have the rest."""
+
+    def __init__(self, share: int) -> None:
+        self.share = share
+        self.mails: dict[Mail, None] = {}  # in the order in which they came
+
+    def is_crowded(self, size: int, is_held: bool) -> bool:
+        """Whether one mail more, of so many bytes, would be too much. `is_held` is whether the list is known not to answer now."""
+        oldest = next(iter(self.mails), None)
+        if oldest is None or not is_held and time.monotonic() - oldest.came < SLOW:
+            return False
+        return sum(len(mail.message) for mail in self.mails) + size > self.share
 
 
 @dataclasses.dataclass

@@ -24,6 +24,7 @@ PRIVATE = {
     Kind.MEMBERS: '550 5.7.2 Only moderators may see the members of this list.',
     Kind.ARCHIVE: '550 5.7.2 The archive of this list isn\'t open to your address. If you are a member, write from the address that is.',
 }
+CROWDED = '452 4.3.1 Too much mail waits; later.'
 SETS = '550 5.7.2 Only moderators may change who may post to this list.'
 
 
@@ -43,4 +44,6 @@ def reply_for(answer: program.Answer, rest: bytes | None) -> str:
         return f'250 2.0.0 {answer.words}'
     if answer.is_answer and answer.words in SENTENCES:
         return refusal_for(answer.words, rest)
+    if answer.words == 'crowded':
+        return CROWDED
     return f'451 4.3.0 {answer.status} {answer.words}'

@@ -120,7 +120,7 @@ class Patience:
 
     async def lasts(self, status: int) -> bool:
         """Waits a little. The answer is whether it makes sense to try again."""
-        if self.list.stopping or time.monotonic() > self.until and not self.list.expected:
+        if self.list.stopping or time.monotonic() > self.until and not self.list.unanswered.mails:
             return False
         if status == program.HELD and not self.is_said:
             await self.list.health.say(program.Ending(status, 'disk'), '; it is tried again')

@@ -72,6 +72,22 @@ def case_beside_a_held_list(world):
     same((world.posts(), world.posts('dogs')), (25, 2), 'posts')
 
 
+def case_beside_large_mails(world):
+    """Large mails to a list that another run has leave room in memory for other lists."""
+    world.rows.update(patience=20, memory=4)
+    for name in ('cats', 'dogs'):
+        world.list(name, words=['--max', '16777216'])
+    world.begin()
+    large = ('x' * 99 + '\n') * 4500
+    with held(world.folder()):
+        with given([lambda n=n: world.post(n, body=large if n else 'hi') for n in range(1)]) as first:
+            check(world.tells('cats: 111 disk'), 'the held list is not tried')
+            with given([lambda n=n: world.post(n + 1, body=large) for n in range(8)]) as answers:
+                check(until(lambda: sum((reply or '').startswith('452 4.3.1') for reply in answers.values()) >= 6), 'they fill the memory')
+                same(world.post(100, to='dogs', body=large * 3), '250 2.0.0 posted 1', 'a large mail to another list')
+    check(all(reply.startswith('45') for reply in [*first.values(), *answers.values()]), f'replies: {first} {answers}')
+
+
 def case_beside_a_busy_list(world):
     """Beside many mails to one list, one to another waits for none of them."""
     world.list(members=[])

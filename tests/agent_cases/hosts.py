@@ -314,8 +314,8 @@ def case_words(world):
 def case_types(world):
     """The agent's types are checked by mypy, strictly, and none of its files is too long."""
     files = sorted((TOP / 'agent/ezmlm_agent').glob('*.py'))
-    long = {path.name: lines for path in files if (lines := len(path.read_text().splitlines())) > 320}
-    same(long, {}, 'files of more than 320 lines')
+    long = {path.name: lines for path in files if (lines := len(path.read_text().splitlines())) >= 320}
+    same(long, {}, 'files that are too long')
     if shutil.which('mypy') is None:
         world.note = 'types were not checked, as there is no mypy'
         return
