@@ -77,9 +77,10 @@ class MailingList:
         if self.running:
             program.kill(self.running.process)
         await self.task
+        if self.notes is not None:
+            await self.threads.call('notes', self.notes.database.close)
 
     def abandon(self) -> None:
-        """Leaves what hangs."""
         self.health.again.worked()
         if self.running:
             program.kill(self.running.process)
