@@ -6,6 +6,7 @@ place, a mail that comes again may count twice, and a copy may go out twice; non
 
 import asyncio
 import contextlib
+import itertools
 import pathlib
 import sqlite3
 import time
@@ -76,6 +77,10 @@ def opened(path: pathlib.Path) -> tuple['Notes', str]:
 def set_aside(path: pathlib.Path) -> pathlib.Path:
     """Gives notes another name, with the files that SQLite has beside them."""
     to = path.with_name(f'{path.name}.bad-{time.strftime("%Y%m%dT%H%M%S")}')
+    for number in itertools.count(2):
+        if not to.exists():
+            break
+        to = path.with_name(f'{path.name}.bad-{time.strftime("%Y%m%dT%H%M%S")}.{number}')
     for end in ('-wal', '-shm', ''):
         with contextlib.suppress(FileNotFoundError):
             path.with_name(path.name + end).rename(to.with_name(to.name + end))
