@@ -110,6 +110,11 @@ def queue(folder: pathlib.Path) -> list[int]:
     return sorted(int(name) for name in names(folder / 'queue') if ENTRY.fullmatch(name))
 
 
+def has_work(folder: pathlib.Path) -> bool:
+    """Whether a list has something to do that no mail tells of: entries in its queue, or a log that a run left when it was stopped."""
+    return bool(queue(folder)) or size_or_none(folder / 'log') not in (0, 1, None)
+
+
 def entries(folder: pathlib.Path, ids: Iterable[int]) -> dict[int, bytes | None]:
     """These entries of the outgoing queue, each as its file spells it, or None where there is none."""
     return {entry: bytes_or_none(folder / 'queue' / str(entry)) for entry in ids}

@@ -99,11 +99,11 @@ class Queue:
 
     async def begin(self) -> bool:
         """Begins with the entries that are due and have room in memory. The answer is whether there are any."""
-        due = self.due(await self.list.aside(folder.queue, self.folder))
         if self.list.notes is None:  # A list that has nothing to do isn't begun with.
-            if due:
+            if await self.list.aside(folder.has_work, self.folder):
                 self.list.wake.set()
             return False
+        due = self.due(await self.list.aside(folder.queue, self.folder))
         sizes = self.reserved(await self.list.aside(folder.sizes, self.folder, due) if due else {})
         begun: list[int] = []
         texts: dict[int, tuple[bytes, float]] = {}

@@ -16,6 +16,7 @@ TRIED = 'cats: 111 disk: another run has the list'
 
 def case_held_list(world):
     """While another run has a list its mail waits, and that of another list doesn't."""
+    world.rows['patience'] = 300
     world.list()
     world.list('dogs')
     world.begin()
