@@ -124,9 +124,12 @@ class Lists:
 
     async def look_where_changed(self) -> None:
         begun = time.monotonic()
-        if await self.is_changed():
-            await self.look()
-        self.looked = begun
+        try:
+            if await self.is_changed():
+                await self.look()
+            self.looked = begun
+        except Exception as error:  # Whatever it is, the lists that are known are served.
+            log.error('the lists can\'t be looked at: %s: %s', type(error).__name__, error)
 
     async def is_changed(self) -> bool:
         """Whether the folder of lists is another than before, or a folder in it that has no list or couldn't be read."""

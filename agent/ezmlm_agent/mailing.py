@@ -78,7 +78,7 @@ class MailingList:
             program.kill(self.running.process)
         await self.task
         if self.notes is not None:
-            await self.threads.call('notes', self.notes.database.close)
+            await self.notes.close()
 
     def abandon(self) -> None:
         self.health.again.worked()

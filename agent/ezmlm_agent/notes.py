@@ -122,6 +122,11 @@ class Notes:
                 self.database.execute('ROLLBACK')
             raise
 
+    async def close(self) -> None:
+        """Ends: SQLite brings all into one file then. A disk that hangs isn't waited for."""
+        with contextlib.suppress(OSError):
+            await self.threads.call('notes', self.database.close)
+
     async def begin(self, address: Address, behind: int, entries: Collection[int]) -> None:
         """A start: whose notes these are, that no number below `behind` is drawn, and which entries there still are."""
         def begin(run: Execute) -> None:
