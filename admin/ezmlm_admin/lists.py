@@ -1,0 +1,176 @@
+"""One list: what is read of its folder under its lock, and runs of the program on it."""
+
+from __future__ import annotations
+
+import os
+import pathlib
+import pwd
+import re
+import time
+from collections.abc import Callable
+from dataclasses import dataclass
+from typing import BinaryIO, TypeVar
+
+from ezmlm_agent import folder as folders
+from ezmlm_agent import program as programs
+
+T = TypeVar('T')
+
+WAIT = 10   # seconds in which a list that another run holds is tried again
+TICK = 0.1  # seconds between two tries
+USAGE, WORDS, MEMORY, NO_LIST, NO_PERMISSION, REFUSED, DISK = 64, 65, 71, 75, 77, 100, 111
+SETS = 'list', 'digest', 'allow', 'deny', 'mod'
+NAME = re.compile('[1-9][0-9]{0,15}', re.ASCII)
+LETTERS = 'bdfghjklmprstu'
+CONFIG = re.compile(
+    rb'flags (' + b''.join(b'[%c%c]' % (letter, letter - 32) for letter in LETTERS.encode()) + rb')\n'
+    rb'local ([!-?A-~]{1,60})\nhost ([a-z0-9._-]{1,255})\nowner ([!-?A-~]+@[a-z0-9._-]+)\n'
+    rb'prefix ((?:[!-~](?:[ -~]{0,60}[!-~])?)?)\nmax ([1-9][0-9]{0,7})\n')
+
+
+class Refused(Exception):
+    """Why a command ends without what was asked for, as an exit status and a sentence."""
+
+    def __init__(self, status: int, why: str) -> None:
+        super().__init__(why)
+        self.status = status
+
+
+class Damaged(Exception):
+    """A file of the list, by its path below the list's folder, isn't as docs/FORMATS.md has it."""
+
+
+@dataclass(frozen=True)
+class Configuration:
+    """The file `config`: the flags as they stand there, and the values."""
+    flags: str
+    local: bytes
+    host: bytes
+    owner: bytes
+    prefix: bytes
+    most: int  # bytes of a post
+
+    @property
+    def address(self) -> bytes:
+        return self.local + b'@' + self.host
+
+    def has(self, letter: str) -> bool:
+        """Whether the option of this letter, in lower case, is set."""
+        return letter in self.flags
+
+
+def configuration(text: bytes) -> Configuration:
+    """The configuration that these bytes spell. Other bytes are Damaged."""
+    found = CONFIG.fullmatch(text)
+    if found is None or int(found[6]) > 16_777_216:
+        raise Damaged('config')
+    return Configuration(found[1].decode('ascii'), found[2], found[3], found[4], found[5], int(found[6]))
+
+
+@dataclass(frozen=True)
+class Said:
+    """What a command has to say: in lines, as JSON has it, and as its exit status."""
+    lines: list[str]
+    data: object
+    status: int = 0
+
+
+def content(folder: pathlib.Path, name: str, parse: Callable[[bytes], T]) -> T:
+    """What a file of the list says. One that is absent is read as an empty one, and a ValueError of `parse` is Damaged."""
+    path = folder / name
+    if path.exists() and not path.is_file():  # Reading a FIFO would never end.
+        raise Damaged(name)
+    text: bytes = folders.bytes_or_none(path) or b''
+    try:
+        return parse(text)
+    except ValueError as error:
+        raise Damaged(name) from error
+
+
+def below(name: str) -> str:
+    """What stands before the names of a set's folders."""
+    return '' if name == 'list' else f'{name}/'
+
+
+def opened(folder: pathlib.Path, name: str, read: Callable[[BinaryIO], T]) -> T | None:
+    """What is read of a file of the list, or None if it isn't there."""
+    path = folder / name
+    if not path.is_file():
+        if path.exists():
+            raise Damaged(name)
+        return None
+    try:
+        with open(path, 'rb') as file:
+            return read(file)
+    except ValueError as error:
+        raise Damaged(name) from error
+
+
+def names(folder: pathlib.Path) -> list[int]:
+    """The numbers that name files in a folder of the list, ascending, and none if it isn't there."""
+    return sorted(int(name) for name in folders.names(folder) if NAME.fullmatch(name))
+
+
+class MailingList:
+    """A list's folder with the program. Making one is Refused if there is no list, or if root isn't the list's user."""
+
+    def __init__(self, folder: pathlib.Path, program: str) -> None:
+        self.folder, self.wait = folder, float(WAIT)
+        self.program = programs.Program(program, 1)
+        try:
+            owner = (folder / 'config').stat().st_uid
+        except (FileNotFoundError, NotADirectoryError) as error:
+            raise Refused(NO_LIST, f'{folder}: there is no list here, as it has no file config') from error
+        if os.geteuid() == 0 and owner != 0:
+            raise Refused(NO_PERMISSION, f'{folder} is of the user {user(owner)}, and root would leave files of its own there: '
+                                         f'runuser -u {user(owner)} -- ezmlm-admin ..')
+
+    def run(self, *words: str, given: bytes = b'') -> tuple[int, str]:
+        """The status and the output of one run of the program. While another run has the list it is tried again."""
+        end = time.monotonic() + self.wait
+        while True:
+            status, output = self.program.run_now(self.folder, words, given)
+            if status != DISK or time.monotonic() >= end:
+                return int(status), str(output, 'utf-8', 'backslashreplace').strip('\n')
+            time.sleep(TICK)
+
+    def check(self) -> tuple[int, str]:
+        """The status of `check`, and its line without what stands before `ok` or the status."""
+        status, line = self.run('check')
+        return status, line.removeprefix('- ')
+
+    def settled(self, call: Callable[[pathlib.Path], T]) -> T:
+        """What a call does with the folder while this process holds the lock, with nothing in the log that isn't in the files."""
+        end, runs = time.monotonic() + self.wait, 0
+        while True:
+            try:
+                held: T = folders.settled(self.folder, call)
+                return held
+            except folders.Unsettled:
+                status, line = self.run(*programs.SETTLES)
+                runs += 1
+                if status != REFUSED or runs > 3:
+                    raise Refused(status or DISK, f'{self.folder}: an earlier run was stopped, and what it left in the log can\'t be laid down: '
+                                                  f'{line or "no answer"}') from None
+            except folders.Held:
+                if time.monotonic() >= end:
+                    raise Refused(DISK, f'{self.folder}: another run, a backup or the agent has held {self.folder / "lock"} for {self.wait:.0f} '
+                                        'seconds; lslocks tells which') from None
+                time.sleep(TICK)
+
+    def read(self, call: Callable[[pathlib.Path], T]) -> T:
+        """As `settled`, where what is damaged is refused with what `check` says."""
+        try:
+            return self.settled(call)
+        except Damaged as error:
+            raise Refused(NO_LIST, f'{self.folder / str(error)} is damaged; check says: {self.check()[1]}') from error
+
+    def configuration(self) -> Configuration:
+        return self.read(lambda folder: content(folder, 'config', configuration))
+
+
+def user(uid: int) -> str:
+    try:
+        return pwd.getpwuid(uid).pw_name
+    except KeyError:
+        return f'#{uid}'

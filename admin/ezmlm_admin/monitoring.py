@@ -1,0 +1,156 @@
+"""What a monitor asks of lists, in a line and a status as plugins of Nagios have them."""
+
+from __future__ import annotations
+
+import os
+import pathlib
+import time
+from collections.abc import Iterator, Sequence
+from dataclasses import dataclass, field
+
+from ezmlm_agent import folder as folders
+
+from . import files, texts
+from .lists import DISK, MailingList, Refused, Said, configuration, content, opened
+
+OK, WARNING, CRITICAL, UNKNOWN = range(4)  # the statuses of a plugin
+WORST_LAST = OK, UNKNOWN, WARNING, CRITICAL
+NAMES = 'OK', 'WARNING', 'CRITICAL', 'UNKNOWN'
+LIMITS = {'queue': (3_600, 86_400), 'held': (172_800, 345_600), 'log': (60, 3_600), 'disk': (10, 5)}  # seconds, and percents that are free
+COUNTS = 'posts', 'members of list', 'members of digest', 'members of allow', 'members of deny', 'members of mod', 'held', 'queue'
+
+
+@dataclass
+class Seen:
+    """What was seen of one list. Moments are None if there is nothing that has one."""
+    folder: pathlib.Path
+    address: str = ''
+    status: int = 0                # of `check`, or of what kept it from being run
+    word: str = ''                 # its word, or why it wasn't run
+    is_held: bool = False          # whether another run had the list all the time
+    counts: list[int] = field(default_factory=list)
+    oldest_queued: float | None = None
+    oldest_held: float | None = None
+    log_bytes: int = 0
+    log_age: float = 0.0           # seconds since the log was written, if it has more than a byte
+    space: tuple[int, int, int, int] = (0, 0, 0, 0)  # bytes and inodes that are free and there are
+
+
+def lists_of(words: Sequence[str]) -> list[pathlib.Path]:
+    """The folders of lists: each that is named and has a configuration, or else those in it that have one; or itself, if there are none."""
+    found: list[pathlib.Path] = []
+    for word in words:
+        path = pathlib.Path(word)
+        if (path / 'config').exists():
+            found.append(path)
+        else:
+            below = sorted(each for each in path.iterdir() if (each / 'config').exists()) if path.is_dir() else []
+            found += below or [path]
+    return found
+
+
+def seen(path: pathlib.Path, program: str, until: float) -> Seen:
+    """Looks at one list. What another run holds is waited for up to this moment of the monotonic clock."""
+    found = Seen(path)
+    try:
+        log = path / 'log'
+        found.log_bytes = folders.size_or_none(log) or 0
+        found.log_age = time.time() - log.stat().st_mtime if found.log_bytes > 1 else 0.0
+        state = os.statvfs(path)
+        found.space = state.f_bavail * state.f_frsize, state.f_blocks * state.f_frsize, state.f_favail, state.f_files
+        chosen = MailingList(path, program)
+        chosen.wait = max(0.0, until - time.monotonic())
+        look(chosen, found)
+    except Refused as error:
+        found.status, found.word = error.status, str(error)
+    except OSError as error:
+        found.status, found.word = DISK, str(error)
+    return found
+
+
+def look(chosen: MailingList, found: Seen) -> None:
+    found.status, line = chosen.check()
+    found.word = line.split(' ')[0] if found.status == 0 else line.removeprefix(f'{found.status} ')
+    found.counts = [int(number) for number in line.split(' ')[1:]] if found.status == 0 else []
+    if found.status == DISK:
+        found.is_held = is_held(chosen.folder)
+        found.word = 'another run, a backup or the agent holds it' if found.is_held else 'the disk failed'
+    else:
+        chosen.read(lambda folder: oldest(folder, found))
+
+
+def is_held(folder: pathlib.Path) -> bool:
+    """Whether another process holds the list now."""
+    try:
+        folders.settled(folder, str)
+    except folders.Held:
+        return True
+    except folders.Unsettled:
+        return False
+    return False
+
+
+def oldest(folder: pathlib.Path, found: Seen) -> None:
+    """Notes the list's address, when the oldest entry of the queue was written, and when the oldest held post came."""
+    found.address = content(folder, 'config', configuration).address.decode('ascii')
+    low, after = content(folder, 'ids', files.pair)
+    if low < after:
+        found.oldest_queued = opened(folder, f'queue/{low}', lambda file: os.fstat(file.fileno()).st_mtime)
+    low, after = content(folder, 'tickets', files.pair)
+    if low < after:
+        found.oldest_held = opened(folder, f'pending/{low}', lambda file: float(files.held(file, 0).moment))
+
+
+def all_seen(words: Sequence[str], program: str, wait: float) -> list[Seen]:
+    until = time.monotonic() + wait
+    return [seen(path, program, until) for path in lists_of(words)]
+
+
+def faults(one: Seen, now: float) -> Iterator[tuple[int, str]]:
+    """What is to be said of a list, each with the status that it gives."""
+    if one.status:
+        yield (UNKNOWN if one.is_held else CRITICAL), f'{one.status} {one.word}'
+    for name, moment, what in (('queue', one.oldest_queued, 'the oldest entry of the queue is'), ('held', one.oldest_held, 'the oldest held post is')):
+        if moment is not None and (status := above(now - moment, LIMITS[name])):
+            yield status, f'{what} {texts.age(now - moment)} old'
+    if one.log_bytes > 1 and (status := above(one.log_age, LIMITS['log'])):
+        yield status, f'the log has {one.log_bytes} bytes since {texts.age(one.log_age)}: a run was stopped, or hangs'
+    for what, free, size in (('space', *one.space[:2]), ('inodes', *one.space[2:])):
+        if size and (status := above(-100 * free / size, tuple(-limit for limit in LIMITS['disk']))):
+            yield status, f'{100 * free / size:.0f}% of the disk\'s {what} is free'
+
+
+def above(value: float, limits: Sequence[float]) -> int:
+    """The status of a value with limits for a warning and for more."""
+    return CRITICAL if value > limits[1] else WARNING if value > limits[0] else OK
+
+
+def watch(words: Sequence[str], program: str, wait: float) -> Said:
+    """One line with the worst status, what is wrong with which list, and performance data."""
+    now, every = time.time(), all_seen(words, program, wait)
+    told = [(status, one, what) for one in every for status, what in faults(one, now)]
+    status = max((status for status, _, _ in told), key=WORST_LAST.index, default=OK)
+    text = '; '.join(f'{one.folder.name}: {what}' for _, one, what in sorted(told, key=lambda row: -WORST_LAST.index(row[0])))
+    text = text or ('the list is whole' if len(every) == 1 else f'{len(every)} lists are whole')
+    line = f'EZMLM {NAMES[status]} - {plain(text)} | ' + ' '.join(measure for one in every for measure in performance(one, now))
+    data = [{'folder': str(one.folder), 'list': one.address, 'status': NAMES[max((s for s, _ in faults(one, now)), key=WORST_LAST.index, default=OK)],
+             'check': one.word, 'what': [what for _, what in faults(one, now)]} for one in every]
+    return Said([line], data, status)
+
+
+def plain(text: str) -> str:
+    """A text as a plugin's line may have it: no control characters, and no bar, behind which the performance data begins."""
+    return texts.safe(text).replace('|', '/')
+
+
+def performance(one: Seen, now: float) -> Iterator[str]:
+    """The measures of a list: 'label'=value[UOM];[warn];[crit];[min];[max] (Nagios plugin guidelines)."""
+    name = plain(one.folder.name or str(one.folder)).replace('=', '_').replace("'", "''")
+    for label, moment in (('queue', one.oldest_queued), ('held', one.oldest_held)):
+        value = max(0, int(now - moment)) if moment is not None else 0
+        yield f"'{name} oldest {label}'={value}s;{LIMITS[label][0]};{LIMITS[label][1]};0;"
+    for label, count in zip(COUNTS, one.counts):
+        yield f"'{name} {label}'={count};;;0;"
+    yield f"'{name} log'={one.log_bytes}B;;;0;"
+    free, size = one.space[:2]
+    yield f"'{name} free'={free}B;{size * LIMITS['disk'][0] // 100}:;{size * LIMITS['disk'][1] // 100}:;0;{size}"

@@ -1,0 +1,195 @@
+"""Options of a list, and their change."""
+
+from __future__ import annotations
+
+import getopt
+import os
+import pathlib
+import shlex
+import tempfile
+from dataclasses import dataclass
+
+from . import files, texts
+from .lists import LETTERS, NO_LIST, REFUSED, USAGE, Configuration, MailingList, Refused, Said, configuration, content
+
+MEANINGS = {
+    'b': 'the archive is for moderators alone',
+    'd': 'there are digests',
+    'f': 'subjects are marked with the prefix',
+    'g': 'the archive is for subscribers alone',
+    'h': 'whoever subscribes himself need not confirm it',
+    'j': 'whoever unsubscribes himself need not confirm it',
+    'k': 'whoever is in the set deny may not post',
+    'l': 'moderators may list the subscribers',
+    'm': 'posts are moderated',
+    'p': 'the list is public',
+    'r': 'moderators may administer the list by mail',
+    's': 'subscriptions are moderated',
+    't': 'posts get a trailer',
+    'u': 'only those who are known to the list may post',
+}
+# All that `check` reads, but for the configuration and the log.
+PARTS = 'key', 'subscribers', 'digest', 'allow', 'deny', 'mod', 'counts', 'archive', 'num', 'dig', 'pending', 'tickets', 'bounce', 'queue', \
+    'ids', 'done', 'floor'
+
+
+@dataclass(frozen=True)
+class Asked:
+    """What the words ask for: letters as `make` takes them, and the rest."""
+    letters: list[str]
+    prefix: str | None
+    most: str | None
+    owner: str | None
+    anyway: bool
+
+
+def asked(words: list[str]) -> Asked:
+    """Reads the words. Those that are none of the command's are Refused; values are left to `make`."""
+    try:
+        found, rest = getopt.getopt(words, LETTERS + LETTERS.upper(), ['prefix=', 'max=', 'owner=', 'anyway'])
+    except getopt.GetoptError as error:
+        raise Refused(USAGE, f'options: {texts.safe(str(error))}') from error
+    given = dict(found)
+    letters = [word for word, _ in found if not word.startswith('--')]
+    if rest or not letters:
+        raise Refused(USAGE, f'options: {texts.safe(rest[0])} is none of its words' if rest else
+                      'options: name the letters too, all that are to be set (-p alone if no other is)')
+    return Asked(letters, given.get('--prefix'), given.get('--max'), given.get('--owner'), '--anyway' in given)
+
+
+def words_of(config: Configuration) -> list[str]:
+    """The words by which `make` writes this configuration."""
+    letters = ''.join(letter for letter in LETTERS if config.has(letter) and letter != 'p') + ('' if config.has('p') else 'P')
+    words = [f'-{letters or "p"}']
+    if config.prefix != (b'[%b]' % config.local if config.has('f') else b''):
+        words.append(f'--prefix={config.prefix.decode("ascii")}')
+    return [*words, *([f'--max={config.most}'] if config.most != 1_048_576 else [])]
+
+
+def told(config: Configuration) -> Said:
+    """The options in words."""
+    lines = [f'list    {texts.safe(config.address)}', f'owner   {texts.safe(config.owner)}', f'prefix  {texts.safe(config.prefix)}'.rstrip(),
+             f'max     {config.most} bytes a post']
+    lines += [f'{letter} {"yes" if config.has(letter) else "no ":<3}   {MEANINGS[letter]}' for letter in LETTERS]
+    lines.append(f'words   {shlex.join(words_of(config))}')
+    return Said(lines, data(config))
+
+
+def data(config: Configuration) -> dict[str, object]:
+    return {'list': texts.exact(config.address), 'owner': texts.exact(config.owner), 'prefix': texts.exact(config.prefix),
+            'max': config.most, 'options': {letter: config.has(letter) for letter in LETTERS}, 'words': words_of(config)}
+
+
+def options(chosen: MailingList, *words: str) -> Said:
+    """Tells the options, or changes them to what `make` would write of these words."""
+    if not words:
+        return told(chosen.configuration())
+    wanted = asked(list(words))
+    status, before = chosen.check()
+    if status:
+        raise Refused(status, f'{chosen.folder}: the options of a list that isn\'t whole stay: check says: {before}')
+    old, new = chosen.read(lambda folder: change(folder, chosen, wanted))
+    status, after = chosen.check()
+    if status == NO_LIST:  # It was tried before, so this can't be, unless somebody else wrote into the folder.
+        chosen.settled(lambda folder: lay(folder, (folder / 'config.old').read_bytes()))
+        raise Refused(status, f'{chosen.folder}: check says {after}, so the former options are back')
+    return changed(old, new, after, chosen)
+
+
+def change(folder: pathlib.Path, chosen: MailingList, wanted: Asked) -> tuple[Configuration, Configuration]:
+    """Lays the new configuration in, while the list stands still, if `check` takes it and nobody is shut out by it."""
+    old_text = (folder / 'config').read_bytes()
+    old = configuration(old_text)
+    with tempfile.TemporaryDirectory(prefix='ezmlm-admin.') as scratch:
+        place = pathlib.Path(scratch)
+        made_text = made(place / 'made', chosen, old, wanted)
+        new = configuration(made_text)
+        moderators = content(folder, 'counts/mod', files.count)
+        if turned_on := [letter for letter in 'ms' if new.has(letter) and not old.has(letter)]:
+            if not moderators and not wanted.anyway:
+                raise Refused(REFUSED, f'-{turned_on[0]} asks the moderators, and the list has none: first ezmlm {folder} sub 0 mod ADDRESS '
+                                       '(or say --anyway)')
+        status, line = checked(place / 'tried', folder, made_text, chosen)
+        if status:
+            raise Refused(REFUSED, reason(old, new, line))
+    if made_text != old_text:
+        write(folder / 'config.old', old_text)
+        lay(folder, made_text)
+    return old, new
+
+
+def made(scratch: pathlib.Path, chosen: MailingList, old: Configuration, wanted: Asked) -> bytes:
+    """The configuration that the program's `make` writes of these words, in a folder of its own."""
+    scratch.mkdir()
+    values = ('--prefix', wanted.prefix), ('--max', wanted.most)
+    words = [*wanted.letters, *(f'{name}={value}' for name, value in values if value is not None), '--key', '0' * 64, '--',
+             old.local.decode('ascii'), old.host.decode('ascii'), old.owner.decode('ascii') if wanted.owner is None else wanted.owner]
+    status, output = chosen.program.run_now(scratch, ('make', *words), b'')
+    if status:
+        line = texts.safe(bytes(output).strip(b'\n'))
+        raise Refused(status, f'make refuses these words: {line} (each letter once; 1 to 62 bytes of --prefix; 1 to 16777216 for --max; an '
+                              'address for --owner, and none of the list\'s own)')
+    return (scratch / 'config').read_bytes()
+
+
+def checked(scratch: pathlib.Path, folder: pathlib.Path, config: bytes, chosen: MailingList) -> tuple[int, str]:
+    """What `check` says of the list's files under another configuration. It reads them by links, and changes nothing: its log and its lock
+    are new."""
+    scratch.mkdir()
+    (scratch / 'config').write_bytes(config)
+    for name in PARTS:
+        if (folder / name).exists():
+            (scratch / name).symlink_to((folder / name).resolve())
+    status, output = chosen.program.run_now(scratch, ('check',), b'')
+    return int(status), texts.safe(bytes(output).strip(b'\n')).removeprefix('- ')
+
+
+def reason(old: Configuration, new: Configuration, line: str) -> str:
+    """Why a configuration that `check` doesn't take is refused."""
+    if old.prefix != new.prefix and 'archive/threads' in line:
+        return (f'the prefix would become {texts.safe(new.prefix) or "empty"}, and the threads of the posts that are there are made by '
+                f'{texts.safe(old.prefix) or "an empty one"} (check would say: {line}); keep it by {shlex.join(["--prefix=" + old.prefix.decode("ascii")])}'
+                if old.prefix else f'the prefix would become {texts.safe(new.prefix)}, and the threads of the posts that are there are made without '
+                f'one (check would say: {line})')
+    return f'check would say: {line}'
+
+
+def write(path: pathlib.Path, text: bytes) -> None:
+    """Puts a file in the place of another, or none, at once, and on the disk."""
+    new = path.with_name(path.name + '.new')
+    with open(os.open(new, os.O_WRONLY | os.O_CREAT | os.O_TRUNC, 0o600), 'wb') as file:
+        file.write(text)
+        file.flush()
+        os.fsync(file.fileno())
+    os.replace(new, path)
+    sync(path.parent)
+
+
+def sync(folder: pathlib.Path) -> None:
+    """Has the names in a folder on the disk."""
+    opened = os.open(folder, os.O_RDONLY | os.O_DIRECTORY)
+    try:
+        os.fsync(opened)
+    finally:
+        os.close(opened)
+
+
+def lay(folder: pathlib.Path, text: bytes) -> None:
+    write(folder / 'config', text)
+
+
+def changed(old: Configuration, new: Configuration, line: str, chosen: MailingList) -> Said:
+    """What was changed, and what the list's keeper may not expect of it."""
+    before, after = data(old), data(new)
+    lines = [f'{name}: {texts.safe(str(before[name]))} -> {texts.safe(str(after[name]))}' for name in ('owner', 'prefix', 'max')
+             if before[name] != after[name]]
+    lines += [f'{letter}: {"now" if new.has(letter) else "no longer"} {MEANINGS[letter]}' for letter in LETTERS if new.has(letter) != old.has(letter)]
+    if lines:
+        lines.append('the former ones are in config.old')
+    posts = line.split(' ')[1] if line.startswith('ok ') else '0'
+    if new.has('d') and not old.has('d') and posts != '0':
+        lines.append('the digests begin where they were left: see ezmlm-admin digest. Each timed run makes one of at most 100 posts')
+    lines = lines or ['the options are as they were']
+    return Said([*lines, f'check: {line}'], {'was': before, 'is': after, 'check': line})
+
+
