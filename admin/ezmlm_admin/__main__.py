@@ -15,6 +15,7 @@ from . import lists, members, metrics, moderating, monitoring, options, rebuild,
 from .lists import MEMORY, NO_PERMISSION, USAGE, MailingList, Refused, Said
 
 VERSION = 'ezmlm-admin 0.1'
+STOPPED = 130  # by the terminal's interrupt, as shells have it
 # Each word with its further words, how many these are at least and at most, what it does, and the call.
 WORDS: dict[str, tuple[str, int, int, str, Callable[..., Said]]] = {
     'member': ('ADDRESS', 1, 1, 'in which sets an address is, since when, and its bounces', members.member),
@@ -123,6 +124,8 @@ def main(words: list[str]) -> int:
         return refused(NO_PERMISSION, f'{error}: run it as the user that the list belongs to', is_monitor)
     except OSError as error:
         return refused(lists.DISK, str(error), is_monitor)
+    except KeyboardInterrupt:
+        return STOPPED
 
 
 def told(lines: list[str], status: int) -> int:

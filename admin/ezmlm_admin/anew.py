@@ -119,9 +119,9 @@ def mark_of(folder: pathlib.Path, last: int, has_digests: bool, said: list[str])
 
 
 def started(chosen: MailingList, part: pathlib.Path, words: list[str]) -> None:
-    status, output = chosen.program.run_now(part, words, b'')
+    status, output = chosen.once(part, *words)
     if status:
-        raise Refused(status, f'{part}: make says: {texts.safe(bytes(output).strip())}')
+        raise Refused(status, f'{part}: make says: {texts.safe(output.strip())}')
 
 
 def posts(folder: pathlib.Path, kept: Kept) -> Iterator[tuple[bytes, str]]:

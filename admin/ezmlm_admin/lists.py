@@ -2,6 +2,7 @@
 
 from __future__ import annotations
 
+import asyncio
 import os
 import pathlib
 import pwd
@@ -125,13 +126,18 @@ class MailingList:
             raise Refused(NO_PERMISSION, f'{folder} is of the user {user(owner)}, and root would leave files of its own there: '
                                          f'runuser -u {user(owner)} -- ezmlm-admin ..')
 
+    def once(self, folder: pathlib.Path, *words: str, given: bytes = b'') -> tuple[int, bytes]:
+        """The status and the output of one run of the program in a folder, whether or not another run has that."""
+        status, output = asyncio.run(self.program.run(folder, *words, given=given))
+        return int(status), bytes(output)
+
     def run(self, *words: str, given: bytes = b'') -> tuple[int, str]:
         """The status and the output of one run of the program. While another run has the list it is tried again."""
         end = time.monotonic() + self.wait
         while True:
-            status, output = self.program.run_now(self.folder, words, given)
+            status, output = self.once(self.folder, *words, given=given)
             if status != DISK or time.monotonic() >= end:
-                return int(status), str(output, 'utf-8', 'backslashreplace').strip('\n')
+                return status, output.decode('utf-8', 'backslashreplace').strip('\n')
             time.sleep(TICK)
 
     def check(self) -> tuple[int, str]:

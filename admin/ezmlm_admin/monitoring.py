@@ -53,12 +53,11 @@ def seen(path: pathlib.Path, program: str, until: float) -> Seen:
     """Looks at one list. What another run holds is waited for up to this moment of the monotonic clock."""
     found = Seen(path)
     try:
-        log = path / 'log'
+        chosen, log = MailingList(path, program), path / 'log'
         found.log_bytes = folders.size_or_none(log) or 0
         found.log_age = time.time() - log.stat().st_mtime if found.log_bytes > 1 else 0.0
         state = os.statvfs(path)
         found.space = state.f_bavail * state.f_frsize, state.f_blocks * state.f_frsize, state.f_favail, state.f_files
-        chosen = MailingList(path, program)
         chosen.wait = max(0.0, until - time.monotonic())
         look(chosen, found)
     except Refused as error:

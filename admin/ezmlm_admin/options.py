@@ -35,10 +35,8 @@ PARTS = 'key', 'subscribers', 'digest', 'allow', 'deny', 'mod', 'counts', 'archi
 
 @dataclass(frozen=True)
 class Asked:
-    """What the words ask for: letters as `make` takes them, and the rest."""
-    letters: list[str]
-    prefix: str | None
-    most: str | None
+    """What the words ask for: words for `make`, an owner in the place of the list's, and whether that nobody moderates is all right."""
+    words: list[str]
     owner: str | None
     anyway: bool
 
@@ -50,11 +48,11 @@ def asked(words: list[str]) -> Asked:
     except getopt.GetoptError as error:
         raise Refused(USAGE, f'options: {texts.safe(str(error))}') from error
     given = dict(found)
-    letters = [word for word, _ in found if not word.startswith('--')]
-    if rest or not letters:
+    if rest or all(word.startswith('--') for word, _ in found):
         raise Refused(USAGE, f'options: {texts.safe(rest[0])} is none of its words' if rest else
                       'options: name the letters too, all that are to be set (-p alone if no other is)')
-    return Asked(letters, given.get('--prefix'), given.get('--max'), given.get('--owner'), '--anyway' in given)
+    for_make = [f'{word}={value}' if word.startswith('--') else word for word, value in found if word not in ('--owner', '--anyway')]
+    return Asked(for_make, given.get('--owner'), '--anyway' in given)
 
 
 def words_of(config: Configuration) -> list[str]:
@@ -121,12 +119,10 @@ def change(folder: pathlib.Path, chosen: MailingList, wanted: Asked) -> tuple[Co
 def made(scratch: pathlib.Path, chosen: MailingList, old: Configuration, wanted: Asked) -> bytes:
     """The configuration that the program's `make` writes of these words, in a folder of its own."""
     scratch.mkdir()
-    values = ('--prefix', wanted.prefix), ('--max', wanted.most)
-    words = [*wanted.letters, *(f'{name}={value}' for name, value in values if value is not None), '--key', '0' * 64, '--',
-             old.local.decode('ascii'), old.host.decode('ascii'), old.owner.decode('ascii') if wanted.owner is None else wanted.owner]
-    status, output = chosen.program.run_now(scratch, ('make', *words), b'')
+    owner = old.owner.decode('ascii') if wanted.owner is None else wanted.owner
+    status, output = chosen.once(scratch, 'make', *wanted.words, '--key', '0' * 64, '--', old.local.decode('ascii'), old.host.decode('ascii'), owner)
     if status:
-        line = texts.safe(bytes(output).strip(b'\n'))
+        line = texts.safe(output.strip(b'\n'))
         raise Refused(status, f'make refuses these words: {line} (each letter once; 1 to 62 bytes of --prefix; 1 to 16777216 for --max; an '
                               'address for --owner, and none of the list\'s own)')
     return (scratch / 'config').read_bytes()
@@ -140,8 +136,8 @@ def checked(scratch: pathlib.Path, folder: pathlib.Path, config: bytes, chosen: 
     for name in PARTS:
         if (folder / name).exists():
             (scratch / name).symlink_to((folder / name).resolve())
-    status, output = chosen.program.run_now(scratch, ('check',), b'')
-    return int(status), texts.safe(bytes(output).strip(b'\n')).removeprefix('- ')
+    status, output = chosen.once(scratch, 'check')
+    return status, texts.safe(output.strip(b'\n')).removeprefix('- ')
 
 
 def reason(old: Configuration, new: Configuration, line: str) -> str:

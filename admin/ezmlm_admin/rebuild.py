@@ -47,10 +47,13 @@ def lay(folder: pathlib.Path, moment: float) -> tuple[str | None, Written]:
     nothing was to be changed."""
     config = content(folder, 'config', configuration)
     last = archive.count(folder)
-    written = archive.write(folder, last, config.prefix, folder / NEW, int(moment))
-    num = b'%d\n' % last
-    (folder / NEW_NUM).write_bytes(num)
-    if not (folder / 'num').is_file() or (folder / 'num').read_bytes() != num:
+    try:
+        written = archive.write(folder, last, config.prefix, folder / NEW, int(moment))
+        (folder / NEW_NUM).write_bytes(b'%d\n' % last)
+    except OSError:  # As on a full disk: then nothing was changed, and the room is given back.
+        clear(folder)
+        raise
+    if not (folder / 'num').is_file() or (folder / 'num').read_bytes() != b'%d\n' % last:
         written.changed.append('num')
     if not written.changed:
         clear(folder)

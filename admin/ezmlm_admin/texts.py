@@ -115,13 +115,12 @@ def date(moment: int | None) -> str:
 
 
 def age(seconds: float) -> str:
-    """A span of time in its two greatest units, as `2d 3h`."""
-    left, words = max(0, int(seconds)), list[str]()
-    for unit, size in (('d', 86400), ('h', 3600), ('m', 60), ('s', 1)):
-        if left >= size or (unit == 's' and not words):
-            words.append(f'{left // size}{unit}')
-        left %= size
-    return ' '.join(words[:2])
+    """A span of time in its greatest unit and the next one, as `2d 3h`."""
+    left = max(0, int(seconds))
+    for unit, size, lower, part in (('d', 86400, 'h', 3600), ('h', 3600, 'm', 60), ('m', 60, 's', 1)):
+        if left >= size:
+            return f'{left // size}{unit} {left % size // part}{lower}'
+    return f'{left}s'
 
 
 def table(heads: Sequence[str], rows: Sequence[Sequence[object]]) -> list[str]:

@@ -1,0 +1,58 @@
+"""Runs the cases, a few at once."""
+
+import argparse
+import concurrent.futures
+import os
+import pathlib
+import sys
+import traceback
+
+from . import asked, changed, killed, made_anew, monitored, rebuilt, rows, shell
+from .world import TOP, Skipped, World, Wrong
+
+AT_ONCE = 4
+MODULES = killed, rebuilt, made_anew, asked, changed, monitored, rows, shell  # those that take longest first
+
+
+def cases():
+    """The cases by their names."""
+    return {name.removeprefix('case_'): call for module in MODULES for name, call in vars(module).items() if name.startswith('case_')}
+
+
+def run(name, program):
+    """How a case ended, and what there is to say."""
+    world = World(program)
+    try:
+        cases()[name](world)
+        return 'ok', world.note
+    except Skipped as why:
+        return 'skipped', str(why)
+    except Wrong as why:
+        return 'FAILED', str(why)
+    except Exception:
+        return 'FAILED', traceback.format_exc()
+    finally:
+        world.close()
+
+
+def main():
+    parser = argparse.ArgumentParser(prog='tests/admin')
+    parser.add_argument('program', nargs='?', default=os.environ.get('EZMLM', TOP / 'crates/ezmlm/out/ezmlm'))
+    parser.add_argument('-k', default='', metavar='WORD')
+    words = parser.parse_args()
+    program = pathlib.Path(words.program).resolve()
+    if not program.is_file() or not os.access(program, os.X_OK):
+        sys.exit(f'admin: there is no program {program}: tools/install and .ci/run prove and build it, tests/quick without proof')
+    ended = {'ok': 0, 'skipped': 0, 'FAILED': 0}
+    with concurrent.futures.ProcessPoolExecutor(AT_ONCE) as pool:
+        runs = {pool.submit(run, name, program): name for name in cases() if words.k in name}
+        for done in concurrent.futures.as_completed(runs):
+            how, said = done.result()
+            ended[how] += 1
+            print(f'{how:<7} {runs[done]}: {cases()[runs[done]].__doc__}' + (f' ({said})' if said else ''), flush=True)
+    print(f'{ended["ok"]} passed, {ended["FAILED"]} failed')
+    sys.exit(ended['FAILED'] > 0)
+
+
+if __name__ == '__main__':
+    main()
