@@ -19,7 +19,8 @@ from ezmlm_agent import program as programs
 
 from . import archive, files, texts
 from .entries import GROUP, Entry
-from .lists import NO_LIST, REFUSED, SETS, Configuration, MailingList, Refused, Said, below, configuration
+from .config import Configuration, configuration
+from .lists import NO_LIST, REFUSED, SETS, MailingList, Refused, Said, below, content
 from .options import sync, write
 
 LARGEST_POST = 16_777_216
@@ -74,7 +75,7 @@ def make(chosen: MailingList, place: pathlib.Path) -> Said:
 def gather(folder: pathlib.Path) -> Kept:
     """What is taken of the old list, while it stands still."""
     text = folders.bytes_or_none(folder / 'config') or b''
-    config, said = configuration(text), list[str]()
+    config, said = content(folder, 'config', configuration), list[str]()
     key = folders.bytes_or_none(folder / 'key') or b''
     if len(key) not in (32, 72):
         said.append('key is damaged: the new list has a new one, so letters of confirmation that are under way are refused')

@@ -3,6 +3,7 @@
 from __future__ import annotations
 
 import asyncio
+import fcntl
 import os
 import pathlib
 import pwd
@@ -15,18 +16,16 @@ from typing import BinaryIO, TypeVar
 from ezmlm_agent import folder as folders
 from ezmlm_agent import program as programs
 
+from .config import Configuration, configuration
+
 T = TypeVar('T')
 
 WAIT = 10   # seconds in which a list that another run holds is tried again
 TICK = 0.1  # seconds between two tries
+RUNS = 3    # of the program, that fail although nobody holds the list, until that is believed
 USAGE, WORDS, MEMORY, NO_LIST, NO_PERMISSION, REFUSED, DISK = 64, 65, 71, 75, 77, 100, 111
 SETS = 'list', 'digest', 'allow', 'deny', 'mod'
 NAME = re.compile('[1-9][0-9]{0,15}', re.ASCII)
-LETTERS = 'bdfghjklmprstu'
-CONFIG = re.compile(
-    rb'flags (' + b''.join(b'[%c%c]' % (letter, letter - 32) for letter in LETTERS.encode()) + rb')\n'
-    rb'local ([!-?A-~]{1,60})\nhost ([a-z0-9._-]{1,255})\nowner ([!-?A-~]+@[a-z0-9._-]+)\n'
-    rb'prefix ((?:[!-~](?:[ -~]{0,60}[!-~])?)?)\nmax ([1-9][0-9]{0,7})\n')
 
 
 class Refused(Exception):
@@ -37,35 +36,16 @@ class Refused(Exception):
         self.status = status
 
 
+class Busy(Refused):
+    """Another process has held the list for as long as it was waited for."""
+
+    def __init__(self, folder: pathlib.Path, wait: float) -> None:
+        super().__init__(DISK, f'{folder}: another run, a backup or the agent has held {folder / "lock"} for {wait:.0f} seconds; '
+                               'lslocks tells which')
+
+
 class Damaged(Exception):
     """A file of the list, by its path below the list's folder, isn't as docs/FORMATS.md has it."""
-
-
-@dataclass(frozen=True)
-class Configuration:
-    """The file `config`: the flags as they stand there, and the values."""
-    flags: str
-    local: bytes
-    host: bytes
-    owner: bytes
-    prefix: bytes
-    most: int  # bytes of a post
-
-    @property
-    def address(self) -> bytes:
-        return self.local + b'@' + self.host
-
-    def has(self, letter: str) -> bool:
-        """Whether the option of this letter, in lower case, is set."""
-        return letter in self.flags
-
-
-def configuration(text: bytes) -> Configuration:
-    """The configuration that these bytes spell. Other bytes are Damaged."""
-    found = CONFIG.fullmatch(text)
-    if found is None or int(found[6]) > 16_777_216:
-        raise Damaged('config')
-    return Configuration(found[1].decode('ascii'), found[2], found[3], found[4], found[5], int(found[6]))
 
 
 @dataclass(frozen=True)
@@ -132,13 +112,33 @@ class MailingList:
         return int(status), bytes(output)
 
     def run(self, *words: str, given: bytes = b'') -> tuple[int, str]:
-        """The status and the output of one run of the program. While another run has the list it is tried again."""
-        end = time.monotonic() + self.wait
+        """The status and the output of one run of the program, when no other one has the list. If one has it all the time that is Busy."""
+        end, runs = time.monotonic() + self.wait, 0
         while True:
+            while self.is_held():
+                self.pause(end)
             status, output = self.once(self.folder, *words, given=given)
-            if status != DISK or time.monotonic() >= end:
+            runs += 1
+            if status != DISK or runs == RUNS:
                 return status, output.decode('utf-8', 'backslashreplace').strip('\n')
-            time.sleep(TICK)
+            self.pause(end)
+
+    def is_held(self) -> bool:
+        """Whether another process holds the list's lock now."""
+        try:
+            with open(self.folder / 'lock', 'rb') as lock:
+                fcntl.flock(lock, fcntl.LOCK_SH | fcntl.LOCK_NB)
+        except FileNotFoundError:
+            return False
+        except BlockingIOError:
+            return True
+        return False
+
+    def pause(self, end: float) -> None:
+        """Waits a moment, unless this moment of the monotonic clock has passed: then it is Busy."""
+        if time.monotonic() >= end:
+            raise Busy(self.folder, self.wait)
+        time.sleep(TICK)
 
     def check(self) -> tuple[int, str]:
         """The status of `check`, and its line without what stands before `ok` or the status."""
@@ -155,14 +155,11 @@ class MailingList:
             except folders.Unsettled:
                 status, line = self.run(*programs.SETTLES)
                 runs += 1
-                if status != REFUSED or runs > 3:
+                if status != REFUSED or runs > RUNS:
                     raise Refused(status or DISK, f'{self.folder}: an earlier run was stopped, and what it left in the log can\'t be laid down: '
                                                   f'{line or "no answer"}') from None
             except folders.Held:
-                if time.monotonic() >= end:
-                    raise Refused(DISK, f'{self.folder}: another run, a backup or the agent has held {self.folder / "lock"} for {self.wait:.0f} '
-                                        'seconds; lslocks tells which') from None
-                time.sleep(TICK)
+                self.pause(end)
 
     def read(self, call: Callable[[pathlib.Path], T]) -> T:
         """As `settled`, where what is damaged is refused with what `check` says."""

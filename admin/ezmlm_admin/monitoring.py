@@ -5,13 +5,14 @@ from __future__ import annotations
 import os
 import pathlib
 import time
-from collections.abc import Iterator, Sequence
+from collections.abc import Iterable, Iterator, Sequence
 from dataclasses import dataclass, field
 
 from ezmlm_agent import folder as folders
 
 from . import files, texts
-from .lists import DISK, MailingList, Refused, Said, configuration, content, opened
+from .config import configuration
+from .lists import DISK, Busy, MailingList, Refused, Said, content, opened
 
 OK, WARNING, CRITICAL, UNKNOWN = range(4)  # the statuses of a plugin
 WORST_LAST = OK, UNKNOWN, WARNING, CRITICAL
@@ -60,6 +61,8 @@ def seen(path: pathlib.Path, program: str, until: float) -> Seen:
         found.space = state.f_bavail * state.f_frsize, state.f_blocks * state.f_frsize, state.f_favail, state.f_files
         chosen.wait = max(0.0, until - time.monotonic())
         look(chosen, found)
+    except Busy:
+        found.status, found.word, found.is_held = DISK, 'another run, a backup or the agent holds it', True
     except Refused as error:
         found.status, found.word = error.status, str(error)
     except OSError as error:
@@ -71,22 +74,8 @@ def look(chosen: MailingList, found: Seen) -> None:
     found.status, line = chosen.check()
     found.word = line.split(' ')[0] if found.status == 0 else line.removeprefix(f'{found.status} ')
     found.counts = [int(number) for number in line.split(' ')[1:]] if found.status == 0 else []
-    if found.status == DISK:
-        found.is_held = is_held(chosen.folder)
-        found.word = 'another run, a backup or the agent holds it' if found.is_held else 'the disk failed'
-    else:
+    if found.status != DISK:
         chosen.read(lambda folder: oldest(folder, found))
-
-
-def is_held(folder: pathlib.Path) -> bool:
-    """Whether another process holds the list now."""
-    try:
-        folders.settled(folder, str)
-    except folders.Held:
-        return True
-    except folders.Unsettled:
-        return False
-    return False
 
 
 def oldest(folder: pathlib.Path, found: Seen) -> None:
@@ -109,7 +98,8 @@ def faults(one: Seen, now: float) -> Iterator[tuple[int, str]]:
     """What is to be said of a list, each with the status that it gives."""
     if one.status:
         yield (UNKNOWN if one.is_held else CRITICAL), f'{one.status} {one.word}'
-    for name, moment, what in (('queue', one.oldest_queued, 'the oldest entry of the queue is'), ('held', one.oldest_held, 'the oldest held post is')):
+    oldest = ('queue', one.oldest_queued, 'the oldest entry of the queue is'), ('held', one.oldest_held, 'the oldest held post is')
+    for name, moment, what in oldest:
         if moment is not None and (status := above(now - moment, LIMITS[name])):
             yield status, f'{what} {texts.age(now - moment)} old'
     if one.log_bytes > 1 and (status := above(one.log_age, LIMITS['log'])):
@@ -128,13 +118,17 @@ def watch(words: Sequence[str], program: str, wait: float) -> Said:
     """One line with the worst status, what is wrong with which list, and performance data."""
     now, every = time.time(), all_seen(words, program, wait)
     told = [(status, one, what) for one in every for status, what in faults(one, now)]
-    status = max((status for status, _, _ in told), key=WORST_LAST.index, default=OK)
+    status = worst(status for status, _, _ in told)
     text = '; '.join(f'{one.folder.name}: {what}' for _, one, what in sorted(told, key=lambda row: -WORST_LAST.index(row[0])))
     text = text or ('the list is whole' if len(every) == 1 else f'{len(every)} lists are whole')
     line = f'EZMLM {NAMES[status]} - {plain(text)} | ' + ' '.join(measure for one in every for measure in performance(one, now))
-    data = [{'folder': str(one.folder), 'list': one.address, 'status': NAMES[max((s for s, _ in faults(one, now)), key=WORST_LAST.index, default=OK)],
-             'check': one.word, 'what': [what for _, what in faults(one, now)]} for one in every]
+    data = [{'folder': str(one.folder), 'list': one.address, 'status': NAMES[worst(status for status, which, _ in told if which is one)],
+             'check': one.word, 'what': [what for _, which, what in told if which is one]} for one in every]
     return Said([line], data, status)
+
+
+def worst(statuses: Iterable[int]) -> int:
+    return max(statuses, key=WORST_LAST.index, default=OK)
 
 
 def plain(text: str) -> str:

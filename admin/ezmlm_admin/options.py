@@ -10,7 +10,8 @@ import tempfile
 from dataclasses import dataclass
 
 from . import files, texts
-from .lists import LETTERS, NO_LIST, REFUSED, USAGE, Configuration, MailingList, Refused, Said, configuration, content
+from .config import LETTERS, Configuration, configuration
+from .lists import NO_LIST, REFUSED, USAGE, MailingList, Refused, Said, content
 
 MEANINGS = {
     'b': 'the archive is for moderators alone',
@@ -86,18 +87,18 @@ def options(chosen: MailingList, *words: str) -> Said:
     status, before = chosen.check()
     if status:
         raise Refused(status, f'{chosen.folder}: the options of a list that isn\'t whole stay: check says: {before}')
-    old, new = chosen.read(lambda folder: change(folder, chosen, wanted))
+    former, old, new = chosen.read(lambda folder: change(folder, chosen, wanted))
     status, after = chosen.check()
     if status == NO_LIST:  # It was tried before, so this can't be, unless somebody else wrote into the folder.
-        chosen.settled(lambda folder: lay(folder, (folder / 'config.old').read_bytes()))
+        chosen.settled(lambda folder: write(folder / 'config', former))
         raise Refused(status, f'{chosen.folder}: check says {after}, so the former options are back')
-    return changed(old, new, after, chosen)
+    return changed(old, new, after)
 
 
-def change(folder: pathlib.Path, chosen: MailingList, wanted: Asked) -> tuple[Configuration, Configuration]:
-    """Lays the new configuration in, while the list stands still, if `check` takes it and nobody is shut out by it."""
-    old_text = (folder / 'config').read_bytes()
-    old = configuration(old_text)
+def change(folder: pathlib.Path, chosen: MailingList, wanted: Asked) -> tuple[bytes, Configuration, Configuration]:
+    """Lays the new configuration in, while the list stands still, if `check` takes it and nobody is shut out by it. The former one's bytes,
+    and both."""
+    old_text, old = (folder / 'config').read_bytes(), content(folder, 'config', configuration)
     with tempfile.TemporaryDirectory(prefix='ezmlm-admin.') as scratch:
         place = pathlib.Path(scratch)
         made_text = made(place / 'made', chosen, old, wanted)
@@ -112,15 +113,16 @@ def change(folder: pathlib.Path, chosen: MailingList, wanted: Asked) -> tuple[Co
             raise Refused(REFUSED, reason(old, new, line))
     if made_text != old_text:
         write(folder / 'config.old', old_text)
-        lay(folder, made_text)
-    return old, new
+        write(folder / 'config', made_text)
+    return old_text, old, new
 
 
 def made(scratch: pathlib.Path, chosen: MailingList, old: Configuration, wanted: Asked) -> bytes:
     """The configuration that the program's `make` writes of these words, in a folder of its own."""
     scratch.mkdir()
-    owner = old.owner.decode('ascii') if wanted.owner is None else wanted.owner
-    status, output = chosen.once(scratch, 'make', *wanted.words, '--key', '0' * 64, '--', old.local.decode('ascii'), old.host.decode('ascii'), owner)
+    local, host, owner = (text.decode('ascii') for text in (old.local, old.host, old.owner))
+    values = local, host, owner if wanted.owner is None else wanted.owner
+    status, output = chosen.once(scratch, 'make', *wanted.words, '--key', '0' * 64, '--', *values)
     if status:
         line = texts.safe(output.strip(b'\n'))
         raise Refused(status, f'make refuses these words: {line} (each letter once; 1 to 62 bytes of --prefix; 1 to 16777216 for --max; an '
@@ -143,10 +145,10 @@ def checked(scratch: pathlib.Path, folder: pathlib.Path, config: bytes, chosen: 
 def reason(old: Configuration, new: Configuration, line: str) -> str:
     """Why a configuration that `check` doesn't take is refused."""
     if old.prefix != new.prefix and 'archive/threads' in line:
-        return (f'the prefix would become {texts.safe(new.prefix) or "empty"}, and the threads of the posts that are there are made by '
-                f'{texts.safe(old.prefix) or "an empty one"} (check would say: {line}); keep it by {shlex.join(["--prefix=" + old.prefix.decode("ascii")])}'
-                if old.prefix else f'the prefix would become {texts.safe(new.prefix)}, and the threads of the posts that are there are made without '
-                f'one (check would say: {line})')
+        by = f'by {texts.safe(old.prefix)}' if old.prefix else 'without one'
+        keep = '; keep it by ' + shlex.join(['--prefix=' + old.prefix.decode('ascii')]) if old.prefix else ''
+        return (f'the prefix would become {texts.safe(new.prefix) or "empty"}, and the threads of the posts that are there are made {by} '
+                f'(check would say: {line}){keep}')
     return f'check would say: {line}'
 
 
@@ -170,16 +172,13 @@ def sync(folder: pathlib.Path) -> None:
         os.close(opened)
 
 
-def lay(folder: pathlib.Path, text: bytes) -> None:
-    write(folder / 'config', text)
-
-
-def changed(old: Configuration, new: Configuration, line: str, chosen: MailingList) -> Said:
+def changed(old: Configuration, new: Configuration, line: str) -> Said:
     """What was changed, and what the list's keeper may not expect of it."""
     before, after = data(old), data(new)
     lines = [f'{name}: {texts.safe(str(before[name]))} -> {texts.safe(str(after[name]))}' for name in ('owner', 'prefix', 'max')
              if before[name] != after[name]]
-    lines += [f'{letter}: {"now" if new.has(letter) else "no longer"} {MEANINGS[letter]}' for letter in LETTERS if new.has(letter) != old.has(letter)]
+    lines += [f'{letter}: {"now" if new.has(letter) else "no longer"} {MEANINGS[letter]}' for letter in LETTERS
+              if new.has(letter) != old.has(letter)]
     if lines:
         lines.append('the former ones are in config.old')
     posts = line.split(' ')[1] if line.startswith('ok ') else '0'

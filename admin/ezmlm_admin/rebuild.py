@@ -10,7 +10,8 @@ import time
 
 from . import anew, archive, texts
 from .archive import Written
-from .lists import NO_LIST, MailingList, Refused, Said, configuration, content
+from .config import configuration
+from .lists import NO_LIST, MailingList, Refused, Said, content
 from .options import sync
 
 NEW, NEW_NUM, OLD = 'archive.new', 'num.new', 'archive.old'

@@ -53,9 +53,9 @@ def held(chosen: MailingList, *ticket: str) -> Said:
     now = time.time()
     if ticket:
         found = one_held(chosen, ticket_of(ticket[0]), 1 << 26)
-        lines = [f'held since {texts.date(found.moment)}, from {texts.safe(found.sender)}, {found.size} bytes', '', texts.safe_lines(found.message)]
-        return Said(lines, {'ticket': int(ticket[0]), 'moment': found.moment, 'sender': texts.exact(found.sender),
-                            'message': texts.exact(found.message)})
+        first = f'held since {texts.date(found.moment)}, from {texts.safe(found.sender)}, {found.size} bytes'
+        of_post = {'ticket': int(ticket[0]), 'moment': found.moment, 'sender': texts.exact(found.sender), 'message': texts.exact(found.message)}
+        return Said([first, '', texts.safe_lines(found.message)], of_post)
     rows, data = [], []
     for number, one in chosen.read(lambda folder: list(each_held(folder, HEAD))):
         subject = texts.subject(one.message)
@@ -119,7 +119,7 @@ def digest(chosen: MailingList) -> Said:
     when = 'due now' if is_due else f'due at {texts.date(by_age)}, or with {DUE_POSTS} posts or {DUE_BYTES} bytes' if by_age else 'none is due'
     if not config.has('d'):
         is_due, when = False, 'the list has no digests: option d is clear'
-    lines = [f'issue {issue} was the last, up to post {last}',
-             f'{posts - last} posts wait' + (f', the first since {texts.date(first)}; {size} bytes in the next issue\'s' if waiting else ''), when]
+    of_next = f', the first since {texts.date(first)}; {size} bytes in the next issue' if waiting else ''
+    lines = [f'issue {issue} was the last, up to post {last}', f'{posts - last} posts wait{of_next}', when]
     return Said(lines, {'digests': config.has('d'), 'issue': issue, 'last': last, 'waiting': posts - last, 'bytes': size,
                         'first': first, 'is_due': is_due, 'due': by_age if config.has('d') else None})

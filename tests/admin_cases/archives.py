@@ -15,8 +15,9 @@ SUBJECTS = b'topic one', b'Re: topic one', b'other', b'[cats] Topic  ONE', b'=?u
 
 def archive(world, name, posts, *letters):
     """A list of so many posts, whose files have the times at which the posts came, as on a list that was never copied."""
-    folder = world.list(name, *letters)
-    world.spool(name, *(post(number, b'u%d@b.net' % (number % 5), name.encode(), BEGIN + number * STEP, SUBJECTS[number % len(SUBJECTS)])
+    local = name.rpartition('/')[2]
+    folder = world.list_at(name, local, *letters)
+    world.spool(name, *(post(number, b'u%d@b.net' % (number % 5), local.encode(), BEGIN + number * STEP, SUBJECTS[number % len(SUBJECTS)])
                         for number in range(1, posts + 1)))
     for number in range(1, posts + 1):
         os.utime(post_path(folder, number), (BEGIN + number * STEP,) * 2)

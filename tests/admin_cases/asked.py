@@ -3,10 +3,11 @@
 import json
 import os
 import pwd
+import subprocess
 import threading
 import time
 
-from .world import BEGIN, check, held, holds, post, same
+from .world import BEGIN, TOOL, Skipped, check, held, holds, post, same
 
 HOUR = 3600
 
@@ -25,8 +26,10 @@ def case_member(world):
          'list: Ann@ex.net, since 2023-11-14T22:13:20Z\n    bounces: not warned, since 2023-11-14T22:21:40Z, 1 mails missed\n'
          'mod: ann@ex.net, since 2023-11-14T22:14:20Z\n', 'a member')
     found = json.loads(world.admin('--json', 'cats', 'member', 'ann@ex.net'))
-    same([(one['set'], one['address'], one['since']) for one in found], [('list', 'Ann@ex.net', BEGIN), ('mod', 'ann@ex.net', BEGIN + 60)], 'JSON')
-    same(found[0]['bounces'], {'set': 'list', 'address': 'ann@ex.net', 'stage': 'not warned', 'since': BEGIN + 500, 'first': BEGIN + 500, 'missed': [1]},
+    same([(one['set'], one['address'], one['since']) for one in found], [('list', 'Ann@ex.net', BEGIN),
+            ('mod', 'ann@ex.net', BEGIN + 60)], 'JSON')
+    same(found[0]['bounces'], {'set': 'list', 'address': 'ann@ex.net', 'stage': 'not warned',
+            'since': BEGIN + 500, 'first': BEGIN + 500, 'missed': [1]},
          'bounces')
     same(world.admin('cats', 'member', 'bob@ex.net', status=100), 'bob@ex.net is in no set\n', 'nobody')
     same(json.loads(world.admin_run('--json', 'cats', 'member', 'bob@ex.net').stdout), [], 'nobody in JSON')
@@ -39,8 +42,10 @@ def case_member(world):
 def case_bounces(world):
     """bounces tells who, the stage, since when and how many mails were missed, of both sets or of one."""
     folder = world.list('cats', '-d')
-    world.spool('cats', *((b'A', 0, BEGIN, name, b'%s@b.net' % who) for name in (b'list', b'digest') for who in (b'ann', b'bob')), post(1), post(2))
-    world.spool('cats', *((b'D', 0, BEGIN + n, b'', b'cats-return-%d-%s=b.net@ex.org' % (n, who), b'\n') for n in (1, 2) for who in (b'ann', b'bob')),
+    world.spool('cats', *((b'A', 0, BEGIN, name, b'%s@b.net' % who) for name in (b'list', b'digest') for who in (b'ann', b'bob')), post(1),
+            post(2))
+    world.spool('cats', *((b'D', 0, BEGIN + n, b'', b'cats-return-%d-%s=b.net@ex.org' % (n, who), b'\n') for n in (1, 2) for who in (b'ann',
+            b'bob')),
                 (b'T', 0, BEGIN + 10**6 + 1), (b'D', 0, BEGIN + 10**6 + 9, b'', b'cats-digest-return-1-bob=b.net@ex.org', b'\n'))
     warned = next(line.split(b':')[1] for line in (folder / 'queue/4').read_bytes().split(b',') if b'return-warn' in line)
     check(warned.startswith(b'cats-return-warn-'), warned)
@@ -68,7 +73,8 @@ def case_held(world):
     world.list('cats', '-m')
     now = int(time.time())
     mail = b'To: cats@ex.org\nSubject: ' + HOSTILE + b'\n\nbody \x1b[2J\x00\xff\r\n'
-    world.spool('cats', (b'D', 0, now - 90 * HOUR, b'ann@b', b'cats@ex.org', mail), post(2, moment=now - 1), (b'D', 0, now, b'x@y', b'cats@ex.org', post(3)[5]))
+    world.spool('cats', (b'D', 0, now - 90 * HOUR, b'ann@b', b'cats@ex.org', mail), post(2, moment=now - 1),
+            (b'D', 0, now, b'x@y', b'cats@ex.org', post(3)[5]))
     said = world.admin('cats', 'held')
     rows = lines(said)
     same([(row[0], row[3]) for row in rows], [('1', 'ann@b'), ('2', 'u@b.net'), ('3', 'x@y')], 'tickets and senders')
@@ -106,12 +112,15 @@ def case_queue(world):
     """queue tells id, age, kind, recipients, bytes and subject, and where there is nothing it prints nothing."""
     folder = world.list('cats', '-d')
     same(world.admin('cats', 'queue'), '', 'nothing')
-    world.spool('cats', (b'A', 0, BEGIN, b'list', b'a@b'), (b'A', 0, BEGIN, b'list', b'c@d'), (b'A', 0, BEGIN, b'digest', b'e@f'), post(1, subject=HOSTILE),
-                (b'D', 0, BEGIN + 1, b'', b'cats-return-1-a=b@ex.org', b'\n'), (b'T', 0, BEGIN + 10**6 + 1), (b'D', 0, BEGIN, b'x@y', b'cats-help@ex.org', b'\n'))
+    world.spool('cats', (b'A', 0, BEGIN, b'list', b'a@b'), (b'A', 0, BEGIN, b'list', b'c@d'),
+            (b'A', 0, BEGIN, b'digest', b'e@f'), post(1, subject=HOSTILE),
+                (b'D', 0, BEGIN + 1, b'', b'cats-return-1-a=b@ex.org', b'\n'), (b'T', 0, BEGIN + 10**6 + 1),
+                (b'D', 0, BEGIN, b'x@y', b'cats-help@ex.org', b'\n'))
     os.utime(folder / 'queue/1', (time.time() - 25 * HOUR - 99,) * 2)
     said = world.admin('cats', 'queue')
     rows = lines(said)
-    same([(row[0], *row[2:4]) for row in rows], [('1', 'post 1', '2'), ('2', 'digest 1', '1'), ('3', 'warning', '1'), ('4', 'mail', '1')], 'entries')
+    same([(row[0], *row[2:4]) for row in rows], [('1', 'post 1', '2'), ('2', 'digest 1', '1'), ('3', 'warning', '1'),
+            ('4', 'mail', '1')], 'entries')
     same(rows[0][1], '1d 1h', 'age')
     same([row[4] for row in rows], [line.split(' ')[2] for line in world.answers('cats', 'queue').splitlines()], 'bytes')
     same([row[5] for row in rows[1:]], ['cats Digest Issue 1', 'bounce warning', 'help'], 'subjects')
@@ -127,7 +136,8 @@ def case_digest(world):
     world.spool('cats', post(1, moment=now - 100_000), post(2, moment=now))
     found = json.loads(world.admin('--json', 'cats', 'digest'))
     sizes = [len(world.answers('cats', 'show', n)) for n in '12']
-    same(found, {'digests': True, 'issue': 0, 'last': 0, 'waiting': 2, 'bytes': sum(sizes), 'first': now - 100_000, 'is_due': False, 'due': now + 72_800}, 'two')
+    same(found, {'digests': True, 'issue': 0, 'last': 0, 'waiting': 2, 'bytes': sum(sizes), 'first': now - 100_000, 'is_due': False,
+            'due': now + 72_800}, 'two')
     holds(world.admin('cats', 'digest'), f'due at {world_date(now + 72_800)}', 'two')
     world.list('dogs', '-d')
     world.spool('dogs', *(post(n, to=b'dogs', moment=now - 5) for n in range(1, 30)))
@@ -149,7 +159,8 @@ def case_digest(world):
 def case_usage(world):
     """Wrong words are 64, a folder without a list 75, and help is given; all is said on standard error, in a line."""
     world.list()
-    for words in ((), ('cats',), ('cats', 'nothing'), ('cats', 'member'), ('cats', 'member', 'a@b', 'c@d'), ('cats', 'queue', '1'), ('--what', 'cats', 'queue'),
+    for words in ((), ('cats',), ('cats', 'nothing'), ('cats', 'member'), ('cats', 'member', 'a@b', 'c@d'), ('cats', 'queue', '1'),
+            ('--what', 'cats', 'queue'),
                   ('cats', 'accept'), ('cats', 'rebuild', 'a', 'b'), ('cats', '\x1b[2J')):
         error = world.admin(*words, status=64)
         check(error.startswith('ezmlm-admin: ') and error.count('\n') == 1 and '\x1b' not in error, error)
@@ -213,12 +224,21 @@ def case_damaged_files(world):
 def case_other_user(world):
     """By root it names runuser for a list of another user, and writes nothing; by the user it works."""
     if os.geteuid():
-        return
+        raise Skipped('only root can try it')
     folder = world.list()
     nobody = pwd.getpwnam('nobody')
+    os.chown(world.place, nobody.pw_uid, nobody.pw_gid)
+    if subprocess.run([TOOL, '--version'], user=nobody.pw_uid, stdout=subprocess.DEVNULL, stderr=subprocess.DEVNULL).returncode:
+        raise Skipped('nobody may not read the source')
+    done = world.admin_run('cats', 'options', user=nobody.pw_uid)
+    same(done.returncode, 77, "by nobody on root's list")
+    holds(done.stderr, b'run it as the user that the list belongs to', "by nobody on root's list")
     for path in (world.place, folder, *folder.rglob('*')):
         os.chown(path, nobody.pw_uid, nobody.pw_gid)
     before = sorted((str(path), path.stat().st_mtime_ns) for path in folder.rglob('*'))
     for words in (('options',), ('options', '-d'), ('rebuild',), ('member', 'a@b')):
         holds(world.admin('cats', *words, status=77), 'runuser -u nobody -- ezmlm-admin', words)
     same(sorted((str(path), path.stat().st_mtime_ns) for path in folder.rglob('*')), before, 'files')
+    done = world.admin_run('cats', 'options', '-d', user=nobody.pw_uid)
+    same((done.returncode, done.stderr), (0, b''), 'by the user')
+    same({path.stat().st_uid for path in folder.rglob('*')}, {nobody.pw_uid}, 'whose files')

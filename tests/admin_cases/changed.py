@@ -3,6 +3,8 @@
 import json
 import os
 
+from ezmlm_admin import lists, options
+
 from .archives import archive, told
 from .world import KEY, check, holds, post, same
 
@@ -39,7 +41,8 @@ def case_options_changed(world):
     world.spool('cats', (b'A', 0, 5, b'mod', b'm@b'), (b'A', 0, 5, b'list', b'a@b'))
     kept = {name: (folder / name).read_bytes() for name in OTHER_FILES}
     former, line = (folder / 'config').read_bytes(), world.whole()
-    for words, owner in ((('-dm', '--max', '4096'), None), (('-tu', '--max=5', '-k'), None), (('-P',), None), (('-bghjlrs',), 'new@own.org'), (('-p',), None)):
+    for words, owner in ((('-dm', '--max', '4096'), None), (('-tu', '--max=5', '-k'), None), (('-P',), None),
+            (('-bghjlrs',), 'new@own.org'), (('-p',), None)):
         owner = owner or former.split(b'\n')[3].removeprefix(b'owner ').decode()
         said = world.admin('cats', 'options', *words, '--owner', owner)
         now = (folder / 'config').read_bytes()
@@ -51,7 +54,8 @@ def case_options_changed(world):
         former = now
     same(world.admin('cats', 'options', '-p'), f'the options are as they were\ncheck: {line}\n', 'the same again')
     said = world.admin('cats', 'options', '-dm', '--max', '77')
-    for part in ('max: 1048576 -> 77', 'd: now there are digests', 'm: now posts are moderated', 'the former ones are in config.old', 'the digests begin'):
+    for part in ('max: 1048576 -> 77', 'd: now there are digests', 'm: now posts are moderated', 'the former ones are in config.old',
+            'the digests begin'):
         holds(said, part, 'said')
     same(world.spool('cats', post(4)), ['0 100 toobig'], 'a post above the new most')
     check(not list(folder.glob('*.new')), 'something is left')
@@ -95,7 +99,8 @@ def case_options_refused(world):
     """Words that make doesn't take, values without letters and a list that isn't whole are refused with the reason."""
     folder = world.list()
     before = (folder / 'config').read_bytes()
-    for words in (('-dd',), ('-dD',), ('-d', '--max', '0'), ('-d', '--max', '16777217'), ('-d', '--max', '1', '--max', '2'), ('-d', '--prefix', ''),
+    for words in (('-dd',), ('-dD',), ('-d', '--max', '0'), ('-d', '--max', '16777217'), ('-d', '--max', '1', '--max', '2'),
+            ('-d', '--prefix', ''),
                   ('-d', '--prefix', ' x'), ('-d', '--prefix', 'x' * 63), ('-d', '--owner', 'nobody'), ('-d', '--owner', 'cats-owner@ex.org'),
                   ('-d', '--owner', '')):
         holds(world.admin('cats', 'options', *words, status=64), 'make refuses these words: - 64 usage', words)
@@ -105,6 +110,25 @@ def case_options_refused(world):
     holds(world.admin('cats', 'options', '-d', status=75), "a list that isn't whole stay: check says: 75 counts/deny", 'refusal')
     same((folder / 'config').read_bytes(), before, 'the configuration')
     same(sorted(path.name for path in folder.glob('config*')), ['config'], 'files')
+
+
+def case_options_back(world):
+    """If check doesn't say ok after all, the former configuration is back."""
+    folder, says = world.list(), iter([(0, 'ok'), (75, '75 num')])
+    before = (folder / 'config').read_bytes()
+    (folder / 'config.old').write_bytes(b'an older one\n')
+
+    class Odd(lists.MailingList):
+        def check(self):
+            return next(says)
+
+    try:
+        options.options(Odd(folder, str(world.program)), '-d')
+    except lists.Refused as error:
+        holds(str(error), 'check says 75 num, so the former options are back', 'refusal')
+        same((folder / 'config').read_bytes(), before, 'the configuration')
+        return
+    check(False, 'it was not refused')
 
 
 def case_options_owner(world):

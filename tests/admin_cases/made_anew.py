@@ -56,7 +56,8 @@ def case_new_list_of_a_damaged_one(world):
     said = json.loads(world.admin('--json', 'cats', 'rebuild', 'new'))
     same(said['check'], 'ok 4 199 0 0 0 0 0 0', 'check')
     text = '\n'.join(said['said'])
-    for part in (f'subscribers/] is damaged: {len(members) - 1} members could be told', 'key is damaged', 'dig is damaged: the next digest begins after post 4',
+    for part in (f'subscribers/] is damaged: {len(members) - 1} members could be told', 'key is damaged',
+            'dig is damaged: the next digest begins after post 4',
                  'post 1: its entry was gone'):
         holds(text, part, 'said')
     have = world.answers('new', 'list', 'list').split()

@@ -61,8 +61,12 @@ def case_watch_log(world):
     os.utime(folder / 'log', (time.time() - 120,) * 2)
     holds(watched(world, 'WARNING', 'cats')[0], 'the log has 4 bytes since 2m', 'an old log')
     watched(world, 'OK', 'cats')
-    with held(folder):
-        holds(watched(world, 'UNKNOWN', 'cats')[0], 'another run, a backup or the agent holds it', 'a held list')
+    others = [world.list(f'cats{n}') for n in range(3)]
+    with held(folder), held(others[0]), held(others[1]):
+        begun = time.monotonic()
+        text = watched(world, 'UNKNOWN', 'cats', *others)[0]
+        check(10 < time.monotonic() - begun, 'it was not waited for')
+        same(text.count('another run, a backup or the agent holds it'), 3, f'held lists: {text}')
 
 
 def case_watch_refusals(world):
@@ -83,7 +87,8 @@ def case_watch_limits(world):
     one = monitoring.Seen(world.place, log_bytes=1)
     for queued, held_since, log, space, wanted in (
             (None, None, 0, (50, 100, 50, 100), []), (3600, None, 0, (50, 100, 50, 100), []), (3601, None, 0, (50, 100, 50, 100), [1]),
-            (86_401, 172_801, 0, (50, 100, 50, 100), [2, 1]), (None, 345_601, 0, (9, 100, 50, 100), [2, 1]), (None, None, 0, (4, 100, 4, 100), [2, 2]),
+            (86_401, 172_801, 0, (50, 100, 50, 100), [2, 1]), (None, 345_601, 0, (9, 100, 50, 100), [2, 1]),
+            (None, None, 0, (4, 100, 4, 100), [2, 2]),
             (None, None, 61, (10, 100, 0, 0), [1]), (None, None, 3601, (50, 100, 50, 100), [2])):
         one.oldest_queued, one.oldest_held = (None if age is None else BEGIN - age for age in (queued, held_since))
         one.log_bytes, one.log_age, one.space = (9 if log else 1), log, space
@@ -120,8 +125,10 @@ def case_metrics(world):
         return
     values = {(name, labels['folder'], labels.get('set')): value for name, labels, value in found}
     same(len(values), len(found), 'samples of one name and labels')
-    for name, of, which, value in (('ezmlm_list_whole', odd, None, 1), ('ezmlm_list_whole', 'cats', None, 0), ('ezmlm_list_whole', 'none', None, 0),
-                                   ('ezmlm_list_check_status', 'cats', None, 75), ('ezmlm_members', odd, 'list', 1), ('ezmlm_held_posts', odd, None, 1),
+    for name, of, which, value in (('ezmlm_list_whole', odd, None, 1), ('ezmlm_list_whole', 'cats', None, 0),
+            ('ezmlm_list_whole', 'none', None, 0),
+                                   ('ezmlm_list_check_status', 'cats', None, 75), ('ezmlm_members', odd, 'list', 1),
+                                   ('ezmlm_held_posts', odd, None, 1),
                                    ('ezmlm_held_oldest_timestamp_seconds', odd, None, now - 50), ('ezmlm_queue_entries', odd, None, 2),
                                    ('ezmlm_log_bytes', odd, None, 1)):
         same(values[name, of, which], value, (name, of))

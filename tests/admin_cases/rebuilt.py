@@ -1,15 +1,17 @@
 """rebuild: each kind of damage, and what of an archive can't be told any more."""
 
+import contextlib
 import json
 import os
 import pathlib
 import shutil
+import subprocess
 
 from ezmlm_admin import rebuild
 from ezmlm_admin.lists import MailingList, Refused
 
-from .archives import archive, cut, post_path, tree, told, turned
-from .world import BEGIN, check, holds, post, same
+from .archives import STEP, archive, cut, post_path, told, tree, turned
+from .world import BEGIN, Skipped, check, holds, post, same
 
 POSTS = 103
 
@@ -171,6 +173,47 @@ def case_nothing_to_rebuild(world):
     world.admin('dogs', 'rebuild')
     same(world.whole('dogs'), 'ok 0 0 0 0 0 0 0 0', 'without posts')
     same(world.spool('dogs', post(1, to=b'dogs')), ['0 0 posted 1'], 'its first post')
+
+
+def case_full_disk(world):
+    """On a full disk a rebuild is 111 and gives its room back, and the list stays as it was; with room it is done."""
+    disk = world.place / 'disk'
+    disk.mkdir()
+    if os.geteuid() or subprocess.run(['mount', '-t', 'tmpfs', '-o', 'size=4m', 'tmpfs', disk], stderr=subprocess.DEVNULL).returncode:
+        raise Skipped('a disk of its own needs root')
+    try:
+        folder = archive(world, 'disk/cats', POSTS)
+        good = tree(folder)
+        (folder / 'archive/1/index').unlink()
+        hurt = tree(folder)
+        with contextlib.suppress(OSError), open(disk / 'filler', 'wb', buffering=0) as filler:
+            while filler.write(bytes(4096)):
+                pass
+        holds(world.admin('disk/cats', 'rebuild', status=111), 'No space left on device', 'refusal')
+        same(tree(folder), hurt, 'the archive')
+        same([path.name for path in folder.iterdir() if path.name.startswith(('archive.', 'num.'))], [], 'left')
+        (disk / 'filler').unlink()
+        world.admin('disk/cats', 'rebuild')
+        same(tree(folder), good, 'the archive')
+    finally:
+        subprocess.run(['umount', disk], check=True)
+
+
+def case_no_hard_links(world):
+    """On a disk without hard links the posts are copied, with their times."""
+    folder = archive(world, 'cats', 3)
+    good, link = tree(folder), os.link
+
+    def refused(*_, **__):
+        raise PermissionError(1, 'Operation not permitted')
+
+    (folder / 'archive/0/index').unlink()
+    os.link = refused
+    try:
+        same(mended(world, 'cats', good, 'copies'), True, 'mended')
+    finally:
+        os.link = link
+    same((post_path(folder, 2).stat().st_nlink, post_path(folder, 2).stat().st_mtime), (1, BEGIN + 2 * STEP), 'a post')
 
 
 def case_next_posts(world):

@@ -29,14 +29,19 @@ def case_completion(world):
     world.spool('cats', post(1), post(2))
     sets = ['list', 'digest', 'allow', 'deny', 'mod']
     for name, words, wanted in (
-            ('ezmlm', ['ca'], ['cats']), ('ezmlm', ['cats', 's'], ['spool', 'sent', 'sub', 'show', 'split']), ('ezmlm', ['cats', 'list', ''], ['-t', *sets]),
-            ('ezmlm', ['cats', 'list', '-t', 'd'], ['digest', 'deny']), ('ezmlm', ['cats', 'sub', '0', 'm'], ['mod']), ('ezmlm', ['cats', 'out', ''], ['1', '2']),
+            ('ezmlm', ['ca'], ['cats']), ('ezmlm', ['cats', 's'], ['spool', 'sent', 'sub', 'show', 'split']),
+            ('ezmlm', ['cats', 'list', ''], ['-t', *sets]),
+            ('ezmlm', ['cats', 'list', '-t', 'd'], ['digest', 'deny']), ('ezmlm', ['cats', 'sub', '0', 'm'], ['mod']),
+            ('ezmlm', ['cats', 'out', ''], ['1', '2']),
             ('ezmlm', ['cats', 'make', '--'], ['--key', '--prefix', '--max']), ('ezmlm', ['cats', 'split', '-a', '1', 'a'], ['allow']),
             ('ezmlm-agent', ['--c'], ['--check']), ('ezmlm-agent', ['--check', 'ca'], ['cats']),
             ('ezmlm-admin', [''], ['cats', 'watch', 'metrics']), ('ezmlm-admin', ['--j'], ['--json']), ('ezmlm-admin', ['--json', 'c'], ['cats']),
-            ('ezmlm-admin', ['cats', 'he'], ['held']), ('ezmlm-admin', ['cats', 'accept', ''], ['1', '2']), ('ezmlm-admin', ['cats', 'bounces', ''], ['list', 'digest']),
-            ('ezmlm-admin', ['--program', 'ca'], ['cats']), ('ezmlm-admin', ['--program', 'x', 'cats', 'reb'], ['rebuild']), ('ezmlm-admin', ['watch', 'c'], ['cats']),
-            ('ezmlm-admin', ['cats', 'options', '--a'], ['--anyway']), ('ezmlm-admin', ['cats', 'member', 'x'], []), ('ezmlm-admin', ['cats', 'watch', 'c'], ['cats'])):
+            ('ezmlm-admin', ['cats', 'he'], ['held']), ('ezmlm-admin', ['cats', 'accept', ''], ['1', '2']),
+            ('ezmlm-admin', ['cats', 'bounces', ''], ['list', 'digest']),
+            ('ezmlm-admin', ['--program', 'ca'], ['cats']), ('ezmlm-admin', ['--program', 'x', 'cats', 'reb'], ['rebuild']),
+            ('ezmlm-admin', ['watch', 'c'], ['cats']),
+            ('ezmlm-admin', ['cats', 'options', '--a'], ['--anyway']), ('ezmlm-admin', ['cats', 'member', 'x'], []),
+            ('ezmlm-admin', ['cats', 'watch', 'c'], ['cats'])):
         same(proposed(world, name, *words), wanted, f'{name} {words}')
     same(set(proposed(world, 'ezmlm-admin', 'cats', '')), {*command.WORDS, *command.MONITORS}, 'all words')
     usage = (TOP / 'man/ezmlm.1').read_text().split('.SH DESCRIPTION')[0]

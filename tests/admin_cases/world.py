@@ -86,9 +86,9 @@ class World:
         check('Traceback' not in err, err)
         return err if err else out
 
-    def admin_run(self, *words, given=b'', environment=None):
+    def admin_run(self, *words, given=b'', user=None):
         return subprocess.run([TOOL, '--program', self.program, *words], cwd=self.place, input=given, stdout=subprocess.PIPE,
-                              stderr=subprocess.PIPE, env=environment)
+                              stderr=subprocess.PIPE, user=user)
 
 
 @contextlib.contextmanager
