@@ -60,13 +60,9 @@ class Command:
     is_json: bool
     program: str | None
 
-    @property
-    def is_monitor(self) -> bool:
-        return self.word in MONITORS
-
     def run(self) -> Said:
         """Does what is asked."""
-        if self.is_monitor:
+        if self.word in MONITORS:
             if not self.folders:
                 raise Refused(USAGE, f'usage: ezmlm-admin {self.word} LISTS ..')
             return MONITORS[self.word][1](self.folders, program(self.program), lists.WAIT)
@@ -111,20 +107,20 @@ def main(words: list[str]) -> int:
         if isinstance(stream, io.TextIOWrapper):
             stream.reconfigure(errors='backslashreplace')
     os.umask(0o077)
-    is_monitor = False
+    is_plugin = words[:1] == ['watch']
     try:
         asked = command(words)
         if isinstance(asked, str):
             return told([asked], 0)
-        is_monitor = asked.is_monitor
+        is_plugin = asked.word == 'watch'
         said = asked.run()
         return told([json.dumps(said.data, indent=1)] if asked.is_json else said.lines, said.status)
     except Refused as error:
-        return refused(error.status, str(error), is_monitor)
+        return refused(error.status, str(error), is_plugin)
     except PermissionError as error:
-        return refused(NO_PERMISSION, f'{error}: run it as the user that the list belongs to', is_monitor)
+        return refused(NO_PERMISSION, f'{error}: run it as the user that the list belongs to', is_plugin)
     except OSError as error:
-        return refused(lists.DISK, str(error), is_monitor)
+        return refused(lists.DISK, str(error), is_plugin)
     except KeyboardInterrupt:
         return STOPPED
 
@@ -138,9 +134,9 @@ def told(lines: list[str], status: int) -> int:
     return status
 
 
-def refused(status: int, why: str, is_monitor: bool) -> int:
-    """Says why nothing was answered. A monitor reads standard output, and takes 3 for what isn't known."""
-    if is_monitor:
+def refused(status: int, why: str, is_plugin: bool) -> int:
+    """Says why nothing was answered. Whoever runs a plugin reads standard output, and takes 3 for what isn't known."""
+    if is_plugin:
         return told([f'EZMLM UNKNOWN - {monitoring.plain(why)}'], monitoring.UNKNOWN)
     print(f'ezmlm-admin: {texts.safe(why)}', file=sys.stderr)
     return status

@@ -102,7 +102,7 @@ def members_of(folder: pathlib.Path, name: str, said: list[str]) -> Iterator[tup
             there = {one[1].lower(): (one[1], int(one[2] or 0)) for one in layout.finditer(text)
                      if files.is_address(one[1]) and files.bucket(one[1]) == place}
             found = sorted(there.values())
-            said.append(f'{path} is damaged: {len(found)} members could be told: ' + ', '.join(texts.safe(one[0]) for one in found))
+            said.append(f'{path} is damaged: {texts.many(len(found), "member")} could be told: ' + ', '.join(texts.safe(one[0]) for one in found))
         yield from ((name, address, moment) for address, moment in found)
 
 

@@ -20,6 +20,7 @@ from .lists import NO_LIST, Refused
 FRONT = 65536  # bytes of a post in which its header mostly ends
 GROUPS = re.compile('0|[1-9][0-9]{0,5}', re.ASCII)
 POST = re.compile('[0-9]{2}', re.ASCII)
+THREADS = re.compile('[0-9]{3}', re.ASCII)
 EMPTY_LINE = re.compile(rb'\n\r?\n')
 
 
@@ -151,7 +152,7 @@ def write_threads(archive: pathlib.Path, new: pathlib.Path, threads: dict[bytes,
     for name, keys in places.items():
         row = (part for key in keys for part in (key, b','.join(b'%d' % number for number in threads[key])))
         (new / 'threads' / name).write_bytes(b''.join(map(programs.netstring, row)))
-    for name in sorted({*places, *folders.names(archive / 'threads')}):
+    for name in sorted({*places, *filter(THREADS.fullmatch, folders.names(archive / 'threads'))}):
         written.changed += differs(archive, new, f'threads/{name}')
 
 

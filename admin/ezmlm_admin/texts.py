@@ -123,6 +123,11 @@ def age(seconds: float) -> str:
     return f'{left}s'
 
 
+def many(number: int, word: str) -> str:
+    """A number of things, as `1 post` and `2 posts`."""
+    return f'{number} {word}' if number == 1 else f'{number} {word}s'
+
+
 def table(heads: Sequence[str], rows: Sequence[Sequence[object]]) -> list[str]:
     """Lines of columns with their names above them, and nothing where there are no rows."""
     texts = [list(heads), *[[str(value) for value in row] for row in rows]]

@@ -120,6 +120,6 @@ def digest(chosen: MailingList) -> Said:
     if not config.has('d'):
         is_due, when = False, 'the list has no digests: option d is clear'
     of_next = f', the first since {texts.date(first)}; {size} bytes in the next issue' if waiting else ''
-    lines = [f'issue {issue} was the last, up to post {last}', f'{posts - last} posts wait{of_next}', when]
+    lines = [f'issue {issue} was the last, up to post {last}', f'{texts.many(posts - last, "post")} in none yet{of_next}', when]
     return Said(lines, {'digests': config.has('d'), 'issue': issue, 'last': last, 'waiting': posts - last, 'bytes': size,
                         'first': first, 'is_due': is_due, 'due': by_age if config.has('d') else None})

@@ -23,7 +23,7 @@ def case_member(world):
     world.spool('cats', (b'A', 0, BEGIN, b'list', b'Ann@EX.net'), (b'A', 0, BEGIN + 60, b'mod', b'ann@ex.net'), post(1),
                 (b'D', 0, BEGIN + 500, b'', b'cats-return-1-ann=ex.net@ex.org', b'\n'))
     same(world.admin('cats', 'member', 'ANN@ex.NET'),
-         'list: Ann@ex.net, since 2023-11-14T22:13:20Z\n    bounces: not warned, since 2023-11-14T22:21:40Z, 1 mails missed\n'
+         'list: Ann@ex.net, since 2023-11-14T22:13:20Z\n    bounces: not warned, since 2023-11-14T22:21:40Z, 1 mail missed\n'
          'mod: ann@ex.net, since 2023-11-14T22:14:20Z\n', 'a member')
     found = json.loads(world.admin('--json', 'cats', 'member', 'ann@ex.net'))
     same([(one['set'], one['address'], one['since']) for one in found], [('list', 'Ann@ex.net', BEGIN),
@@ -145,7 +145,7 @@ def case_digest(world):
     world.spool('dogs', post(30, to=b'dogs', moment=now))
     holds(world.admin('dogs', 'digest'), 'due now', '30 posts')
     same(world.answers('dogs', 'timed', '0'), '0 0 timed 1\n', 'the program')
-    same(world.admin('dogs', 'digest'), 'issue 1 was the last, up to post 30\n0 posts wait\nnone is due\n', 'then')
+    same(world.admin('dogs', 'digest'), 'issue 1 was the last, up to post 30\n0 posts in none yet\nnone is due\n', 'then')
     world.list('old', '-d')
     world.spool('old', post(1, to=b'old', moment=now - 172_801))
     holds(world.admin('old', 'digest'), 'due now', 'an old one')

@@ -138,4 +138,4 @@ def case_metrics(world):
     types = [line.split(' ')[2] for line in text.splitlines() if line.startswith('# TYPE ')]
     check(helps == types and len(helps) == len(set(helps)), 'HELP and TYPE')
     check({name for name, _, _ in found} <= set(helps), 'a metric without HELP')
-    same(world.admin('metrics', status=3).split(' - ')[0], 'EZMLM UNKNOWN', 'without lists')
+    holds(world.admin('metrics', status=64), 'usage: ezmlm-admin metrics LISTS ..', 'without lists')
