@@ -39,7 +39,9 @@ def main():
     parser = argparse.ArgumentParser(prog='tests/admin')
     parser.add_argument('program', nargs='?', default=os.environ.get('EZMLM', TOP / 'crates/ezmlm/out/ezmlm'))
     parser.add_argument('-k', default='', metavar='WORD')
+    parser.add_argument('--long', action='store_true')
     words = parser.parse_args()
+    rebuilt.IS_LONG[0] = words.long
     program = pathlib.Path(words.program).resolve()
     if not program.is_file() or not os.access(program, os.X_OK):
         sys.exit(f'admin: there is no program {program}: tools/install and .ci/run prove and build it, tests/quick without proof')

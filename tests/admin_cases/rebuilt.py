@@ -14,6 +14,7 @@ from .archives import STEP, archive, cut, post_path, told, tree, turned
 from .world import BEGIN, Skipped, check, holds, post, same
 
 POSTS = 103
+IS_LONG, LONG = [False], (1, 23)  # every byte, and of the first index every 23rd
 
 
 def mended(world, name, good, what):
@@ -75,28 +76,36 @@ def case_files_gone(world):
     world.note = f'{seen} damages'
 
 
-def case_files_cut(world):
-    """Indexes, thread files and num that are cut anywhere are written anew to the byte."""
+def damaged_everywhere(world, hurt, steps):
+    """Hurts each file of the archive that the program writes anew at every so many bytes, those of the first index more seldom."""
     folder = archive(world, 'cats', POSTS, '-f')
     good = tree(folder)
-    names = 'archive/0/index', 'archive/1/index', 'num', *(f'archive/threads/{path.name}' for path in (folder / 'archive/threads').iterdir())
-    damages = [at(name, place, cut, 'cut') for name in names for place in range(0, len(good[name]), max(1, len(good[name]) // 4 - 1))]
-    world.note = f'{damaged(world, "cats", good, damages)} damages of {len(damages)}'
+    names = ['num', 'archive/1/index', *(f'archive/threads/{path.name}' for path in (folder / 'archive/threads').iterdir()), 'archive/0/index']
+    damages = []
+    for name in names:
+        step = (LONG if IS_LONG[0] else steps)[name == 'archive/0/index']
+        damages += [at(name, place, hurt, 'hurt') for place in range(0, len(good[name]), step)]
+    seen = damaged(world, 'cats', good, damages)
+    world.note = f'{len(damages)} damages, {seen} of them seen by the program'
+    return seen, len(damages)
+
+
+def case_files_cut(world):
+    """Indexes, thread files and num that are cut anywhere are written anew to the byte."""
+    seen, many = damaged_everywhere(world, cut, (41, 1201))
+    check(seen >= many - 3, f'the program saw {seen} of {many}')  # Cut to nothing is as gone, and an index may end at an entry's end.
 
 
 def case_bytes_turned(world):
     """A byte that is turned anywhere in an index, a thread file or num is as it was, if the program names a file."""
-    folder = archive(world, 'cats', POSTS, '-f')
-    good = tree(folder)
-    names = 'archive/1/index', 'num', *(f'archive/threads/{path.name}' for path in (folder / 'archive/threads').iterdir())
-    damages = [at(name, place, turned, 'turned') for name in names for place in range(0, len(good[name]), 17)]
-    damages += [at('archive/0/index', place, turned, 'turned') for place in range(0, len(good['archive/0/index']), 431)]
-    damages += [at('archive/1/index', place, lambda path, place: turned(path, place, 0x2b), 'turned otherwise')
-                for place in range(1, len(good['archive/1/index']), 13)]
-    # A byte that the program doesn't miss, as one of a sender, isn't restored: so those are compared that it misses.
-    seen = damaged(world, 'cats', good, damages)
-    check(seen > len(damages) // 3, f'the program saw {seen} of {len(damages)}')
-    world.note = f'{seen} damages'
+    seen, many = damaged_everywhere(world, turned, (17, 431))
+    check(seen > many // 3, f'the program saw {seen} of {many}')
+
+
+def case_bytes_turned_otherwise(world):
+    """So too with bytes that become other kinds of bytes."""
+    seen, many = damaged_everywhere(world, lambda path, place: turned(path, place, 0x2b), (19, 433))
+    check(seen > many // 2, f'the program saw {seen} of {many}')
 
 
 def case_whole_entries_kept(world):
