@@ -121,17 +121,20 @@ class MailingList:
             runs += 1
             if status != DISK or runs == RUNS:
                 return status, output.decode('utf-8', 'backslashreplace').strip('\n')
-            self.pause(end)
+            time.sleep(TICK)
 
     def is_held(self) -> bool:
         """Whether another process holds the list's lock now."""
         try:
-            with open(self.folder / 'lock', 'rb') as lock:
-                fcntl.flock(lock, fcntl.LOCK_SH | fcntl.LOCK_NB)
+            lock = os.open(self.folder / 'lock', os.O_RDONLY | os.O_NONBLOCK | os.O_CLOEXEC)
         except FileNotFoundError:
             return False
+        try:
+            fcntl.flock(lock, fcntl.LOCK_SH | fcntl.LOCK_NB)
         except BlockingIOError:
             return True
+        finally:
+            os.close(lock)
         return False
 
     def pause(self, end: float) -> None:

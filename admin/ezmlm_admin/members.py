@@ -35,7 +35,8 @@ def member(chosen: MailingList, word: str) -> Said:
     for one in found:
         lines.append(f'{one["set"]}: {texts.safe(str(one["address"]))}, since {texts.date(since_of(one))}')
         if isinstance(bounces := one['bounces'], dict):
-            lines.append(f'    bounces: {bounces["stage"]}, since {texts.date(bounces["since"])}, {texts.many(len(bounces["missed"]), "mail")} missed')
+            missed = texts.many(len(bounces['missed']), 'mail')
+            lines.append(f'    bounces: {bounces["stage"]}, since {texts.date(bounces["since"])}, {missed} missed')
     return Said(lines or [f'{texts.safe(word)} is in no set'], found, 0 if found else REFUSED)
 
 

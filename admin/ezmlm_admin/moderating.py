@@ -16,7 +16,7 @@ COOKIE_BYTES = 10
 
 
 def key_now(text: bytes) -> bytes:
-    """The key of the file `key`, which may have a former one behind it. Other bytes are a ValueError."""
+    """The key of the file `key`, which may have a former one after it. Other bytes are a ValueError."""
     if len(text) not in (32, 72):
         raise ValueError('no key')
     return text[:32]

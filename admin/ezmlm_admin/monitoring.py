@@ -42,12 +42,17 @@ def lists_of(words: Sequence[str]) -> list[pathlib.Path]:
     found: list[pathlib.Path] = []
     for word in words:
         path = pathlib.Path(word)
-        if (path / 'config').exists():
-            found.append(path)
-        else:
-            below = sorted(each for each in path.iterdir() if (each / 'config').exists()) if path.is_dir() else []
-            found += below or [path]
+        is_list = not path.is_dir() or may_be_list(path)
+        found += [path] if is_list else sorted(each for each in path.iterdir() if each.is_dir() and may_be_list(each)) or [path]
     return found
+
+
+def may_be_list(path: pathlib.Path) -> bool:
+    """Whether a folder has a configuration. If that can't be looked at it may be a list, unless it is the one that a disk brings along."""
+    try:
+        return (path / 'config').exists()
+    except PermissionError:
+        return path.name != 'lost+found'
 
 
 def seen(path: pathlib.Path, program: str, until: float) -> Seen:
@@ -121,10 +126,10 @@ def watch(words: Sequence[str], program: str, wait: float) -> Said:
     status = worst(status for status, _, _ in told)
     text = '; '.join(f'{one.folder.name}: {what}' for _, one, what in sorted(told, key=lambda row: -WORST_LAST.index(row[0])))
     text = text or ('the list is whole' if len(every) == 1 else f'{len(every)} lists are whole')
-    line = f'EZMLM {NAMES[status]} - {plain(text)} | ' + ' '.join(measure for one in every for measure in performance(one, now))
+    measures = ' '.join(measure for one in every for measure in performance(one, label(one, every), now))
     data = [{'folder': str(one.folder), 'list': one.address, 'status': NAMES[worst(status for status, which, _ in told if which is one)],
              'check': one.word, 'what': [what for _, which, what in told if which is one]} for one in every]
-    return Said([line], data, status)
+    return Said([f'EZMLM {NAMES[status]} - {plain(text)} | {measures}'], data, status)
 
 
 def worst(statuses: Iterable[int]) -> int:
@@ -132,18 +137,24 @@ def worst(statuses: Iterable[int]) -> int:
 
 
 def plain(text: str) -> str:
-    """A text as a plugin's line may have it: no control characters, and no bar, behind which the performance data begins."""
+    """A text as a plugin's line may have it: no control characters, and no bar, as the performance data begins after one."""
     return texts.safe(text).replace('|', '/')
 
 
-def performance(one: Seen, now: float) -> Iterator[str]:
+def label(one: Seen, every: Sequence[Seen]) -> str:
+    """The list's name among these in a label of performance data, in which quotes are doubled: its folder's, or the path if two have that."""
+    name = one.folder.name
+    is_one = bool(name) and sum(other.folder.name == name for other in every) == 1
+    return plain(name if is_one else str(one.folder)).replace('=', '_').replace("'", "''")
+
+
+def performance(one: Seen, name: str, now: float) -> Iterator[str]:
     """The measures of a list: 'label'=value[UOM];[warn];[crit];[min];[max] (Nagios plugin guidelines)."""
-    name = plain(one.folder.name or str(one.folder)).replace('=', '_').replace("'", "''")
-    for label, moment in (('queue', one.oldest_queued), ('held', one.oldest_held)):
+    for what, moment in (('queue', one.oldest_queued), ('held', one.oldest_held)):
         value = max(0, int(now - moment)) if moment is not None else 0
-        yield f"'{name} oldest {label}'={value}s;{LIMITS[label][0]};{LIMITS[label][1]};0;"
-    for label, count in zip(COUNTS, one.counts):
-        yield f"'{name} {label}'={count};;;0;"
+        yield f"'{name} oldest {what}'={value}s;{LIMITS[what][0]};{LIMITS[what][1]};0;"
+    for what, count in zip(COUNTS, one.counts):
+        yield f"'{name} {what}'={count};;;0;"
     yield f"'{name} log'={one.log_bytes}B;;;0;"
     free, size = one.space[:2]
     yield f"'{name} free'={free}B;{size * LIMITS['disk'][0] // 100}:;{size * LIMITS['disk'][1] // 100}:;0;{size}"

@@ -29,7 +29,7 @@ MEANINGS = {
     't': 'posts get a trailer',
     'u': 'only those who are known to the list may post',
 }
-# All that `check` reads, but for the configuration and the log.
+# All that `check` reads except the configuration and the log.
 PARTS = 'key', 'subscribers', 'digest', 'allow', 'deny', 'mod', 'counts', 'archive', 'num', 'dig', 'pending', 'tickets', 'bounce', 'queue', \
     'ids', 'done', 'floor'
 

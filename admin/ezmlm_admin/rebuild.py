@@ -40,7 +40,8 @@ def told(written: Written, old: str | None) -> list[str]:
     if old is None:
         return [f'num, the indexes and the thread files are as {texts.many(written.posts, "post")} have them: nothing was written']
     lines = [f'post {number}: {texts.safe(what)}' for number, what in written.said]
-    return [*lines, *(f'written anew: {name}' for name in written.changed), f'{texts.many(written.posts, "post")}; what was there before is in {old}', PROMISE]
+    lines += [f'written anew: {name}' for name in written.changed]
+    return [*lines, f'{texts.many(written.posts, "post")}; what was there before is in {old}', PROMISE]
 
 
 def lay(folder: pathlib.Path, moment: float) -> tuple[str | None, Written]:

@@ -80,6 +80,11 @@ def case_watch_refusals(world):
     world.list_at("it's=one", 'odd')
     holds(watched(world, 'OK', "it's=one")[1], "'it''s_one posts'=0", 'a label')
     same(world.admin("it's=one", 'watch')[:8], 'EZMLM OK', 'the folder first')
+    world.list_at('x/cats', 'cats')
+    world.list_at('y/cats', 'cats')
+    measures = watched(world, 'OK', 'x', 'y')[1]
+    for path in ('x/cats', 'y/cats'):
+        holds(measures, f"'{path} posts'=0", 'two of one name')
 
 
 def case_watch_limits(world):

@@ -66,9 +66,9 @@ def case_files_gone(world):
     damages += [written(name, text) for name in ('num', 'archive/0/index', f'archive/threads/{threads[0]}', 'archive/threads/000')
                 for text in (b'', b'\0\0\0', b'5:hello,1:9,')]
     damages += [written('num', text) for text in (b'102\n', b'104\n', b'3\n', b'0\n', b'1O3\n', b'99999999\n')]
-    damages.append(('an index behind the last', lambda each: ((each / 'archive/2').mkdir(), (each / 'archive/2/index').write_bytes(b'x'))))
+    damages.append(('an index after the last', lambda each: ((each / 'archive/2').mkdir(), (each / 'archive/2/index').write_bytes(b'x'))))
     seen = damaged(world, 'cats', good, damages)
-    check(seen >= len(damages) - 3, f'the program saw {seen} of {len(damages)}')  # It doesn't look at an empty file, or behind the last.
+    check(seen >= len(damages) - 3, f'the program saw {seen} of {len(damages)}')  # It doesn't look at an empty file, or after the last.
     (folder / 'archive/0/index').unlink()
     world.admin('cats', 'rebuild')
     same(told(world, 'cats', POSTS), before, 'what the program tells')

@@ -77,7 +77,7 @@ def case_rows_of_subjects(world):
     message = b'Subject: one\r\n two\nSUBJECT: three\nX y: no\n\nSubject: body\n'
     same(texts.subject(message), b'one two', 'the first, unfolded')
     same(texts.subject(b' Subject: x\n\n'), b'', 'all body')
-    same(texts.subject(b'A: b\nnot a field\nSubject: x\n\n'), b'', 'behind the header')
+    same(texts.subject(b'A: b\nnot a field\nSubject: x\n\n'), b'', 'after the header')
     same(texts.subject(b'Subject: ' + b'x' * 2000 + b'\n\n'), b'x' * 1000, 'long')
     same(texts.field(b'Subject:\t a \t', b'subject'), b'a', 'a last line without LF')
     for subject, key in ((b'Hello', b'hello'), (b' Re:  RE: [Cats]  Hello \t World ', b'hello world'), (b're[12]: x', b'x'),
