@@ -59,7 +59,7 @@ def make(chosen: MailingList, place: pathlib.Path) -> Said:
         spool(chosen, part, posts(chosen.folder, kept), kept)
         spool(chosen, part, others(kept), kept)
         status, line = finished(chosen, part, kept)
-    except Refused:
+    except (Refused, OSError):
         shutil.rmtree(part)
         raise
     differ = [number for number in range(1, len(kept.entries) + 1) if not same(chosen.folder, part, number)]
