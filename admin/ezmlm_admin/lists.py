@@ -3,13 +3,15 @@
 from __future__ import annotations
 
 import asyncio
+import contextlib
 import fcntl
 import os
 import pathlib
 import pwd
 import re
+import signal
 import time
-from collections.abc import Callable
+from collections.abc import Callable, Iterator
 from dataclasses import dataclass
 from typing import BinaryIO, TypeVar
 
@@ -20,9 +22,9 @@ from .config import Configuration, configuration
 
 T = TypeVar('T')
 
-WAIT = 10   # seconds in which a list that another run holds is tried again
-TICK = 0.1  # seconds between two tries
-RUNS = 3    # of the program, that fail although nobody holds the list, until that is believed
+WAIT = 10   # seconds for which a list that another run holds is waited for
+RUNS = 3    # of the program that fail, a moment apart, although nobody holds the list, until that is believed
+MOMENT = 0.1
 USAGE, WORDS, MEMORY, NO_LIST, NO_PERMISSION, REFUSED, DISK = 64, 65, 71, 75, 77, 100, 111
 SETS = 'list', 'digest', 'allow', 'deny', 'mod'
 NAME = re.compile('[1-9][0-9]{0,15}', re.ASCII)
@@ -115,33 +117,27 @@ class MailingList:
         """The status and the output of one run of the program, when no other one has the list. If one has it all the time that is Busy."""
         end, runs = time.monotonic() + self.wait, 0
         while True:
-            while self.is_held():
-                self.pause(end)
+            self.wait_until_free(end)
             status, output = self.once(self.folder, *words, given=given)
             runs += 1
             if status != DISK or runs == RUNS:
                 return status, output.decode('utf-8', 'backslashreplace').strip('\n')
-            time.sleep(TICK)
+            time.sleep(MOMENT)
 
-    def is_held(self) -> bool:
-        """Whether another process holds the list's lock now."""
+    def wait_until_free(self, end: float) -> None:
+        """Waits until no other process holds the list. If one does up to this moment of the monotonic clock, that is Busy. It sleeps in the
+        kernel, which wakes it at once: between two runs of the agent there may be but milliseconds."""
         try:
             lock = os.open(self.folder / 'lock', os.O_RDONLY | os.O_NONBLOCK | os.O_CLOEXEC)
         except FileNotFoundError:
-            return False
+            return
         try:
             fcntl.flock(lock, fcntl.LOCK_SH | fcntl.LOCK_NB)
         except BlockingIOError:
-            return True
+            with alarm(end - time.monotonic(), Busy(self.folder, self.wait)):
+                fcntl.flock(lock, fcntl.LOCK_SH)
         finally:
             os.close(lock)
-        return False
-
-    def pause(self, end: float) -> None:
-        """Waits a moment, unless this moment of the monotonic clock has passed: then it is Busy."""
-        if time.monotonic() >= end:
-            raise Busy(self.folder, self.wait)
-        time.sleep(TICK)
 
     def check(self) -> tuple[int, str]:
         """The status of `check`, and its line without what stands before `ok` or the status."""
@@ -162,7 +158,7 @@ class MailingList:
                     raise Refused(status or DISK, f'{self.folder}: an earlier run was stopped, and what it left in the log can\'t be laid down: '
                                                   f'{line or "no answer"}') from None
             except folders.Held:
-                self.pause(end)
+                self.wait_until_free(end)
 
     def read(self, call: Callable[[pathlib.Path], T]) -> T:
         """As `settled`, where what is damaged is refused with what `check` says."""
@@ -173,6 +169,23 @@ class MailingList:
 
     def configuration(self) -> Configuration:
         return self.read(lambda folder: content(folder, 'config', configuration))
+
+
+@contextlib.contextmanager
+def alarm(seconds: float, error: Exception) -> Iterator[None]:
+    """Raises the error in what is done meanwhile, when so many seconds have passed. The main thread alone can have one."""
+    def late(*_: object) -> None:
+        raise error
+
+    if seconds <= 0:
+        raise error
+    former = signal.signal(signal.SIGALRM, late)
+    signal.setitimer(signal.ITIMER_REAL, seconds)
+    try:
+        yield
+    finally:
+        signal.setitimer(signal.ITIMER_REAL, 0)
+        signal.signal(signal.SIGALRM, former)
 
 
 def user(uid: int) -> str:
