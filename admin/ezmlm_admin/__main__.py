@@ -70,13 +70,14 @@ class Command:
 
 
 def command(words: list[str]) -> Command | str:
-    """The command that the words are, or a text that is asked for. Other words are Refused."""
-    left, is_json, path = list(words), False, None
+    """The command that the words are, or a text that is asked for. Other words are Refused. --json and --help may stand anywhere."""
+    left, path = [word for word in words if word != '--json'], None
+    is_json = len(left) < len(words)
+    if '--help' in left:
+        return help_text()
     while left and left[0].startswith('-'):
         match left.pop(0):
-            case '--json':
-                is_json = True
-            case '--help' | '-h':
+            case '-h':
                 return help_text()
             case '--version':
                 return VERSION
@@ -87,14 +88,10 @@ def command(words: list[str]) -> Command | str:
     if left[1:2] and left[1] in MONITORS and left[0] not in MONITORS:
         left[:2] = left[1], left[0]
     if left[:1] and left[0] in MONITORS:
-        if left[1:2] == ['--help']:
-            return help_text()
         return Command(left[0], left[1:], [], is_json, path)
     if len(left) < 2 or left[1] not in WORDS:
         raise Refused(USAGE, f'{left[1]} is none of its words; see ezmlm-admin --help' if left[1:] else
                       "name the list's folder and what is wanted; see ezmlm-admin --help")
-    if left[2:3] == ['--help']:
-        return help_text()
     more, least, most, _, _ = WORDS[left[1]]
     if not least <= len(left) - 2 <= most:
         raise Refused(USAGE, f'usage: ezmlm-admin FOLDER {left[1]} {more}'.rstrip())

@@ -167,12 +167,13 @@ def case_usage(world):
     for folder in ('none', 'none/', 'cats/config', '.'):
         holds(world.admin(folder, 'queue', status=75), 'there is no list here', folder)
     same(world.admin('--version'), 'ezmlm-admin 0.1\n', 'version')
-    for words in (('--help',), ('-h',), ('cats', 'member', '--help'), ('watch', '--help')):
+    for words in (('--help',), ('-h',), ('cats', 'member', '--help'), ('watch', '--help'), ('cats', '--help')):
         holds(world.admin(*words), 'usage: ezmlm-admin', 'help')
     done = world.admin_run('--program', '/none/ezmlm', 'cats', 'queue')
     same(done.returncode, 71, 'without a program')
     holds(done.stderr, b'there is no program /none/ezmlm', 'without a program')
     same(world.admin('cats/', 'queue'), '', 'a slash at the end')
+    same(world.admin('cats', 'queue', '--json'), '[]\n', '--json at the end')
 
 
 def case_held_lock(world):
