@@ -67,6 +67,6 @@ def case_types(world):
         check(len(path.read_text().splitlines()) <= LONGEST_FILE, f'{path.name} is longer than {LONGEST_FILE} lines')
     if not os.path.exists('/usr/bin/mypy'):
         raise Skipped('mypy is not installed')
-    done = subprocess.run(['/usr/bin/mypy', '--strict', '--allow-untyped-calls', '--follow-imports=silent', '-p', 'ezmlm_admin'], cwd=world.place,
+    done = subprocess.run(['/usr/bin/mypy', '--strict', '-p', 'ezmlm_admin'], cwd=world.place,
                           env={**os.environ, 'MYPYPATH': f'{TOP / "admin"}:{TOP / "agent"}'}, stdout=subprocess.PIPE)
     same(done.returncode, 0, done.stdout.decode())
