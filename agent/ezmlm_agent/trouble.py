@@ -67,7 +67,7 @@ def held(folder: pathlib.Path) -> Cause | None:
     try:
         fcntl.flock(lock, fcntl.LOCK_SH | fcntl.LOCK_NB)
     except BlockingIOError:
-        return Cause('another run has the list', path, 'a command or a backup; it goes on after that, and fuser tells which process it is')
+        return Cause('another run has the list', path, 'a command or a backup; it goes on after that, and lslocks tells which process it is')
     except OSError:
         return None
     finally:
