@@ -26,7 +26,8 @@ class Shown(logging.Formatter):
     """What a line of the log says, without a byte that ends it or moves a terminal's cursor."""
 
     def format(self, record: logging.LogRecord) -> str:
-        return ''.join(char if char.isprintable() else wire.printable(char) for char in super().format(record))
+        text = super().format(record)
+        return text if text.isprintable() else ''.join(char if char.isprintable() else wire.printable(char) for char in text)
 
 
 class Agent:

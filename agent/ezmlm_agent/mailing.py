@@ -120,10 +120,12 @@ class MailingList:
         self.unanswered.mails[mail] = None
         self.waiting.append(mail)
         self.wake.set()
-        await asyncio.wait([mail.answer], timeout=self.settings.patience)
-        del self.unanswered.mails[mail]
-        if not mail.answer.done():
-            self.give_up(mail)
+        timer = asyncio.get_running_loop().call_later(self.settings.patience, self.give_up, mail)
+        try:
+            await mail.answer
+        finally:
+            timer.cancel()
+            del self.unanswered.mails[mail]
 
     def give_up(self, mail: mails.Mail) -> None:
         """Nobody waits for a mail any more. Where a run has it in hand its bytes count, so that runs which hang don't fill the memory."""
@@ -134,8 +136,6 @@ class MailingList:
             self.stuck += len(mail.message)
         elif self.running:
             program.kill(self.running.process)
-
-    # What the list is given.
 
     async def work(self) -> None:
         """Gives the list what waits, as long as there is an agent. Nothing else gives it items."""
