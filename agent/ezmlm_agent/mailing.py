@@ -33,8 +33,7 @@ class MailingList:
         self.folder, self.shared, self.settings, self.program = path, shared, shared.settings, shared.program
         self.name = wire.printable(path.name)
         self.threads = aside.Aside(shared.reads)
-        self.turn = asyncio.Lock()  # one run of the program at once
-        self.wake = asyncio.Event()
+        self.turn, self.wake = asyncio.Lock(), asyncio.Event()  # one run of the program or read at once; there is something to do
         self.waiting: collections.deque[mails.Mail] = collections.deque()
         self.unanswered = mails.Unanswered((self.settings.memory << 20) // 4)
         self.notes: notes.Notes | None = None
@@ -195,7 +194,8 @@ class MailingList:
         patience = retrying.Patience(self)
         while True:
             try:
-                return await self.aside(folder.free, self.folder)
+                async with self.turn:  # The agent's own reads aren't another run.
+                    return await self.aside(folder.free, self.folder)
             except folder.Held as error:
                 if not await patience.lasts(program.HELD):
                     raise retrying.Refused(str(error), await self.health.find(program.Ending(program.HELD, 'disk'))) from error
