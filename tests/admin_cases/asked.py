@@ -231,6 +231,10 @@ def case_other_user(world):
     os.chown(world.place, nobody.pw_uid, nobody.pw_gid)
     if subprocess.run([TOOL, '--version'], user=nobody.pw_uid, stdout=subprocess.DEVNULL, stderr=subprocess.DEVNULL).returncode:
         raise Skipped('nobody may not read the source')
+    try:
+        subprocess.run([world.program], user=nobody.pw_uid, stdout=subprocess.DEVNULL)
+    except PermissionError:
+        raise Skipped('nobody may not run the program') from None
     done = world.admin_run('cats', 'options', user=nobody.pw_uid)
     same(done.returncode, 77, "by nobody on root's list")
     holds(done.stderr, b'run it as the user that the list belongs to', "by nobody on root's list")
