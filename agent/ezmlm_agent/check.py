@@ -11,7 +11,7 @@ import sqlite3
 import subprocess
 from collections.abc import Iterable
 
-from . import folder, notes, program, settings, smtp, trouble, wire
+from . import folder, notes, program, sections, settings, smtp, trouble, wire
 
 TRIES = 20  # while another run has a list, a second each
 MOST = 5    # lines that say the same of one list
@@ -97,6 +97,23 @@ def moderation(path: pathlib.Path, line: str) -> list[str]:
     name = shown(path.name)
     posts = [f'{name}: its posts wait for a moderator (m), and it has none: each goes back to its author after five days'] * (b'm' in flags)
     return posts + [f'{name}: subscriptions wait for a moderator (s), and it has none'] * (b's' in flags)
+
+
+def sending(chosen: settings.Settings, addresses: Addresses) -> list[str]:
+    """What is wrong with the sections of single lists, each of which is told, and with how posts are sent."""
+    wrong = [f'[list {shown(name)}]: there is no such list in {shown(chosen.lists)}'
+             for name in sorted(chosen.by_list.keys() - {path.name for path in addresses})]
+    for path, address in addresses.items():
+        flags, name, section = folder.flags(path), shown(path.name), chosen.by_list.get(path.name)
+        local, host = (wire.shown(part) for part in address)
+        if section is not None:
+            print(f'[list {name}]: {section.told((local, host), flags)}')
+        if section is not None and section.list_id is not None and section.list_id.of(local, host) is None:
+            wrong.append(f'[list {name}]: {local}.{host} is no id of a list (RFC 2919): give list_id one, as TEXT <ID>')
+        if sections.changes_posts(flags) and (section is None or not section.rewrite_from):
+            does = ' and '.join(['marks subjects (f)'] * (b'f' in flags) + ['adds a trailer (t)'] * (b't' in flags))
+            wrong.append(f'{name}: it {does}, which breaks its writers\' signatures: say rewrite_from = yes in [list {name}], or no to keep it so')
+    return wrong
 
 
 async def lists(chosen: settings.Settings, addresses: Addresses, owner: int) -> list[str]:
@@ -200,7 +217,7 @@ async def check(chosen: settings.Settings) -> int:
         wrong += modes(chosen.state, owner) if chosen.state.exists() else []
         wrong += place(chosen)
         addresses, others = found(chosen)
-        wrong += [*others, *await lists(chosen, addresses, owner), *all_notes(chosen)]
+        wrong += [*others, *await lists(chosen, addresses, owner), *sending(chosen, addresses), *all_notes(chosen)]
         wrong += await transfer_agent(chosen, addresses)
         wrong += keeps_away(chosen)
     for line in wrong:

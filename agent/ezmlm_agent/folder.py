@@ -80,6 +80,11 @@ def configuration(folder: pathlib.Path) -> dict[bytes, bytes] | None:
     return {name: value for name, value in pairs}
 
 
+def flags(folder: pathlib.Path) -> bytes:
+    """The option letters of the list in a folder, in lower case where they are set, and none where there is no list."""
+    return (configuration(folder) or {}).get(b'flags', b'')
+
+
 def address(folder: pathlib.Path) -> tuple[bytes, bytes] | None:
     """LOCAL and HOST of the list in a folder, in lower case, or None where there is no list."""
     lines = configuration(folder)

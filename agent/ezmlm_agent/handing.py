@@ -3,13 +3,15 @@
 import asyncio
 import contextlib
 import dataclasses
+import functools
 import hashlib
 import logging
 import random
 import time
+from collections.abc import Callable, Sequence
 from typing import TYPE_CHECKING
 
-from . import copies, program, smtp, wire
+from . import copies, fields, program, smtp, wire
 
 if TYPE_CHECKING:
     from . import outgoing
@@ -37,13 +39,13 @@ class Attempt:
         return not self.is_taken and len(self.refused) >= HOPELESS and self.age < DAY
 
 
-def attempt_of(text: bytes, entry: int, age: float, before: frozenset[bytes], size: int,
-               verp: bool) -> tuple[Attempt, list[copies.Transaction]]:
-    """What is to be done for an entry that a file spells so, and the transactions."""
+def attempt_of(text: bytes, entry: int, age: float, before: frozenset[bytes], size: int, verp: bool,
+               mail_of: Callable[[Sequence[bytes]], bytes]) -> tuple[Attempt, list[copies.Transaction]]:
+    """What is to be done for an entry that a file spells so, and the transactions. `mail_of` makes of its elements the mail that goes out."""
     elements = program.netstrings(text)
     rows = copies.batches(elements, size, verp, before)
     random.shuffle(rows)  # Where an attempt ends early the next one begins with others.
-    mail = wire.as_sent(elements[3])
+    mail = wire.as_sent(mail_of(elements))
     return Attempt(entry, hashlib.sha256(text).digest(), mail, age, copies.is_named(elements), len(elements) - 4, bool(before)), rows
 
 
@@ -60,8 +62,9 @@ class Handing:
         assert self.list.notes
         mark = hashlib.sha256(text).digest()
         before = frozenset(self.list.notes.handed_before(entry, mark))
-        attempt, rows = attempt_of(text, entry, time.time() - written, before, self.list.settings.batch, verp)
-        del text
+        words = text, entry, time.time() - written, before, self.list.settings.batch, verp, functools.partial(self.mail_of, entry)
+        attempt, rows = attempt_of(*words) if self.queue.section is None else await asyncio.to_thread(attempt_of, *words)
+        del text, words
         attempt.is_tried = is_tried
         ends = await asyncio.gather(*(self.hand_on_row(attempt, *row) for row in rows), return_exceptions=True)
         is_told = await self.tell_refused(attempt)
@@ -69,6 +72,14 @@ class Handing:
             if isinstance(error, BaseException):
                 raise error
         return is_told and not attempt.put_off
+
+    def mail_of(self, entry: int, elements: Sequence[bytes]) -> bytes:
+        """What goes out for an entry's mail: with the fields of its list's section, or as the list wrote it where they can't be put in."""
+        try:
+            return fields.as_handed_on(elements, self.queue.section, self.queue.flags)
+        except Exception as error:  # Whatever it is, no mail is kept back for the sake of a field.
+            log.warning('%s: entry %d goes out as the list wrote it: %s', self.list.name, entry, error or type(error).__name__)
+            return elements[3]
 
     async def hand_on_row(self, attempt: Attempt, sender: bytes, named: bool, row: list[copies.Copy]) -> None:
         """Hands one transaction on."""

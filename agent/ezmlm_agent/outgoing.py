@@ -2,12 +2,13 @@
 
 import asyncio
 import logging
+import pathlib
 import random
 import time
 from collections.abc import Iterable
 from typing import TYPE_CHECKING
 
-from . import folder, handing, smtp, wire
+from . import folder, handing, sections, smtp, wire
 
 if TYPE_CHECKING:
     from . import mailing
@@ -28,6 +29,8 @@ class Queue:
         self.list, self.folder = mailing_list, mailing_list.folder
         self.exchange: smtp.Exchange = exchange
         self.room = room
+        self.section: sections.Section | None = mailing_list.settings.by_list.get(self.folder.name)
+        self.flags: bytes = b''  # the list's option letters, which are read if its section asks for them
         lanes = max(1, exchange.connections - OTHERS)
         self.lanes: asyncio.Semaphore = asyncio.Semaphore(lanes)
         self.tried: asyncio.Semaphore = asyncio.Semaphore(max(1, lanes - FRESH))  # of them, for entries that were tried before
@@ -111,13 +114,19 @@ class Queue:
         try:
             if sizes:
                 verp = await self.exchange.takes_verp()
-                texts = await self.list.reading(lambda path: folder.entries_with_times(path, sizes))
+                texts = await self.list.reading(lambda path: self.read(path, sizes))
                 begun = [entry for entry in sizes if entry in texts]
         finally:
             self.room.give(sum(size for entry, size in sizes.items() if entry not in begun))
         for entry in begun:
             self.in_hand[entry] = asyncio.create_task(self.hand_on(entry, *texts[entry], verp, sizes[entry]))
         return bool(begun)
+
+    def read(self, path: pathlib.Path, ids: Iterable[int]) -> dict[int, tuple[bytes, float]]:
+        """These entries with their times, and the list's options if its section asks for them."""
+        if self.section is not None and self.section.rewrite_from == 'yes':
+            self.flags = folder.flags(path)
+        return folder.entries_with_times(path, ids)
 
     def reserved(self, sizes: dict[int, int]) -> dict[int, int]:
         """The sizes of the first of these entries, as many as there is room for, which is taken."""

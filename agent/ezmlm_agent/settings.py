@@ -5,8 +5,10 @@ import dataclasses
 import ipaddress
 import pathlib
 import socket
-from collections.abc import Callable
+from collections.abc import Callable, Mapping
 from typing import Any
+
+from . import sections
 
 
 def is_yes(text: str) -> bool:
@@ -46,10 +48,12 @@ class Settings:
     auto_posts: str = setting(posts, 'take')    # what is done with posts that a machine sent
     replies: int = setting(int, 20)             # answers that one sender gets in an hour; 0 for any number
     policy: str = setting(str, '')              # where Postfix asks what a list refuses by the envelope: as listen, or nowhere
+    by_list: Mapping[str, sections.Section] = dataclasses.field(default_factory=dict)  # settings of single lists, by their folders' names
 
 
 def read(path: str) -> Settings:
-    """Reads the settings from the section `agent` of a file. A wrong one is a ValueError."""
+    """Reads the settings from the section `agent` of a file, and those of single lists from the sections `list NAME`. A wrong one is a
+    ValueError."""
     parser = configparser.ConfigParser(interpolation=None)
     try:
         with open(path, encoding='utf-8') as file:
@@ -61,14 +65,14 @@ def read(path: str) -> Settings:
     if 'agent' not in parser:
         raise ValueError(f'{path}: there is no section [agent]')
     given = dict(parser['agent'])
-    fields = {field.name: field for field in dataclasses.fields(Settings)}
+    fields = {field.name: field for field in dataclasses.fields(Settings) if 'read' in field.metadata}
     unknown = given.keys() - fields.keys()
     missing = {name for name, field in fields.items() if field.default is dataclasses.MISSING} - given.keys()
     if unknown or missing:
         raise ValueError(f'{path}: ' + ', '.join(f'{what} {", ".join(sorted(names))}' for what, names in
                                                 (('unknown', unknown), ('missing', missing)) if names))
     try:
-        chosen = Settings(**{name: fields[name].metadata['read'](value) for name, value in given.items()})
+        chosen = Settings(**{name: fields[name].metadata['read'](value) for name, value in given.items()}, by_list=sections.read(parser))
         check(chosen)
     except ValueError as error:
         raise ValueError(f'{path}: {error}') from error
