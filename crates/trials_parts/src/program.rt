@@ -3,26 +3,13 @@ use crate::asked::{Asked, NoAnswer};
 use crate::parts::Parts;
 use crate::{digests, held, ledgers, queue};
 use ml_base::{Bytes, Layer, PartError, Txn};
-use ml_site::{Clock, Fill, Image, MemClock, MemSite, MemSource, Site, Source};
+use ml_site::{Clock, Fill, MemClock, MemSite, MemSource};
 use std::alloc::Global;
 use std::test::Fail;
 use trials_lists::{copy, error_text, lay};
-use trials_scripts::{OnSite, Program};
+use trials_scripts::{OnSite, Program, ended_with, read_whole};
 
 pub(crate) struct Calls;
-
-// The whole input.
-fn read_whole(alloc: Global, input: &mut MemSource) -> Result<Bytes, Fail> {
-    let mut bytes = Bytes::new(alloc);
-    let mut buffer = [0; 4096];
-    for _ in 0..u64::MAX {
-        match input.read(&mut buffer)? {
-            0 => break,
-            count => bytes.extend(&buffer[..count])?,
-        }
-    }
-    Ok(bytes)
-}
 
 // What a call of a part answers.
 fn answer(
@@ -55,13 +42,6 @@ pub(crate) fn told(alloc: Global, answer: Result<Bytes, NoAnswer>) -> Result<(u8
     }
 }
 
-// A site of these files that has put this text out.
-fn ended_with(alloc: Global, image: Image, text: &Bytes) -> Result<MemSite, Fail> {
-    let mut site = MemSite::new(alloc, image, 1, text.len())?;
-    site.give(text.as_slice())?;
-    Ok(site)
-}
-
 impl Program for Calls {
     fn ended(
         alloc: Global,
@@ -86,6 +66,6 @@ impl Program for Calls {
         let (status, text) = told(alloc, answer)?;
         let (_, puts) = parts.parts();
         lay(alloc, &mut image.files, &puts)?;
-        Ok((status, ended_with(alloc, image, &text)?))
+        ended_with(alloc, status, image, text.as_slice())
     }
 }

@@ -4,21 +4,18 @@ ghost use Rattle.std.specs.Prelude.{IfOk};
 ghost use Rattle.ml_config.specs.Configuration.{IsConfig};
 
 use crate::asking::{Told, answered, found, mailed, posted, served};
-use ml_base::{Bytes, Txn, read_number};
+use ml_base::{Bytes, read_number};
 use ml_config::Config;
-use ml_site::{Clock, Fill, Image, MemClock, MemSite, MemSource, Site, Source};
+use ml_site::{Clock, Fill, MemClock, MemSite, MemSource};
 use std::alloc::Global;
 use std::test::Fail;
 use trials_lists::{KEY, Made, config, copy, lay, make};
-use trials_scripts::{OnSite, Program};
+use trials_scripts::{OnSite, Program, ended_with, read_whole};
 
 pub(crate) struct Requests;
 
 // The most bytes of a post where no word says it.
 const MAX: u64 = 1_048_576;
-
-// The most bytes of an input.
-const INPUT: usize = 65_536;
 
 // A closed gate.
 const LOG: &[u8] = b"\0";
@@ -97,14 +94,6 @@ fn called(
     }
 }
 
-// The files behind puts, and an output.
-fn behind(alloc: Global, mut image: Image, puts: &Txn, text: &[u8]) -> Result<MemSite, Fail> {
-    lay(alloc, &mut image.files, puts)?;
-    let mut site = MemSite::new(alloc, image, 1, 100)?;
-    site.give(text)?;
-    Ok(site)
-}
-
 impl Program for Requests {
     fn ended(
         alloc: Global,
@@ -117,13 +106,13 @@ impl Program for Requests {
         if word(words, 0) == "new" {
             image.log = Bytes::from_slice(alloc, LOG)?;
             make(alloc, &mut image.files, NEW)?;
-            return Ok((0, behind(alloc, image, &Txn::new(alloc), b"")?));
+            return ended_with(alloc, 0, image, b"");
         }
-        let mut message = vec![in alloc; 0; INPUT]?;
-        let len = input.read(&mut message)?;
+        let message = read_whole(alloc, input)?;
         let files = copy(alloc, &image.files)?;
         let mut files = OnSite { site, files };
-        let (puts, text) = called(alloc, words, &mut files, clock.now()?, &message[..len])?;
-        Ok((0, behind(alloc, image, &puts, text.as_slice())?))
+        let (puts, text) = called(alloc, words, &mut files, clock.now()?, message.as_slice())?;
+        lay(alloc, &mut image.files, &puts)?;
+        ended_with(alloc, 0, image, text.as_slice())
     }
 }
