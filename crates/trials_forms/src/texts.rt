@@ -72,7 +72,14 @@ pub(crate) fn told(alloc: Global, verb: &str, words: &[String]) -> Result<String
         number(alloc, number_of(first))
     } else if verb == "netstrings" {
         netstrings(alloc, words)
-    } else if verb == "span" {
+    } else {
+        told_of_bytes(alloc, verb, first, second)
+    }
+}
+
+// What a call on one or two byte strings answers, or one without arguments.
+fn told_of_bytes(alloc: Global, verb: &str, first: &[u8], second: &[u8]) -> Result<String, Fail> {
+    if verb == "span" {
         let from = number_of(second) as usize;
         Ok(format!(in alloc; "{:?}", read_netstring(first, from))?)
     } else if verb == "netstring" {
