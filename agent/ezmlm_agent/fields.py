@@ -166,8 +166,8 @@ def parsed(text: str) -> list[Mailbox]:
 
 
 def is_mailbox(row: Mailbox) -> bool:
-    """Whether the address is one (RFC 5322 3.4.1; RFC 5321 4.5.3.1 for its length)."""
-    return ADDRESS.fullmatch(row[1]) is not None and len(row[1].encode()) <= LONGEST_ADDRESS
+    """Whether the address is one (RFC 5322 3.4.1; RFC 5321 4.5.3.1 for its length) that can be shown."""
+    return ADDRESS.fullmatch(row[1]) is not None and row[1].isprintable() and len(row[1].encode()) <= LONGEST_ADDRESS
 
 
 def decoded(text: str) -> str:

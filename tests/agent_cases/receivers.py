@@ -164,6 +164,8 @@ BAD = {  # what a stranger may send
     'CR in an address': b'From: <a@b.c\rBcc:x>\n\nhi\n',
     'a line separator': b'From: =?utf-8?q?A=E2=80=A8Bcc=3A_x?= <a@b.c>\n\nhi\n',
     'a charset that isn\'t there': b'From: =?x-none?q?=0Aa?= <a@b.c>\n\nhi\n',
+    'half a surrogate': b'From: =?utf-8?q?=ED=A0=80?=a@b.c\n\nhi\n',
+    'marks of direction': b'From: =?utf-8?q?=E2=80=AEa?= <a\xe2\x80\xae@b.c>\n\nhi\n',
     'no base64': b'From: =?utf-8?b?A?= <a@b.c>\n\nhi\n',
     'quotes': b'From: ' + b'"' * 3999 + b' <a@b.c>\n\nhi\n',
     'parentheses': b'From: ' + b'(' * 3000 + b'a@b.c\n\nhi\n',
