@@ -124,8 +124,8 @@ class Signed(Course):
             records[f'lists._domainkey.{domain}'] = re.findall('"([^"]*)"', (folder / 'lists.txt').read_text())
             shutil.chown(folder / 'lists.private', 'opendkim')
         words = [f'--txt-record={name},' + ','.join(texts) for name, texts in records.items()]
-        self.serve('dnsmasq', '--keep-in-foreground', '--conf-file=/dev/null', f'--port={RESOLVER}', '--listen-address=127.0.0.1', '--bind-interfaces',
-                   '--no-resolv', '--no-hosts', f'--pid-file={self.place}/dnsmasq.pid', *words)
+        self.serve('dnsmasq', '--keep-in-foreground', '--conf-file=/dev/null', f'--port={RESOLVER}', '--listen-address=127.0.0.1',
+                   '--bind-interfaces', '--no-resolv', '--no-hosts', f'--pid-file={self.place}/dnsmasq.pid', *words)
         wait_for(RESOLVER)
 
     def signer(self):
