@@ -5,6 +5,7 @@ import collections
 import contextlib
 import logging
 import os
+import re
 import sys
 import threading
 import time
@@ -245,7 +246,10 @@ def case_broken_list(world):
         (folder / 'num').rename(folder / 'aside')
     for n in range(10):
         begins(world.post(n), '451 4.3.0 75 num', 'a mail')
-    same(world.log().count(f'cats: 75 num: this file is damaged ({folder}/num): put a backup'), 1, 'lines that tell it')
+    # A timed run reads no `num`, so the list works again where one comes in between.
+    log = world.log()
+    told, mended = log.count(f'cats: 75 num: this file is damaged ({folder}/num): put a backup'), log.count('cats: it works again')
+    check(1 <= told <= 1 + mended, f'{told} lines tell it, and {mended} that it works again')
     (folder / 'aside').rename(folder / 'num')
     check(until(lambda: world.post(1) == '250 2.0.0 posted 1'), 'the mended list is not served')
     check(world.tells('cats: it works again'), 'the log does not tell that it works')
@@ -287,7 +291,7 @@ def case_fresh_before_tried(world):
     world.begin()
     for n, stranger in enumerate(sorted(strangers)):
         same(world.mail(stranger, [f'cats-help@{HOST}'], post(n)), ['250 2.0.0 help'], 'a request')
-    check(until(lambda: world.log().count('is tried again') >= 60), 'not all were tried')
+    check(until(lambda: len(set(re.findall(r'entry \d+ is tried again', world.log()))) >= 60), 'not all were tried')
     world.sink.defer = set()
     # Those that are tried again hang now.
     world.sink.holds = lambda recipients: recipients[0] in strangers
