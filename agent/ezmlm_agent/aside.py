@@ -90,10 +90,11 @@ def settle(future: asyncio.Future[Any], result: Any, error: BaseException | None
 async def within(turns: asyncio.Semaphore, seconds: float) -> AsyncIterator[None]:
     """Waits for a turn, but not longer than so many seconds: then it goes on without one. So what hangs with a turn holds up others for that
     long alone."""
-    has_turn = False
-    with contextlib.suppress(TimeoutError):
-        async with asyncio.timeout(seconds):
-            has_turn = await turns.acquire()
+    has_turn = not turns.locked() and await turns.acquire()  # A free one is there at once.
+    if not has_turn:
+        with contextlib.suppress(TimeoutError):
+            async with asyncio.timeout(seconds):
+                has_turn = await turns.acquire()
     try:
         yield
     finally:

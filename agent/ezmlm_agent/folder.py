@@ -36,7 +36,7 @@ def settled(folder: pathlib.Path, call: Callable[[pathlib.Path], Result]) -> Res
         os.close(lock)
 
 
-def opened(path: pathlib.Path, flags: int) -> int:
+def opened(path: pathlib.Path | str, flags: int) -> int:
     """A descriptor of a regular file. Whatever else stands in its place is an OSError: a pipe would keep who reads it waiting."""
     file = os.open(path, flags | os.O_NONBLOCK | os.O_CLOEXEC, 0o600)
     if not stat.S_ISREG(os.fstat(file).st_mode):
@@ -45,9 +45,9 @@ def opened(path: pathlib.Path, flags: int) -> int:
     return file
 
 
-def size_or_none(path: pathlib.Path) -> int | None:
+def size_or_none(path: pathlib.Path | str) -> int | None:
     try:
-        return path.stat().st_size
+        return os.stat(path).st_size
     except FileNotFoundError:
         return None
 
@@ -63,7 +63,7 @@ def bytes_or_none(path: pathlib.Path) -> bytes | None:
 def names(folder: pathlib.Path) -> list[str]:
     """The names of the files in a folder, and none where it isn't there."""
     try:
-        return [path.name for path in folder.iterdir()]
+        return os.listdir(folder)
     except FileNotFoundError:
         return []
 
@@ -127,7 +127,7 @@ def entries(folder: pathlib.Path, ids: Iterable[int]) -> dict[int, bytes | None]
 
 def sizes(folder: pathlib.Path, ids: Iterable[int]) -> dict[int, int]:
     """The bytes of these entries' files, in this order, without those that are gone."""
-    found = ((entry, size_or_none(folder / 'queue' / str(entry))) for entry in ids)
+    found = ((entry, size_or_none(f'{folder}/queue/{entry}')) for entry in ids)
     return {entry: size for entry, size in found if size is not None}
 
 
@@ -135,9 +135,11 @@ def entries_with_times(folder: pathlib.Path, ids: Iterable[int]) -> dict[int, tu
     """These entries of the outgoing queue, each as its file spells it, and when that was written, without those that are gone."""
     found: dict[int, tuple[bytes, float]] = {}
     for entry in ids:
-        text = bytes_or_none(folder / 'queue' / str(entry))
-        if text is not None:
-            found[entry] = text, (folder / 'queue' / str(entry)).stat().st_mtime
+        try:
+            with open(opened(f'{folder}/queue/{entry}', os.O_RDONLY), 'rb') as file:
+                found[entry] = file.read(), os.fstat(file.fileno()).st_mtime
+        except FileNotFoundError:
+            pass
     return found
 
 

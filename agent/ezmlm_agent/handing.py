@@ -39,14 +39,14 @@ class Attempt:
         return not self.is_taken and len(self.refused) >= HOPELESS and self.age < DAY
 
 
-def attempt_of(text: bytes, entry: int, age: float, before: frozenset[bytes], size: int, verp: bool,
+def attempt_of(text: bytes, mark: bytes, entry: int, age: float, before: frozenset[bytes], size: int, verp: bool,
                mail_of: Callable[[Sequence[bytes]], bytes]) -> tuple[Attempt, list[copies.Transaction]]:
     """What is to be done for an entry that a file spells so, and the transactions. `mail_of` makes of its elements the mail that goes out."""
     elements = program.netstrings(text)
     rows = copies.batches(elements, size, verp, before)
     random.shuffle(rows)  # Where an attempt ends early the next one begins with others.
     mail = wire.as_sent(mail_of(elements))
-    return Attempt(entry, hashlib.sha256(text).digest(), mail, age, copies.is_named(elements), len(elements) - 4, bool(before)), rows
+    return Attempt(entry, mark, mail, age, copies.is_named(elements), len(elements) - 4, bool(before)), rows
 
 
 class Handing:
@@ -62,7 +62,7 @@ class Handing:
         assert self.list.notes
         mark = hashlib.sha256(text).digest()
         before = frozenset(self.list.notes.handed_before(entry, mark))
-        words = text, entry, time.time() - written, before, self.list.settings.batch, verp, functools.partial(self.mail_of, entry)
+        words = text, mark, entry, time.time() - written, before, self.list.settings.batch, verp, functools.partial(self.mail_of, entry)
         attempt, rows = attempt_of(*words) if self.queue.section is None else await asyncio.to_thread(attempt_of, *words)
         del text, words
         attempt.is_tried = is_tried
@@ -127,7 +127,7 @@ class Handing:
         """
         if attempt.refused and not attempt.is_taken and attempt.age < DAY and not self.is_refused_alone(attempt):
             return False
-        return all(await asyncio.gather(*(self.bounce(attempt, *refused) for refused in attempt.refused)))
+        return not attempt.refused or all(await asyncio.gather(*(self.bounce(attempt, *refused) for refused in attempt.refused)))
 
     def is_refused_alone(self, attempt: Attempt) -> bool:
         """Whether an entry's one recipient is what was refused. A refusal by policy (RFC 3463 3.8: 5.7) may be of this host, and so of all,

@@ -37,6 +37,7 @@ class Queue:
         self.handing = handing.Handing(self)
         self.at_once = asyncio.Semaphore(AT_ONCE)
         self.changed = asyncio.Event()
+        self.has_more = False  # whether entries that are due wait for those in hand
         self.in_hand: dict[int, asyncio.Task[None]] = {}  # entries that are handed on
         self.handed_on: set[int] = set()  # entries that were, until the list knows it
         self.left: set[int] = set()       # entries that left the queue, until the notes forget them
@@ -54,8 +55,9 @@ class Queue:
         pause = SHORTEST
         while not self.list.stopping:
             self.changed.clear()
+            self.has_more = len(self.in_hand) > ENTRIES // 2
             try:
-                begun = len(self.in_hand) <= ENTRIES // 2 and await self.begin()
+                begun = not self.has_more and await self.begin()
                 pause = SHORTEST
             except Exception as error:  # Whatever it is, the other lists go on.
                 self.list.said_out.say(f'nothing is handed on: {type(error).__name__}: {error}')
@@ -97,8 +99,10 @@ class Queue:
         self.later = {entry: times for entry, times in self.later.items() if entry in there}
         idle = there - self.in_hand.keys() - self.handed_on
         tried = sorted((self.later[entry][0], entry) for entry in idle & self.later.keys() if self.later[entry][0] <= now)
-        some = max(0, TRIED - len(self.in_hand.keys() & self.later.keys()))
-        return sorted(idle - self.later.keys())[:ENTRIES - len(self.in_hand)] + [entry for _, entry in tried[:some]]
+        new = sorted(idle - self.later.keys())
+        most, some = ENTRIES - len(self.in_hand), max(0, TRIED - len(self.in_hand.keys() & self.later.keys()))
+        self.has_more = len(new) > most or len(tried) > some
+        return new[:most] + [entry for _, entry in tried[:some]]
 
     async def begin(self) -> bool:
         """Begins with the entries that are due and have room in memory. The answer is whether there are any."""
@@ -133,6 +137,7 @@ class Queue:
         kept: dict[int, int] = {}
         for entry, size in sizes.items():
             if not self.room.take(size):
+                self.has_more = True
                 asyncio.get_running_loop().call_later(CROWDED, self.changed.set)
                 break
             kept[entry] = size
@@ -160,4 +165,5 @@ class Queue:
             self.list.wake.set()
         else:
             self.put_off(entry)
-        self.changed.set()
+        if self.has_more or not done:  # Else what comes next comes by a run of the program, after which the queue is looked at.
+            self.changed.set()

@@ -121,8 +121,9 @@ class Wire:
     async def say(self, text: bytes, seconds: float = QUIET) -> None:
         try:
             self.writer.write(text)
-            async with asyncio.timeout(seconds):
-                await self.writer.drain()
+            if self.writer.transport.get_write_buffer_size() or self.writer.transport.is_closing():
+                async with asyncio.timeout(seconds):
+                    await self.writer.drain()
         except OSError as error:
             raise Gone(str(error) or 'takes nothing') from error
 
