@@ -119,6 +119,24 @@ list run make -u --key {key} list ex.org o@own.org => {made} | put allow/subscri
 input {deliver} | run spool => 75 30 75 allow/subscribers/]\n | same
 list run make -m --key {key} list ex.org o@own.org => {made} | put mod/subscribers/] Ta@b
 input {deliver} | run spool => 75 30 75 mod/subscribers/]\n | same
+# Who may read the archive: members alone are looked up, and only with the option g.
+let own D2:30,10:1000000200,3:a@b,17:list-get.1@ex.org,{message}
+list run make --key {key} list ex.org o@own.org => {made} | input {three}{post} | run spool => 0 {added}20 0 posted 1\n
+put subscribers/] Ta@b | input {own} | run spool => 0 30 0 archive\n
+list run make -g --key {key} list ex.org o@own.org => {made} | input {three}{post} | run spool => 0 {added}20 0 posted 1\n
+input {own} | run spool => 0 30 0 archive\n
+input {get} | run spool => 0 30 100 private\n
+put subscribers/] Ta@b | input {own} | run spool => 75 30 75 subscribers/]\n | same
+# A digest that is due goes to its whole set, and a list without digests looks at none of their files.
+let due T2:30,10:1000172900,
+list run make -d --key {key} list ex.org o@own.org => {made} | input {three}{post} | run spool => 0 {added}20 0 posted 1\n
+input {due} | run spool => 0 30 0 timed 1\n
+put digest/subscribers/] Ta@b | input {due} | run spool => 75 30 75 digest/subscribers/]\n | same
+put digest/subscribers/L Ta@b | input {due} | run spool => 75 30 75 digest/subscribers/L\n | same
+put digest/subscribers/] Ta@b | input {timed} | run spool => 0 30 0 timed 0\n
+list run make --key {key} list ex.org o@own.org => {made} | input {three}{post} | run spool => 0 {added}20 0 posted 1\n
+put dig 0:0 | input {timed} | run spool => 0 30 0 timed 0\n
+put digest/subscribers/] Ta@b | put dig 0:0 | input {due} | run spool => 0 30 0 timed 0\n
 # What is at odds with posts that are not asked for is no damage to what is: their number, indexes, threads, and what is in no digest.
 let some D2:30,10:1000000200,3:g@h,19:list-get.5_7@ex.org,{message}
 let past D2:30,10:1000000200,3:g@h,23:list-get.115_125@ex.org,{message}
