@@ -16,3 +16,4 @@ pub mod Threaded
 pub mod Indexed
 mod Examples
 pub mod Asked
+pub mod Calls

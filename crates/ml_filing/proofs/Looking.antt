@@ -10,7 +10,7 @@ use Rattle.ml_base.specs.Dir.{Dir}
 use Rattle.ml_base.specs.Name.{is_in_table}
 use Rattle.ml_base.specs.declared.names.Name.{Name}
 use Rattle.ml_rows.proofs.RowLaws.{one_some, none_some}
-use Rattle.ml_filing.specs.Answers.{IsNoNumber, IsNoIndex, IsNoThreads, IsOtherSize, IsEntryByFiles, HasNoEntry, IsBadForEntry, IsPostByFiles}
+use Rattle.ml_filing.specs.Answers.{IsNoNumber, IsNoIndex, IsNoThreads, IsOtherSize, IsEntryByFiles, HasNoEntry, IsBadForEntry, IsBadForPost, IsPostByFiles}
 use Rattle.ml_filing.specs.Archive.{ArePosts, IsIndexFile, IsNumberFile, post_name, index_name, number_name}
 use Rattle.ml_filing.specs.Posts.{index_of, entry, post_at}
 use Rattle.ml_filing.specs.Reading.{count_in, index_in, threads_in}
@@ -155,3 +155,12 @@ post_by_files dir n count e bytes counted low high found there size =
     let named = entry_named n found.0 e found.2 in
     let same : e ≡ record { number = n; moment = e.moment; sender = e.sender; size = length bytes; subject = e.subject } = λ i. record { number = named i; moment = e.moment; sender = e.sender; size = sym size i; subject = e.subject } in
     ((count, counted, low, high), (found.0, found.1, found.2 ∙ ap (λ (x : Entry). Some x) same), there)
+
+-- what is bad of the entry of a post that is there is bad of the post, and so is another size than its entry's
+pub entry_bad : (dir : Dir) (n count : ℕ) (name : Name) → IsNumberFile (dir number_name) count → 1 ≤ n → n ≤ count → IsBadForEntry dir n name → IsBadForPost dir n name
+entry_bad dir n count name counted low high (inl (is, (entries, index, lacks))) =
+    inl (is, inr (record { count = count; counted = counted; low = low; high = high; entries = entries; index = index; lacks = lacks }))
+entry_bad dir n count name counted low high (inr (is, none)) = inr (is, inl none)
+
+pub size_bad : (dir : Dir) (n : ℕ) (e : Entry) (name : Name) → IsEntryByFiles dir n e → name ≡ index_name (n / 100) → IsOtherSize dir n e.size → IsBadForPost dir n name
+size_bad dir n e name (entries, index, found) is lacks = inr (is, inr (record { entries = entries; index = index; entry = e; found = found; lacks = lacks }))

@@ -4,7 +4,7 @@ use Rattle.std.specs.Prelude.{unwrap_or}
 use Rattle.std.specs.List.{AllByRecursion, AllZip, IsAmong, list_any}
 use Rattle.std.specs.Ordering.{eq_by_cmp}
 use Rattle.std.specs.Str.{bytes_eq}
-use Rattle.std.proofs.lemmas.Bool.{eqb-true, false≢true}
+use Rattle.std.proofs.lemmas.Bool.{eq-eqb, eqb-true, false≢true, or_left, or_right}
 use Rattle.std.proofs.lemmas.Nat.{div_below}
 use Rattle.ml_base.specs.Bytes.{Text}
 use Rattle.ml_base.specs.Cuts.{one_or_within}
@@ -39,6 +39,11 @@ any_among n (m ∷ ms) e = go (m == n) refl e (any_among n ms)
     go : (t : Bool) → (m == n) ≡ t → (t || list_any (λ m. m == n) ms) ≡ true → (list_any (λ m. m == n) ms ≡ true → IsAmong ms n) → IsAmong (m ∷ ms) n
     go true same e later = (0, (omega arith, sym (eqb-true m n same)))
     go false other e later = let more = later e in (suc more.0, (let less = more.1.0 in omega (arith, less), more.1.1))
+
+pub among_any : (n : ℕ) (ns : List ℕ) → IsAmong ns n → list_any (λ m. m == n) ns ≡ true
+among_any n [] among = absurd (let less = among.1.0 in omega (arith, less))
+among_any n (m ∷ ms) (zero, is) = or_left (m == n) _ (eq-eqb m n (sym is.1))
+among_any n (m ∷ ms) (suc i, is) = let less = is.0 in or_right (m == n) _ (among_any n ms (i, (omega (arith, less), is.1)))
 
 pub among_taken : (k m : ℕ) (ns : List ℕ) → IsAmong (take k ns) m → IsAmong ns m
 among_taken zero m ns among = absurd (let less = among.1.0 in omega (arith, less))

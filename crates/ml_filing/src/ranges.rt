@@ -1,9 +1,9 @@
 // Ranges of posts.
-ghost use Rattle.std.specs.Prelude.{◌≡◌, ◌<◌, ◌+◌, ◌^◌, List, IsTrue, IfOk, IfErr};
+ghost use Rattle.std.specs.Prelude.{◌≡◌, ◌<◌, ◌≤◌, ◌+◌, ◌^◌, List, IsTrue, IfOk, IfErr};
 ghost use Rattle.std.specs.List.{AllByRecursion, range_with_len};
 ghost use Rattle.ml_base.specs.PartErrors.{OnDamaged};
 ghost use Rattle.ml_base.specs.ReadFiles.{IsReading, NamesDamaged};
-ghost use Rattle.ml_filing.specs.Answers.{IsBadForRange, IsRangeByFiles};
+ghost use Rattle.ml_filing.specs.Answers.{IsBadForRange, IsRangeByFiles, first_numbers};
 ghost use Rattle.ml_filing.specs.Archive.{ArePosts};
 ghost use Rattle.ml_filing.specs.Posts.{cut, in_range, numbers};
 ghost use Rattle.ml_filing.specs.Reads.{IsOfRange, IsWithin};
@@ -28,6 +28,17 @@ fn numbers_from(alloc: Global, first: u64, count: u64) -> Result<Numbers, AllocE
     Ok(out)
 }
 
+// The first hundred of the numbers a to b, as far as there are posts.
+fn asked_for(alloc: Global, a: u64, b: u64, count: u64) -> Result<Numbers, AllocError>
+    requires { count ≤ 99_999_999 }
+    ensures { IfOk result (λ ns. ns ≡ first_numbers a b count) }
+{
+    let first = a.max(1);
+    let last = b.min(count);
+    let size = (last + 1).saturating_sub(first).min(MAX_POSTS as u64);
+    numbers_from(alloc, first, size)
+}
+
 /// The numbers of the posts a to b that are there, in order, as many as one answer has: at most 100, and at most 4,194,304 bytes of
 /// posts together, but the first one always. It reads the number of posts and at most two indexes, each once: those of the groups from a's to
 /// b's.
@@ -40,10 +51,7 @@ pub fn range<F: Files>(alloc: Global, files: &mut F, a: u64, b: u64) -> Result<N
     ensures reads { IsReading ⟦<F as Files>⟧ files.old files.new result }
 {
     let count = read_count(alloc, files)?;
-    let first = a.max(1);
-    let last = b.min(count);
-    let size = (last + 1).saturating_sub(first).min(MAX_POSTS as u64);
-    let row = numbers_from(alloc, first, size)?;
+    let row = asked_for(alloc, a, b, count)?;
     let mut indexes = Indexes::new(alloc);
     let sizes = sizes_of(alloc, files, &mut indexes, row.as_slice(), Name::NUMBER)?;
     Ok(cut_by(alloc, row.as_slice(), sizes.as_slice())?)

@@ -1,13 +1,12 @@
-use Rattle.std.proofs.Common.{◌≡◌, ◌<◌, ◌≤◌, inl, inr, ◌+◌, ◌/◌, [], ℕ, List, Option, IsErrOf, arith, rules, subst, sym, ap, ap₂, ◌∙◌, refl, ◌⊎◌}
+use Rattle.std.proofs.Common.{◌≡◌, ◌<◌, ◌≤◌, inl, inr, ◌+◌, ◌/◌, [], ℕ, List, Option, arith, rules, subst, sym, ap, ap₂, ◌∙◌, refl, ◌⊎◌}
 use Rattle.std.specs.Prelude.{unwrap_or}
 use Rattle.std.proofs.lemmas.Nat.{mod_below}
 use Rattle.ml_base.specs.Bytes.{Text}
 use Rattle.ml_base.specs.Dir.{Dir}
 use Rattle.ml_base.specs.PartErrors.{OnDamaged}
-use Rattle.ml_base.specs.declared.part.PartError.TheVariants.{Fault}
 use Rattle.ml_base.specs.Hash.{hash_of}
 use Rattle.ml_base.proofs.DamagedNames.{on_both, on_damaged}
-use Rattle.ml_base.proofs.ReadingLemmas.{kept_then, kept_read, reading_then}
+use Rattle.ml_base.proofs.ReadingLemmas.{reading_ok}
 use Rattle.ml_filing.specs.Answers.{HasEntriesBefore, IsAppendName, IsBadForAppend, IsBadForNext, IsNoNumber, IsNoThreads, new_post}
 use Rattle.ml_filing.specs.Appending.{key_puts}
 use Rattle.ml_filing.specs.Archive.{IsNumberFile, index_name, number_name}
@@ -20,6 +19,7 @@ use Rattle.ml_filing.specs.declared.posts.Appended.TheVariants.{At}
 use Rattle.ml_filing.specs.declared.posts.Post.{Post}
 use Rattle.ml_filing.proofs.Lengthened.{append_leads, no_bad_next, next_named, next_bad, next_of}
 use Rattle.ml_filing.proofs.Looking.{counted_is}
+use Rattle.ml_filing.proofs.Calls.{kept_by, kept_on, read_on}
 use Rattle.ml_filing.proofs.appending.append.Goals as goal
 
 pub returns-then-count-eq-LAST_POST_NUMBER-clause-value : goal.returns-then-count-eq-LAST_POST_NUMBER-clause-value
@@ -104,30 +104,18 @@ returns-in_err-threads-clause-names g c =
 
 pub returns-in_err-threads-clause-reads : goal.returns-in_err-threads-clause-reads
 returns-in_err-threads-clause-reads g c =
-    let before =
-    kept_then g.F.Files g.met.F.Files.kept_then c.args.files.now c.read_count.new.files c.next_index.new.files
-    (kept_read g.F.Files c.args.files.now c.read_count.new.files c.read_count.result c.read_count.ensures.reads)
-    (kept_read g.F.Files c.read_count.new.files c.next_index.new.files c.next_index.result c.next_index.ensures.reads) in
-    let read = reading_then g.F.Files g.met.F.Files.kept_then c.args.files.now c.next_index.new.files c.read_thread_file.new.files c.read_thread_file.result before c.read_thread_file.ensures.reads in
-    record { kept = read.kept; later = read.later; cause = λ bad. let failed : IsErrOf c.read_thread_file.result Fault = search rules in read.cause failed }
+    let on = g.met.F.Files.kept_then in
+    let read = read_on on (kept_on on (kept_by c.read_count.ensures.reads) c.next_index.ensures.reads) c.read_thread_file.ensures.reads in
+    search rules
 
 pub returns-in_err-txn-clause-reads : goal.returns-in_err-txn-clause-reads
 returns-in_err-txn-clause-reads g c =
-    let before =
-    kept_then g.F.Files g.met.F.Files.kept_then c.args.files.now c.read_count.new.files c.next_index.new.files
-    (kept_read g.F.Files c.args.files.now c.read_count.new.files c.read_count.result c.read_count.ensures.reads)
-    (kept_read g.F.Files c.read_count.new.files c.next_index.new.files c.next_index.result c.next_index.ensures.reads) in
-    let all = kept_then g.F.Files g.met.F.Files.kept_then c.args.files.now c.next_index.new.files c.read_thread_file.new.files before (kept_read g.F.Files c.next_index.new.files c.read_thread_file.new.files c.read_thread_file.result c.read_thread_file.ensures.reads) in
+    let on = g.met.F.Files.kept_then in
+    let all = kept_on on (kept_on on (kept_by c.read_count.ensures.reads) c.next_index.ensures.reads) c.read_thread_file.ensures.reads in
     record { kept = all.kept; later = all.later; cause = λ bad. absurd (search rules) }
 
 pub returns-clause-reads : goal.returns-clause-reads
-returns-clause-reads g c =
-    let before =
-    kept_then g.F.Files g.met.F.Files.kept_then c.args.files.now c.read_count.new.files c.next_index.new.files
-    (kept_read g.F.Files c.args.files.now c.read_count.new.files c.read_count.result c.read_count.ensures.reads)
-    (kept_read g.F.Files c.read_count.new.files c.next_index.new.files c.next_index.result c.next_index.ensures.reads) in
-    let all = kept_then g.F.Files g.met.F.Files.kept_then c.args.files.now c.next_index.new.files c.read_thread_file.new.files before (kept_read g.F.Files c.next_index.new.files c.read_thread_file.new.files c.read_thread_file.result c.read_thread_file.ensures.reads) in
-    record { kept = all.kept; later = all.later; cause = λ bad. absurd (search rules) }
+returns-clause-reads g c = let on = g.met.F.Files.kept_then in reading_ok g.F.Files _ _ _ (kept_on on (kept_on on (kept_by c.read_count.ensures.reads) c.next_index.ensures.reads) c.read_thread_file.ensures.reads)
 
 pub returns-clause-read : goal.returns-clause-read
 returns-clause-read g c told =
@@ -163,3 +151,9 @@ pub returns-clause-value : goal.returns-clause-value
 returns-clause-value g c told dir posts is alike =
     append_leads (g.F.Files.map c.args.files.now) dir c.args.prefix.now c.args.sender.now c.args.moment c.args.bytes.now posts (At (c.in_ok-count.count + 1) c.in_ok-txn.txn) c.bytes.ensures.address c.requires.moment c.requires.size is alike
     (returns-clause-read g c told)
+
+pub returns-in_err-index-clause-reads : goal.returns-in_err-index-clause-reads
+returns-in_err-index-clause-reads g c =
+    let on = g.met.F.Files.kept_then in
+    let read = read_on on (kept_by c.read_count.ensures.reads) c.next_index.ensures.reads in
+    search rules

@@ -1,13 +1,13 @@
-use Rattle.std.proofs.Common.{IsErrOf, arith, rules, subst, sym, ap, ◌∙◌, inl, inr}
+use Rattle.std.proofs.Common.{◌≡◌, ◌≤◌, ◌/◌, arith, rules, subst, sym, ap, ◌∙◌, inl, inr}
 use Rattle.ml_base.specs.Dir.{Dir}
 use Rattle.ml_base.specs.PartErrors.{OnDamaged}
-use Rattle.ml_base.specs.declared.part.PartError.TheVariants.{Fault}
-use Rattle.ml_base.proofs.DamagedNames.{on_damaged}
-use Rattle.ml_base.proofs.ReadingLemmas.{kept_then, kept_read, reading_then}
-use Rattle.ml_filing.specs.Answers.{IsBadForEntry, IsEntryByFiles, IsOtherSize}
-use Rattle.ml_filing.specs.Archive.{post_name}
-use Rattle.ml_filing.proofs.Looking.{no_bad_entry, right_size, post_found, post_none, post_by_files}
+use Rattle.ml_base.proofs.DamagedNames.{on_damaged, on_both}
+use Rattle.ml_base.proofs.ReadingLemmas.{reading_ok}
+use Rattle.ml_filing.specs.Answers.{IsBadForEntry, IsBadForPost, IsEntryByFiles, IsNoNumber, IsOtherSize, IsPostName}
+use Rattle.ml_filing.specs.Archive.{index_name, number_name, post_name}
+use Rattle.ml_filing.proofs.Looking.{no_bad_entry, entry_bad, size_bad, right_size, post_found, post_none, post_by_files}
 use Rattle.ml_filing.proofs.posting.post.Goals as goal
+use Rattle.ml_filing.proofs.Calls.{kept_by, kept_on, read_on}
 use Rattle.ml_filing.proofs.posting.post.Goals.{then-n-eq0-via-then-n-eq0, then-n-eq0-via-else-n-eq0+then-n-count}
 
 pub returns-then-n-eq0-clause-value : goal.returns-then-n-eq0-clause-value
@@ -48,14 +48,73 @@ returns-in_err-bytes-clause-sound g c told posts is =
     (subst (λ (d : Dir). OnDamaged e (λ _. IsOtherSize d n c.in_ok-entry.entry.size)) same (c.in_err-bytes.ensures.names.damaged told)) in
     search rules
 
+pub returns-in_err-count-clause-names : goal.returns-in_err-count-clause-names
+returns-in_err-count-clause-names g c =
+    let e = c.in_err-count.field-0.0 in
+    let failed = c.in_err-count.ensures.names in
+    let n = c.args.n in
+    record {
+      named = let own : OnDamaged e (IsPostName n) = on_damaged e (λ name. name ≡ number_name) (IsPostName n) (λ name is. inl is) failed.named in search rules;
+      damaged = λ told.
+          let dir = g.F.Files.map c.args.files.now in
+          let bad : OnDamaged e (IsBadForPost dir n) = on_both e (λ name. name ≡ number_name) (λ _. IsNoNumber dir) (IsBadForPost dir n) (λ name is none. inl (is, inl none)) failed.named (failed.damaged told) in
+          search rules;
+    }
+
+pub returns-in_err-entry-clause-names : goal.returns-in_err-entry-clause-names
+returns-in_err-entry-clause-names g c =
+    let e = c.in_err-entry.field-0.0 in
+    let failed = c.in_err-entry.ensures.names in
+    let n = c.args.n in
+    let zero = c.if-n-eq0.false in
+    let past = c.if-n-count.false in
+    record {
+      named = let own : OnDamaged e (IsPostName n) = failed.named in search rules;
+      damaged = λ told.
+          let dir = g.F.Files.map c.args.files.now in
+          let same = g.met.F.Files.kept_map c.args.files.now c.read_count.new.files told c.read_count.ensures.reads.kept in
+          let bad : OnDamaged e (IsBadForPost dir n) =
+          on_damaged e (IsBadForEntry dir n) (IsBadForPost dir n) (λ name. entry_bad dir n c.in_ok-count.count name (c.in_ok-count.ensures.value told) (omega (arith, zero)) (omega (arith, past)))
+          (subst (λ (d : Dir). OnDamaged e (IsBadForEntry d n)) same (failed.damaged told)) in
+          search rules;
+    }
+
+pub returns-in_err-bytes-clause-names : goal.returns-in_err-bytes-clause-names
+returns-in_err-bytes-clause-names g c =
+    let e = c.in_err-bytes.field-0.0 in
+    let failed = c.in_err-bytes.ensures.names in
+    let n = c.args.n in
+    let few = c.in_ok-count.ensures.few in
+    let past = c.if-n-count.false in
+    let room : n ≤ 99_999_999 = omega (arith, few, past) in
+    record {
+      named = let own : OnDamaged e (IsPostName n) = on_damaged e (λ name. name ≡ index_name (n / 100)) (IsPostName n) (λ name is. inr (room, is)) failed.named in search rules;
+      damaged = λ told.
+          let dir = g.F.Files.map c.args.files.now in
+          let size = c.in_ok-entry.entry.size in
+          let first = g.met.F.Files.kept_map c.args.files.now c.read_count.new.files told c.read_count.ensures.reads.kept in
+          let same = g.met.F.Files.kept_map c.read_count.new.files c.read_entry.new.files told c.read_entry.ensures.reads.kept ∙ first in
+          let entry = subst (λ (d : Dir). IsEntryByFiles d n c.in_ok-entry.entry) first (c.in_ok-entry.ensures.value told) in
+          let bad : OnDamaged e (IsBadForPost dir n) =
+          on_both e (λ name. name ≡ index_name (n / 100)) (λ _. IsOtherSize dir n size) (IsBadForPost dir n) (λ name. size_bad dir n c.in_ok-entry.entry name entry) failed.named
+          (subst (λ (d : Dir). OnDamaged e (λ _. IsOtherSize d n size)) same (failed.damaged told)) in
+          search rules;
+    }
+
+pub returns-in_err-entry-clause-reads : goal.returns-in_err-entry-clause-reads
+returns-in_err-entry-clause-reads g c =
+    let on = g.met.F.Files.kept_then in
+    let read = read_on on (kept_by c.read_count.ensures.reads) c.read_entry.ensures.reads in
+    search rules
+
+pub returns-clause-reads : goal.returns-clause-reads
+returns-clause-reads g c = let on = g.met.F.Files.kept_then in reading_ok g.F.Files _ _ _ (kept_on on (kept_on on (kept_by c.read_count.ensures.reads) c.read_entry.ensures.reads) c.read_bytes.ensures.reads)
+
 pub returns-in_err-bytes-clause-reads : goal.returns-in_err-bytes-clause-reads
 returns-in_err-bytes-clause-reads g c =
-    let before =
-    kept_then g.F.Files g.met.F.Files.kept_then c.args.files.now c.read_count.new.files c.read_entry.new.files
-    (kept_read g.F.Files c.args.files.now c.read_count.new.files c.read_count.result c.read_count.ensures.reads)
-    (kept_read g.F.Files c.read_count.new.files c.read_entry.new.files c.read_entry.result c.read_entry.ensures.reads) in
-    let read = reading_then g.F.Files g.met.F.Files.kept_then c.args.files.now c.read_entry.new.files c.read_bytes.new.files c.read_bytes.result before c.read_bytes.ensures.reads in
-    record { kept = read.kept; later = read.later; cause = λ bad. let failed : IsErrOf c.read_bytes.result Fault = search rules in read.cause failed }
+    let on = g.met.F.Files.kept_then in
+    let read = read_on on (kept_on on (kept_by c.read_count.ensures.reads) c.read_entry.ensures.reads) c.read_bytes.ensures.reads in
+    search rules
 
 pub returns-clause-value : goal.returns-clause-value
 returns-clause-value g c told posts is =

@@ -5,12 +5,13 @@ use Rattle.ml_base.specs.Cuts.{one_or_within}
 use Rattle.ml_base.specs.Dir.{Dir}
 use Rattle.ml_base.specs.PartErrors.{OnDamaged}
 use Rattle.ml_base.proofs.DamagedNames.{on_damaged, on_both}
-use Rattle.ml_base.proofs.ReadingLemmas.{kept_then, kept_read}
+use Rattle.ml_base.proofs.ReadingLemmas.{reading_ok}
 use Rattle.ml_filing.specs.Answers.{AreSizes, IsBadForKnown, IsBadForRow, IsBadThreads, IsBadForEntry, IsKeyByFiles, IsPostName, IsRowByFiles, IsThreadName}
 use Rattle.ml_filing.specs.Reads.{IsOfRow, IsOfThread}
 use Rattle.ml_filing.specs.Threads.{thread_name, thread_place}
 use Rattle.ml_filing.proofs.Asked.{front_all, key_known, row_files, row_known, sizes_known}
 use Rattle.ml_filing.proofs.Threaded.{among_taken, key_named, row_named, thread_by_files}
+use Rattle.ml_filing.proofs.Calls.{kept_by, kept_on, read_on}
 use Rattle.ml_filing.proofs.threading.known_thread.Goals as goal
 
 pub returns-in_err-row-clause-names : goal.returns-in_err-row-clause-names
@@ -58,21 +59,12 @@ returns-in_err-sizes-clause-names g c =
 
 pub returns-in_err-cut_by-clause-reads : goal.returns-in_err-cut_by-clause-reads
 returns-in_err-cut_by-clause-reads g c =
-    let before =
-    kept_then g.F.Files g.met.F.Files.kept_then c.args.files.now c.key_for.new.files c.row_for.new.files
-    (kept_read g.F.Files c.args.files.now c.key_for.new.files c.key_for.result c.key_for.ensures.reads)
-    (kept_read g.F.Files c.key_for.new.files c.row_for.new.files c.row_for.result c.row_for.ensures.reads) in
-    let all = kept_then g.F.Files g.met.F.Files.kept_then c.args.files.now c.row_for.new.files c.sizes_of.new.files before (kept_read g.F.Files c.row_for.new.files c.sizes_of.new.files c.sizes_of.result c.sizes_of.ensures.reads) in
+    let on = g.met.F.Files.kept_then in
+    let all = kept_on on (kept_on on (kept_by c.key_for.ensures.reads) c.row_for.ensures.reads) c.sizes_of.ensures.reads in
     record { kept = all.kept; later = all.later; cause = λ bad. absurd (search rules) }
 
 pub returns-clause-reads : goal.returns-clause-reads
-returns-clause-reads g c =
-    let before =
-    kept_then g.F.Files g.met.F.Files.kept_then c.args.files.now c.key_for.new.files c.row_for.new.files
-    (kept_read g.F.Files c.args.files.now c.key_for.new.files c.key_for.result c.key_for.ensures.reads)
-    (kept_read g.F.Files c.key_for.new.files c.row_for.new.files c.row_for.result c.row_for.ensures.reads) in
-    let all = kept_then g.F.Files g.met.F.Files.kept_then c.args.files.now c.row_for.new.files c.sizes_of.new.files before (kept_read g.F.Files c.row_for.new.files c.sizes_of.new.files c.sizes_of.result c.sizes_of.ensures.reads) in
-    record { kept = all.kept; later = all.later; cause = λ bad. absurd (search rules) }
+returns-clause-reads g c = let on = g.met.F.Files.kept_then in reading_ok g.F.Files _ _ _ (kept_on on (kept_on on (kept_by c.key_for.ensures.reads) c.row_for.ensures.reads) c.sizes_of.ensures.reads)
 
 pub returns-clause-value : goal.returns-clause-value
 returns-clause-value g c told =
@@ -125,3 +117,15 @@ returns-clause-among g c told m among =
       found = subst (λ (d : Dir). IsRowByFiles d k n row) first (c.in_ok-row.ensures.value told);
       among = among_taken _ m row (subst (λ (ns : List ℕ). IsAmong ns m) (c.in_ok-cut_by.ensures ∙ ap (take _) c.as_slice-4.ensures) among);
     }
+
+pub returns-in_err-row-clause-reads : goal.returns-in_err-row-clause-reads
+returns-in_err-row-clause-reads g c =
+    let on = g.met.F.Files.kept_then in
+    let read = read_on on (kept_by c.key_for.ensures.reads) c.row_for.ensures.reads in
+    search rules
+
+pub returns-in_err-sizes-clause-reads : goal.returns-in_err-sizes-clause-reads
+returns-in_err-sizes-clause-reads g c =
+    let on = g.met.F.Files.kept_then in
+    let read = read_on on (kept_on on (kept_by c.key_for.ensures.reads) c.row_for.ensures.reads) c.sizes_of.ensures.reads in
+    search rules

@@ -13,6 +13,7 @@ use Rattle.ml_filing.proofs.ByFiles.{threads_same}
 use Rattle.ml_filing.proofs.Looking.{counted_is}
 use Rattle.ml_filing.proofs.Threaded.{known_bad, no_bad_known, thread_none}
 use Rattle.ml_filing.proofs.threading.thread.Goals as goal
+use Rattle.ml_filing.proofs.Calls.{kept_by, read_on}
 use Rattle.ml_filing.proofs.threading.thread.Goals.{then-n-eq0-via-then-n-eq0, then-n-eq0-via-else-n-eq0+then-n-count}
 
 pub returns-then-n-eq0-clause-value : goal.returns-then-n-eq0-clause-value
@@ -89,3 +90,6 @@ pub returns-clause-among : goal.returns-clause-among
 returns-clause-among g c told =
     let same = g.met.F.Files.kept_map c.args.files.now c.read_count.new.files told c.read_count.ensures.reads.kept in
     IfOk-weaker c.known_thread.result _ _ (λ answer each m among. subst (λ (d : Dir). IsOfSubject d c.args.prefix.now c.args.n m) same (each m among)) (c.known_thread.ensures.among told)
+
+pub returns-clause-reads : goal.returns-clause-reads
+returns-clause-reads g c = read_on g.met.F.Files.kept_then (kept_by c.read_count.ensures.reads) c.known_thread.ensures.reads
