@@ -84,3 +84,15 @@ returns-in_ok-join-in-At-clause-value g c told p is same found =
     (subst (λ (m : Text). Publishes (with_puts dir txn) c.args.now.seconds held.sender m after (At c.in-At.number c.in-At.more)) c.as_slice-message.ensures
     (subst (λ (a : Appended). Publishes (with_puts dir txn) c.args.now.seconds held.sender c.as_slice-message.result.now after a) c.in-At.is posted))
     c.in_ok-join-in-At.ensures.ok c.posted.ensures
+
+pub returns-in_err-join-in-At-clause-act : goal.returns-in_err-join-in-At-clause-act
+returns-in_err-join-in-At-clause-act g c =
+    let one = kept_read g.F.Files c.args.files.now c.publish.new.files c.publish.result c.publish.ensures.reads in
+    let two = kept_then g.F.Files g.met.F.Files.kept_then c.args.files.now c.publish.new.files c.taken.new.files one (kept_read g.F.Files c.publish.new.files c.taken.new.files c.taken.result c.taken.ensures.reads) in
+    record {
+      own = search rules;
+      files = search rules;
+      reply = search rules;
+      names = search rules;
+      reads = record { kept = two.kept; later = two.later; cause = λ bad. absurd (search rules) };
+    }

@@ -1,19 +1,22 @@
-use Rattle.std.proofs.Common.{◌≡◌, IfOk, subst, sym}
-use Rattle.std.proofs.lemmas.Bool.{or_right}
+use Rattle.std.proofs.Common.{◌≡◌, ◌∙◌, IfOk, subst, sym, rules, refl, ap, true}
+use Rattle.std.proofs.lemmas.Bool.{or_right, or_left, false≢true}
 use Rattle.ml_base.specs.Bytes.{Text}
 use Rattle.ml_base.specs.Dir.{Dir, same_name, with_puts}
-use Rattle.ml_hold.specs.Answers.{tickets_name}
+use Rattle.ml_hold.specs.Answers.{tickets_name, Breaks}
 use Rattle.ml_plain.specs.Answers as answers
 use Rattle.ml_plain.specs.Directory.{IsList}
 use Rattle.ml_plain.specs.Mailing.{mail_moderators, moderate_mail}
 use Rattle.ml_plain.specs.Plain.{Plain}
 use Rattle.ml_plain.specs.Posting.{held_now}
-use Rattle.ml_acts.specs.Damaged.{IsDamaged}
+use Rattle.ml_acts.specs.Damaged.{IsDamaged, waiting}
 use Rattle.ml_acts.specs.Doing.{DoesList, HasIds}
-use Rattle.ml_post.specs.Holding.{is_asked_by}
-use Rattle.ml_acts.proofs.Damages.{ok_then}
+use Rattle.ml_post.specs.Holding.{is_asked_by, is_held_by}
+use Rattle.ml_acts.proofs.Damages.{ok_then, same_self}
 use Rattle.ml_acts.proofs.OfActs.{act_behind}
 use Rattle.ml_post.proofs.Waiting.{has_ids, holds}
+use Rattle.ml_base.specs.declared.names.Name.{Name}
+use Rattle.ml_acts.proofs.Asked.{named_as}
+use Rattle.ml_base.proofs.ReadingLemmas.{kept_read, reading_ok}
 use Rattle.ml_post.proofs.holding.hold_post.Goals as goal
 
 pub ask-requires-clause-room : goal.ask-requires-clause-room
@@ -38,3 +41,25 @@ returns-clause-value g c told =
 pub returns-clause-act : goal.returns-clause-act
 returns-clause-act g c =
     act_behind g.F.Files IsDamaged g.met.F.Files.kept_then g.met.F.Files.kept_map c.hold.ensures.reads c.ask.ensures.act (λ name e. or_right (same_name name tickets_name) (is_asked_by name) e) (λ told name e bad. bad)
+
+pub returns-in_err-ticket-clause-act : goal.returns-in_err-ticket-clause-act
+returns-in_err-ticket-clause-act g c =
+    let dir = g.F.Files.map c.args.files.now in
+    let names = named_as g.F.Files (λ name. is_held_by name ≡ true) _ dir dir (λ name. name ≡ tickets_name) Breaks (IsDamaged dir) (λ told. refl)
+    (λ name e. or_left (same_name name tickets_name) (is_asked_by name) (ap (λ (n : Name). same_name n tickets_name) e ∙ same_self tickets_name)) (λ name e bad. waiting bad) c.in_err-ticket.ensures.names in
+    search rules
+
+pub hold-requires-clause-room : goal.hold-requires-clause-room
+hold-requires-clause-room g c told low next counted = (c.requires.room told).tickets low next counted
+
+pub returns-then-not-is_drawn-clause-value : goal.returns-then-not-is_drawn-clause-value
+returns-then-not-is_drawn-clause-value g c told p is same = absurd (false≢true (sym c.if-not-is_drawn.true ∙ c.is_drawn.ensures ∙ (c.in_ok-ticket.ensures.read told).drawn))
+
+pub returns-then-not-is_drawn-clause-act : goal.returns-then-not-is_drawn-clause-act
+returns-then-not-is_drawn-clause-act g c = record {
+  own = search rules;
+  files = search rules;
+  reply = search rules;
+  names = search rules;
+  reads = reading_ok g.F.Files c.args.files.now c.hold.new.files _ (kept_read g.F.Files c.args.files.now c.hold.new.files c.hold.result c.hold.ensures.reads);
+}

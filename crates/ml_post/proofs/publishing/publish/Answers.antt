@@ -5,7 +5,7 @@ use Rattle.ml_base.specs.Dir.{Dir, same_name, touches_only}
 use Rattle.ml_base.specs.PartErrors.{OnDamaged}
 use Rattle.ml_base.specs.declared.names.Set.TheVariants as sets
 use Rattle.ml_base.proofs.DamagedNames.{on_damaged}
-use Rattle.ml_base.proofs.ReadingLemmas.{kept_then, kept_read, reading_then}
+use Rattle.ml_base.proofs.ReadingLemmas.{kept_then, kept_read, reading_then, reading_ok}
 use Rattle.ml_filing.specs.Answers.{IsAppendName, IsBadForAppend, IsNoNumber, puts_of}
 use Rattle.ml_filing.specs.Archive.{number_name}
 use Rattle.ml_filing.specs.Reads.{IsOfNext}
@@ -89,9 +89,26 @@ returns-in_ok-txn-in-At-clause-value g c told dir p alike is same =
 
 pub returns-in_ok-txn-in-At-clause-reads : goal.returns-in_ok-txn-in-At-clause-reads
 returns-in_ok-txn-in-At-clause-reads g c =
-    let before =
-    kept_then g.F.Files g.met.F.Files.kept_then c.args.files.now c.count.new.files c.append.new.files
-    (kept_read g.F.Files c.args.files.now c.count.new.files c.count.result c.count.ensures.reads)
-    (kept_read g.F.Files c.count.new.files c.append.new.files c.append.result c.append.ensures.reads) in
-    let read = reading_then g.F.Files g.met.F.Files.kept_then c.args.files.now c.append.new.files c.with_mail.new.files c.with_mail.result before c.with_mail.ensures.reads in
-    record { kept = read.kept; later = read.later; cause = λ bad. absurd (search rules) }
+    let one = kept_read g.F.Files c.args.files.now c.count.new.files c.count.result c.count.ensures.reads in
+    let two = kept_then g.F.Files g.met.F.Files.kept_then c.args.files.now c.count.new.files c.append.new.files one (kept_read g.F.Files c.count.new.files c.append.new.files c.append.result c.append.ensures.reads) in
+    let three = kept_then g.F.Files g.met.F.Files.kept_then c.args.files.now c.append.new.files c.with_mail.new.files two (kept_read g.F.Files c.append.new.files c.with_mail.new.files c.with_mail.result c.with_mail.ensures.reads) in
+    reading_ok g.F.Files c.args.files.now c.with_mail.new.files _ three
+
+pub returns-in_err-append-clause-reads : goal.returns-in_err-append-clause-reads
+returns-in_err-append-clause-reads g c =
+    let one = kept_read g.F.Files c.args.files.now c.count.new.files c.count.result c.count.ensures.reads in
+    let read = reading_then g.F.Files g.met.F.Files.kept_then c.args.files.now c.count.new.files c.append.new.files c.append.result one c.append.ensures.reads in
+    search rules
+
+pub returns-in-Full-clause-reads : goal.returns-in-Full-clause-reads
+returns-in-Full-clause-reads g c =
+    let one = kept_read g.F.Files c.args.files.now c.count.new.files c.count.result c.count.ensures.reads in
+    let two = kept_then g.F.Files g.met.F.Files.kept_then c.args.files.now c.count.new.files c.append.new.files one (kept_read g.F.Files c.count.new.files c.append.new.files c.append.result c.append.ensures.reads) in
+    reading_ok g.F.Files c.args.files.now c.append.new.files _ two
+
+pub returns-in_err-txn-in-At-clause-reads : goal.returns-in_err-txn-in-At-clause-reads
+returns-in_err-txn-in-At-clause-reads g c =
+    let one = kept_read g.F.Files c.args.files.now c.count.new.files c.count.result c.count.ensures.reads in
+    let two = kept_then g.F.Files g.met.F.Files.kept_then c.args.files.now c.count.new.files c.append.new.files one (kept_read g.F.Files c.count.new.files c.append.new.files c.append.result c.append.ensures.reads) in
+    let read = reading_then g.F.Files g.met.F.Files.kept_then c.args.files.now c.append.new.files c.with_mail.new.files c.with_mail.result two c.with_mail.ensures.reads in
+    search rules

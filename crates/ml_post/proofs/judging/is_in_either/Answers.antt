@@ -1,0 +1,32 @@
+use Rattle.std.proofs.Common.{◌≡◌, ◌∙◌, ◌||◌, Bool, true, ap, subst, sym}
+use Rattle.std.proofs.lemmas.Bool.{or_right}
+use Rattle.ml_base.specs.Dir.{Dir}
+use Rattle.ml_base.proofs.ReadingLemmas.{kept_read, reading_then}
+use Rattle.ml_plain.specs.Directory.{IsList}
+use Rattle.ml_plain.specs.Plain.{is_in}
+use Rattle.ml_acts.specs.Asked.{Count, IsDamagedOf}
+use Rattle.ml_acts.specs.Doing.{is_bucket_of}
+use Rattle.ml_acts.proofs.Asked.{named_as}
+use Rattle.ml_acts.proofs.Damages.{ok_then}
+use Rattle.ml_post.proofs.judging.is_in_either.Goals as goal
+
+pub returns-clause-value : goal.returns-clause-value
+returns-clause-value g c told =
+    let who = c.args.who.now in
+    let same = g.met.F.Files.kept_map c.args.files.now c.is_member.new.files told c.is_member.ensures.reads.kept in
+    ok_then c.is_member-2.result
+    (λ is so p list. so p (subst (λ (d : Dir). IsList d p) (sym same) list)
+    ∙ sym (ap (λ (b : Bool). b || is_in p c.args.second who) (sym (c.in_ok-is_member.ensures.value told p list) ∙ c.if-branch.false))) (c.is_member-2.ensures.value told)
+
+pub returns-clause-names : goal.returns-clause-names
+returns-clause-names g c =
+    let dir = g.F.Files.map c.args.files.now in
+    let one = is_bucket_of c.args.first c.args.who.now in
+    let other = is_bucket_of c.args.second c.args.who.now in
+    named_as g.F.Files (λ name. (one name || other name) ≡ true) _ dir (g.F.Files.map c.is_member.new.files) (λ name. other name ≡ true) (λ d. IsDamagedOf d Count) (IsDamagedOf dir Count)
+    (λ told. g.met.F.Files.kept_map c.args.files.now c.is_member.new.files told c.is_member.ensures.reads.kept) (λ name e. or_right (one name) (other name) e) (λ name e bad. bad) c.is_member-2.ensures.names
+
+pub returns-clause-reads : goal.returns-clause-reads
+returns-clause-reads g c =
+    let one = kept_read g.F.Files c.args.files.now c.is_member.new.files c.is_member.result c.is_member.ensures.reads in
+    reading_then g.F.Files g.met.F.Files.kept_then c.args.files.now c.is_member.new.files c.is_member-2.new.files c.is_member-2.result one c.is_member-2.ensures.reads
