@@ -80,3 +80,13 @@ returns-clause-reads g c =
     (kept_then g.F.Files g.met.F.Files.kept_then c.args.files.now c.find.new.files c.tell.new.files (kept_read g.F.Files c.args.files.now c.find.new.files c.find.result c.find.ensures.reads)
     (kept_read g.F.Files c.find.new.files c.tell.new.files c.tell.result c.tell.ensures.reads))
     c.change.ensures.reads
+
+pub returns-in_default-clause-reads : goal.returns-in_default-clause-reads
+returns-in_default-clause-reads g c =
+    let one = kept_read g.F.Files c.args.files.now c.find.new.files c.find.result c.find.ensures.reads in
+    reading_then g.F.Files g.met.F.Files.kept_then c.args.files.now c.find.new.files c.drop_entry.new.files c.drop_entry.result one c.drop_entry.ensures.reads
+
+pub returns-in_default-clause-names : goal.returns-in_default-clause-names
+returns-in_default-clause-names g c =
+    names_over g.F.Files c.drop_entry.result (g.F.Files.map c.args.files.now) (g.F.Files.map c.find.new.files) (λ name. is_entry_of c.args.set c.args.to.now name ≡ true) (λ name. is_followed_by c.args.set name ≡ true)
+    (entry_followed c.args.set c.args.to.now) (λ tells. g.met.F.Files.kept_map c.args.files.now c.find.new.files tells c.find.ensures.reads.kept) c.drop_entry.ensures.names

@@ -3,10 +3,10 @@ use Rattle.std.proofs.lemmas.Bool.{eqb-true}
 use Rattle.ml_base.specs.Dir.{Dir, with_puts}
 use Rattle.ml_base.specs.Drawn.{IsCounter}
 use Rattle.ml_base.specs.Layers.{files_below, puts_over}
-use Rattle.ml_base.specs.ReadFiles.{AreKept}
+use Rattle.ml_base.specs.ReadFiles.{AreKept, IsReading}
 use Rattle.ml_base.specs.declared.names.Set.TheVariants as sets
 use Rattle.ml_base.specs.declared.puts.Put.{Put}
-use Rattle.ml_base.proofs.ReadingLemmas.{kept_read, kept_then, reading_then}
+use Rattle.ml_base.proofs.ReadingLemmas.{kept_read, kept_then, reading_then, reading_ok}
 use Rattle.ml_bounce.specs.Answers.{IsBadFile, IsFileName}
 use Rattle.ml_bounce.specs.Files.{IsLedger}
 use Rattle.ml_bounce.specs.declared.actions.Action.{Action}
@@ -183,3 +183,24 @@ returns-clause-room g c tells =
     (subst (λ (d : Dir). HasIdsFor (with_puts d (puts_over c.follow_each-2.new.files)) 0) (below ∙ maps)
     (drawn 0 (ids_more (with_puts (g.F.Files.map (files_below c.follow_each.new.files)) (puts_over c.follow_each.new.files)) b amid))))
     (c.follow_each-2.ensures.drawn tells)
+
+pub returns-in_err-digest-clause-reads : goal.returns-in_err-digest-clause-reads
+returns-in_err-digest-clause-reads g c =
+    let one : AreKept g.F.Files (files_below c.args.files.now) (files_below c.due.new.files) = record { kept = c.due.ensures.reads.kept.0; later = c.due.ensures.reads.later } in
+    let two : IsReading g.F.Files (files_below c.due.new.files) (files_below c.due-2.new.files) c.due-2.result = record { kept = c.due-2.ensures.reads.kept.0; later = c.due-2.ensures.reads.later; cause = c.due-2.ensures.reads.cause } in
+    let read = reading_then g.F.Files g.met.F.Files.kept_then (files_below c.args.files.now) (files_below c.due.new.files) (files_below c.due-2.new.files) c.due-2.result one two in
+    search rules
+
+pub returns-in_err-keys-clause-reads : goal.returns-in_err-keys-clause-reads
+returns-in_err-keys-clause-reads g c =
+    let one : AreKept g.F.Files (files_below c.args.files.now) (files_below c.due.new.files) = record { kept = c.due.ensures.reads.kept.0; later = c.due.ensures.reads.later } in
+    let two : AreKept g.F.Files (files_below c.due.new.files) (files_below c.due-2.new.files) = record { kept = c.due-2.ensures.reads.kept.0; later = c.due-2.ensures.reads.later } in
+    let three : IsReading g.F.Files (files_below c.due-2.new.files) (files_below c.key.new.files) c.key.result = record { kept = c.key.ensures.reads.kept.0; later = c.key.ensures.reads.later; cause = c.key.ensures.reads.cause } in
+    let read = reading_then g.F.Files g.met.F.Files.kept_then (files_below c.args.files.now) (files_below c.due-2.new.files) (files_below c.key.new.files) c.key.result (kept_then g.F.Files g.met.F.Files.kept_then (files_below c.args.files.now) (files_below c.due.new.files) (files_below c.due-2.new.files) one two) three in
+    search rules
+
+pub returns-then-is_empty-2-clause-reads : goal.returns-then-is_empty-2-clause-reads
+returns-then-is_empty-2-clause-reads g c =
+    let one : AreKept g.F.Files (files_below c.args.files.now) (files_below c.due.new.files) = record { kept = c.due.ensures.reads.kept.0; later = c.due.ensures.reads.later } in
+    let two : AreKept g.F.Files (files_below c.due.new.files) (files_below c.due-2.new.files) = record { kept = c.due-2.ensures.reads.kept.0; later = c.due-2.ensures.reads.later } in
+    reading_ok g.F.Files (files_below c.args.files.now) (files_below c.due-2.new.files) _ (kept_then g.F.Files g.met.F.Files.kept_then (files_below c.args.files.now) (files_below c.due.new.files) (files_below c.due-2.new.files) one two)

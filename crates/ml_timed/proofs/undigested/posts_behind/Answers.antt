@@ -15,6 +15,7 @@ use Rattle.ml_timed.specs.Waiting.{are_short, is_short, moment_behind, sizes_beh
 use Rattle.ml_timed.proofs.Behind.{moment_in_first, sizes_of_both}
 use Rattle.ml_timed.proofs.Short.{short_behind, short_joined}
 use Rattle.ml_timed.proofs.Within.{group_behind, hundred}
+use Rattle.ml_base.proofs.ReadingLemmas.{kept_then, kept_read, reading_then, reading_ok}
 use Rattle.ml_timed.proofs.undigested.posts_behind.Goals as goal
 
 pub returns-clause-sizes : goal.returns-clause-sizes
@@ -83,3 +84,27 @@ returns-clause-agrees g c told near small =
   where
     one_of_two : (a b : ℕ) → a ≤ b → b ≤ a + 1 → (a ≡ b) ⊎ (a + 1 ≡ b)
     one_of_two a b low high = ⊎_elim (λ less. inr (omega (arith, less, high))) (λ least. inl (omega (arith, least, low))) (cases_lt a b)
+
+pub returns-in_err-second-clause-reads : goal.returns-in_err-second-clause-reads
+returns-in_err-second-clause-reads g c =
+    let one = kept_read g.F.Files c.args.files.now c.group_of.new.files c.group_of.result c.group_of.ensures.reads in
+    let read = reading_then g.F.Files g.met.F.Files.kept_then c.args.files.now c.group_of.new.files c.group_of-2.new.files c.group_of-2.result one c.group_of-2.ensures.reads in
+    search rules
+
+pub returns-in_err-add_sizes-clause-reads : goal.returns-in_err-add_sizes-clause-reads
+returns-in_err-add_sizes-clause-reads g c =
+    let one = kept_read g.F.Files c.args.files.now c.group_of.new.files c.group_of.result c.group_of.ensures.reads in
+    let two = kept_then g.F.Files g.met.F.Files.kept_then c.args.files.now c.group_of.new.files c.group_of-2.new.files one (kept_read g.F.Files c.group_of.new.files c.group_of-2.new.files c.group_of-2.result c.group_of-2.ensures.reads) in
+    record { kept = two.kept; later = two.later; cause = λ bad. absurd (search rules) }
+
+pub returns-in_err-add_sizes-2-clause-reads : goal.returns-in_err-add_sizes-2-clause-reads
+returns-in_err-add_sizes-2-clause-reads g c =
+    let one = kept_read g.F.Files c.args.files.now c.group_of.new.files c.group_of.result c.group_of.ensures.reads in
+    let two = kept_then g.F.Files g.met.F.Files.kept_then c.args.files.now c.group_of.new.files c.group_of-2.new.files one (kept_read g.F.Files c.group_of.new.files c.group_of-2.new.files c.group_of-2.result c.group_of-2.ensures.reads) in
+    record { kept = two.kept; later = two.later; cause = λ bad. absurd (search rules) }
+
+pub returns-clause-reads : goal.returns-clause-reads
+returns-clause-reads g c =
+    let one = kept_read g.F.Files c.args.files.now c.group_of.new.files c.group_of.result c.group_of.ensures.reads in
+    let two = kept_then g.F.Files g.met.F.Files.kept_then c.args.files.now c.group_of.new.files c.group_of-2.new.files one (kept_read g.F.Files c.group_of.new.files c.group_of-2.new.files c.group_of-2.result c.group_of-2.ensures.reads) in
+    reading_ok g.F.Files c.args.files.now c.group_of-2.new.files _ two
