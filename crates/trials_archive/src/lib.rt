@@ -2,13 +2,7 @@
 #![tactic(auto)]
 
 #[cfg(test)]
-mod archives;
-#[cfg(test)]
 mod audits;
-#[cfg(test)]
-mod calls;
-#[cfg(test)]
-mod cases;
 #[cfg(test)]
 mod damage;
 #[cfg(test)]
@@ -16,6 +10,6 @@ mod pages;
 #[cfg(test)]
 mod posts;
 #[cfg(test)]
-mod subjects;
+mod program;
 #[cfg(test)]
-mod texts;
+mod subjects;

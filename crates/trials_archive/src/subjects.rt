@@ -1,120 +1,45 @@
 // Subjects and their keys, and texts as HTML has them, written by hand.
-use crate::archives::{Posts, Start};
-use crate::calls::Call;
-use crate::cases::{Case, NONE, UNCHANGED, differences};
-use crate::texts::Text::{self, Each, Of};
-use std::test::Fail;
-
-const NO_FILES: Start = Start {
-    files: &[],
-    posts: Posts::None,
-};
-
-const KEYS: &[(Call, Text)] = &[
-    (Call::Key(b"", b"hello"), Of(b"hello")),
-    (Call::Key(b"[list]", b"Re: [list] Hello"), Of(b"hello")),
-    (Call::Key(b"[list]", b"Re: Re[2]: FWD: [list] x"), Of(b"x")),
-    (Call::Key(b"[LIST]", b"[List] [list]re:x"), Of(b"x")),
-    (Call::Key(b"", b"[list] x"), Of(b"[list] x")),
-    (Call::Key(b"[list]", b"Re: Fw: Fwd: Aw: [list] "), Of(b"")),
-    (Call::Key(b"[list]", b""), Of(b"")),
-    (Call::Key(b"", b"re:re:"), Of(b"")),
-    (Call::Key(b"", b"Re : x"), Of(b"re : x")),
-    (Call::Key(b"", b"Re[]: x"), Of(b"re[]: x")),
-    (Call::Key(b"", b"Re[2] x"), Of(b"re[2] x")),
-    (Call::Key(b"", b"Re[2]x: x"), Of(b"re[2]x: x")),
-    (Call::Key(b"", b"Re[10]:x"), Of(b"x")),
-    (Call::Key(b"", b"Re["), Of(b"re[")),
-    (
-        Call::Key(b"", b" \t\r\nhello \t world\n "),
-        Of(b"hello world"),
-    ),
-    (Call::Key(b"", b"hello Re: world"), Of(b"hello re: world")),
-    (Call::Key(b"[list]", b"a [list] b"), Of(b"a [list] b")),
-    (Call::Key(b"a  b", b"A  b c"), Of(b"a b c")),
-    (Call::Key(b"a b", b"A  b c"), Of(b"c")),
-    (Call::Key(b"", b"RE: FW:FWD:  AW:\tx  y"), Of(b"x y")),
-    (Call::Key(b"", b"reply"), Of(b"reply")),
-    (Call::Key(b"re:", b"re: re: x"), Of(b"x")),
-    (Call::Key(b"", b"\x80\xff A"), Of(b"\x80\xff a")),
-    (Call::Key(b"x", b"xxxy"), Of(b"y")),
-];
-
-const SUBJECTS: &[(Call, Text)] = &[
-    (
-        Call::Subject(Each(b"subject: ", 1, 0, b"x", b"\n\nbody\n")),
-        Of(b""),
-    ),
-    (
-        Call::Subject(Each(b"subject: ", 1, 999, b"x", b"\n\nbody\n")),
-        Each(b"", 1, 999, b"x", b""),
-    ),
-    (
-        Call::Subject(Each(b"subject: ", 1, 1000, b"x", b"\n\nbody\n")),
-        Each(b"", 1, 1000, b"x", b""),
-    ),
-    (
-        Call::Subject(Each(b"subject: ", 1, 1001, b"x", b"\n\nbody\n")),
-        Each(b"", 1, 1000, b"x", b""),
-    ),
-    (
-        Call::Subject(Each(b"subject: ", 1, 1500, b"x", b"\n\nbody\n")),
-        Each(b"", 1, 1000, b"x", b""),
-    ),
-    (Call::Subject(Of(b"From: a@b\n\nSubject: x\n")), Of(b"")),
-    (
-        Call::Subject(Of(b"SUBJECT: a\n  b\nSubject: c\n\n")),
-        Of(b"a  b"),
-    ),
-];
-
-const ESCAPES: &[(Call, Text)] = &[
-    (Call::Escape(b""), Of(b"")),
-    (Call::Escape(b"hello"), Of(b"hello")),
-    (
-        Call::Escape(b"a<b & \"c\""),
-        Of(b"a&lt;b &amp; &quot;c&quot;"),
-    ),
-    (Call::Escape(b"&amp;"), Of(b"&amp;amp;")),
-    (Call::Escape(b"&&<>\"'"), Of(b"&amp;&amp;&lt;&gt;&quot;'")),
-    (
-        Call::Escape(b"<script>alert(1)</script>"),
-        Of(b"&lt;script&gt;alert(1)&lt;/script&gt;"),
-    ),
-    (
-        Call::Escape(b"\xc3\xa4\t\r\n\x00\xff"),
-        Of(b"\xc3\xa4\t\r\n\x00\xff"),
-    ),
-    (Call::Escape(b"a&lt"), Of(b"a&amp;lt")),
-];
-
-const CASES: &[Case] = &[
-    Case {
-        title: "keys of subjects, the same again",
-        start: &NO_FILES,
-        changes: UNCHANGED,
-        failing: NONE,
-        calls: KEYS,
-    },
-    Case {
-        title: "the first subject, unfolded and cut",
-        start: &NO_FILES,
-        changes: UNCHANGED,
-        failing: NONE,
-        calls: SUBJECTS,
-    },
-    Case {
-        title: "texts in HTML",
-        start: &NO_FILES,
-        changes: UNCHANGED,
-        failing: NONE,
-        calls: ESCAPES,
-    },
-];
-
-#[test]
-fn texts(rt: HostRuntime) -> Result<(), Fail> {
-    let found = differences(rt.alloc(), CASES)?;
-    assert!(rt; found.is_empty(), "{found}");
-    Ok(())
-}
+pub(crate) const TABLE: &str = r"
+# Keys of subjects, the same again.
+input hello | run key '' => 0 hello
+input Re: [list] Hello | run key [list] => 0 hello
+input Re: Re[2]: FWD: [list] x | run key [list] => 0 x
+input [List] [list]re:x | run key [LIST] => 0 x
+input [list] x | run key '' => 0 [list] x
+input Re: Fw: Fwd: Aw: [list]\x20 | run key [list] => 0
+run key [list] => 0
+input re:re: | run key '' => 0
+input Re : x | run key '' => 0 re : x
+input Re[]: x | run key '' => 0 re[]: x
+input Re[2] x | run key '' => 0 re[2] x
+input Re[2]x: x | run key '' => 0 re[2]x: x
+input Re[10]:x | run key '' => 0 x
+input Re[ | run key '' => 0 re[
+input \x20\x09\x0D\nhello \x09 world\n\x20 | run key '' => 0 hello world
+input hello Re: world | run key '' => 0 hello re: world
+input a [list] b | run key [list] => 0 a [list] b
+input A  b c | run key a\x20\x20b => 0 a b c
+input A  b c | run key a\x20b => 0 c
+input RE: FW:FWD:  AW:\x09x  y | run key '' => 0 x y
+input reply | run key '' => 0 reply
+input re: re: x | run key re: => 0 x
+input \x80\xFF A | run key '' => 0 \x80\xFF a
+input xxxy | run key x => 0 y
+# The first subject, unfolded and cut.
+input subject: \n\nbody\n | run subject => 0
+input subject: {1..999:x}\n\nbody\n | run subject => 0 {1..999:x}
+input subject: {1..1000:x}\n\nbody\n | run subject => 0 {1..1000:x}
+input subject: {1..1001:x}\n\nbody\n | run subject => 0 {1..1000:x}
+input subject: {1..1500:x}\n\nbody\n | run subject => 0 {1..1000:x}
+input From: a@b\n\nSubject: x\n | run subject => 0
+input SUBJECT: a\n  b\nSubject: c\n\n | run subject => 0 a  b
+# Texts in HTML.
+run escape => 0
+input hello | run escape => 0 hello
+input a<b & \x22c\x22 | run escape => 0 a&lt;b &amp; &quot;c&quot;
+input &amp; | run escape => 0 &amp;amp;
+input &&<>\x22' | run escape => 0 &amp;&amp;&lt;&gt;&quot;'
+input <script>alert(1)</script> | run escape => 0 &lt;script&gt;alert(1)&lt;/script&gt;
+input \xC3\xA4\x09\x0D\n\0\xFF | run escape => 0 \xC3\xA4\x09\x0D\n\0\xFF
+input a&lt | run escape => 0 a&amp;lt
+";
