@@ -1,6 +1,6 @@
 // The mark of the digests in each form, and when a digest is due, at each limit and one short of it.
 use crate::asked::{Asked, NoAnswer};
-use crate::parts::{Parts, none, push_number};
+use crate::parts::{Parts, push_number, word};
 use crate::program::Calls;
 use crate::{issues, reading};
 use ml_base::{Bytes, read_number, split_first};
@@ -89,7 +89,7 @@ fn chosen(alloc: Global, asked: &Asked<'_>) -> Result<Bytes, NoAnswer> {
     let (last, oldest) = (asked.number(0)?, asked.number(1)?);
     match range_due(last, sizes.as_slice(), oldest, asked.moment)? {
         Some(range) => pair(alloc, range.first, range.last),
-        None => none(alloc),
+        None => word(alloc, b"none"),
     }
 }
 
@@ -192,5 +192,9 @@ at 5 | run digests due 100 1000000101 321*1 => 0 none
 
 #[test]
 fn digests(rt: HostRuntime) -> Result<(), Fail> {
-    hold::<Calls>(rt.alloc(), "digests", TABLE)
+    let alloc = rt.alloc();
+    hold::<Calls>(alloc, "digests", TABLE)?;
+    hold::<Calls>(alloc, "issues", issues::TABLE)?;
+    hold::<Calls>(alloc, "a digest of other lines", reading::LINES)?;
+    hold::<Calls>(alloc, "digests that are read", reading::TABLE)
 }

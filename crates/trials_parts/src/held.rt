@@ -1,6 +1,6 @@
 // Held posts, with texts written by hand.
 use crate::asked::{Asked, NoAnswer};
-use crate::parts::{Parts, drawn, lay_text, line, lines, or_absent, push_number, sound};
+use crate::parts::{Parts, drawn, lay_text, lines, push_number, word};
 use crate::program::{Calls, told as with_status};
 use ml_base::{Bytes, Layer, Name, Txn, is_moment};
 use ml_hold::{Held, audit, hold, look, next_ticket, older, take};
@@ -27,12 +27,12 @@ pub(crate) fn answer(
     } else if verb == "take" {
         taken(alloc, parts, asked.number(0)?)
     } else if verb == "next" {
-        line(alloc, next_ticket(alloc, parts)?)
+        lines(alloc, &[next_ticket(alloc, parts)?])
     } else if verb == "older" {
         old(alloc, parts, asked.moment, asked.number(0)?)
     } else if verb == "audit" {
         audit(alloc, parts)?;
-        sound(alloc)
+        word(alloc, b"sound")
     } else {
         Err(NoAnswer::NoCall)
     }
@@ -55,7 +55,7 @@ fn held(alloc: Global, parts: &mut Parts, asked: &Asked<'_>) -> Result<Bytes, No
 // The moment and the sender of a held post in a line, and its message; `-` where there is none.
 fn told(alloc: Global, post: Option<Held>) -> Result<Bytes, NoAnswer> {
     let Some(post) = post else {
-        return or_absent(alloc, None);
+        return word(alloc, b"-");
     };
     let mut out = Bytes::new(alloc);
     push_number(&mut out, post.moment, b' ')?;
@@ -72,7 +72,7 @@ fn taken(alloc: Global, parts: &mut Parts, ticket: u64) -> Result<Bytes, NoAnswe
             audit(alloc, parts)?;
             told(alloc, Some(post))
         }
-        None => or_absent(alloc, None),
+        None => word(alloc, b"-"),
     }
 }
 
@@ -81,7 +81,7 @@ fn old(alloc: Global, parts: &mut Parts, now: u64, max: u64) -> Result<Bytes, No
         return Err(NoAnswer::NoCall);
     }
     let tickets = older(alloc, parts, now, 432_000, max)?;
-    lines(alloc, &tickets)
+    lines(alloc, tickets.as_slice())
 }
 
 const TABLE: &str = r"

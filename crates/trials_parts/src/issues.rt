@@ -1,13 +1,10 @@
 // Issues: their text, written by hand, and what an issue has of each post.
 use crate::asked::{Asked, NoAnswer};
-use crate::program::Calls;
 use crate::reading::told;
 use ml_base::Bytes;
 use ml_config::read_config;
 use ml_digest::{DigestPost, digest_text};
 use std::alloc::{AllocError, Global};
-use std::test::Fail;
-use trials_scripts::hold;
 
 /// What a call answers: `write ISSUE FIRST` the text of an issue with the number of its first post, of an input that has each post behind its
 /// subject, with a NUL between two texts; `burst ISSUE FIRST COUNT SHORT` what an issue of so many times the input as its posts is read as, so
@@ -72,7 +69,7 @@ const CONFIG: &[u8] =
 
 const DATE: &[u8] = b"Sun, 09 Sep 2001 01:50:00 -0000";
 
-const TABLE: &str = r"
+pub(crate) const TABLE: &str = r"
 # The fields of the first post are in another order, some twice, some folded, some that are not kept.
 let first Return-Path: <a@b>\nSUMMARY: s\nKeywords: k\nmessage-id: <1@b>\nSubject: a Digest\n Issue 7\nCc: c@d\nX-Other: x\nTo: list@ex.org\ncc: e@f\nFrom: a@b\ndate: today\n\none\n------------------------------\ntwo\n
 let second From: c@d\nSubject: End of list Digest Issue 3\n\nEnd of list Digest Issue 3\n***************************
@@ -117,8 +114,3 @@ input {post} | run digests burst 2 101 1 1 => 0 none
 input {post} | run digests burst 1 1 101 0 => 0 1\n{1..101:|From: a@b\nTo: list@ex.org\nSubject: hello\n\nhi\n}
 input {post} | run digests burst 1 1 101 1 => 0 none
 ";
-
-#[test]
-fn issues(rt: HostRuntime) -> Result<(), Fail> {
-    hold::<Calls>(rt.alloc(), "issues", TABLE)
-}

@@ -1,15 +1,15 @@
 // The ledgers of bounces, with texts written by hand: an address's course at its exact moments and a second before each, and the
 // ends of each range.
 use crate::asked::{Asked, NoAnswer};
-use crate::parts::{Parts, file, lay_text, none, or_absent, push_number, sound};
+use crate::parts::{Parts, file, push_number, word};
 use crate::program::Calls;
-use ml_base::{Bytes, Name, Set, Txn, hash_lower, is_moment, is_post_number};
+use ml_base::{Bytes, Name, Set, Txn, is_moment, is_post_number};
 use ml_bounce::{Action, act, audit, due, forget, note, probe_failed, warn_failed};
 use std::alloc::{AllocError, Global};
 use std::test::Fail;
 use trials_scripts::hold;
 
-/// What a call answers: the changes below, `due MAX` the actions of the clock's moment, `enter FIRST LAST` and `audit`.
+/// What a call answers: the changes below, `due MAX` the actions of the clock's moment, and `audit`.
 pub(crate) fn answer(
     alloc: Global,
     parts: &mut Parts,
@@ -18,11 +18,9 @@ pub(crate) fn answer(
     let verb = asked.verb;
     if verb == "due" {
         listed(alloc, parts, asked.moment, asked.number(0)?)
-    } else if verb == "enter" {
-        enter(alloc, parts, asked.number(0)?, asked.number(1)?)
     } else if verb == "audit" {
         audit(alloc, parts)?;
-        sound(alloc)
+        word(alloc, b"sound")
     } else {
         after(alloc, parts, asked)
     }
@@ -77,16 +75,15 @@ fn served(alloc: Global, parts: &mut Parts, now: u64) -> Result<Option<Txn>, NoA
     }
 }
 
-// The file of the entries of `a@b` behind a change, where both ledgers still stand, or `none`.
+// The file of the entries of `a@b` after a change, over which both ledgers still stand, or `none`.
 fn after(alloc: Global, parts: &mut Parts, asked: &Asked<'_>) -> Result<Bytes, NoAnswer> {
     let Some(txn) = changes(alloc, parts, asked)? else {
-        return none(alloc);
+        return word(alloc, b"none");
     };
     parts.lay(txn)?;
     audit(alloc, parts)?;
     let kind = if asked.verb == "digest" { 16 } else { 15 };
-    let bytes = file(alloc, parts, Name { kind, at: 29 })?;
-    or_absent(alloc, bytes)
+    file(alloc, parts, Name { kind, at: 29 })
 }
 
 // A line for each action, with the numbers that were missed.
@@ -119,22 +116,6 @@ fn push_action(out: &mut Bytes, action: &Action) -> Result<(), AllocError> {
         }
     }
     out.push(b'\n')
-}
-
-// Adds entries of `N@b`, from a first to a last number N of four digits, who missed post 1 at the moment 5.
-fn enter(alloc: Global, parts: &mut Parts, first: u64, last: u64) -> Result<Bytes, NoAnswer> {
-    for number in first..=last {
-        let key = format!(in alloc; "{number}@b")?;
-        let name = Name {
-            kind: 15,
-            at: u64::from(hash_lower(key.as_bytes()) % 53),
-        };
-        let entry = format!(in alloc; "21:6:{number}@b,1:5,1:n,1:1,,")?;
-        let mut text = file(alloc, parts, name)?.unwrap_or(Bytes::new(alloc));
-        text.extend(entry.as_bytes())?;
-        lay_text(alloc, parts, name, text)?;
-    }
-    Ok(Bytes::new(alloc))
 }
 
 const COURSE: &str = r"
@@ -228,7 +209,7 @@ put bounce/] {noted} | put digest/bounce/] {warned} | at 1001010005 | run ledger
 # A hundred numbers and no more.
 put bounce/] 306:3:a@b,1:5,1:n,287:1{2..99:,%},, | at 7 | run ledgers bounced A@B 100 => 0 310:3:a@b,1:5,1:n,291:1{2..100:,%},, | run ledgers bounced A@B 101 => 0 none
 # A thousand due entries, from the first on.
-list run ledgers enter 1001 2000 => 0
+list run made entries => 0
 at 1000004 | run ledgers due 1000 => 0
 at 1000005 | run ledgers due 0 => 0
 at 1000005 | run ledgers due 1 => 0 warn 1001@b 1\n
@@ -250,11 +231,7 @@ fail 60 | run ledgers audit => 111 a read failed | same
 ";
 
 #[test]
-fn courses(rt: HostRuntime) -> Result<(), Fail> {
-    hold::<Calls>(rt.alloc(), "the course of an address", COURSE)
-}
-
-#[test]
 fn ledgers(rt: HostRuntime) -> Result<(), Fail> {
+    hold::<Calls>(rt.alloc(), "the course of an address", COURSE)?;
     hold::<Calls>(rt.alloc(), "the ledgers", TABLE)
 }

@@ -1,5 +1,5 @@
-//! Tests of the public calls on a list's sets, and, as tables that are texts, on held posts, the outgoing queue, the ledgers of bounces and
-//! the digests.
+//! Tests of the public calls on a list's sets, held posts, the outgoing queue, the ledgers of bounces and the digests, as tables that are
+//! texts.
 #![tactic(auto)]
 
 #[cfg(test)]
@@ -20,7 +20,5 @@ mod program;
 mod queue;
 #[cfg(test)]
 mod reading;
-#[cfg(test)]
-mod set_script;
 #[cfg(test)]
 mod sets;

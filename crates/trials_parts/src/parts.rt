@@ -1,6 +1,6 @@
 // The files that calls go over, and what is told of them.
 use crate::asked::NoAnswer;
-use ml_base::{Bytes, Files, Layer, Name, Numbers, Put, Txn};
+use ml_base::{Bytes, Files, Layer, Name, Put, Txn};
 use std::alloc::{AllocError, Global};
 use trials_scripts::OnSite;
 
@@ -22,40 +22,20 @@ pub(crate) fn lay_text(
     parts.lay(txn)
 }
 
-/// The bytes of a file, or None where it is absent.
-pub(crate) fn file(
-    alloc: Global,
-    parts: &mut Parts,
-    name: Name,
-) -> Result<Option<Bytes>, NoAnswer> {
+/// The bytes of a file, or `-` if it is absent.
+pub(crate) fn file(alloc: Global, parts: &mut Parts, name: Name) -> Result<Bytes, NoAnswer> {
     if !name.is_in_table() || name.kind == 0 {
         return Err(NoAnswer::NoCall);
     }
     match parts.get(alloc, name) {
-        Ok(found) => Ok(found),
+        Ok(Some(found)) => Ok(found),
+        Ok(None) => word(alloc, b"-"),
         Err(error) => Err(NoAnswer::Part(error.into())),
     }
 }
 
-/// These bytes, or `-` where there are none.
-pub(crate) fn or_absent(alloc: Global, bytes: Option<Bytes>) -> Result<Bytes, NoAnswer> {
-    match bytes {
-        Some(bytes) => Ok(bytes),
-        None => word(alloc, b"-"),
-    }
-}
-
-/// The text `none`.
-pub(crate) fn none(alloc: Global) -> Result<Bytes, NoAnswer> {
-    word(alloc, b"none")
-}
-
-/// The text `sound`.
-pub(crate) fn sound(alloc: Global) -> Result<Bytes, NoAnswer> {
-    word(alloc, b"sound")
-}
-
-fn word(alloc: Global, word: &[u8]) -> Result<Bytes, NoAnswer> {
+/// A text as it stands.
+pub(crate) fn word(alloc: Global, word: &[u8]) -> Result<Bytes, NoAnswer> {
     Ok(Bytes::from_slice(alloc, word)?)
 }
 
@@ -92,17 +72,10 @@ fn push_put(out: &mut Bytes, put: &Put) -> Result<(), AllocError> {
 }
 
 /// A line for each number.
-pub(crate) fn lines(alloc: Global, numbers: &Numbers) -> Result<Bytes, NoAnswer> {
+pub(crate) fn lines(alloc: Global, numbers: &[u64]) -> Result<Bytes, NoAnswer> {
     let mut out = Bytes::new(alloc);
-    for number in numbers.as_slice() {
+    for number in numbers {
         push_number(&mut out, *number, b'\n')?;
     }
-    Ok(out)
-}
-
-/// A number in a line.
-pub(crate) fn line(alloc: Global, number: u64) -> Result<Bytes, NoAnswer> {
-    let mut out = Bytes::new(alloc);
-    push_number(&mut out, number, b'\n')?;
     Ok(out)
 }

@@ -4,7 +4,7 @@ ghost use Rattle.ml_base.specs.Address.{key};
 ghost use Rattle.ml_base.specs.Sorted.{byte_cmp, is_sorted};
 
 use crate::asked::{Asked, NoAnswer};
-use crate::parts::{Parts, drawn, file, line, lines, none, or_absent, sound};
+use crate::parts::{Parts, drawn, file, lines, word};
 use crate::program::Calls;
 use ml_address::{Path, verp};
 use ml_base::{Address, AddressList, Bytes, Name, is_below};
@@ -28,13 +28,13 @@ pub(crate) fn answer(
     } else if verb == "sent" {
         counter_after(alloc, parts, asked.number(0)?)
     } else if verb == "next" {
-        line(alloc, next_id(alloc, parts)?)
+        lines(alloc, &[next_id(alloc, parts)?])
     } else if verb == "ids" {
         let all = ids(alloc, parts)?;
-        lines(alloc, &all)
+        lines(alloc, all.as_slice())
     } else if verb == "audit" {
         audit(alloc, parts)?;
-        sound(alloc)
+        word(alloc, b"sound")
     } else {
         Err(NoAnswer::NoCall)
     }
@@ -103,7 +103,7 @@ fn queued(alloc: Global, parts: &mut Parts, asked: &Asked<'_>) -> Result<Bytes, 
 fn entered(alloc: Global, parts: &mut Parts, id: u64) -> Result<Bytes, NoAnswer> {
     match entry(alloc, parts, id)? {
         Some(out) => Ok(told(alloc, &out)?),
-        None => or_absent(alloc, None),
+        None => word(alloc, b"-"),
     }
 }
 
@@ -121,12 +121,11 @@ fn told(alloc: Global, out: &Out) -> Result<Bytes, AllocError> {
 
 fn counter_after(alloc: Global, parts: &mut Parts, id: u64) -> Result<Bytes, NoAnswer> {
     let Some(txn) = sent(alloc, parts, id)? else {
-        return none(alloc);
+        return word(alloc, b"none");
     };
     parts.lay(txn)?;
     audit(alloc, parts)?;
-    let counter = file(alloc, parts, Name::IDS)?;
-    or_absent(alloc, counter)
+    file(alloc, parts, Name::IDS)
 }
 
 const TABLE: &str = r"

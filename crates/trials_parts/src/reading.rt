@@ -1,12 +1,9 @@
 // The reader of digests: a digest with each line in turn left out or spoiled, and texts at the ends of the grammar.
 use crate::asked::{Asked, NoAnswer};
-use crate::parts::{none, push_number};
-use crate::program::Calls;
+use crate::parts::{push_number, word};
 use ml_base::Bytes;
 use ml_digest::read_digest;
 use std::alloc::{AllocError, Global};
-use std::test::Fail;
-use trials_scripts::hold;
 
 /// What a call answers: `read` what the input is as a digest, `without N` what it is without its line of this number, counted from 0, and
 /// `spoiled N` with a byte more at the end of that line.
@@ -28,7 +25,7 @@ pub(crate) fn answer(alloc: Global, asked: &Asked<'_>) -> Result<Bytes, NoAnswer
 /// What a text is as a digest: its number, and each message behind `|`; or `none`.
 pub(crate) fn told(alloc: Global, text: &[u8]) -> Result<Bytes, NoAnswer> {
     let Some(burst) = read_digest(alloc, text)? else {
-        return none(alloc);
+        return word(alloc, b"none");
     };
     let mut out = Bytes::new(alloc);
     push_number(&mut out, burst.issue, b'\n')?;
@@ -64,7 +61,7 @@ fn with_line(
     Ok(out)
 }
 
-const LINES: &str = r"
+pub(crate) const LINES: &str = r"
 let digest Precedence: bulk\nDate: today\nSubject: list Digest Issue 1\n\nlist Digest Issue 1, posts 1 to 2\n\nTopics:\n1: a\n2: b\n\n----------------------------------------------------------------------\n\nFrom: a@b\n\none\n\n------------------------------\n\nFrom: c@d\n\ntwo\n\n------------------------------\n\nEnd of list Digest Issue 1\n**************************\n
 let both 1\n|From: a@b\n\none\n|From: c@d\n\ntwo\n
 list input {digest}
@@ -126,7 +123,7 @@ run digests spoiled 25 => 0 none
 run digests spoiled 26 => 0 none
 ";
 
-const TABLE: &str = r"
+pub(crate) const TABLE: &str = r"
 let rule ----------------------------------------------------------------------
 let one \none\n\n------------------------------\n\n
 let subject Subject: a Digest Issue 1
@@ -173,13 +170,3 @@ input {subject}\n\n{rule}\n\na\n------------------------------\n\nb\n\n---------
 input {subject}\n\n{rule}\n\n\na\n\n------------------------------\n\n\nb\n\n------------------------------\n\n{end} | run digests read => 0 1\n|\na\n|\nb\n
 run digests read => 0 none
 ";
-
-#[test]
-fn lines_left_out_or_spoiled(rt: HostRuntime) -> Result<(), Fail> {
-    hold::<Calls>(rt.alloc(), "a digest of other lines", LINES)
-}
-
-#[test]
-fn numbers_and_messages(rt: HostRuntime) -> Result<(), Fail> {
-    hold::<Calls>(rt.alloc(), "digests that are read", TABLE)
-}
