@@ -1,9 +1,5 @@
 // Answers from the archive: to whom it is open, and what they are.
-use crate::program::Requests;
-use std::test::Fail;
-use trials_scripts::hold;
-
-const TABLE: &str = r"
+pub(crate) const TABLE: &str = r"
 let m From: g@h\n\nhi\n
 let none No such posts.\n
 # What the entry of each mail begins with.
@@ -82,7 +78,7 @@ turns 1 7 | fail | run mail g@h list-get.1@ex.org => 0 a read failed | same
 fail 8 | run mail g@h list-get.1@ex.org => 0 9 0
 ";
 
-const CUTS: &str = r"
+pub(crate) const CUTS: &str = r"
 let m From: g@h\n\nhi\n
 # What the entry of each mail begins with.
 let mail 12:list-return-,6:ex.org,1:p,
@@ -101,13 +97,3 @@ put num 101\n | each 1 100 archive/0 x | put archive/1/01 x | put archive/0/inde
 put num 100\n | each 1 99 archive/0 {1..41943:x} | put archive/1/00 {1..41947:x} | put archive/0/index {1..99:1:0,3:g@h,5:41943,1:x,\n} | put archive/1/index 1:0,3:g@h,5:41947,1:x,\n | run mail g@h list-get.1_101@ex.org => 0 9 0 | gets queue/1 {mail}4197768:{head}g@h{date}archive of list@ex.org\n\n{1..99 each}--- post 100 of list@ex.org ---\n{1..41947:x}\n\n,3:g@h, | gets ids 1:2\n | same
 put num 100\n | each 1 99 archive/0 {1..41943:x} | put archive/1/00 {1..41948:x} | put archive/0/index {1..99:1:0,3:g@h,5:41943,1:x,\n} | put archive/1/index 1:0,3:g@h,5:41948,1:x,\n | run mail g@h list-get.1_101@ex.org => 0 9 0 | gets queue/1 {mail}4155787:{head}g@h{date}archive of list@ex.org\n\n{1..98 each}--- post 99 of list@ex.org ---\n{1..41943:x}\n\n,3:g@h, | gets ids 1:2\n | same
 ";
-
-#[test]
-fn answers_from_the_archive(rt: HostRuntime) -> Result<(), Fail> {
-    hold::<Requests>(rt.alloc(), "archive", TABLE)
-}
-
-#[test]
-fn answers_are_cut(rt: HostRuntime) -> Result<(), Fail> {
-    hold::<Requests>(rt.alloc(), "cut answers", CUTS)
-}

@@ -9,6 +9,7 @@ use ml_header::Message;
 use ml_manage::{is_managed, manage};
 use ml_plain::Reply;
 use ml_post::{answer, post, verdict};
+use ml_timed::timed;
 use std::alloc::Global;
 use std::test::Fail;
 use trials_lists::{error_text, reply_text};
@@ -115,6 +116,22 @@ pub(crate) fn mailed(
         alloc,
         manage(alloc, files, config, now, sender, &request, message),
     )
+}
+
+/// A timed run, which answers the files too.
+pub(crate) fn timed_run(
+    alloc: Global,
+    files: OnSite,
+    config: &Config,
+    now: u64,
+) -> Result<(OnSite, Told), Fail>
+    requires { IsConfig config.now }
+{
+    if !is_moment(now) {
+        return Err(Fail::new("no moment"));
+    }
+    let (files, answer) = timed(alloc, files, config, now);
+    Ok((files, told(alloc, answer)?))
 }
 
 /// The first thing that is due of the bounces of the set list is done.

@@ -1,10 +1,6 @@
 // Bounces: an address's course from its first one to the end, those that change nothing, and those of the digest. The letters
 // of the cookies are those that the key of the bytes 0 to 31 makes.
-use crate::program::Requests;
-use std::test::Fail;
-use trials_scripts::hold;
-
-const TABLE: &str = r"
+pub(crate) const TABLE: &str = r"
 let m Mailing-List: x\n\n
 let noted 28:3:a@b,10:1000010000,1:n,1:1,,
 let warned 28:3:a@b,1:0,11:w1001010000,0:,,
@@ -52,8 +48,3 @@ run mail '' list-digest-return-2-A=B@ex.org => 0 13 0 | gets digest/bounce/] 28:
 run mail '' list-digest-return-3-a=b@ex.org => 0 14 0 | same
 run mail '' list-return-1-a=b@ex.org => 0 14 0 | same
 ";
-
-#[test]
-fn bounces(rt: HostRuntime) -> Result<(), Fail> {
-    hold::<Requests>(rt.alloc(), "bounces", TABLE)
-}

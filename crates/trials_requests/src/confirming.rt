@@ -1,9 +1,5 @@
 // Confirmations of who joins and who leaves.
-use crate::program::Requests;
-use std::test::Fail;
-use trials_scripts::hold;
-
-const TABLE: &str = r"
+pub(crate) const TABLE: &str = r"
 # What the entry of each mail begins with.
 let mail 12:list-return-,6:ex.org,1:p,
 # The bytes 0 to 31.
@@ -54,8 +50,3 @@ put counts/list 100000\n | run mail g@h list-sc.1000000200.gejckjgcpngcagofoonm-
 run mail x@y list-uc.1000000200.jgphlibgpcgbahbolpci-a=B@ex.org P 1000 => 0 6 0 | gets queue/1 {goodbye} | gets ids 1:2\n | loses subscribers/] | gets counts/list 0\n | same
 put bounce/] 28:3:a@b,10:1000000000,1:n,1:1,, | run mail x@y list-uc.1000000200.jgphlibgpcgbahbolpci-a=b@ex.org P 1000 => 0 6 0 | gets queue/1 {goodbye} | gets ids 1:2\n | loses subscribers/] | gets counts/list 0\n | loses bounce/] | same
 ";
-
-#[test]
-fn confirmations(rt: HostRuntime) -> Result<(), Fail> {
-    hold::<Requests>(rt.alloc(), "confirming", TABLE)
-}

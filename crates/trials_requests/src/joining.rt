@@ -1,9 +1,5 @@
 // Who joins a set and who leaves it, by mail: each case of the rules. Expected mails and cookies were made by hand of their grammar.
-use crate::program::Requests;
-use std::test::Fail;
-use trials_scripts::hold;
-
-const TABLE: &str = r"
+pub(crate) const TABLE: &str = r"
 # What the entry of each mail begins with.
 let mail 12:list-return-,6:ex.org,1:p,
 let date \nDate: Sun, 09 Sep 2001 01:50:00 -0000\nSubject:\x20
@@ -82,8 +78,3 @@ put bounce/] ? | run mail a@b list-unsubscribe@ex.org j 1000 => 0 damaged 15 29 
 turns 1 3 | fail | run mail g@h list-subscribe@ex.org '' 1000 => 0 a read failed | same
 fail 4 | run mail g@h list-subscribe@ex.org '' 1000 => 0 8 0
 ";
-
-#[test]
-fn who_joins(rt: HostRuntime) -> Result<(), Fail> {
-    hold::<Requests>(rt.alloc(), "joining", TABLE)
-}

@@ -28,8 +28,6 @@ mod timed_bounces;
 #[cfg(test)]
 mod timed_digests;
 #[cfg(test)]
-mod timed_lines;
-#[cfg(test)]
 mod timed_runs;
 #[cfg(test)]
 mod verdicts;

@@ -1,9 +1,5 @@
 // Each mail in full. The texts were made by hand of their grammar.
-use crate::program::Requests;
-use std::test::Fail;
-use trials_scripts::hold;
-
-const TABLE: &str = r"
+pub(crate) const TABLE: &str = r"
 # What the entry of each mail begins with.
 let mail 12:list-return-,6:ex.org,1:p,
 let date \nDate: Sun, 09 Sep 2001 01:50:00 -0000\nSubject:\x20
@@ -21,8 +17,3 @@ run mail a@b list-unsubscribe@ex.org jP 1000 => 0 6 0 | loses subscribers/] | ge
 run mail g@h list-subscribe-a=b@ex.org '' 1000 => 0 5 0 | gets queue/1 {mail}207:{head}g@h{date}already subscribed\n\nA@b is in list of list@ex.org already.\n,3:g@h, | gets ids 1:2\n | same
 run mail g@h list-unsubscribe@ex.org '' 1000 => 0 7 0 | gets queue/1 {mail}199:{head}g@h{date}not subscribed\n\ng@h is not in list of list@ex.org.\n,3:g@h, | gets ids 1:2\n | same
 ";
-
-#[test]
-fn mails_in_full(rt: HostRuntime) -> Result<(), Fail> {
-    hold::<Requests>(rt.alloc(), "mails", TABLE)
-}

@@ -1,9 +1,5 @@
 // Posts that wait for the moderators, and what these answer.
-use crate::program::Requests;
-use std::test::Fail;
-use trials_scripts::hold;
-
-const TABLE: &str = r"
+pub(crate) const TABLE: &str = r"
 # The cookie of ticket 1 that is held at 1,000,000,000, under the key of the bytes 0 to 31.
 let c dlchffgkeobljkocbhcg
 # The cookie of the same post under the key of 32 `f`.
@@ -48,8 +44,3 @@ run post a@B m => 0 2 1 | gets pending/1 {waiting} | gets tickets 1:2\n | gets q
 then at 1000000500 | run answer 1 {other} accept m => 0 30 0 | same
 then run answer 1 {other} reject m => 0 30 0 | same
 ";
-
-#[test]
-fn moderated_posts(rt: HostRuntime) -> Result<(), Fail> {
-    hold::<Requests>(rt.alloc(), "moderated", TABLE)
-}

@@ -1,9 +1,5 @@
 // Messages that come to the list's own address.
-use crate::program::Requests;
-use std::test::Fail;
-use trials_scripts::hold;
-
-const TABLE: &str = r#"
+pub(crate) const TABLE: &str = r#"
 # Members of the set list.
 let a-b Ta@b\0
 let c-d Tc@d\0
@@ -69,8 +65,3 @@ put subscribers/] {a-b} | put subscribers/L Tc@d | run post a@b => 0 damaged 3 1
 turns 1 59 | put subscribers/] {a-b} | fail | run post a@b => 0 a read failed | same
 put subscribers/] {a-b} | fail 60 | run post a@b => 0 1 1
 "#;
-
-#[test]
-fn posts(rt: HostRuntime) -> Result<(), Fail> {
-    hold::<Requests>(rt.alloc(), "posts", TABLE)
-}

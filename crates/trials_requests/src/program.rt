@@ -1,16 +1,21 @@
 // What is asked of a list in memory, as words. `new` makes a list. The calls are `verdict SENDER`, `post SENDER`, `mail SENDER RECIPIENT`, `due`,
-// and `answer TICKET LETTERS` with `accept` or `reject`. Behind a call may stand letters of options, and the most bytes of a post.
+// `answer TICKET LETTERS` with `accept` or `reject`, and `timed`. After a call may stand letters of options, and the most bytes of a post.
+// `bounced` gives the list 1,002 members, to each of whom mail bounced.
 ghost use Rattle.std.specs.Prelude.{IfOk};
 ghost use Rattle.ml_config.specs.Configuration.{IsConfig};
 
-use crate::asking::{Told, answered, found, mailed, posted, served};
+use crate::asking::{Told, answered, found, mailed, posted, served, timed_run};
+use crate::{
+    archive, bounces, confirming, given_back, joining, mails, moderated, posts, rules,
+    timed_bounces, timed_digests, timed_runs, verdicts, worked,
+};
 use ml_base::{Bytes, read_number};
 use ml_config::Config;
-use ml_site::{Clock, Fill, MemClock, MemSite, MemSource};
+use ml_site::{Clock, Fill, Image, MemClock, MemSite, MemSource};
 use std::alloc::Global;
 use std::test::Fail;
-use trials_lists::{KEY, Made, config, copy, lay, make};
-use trials_scripts::{OnSite, Program, ended_with, read_whole};
+use trials_lists::{KEY, Made, config, lay, make};
+use trials_scripts::{OnSite, Program, ended_with, hold, read_whole};
 
 pub(crate) struct Requests;
 
@@ -26,6 +31,17 @@ const NEW: &[Made] = &[
     Made::Text(11, 0, b"0\n"),
     Made::Text(14, 0, b"1:1\n"),
     Made::Text(18, 0, b"1:1\n"),
+];
+
+// The members, and in the ledgers post 1, which bounced at 1,000,010,000.
+const BOUNCED: &[Made] = &[
+    Made::Buckets(3, (10_000, 11_001), b"u%@h", b"Tu%@h\x00"),
+    Made::Buckets(
+        15,
+        (10_000, 11_001),
+        b"u%@h",
+        b"33:8:u%@h,10:1000010000,1:n,1:1,,",
+    ),
 ];
 
 fn word(words: &[String], at: usize) -> &str {
@@ -108,11 +124,58 @@ impl Program for Requests {
             make(alloc, &mut image.files, NEW)?;
             return ended_with(alloc, 0, image, b"");
         }
+        if word(words, 0) == "bounced" {
+            make(alloc, &mut image.files, BOUNCED)?;
+            return ended_with(alloc, 0, image, b"");
+        }
         let message = read_whole(alloc, input)?;
-        let files = copy(alloc, &image.files)?;
+        let Image { log, files } = image;
         let mut files = OnSite { site, files };
-        let (puts, text) = called(alloc, words, &mut files, clock.now()?, message.as_slice())?;
-        lay(alloc, &mut image.files, &puts)?;
-        ended_with(alloc, 0, image, text.as_slice())
+        let now = clock.now()?;
+        let (puts, text) = if word(words, 0) == "timed" {
+            let config = configured(alloc, word(words, 1), "")?;
+            let (left, answer) = timed_run(alloc, files, &config, now)?;
+            files = left;
+            answer
+        } else {
+            called(alloc, words, &mut files, now, message.as_slice())?
+        };
+        let OnSite { mut files, .. } = files;
+        lay(alloc, &mut files, &puts)?;
+        ended_with(alloc, 0, Image { log, files }, text.as_slice())
     }
+}
+
+#[test]
+fn posts_and_answers(rt: HostRuntime) -> Result<(), Fail> {
+    let alloc = rt.alloc();
+    hold::<Requests>(alloc, "verdicts", verdicts::TABLE)?;
+    hold::<Requests>(alloc, "posts", posts::TABLE)?;
+    hold::<Requests>(alloc, "moderated", moderated::TABLE)
+}
+
+#[test]
+fn mail_to_other_addresses(rt: HostRuntime) -> Result<(), Fail> {
+    let alloc = rt.alloc();
+    hold::<Requests>(alloc, "rules", rules::TABLE)?;
+    hold::<Requests>(alloc, "joining", joining::TABLE)?;
+    hold::<Requests>(alloc, "confirming", confirming::TABLE)?;
+    hold::<Requests>(alloc, "mails", mails::TABLE)?;
+    hold::<Requests>(alloc, "worked", worked::TABLE)?;
+    hold::<Requests>(alloc, "bounces", bounces::TABLE)?;
+    hold::<Requests>(alloc, "archive", archive::TABLE)
+}
+
+#[test]
+fn answers_are_cut(rt: HostRuntime) -> Result<(), Fail> {
+    hold::<Requests>(rt.alloc(), "cut answers", archive::CUTS)
+}
+
+#[test]
+fn due_things_are_done(rt: HostRuntime) -> Result<(), Fail> {
+    let alloc = rt.alloc();
+    hold::<Requests>(alloc, "held posts", given_back::TABLE)?;
+    hold::<Requests>(alloc, "bounces of timed runs", timed_bounces::TABLE)?;
+    hold::<Requests>(alloc, "digests", timed_digests::TABLE)?;
+    hold::<Requests>(alloc, "timed runs", timed_runs::TABLE)
 }

@@ -1,9 +1,5 @@
 // The rules in their order, help, the owner's mail, and the members of a set.
-use crate::program::Requests;
-use std::test::Fail;
-use trials_scripts::hold;
-
-const TABLE: &str = r"
+pub(crate) const TABLE: &str = r"
 let m From: g@h\n\nhi\n
 let looped MAILING-list: x\n\n
 # What the entry of each mail begins with.
@@ -63,8 +59,3 @@ put subscribers/] Ta@b\0 | put subscribers/L layout 2\nTC@d\01000000000\0 | put 
 list run new => 0 | put mod/subscribers/N Tg@h\0 | input {m}
 members 10000 | run mail g@h list-list@ex.org l => 0 12 0 | gets queue/1 {mail}80165:{head}g@h{date}members of list\n\n{0..9:u000%@h\n}{10..99:u00%@h\n}{100..999:u0%@h\n}{1000..9999:u%@h\n},3:g@h, | gets ids 1:2\n | same
 ";
-
-#[test]
-fn mail_to_other_addresses(rt: HostRuntime) -> Result<(), Fail> {
-    hold::<Requests>(rt.alloc(), "rules", TABLE)
-}

@@ -1,9 +1,5 @@
 // What is found of posts.
-use crate::program::Requests;
-use std::test::Fail;
-use trials_scripts::hold;
-
-const TABLE: &str = r#"
+pub(crate) const TABLE: &str = r#"
 # A message of 45 bytes.
 let m From: a@b\nTo: list@ex.org\nSubject: hello\n\nhi\n
 let looped Mailing-List: x\nTo: list@ex.org\nSubject: unsubscribe\n\n
@@ -79,8 +75,3 @@ put num 07\n | run verdict a@b m 1000 => 0 Held | same
 turns 1 6 | put mod/subscribers/] Ta@b\0 | fail | run verdict a@b ku 1000 => 0 a read failed | same
 put mod/subscribers/] Ta@b\0 | fail 7 | run verdict a@b ku 1000 => 0 Posted
 "#;
-
-#[test]
-fn the_first_rule_that_holds_decides(rt: HostRuntime) -> Result<(), Fail> {
-    hold::<Requests>(rt.alloc(), "verdicts", TABLE)
-}

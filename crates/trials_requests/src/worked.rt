@@ -1,10 +1,6 @@
 // Worked examples: a question and what may follow it, a member who is asked, the archive of three posts, and a thread. Mails and
 // letters of cookies were made with another program.
-use crate::program::Requests;
-use std::test::Fail;
-use trials_scripts::hold;
-
-const TABLE: &str = r"
+pub(crate) const TABLE: &str = r"
 let m From: g@h\n\nhi\n
 # What the entry of each mail begins with.
 let mail 12:list-return-,6:ex.org,1:p,
@@ -58,8 +54,3 @@ put archive/threads/231 5:hello,3:1,2, | run mail g@h list-thread.2@ex.org f => 
 put archive/threads/231 5:hello,1:1, | run mail g@h list-thread.1@ex.org f => 0 9 0 | gets queue/1 {mail}222:{head}g@h{date}archive of list@ex.org\n\n--- post 1 of list@ex.org ---\nSubject: hello\n\nhi\n\n,3:g@h, | gets ids 1:2\n | same
 put archive/threads/231 5:hello,1:1, | run mail g@h list-thread.2@ex.org f => 0 damaged 20 231 | same
 ";
-
-#[test]
-fn worked_examples(rt: HostRuntime) -> Result<(), Fail> {
-    hold::<Requests>(rt.alloc(), "worked", TABLE)
-}
