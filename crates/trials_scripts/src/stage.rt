@@ -165,6 +165,35 @@ pub fn ended_with(
     Ok((status, site))
 }
 
+// A site with these files, whose calls fail as the next command is to meet them.
+fn site(alloc: Global, image: &Image, next: &Next) -> Result<MemSite, Fail> {
+    let image = copied(alloc, image)?;
+    let mut site = MemSite::new(alloc, image, next.calls, next.room)?;
+    site.fail(alloc, next.failing.as_slice())?;
+    Ok(site)
+}
+
+// How the program ends with these words on a site: its status, the site, and how many bytes are left of its input.
+fn ended<P: Program>(
+    alloc: Global,
+    words: &[String],
+    site: MemSite,
+    next: &Next,
+) -> Result<(u8, MemSite, usize), Fail> {
+    let mut input = source(alloc, next)?;
+    let mut clock = clock(alloc, next.moment)?;
+    let (status, site) = P::ended(alloc, words, &mut input, site, &mut clock)?;
+    Ok((status, site, unread(&mut input)))
+}
+
+// Takes what a command leaves on its site as the list.
+fn take_left(alloc: Global, stage: &mut Stage, site: &MemSite) -> Result<(), Fail> {
+    stage.before = copied(alloc, &stage.image)?;
+    stage.image = site.crash(alloc, stage.next.stop, stage.next.fill)?;
+    stage.next = plain(alloc, stage.next.moment);
+    Ok(())
+}
+
 /// Runs the program with these words, and answers its status and what it put out.
 pub(crate) fn run<P: Program>(
     alloc: Global,
@@ -173,16 +202,10 @@ pub(crate) fn run<P: Program>(
     words: &str,
 ) -> Result<(u8, Bytes), Fail> {
     let words = words_of(alloc, named, words)?;
-    let next = &stage.next;
-    let mut site = MemSite::new(alloc, copied(alloc, &stage.image)?, next.calls, next.room)?;
-    site.fail(alloc, next.failing.as_slice())?;
-    let mut input = source(alloc, next)?;
-    let mut clock = clock(alloc, next.moment)?;
-    let (status, site) = P::ended(alloc, &words, &mut input, site, &mut clock)?;
+    let site = site(alloc, &stage.image, &stage.next)?;
+    let (status, site, unread) = ended::<P>(alloc, &words, site, &stage.next)?;
     let output = Bytes::from_slice(alloc, site.output())?;
-    stage.unread = unread(&mut input);
-    stage.before = copied(alloc, &stage.image)?;
-    stage.image = site.crash(alloc, stage.next.stop, stage.next.fill)?;
-    stage.next = plain(alloc, stage.next.moment);
+    stage.unread = unread;
+    take_left(alloc, stage, &site)?;
     Ok((status, output))
 }
