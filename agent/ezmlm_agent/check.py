@@ -11,7 +11,7 @@ import sqlite3
 import subprocess
 from collections.abc import Iterable
 
-from . import folder, notes, program, sections, settings, smtp, trouble, wire
+from . import folder, notes, program, receivers, sections, settings, smtp, trouble, wire
 
 TRIES = 20  # while another run has a list, a second each
 MOST = 5    # lines that say the same of one list
@@ -220,6 +220,8 @@ async def check(chosen: settings.Settings) -> int:
         wrong += [*others, *await lists(chosen, addresses, owner), *sending(chosen, addresses), *all_notes(chosen)]
         wrong += await transfer_agent(chosen, addresses)
         wrong += keeps_away(chosen)
+        for line in await receivers.look(chosen, addresses):
+            print(line)
     for line in wrong:
         print('! ' + line)
     return 1 if wrong else 0

@@ -1,11 +1,13 @@
 """Mail in, by LMTP (RFC 2033)."""
 
 import asyncio
+import logging
 import re
 from collections.abc import Awaitable, Callable
 
-from . import lists, program, refusals, replies, wire
+from . import lists, program, refusals, replies, signing, wire
 
+log = logging.getLogger('ezmlm-agent')
 LONGEST_MAIL = 33_554_432  # of a message, with LF at its lines' ends
 LONGEST_SENT = 2 * LONGEST_MAIL  # as it is sent, where an end of line is two bytes
 LONGEST_PATH = 1000
@@ -181,7 +183,7 @@ class Session:
         """The replies by the lists' answers, which are waited for also when the agent stops."""
         sender, task = self.sender or b'', asyncio.current_task()
         assert task
-        given = asyncio.gather(*(named.list.receive(sender, recipient, named.rest, message) for named, recipient in self.recipients))
+        given = asyncio.gather(*(given_to(named, sender, recipient, message) for named, recipient in self.recipients))
         self.server.answering.add(task)
         try:
             answers = await given
@@ -190,6 +192,16 @@ class Session:
         rests = [named.rest for named, _ in self.recipients]
         self.counted -= sum(replies.is_answered(rest) and is_mailed(answer) for rest, answer in zip(rests, answers)) if sender else 0
         return [refusals.reply_for(answer, rest) for answer, rest in zip(answers, rests)]
+
+
+async def given_to(named: lists.Named, sender: bytes, recipient: bytes, message: bytes) -> program.Answer:
+    """The list's answer to a mail. One by which `--check` looks for signatures isn't given to the list."""
+    number = signing.number_of(named.rest)
+    if number is None:
+        return await named.list.receive(sender, recipient, named.rest, message)
+    answer = await asyncio.to_thread(signing.keep, named.list.settings.state, number, message)
+    log.info('%s - %s %s: %s', named.list.name, wire.shown(sender), wire.shown(recipient), answer.words)
+    return answer
 
 
 def is_mailed(answer: program.Answer) -> bool:

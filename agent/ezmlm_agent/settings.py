@@ -8,7 +8,7 @@ import socket
 from collections.abc import Callable, Mapping
 from typing import Any
 
-from . import sections
+from . import resolver, sections
 
 
 def is_yes(text: str) -> bool:
@@ -22,6 +22,21 @@ def posts(text: str) -> str:
     """One of the words of auto_posts. Another word is a ValueError."""
     if text not in ('take', 'refuse'):
         raise ValueError(f'{text} is neither take nor refuse')
+    return text
+
+
+def senders(text: str) -> tuple[str, ...]:
+    """IP addresses, with blanks between them. Another word is a ValueError."""
+    try:
+        return tuple(str(ipaddress.ip_address(word)) for word in text.split())
+    except ValueError as error:
+        raise ValueError(f'sends_from: {error}') from error
+
+
+def asked(text: str) -> str:
+    """A resolver's address, with or without a port, or nothing. Another text is a ValueError."""
+    if text:
+        resolver.read(text)
     return text
 
 
@@ -48,6 +63,8 @@ class Settings:
     auto_posts: str = setting(posts, 'take')    # what is done with posts that a machine sent
     replies: int = setting(int, 20)             # answers that one sender gets in an hour; 0 for any number
     policy: str = setting(str, '')              # where Postfix asks what a list refuses by the envelope: as listen, or nowhere
+    sends_from: tuple[str, ...] = setting(senders, ())  # the transfer agent's addresses as the world sees them; for --check
+    resolver: str = setting(asked, '')          # whom --check asks: ADDRESS or ADDRESS:PORT; without it those of /etc/resolv.conf
     by_list: Mapping[str, sections.Section] = dataclasses.field(default_factory=dict)  # settings of single lists, by their folders' names
 
 

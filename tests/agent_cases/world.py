@@ -119,7 +119,7 @@ class World:
         (self.place / 'lists').mkdir(mode=0o700)
         self.sink = Sink(str(self.place / 'sink'))
         self.rows = {'program': program, 'lists': self.place / 'lists', 'state': self.place / 'state', 'listen': self.place / 'lmtp',
-                     'mta': self.place / 'sink', 'name': 'mx.ex.org'}
+                     'mta': self.place / 'sink', 'name': 'mx.ex.org', 'resolver': '255.255.255.255'}  # to which no question can be sent
         self.agent, self.note = None, ''
         self.told = []  # what each agent said
 

@@ -14,7 +14,7 @@ import dns.resolver
 from agent_cases.sink import Sink
 
 from .course import Course
-from .setting import SINK, SMTPD, eventually, wait_for
+from .setting import SINK, SMTPD, TOP, USER, eventually, wait_for
 
 MILTER, RESOLVER = 12528, 12529
 WRITER, HOST = 'w.net', 'ex.org'
@@ -28,6 +28,9 @@ OversignHeaders From
 UserID opendkim
 Background no
 RequireSafeKeys no
+'''
+CHECK = '''sends_from = 127.0.0.1
+resolver = 127.0.0.1:{resolver}
 '''
 SECTIONS = '''
 [list cats]
@@ -92,7 +95,7 @@ class Signed(Course):
         self.place.chmod(0o755)
         try:
             self.begin()
-            for step in (self.posts, self.refusals, self.fields, self.answers):
+            for step in (self.posts, self.refusals, self.fields, self.answers, self.checked):
                 step()
                 print(f'ok      {step.__doc__}', flush=True)
         finally:
@@ -111,7 +114,7 @@ class Signed(Course):
         for name, (letters, _, _) in LISTS.items():
             self.setting.list(name, ['z@m.net', 's@strict.net'], letters)
         with open(self.setting.place / 'agent.conf', 'a', encoding='ascii') as file:
-            file.write(SECTIONS)
+            file.write(CHECK.format(resolver=RESOLVER) + SECTIONS)
         self.setting.begin_agent()
 
     def names(self):
@@ -203,3 +206,21 @@ class Signed(Course):
         content, = (content for _, to, content in self.sink.copies if to == 'a@m.net')
         assert holding(content, self.text_of) == {HOST} and author_of(content) == HOST, content
         assert b'\r\nAuto-Submitted: auto-replied\r\n' in content and content.lower().count(b'\r\nmessage-id:') == 1, content
+
+    def checked(self):
+        """--check finds the records of the lists' host and its signature on a post that goes through Postfix, and what is wrong with them"""
+        whose, conf = f'{HOST} (birds, cats, dogs and 2 more)', self.setting.place / 'agent.conf'
+        self.finds(whose, ('SPF passes for mail from 127.0.0.1 (sends_from)', f'its DMARC policy is reject (_dmarc.{HOST})',
+                           f'the DKIM signature of a post of birds (d={HOST}, s=lists) holds'), '')
+        conf.write_text(conf.read_text().replace('sends_from = 127.0.0.1', 'sends_from = 192.0.2.9'))
+        subprocess.run(['postconf', '-c', self.setting.place / 'etc', '-e', 'smtpd_milters ='], check=True)
+        assert self.setting.postfix('reload').returncode == 0
+        self.finds(whose, ('SPF says fail for mail from 192.0.2.9 (sends_from)', f'a post of birds has no DKIM signature of {HOST}'), 'warning: ')
+        assert not re.search(r'(?m)^birds [1-9].*ezmlm-agent-check', self.setting.agent_log()), 'the list was given such a mail'
+
+    def finds(self, whose, texts, mark):
+        """Asserts that --check says this of a host."""
+        said = subprocess.run([TOP / 'agent/ezmlm-agent', '--check', self.setting.place / 'agent.conf'], capture_output=True, text=True, check=False,
+                              user=USER, group=USER, extra_groups=[])
+        for text in texts:
+            assert f'\n{mark}{whose}: {text}' in said.stdout, (text, said)
