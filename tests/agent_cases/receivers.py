@@ -202,6 +202,7 @@ def case_bad_posts(world):
 def case_answers(world):
     """The list's own answers say that they are, have a Message-ID that is the same at each try, and a charset that is true."""
     rows = [(b'p', b'Subject: help\n\nMail to\n', 'auto-replied', b'utf-8', b''),
+            (b'v', b'Subject: bounce warning\n\nM\n', 'auto-generated', b'utf-8', b''),
             (b'v', b'Subject: bounce probe\n\nM\n', 'auto-generated', b'utf-8', b''),
             (b'v', b'Subject: cats Digest Issue 1\n\nT\n', 'auto-generated', b'utf-8', b''),
             (b'p', 'Subject: members of list\n\nö@m.net\n'.encode(), 'auto-replied', b'utf-8', b'Content-Transfer-Encoding: 8bit\n'),

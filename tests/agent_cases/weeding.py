@@ -38,6 +38,38 @@ def said(*fields, body='Gone fishing.'):
 
 
 AWAY = 'From: b@m.net', 'Subject: Re: hello'
+COMPLAINT = b'''From: <abusedesk@example.com>
+Date: Thu, 8 Mar 2005 17:40:36 EDT
+Subject: FW: Earn money
+To: <abuse@example.net>
+MIME-Version: 1.0
+Content-Type: multipart/report; report-type=feedback-report;
+     boundary="part1_13d.2e68ed54_boundary"
+
+--part1_13d.2e68ed54_boundary
+Content-Type: text/plain; charset="US-ASCII"
+Content-Transfer-Encoding: 7bit
+
+This is an email abuse report for an email message received from IP
+192.0.2.2 on Thu, 8 Mar 2005 14:00:00 EDT.
+
+--part1_13d.2e68ed54_boundary
+Content-Type: message/feedback-report
+
+Feedback-Type: abuse
+User-Agent: SomeGenerator/1.0
+Version: 1
+
+--part1_13d.2e68ed54_boundary
+Content-Type: message/rfc822
+Content-Disposition: inline
+
+From: <somespammer@example.net>
+Subject: Earn money
+
+Spam Spam Spam
+--part1_13d.2e68ed54_boundary--
+'''  # RFC 5965 B.1, shortened
 BOUNCES = [
     # The examples of RFC 3464, appendix E: one recipient, several, a foreign system, and one that is late.
     (report('failed'), None),
@@ -67,6 +99,9 @@ BOUNCES = [
     (said(*AWAY, 'Auto-Submitted: auto-generated (failure)'), None),
     (said(*AWAY, 'X-Failed-Recipients: b@m.net', 'Auto-Submitted: auto-replied'), None),
     (said('From: Mailer-Daemon@m.net', 'Subject: Warning: message 1 delayed 24 hours', 'Auto-Submitted: auto-replied'), 'delayed'),
+    # Complaints (RFC 5965) aren't expected at a return address, and challenges are answers of machines if they say so.
+    (COMPLAINT, None), (said('From: b@m.net', 'Subject: Please confirm that you are a person', 'Auto-Submitted: auto-replied'), 'automatic'),
+    (said('From: b@m.net', 'Subject: Please confirm that you are a person'), None),
     # What no parser is glad of.
     (b'', None), (b'\n', None), (b'\0\xff' * 1000, None), (report('delayed')[:-40], 'delayed'),
     (b'Content-Type: multipart/report; boundary=\n\n--\n', None), (b'Content-Type: multipart/report\n\n--x\n', None),
@@ -87,7 +122,7 @@ def case_weed_rows(world):
         for mail, wanted in rows:
             same(weed.verdict(mail, place), wanted, f'{place.name}: {mail[:300]!a}')
     for place in (weed.Place.LIST, weed.Place.OWNER):
-        same(weed.verdict(REQUESTS[3][0], place), None, place.name)
+        same((weed.verdict(REQUESTS[3][0], place), weed.verdict(COMPLAINT, place)), (None, None), place.name)
     rows = [(None, 'LIST'), ('return-1-a=b', 'BOUNCES'), ('Digest-Return-', 'BOUNCES'), ('return', 'OTHER'), ('owner', 'OWNER'), ('help', 'OTHER'),
             ('', 'OTHER'), ('digest-subscribe', 'OTHER'), ('accept-1.x', 'OTHER')]
     for rest, wanted in rows:
