@@ -239,7 +239,8 @@ impl Program for Calls {
             Err(PartError::Fault) => (111, error_text(alloc, PartError::Fault)?),
             Err(error) => (75, error_text(alloc, error)?),
         };
-        let (OnSite { mut files, .. }, puts) = archive.parts();
+        let (place, puts) = archive.parts();
+        let mut files = place.files;
         lay(alloc, &mut files, &puts)?;
         ended_with(alloc, status, Image { log, files }, text.as_slice())
     }
