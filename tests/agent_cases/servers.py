@@ -237,15 +237,19 @@ class Servers:
         """Of the servers that are there the one that has most takes changes from now on. The answer is its number. The first one has to be
         gone, and all others there: what a client was told may be on any one of them."""
         assert self.all[self.first].process is None
-        had = {}
-        for number, server in enumerate(self.all):
-            if number != self.first:
-                ((at,),) = server.sql("SELECT pg_wal_lsn_diff(greatest(pg_last_wal_receive_lsn(), pg_last_wal_replay_lsn()), '0/0')::bigint")
-                had[number] = at
+        had: dict[int, int] = {}
+        # What was sent to them before the first one went may still come.
+        while had != (had := self.places()):
+            time.sleep(0.2)
         self.first = max(had, key=had.__getitem__)
         self.all[self.first].sql('SELECT pg_promote(true, 60)')
         until(f's{self.first} takes changes', lambda: not self.all[self.first].sql('SELECT pg_is_in_recovery()')[0][0])
         return self.first
+
+    def places(self) -> dict[int, int]:
+        """How many bytes of changes each server has but the first one."""
+        text = "SELECT pg_wal_lsn_diff(greatest(pg_last_wal_receive_lsn(), pg_last_wal_replay_lsn()), '0/0')::bigint"
+        return {number: server.sql(text)[0][0] for number, server in enumerate(self.all) if number != self.first}
 
     def end(self) -> None:
         """Kills the servers and removes their folder."""
