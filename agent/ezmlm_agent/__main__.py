@@ -10,9 +10,13 @@ import pathlib
 import resource
 import signal
 import sys
-from typing import NoReturn, TextIO
+from collections.abc import Callable, Iterable
+from typing import TYPE_CHECKING, NoReturn, TextIO
 
 from . import VERSION, check, listening, lists, lmtp, mailing, mails, policy, program, settings, smtp, wire
+
+if TYPE_CHECKING:
+    from . import hosts
 
 log = logging.getLogger('ezmlm-agent')
 LOOKS = 60  # seconds between two looks for lists
@@ -41,9 +45,10 @@ class Agent:
         self.policy = policy.Policy(self.lists.find)
         self.listener = listening.Listener()
         self.ended = asyncio.Event()
+        self.hosts = hosts_of(chosen, lambda: self.lists.served.values())
 
     def take_up(self, folder: pathlib.Path) -> mailing.MailingList:
-        found = mailing.MailingList(folder, self.shared)
+        found = self.hosts.take_up(folder, self.shared) if self.hosts else mailing.MailingList(folder, self.shared)
         found.start()
         return found
 
@@ -52,6 +57,8 @@ class Agent:
         loop = asyncio.get_running_loop()
         for number in (signal.SIGTERM, signal.SIGINT):
             loop.add_signal_handler(number, self.ended.set)
+        if self.hosts:
+            await self.hosts.begin()
         for address, serve in ((self.settings.listen, self.server.serve), (self.settings.policy, self.policy.serve)):
             try:
                 if address:
@@ -77,6 +84,8 @@ class Agent:
             except Exception as error:  # Whatever it is, mail goes on.
                 log.error('the lists can\'t be looked at: %s: %s', type(error).__name__, error)
             self.exchange.close_unused()
+            if self.hosts:
+                self.hosts.look()
             await asyncio.sleep(LOOKS)
 
     async def stop(self) -> None:
@@ -92,7 +101,20 @@ class Agent:
                 found.abandon()
             if hang:
                 log.warning('%d lists have something in hand that hangs, and are left', len(hang))
+        if self.hosts:
+            await self.hosts.stop()
         self.exchange.close_unused(0)
+
+
+def hosts_of(chosen: settings.Settings, lists: Callable[[], Iterable[mailing.MailingList]]) -> 'hosts.Hosts | None':
+    """What belongs to other hosts that have the same lists, if any have. psycopg is wanted for these alone."""
+    if not chosen.history:
+        return None
+    try:
+        from . import hosts
+    except ModuleNotFoundError as error:
+        raise ValueError(f'history wants the package python3-psycopg: {error}') from error
+    return hosts.Hosts(chosen, lists)
 
 
 def words_of(words: list[str]) -> argparse.Namespace:
@@ -138,7 +160,11 @@ def alone(state: pathlib.Path) -> TextIO:
 
 
 async def run(chosen: settings.Settings) -> None:
-    agent = Agent(chosen)
+    try:
+        agent = Agent(chosen)
+    except ValueError as error:
+        print(f'ezmlm-agent: {error}', file=sys.stderr)
+        sys.exit(WRONG)
     await agent.run()
     if any(found.is_stuck() for found in agent.lists.served.values()):
         # Python would wait for them: tasks that can't be cancelled, and the program's runs that can't be killed.

@@ -155,3 +155,30 @@ def behind_answers(folder: pathlib.Path) -> int:
     kept = bytes_or_none(folder / 'done' / str(max(groups))) or b''
     last = max((slot for slot in range(SLOTS) if any(kept[SLOT * slot:SLOT * slot + SLOT])), default=SLOTS - 1)
     return max(floor(folder), SLOTS * max(groups) + last + 1)
+
+
+def answered(folder: pathlib.Path, numbers: Iterable[int]) -> set[int]:
+    """Those of these numbers whose replies the list keeps."""
+    groups: dict[int, set[int]] = {}
+    for number in numbers:
+        groups.setdefault(number // SLOTS, set()).add(number)
+    found: set[int] = set()
+    for group, members in groups.items():
+        kept = bytes_or_none(folder / 'done' / str(group)) or b''
+        found |= {number for number in members if any(kept[SLOT * (number % SLOTS):SLOT * (number % SLOTS) + SLOT])}
+    return found
+
+
+def replace(path: pathlib.Path, text: bytes) -> None:
+    """Puts a file in the place of another, or none, at once, and on the disk."""
+    new = path.with_name(path.name + '.new')
+    with open(os.open(new, os.O_WRONLY | os.O_CREAT | os.O_TRUNC | os.O_CLOEXEC, 0o600), 'wb') as file:
+        file.write(text)
+        file.flush()
+        os.fsync(file.fileno())
+    os.replace(new, path)
+    parent = os.open(path.parent, os.O_RDONLY | os.O_DIRECTORY | os.O_CLOEXEC)
+    try:
+        os.fsync(parent)
+    finally:
+        os.close(parent)

@@ -11,7 +11,7 @@ import time
 from collections.abc import Callable, Sequence
 from typing import TYPE_CHECKING
 
-from . import copies, fields, program, smtp, wire
+from . import copies, fields, notes, program, smtp, wire
 
 if TYPE_CHECKING:
     from . import outgoing
@@ -24,6 +24,7 @@ HOPELESS = 100  # copies that were refused and none taken, behind which no more 
 @dataclasses.dataclass
 class Attempt:
     """One try to hand an entry on."""
+    kept: notes.Copies  # where it is kept which copies were handed on
     entry: int
     mark: bytes      # what the entry is, beside its id
     mail: bytes      # what is sent for its mail
@@ -39,14 +40,14 @@ class Attempt:
         return not self.is_taken and len(self.refused) >= HOPELESS and self.age < DAY
 
 
-def attempt_of(text: bytes, mark: bytes, entry: int, age: float, before: frozenset[bytes], size: int, verp: bool,
+def attempt_of(kept: notes.Copies, text: bytes, mark: bytes, entry: int, age: float, before: frozenset[bytes], size: int, verp: bool,
                mail_of: Callable[[Sequence[bytes]], bytes]) -> tuple[Attempt, list[copies.Transaction]]:
     """What is to be done for an entry that a file spells so, and the transactions. `mail_of` makes of its elements the mail that goes out."""
     elements = program.netstrings(text)
     rows = copies.batches(elements, size, verp, before)
     random.shuffle(rows)  # Where an attempt ends early the next one begins with others.
     mail = wire.as_sent(mail_of(elements))
-    return Attempt(entry, mark, mail, age, copies.is_named(elements), len(elements) - 4, bool(before)), rows
+    return Attempt(kept, entry, mark, mail, age, copies.is_named(elements), len(elements) - 4, bool(before)), rows
 
 
 class Handing:
@@ -59,10 +60,11 @@ class Handing:
     async def hand_on(self, entry: int, text: bytes, written: float, verp: bool, is_tried: bool) -> bool:
         """Whether all copies of an entry are done with. `written` is when it came into the queue, and `is_tried` whether it was tried since
         the agent began."""
-        assert self.list.notes
+        kept = self.list.copies()
+        assert kept
         mark = hashlib.sha256(text).digest()
-        before = frozenset(self.list.notes.handed_before(entry, mark))
-        words = text, mark, entry, time.time() - written, before, self.list.settings.batch, verp, functools.partial(self.mail_of, entry)
+        before = frozenset(kept.handed_before(entry, mark))
+        words = kept, text, mark, entry, time.time() - written, before, self.list.settings.batch, verp, functools.partial(self.mail_of, entry)
         attempt, rows = attempt_of(*words) if self.queue.section is None else await asyncio.to_thread(attempt_of, *words)
         del text, words
         attempt.is_tried = is_tried
@@ -83,7 +85,6 @@ class Handing:
 
     async def hand_on_row(self, attempt: Attempt, sender: bytes, named: bool, row: list[copies.Copy]) -> None:
         """Hands one transaction on."""
-        assert self.list.notes
         turn: contextlib.AbstractAsyncContextManager[None] = contextlib.nullcontext()
         if attempt.is_tried:
             turn = self.queue.tried
@@ -91,7 +92,7 @@ class Handing:
             if self.list.stopping or attempt.is_hopeless():
                 attempt.put_off += len(row)
                 return
-            await self.list.notes.write()
+            await attempt.kept.write()
             replies: list[smtp.Reply] | None = None
             try:
                 replies = await self.exchange.hand_on(sender, named, [recipient for _, recipient in row], attempt.mail)
@@ -108,7 +109,6 @@ class Handing:
 
     async def note(self, attempt: Attempt, row: list[copies.Copy], replies: list[smtp.Reply]) -> None:
         """Notes whose copies were taken, and of which the transfer agent said something else."""
-        assert self.list.notes
         taken = [recipient for (_, recipient), reply in zip(row, replies) if smtp.is_good(reply)]
         attempt.is_taken = attempt.is_taken or bool(taken)
         for copy, reply in zip(row, replies):
@@ -119,7 +119,7 @@ class Handing:
                 attempt.refused.append((copy, reply))
             else:
                 attempt.put_off += 1
-        await self.list.notes.hand(attempt.entry, attempt.mark, taken)
+        await attempt.kept.hand(attempt.entry, attempt.mark, taken)
 
     async def tell_refused(self, attempt: Attempt) -> bool:
         """Whether the list knows of all copies that were refused for good. Where none was ever taken it isn't told for a day: by a
@@ -139,11 +139,10 @@ class Handing:
     async def bounce(self, attempt: Attempt, copy: copies.Copy, reply: smtp.Reply) -> bool:
         """Gives the list the bounce that a refused copy is, unless it is one of the list's own answers: of these it learns nothing. The
         answer is whether the copy is done with."""
-        assert self.list.notes
         sender, recipient = copy
         if attempt.is_named:
             message = b'Subject: refused\n\n%d to %b: %d %b\n' % (attempt.entry, recipient, reply.code, reply.lines[0].encode())
             if not (await self.list.deliver(b'', sender, message)).is_answer:
                 return False
-        await self.list.notes.hand(attempt.entry, attempt.mark, [recipient])
+        await attempt.kept.hand(attempt.entry, attempt.mark, [recipient])
         return True

@@ -157,10 +157,18 @@ class MailingList:
     async def work_once(self) -> None:
         batch = self.take()
         try:
-            opened = await self.begin()
-            await self.give(opened, [mail for mail in batch if mail.is_wanted()])
+            await self.serve(batch)
         except Exception as error:
             await self.fail(batch, error)
+
+    async def serve(self, batch: list[mails.Mail]) -> None:
+        """Gives the list these mails, and what else it is to be told."""
+        opened = await self.begin()
+        await self.give(opened, [mail for mail in batch if mail.is_wanted()])
+
+    def copies(self) -> notes.Copies | None:
+        """Where it is kept which copies were handed on, or None while this host hands nothing on."""
+        return self.notes
 
     def take(self) -> list[mails.Mail]:
         """The first mails that wait, as many as one run gets."""

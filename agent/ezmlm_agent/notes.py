@@ -11,7 +11,7 @@ import pathlib
 import sqlite3
 import time
 from collections.abc import Callable, Collection, Iterable, Sequence
-from typing import Any
+from typing import Any, Protocol
 
 from . import aside
 
@@ -42,6 +42,23 @@ def address(path: pathlib.Path) -> Address | None:
             return row
     except sqlite3.Error:
         return None
+
+
+class Copies(Protocol):
+    """Which copies of the entries of a list's outgoing queue were handed on, so that none is twice.
+
+    `Notes` keeps them in a file of this host, with the numbers of the list's mails, for a list that one host alone has.
+    `handed.Handed` keeps them in the history of a list that several hosts have, for one term in which this host hands on; the numbers of mails
+    stand in the history too. What can't be kept is an error, and nothing more is handed on then."""
+
+    def handed_before(self, entry: int, mark: bytes) -> Collection[bytes]:
+        """To whom this entry was handed on. `mark` is the hash of what the entry is."""
+
+    async def hand(self, entry: int, mark: bytes, recipients: Sequence[bytes]) -> None:
+        """Keeps that an entry was handed on to these. In memory it holds at once, also where it can't be kept for good."""
+
+    async def write(self) -> None:
+        """Keeps what couldn't be kept before. It comes before each transaction."""
 
 
 class Damaged(sqlite3.DatabaseError):
@@ -163,6 +180,10 @@ class Notes:
     def forget_copies(self, run: Execute, entries: Iterable[int]) -> None:
         for entry in entries:
             run('DELETE FROM handed WHERE entry = ?', (entry,))
+
+    async def known(self) -> dict[bytes, tuple[int, int]]:
+        """The mails by their keys: the number of each, and when it came first."""
+        return {key: (number, first) for key, number, first in await self.change(lambda run: run('SELECT key, number, first FROM mail').fetchall())}
 
     async def forget(self, keys: Sequence[bytes], behind: int) -> None:
         """The mails of these keys get new numbers where they come again, and none below `behind`."""

@@ -106,8 +106,8 @@ class Queue:
 
     async def begin(self) -> bool:
         """Begins with the entries that are due and have room in memory. The answer is whether there are any."""
-        if self.list.notes is None:  # A list that has nothing to do isn't begun with.
-            if await self.list.aside(folder.has_work, self.folder):
+        if self.list.copies() is None:  # A list that has nothing to do isn't begun with.
+            if self.list.notes is None and await self.list.aside(folder.has_work, self.folder):
                 self.list.wake.set()
             return False
         due = self.due(await self.list.aside(folder.queue, self.folder))

@@ -4,6 +4,7 @@ import configparser
 import dataclasses
 import ipaddress
 import pathlib
+import re
 import socket
 from collections.abc import Callable, Mapping
 from typing import Any
@@ -40,6 +41,20 @@ def asked(text: str) -> str:
     return text
 
 
+def named(text: str) -> str:
+    """The name of a host. Another text is a ValueError."""
+    if re.fullmatch('[A-Za-z0-9._-]{1,60}', text) is None:
+        raise ValueError('host is no name of letters, digits, dots, hyphens and underscores, 60 at most')
+    return text
+
+
+def standbys(text: str) -> str:
+    """One of the words of standby. Another word is a ValueError."""
+    if text not in ('quorum', 'none'):
+        raise ValueError(f'{text} is neither quorum nor none')
+    return text
+
+
 def setting(read: Callable[[str], Any], default: Any = dataclasses.MISSING) -> Any:
     """A setting: what reads its text, and its value where there is no line of it."""
     return dataclasses.field(default=default, metadata={'read': read})
@@ -65,6 +80,10 @@ class Settings:
     policy: str = setting(str, '')              # where Postfix asks what a list refuses by the envelope: as listen, or nowhere
     sends_from: tuple[str, ...] = setting(senders, ())  # the transfer agent's addresses as the world sees them; for --check
     resolver: str = setting(asked, '')          # whom --check asks: ADDRESS or ADDRESS:PORT; without it those of /etc/resolv.conf
+    history: str = setting(str, '')             # PostgreSQL's servers, as libpq has them, if other hosts have the same lists
+    host: str = setting(named, '')              # how this host is called among them
+    standby: str = setting(standbys, 'quorum')  # none: the history is on one server alone
+    takeover: int = setting(int, 10)            # seconds until another host hands on in the place of one that is gone
     by_list: Mapping[str, sections.Section] = dataclasses.field(default_factory=dict)  # settings of single lists, by their folders' names
 
 
@@ -101,6 +120,11 @@ def check(chosen: Settings) -> None:
     for name in ('batch', 'connections', 'runs', 'memory', 'keep_days', 'patience'):
         if getattr(chosen, name) < 1:
             raise ValueError(f'{name} is below 1')
+    if chosen.takeover < 2:
+        raise ValueError('takeover is below 2')
+    if bool(chosen.history) != bool(chosen.host):
+        raise ValueError('history and host belong together: with history each host has a name of its own' if chosen.history else
+                         'host is how this host is called among those that have the same history, and there is no history')
     endpoint(chosen.mta)
     if chosen.replies < 0:
         raise ValueError('replies is below 0')

@@ -1,0 +1,225 @@
+"""A list that several hosts have: each gives its own copy what the list's history has, and one of them hands on what it sends."""
+
+import asyncio
+import dataclasses
+import functools
+import hashlib
+import logging
+import pathlib
+import time
+
+from . import folder, handed, history, leading, mailing, mails, notes, program, retrying, servers, trouble
+
+log = logging.getLogger('ezmlm-agent')
+
+
+@dataclasses.dataclass(frozen=True)
+class State:
+    """What a copy of a list is: the number of the first item that it hasn't answered, its floor, its configuration, and a hash of its keys."""
+    place: int
+    floor: int
+    config: bytes
+    key: bytes
+
+
+def state_of(path: pathlib.Path) -> State:
+    """Reads a list's folder, while nothing else has it."""
+    key = hashlib.sha256(folder.bytes_or_none(path / 'key') or b'').digest()
+    return State(max(notes.FIRST, folder.behind_answers(path)), folder.floor(path), folder.bytes_or_none(path / 'config') or b'', key)
+
+
+class SharedList(mailing.MailingList):
+    """Where this host stands is read from the list before each run. Mail goes into the history, and is answered when this list answers it."""
+
+    def __init__(self, path: pathlib.Path, shared: mails.Shared, past: history.History, lead: leading.Leading) -> None:
+        super().__init__(path, shared)
+        self.past, self.lead = past, lead
+        self.is_taken_up = False
+        self.place = self.next = 0  # the first item that the list hasn't answered, and the next that its history gets
+        self.waits: dict[int, list[tuple[mails.Mail, bytes]]] = {}  # mails that wait for the answers of items, with their keys
+        self.configured_at, self.config = -1, b''  # the configuration that holds here, and from which item on
+        self.key: bytes | None = None  # the hash of the keys after the last run, where it is known
+        self.kept: handed.Handed | None = None  # in this term, or the last
+        self.reporting: set[int] = set()  # entries of which the history has the report since this term began
+        self.answers: list[tuple[int, str]] = []  # of operators' items, until they are noted
+
+    def start(self) -> None:
+        super().start()
+        self.wake.set()
+
+    def hear(self, number: int) -> None:
+        """The next item of the history has this number; or, with 0, this host begins or ends to hand on."""
+        self.next = max(self.next, number)
+        if number == 0 or number > self.place:
+            self.wake.set()
+
+    def copies(self) -> notes.Copies | None:
+        return self.kept if self.kept is not None and self.kept.term.holds() else None
+
+    async def serve(self, batch: list[mails.Mail]) -> None:
+        try:
+            await self.proceed([mail for mail in batch if mail.is_wanted()])
+        except servers.Unfit as error:
+            raise self.refused('it can\'t go by its history', str(error)) from error
+        except servers.Lost as error:
+            raise self.refused('its history can\'t be reached', str(error)) from error
+
+    def refused(self, what: str, advice: str) -> retrying.Refused:
+        return retrying.Refused(what, trouble.Cause(what, self.past.lines.servers.shown(), advice))
+
+    async def proceed(self, batch: list[mails.Mail]) -> None:
+        """Puts mails and what else there is into the history, and gives the list what the history has."""
+        opened = await self.begin()
+        state = await self.reading(state_of)
+        self.place = state.place
+        if not self.is_taken_up:
+            await self.take_up(opened, state)
+        await self.look_at(state)
+        await self.take_lead()
+        self.load = mails.Load(time.monotonic() + mailing.OPEN)
+        if items := await self.step(batch):
+            await self.run(opened, items)
+        else:
+            self.health.works()
+        if self.load.stale:
+            await self.past.forget(self.name, self.load.stale)
+        await self.note_answers()
+        await self.forget_copies()
+        self.lead.want(self.name, self.health.cause is None)
+        if self.next > self.place and self.health.cause is None:
+            self.wake.set()
+
+    async def fail(self, batch: list[mails.Mail], error: Exception) -> None:
+        self.lead.want(self.name, False)
+        await super().fail(batch, error)
+
+    # This host's copy.
+
+    async def take_up(self, opened: notes.Notes, state: State) -> None:
+        """Takes the list up, with the mails and copies that this host alone knew where it has no history yet."""
+        address = await self.aside(folder.address, self.folder)
+        assert address
+        known = await opened.known()
+        answered = await self.reading(lambda path: folder.answered(path, [number for number, _ in known.values()]))
+        kept = {key: row for key, row in known.items() if row[0] in answered}
+        copies = [(entry, mark, b'\0'.join(recipients)) for (entry, mark), recipients in opened.handed.items()]
+        await self.past.take_up(self.name, address, state.place, state.floor, state.config, state.key, kept, copies)
+        self.is_taken_up = True
+
+    async def look_at(self, state: State) -> None:
+        """Looks whether the configuration and the keys are those that the history has made, and lays in a configuration that begins here."""
+        if self.key not in (None, state.key):
+            raise retrying.Refused('the key', trouble.Cause('its key was changed by hand on this host', self.folder / 'key', 'put the file of '
+                                                            'another host\'s copy in its place; a new key is given by ezmlm-agent --give'))
+        if state.config != self.config or self.configured_at < 0:
+            (at, config), *former = await self.past.configurations(self.name, self.place)
+            if state.config != config:
+                if at != self.place or state.config not in [text for _, text in former]:
+                    raise retrying.Refused('the configuration', await self.changed_by_hand(config))
+                await self.reading(lambda path: folder.replace(path / 'config', config))
+                log.info('%s: it has a new configuration', self.name)
+            self.configured_at, self.config = at, config
+        self.key = state.key
+
+    async def changed_by_hand(self, config: bytes) -> trouble.Cause:
+        """Keeps the configuration that the history has beside this host's notes, and says so."""
+        path = self.settings.state / f'{self.folder.name}.config'
+        await self.threads.call('notes', folder.replace, path, config, seconds=None)
+        return trouble.Cause('its configuration was changed by hand on this host', self.folder / 'config', f'put back the one that all hosts have, '
+                             f'{path}, and give the new one to all by ezmlm-agent --configure')
+
+    async def take_lead(self) -> None:
+        """Begins a term in which this host hands on, or ends one."""
+        term = self.lead.term(self.name)
+        if self.kept is not None and self.kept.term is term or term is None and not self.reporting and self.kept is None:
+            return
+        self.reporting = set()
+        self.queue.handed_on.clear()
+        if term is None:
+            return
+        self.kept = handed.Handed(self.past, self.name, term, await self.past.handed(self.name), self.kept)
+        self.is_due = self.is_due or time.time() - await self.past.timed_at(self.name) >= mailing.HOUR
+        log.info('%s: this host hands on', self.name)
+
+    # Items.
+
+    async def step(self, batch: list[mails.Mail]) -> list[program.Item]:
+        """Puts mails, reports and a timed run into the history. The answer is items for the list: repeats, and those behind its place."""
+        is_leading = self.copies() is not None
+        sent = self.queue.handed_on - self.reporting if is_leading else set()
+        is_timed = self.is_due = self.is_due and is_leading and not self.stopping
+        keys = [mail.key() for mail in batch]
+        adds = history.Adds([(key, functools.partial(spelled, mail)) for key, mail in zip(keys, batch)], sorted(sent),
+                            int(time.time()) - self.settings.keep_days * mailing.DAY if is_timed else None)
+        told = await self.past.proceed(self.name, self.place, self.key, adds, mails.MOST_MAILS, mails.MOST_BYTES)
+        self.next = told.next
+        self.reporting |= sent
+        self.is_due = self.is_due and not is_timed
+        self.load.mails += max(len(batch), len(told.rows))
+        self.load.size += max(sum(len(mail.message) for mail in batch), sum(len(row.text) for row in told.rows))
+        for mail, key, number in zip(batch, keys, told.numbers):
+            mail.number = number
+            self.waits.setdefault(number, []).append((mail, key))
+        items = self.repeats() + [program.Item(row.text, functools.partial(self.answered, row)) for row in told.again]
+        if told.configured != self.configured_at:  # It is laid in between two runs.
+            self.configured_at, self.load.until = -1, 0
+            return items
+        return items + [program.Item(row.text, functools.partial(self.answered, row)) for row in told.rows]
+
+    def repeats(self) -> list[program.Item]:
+        """Items of the mails that wait for what the list has answered before: it tells its answer again."""
+        again = [(number, *wait) for number in sorted(self.waits) if number < self.place for wait in self.waits[number]]
+        self.waits = {number: waits for number, waits in self.waits.items() if number >= self.place}
+        return [program.Item(spelled(mail, number, int(time.time())), functools.partial(self.delivered, mail, key), mail.is_wanted)
+                for number, mail, key in again if mail.is_wanted()]
+
+    def answered(self, row: history.Row, answer: program.Answer) -> None:
+        """An item of the history has an answer, or why it has none."""
+        if answer.is_answer:
+            self.place = max(self.place, row.number + 1)
+            if row.is_given:
+                self.answers.append((row.number, f'{answer.status} {answer.words}'))
+            match row.text[:1]:
+                case b'S':
+                    self.reported(int(program.netstrings(row.text[1:])[2]), answer)
+                case b'K':
+                    self.key = None
+                case b'T' | b'F':
+                    log.info('%s: %d %s', self.name, answer.status, answer.words)
+        for mail, key in self.waits.pop(row.number, ()):
+            self.delivered(mail, key, answer)
+
+    async def more(self, opened: notes.Notes) -> list[program.Item]:
+        """What came into the history while a run goes, and mails that came meanwhile, which are put into it, for a second at most."""
+        if not self.waiting and self.next <= self.place:
+            await asyncio.sleep(mailing.GATHERING[0])
+        if self.stopping or self.load.is_full() or not self.waiting and self.next <= self.place:
+            return []
+        batch = self.take()
+        try:
+            return await self.step([mail for mail in batch if mail.is_wanted()])
+        except Exception as error:
+            await self.fail(batch, error)
+            return []
+
+    async def joining(self, opened: notes.Notes) -> list[program.Item]:
+        """What waits for the next run where another run has the list."""
+        return []
+
+    async def note_answers(self) -> None:
+        """Notes the answers for which operators wait."""
+        answers, self.answers = self.answers, []
+        if answers:
+            await self.past.answer(self.name, answers)
+
+    async def forget_copies(self) -> None:
+        """Forgets the copies of entries that left the queue."""
+        left = frozenset(self.queue.left)
+        if left and self.kept is not None and self.copies() is not None:
+            await self.kept.forget(left)
+        self.queue.left -= left
+
+
+def spelled(mail: mails.Mail, number: int, moment: int) -> bytes:
+    """The item of a mail."""
+    return program.item(b'D', number, moment, mail.sender, mail.recipient, mail.message)

@@ -1,0 +1,45 @@
+"""What an agent has beside its lists where other hosts have the same."""
+
+import asyncio
+import logging
+import pathlib
+from collections.abc import Callable, Iterable
+
+from . import following, history, leading, mailing, mails, servers, settings
+
+log = logging.getLogger('ezmlm-agent')
+
+
+class Hosts:
+    """The histories of the lists, and for which of them this host hands on."""
+
+    def __init__(self, chosen: settings.Settings, lists: Callable[[], Iterable[mailing.MailingList]]) -> None:
+        """`lists` are those that are served. Wrong settings are a ValueError."""
+        self.servers = servers.Servers(chosen.history, chosen.host, chosen.standby, chosen.takeover)
+        self.servers.said = log.warning
+        self.past = history.History(servers.Lines(self.servers))
+        self.lists = lists
+        self.lead = leading.Leading(self.past, self.told)
+
+    async def begin(self) -> None:
+        """Begins when the servers were asked for the first time. It is Unfit if they can't keep the history; where they aren't there yet mail
+        waits."""
+        self.lead.start()
+        await self.lead.first
+
+    def take_up(self, folder: pathlib.Path, shared: mails.Shared) -> mailing.MailingList:
+        return following.SharedList(folder, shared, self.past, self.lead)
+
+    def told(self, name: str | None, number: int) -> None:
+        """A list's history grew, or this host begins or ends to hand on for it; with None, for all."""
+        for found in self.lists():
+            if isinstance(found, following.SharedList) and name in (None, found.name):
+                found.hear(number)
+
+    def look(self) -> None:
+        """Has each list look at its history."""
+        self.told(None, 0)
+
+    async def stop(self) -> None:
+        await asyncio.to_thread(self.lead.stop)
+        self.past.lines.close()

@@ -1,0 +1,152 @@
+"""Which lists this host hands on for: one host does for each list, by a lock that ends with its connection to the servers."""
+
+import asyncio
+import contextlib
+import logging
+import select
+import threading
+import time
+from collections.abc import Callable
+
+from . import history, servers
+
+log = logging.getLogger('ezmlm-agent')
+BEATS = 4     # times in `takeover` seconds that the server hears of a host
+LONGEST = 1.0  # seconds between two of them
+
+
+def clock() -> float:
+    """Seconds that go on also while the machine sleeps."""
+    return time.clock_gettime(time.CLOCK_BOOTTIME)
+
+
+class Term:
+    """A time for which this host hands on what a list sends. It ends with the lock, and nothing of it goes on in a later one."""
+
+    def __init__(self, leading: 'Leading', name: str) -> None:
+        self.leading, self.name = leading, name
+
+    def holds(self) -> bool:
+        """Whether no other host can have the lock. The server ends a connection of which it heard nothing for `takeover` seconds; so a host that
+        stood still for longer sees by its clock that it lost it, before it hears so."""
+        return self.leading.terms.get(self.name) is self and clock() < self.leading.until
+
+
+class Leading:
+    """A connection of its own, in a thread, that has the locks and hears what is put into histories. `told` gets names of lists: those whose
+    history grew with the number that comes next, and those whose lock came or went, or all (None), with 0."""
+
+    def __init__(self, past: history.History, told: Callable[[str | None, int], object]) -> None:
+        self.past, self.servers = past, past.lines.servers
+        self.told = told
+        self.loop = asyncio.get_running_loop()
+        self.wanted: frozenset[str] = frozenset()
+        self.terms: dict[str, Term] = {}
+        self.until = 0.0
+        self.pause = min(LONGEST, self.servers.takeover / BEATS)
+        self.is_there = False    # whether the servers are
+        self.first: asyncio.Future[None] = self.loop.create_future()  # what came of the first try
+        self.heard: list[str] = []
+        self.is_ending = threading.Event()
+        self.thread = threading.Thread(target=self.work, daemon=True)
+
+    def start(self) -> None:
+        self.thread.start()
+
+    def stop(self) -> None:
+        """Gives all locks back."""
+        self.is_ending.set()
+        self.thread.join(2 * self.pause)
+
+    def want(self, name: str, is_wanted: bool) -> None:
+        """Whether this host would hand on for a list. One whose list can't be served lets others do it."""
+        if (name in self.wanted) != is_wanted:
+            self.wanted = self.wanted | {name} if is_wanted else self.wanted - {name}
+
+    def term(self, name: str) -> Term | None:
+        """The time for which this host hands on, if it does now."""
+        term = self.terms.get(name)
+        return term if term is not None and term.holds() else None
+
+    # In the thread.
+
+    def tell(self, name: str | None, number: int = 0) -> None:
+        with contextlib.suppress(RuntimeError):  # The loop is closed where the agent has ended meanwhile.
+            self.loop.call_soon_threadsafe(self.told, name, number)
+
+    def settle(self, error: Exception | None) -> None:
+        """The first try ended. Only servers that aren't fit end the agent."""
+        def settle() -> None:
+            if not self.first.done():
+                if isinstance(error, servers.Unfit):
+                    self.first.set_exception(error)
+                else:
+                    self.first.set_result(None)
+        with contextlib.suppress(RuntimeError):
+            self.loop.call_soon_threadsafe(settle)
+
+    def work(self) -> None:
+        said = ''
+        while not self.is_ending.is_set():
+            try:
+                with contextlib.closing(self.servers.connect(idle=True)) as connection:
+                    self.begin(connection)
+                    if said:
+                        log.info('the history can be reached again')
+                        said = ''
+                    while not self.is_ending.is_set():
+                        self.beat(connection)
+            except Exception as error:  # Whatever it is, it is tried again.
+                words = servers.words_of(error)
+                if words != said:
+                    log.error('the history can\'t be reached, and mail waits: %s', words)
+                said = words
+                self.settle(error)
+            self.lose()
+            self.is_ending.wait(self.pause)
+
+    def begin(self, connection: servers.Connection) -> None:
+        """Waits until no connection of this host's name is left from before, and hears from then on what is put into histories."""
+        name, end = f'host {self.servers.host}', clock() + 3 * self.servers.takeover
+        while not self.past.take(connection, [name]):
+            if clock() > end:
+                raise servers.Unfit(f'another agent calls itself host = {self.servers.host}')
+            self.is_ending.wait(self.pause)
+        connection.add_notify_handler(lambda notify: self.heard.append(notify.payload))
+        self.past.listen(connection)
+        self.past.prepare(connection)
+        self.is_there = True
+        self.settle(None)
+        self.tell(None)
+
+    def beat(self, connection: servers.Connection) -> None:
+        """Asks for the locks that are wanted, and then waits for what is told."""
+        begun = clock()
+        wanted = self.wanted
+        taken = self.past.take(connection, [f'list {name}' for name in wanted - self.terms.keys()])
+        for key in taken:
+            name = key.removeprefix('list ')
+            self.terms[name] = Term(self, name)
+        self.until = begun + self.servers.takeover
+        for key in taken:
+            self.tell(key.removeprefix('list '))
+        for name in self.terms.keys() - wanted:
+            del self.terms[name]
+            self.past.release(connection, f'list {name}')
+            self.tell(name)
+        if select.select([connection.fileno()], [], [], self.pause)[0]:
+            connection.pgconn.consume_input()
+        while notify := connection.pgconn.notifies():
+            self.heard.append(notify.extra.decode())
+        heard, self.heard = self.heard, []
+        for name, number in {text.partition(' ')[2]: text.partition(' ')[0] for text in heard}.items():  # A list's last number is enough.
+            self.tell(name, int(number))
+
+    def lose(self) -> None:
+        """Has no lock any more."""
+        was_there, self.is_there = self.is_there, False
+        self.terms = {}
+        self.until = 0.0
+        self.past.lines.close()
+        if was_there:
+            self.tell(None)

@@ -1,0 +1,191 @@
+"""Connections to the PostgreSQL servers that keep the histories of lists."""
+
+import asyncio
+import contextlib
+import os
+import select
+import socket
+import time
+from collections.abc import Callable
+from typing import Any, TypeAlias, TypeVar
+
+import psycopg
+from psycopg import conninfo
+
+from . import aside, wire
+
+Result = TypeVar('Result')
+Connection: TypeAlias = 'psycopg.Connection[tuple[Any, ...]]'
+Cursor: TypeAlias = 'psycopg.Cursor[tuple[Any, ...]]'
+MOST = 4      # connections for calls, at once
+SKEW = 60     # seconds by which the clocks of a host and of the servers may differ
+OLDEST = 140000  # of PostgreSQL: idle_session_timeout came with 14
+FLUSHED = 'on', 'remote_apply'  # values of synchronous_commit by which a standby has what is committed on its disk
+STATE = '''SELECT current_setting('synchronous_commit'), current_setting('synchronous_standby_names'),
+    current_setting('server_version_num')::int, extract(epoch FROM clock_timestamp())::float8'''
+
+
+class Lost(Exception):
+    """No server can be reached that takes changes, or it stopped answering. What was to be changed may be changed or not."""
+
+
+class Unfit(Lost):
+    """The servers can be reached, and can't keep the history, or not this one: the words say why."""
+
+
+def each(servers: str) -> list[dict[str, Any]]:
+    """The parameters of each server that a connection string of several hosts names. A wrong string is a ValueError.
+
+    libpq goes through them itself, but has no limit on the time for one of them when it is called as psycopg calls it."""
+    try:
+        given = conninfo.conninfo_to_dict(servers)
+    except psycopg.Error as error:
+        raise ValueError(f'history is no connection string: {words_of(error)}') from error
+    parts = {name: str(given.pop(name)).split(',') for name in ('host', 'hostaddr', 'port') if given.get(name)}
+    many = max((len(words) for name, words in parts.items() if name != 'port'), default=1)
+    if any(len(words) not in (1, many) for words in parts.values()):
+        raise ValueError('history names hosts and ports, and not as many of the one as of the other')
+    return [{**given, **{name: words[at % len(words)] for name, words in parts.items()}} for at in range(many)]
+
+
+def words_of(error: BaseException) -> str:
+    """What an error of the servers says, in one line."""
+    return wire.printable(' '.join(str(error).split())) or type(error).__name__
+
+
+class Servers:
+    """How connections are opened: each server is tried in turn, and one that takes changes is taken."""
+
+    def __init__(self, servers: str, host: str, standby: str, takeover: int) -> None:
+        self.rows, self.host, self.standby, self.takeover = each(servers), host, standby, takeover
+        self.said: Callable[[str], object] = lambda why: None  # is told what is odd, and no reason to end
+        self.first = 0  # the server that was taken last
+
+    def shown(self) -> str:
+        """The servers by host and port, as the log names them."""
+        return wire.printable(', '.join(f'{row.get("host") or row.get("hostaddr") or "a local socket"}:{row.get("port", 5432)}' for row in self.rows))
+
+    def connect(self, idle: bool = False) -> Connection:
+        """A connection. `idle` is whether the server ends it when it hears nothing for `takeover` seconds. It is Lost if there is no server, and
+        Unfit if one is there that isn't as it has to be."""
+        whys = []
+        for at in [*range(self.first, len(self.rows)), *range(self.first)]:
+            try:
+                connection = psycopg.Connection.connect(self.parameters(self.rows[at], idle), autocommit=True)
+            except psycopg.Error as error:
+                whys.append(words_of(error))
+                continue
+            try:
+                self.look(connection)
+            except BaseException:
+                connection.close()
+                raise
+            self.first = at
+            return connection
+        raise Lost('; '.join(whys))
+
+    def parameters(self, row: dict[str, Any], idle: bool) -> str:
+        seconds, milliseconds = max(2, self.takeover // 3), 1000 * self.takeover
+        limits = {'idle_in_transaction_session_timeout': milliseconds, 'lock_timeout': milliseconds, 'tcp_user_timeout': milliseconds,
+                  'client_connection_check_interval': 1000} | ({'idle_session_timeout': milliseconds} if idle else {})
+        options = ' '.join([str(row.get('options') or ''), *(f'-c {name}={value}' for name, value in limits.items())])
+        more = {'connect_timeout': seconds, 'keepalives': 1, 'keepalives_idle': seconds, 'keepalives_interval': max(1, seconds // 3),
+                'keepalives_count': 3, 'tcp_user_timeout': milliseconds, 'target_session_attrs': 'read-write',
+                'application_name': f'ezmlm-agent {self.host}', 'options': options.strip()}
+        return conninfo.make_conninfo(**{**row, **more})
+
+    def look(self, connection: Connection) -> None:
+        """Looks whether what is committed here outlives the server."""
+        try:
+            row = connection.execute(STATE).fetchone()
+        except psycopg.Error as error:
+            raise Lost(words_of(error)) from error
+        assert row is not None
+        commit, names, version, clock = row
+        if version < OLDEST:
+            raise Unfit(f'the server is PostgreSQL {version // 10000}, and 14 is the oldest that can keep a history')
+        if commit == 'off' or self.standby != 'none' and commit not in FLUSHED:
+            raise Unfit(f'synchronous_commit is {commit} on the server, by which an answer is given before the mail is on a disk: it has to be on')
+        if self.standby != 'none' and not names:
+            raise Unfit('the server has no synchronous standby (synchronous_standby_names is empty), so a mail that was answered may be lost with '
+                        'its disk; if that is what you want say standby = none')
+        if abs(time.time() - clock) > SKEW:
+            self.said(f'the clocks of this host and of the server differ by {abs(time.time() - clock):.0f} seconds')
+
+
+class Job:
+    """One call over a connection, in a thread."""
+
+    def __init__(self, lines: 'Lines', call: Callable[..., Any], words: tuple[Any, ...]) -> None:
+        self.lines, self.do, self.words = lines, call, words
+        self.connection: Connection | None = None
+        self.warning = ''
+
+    def run(self) -> Any:
+        connection = self.lines.taken()
+        self.connection = connection
+        connection.add_notice_handler(self.noticed)
+        try:
+            with connection.transaction(), connection.cursor() as cursor:
+                result = self.do(cursor, *self.words)
+        except psycopg.Error as error:
+            connection.close()
+            raise (Unfit if isinstance(error, psycopg.errors.InsufficientPrivilege) else Lost)(words_of(error)) from error
+        except BaseException:
+            connection.close()
+            raise
+        connection.remove_notice_handler(self.noticed)
+        if self.warning:
+            # PostgreSQL answers a commit also when it gave up to wait for a standby. Then it may be lost with the server.
+            connection.close()
+            raise Lost(self.warning)
+        self.lines.idle.append(connection)
+        return result
+
+    def noticed(self, notice: psycopg.errors.Diagnostic) -> None:
+        if notice.severity_nonlocalized == 'WARNING':
+            self.warning = wire.printable(notice.message_primary or 'a warning')
+
+    def cut(self) -> None:
+        """Ends the connection under a call that takes too long, so that its thread ends."""
+        if self.connection is not None:
+            with contextlib.suppress(psycopg.Error, OSError), socket.socket(fileno=os.dup(self.connection.fileno())) as ended:
+                ended.shutdown(socket.SHUT_RDWR)
+
+
+class Lines:
+    """Connections for calls, each of which is one transaction."""
+
+    def __init__(self, servers: Servers) -> None:
+        self.servers = servers
+        self.idle: list[Connection] = []
+        self.turns = asyncio.Semaphore(MOST)
+
+    async def call(self, call: Callable[..., Result], *words: Any) -> Result:
+        """What a call answers that gets a cursor. It is Lost if the servers are, or that takes longer than twice `takeover`."""
+        async with self.turns:
+            job = Job(self, call, words)
+            future: asyncio.Future[Result] = asyncio.get_running_loop().create_future()
+            future.add_done_callback(lambda ended: ended.cancelled() or ended.exception())  # Nobody may ask for it any more.
+            aside.begin((future, job.run, ()))
+            done, _ = await asyncio.wait([future], timeout=2 * self.servers.takeover)
+            if not done:
+                job.cut()
+                raise Lost(f'a call took longer than {2 * self.servers.takeover} seconds, as when no standby confirms')
+            return future.result()
+
+    def taken(self) -> Connection:
+        """A connection at which nothing came since it was used last, or a new one."""
+        while self.idle:
+            try:
+                connection = self.idle.pop()
+            except IndexError:
+                break
+            if not connection.closed and not select.select([connection.fileno()], [], [], 0)[0]:
+                return connection
+            connection.close()
+        return self.servers.connect()
+
+    def close(self) -> None:
+        while self.idle:
+            self.idle.pop().close()
