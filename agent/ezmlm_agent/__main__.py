@@ -20,10 +20,10 @@ if TYPE_CHECKING:
 
 log = logging.getLogger('ezmlm-agent')
 LOOKS = 60  # seconds between two looks for lists
+ORDERS = 'give', 'configure', 'forget_host'  # what operators ask of lists on several hosts
 ENDING = 60  # seconds until what is in hand at the end is left as it is
 DESCRIPTORS = 65536
 SWITCH = 0.0005  # seconds: threads wait for runs of the program and for the disk, and each is soon served
-WRONG = 78  # EX_CONFIG of sysexits.h: settings that are wrong, for which systemd doesn't start the agent again
 
 
 class Shown(logging.Formatter):
@@ -120,9 +120,18 @@ def hosts_of(chosen: settings.Settings, lists: Callable[[], Iterable[mailing.Mai
 def words_of(words: list[str]) -> argparse.Namespace:
     parser = argparse.ArgumentParser(prog='ezmlm-agent', description='Gives the lists of a host their mail, and hands on what they send.')
     parser.add_argument('--check', action='store_true', help='look whether the settings, the lists and the transfer agent are in order, and end')
+    ways = parser.add_mutually_exclusive_group()
+    ways.add_argument('--give', nargs=2, metavar=('SETTINGS', 'LIST'), help='give a list that several hosts have the items of standard input')
+    ways.add_argument('--configure', nargs=3, metavar=('SETTINGS', 'LIST', 'FILE'), help='give a list that several hosts have a configuration')
+    ways.add_argument('--forget-host', nargs=2, metavar=('SETTINGS', 'NAME'), help='forget a host that is gone for good')
     parser.add_argument('--version', action='version', version=f'ezmlm-agent {VERSION}')
-    parser.add_argument('settings', metavar='SETTINGS', help='a file of settings; ezmlm-agent(8) tells what is in it')
-    return parser.parse_args(words)
+    parser.add_argument('settings', metavar='SETTINGS', nargs='?', help='a file of settings; ezmlm-agent(8) tells what is in it')
+    asked = parser.parse_args(words)
+    asked.order, given = next(((name, rest) for name in ORDERS if (rest := getattr(asked, name))), ('', []))
+    if bool(given) == (asked.settings is not None) or given and asked.check:
+        parser.error('SETTINGS come once, and one word before them at most')
+    asked.settings, asked.rest = (given[0], given[1:]) if given else (asked.settings, [])
+    return asked
 
 
 def main(words: list[str]) -> NoReturn:
@@ -134,7 +143,9 @@ def main(words: list[str]) -> NoReturn:
         chosen = settings.read(asked.settings)
     except ValueError as error:
         print(f'ezmlm-agent: {error}', file=sys.stderr)
-        sys.exit(WRONG)
+        sys.exit(settings.WRONG)
+    if asked.order:
+        sys.exit(ordered(chosen, asked.order, asked.rest))
     if asked.check:
         sys.exit(asyncio.run(check.check(chosen)))
     os.umask(0o077)
@@ -144,6 +155,32 @@ def main(words: list[str]) -> NoReturn:
     with alone(chosen.state):
         asyncio.run(run(chosen))
     sys.exit(0)
+
+
+def ordered(chosen: settings.Settings, order: str, words: list[str]) -> int:
+    """Does what an operator asks of a list on several hosts. The answer is the status."""
+    try:
+        from . import giving, servers
+    except ModuleNotFoundError as error:
+        print(f'ezmlm-agent: this wants the package python3-psycopg: {error}', file=sys.stderr)
+        return settings.WRONG
+    try:
+        match order:
+            case 'give':
+                return asyncio.run(giving.give(chosen, words[0], sys.stdin.buffer))
+            case 'configure':
+                return asyncio.run(giving.configure(chosen, words[0], words[1]))
+            case _:
+                return asyncio.run(giving.forget_host(chosen, words[0]))
+    except giving.Refused as error:
+        print(f'ezmlm-agent: {error}', file=sys.stderr)
+        return error.status
+    except servers.Lost as error:
+        print(f'ezmlm-agent: the history can\'t be reached, or changed: {error}', file=sys.stderr)
+        return giving.LATER
+    except ValueError as error:
+        print(f'ezmlm-agent: {error}', file=sys.stderr)
+        return settings.WRONG
 
 
 def alone(state: pathlib.Path) -> TextIO:
@@ -164,7 +201,7 @@ async def run(chosen: settings.Settings) -> None:
         agent = Agent(chosen)
     except ValueError as error:
         print(f'ezmlm-agent: {error}', file=sys.stderr)
-        sys.exit(WRONG)
+        sys.exit(settings.WRONG)
     await agent.run()
     if any(found.is_stuck() for found in agent.lists.served.values()):
         # Python would wait for them: tasks that can't be cancelled, and the program's runs that can't be killed.

@@ -8,7 +8,7 @@ import logging
 import pathlib
 import time
 
-from . import folder, handed, history, leading, mailing, mails, notes, program, retrying, servers, trouble
+from . import folder, handed, history, leading, mailing, mails, notes, program, retrying, rows, servers, trouble
 
 log = logging.getLogger('ezmlm-agent')
 
@@ -149,7 +149,7 @@ class SharedList(mailing.MailingList):
         sent = self.queue.handed_on - self.reporting if is_leading else set()
         is_timed = self.is_due = self.is_due and is_leading and not self.stopping
         keys = [mail.key() for mail in batch]
-        adds = history.Adds([(key, functools.partial(spelled, mail)) for key, mail in zip(keys, batch)], sorted(sent),
+        adds = rows.Adds([(key, functools.partial(spelled, mail)) for key, mail in zip(keys, batch)], sorted(sent),
                             int(time.time()) - self.settings.keep_days * mailing.DAY if is_timed else None)
         told = await self.past.proceed(self.name, self.place, self.key, adds, mails.MOST_MAILS, mails.MOST_BYTES)
         self.next = told.next
@@ -173,7 +173,7 @@ class SharedList(mailing.MailingList):
         return [program.Item(spelled(mail, number, int(time.time())), functools.partial(self.delivered, mail, key), mail.is_wanted)
                 for number, mail, key in again if mail.is_wanted()]
 
-    def answered(self, row: history.Row, answer: program.Answer) -> None:
+    def answered(self, row: rows.Row, answer: program.Answer) -> None:
         """An item of the history has an answer, or why it has none."""
         if answer.is_answer:
             self.place = max(self.place, row.number + 1)
@@ -195,7 +195,7 @@ class SharedList(mailing.MailingList):
             await asyncio.sleep(mailing.GATHERING[0])
         if self.stopping or self.load.is_full() or not self.waiting and self.next <= self.place:
             return []
-        batch = self.take()
+        batch = mails.first_of(self.waiting)
         try:
             return await self.step([mail for mail in batch if mail.is_wanted()])
         except Exception as error:

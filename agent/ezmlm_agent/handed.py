@@ -3,18 +3,18 @@
 import asyncio
 from collections.abc import Collection, Sequence
 
-from . import history, leading, servers
+from . import history, leading, rows, servers
 
 
 class Handed:
     """As `notes.Copies` says, for one term in which this host hands on. What it handed on in a term before and couldn't keep it keeps now."""
 
-    def __init__(self, past: history.History, name: str, term: leading.Term, rows: history.Handed, before: 'Handed | None') -> None:
+    def __init__(self, past: history.History, name: str, term: leading.Term, known: rows.Handed, before: 'Handed | None') -> None:
         self.past, self.name, self.term = past, name, term
         self.turn = asyncio.Lock()
         self.unwritten: list[tuple[int, bytes, bytes]] = list(before.unwritten) if before else []
         self.copies: dict[tuple[int, bytes], set[bytes]] = {}
-        for entry, mark, recipients in [*rows, *self.unwritten]:
+        for entry, mark, recipients in [*known, *self.unwritten]:
             self.copies.setdefault((entry, mark), set()).update(recipients.split(b'\0'))
 
     def handed_before(self, entry: int, mark: bytes) -> Collection[bytes]:
@@ -36,13 +36,13 @@ class Handed:
         if not self.unwritten:
             return
         async with self.turn:
-            rows, self.unwritten = self.unwritten, []
-            if not rows:
+            copies, self.unwritten = self.unwritten, []
+            if not copies:
                 return
             try:
-                await self.past.hand(self.name, rows)
+                await self.past.hand(self.name, copies)
             except BaseException:
-                self.unwritten = rows + self.unwritten
+                self.unwritten = copies + self.unwritten
                 raise
 
     async def forget(self, entries: Collection[int]) -> None:

@@ -47,11 +47,21 @@ class Leading:
         self.is_there = False    # whether the servers are
         self.first: asyncio.Future[None] = self.loop.create_future()  # what came of the first try
         self.heard: list[str] = []
+        self.connection: servers.Connection | None = None
+        self.limit = float('inf')  # when what is asked now counts as hanging
         self.is_ending = threading.Event()
         self.thread = threading.Thread(target=self.work, daemon=True)
 
     def start(self) -> None:
         self.thread.start()
+        self.watch()
+
+    def watch(self) -> None:
+        """Ends the connection where a server doesn't answer any more, as on a machine that stands still."""
+        if self.connection is not None and clock() > self.limit:
+            servers.cut(self.connection)
+        if not self.is_ending.is_set():
+            self.loop.call_later(self.pause, self.watch)
 
     def stop(self) -> None:
         """Gives all locks back."""
@@ -89,7 +99,7 @@ class Leading:
         said = ''
         while not self.is_ending.is_set():
             try:
-                with contextlib.closing(self.servers.connect(idle=True)) as connection:
+                with contextlib.closing(self.servers.connect(True, self.has)) as connection:
                     self.begin(connection)
                     if said:
                         log.info('the history can be reached again')
@@ -105,6 +115,10 @@ class Leading:
             self.lose()
             self.is_ending.wait(self.pause)
 
+    def has(self, connection: servers.Connection) -> None:
+        """From here on the connection may be asked."""
+        self.connection, self.limit = connection, clock() + 2 * self.servers.takeover
+
     def begin(self, connection: servers.Connection) -> None:
         """Waits until no connection of this host's name is left from before, and hears from then on what is put into histories."""
         name, end = f'host {self.servers.host}', clock() + 3 * self.servers.takeover
@@ -112,8 +126,10 @@ class Leading:
             if clock() > end:
                 raise servers.Unfit(f'another agent calls itself host = {self.servers.host}')
             self.is_ending.wait(self.pause)
+            self.has(connection)
         connection.add_notify_handler(lambda notify: self.heard.append(notify.payload))
         self.past.listen(connection)
+        self.has(connection)
         self.past.prepare(connection)
         self.is_there = True
         self.settle(None)
@@ -121,6 +137,7 @@ class Leading:
 
     def beat(self, connection: servers.Connection) -> None:
         """Asks for the locks that are wanted, and then waits for what is told."""
+        self.has(connection)
         begun = clock()
         wanted = self.wanted
         taken = self.past.take(connection, [f'list {name}' for name in wanted - self.terms.keys()])
@@ -145,6 +162,7 @@ class Leading:
     def lose(self) -> None:
         """Has no lock any more."""
         was_there, self.is_there = self.is_there, False
+        self.connection, self.limit = None, float('inf')
         self.terms = {}
         self.until = 0.0
         self.past.lines.close()

@@ -155,7 +155,7 @@ class MailingList:
             self.queue.changed.set()
 
     async def work_once(self) -> None:
-        batch = self.take()
+        batch = mails.first_of(self.waiting)
         try:
             await self.serve(batch)
         except Exception as error:
@@ -169,15 +169,6 @@ class MailingList:
     def copies(self) -> notes.Copies | None:
         """Where it is kept which copies were handed on, or None while this host hands nothing on."""
         return self.notes
-
-    def take(self) -> list[mails.Mail]:
-        """The first mails that wait, as many as one run gets."""
-        batch: list[mails.Mail] = []
-        size = 0
-        while self.waiting and len(batch) < mails.MOST_MAILS and (not batch or size + len(self.waiting[0].message) <= mails.MOST_BYTES):
-            batch.append(self.waiting.popleft())
-            size += len(batch[-1].message)
-        return batch
 
     async def aside(self, call: Callable[..., Result], *words: object) -> Result:
         """What a call reads of the list's folder. It is aside.Blocked if it takes too long."""
@@ -247,7 +238,7 @@ class MailingList:
 
     async def joining(self, opened: notes.Notes) -> list[program.Item]:
         """Items of the mails that came meanwhile."""
-        batch = self.take()
+        batch = mails.first_of(self.waiting)
         try:
             return await self.items(opened, batch)
         except Exception as error:

@@ -1,6 +1,7 @@
 """A mail on its way into a list, and what a run of the program was given of such."""
 
 import asyncio
+import collections
 import dataclasses
 import hashlib
 import time
@@ -31,6 +32,16 @@ class Mail:
 
     def is_wanted(self) -> bool:
         return not self.answer.done()
+
+
+def first_of(waiting: collections.deque[Mail]) -> list[Mail]:
+    """Takes the first mails that wait, as many as one run gets."""
+    batch: list[Mail] = []
+    size = 0
+    while waiting and len(batch) < MOST_MAILS and (not batch or size + len(waiting[0].message) <= MOST_BYTES):
+        batch.append(waiting.popleft())
+        size += len(batch[-1].message)
+    return batch
 
 
 class Unanswered:

@@ -65,9 +65,9 @@ class Servers:
         """The servers by host and port, as the log names them."""
         return wire.printable(', '.join(f'{row.get("host") or row.get("hostaddr") or "a local socket"}:{row.get("port", 5432)}' for row in self.rows))
 
-    def connect(self, idle: bool = False) -> Connection:
-        """A connection. `idle` is whether the server ends it when it hears nothing for `takeover` seconds. It is Lost if there is no server, and
-        Unfit if one is there that isn't as it has to be."""
+    def connect(self, idle: bool = False, opened: Callable[[Connection], object] = lambda connection: None) -> Connection:
+        """A connection. `idle` is whether the server ends it when it hears nothing for `takeover` seconds; `opened` gets it before the server is
+        asked for anything. It is Lost if there is no server, and Unfit if one is there that isn't as it has to be."""
         whys = []
         for at in [*range(self.first, len(self.rows)), *range(self.first)]:
             try:
@@ -76,6 +76,7 @@ class Servers:
                 whys.append(words_of(error))
                 continue
             try:
+                opened(connection)
                 self.look(connection)
             except BaseException:
                 connection.close()
@@ -122,8 +123,7 @@ class Job:
         self.warning = ''
 
     def run(self) -> Any:
-        connection = self.lines.taken()
-        self.connection = connection
+        connection = self.lines.taken(self.has)
         connection.add_notice_handler(self.noticed)
         try:
             with connection.transaction(), connection.cursor() as cursor:
@@ -146,11 +146,19 @@ class Job:
         if notice.severity_nonlocalized == 'WARNING':
             self.warning = wire.printable(notice.message_primary or 'a warning')
 
+    def has(self, connection: Connection) -> None:
+        self.connection = connection
+
     def cut(self) -> None:
-        """Ends the connection under a call that takes too long, so that its thread ends."""
+        """Ends a call that takes too long."""
         if self.connection is not None:
-            with contextlib.suppress(psycopg.Error, OSError), socket.socket(fileno=os.dup(self.connection.fileno())) as ended:
-                ended.shutdown(socket.SHUT_RDWR)
+            cut(self.connection)
+
+
+def cut(connection: Connection) -> None:
+    """Ends a connection under a call that hangs, so that its thread ends."""
+    with contextlib.suppress(psycopg.Error, OSError), socket.socket(fileno=os.dup(connection.fileno())) as ended:
+        ended.shutdown(socket.SHUT_RDWR)
 
 
 class Lines:
@@ -174,17 +182,18 @@ class Lines:
                 raise Lost(f'a call took longer than {2 * self.servers.takeover} seconds, as when no standby confirms')
             return future.result()
 
-    def taken(self) -> Connection:
-        """A connection at which nothing came since it was used last, or a new one."""
+    def taken(self, has: Callable[[Connection], object]) -> Connection:
+        """A connection at which nothing came since it was used last, or a new one. `has` gets it as soon as it is there."""
         while self.idle:
             try:
                 connection = self.idle.pop()
             except IndexError:
                 break
             if not connection.closed and not select.select([connection.fileno()], [], [], 0)[0]:
+                has(connection)
                 return connection
             connection.close()
-        return self.servers.connect()
+        return self.servers.connect(opened=has)
 
     def close(self) -> None:
         while self.idle:

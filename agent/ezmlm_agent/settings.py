@@ -11,6 +11,7 @@ from typing import Any
 
 from . import resolver, sections
 
+WRONG = 78  # EX_CONFIG of sysexits.h: settings that are wrong, for which systemd doesn't start the agent again
 
 def is_yes(text: str) -> bool:
     """What `yes` and `no` say. Another word is a ValueError."""

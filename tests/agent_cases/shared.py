@@ -107,7 +107,7 @@ def are_the_same(hosts, name='cats'):
 
 def are_at_rest(hosts, name='cats'):
     """Whether each host comes to know that all was handed on."""
-    return until(lambda: not any(os.listdir(each.folder(name) / 'queue') for each in hosts))
+    return until(lambda: not any(list(each.folder(name).glob('queue/*')) for each in hosts))
 
 
 def case_shared(world):
@@ -194,3 +194,69 @@ def case_shared_servers(world):
         check(are_the_same(hosts), 'the copies differ')
         same((hosts[0].folder() / 'num').read_text(), f'{len(taken)}\n', 'posts')
         world.note = f'{len(taken)} posts, {len(world.sink.copies) - 3 * len(taken)} copies twice'
+
+
+def case_shared_given(world):
+    """--give: items of operators go to each copy, count once by their numbers, and are answered as the program answers them."""
+    with machines(world, 2) as (those, hosts):
+        if hosts is None:
+            return
+        for each in hosts:
+            each.begin()
+        one, two = hosts
+        given = b'A1:0,1:1,4:list,5:d@e.f,R4:1000,1:1,4:list,7:a@m.net,F1:0,1:1,3:513,T1:5,10:1000000000,'
+        same(one.command('--give', 'cats', given=given), (0, '0 0 subscribed\n1000 0 unsubscribed\n0 0 floored 513\n5 0 timed 0\n'), 'at first')
+        same(two.command('--give', 'cats', given=given),
+             (0, '0 0 already\n1000 0 unsubscribed\n0 0 floored 513\n5 0 timed 0\n'), 'again on another host')
+        same(two.command('--give', 'cats', given=b'A1:0,1:1,3:mod,5:d@e.f,x'), (65, '0 0 subscribed\n- 65 bad 23\n'), 'a bad stream')
+        same(two.command('--give', 'cats', given=b'A1:0,1:1,3:mod'), (65, '- 65 short 9\n'), 'a short stream')
+        status, said = two.command('--give', 'dogs', given=given)
+        check(status == 75 and 'dogs has no history' in said, said)
+        many = b''.join(b'A%d:%d,1:1,5:allow,%d:m%d@x.y,' % (len(str(n)), n, len(f'm{n}@x.y'), n) for n in range(600_000_000_000, 600_000_000_300))
+        status, said = one.command('--give', 'cats', given=many)
+        same((status, said.count(' 0 subscribed\n'), said.count('\n')), (0, 300, 300), 'many')
+        same(one.post(1), '250 2.0.0 posted 1', 'a post')
+        check(until(lambda: len(world.sink.copies) == 3) and are_at_rest(hosts) and are_the_same(hosts), 'the copies differ')
+        same(sorted(world.sink.recipients()), ['b@m.net', 'c@m.net', 'd@e.f'], 'recipients')
+
+
+def case_shared_configured(world):
+    """--configure: a configuration is laid into each copy at one place; one that is changed by hand on one host isn't served there."""
+    with machines(world, 2) as (those, hosts):
+        if hosts is None:
+            return
+        for each in hosts:
+            each.begin()
+        one, two = hosts
+        same(one.post(1), '250 2.0.0 posted 1', 'a post')
+        check(are_the_same(hosts), 'the copies differ')
+        was = (one.folder() / 'config').read_bytes()
+        refused = was.replace(b'U\n', b'u\n', 1)
+        file = world.place / 'config'
+        rows = [(was + b'x', 'is no configuration'), (was.replace(b'local cats', b'local dogs'), 'of another list'),
+                (was.replace(b'DF', b'Df', 1), 'check would say'), (was.replace(b'owner owner@m.net', b'owner cats-x@ex.org'), 'check would say')]
+        for text, wanted in rows:
+            file.write_bytes(text)
+            status, said = two.command('--configure', 'cats', str(file))
+            check(status == 65 and wanted in said and said.count('\n') == 1, f'{text!r}: {status} {said}')
+        two.end()
+        for n, text in enumerate((refused, was.replace(b'max 1048576', b'max 1000'), refused), 2):
+            file.write_bytes(text)
+            same(one.command('--configure', 'cats', str(file))[0], 0, 'a configuration')
+            begins(one.post(n), '550' if text == refused else '250', 'a post of a stranger')
+        two.begin()
+        check(are_the_same(hosts), 'the copies differ')
+        same((two.folder() / 'config').read_bytes(), refused, 'the configuration')
+        (two.folder() / 'config').write_bytes(was)
+        check(until(lambda: (two.post(7) or '').startswith('451')), 'a post where the configuration was changed by hand')
+        check(two.says('its configuration was changed by hand on this host'), 'nothing is said')
+        same((two.place / 'state/cats.config').read_bytes(), refused, 'the one that all have')
+        begins(one.post(8), '550', 'a post on the other host')
+        (two.folder() / 'config').write_bytes(refused)
+        begins(two.post(9), '550', 'a post')
+        (two.folder() / 'key').write_bytes(bytes(range(32)))
+        check(until(lambda: (two.post(10) or '').startswith('451')), 'a post where the key was changed by hand')
+        check(two.says('its key was changed by hand on this host'), 'nothing is said')
+        shutil.copy(one.folder() / 'key', two.folder() / 'key')
+        begins(two.post(11), '550', 'a post')
+        check(are_the_same(hosts), 'the copies differ')
