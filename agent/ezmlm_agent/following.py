@@ -8,7 +8,7 @@ import logging
 import pathlib
 import time
 
-from . import folder, handed, history, leading, mailing, mails, notes, program, retrying, rows, servers, trouble
+from . import comparing, folder, handed, history, leading, mailing, mails, notes, program, retrying, rows, servers, trouble
 
 log = logging.getLogger('ezmlm-agent')
 
@@ -42,19 +42,29 @@ class SharedList(mailing.MailingList):
         self.kept: handed.Handed | None = None  # in this term, or the last
         self.reporting: set[int] = set()  # entries of which the history has the report since this term began
         self.answers: list[tuple[int, str]] = []  # of operators' items, until they are noted
+        self.others: list[str] = []  # hosts of which the copy is another list than this one
+        self.is_judging = True       # whether what the hosts saw may have changed
+        self.looks_behind: rows.Row | None = None  # a timed run behind which this copy is looked at
+        self.looking: asyncio.Task[None] | None = None
 
     def start(self) -> None:
         super().start()
         self.wake.set()
 
     def hear(self, number: int) -> None:
-        """The next item of the history has this number; or, with 0, this host begins or ends to hand on."""
+        """The next item of the history has this number; or, with 0, this host begins or ends to hand on, or a host has looked at its copy."""
         self.next = max(self.next, number)
+        self.is_judging = self.is_judging or number == 0
         if number == 0 or number > self.place:
             self.wake.set()
 
+    async def stop(self) -> None:
+        await super().stop()
+        if self.looking is not None:
+            self.looking.cancel()
+
     def copies(self) -> notes.Copies | None:
-        return self.kept if self.kept is not None and self.kept.term.holds() else None
+        return self.kept if self.kept is not None and self.kept.term.holds() and not self.others else None
 
     async def serve(self, batch: list[mails.Mail]) -> None:
         try:
@@ -74,6 +84,7 @@ class SharedList(mailing.MailingList):
         self.place = state.place
         if not self.is_taken_up:
             await self.take_up(opened, state)
+        await self.judge()
         await self.look_at(state)
         await self.take_lead()
         self.load = mails.Load(time.monotonic() + mailing.OPEN)
@@ -85,6 +96,8 @@ class SharedList(mailing.MailingList):
             await self.past.forget(self.name, self.load.stale)
         await self.note_answers()
         await self.forget_copies()
+        if self.looks_behind is not None and self.place == self.looks_behind.number + 1:
+            await self.look(self.place, self.looks_behind.back or rows.WHOLE)
         self.lead.want(self.name, self.health.cause is None)
         if self.next > self.place and self.health.cause is None:
             self.wake.set()
@@ -104,7 +117,39 @@ class SharedList(mailing.MailingList):
         kept = {key: row for key, row in known.items() if row[0] in answered}
         copies = [(entry, mark, b'\0'.join(recipients)) for (entry, mark), recipients in opened.handed.items()]
         await self.past.take_up(self.name, address, state.place, state.floor, state.config, state.key, kept, copies)
+        seen = await self.past.seen(self.name)
+        if comparing.others(seen, self.past.host):  # It may have been replaced by a good copy.
+            last = max(row for row in seen if row.host == self.past.host)
+            if last.place == state.place:
+                await self.look(last.place, last.back)
+            else:
+                await self.past.forget_looks(self.name)
         self.is_taken_up = True
+
+    async def judge(self) -> None:
+        """Looks whether this copy is what the other hosts' are."""
+        if self.is_judging:
+            self.is_judging = False
+            self.others = comparing.others(await self.past.seen(self.name), self.past.host)
+        if self.others:
+            names = ' and '.join(self.others)
+            raise retrying.Refused('another list', trouble.Cause(
+                f'this copy differs from the one of {names}', self.folder, 'stop this agent and put a copy of the folder of a host that is right in '
+                'its place; where as many hosts have the one as the other see which files differ'))
+
+    async def look(self, place: int, back: int) -> None:
+        """Looks what this copy is at a place. What items change is read now, and full groups of posts while the next items come."""
+        if self.looking is not None and not self.looking.done():
+            return
+        part = await self.reading(functools.partial(comparing.changing, back=back))
+        self.looking = asyncio.create_task(self.look_further(place, back, part))
+
+    async def look_further(self, place: int, back: int, part: comparing.Part) -> None:
+        try:
+            digest = await self.threads.call('posts', comparing.whole, self.folder, part, seconds=None)
+            await self.past.look(self.name, place, back, digest)
+        except Exception as error:  # Whatever it is, the next look is soon.
+            log.error('%s: the copy can\'t be compared: %s: %s', self.name, type(error).__name__, error)
 
     async def look_at(self, state: State) -> None:
         """Looks whether the configuration and the keys are those that the history has made, and lays in a configuration that begins here."""
@@ -161,10 +206,15 @@ class SharedList(mailing.MailingList):
             mail.number = number
             self.waits.setdefault(number, []).append((mail, key))
         items = self.repeats() + [program.Item(row.text, functools.partial(self.answered, row)) for row in told.again]
+        behind, self.looks_behind = told.rows, None
+        for at, row in enumerate(behind):
+            if row.back is not None:  # The run ends there, so that the copy is looked at.
+                behind, self.looks_behind, self.load.until = behind[:at + 1], row, 0
+                break
         if told.configured != self.configured_at:  # It is laid in between two runs.
             self.configured_at, self.load.until = -1, 0
             return items
-        return items + [program.Item(row.text, functools.partial(self.answered, row)) for row in told.rows]
+        return items + [program.Item(row.text, functools.partial(self.answered, row)) for row in behind]
 
     def repeats(self) -> list[program.Item]:
         """Items of the mails that wait for what the list has answered before: it tells its answer again."""

@@ -11,7 +11,7 @@ import tempfile
 import time
 from typing import BinaryIO
 
-from . import check, folder, history, items, mails, program, servers, settings, wire
+from . import check, comparing, folder, history, items, mails, program, servers, settings, wire
 
 PIECE = 1 << 16
 WAITS, SLOWEST = 0.02, 0.5  # seconds between two looks for answers, at first and at most
@@ -19,9 +19,6 @@ SAID = 10  # seconds after which it is said that no host has answered
 USAGE, WRONG, LATER = 64, 65, 75  # statuses, as the program has them
 CONFIGURATION = re.compile(rb'flags (?:[bB][dD][fF][gG][hH][jJ][kK][lL][mM][pP][rR][sS][tT][uU])\nlocal ([!-?A-~]{1,60})\nhost ([a-z0-9._-]{1,255})\n'
                            rb'owner [!-?A-~]+@[a-z0-9._-]+\nprefix (?:[!-~](?:[ -~]{0,60}[!-~])?)?\nmax [1-9][0-9]{0,7}\n')
-# All that `check` reads beside the configuration and the log.
-PARTS = ('key', 'subscribers', 'digest', 'allow', 'deny', 'mod', 'counts', 'archive', 'num', 'dig', 'pending', 'tickets', 'bounce', 'queue', 'ids',
-         'done', 'floor')
 
 
 class Refused(Exception):
@@ -128,7 +125,7 @@ def checked(binary: str, text: bytes, path: pathlib.Path) -> tuple[int, str]:
     with tempfile.TemporaryDirectory(prefix='ezmlm-agent.') as scratch:
         place = pathlib.Path(scratch)
         (place / 'config').write_bytes(text)
-        for part in PARTS:
+        for part in {part.partition('/')[0] for part in comparing.PARTS} - {'config'}:
             if (path / part).exists():
                 (place / part).symlink_to((path / part).resolve())
         done = subprocess.run([binary, '.', 'check'], cwd=place, stdout=subprocess.PIPE, check=False)

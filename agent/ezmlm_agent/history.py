@@ -1,12 +1,13 @@
 """All that is asked of the database that keeps the histories of lists."""
 
 import hashlib
+import time
 from collections.abc import Collection, Sequence
 from typing import Any
 
 import psycopg
 
-from . import notes, rows, servers
+from . import comparing, notes, rows, servers
 from .rows import make_each, one, row_of
 from .tables import TABLES, VERSION
 
@@ -88,6 +89,28 @@ class History(rows.Rows):
             cursor.execute('DELETE FROM ezmlm.host WHERE host = %s', (host,))
             return cursor.rowcount
         return await self.lines.call(forget)
+
+    # What copies are.
+
+    async def look(self, name: str, place: int, back: int, digest: bytes) -> None:
+        """Notes what this host's copy is at a place, and has all hosts compare."""
+        def note(cursor: servers.Cursor) -> None:
+            cursor.execute('INSERT INTO ezmlm.digest VALUES (%s, %s, %s, %s, %s, %s) ON CONFLICT (list, place, host) DO UPDATE SET '
+                           'back = excluded.back, digest = excluded.digest, moment = excluded.moment',
+                           (name, place, self.host, back, digest, int(time.time())))
+            cursor.execute('SELECT pg_notify(%s, %s)', (rows.CHANNEL, f'0 {name}'))
+        await self.lines.call(note)
+
+    async def seen(self, name: str) -> list[comparing.Seen]:
+        """What the hosts saw of a list."""
+        def read(cursor: servers.Cursor) -> list[comparing.Seen]:
+            cursor.execute('SELECT place, host, back, digest, moment FROM ezmlm.digest WHERE list = %s', (name,))
+            return [comparing.Seen(*row) for row in cursor.fetchall()]
+        return await self.lines.call(read)
+
+    async def forget_looks(self, name: str) -> None:
+        """Forgets what this host saw of a list: another copy stands in its place."""
+        await self.lines.call(make_each, 'DELETE FROM ezmlm.digest WHERE list = %s AND host = %s', [(name, self.host)])
 
     # Copies that were handed on.
 

@@ -156,7 +156,8 @@ class Leading:
         while notify := connection.pgconn.notifies():
             self.heard.append(notify.extra.decode())
         heard, self.heard = self.heard, []
-        for name, number in {text.partition(' ')[2]: text.partition(' ')[0] for text in heard}.items():  # A list's last number is enough.
+        for text in dict.fromkeys(heard):
+            number, _, name = text.partition(' ')
             self.tell(name, int(number))
 
     def lose(self) -> None:

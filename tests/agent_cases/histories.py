@@ -2,6 +2,7 @@
 
 import asyncio
 import contextlib
+import os
 import random
 import re
 import sys
@@ -216,3 +217,43 @@ def case_given_stream(world):
         stop = [line.removeprefix('- 65 ') for line in said if line.startswith('- ')]
         same(told_by(items.Reader(), text, rng.randrange(1, 5)), (len(said) - len(stop), ''.join(stop)), repr(text[:200]))
     world.note = f'{len(streams)} streams'
+
+
+def case_history_others(world):
+    """Which hosts' copies differ: those that are fewer, or as many, at the last place at which a host's copy was looked at."""
+    from ezmlm_agent import comparing
+    rows = [('', 'a', []), ('a1x', 'a', []), ('a1x b1x c1x', 'a', []), ('a1x b1y c1y', 'a', ['b', 'c']), ('a1x b1y c1y', 'b', []),
+            ('a1x b1y', 'a', ['b']), ('a1x b1y', 'b', ['a']), ('a1x b1y c1z', 'a', ['b', 'c']), ('a1x b1x c1y d1y', 'a', ['c', 'd']),
+            ('a1y b1x a2x b2x', 'a', []), ('a1x b1x a2x b2y c2y', 'a', ['b', 'c']), ('a1x b2y c2y', 'a', []), ('b1x c1y', 'a', [])]
+    for text, host, wanted in rows:
+        seen = [comparing.Seen(int(word[1]), word[0], 100, word[2].encode(), 0) for word in text.split()]
+        same(comparing.others(seen, host), wanted, f'{text} for {host}')
+    seen = [comparing.Seen(1, 'a', 100, b'x', 0), comparing.Seen(1, 'b', 200, b'y', 0)]
+    same(comparing.others(seen, 'a'), [], 'looks at more and at fewer posts')
+
+
+def case_history_digest(world):
+    """Any change of a list's files changes its hash; but for the lock, the log, and posts that a look doesn't go back to."""
+    from ezmlm_agent import comparing
+    folder = world.list()
+    world.run('cats', 'exercise', '3000')
+    posts = int((folder / 'num').read_text())
+    check(posts > 200, f'{posts} posts')
+
+    def digest(back):
+        return comparing.whole(folder, comparing.changing(folder, back))
+    hashes = digest(10**8), digest(1)
+    for path in sorted(path for path in folder.rglob('*') if path.is_file()):
+        was = path.read_bytes()
+        path.write_bytes(was + b'x')
+        name = str(path.relative_to(folder))
+        is_new = name in ('lock', 'log')
+        is_old = name.startswith('archive/') and name.split('/')[1].isdigit() and int(name.split('/')[1]) < (posts - 1) // 100
+        try:
+            same((digest(10**8) == hashes[0], digest(1) == hashes[1]), (is_new, is_new or is_old), name)
+        except ValueError:
+            same(name, 'num', 'the file that is no number')
+        path.write_bytes(was)
+    same((digest(10**8), digest(1)), hashes, 'the same files')
+    os.unlink(folder / 'archive/0/17')
+    check(digest(10**8) != hashes[0], 'a post that is gone')

@@ -9,7 +9,7 @@ import threading
 import time
 
 from . import servers
-from .world import HOST, LISTENS, LONG, MEMBERS, TOP, Client, begins, check, post, same, until
+from .world import HASTY, HOST, LISTENS, LONG, MEMBERS, TOP, Client, begins, check, held, post, same, until
 
 NAMES = 'one', 'two', 'three'
 
@@ -151,14 +151,15 @@ def case_shared_takes_over(world):
             first.agent.send_signal(number)
             same(other.post(n), f'250 2.0.0 posted {n}', 'a post')
             check(until(lambda n=n: len({copy[1:] for copy in world.sink.copies}) == 3 * n), 'it did not go out')
-            check(other.log().count('this host hands on') == before + 1, 'the other one did not begin to hand on')
+            check(other.log().count('this host hands on') > before, 'the other one did not begin to hand on')
             if number == signal.SIGSTOP:
                 first.agent.send_signal(signal.SIGCONT)
             else:
                 first.agent.wait()
                 first.begin()
             same(first.post(n), f'250 2.0.0 posted {n}', 'the same')
-        same(len(world.sink.copies), 9, 'copies')
+        same(len({copy[1:] for copy in world.sink.copies}), 9, 'copies')
+        world.note = f'{len(world.sink.copies) - 9} copies twice'
         check(are_the_same(hosts), 'the copies differ')
 
 
@@ -260,3 +261,45 @@ def case_shared_configured(world):
         shutil.copy(one.folder() / 'key', two.folder() / 'key')
         begins(two.post(11), '550', 'a post')
         check(are_the_same(hosts), 'the copies differ')
+
+
+def case_shared_compared(world):
+    """Behind each timed run the copies are compared. A host whose copy is another one than the others' isn't served, and says so."""
+    with machines(world) as (those, hosts):
+        if hosts is None:
+            return
+        for each in hosts:
+            each.begin(words=HASTY)
+        one, two, three = hosts
+        for n in range(1, 4):
+            same(three.post(n), f'250 2.0.0 posted {n}', 'a post')
+
+        def seen():
+            return those.sql('SELECT place, count(*), count(DISTINCT digest) FROM ezmlm.digest GROUP BY place ORDER BY place DESC LIMIT 5')
+        check(until(lambda: any(many == 3 and different == 1 for _, many, different in seen())), f'{seen()}')
+        same(len([row for row in seen() if row[2] != 1]), 0, 'differences')
+        path = three.folder() / 'archive/0/02'
+        path.write_bytes(path.read_bytes().replace(b'hello', b'hullo'))
+        check(three.says('this copy differs from the one of one and two'), 'the difference is not told')
+        check(until(lambda: (three.post(4) or '').startswith('451 ')), 'a post to the host that differs')
+        same(one.post(4), '250 2.0.0 posted 4', 'a post')
+        same(two.post(5), '250 2.0.0 posted 5', 'a post')
+        check('this copy differs' not in one.log() + two.log(), 'the others say so too')
+        three.end()
+        three.begin(words=HASTY)
+        begins(three.post(6), '451 ', 'a post behind a new start')
+        three.end()
+        shutil.rmtree(three.folder())
+        copied(two.folder(), three.folder())
+        three.begin(words=HASTY)
+        check(until(lambda: (three.post(6) or '').startswith('250 2.0.0 posted 6')), 'a post behind the repair')
+        check(until(lambda: any(many == 3 and different == 1 for _, many, different in seen()[:1])), f'{seen()}')
+        for each in hosts:
+            each.end()
+        check(len(set(copy[1:] for copy in world.sink.copies)) == 18, 'copies are missing')
+
+
+def copied(folder, to):
+    """Copies a list's folder as docs/OPERATING.md does it."""
+    with held(folder):
+        shutil.copytree(folder, to)
