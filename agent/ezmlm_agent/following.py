@@ -40,6 +40,7 @@ class SharedList(mailing.MailingList):
         self.configured_at, self.config = -1, b''  # the configuration that holds here, and from which item on
         self.key: bytes | None = None  # the hash of the keys after the last run, where it is known
         self.kept: handed.Handed | None = None  # in this term, or the last
+        self.hands_from = 0  # the place from which on it hands on in this term
         self.reporting: set[int] = set()  # entries of which the history has the report since this term began
         self.answers: list[tuple[int, str]] = []  # of operators' items, until they are noted
         self.others: list[str] = []  # hosts of which the copy is another list than this one
@@ -64,7 +65,9 @@ class SharedList(mailing.MailingList):
             self.looking.cancel()
 
     def copies(self) -> notes.Copies | None:
-        return self.kept if self.kept is not None and self.kept.term.holds() and not self.others else None
+        if self.kept is None or self.others or self.place < self.hands_from or not self.kept.term.holds():
+            return None
+        return self.kept
 
     async def serve(self, batch: list[mails.Mail]) -> None:
         try:
@@ -182,8 +185,10 @@ class SharedList(mailing.MailingList):
         self.queue.handed_on.clear()
         if term is None:
             return
-        self.kept = handed.Handed(self.past, self.name, term, await self.past.handed(self.name), self.kept)
-        self.is_due = self.is_due or time.time() - await self.past.timed_at(self.name) >= mailing.HOUR
+        kept = handed.Handed(self.past, self.name, term, await self.past.handed(self.name), self.kept)
+        # What another host handed on before may stand in the queue until this list has answered all that the history has by now.
+        self.hands_from, timed = await self.past.stands(self.name)
+        self.kept, self.is_due = kept, self.is_due or time.time() - timed >= mailing.HOUR
         log.info('%s: this host hands on', self.name)
 
     # Items.
@@ -192,14 +197,14 @@ class SharedList(mailing.MailingList):
         """Puts mails, reports and a timed run into the history. The answer is items for the list: repeats, and those behind its place."""
         is_leading = self.copies() is not None
         sent = self.queue.handed_on - self.reporting if is_leading else set()
-        is_timed = self.is_due = self.is_due and is_leading and not self.stopping
+        is_timed = self.is_due and is_leading and not self.stopping
         keys = [mail.key() for mail in batch]
         adds = rows.Adds([(key, functools.partial(spelled, mail)) for key, mail in zip(keys, batch)], sorted(sent),
                             int(time.time()) - self.settings.keep_days * mailing.DAY if is_timed else None)
         told = await self.past.proceed(self.name, self.place, self.key, adds, mails.MOST_MAILS, mails.MOST_BYTES)
         self.next = told.next
         self.reporting |= sent
-        self.is_due = self.is_due and not is_timed
+        self.is_due = self.is_due and not is_timed and self.lead.term(self.name) is not None
         self.load.mails += max(len(batch), len(told.rows))
         self.load.size += max(sum(len(mail.message) for mail in batch), sum(len(row.text) for row in told.rows))
         for mail, key, number in zip(batch, keys, told.numbers):

@@ -129,9 +129,12 @@ class History(rows.Rows):
         """Forgets the copies of entries that left the queue."""
         await self.lines.call(make_each, 'DELETE FROM ezmlm.handed WHERE list = %s AND entry = ANY(%s)', [(name, list(entries))])
 
-    async def timed_at(self, name: str) -> int:
-        """When the last timed run was put into the history."""
-        return await self.lines.call(lambda cursor: int(row_of(cursor.execute('SELECT timed FROM ezmlm.list WHERE name = %s', (name,)))[0]))
+    async def stands(self, name: str) -> tuple[int, int]:
+        """The number that the next item gets, and when the last timed run was put into the history."""
+        def read(cursor: servers.Cursor) -> tuple[int, int]:
+            following, timed = row_of(cursor.execute('SELECT next, timed FROM ezmlm.list WHERE name = %s', (name,)))
+            return following, timed
+        return await self.lines.call(read)
 
     # Locks, over a connection of its own that ends with its host.
 

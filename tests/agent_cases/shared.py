@@ -163,6 +163,32 @@ def case_shared_takes_over(world):
         check(are_the_same(hosts), 'the copies differ')
 
 
+def case_shared_behind(world):
+    """A host that takes over, and whose copy is behind, hands nothing on that was before: it first gives its list what the history has."""
+    with machines(world, 2) as (those, hosts):
+        if hosts is None:
+            return
+        one, two = hosts
+        world.sink.defer = set(MEMBERS)
+        for each in hosts:
+            each.begin()
+        same(one.post(1), '250 2.0.0 posted 1', 'a post')
+        check(until(lambda: all(list(each.folder().glob('queue/1')) for each in hosts)), 'the entry is not there')
+        two.end(signal.SIGKILL)
+        same(one.command('--give', 'cats', given=b'A1:0,1:1,4:list,5:a@b.c,R1:0,1:1,4:list,5:a@b.c,' * 2000)[0], 0, 'many items')
+        world.sink.defer = set()
+        same(one.post(2), '250 2.0.0 posted 2', 'a post')
+        check(until(lambda: len(world.sink.copies) == 6) and are_at_rest([one]), 'it did not go out')
+        one.end()
+        check(list(two.folder().glob('queue/1')), 'the entry of the copy is gone')
+        two.begin()
+        same(two.post(3), '250 2.0.0 posted 3', 'a post')
+        check(until(lambda: len(world.sink.copies) >= 9) and are_at_rest([two]), 'it did not go out')
+        same(len(world.sink.copies), 9, 'copies')
+        one.begin()
+        check(are_the_same(hosts), 'the copies differ')
+
+
 def case_shared_servers(world):
     """Three servers: while the first one is gone mail waits, and when another takes its place all goes on. Nothing is lost, and nothing twice."""
     with machines(world, 2, 3, 'quorum') as (those, hosts):
