@@ -13,14 +13,14 @@ import sys
 from collections.abc import Callable, Iterable
 from typing import TYPE_CHECKING, NoReturn, TextIO
 
-from . import VERSION, check, listening, lists, lmtp, mailing, mails, policy, program, settings, smtp, wire
+from . import VERSION, check, listening, lists, lmtp, mailing, mails, policy, program, settings, smtp, status, wire
 
 if TYPE_CHECKING:
     from . import hosts
 
 log = logging.getLogger('ezmlm-agent')
 LOOKS = 60  # seconds between two looks for lists
-ORDERS = 'give', 'configure', 'forget_host'  # what operators ask of lists on several hosts
+ORDERS = 'give', 'configure', 'forget_host', 'status'  # what operators ask
 ENDING = 60  # seconds until what is in hand at the end is left as it is
 DESCRIPTORS = 65536
 SWITCH = 0.0005  # seconds: threads wait for runs of the program and for the disk, and each is soon served
@@ -57,8 +57,8 @@ class Agent:
         loop = asyncio.get_running_loop()
         for number in (signal.SIGTERM, signal.SIGINT):
             loop.add_signal_handler(number, self.ended.set)
-        if self.hosts:
-            await self.hosts.begin()
+        if self.hosts and (why := await self.hosts.begin()):
+            sys.exit(f'ezmlm-agent: {why}')
         for address, serve in ((self.settings.listen, self.server.serve), (self.settings.policy, self.policy.serve)):
             try:
                 if address:
@@ -124,12 +124,15 @@ def words_of(words: list[str]) -> argparse.Namespace:
     ways.add_argument('--give', nargs=2, metavar=('SETTINGS', 'LIST'), help='give a list that several hosts have the items of standard input')
     ways.add_argument('--configure', nargs=3, metavar=('SETTINGS', 'LIST', 'FILE'), help='give a list that several hosts have a configuration')
     ways.add_argument('--forget-host', nargs=2, metavar=('SETTINGS', 'NAME'), help='forget a host that is gone for good')
+    ways.add_argument('--status', nargs='+', metavar=('SETTINGS', 'LIST'), help='tell how the lists stand, with the status of a monitor\'s plugin')
     parser.add_argument('--version', action='version', version=f'ezmlm-agent {VERSION}')
     parser.add_argument('settings', metavar='SETTINGS', nargs='?', help='a file of settings; ezmlm-agent(8) tells what is in it')
     asked = parser.parse_args(words)
     asked.order, given = next(((name, rest) for name in ORDERS if (rest := getattr(asked, name))), ('', []))
     if bool(given) == (asked.settings is not None) or given and asked.check:
         parser.error('SETTINGS come once, and one word before them at most')
+    if asked.order == 'status' and len(given) > 2:
+        parser.error('--status takes SETTINGS and one LIST at most')
     asked.settings, asked.rest = (given[0], given[1:]) if given else (asked.settings, [])
     return asked
 
@@ -158,7 +161,9 @@ def main(words: list[str]) -> NoReturn:
 
 
 def ordered(chosen: settings.Settings, order: str, words: list[str]) -> int:
-    """Does what an operator asks of a list on several hosts. The answer is the status."""
+    """Does what an operator asks. The answer is the status."""
+    if order == 'status' and not chosen.history:
+        return asyncio.run(status.status(chosen, None, words[0] if words else None))
     try:
         from . import giving, servers
     except ModuleNotFoundError as error:
@@ -170,12 +175,16 @@ def ordered(chosen: settings.Settings, order: str, words: list[str]) -> int:
                 return asyncio.run(giving.give(chosen, words[0], sys.stdin.buffer))
             case 'configure':
                 return asyncio.run(giving.configure(chosen, words[0], words[1]))
+            case 'status':
+                return asyncio.run(status.status(chosen, giving.opened(chosen), words[0] if words else None))
             case _:
                 return asyncio.run(giving.forget_host(chosen, words[0]))
     except giving.Refused as error:
         print(f'ezmlm-agent: {error}', file=sys.stderr)
         return error.status
     except servers.Lost as error:
+        if order == 'status':
+            return status.report([], [(status.CRITICAL, f'the history can\'t be reached: {error}')])
         print(f'ezmlm-agent: the history can\'t be reached, or changed: {error}', file=sys.stderr)
         return giving.LATER
     except ValueError as error:

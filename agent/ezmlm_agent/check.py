@@ -169,6 +169,17 @@ async def transfer_agent(chosen: settings.Settings, addresses: Addresses) -> lis
     return wrong
 
 
+async def hosts(chosen: settings.Settings, addresses: Addresses) -> list[str]:
+    """What is wrong with the history, where other hosts have the same lists."""
+    if not chosen.history:
+        return []
+    try:
+        from . import check_hosts
+    except ModuleNotFoundError as error:
+        return [f'history wants the package python3-psycopg: {error}']
+    return await check_hosts.faults(chosen, addresses)
+
+
 def keeps_away(chosen: settings.Settings) -> list[str]:
     """Whether the unit keeps the agent from a transfer agent on another host, as it does unless IPAddressAllow names that."""
     where = settings.endpoint(chosen.mta)
@@ -218,6 +229,7 @@ async def check(chosen: settings.Settings) -> int:
         wrong += place(chosen)
         addresses, others = found(chosen)
         wrong += [*others, *await lists(chosen, addresses, owner), *sending(chosen, addresses), *all_notes(chosen)]
+        wrong += await hosts(chosen, addresses)
         wrong += await transfer_agent(chosen, addresses)
         wrong += keeps_away(chosen)
         for line in await receivers.look(chosen, addresses):

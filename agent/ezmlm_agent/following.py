@@ -11,6 +11,7 @@ import time
 from . import comparing, folder, handed, history, leading, mailing, mails, notes, program, retrying, rows, servers, trouble
 
 log = logging.getLogger('ezmlm-agent')
+RESTS = 1  # seconds behind the last item
 
 
 @dataclasses.dataclass(frozen=True)
@@ -104,6 +105,8 @@ class SharedList(mailing.MailingList):
         self.lead.want(self.name, self.health.cause is None)
         if self.next > self.place and self.health.cause is None:
             self.wake.set()
+        elif self.place > state.place:  # The history learns where this host stands when nothing else comes.
+            asyncio.get_running_loop().call_later(RESTS, self.wake.set)
 
     async def fail(self, batch: list[mails.Mail], error: Exception) -> None:
         self.lead.want(self.name, False)

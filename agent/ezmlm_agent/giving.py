@@ -38,10 +38,10 @@ def opened(chosen: settings.Settings) -> history.History:
 
 async def known(past: history.History, name: str) -> tuple[bytes, bytes]:
     """LOCAL and HOST of a list of the history. Another one is Refused."""
-    found = await past.addresses()
+    found = await past.lists()
     if name not in found:
         raise Refused(f'{name} has no history: an agent that has its folder begins one', LATER)
-    return found[name]
+    return found[name][0]
 
 
 async def give(chosen: settings.Settings, name: str, stream: BinaryIO) -> int:

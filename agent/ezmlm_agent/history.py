@@ -7,7 +7,7 @@ from typing import Any
 
 import psycopg
 
-from . import comparing, notes, rows, servers
+from . import comparing, notes, rows, servers, status
 from .rows import make_each, one, row_of
 from .tables import TABLES, VERSION
 
@@ -27,14 +27,29 @@ class History(rows.Rows):
 
     def make_tables(self, cursor: servers.Cursor) -> None:
         cursor.execute("SELECT pg_advisory_xact_lock(hashtext('ezmlm tables'))")
-        cursor.execute("SELECT to_regclass('ezmlm.version')::text")
-        if one(cursor) is None:
+        if not self.has_tables(cursor):
             cursor.execute(TABLES)
             cursor.execute('INSERT INTO version VALUES (%s)', (VERSION,))
+        self.write_tables(cursor)
+
+    def has_tables(self, cursor: servers.Cursor) -> bool:
+        cursor.execute("SELECT to_regclass('ezmlm.version')::text")
+        return one(cursor) is not None
+
+    def write_tables(self, cursor: servers.Cursor) -> None:
+        """Changes nothing, so that it is seen whether the tables are of this version, and can be written."""
         cursor.execute('UPDATE ezmlm.version SET number = number RETURNING number')
         if (found := one(cursor)) != VERSION:
             raise servers.Unfit(f'the history has version {found}, and this agent knows version {VERSION}: '
                                 + ('install the newer agent' if found > VERSION else 'it can\'t be read'))
+
+    async def try_tables(self) -> bool:
+        """Whether the tables are there. It is Unfit or Lost where they can't be written, or where no standby confirms what is."""
+        def look(cursor: servers.Cursor) -> bool:
+            if is_there := self.has_tables(cursor):
+                self.write_tables(cursor)
+            return is_there
+        return await self.lines.call(look)
 
     # Configurations.
 
@@ -72,11 +87,11 @@ class History(rows.Rows):
             return {number: answer for number, answer in cursor.fetchall()}
         return await self.lines.call(read)
 
-    async def addresses(self) -> dict[str, notes.Address]:
-        """The lists that have a history, by their folders' names."""
-        def read(cursor: servers.Cursor) -> dict[str, notes.Address]:
-            cursor.execute('SELECT name, local, host FROM ezmlm.list ORDER BY name')
-            return {name: (local, host) for name, local, host in cursor.fetchall()}
+    async def lists(self) -> dict[str, tuple[notes.Address, range]]:
+        """The lists that have a history, by their folders' names: their addresses, and the numbers of the items that are kept."""
+        def read(cursor: servers.Cursor) -> dict[str, tuple[notes.Address, range]]:
+            cursor.execute('SELECT name, local, host, first, next FROM ezmlm.list ORDER BY name')
+            return {name: ((local, host), range(first, following)) for name, local, host, first, following in cursor.fetchall()}
         return await self.lines.call(read)
 
     async def forget_host(self, host: str) -> int | None:
@@ -135,6 +150,26 @@ class History(rows.Rows):
             following, timed = row_of(cursor.execute('SELECT next, timed FROM ezmlm.list WHERE name = %s', (name,)))
             return following, timed
         return await self.lines.call(read)
+
+    async def standing(self) -> list[status.Standing]:
+        """How the lists stand on all hosts, without their queues."""
+        return await self.lines.call(self.stood)
+
+    def stood(self, cursor: servers.Cursor) -> list[status.Standing]:
+        cursor.execute("SELECT (k.classid::bigint << 32) | k.objid::bigint, a.application_name FROM pg_locks k JOIN pg_stat_activity a USING (pid) "
+                       "WHERE k.locktype = 'advisory' AND k.granted AND k.objsubid = 1 AND a.datname = current_database()")
+        holders = {key: str(name).removeprefix('ezmlm-agent ') for key, name in cursor.fetchall()}
+        cursor.execute('SELECT list, place, host, back, digest, moment FROM ezmlm.digest')
+        seen: dict[str, list[comparing.Seen]] = {}
+        for name, *row in cursor.fetchall():
+            seen.setdefault(name, []).append(comparing.Seen(*row))
+        cursor.execute('SELECT h.list, h.host, h.place, l.next, i.first FROM ezmlm.host h JOIN ezmlm.list l ON l.name = h.list '
+                       'LEFT JOIN ezmlm.item i ON i.list = h.list AND i.number = h.place ORDER BY h.list, h.host')
+        hosts: dict[str, list[status.Host]] = {}
+        for name, host, place, following, since in cursor.fetchall():
+            hosts.setdefault(name, []).append(status.host_of(host, place, following, since, seen.get(name, []), key_of(f'host {host}') in holders))
+        cursor.execute('SELECT name FROM ezmlm.list ORDER BY name')
+        return [status.Standing(name, None, holders.get(key_of(f'list {name}')), hosts.get(name, [])) for name, in cursor.fetchall()]
 
     # Locks, over a connection of its own that ends with its host.
 

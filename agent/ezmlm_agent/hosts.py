@@ -21,11 +21,15 @@ class Hosts:
         self.lists = lists
         self.lead = leading.Leading(self.past, self.told)
 
-    async def begin(self) -> None:
-        """Begins when the servers were asked for the first time. It is Unfit if they can't keep the history; where they aren't there yet mail
-        waits."""
+    async def begin(self) -> str:
+        """Begins when the servers were asked for the first time. The answer is why they can't keep the history, or nothing; where they aren't
+        there yet mail waits."""
         self.lead.start()
-        await self.lead.first
+        try:
+            await self.lead.first
+        except servers.Unfit as error:
+            return str(error)
+        return ''
 
     def take_up(self, folder: pathlib.Path, shared: mails.Shared) -> mailing.MailingList:
         return following.SharedList(folder, shared, self.past, self.lead)
