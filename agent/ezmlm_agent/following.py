@@ -73,6 +73,8 @@ class SharedList(mailing.MailingList):
     async def serve(self, batch: list[mails.Mail]) -> None:
         try:
             await self.proceed([mail for mail in batch if mail.is_wanted()])
+            while self.next > self.place and self.health.cause is None and not self.waiting and not self.stopping:
+                await self.proceed([])
         except servers.Unfit as error:
             raise self.refused('it can\'t go by its history', str(error)) from error
         except servers.Lost as error:

@@ -179,6 +179,10 @@ class History(rows.Rows):
         found = connection.execute('SELECT key FROM unnest(%s::bigint[]) AS wanted (key) WHERE pg_try_advisory_lock(key)', (list(keys),)).fetchall()
         return [keys[key] for key, in found]
 
+    def confirm(self, connection: servers.Connection) -> None:
+        """Writes nothing that is kept, and waits until as many servers confirm it as confirm all else."""
+        connection.execute("SELECT pg_logical_emit_message(true, 'ezmlm', '')")
+
     def release(self, connection: servers.Connection, name: str) -> None:
         connection.execute('SELECT pg_advisory_unlock(%s)', (key_of(name),))
 

@@ -39,6 +39,7 @@ class Leading:
     def __init__(self, past: history.History, told: Callable[[str | None, int], object]) -> None:
         self.past, self.servers = past, past.lines.servers
         self.told = told
+        self.servers.moved = self.moved
         self.loop = asyncio.get_running_loop()
         self.wanted: frozenset[str] = frozenset()
         self.terms: dict[str, Term] = {}
@@ -48,6 +49,7 @@ class Leading:
         self.first: asyncio.Future[None] = self.loop.create_future()  # what came of the first try
         self.heard: list[str] = []
         self.connection: servers.Connection | None = None
+        self.warning = ''  # of the server: a commit that no standby confirmed
         self.limit = float('inf')  # when what is asked now counts as hanging
         self.is_ending = threading.Event()
         self.thread = threading.Thread(target=self.work, daemon=True)
@@ -59,9 +61,16 @@ class Leading:
     def watch(self) -> None:
         """Ends the connection where a server doesn't answer any more, as on a machine that stands still."""
         if self.connection is not None and clock() > self.limit:
+            self.servers.turn()
             servers.cut(self.connection)
         if not self.is_ending.is_set():
             self.loop.call_later(self.pause, self.watch)
+
+    def moved(self) -> None:
+        """Calls go to another server than before, where another host may have the locks: those of this connection are worth nothing."""
+        self.until = 0.0
+        if self.connection is not None:
+            servers.cut(self.connection)
 
     def stop(self) -> None:
         """Gives all locks back."""
@@ -116,7 +125,7 @@ class Leading:
             self.is_ending.wait(self.pause)
 
     def has(self, connection: servers.Connection) -> None:
-        """From here on the connection may be asked."""
+        """From here on the server has so much time to answer."""
         self.connection, self.limit = connection, clock() + 2 * self.servers.takeover
 
     def begin(self, connection: servers.Connection) -> None:
@@ -127,6 +136,7 @@ class Leading:
                 raise servers.Unfit(f'another agent calls itself host = {self.servers.host}')
             self.is_ending.wait(self.pause)
             self.has(connection)
+        connection.add_notice_handler(self.noticed)
         connection.add_notify_handler(lambda notify: self.heard.append(notify.payload))
         self.past.listen(connection)
         self.has(connection)
@@ -135,12 +145,19 @@ class Leading:
         self.settle(None)
         self.tell(None)
 
+    def noticed(self, notice: 'servers.Notice') -> None:
+        self.warning = servers.warning_of(notice) or self.warning
+
     def beat(self, connection: servers.Connection) -> None:
-        """Asks for the locks that are wanted, and then waits for what is told."""
+        """Asks for the locks that are wanted, and then waits for what is told. A lock is worth something while the standbys confirm what the
+        server writes: one that was cut off from them gives locks too, beside the one that took its place."""
         self.has(connection)
         begun = clock()
         wanted = self.wanted
         taken = self.past.take(connection, [f'list {name}' for name in wanted - self.terms.keys()])
+        self.past.confirm(connection)
+        if self.warning or self.connection is not connection:
+            raise servers.Lost(self.warning or 'another server was taken')
         for key in taken:
             name = key.removeprefix('list ')
             self.terms[name] = Term(self, name)
@@ -165,7 +182,7 @@ class Leading:
         was_there, self.is_there = self.is_there, False
         self.connection, self.limit = None, float('inf')
         self.terms = {}
-        self.until = 0.0
+        self.until, self.warning = 0.0, ''
         self.past.lines.close()
         if was_there:
             self.tell(None)

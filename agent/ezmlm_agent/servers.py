@@ -17,6 +17,7 @@ from . import aside, wire
 Result = TypeVar('Result')
 Connection: TypeAlias = 'psycopg.Connection[tuple[Any, ...]]'
 Cursor: TypeAlias = 'psycopg.Cursor[tuple[Any, ...]]'
+Notice: TypeAlias = 'psycopg.errors.Diagnostic'
 MOST = 4      # connections for calls, at once
 SKEW = 60     # seconds by which the clocks of a host and of the servers may differ
 OLDEST = 140000  # of PostgreSQL: idle_session_timeout came with 14
@@ -53,13 +54,19 @@ def words_of(error: BaseException) -> str:
     return wire.printable(' '.join(str(error).split())) or type(error).__name__
 
 
+def warning_of(notice: Notice) -> str:
+    """What a server warns of, or nothing. It answers a commit also when it gave up to wait for a standby, and warns of that."""
+    return wire.printable(notice.message_primary or 'a warning') if notice.severity_nonlocalized == 'WARNING' else ''
+
+
 class Servers:
     """How connections are opened: each server is tried in turn, and one that takes changes is taken."""
 
     def __init__(self, servers: str, host: str, standby: str, takeover: int) -> None:
         self.rows, self.host, self.standby, self.takeover = each(servers), host, standby, takeover
         self.said: Callable[[str], object] = lambda why: None  # is told what is odd, and no reason to end
-        self.first = 0  # the server that was taken last
+        self.moved: Callable[[], object] = lambda: None  # is told when another server is taken than before
+        self.first = self.last = 0  # the server that is tried first, and the one that was taken last
 
     def shown(self) -> str:
         """The servers by host and port, as the log names them."""
@@ -81,9 +88,15 @@ class Servers:
             except BaseException:
                 connection.close()
                 raise
-            self.first = at
+            is_other, self.first, self.last = at != self.last, at, at
+            if is_other and not idle:
+                self.moved()
             return connection
         raise Lost('; '.join(whys))
+
+    def turn(self) -> None:
+        """Has another server tried first: the one that was taken last hangs, as one does that was cut off from its standbys."""
+        self.first = (self.last + 1) % len(self.rows)
 
     def parameters(self, row: dict[str, Any], idle: bool) -> str:
         seconds, milliseconds = max(2, self.takeover // 3), 1000 * self.takeover
@@ -126,7 +139,7 @@ class Job:
         connection = self.lines.taken(self.has)
         connection.add_notice_handler(self.noticed)
         try:
-            with connection.transaction(), connection.cursor() as cursor:
+            with connection.transaction(), connection.cursor(binary=True) as cursor:
                 result = self.do(cursor, *self.words)
         except psycopg.Error as error:
             connection.close()
@@ -136,15 +149,13 @@ class Job:
             raise
         connection.remove_notice_handler(self.noticed)
         if self.warning:
-            # PostgreSQL answers a commit also when it gave up to wait for a standby. Then it may be lost with the server.
             connection.close()
             raise Lost(self.warning)
         self.lines.idle.append(connection)
         return result
 
-    def noticed(self, notice: psycopg.errors.Diagnostic) -> None:
-        if notice.severity_nonlocalized == 'WARNING':
-            self.warning = wire.printable(notice.message_primary or 'a warning')
+    def noticed(self, notice: Notice) -> None:
+        self.warning = warning_of(notice) or self.warning
 
     def has(self, connection: Connection) -> None:
         self.connection = connection
@@ -179,6 +190,8 @@ class Lines:
             done, _ = await asyncio.wait([future], timeout=2 * self.servers.takeover)
             if not done:
                 job.cut()
+                self.servers.turn()
+                self.close()
                 raise Lost(f'a call took longer than {2 * self.servers.takeover} seconds, as when no standby confirms')
             return future.result()
 
