@@ -34,7 +34,7 @@ def case_completion(world):
             ('ezmlm', ['cats', 'list', '-t', 'd'], ['digest', 'deny']), ('ezmlm', ['cats', 'sub', '0', 'm'], ['mod']),
             ('ezmlm', ['cats', 'out', ''], ['1', '2']),
             ('ezmlm', ['cats', 'make', '--'], ['--key', '--prefix', '--max']), ('ezmlm', ['cats', 'split', '-a', '1', 'a'], ['allow']),
-            ('ezmlm-agent', ['--c'], ['--check']), ('ezmlm-agent', ['--check', 'ca'], ['cats']),
+            ('ezmlm-agent', ['--c'], ['--check', '--configure']), ('ezmlm-agent', ['--check', 'ca'], ['cats']),
             ('ezmlm-admin', [''], ['cats', 'watch', 'metrics']), ('ezmlm-admin', ['--j'], ['--json']), ('ezmlm-admin', ['--json', 'c'], ['cats']),
             ('ezmlm-admin', ['cats', 'he'], ['held']), ('ezmlm-admin', ['cats', 'accept', ''], ['1', '2']),
             ('ezmlm-admin', ['cats', 'bounces', ''], ['list', 'digest']),
