@@ -15,6 +15,7 @@ GROUP = 100  # posts in one folder of the archive
 PARTS = ('config', 'key', 'subscribers', 'digest', 'allow', 'deny', 'mod', 'counts', 'num', 'dig', 'pending', 'tickets', 'bounce', 'queue', 'ids',
          'done', 'floor', 'archive/threads')
 PIECE = 1 << 20
+WAITS = 60  # seconds for which a host may be slower than another to look at its copy
 
 
 class Seen(NamedTuple):
@@ -70,15 +71,15 @@ def whole(path: pathlib.Path, part: Part) -> bytes:
     return hashlib.sha256(part.digest + hashed(path, (f'archive/{group}' for group in part.groups))).digest()
 
 
-def others(seen: Iterable[Seen], host: str) -> list[str]:
+def others(seen: Iterable[Seen], host: str, now: float) -> list[str]:
     """The hosts whose copies were another list at the last place at which this host's was looked at, unless more hosts agree with this one than
-    with any of those. Where as many do nobody can tell which is right."""
+    with any of those. Where as many do nobody can tell which is right; further hosts have a while to look before that counts."""
     rows = list(seen)
     own = max((row for row in rows if row.host == host), default=None)
     if own is None:
         return []
     there = [row for row in rows if row.place == own.place and row.back == own.back]
     many = collections.Counter(row.digest for row in there)
-    if all(count < many[own.digest] for digest, count in many.items() if digest != own.digest):
-        return []
-    return sorted(row.host for row in there if row.digest != own.digest)
+    most = max((count for digest, count in many.items() if digest != own.digest), default=0)
+    is_tied = most == many[own.digest] and now - max(row.moment for row in there) >= WAITS
+    return sorted(row.host for row in there if row.digest != own.digest) if most > many[own.digest] or is_tied else []

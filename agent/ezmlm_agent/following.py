@@ -126,7 +126,7 @@ class SharedList(mailing.MailingList):
         copies = [(entry, mark, b'\0'.join(recipients)) for (entry, mark), recipients in opened.handed.items()]
         await self.past.take_up(self.name, address, state.place, state.floor, state.config, state.key, kept, copies)
         seen = await self.past.seen(self.name)
-        if comparing.others(seen, self.past.host):  # It may have been replaced by a good copy.
+        if comparing.others(seen, self.past.host, time.time()):  # It may have been replaced by a good copy.
             last = max(row for row in seen if row.host == self.past.host)
             if last.place == state.place:
                 await self.look(last.place, last.back)
@@ -138,7 +138,7 @@ class SharedList(mailing.MailingList):
         """Looks whether this copy is what the other hosts' are."""
         if self.is_judging:
             self.is_judging = False
-            self.others = comparing.others(await self.past.seen(self.name), self.past.host)
+            self.others = comparing.others(await self.past.seen(self.name), self.past.host, time.time())
         if self.others:
             names = ' and '.join(self.others)
             raise retrying.Refused('another list', trouble.Cause(

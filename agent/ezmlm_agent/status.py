@@ -152,4 +152,4 @@ def host_of(name: str, place: int, following: int, since: int | None, seen: Sequ
     """Where a host stands in a history whose next item has the number `following`, and whose item at its place came at the moment `since`."""
     own = max((row for row in seen if row.host == name), default=None)
     return Host(name, place, following - place, max(0, int(time.time()) - since) if since is not None else 0,
-                own.moment if own else None, comparing.others(seen, name), is_there)
+                own.moment if own else None, comparing.others(seen, name, time.time()), is_there)

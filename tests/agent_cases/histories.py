@@ -222,14 +222,15 @@ def case_given_stream(world):
 def case_history_others(world):
     """Which hosts' copies differ: those that are fewer, or as many, at the last place at which a host's copy was looked at."""
     from ezmlm_agent import comparing
-    rows = [('', 'a', []), ('a1x', 'a', []), ('a1x b1x c1x', 'a', []), ('a1x b1y c1y', 'a', ['b', 'c']), ('a1x b1y c1y', 'b', []),
-            ('a1x b1y', 'a', ['b']), ('a1x b1y', 'b', ['a']), ('a1x b1y c1z', 'a', ['b', 'c']), ('a1x b1x c1y d1y', 'a', ['c', 'd']),
-            ('a1y b1x a2x b2x', 'a', []), ('a1x b1x a2x b2y c2y', 'a', ['b', 'c']), ('a1x b2y c2y', 'a', []), ('b1x c1y', 'a', [])]
-    for text, host, wanted in rows:
+    rows = [('', 'a', [], []), ('a1x', 'a', [], []), ('a1x b1x c1x', 'a', [], []), ('a1x b1y c1y', 'a', ['b', 'c'], ['b', 'c']),
+            ('a1x b1y c1y', 'b', [], []), ('a1x b1y', 'a', [], ['b']), ('a1x b1y', 'b', [], ['a']), ('a1x b1y c1z', 'a', [], ['b', 'c']),
+            ('a1x b1x c1y d1y', 'a', [], ['c', 'd']), ('a1y b1x a2x b2x', 'a', [], []), ('a1x b1x a2x b2y c2y', 'a', ['b', 'c'], ['b', 'c']),
+            ('a1x b2y c2y', 'a', [], []), ('b1x c1y', 'a', [], [])]
+    for text, host, soon, later in rows:
         seen = [comparing.Seen(int(word[1]), word[0], 100, word[2].encode(), 0) for word in text.split()]
-        same(comparing.others(seen, host), wanted, f'{text} for {host}')
+        same((comparing.others(seen, host, 59), comparing.others(seen, host, 60)), (soon, later), f'{text} for {host}')
     seen = [comparing.Seen(1, 'a', 100, b'x', 0), comparing.Seen(1, 'b', 200, b'y', 0)]
-    same(comparing.others(seen, 'a'), [], 'looks at more and at fewer posts')
+    same(comparing.others(seen, 'a', 60), [], 'looks at more and at fewer posts')
 
 
 def case_history_digest(world):
