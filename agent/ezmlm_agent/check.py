@@ -183,8 +183,11 @@ async def hosts(chosen: settings.Settings, addresses: Addresses) -> list[str]:
 def keeps_away(chosen: settings.Settings) -> list[str]:
     """Whether the unit keeps the agent from a transfer agent on another host, as it does unless IPAddressAllow names that."""
     where = settings.endpoint(chosen.mta)
-    if isinstance(where, str):
-        return []
+    return [] if isinstance(where, str) else kept_away(where, 'mta')
+
+
+def kept_away(where: tuple[str, int], setting: str) -> list[str]:
+    """Whether the unit keeps the agent from a host and port of a setting."""
     try:
         hosts = {ipaddress.ip_address(str(row[4][0]).partition('%')[0]) for row in socket.getaddrinfo(*where)}
         far = [host for host in hosts if not host.is_loopback]
@@ -192,7 +195,7 @@ def keeps_away(chosen: settings.Settings) -> list[str]:
                               timeout=10, check=True).stdout
     except (OSError, subprocess.SubprocessError):
         return []
-    return [f'{UNIT} has IPAddressDeny, by which the agent can\'t reach {host} (mta): add IPAddressAllow={host} to it'
+    return [f'{UNIT} has IPAddressDeny, by which the agent can\'t reach {host} ({setting}): add IPAddressAllow={host} to it'
             for host in far if is_denied(host, told)]
 
 

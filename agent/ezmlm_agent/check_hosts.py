@@ -12,6 +12,9 @@ async def faults(chosen: settings.Settings, addresses: 'check.Addresses') -> lis
     try:
         those = servers.Servers(chosen.history, chosen.host, chosen.standby, chosen.takeover)
         those.said = wrong.append
+        for row in those.rows:
+            host = str(row.get('hostaddr') or row.get('host') or '/')
+            wrong += [] if host.startswith('/') else check.kept_away((host, int(row.get('port') or 5432)), 'history')
         past = history.History(servers.Lines(those))
         if not await past.try_tables():
             print(f'history: {those.shown()} can be reached, and has no tables yet: the first agent makes them')

@@ -258,3 +258,13 @@ def case_history_digest(world):
     same((digest(10**8), digest(1)), hashes, 'the same files')
     os.unlink(folder / 'archive/0/17')
     check(digest(10**8) != hashes[0], 'a post that is gone')
+
+
+def case_history_answered(world):
+    """Which numbers a list has answered is read from its kept replies."""
+    from ezmlm_agent import folder
+    path = world.list()
+    for number in (512, 514, 1023, 500_000_000_000):
+        world.run('cats', 'sub', str(number), 'allow', 'x@y')
+    numbers = [1, 511, 512, 513, 514, 1022, 1023, 1024, 500_000_000_000, 500_000_000_001]
+    same(sorted(folder.answered(path, numbers)), [512, 514, 1023, 500_000_000_000], 'answered')

@@ -331,6 +331,37 @@ def copied(folder, to):
         shutil.copytree(folder, to)
 
 
+def case_shared_from_alone(world):
+    """A host that served its list alone goes on with a history, and back: what was posted and handed on before counts as before."""
+    with machines(world, 1) as (those, hosts):
+        if hosts is None:
+            return
+        host, = hosts
+        shared = dict(host.rows)
+        alone = {name: value for name, value in shared.items() if name not in ('history', 'host', 'standby', 'takeover')}
+        host.rows = alone
+        world.sink.defer = {'b@m.net'}
+        host.begin()
+        same(host.post(1), '250 2.0.0 posted 1', 'a post')
+        check(until(lambda: len(world.sink.copies) == 2), 'it did not go out')
+        host.end()
+        world.sink.defer = set()
+        host.rows = shared
+        host.begin()
+        same(host.post(1), '250 2.0.0 posted 1', 'the same')
+        same(host.post(2), '250 2.0.0 posted 2', 'another one')
+        check(until(lambda: len(world.sink.copies) >= 6) and are_at_rest(hosts), 'they did not go out')
+        same(sorted(world.sink.recipients()), sorted(2 * MEMBERS), 'recipients')
+        same(those.sql('SELECT min(number), count(*) FROM ezmlm.item WHERE get_byte(text, 0) = 68'), [(513, 1)], 'mails of the history')
+        host.end()
+        host.rows = alone
+        host.begin()
+        same(host.post(1), '250 2.0.0 posted 1', 'the first one once more')
+        same(host.post(3), '250 2.0.0 posted 3', 'a third one')
+        check(until(lambda: len(world.sink.copies) >= 9) and are_at_rest(hosts), 'it did not go out')
+        same(len(world.sink.copies), 9, 'copies')
+
+
 def case_shared_status(world):
     """--status tells where each host stands, who hands on, and what waits, with the status of a monitor's plugin; --forget-host forgets one."""
     with machines(world) as (those, hosts):
@@ -407,6 +438,9 @@ def case_shared_words(world):
         done = subprocess.run([*world.words, world.settings()], capture_output=True, text=True, check=False)
         check(done.returncode == 78 and wanted in done.stderr and done.stderr.count('\n') == 1, f'{more}: {done.returncode} {done.stderr}')
         world.rows = kept
+    done = subprocess.run(['/usr/bin/python3', '-c', 'import sys; from ezmlm_agent import __main__; print("psycopg" in sys.modules)'],
+                          cwd=TOP / 'agent', capture_output=True, text=True, check=False)
+    same(done.stdout, 'False\n', 'whether psycopg is read without a history')
     for words, status in ((['--give', world.settings()], 2), (['--status'], 2), (['--status', 'x', 'y', 'z'], 2),
                           (['--check', '--give', world.settings(), 'cats'], 2), (['--give', world.settings(), 'cats'], 78),
                           (['--configure', world.settings(), 'cats', 'x'], 78), (['--forget-host', world.settings(), 'one'], 78)):
