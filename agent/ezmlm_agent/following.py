@@ -55,10 +55,10 @@ class SharedList(mailing.MailingList):
 
     def hear(self, number: int) -> None:
         """The next item of the history has this number; or, with 0, this host begins or ends to hand on, or a host has looked at its copy."""
+        if number == 0 or number > self.next:
+            self.wake.set()
         self.next = max(self.next, number)
         self.is_judging = self.is_judging or number == 0
-        if number == 0 or number > self.place:
-            self.wake.set()
 
     async def stop(self) -> None:
         await super().stop()
@@ -76,6 +76,7 @@ class SharedList(mailing.MailingList):
             while self.next > self.place and self.health.cause is None and not self.waiting and not self.stopping:
                 await self.proceed([])
         except servers.Unfit as error:
+            self.is_taken_up = False
             raise self.refused('it can\'t go by its history', str(error)) from error
         except servers.Lost as error:
             raise self.refused('its history can\'t be reached', str(error)) from error

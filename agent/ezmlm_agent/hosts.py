@@ -3,11 +3,13 @@
 import asyncio
 import logging
 import pathlib
+import time
 from collections.abc import Callable, Iterable
 
 from . import following, history, leading, mailing, mails, servers, settings
 
 log = logging.getLogger('ezmlm-agent')
+HOUR = 3600
 
 
 class Hosts:
@@ -16,10 +18,17 @@ class Hosts:
     def __init__(self, chosen: settings.Settings, lists: Callable[[], Iterable[mailing.MailingList]]) -> None:
         """`lists` are those that are served. Wrong settings are a ValueError."""
         self.servers = servers.Servers(chosen.history, chosen.host, chosen.standby, chosen.takeover)
-        self.servers.said = log.warning
+        self.servers.said = self.say
+        self.said = float('-inf')  # when the last thing was said that is odd
         self.past = history.History(servers.Lines(self.servers))
         self.lists = lists
         self.lead = leading.Leading(self.past, self.told)
+
+    def say(self, why: str) -> None:
+        """Says what is odd about the servers, once an hour. It comes from any thread."""
+        if time.monotonic() > self.said + HOUR:
+            self.said = time.monotonic()
+            log.warning('%s', why)
 
     async def begin(self) -> str:
         """Begins when the servers were asked for the first time. The answer is why they can't keep the history, or nothing; where they aren't

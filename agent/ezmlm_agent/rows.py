@@ -80,9 +80,7 @@ class Rows:
         local, host, following, first = row_of(cursor)
         if (local, host) != address:
             raise servers.Unfit(f'the history of {name} is the one of the list {(local + b"@" + host).decode("ascii", "replace")}')
-        if place > following:
-            raise servers.Unfit(f'this host\'s copy of {name} has answered item {place - 1}, and its history goes to item {following - 1}: it was '
-                                'served by itself, or the history is an old one')
+        look_at_place(name, place, following)
         if place < first:
             raise servers.Unfit(f'this host\'s copy of {name} wants item {place}, and the history begins at item {first}: take a newer copy of '
                                 'another host')
@@ -101,6 +99,7 @@ class Rows:
     def proceeded(self, cursor: servers.Cursor, name: str, place: int, key: bytes | None, adds: Adds, most: int, size: int) -> Told:
         cursor.execute('SELECT next FROM ezmlm.list WHERE name = %s' + ' FOR UPDATE' * bool(adds), (name,))
         (following,) = row_of(cursor)
+        look_at_place(name, place, following)
         numbers = self.add(cursor, name, following, adds) if adds else []
         cursor.execute('SELECT l.next, h.place, (SELECT max(number) FROM ezmlm.configuration WHERE list = l.name AND number <= %s), '
                        '(SELECT min(number) FROM ezmlm.configuration WHERE list = l.name AND number > %s) '
@@ -145,7 +144,8 @@ class Rows:
         query = 'SELECT key, number FROM ezmlm.mail WHERE list = %s AND key = ANY(%s)'
         numbers, known = numbered(cursor.execute(query, (name, [key for key, _ in adds.mails])).fetchall() if adds.mails else [], adds.mails, put)
         query = 'SELECT theirs, number FROM ezmlm.given WHERE list = %s AND theirs = ANY(%s)'
-        theirs, given = numbered(cursor.execute(query, (name, [key for key, _ in adds.given])).fetchall() if adds.given else [], adds.given, put)
+        keys = [key for key, _ in adds.given if key]
+        theirs, given = numbered(cursor.execute(query, (name, keys)).fetchall() if keys else [], adds.given, put)
         for entry in adds.sent:
             put(functools.partial(report, entry))
         if adds.timed_before is not None:
@@ -190,6 +190,13 @@ class Rows:
         """Notes what the list answered to items of operators, by their numbers in the row."""
         await self.lines.call(make_each, 'UPDATE ezmlm.given SET answer = %s WHERE list = %s AND number = %s AND answer IS NULL',
                               [(answer, name, number) for number, answer in answers])
+
+
+def look_at_place(name: str, place: int, following: int) -> None:
+    """Servers that lost items, as old copies of them have, would give a number to another item. A copy that has answered that one is Unfit."""
+    if place > following:
+        raise servers.Unfit(f'this host\'s copy of {name} has answered item {place - 1}, and its history goes to item {following - 1}: it was served '
+                            'by itself, or the history is an old one')
 
 
 def numbered(found: Iterable[tuple[Any, ...]], entries: Sequence[tuple[Any, Spell]],

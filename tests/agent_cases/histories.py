@@ -129,7 +129,7 @@ def case_history_forgets(world):
 
 def case_history_of_another(world):
     """A copy that can't be one of the history's list is refused in words."""
-    with histories(world) as (_, pasts):
+    with histories(world) as (those, pasts):
         if pasts is None:
             return
         from ezmlm_agent import servers as connections
@@ -155,6 +155,14 @@ def case_history_of_another(world):
             except connections.Unfit as why:
                 check('was changed by hand' in str(why), why)
             await taken_up(two, 602, key=b'other')
+            those.sql('UPDATE ezmlm.list SET next = 601')
+            for mails in (), ('c', 'd', 'e'):
+                try:
+                    await told(two, 602, mails)
+                    check(False, 'a history that lost items is taken')
+                except connections.Unfit as why:
+                    check('has answered item 601, and its history goes to item 600' in str(why), why)
+            same(those.sql('SELECT count(*) FROM ezmlm.item'), [(2,)], 'items')
         asyncio.run(ask())
 
 

@@ -2,6 +2,7 @@
 
 import contextlib
 import os
+import re
 import shutil
 import signal
 import subprocess
@@ -130,8 +131,14 @@ def case_shared(world):
 
 
 def leader(hosts):
-    """The host that hands on."""
-    return max((each for each in hosts if each.agent), key=lambda each: each.log().rfind('this host hands on'))
+    """The host that hands on, when one does."""
+    found = []
+
+    def holds():
+        found[:] = re.findall(r'(\w+) hands on', hosts[0].command('--status', 'cats')[1])
+        return found and found[-1] != 'nobody'
+    check(until(holds), 'no host hands on')
+    return next(each for each in hosts if each.name == found[-1])
 
 
 def case_shared_takes_over(world):
