@@ -1,114 +1,12 @@
-"""Lists that several hosts have: one history of items in PostgreSQL, and an agent on each host with a copy of its own."""
+"""Lists that several hosts have: mail in and out, and what is killed, cut off, behind or damaged."""
 
-import contextlib
-import os
-import re
 import shutil
 import signal
-import subprocess
 import threading
 import time
 
-from . import servers
-from .world import HASTY, HOST, LISTENS, LONG, MEMBERS, TOP, Client, begins, check, held, post, same, until
-
-NAMES = 'one', 'two', 'three'
-
-
-class Machine:
-    """A host of a world: its folder of lists, and its agent."""
-
-    def __init__(self, world, name, history, standby):
-        self.world, self.name, self.place = world, name, world.place / name
-        (self.place / 'lists').mkdir(parents=True)
-        os.chmod(self.place / 'lists', 0o700)
-        self.rows = {**world.rows, 'lists': self.place / 'lists', 'state': self.place / 'state', 'listen': self.place / 'lmtp', 'name': f'{name}.ex.org',
-                     'history': history, 'host': name, 'standby': standby, 'takeover': 5}
-        self.agent, self.told = None, bytearray()
-
-    def settings(self):
-        path = self.place / 'agent.conf'
-        path.write_text('[agent]\n' + ''.join(f'{name} = {value}\n' for name, value in self.rows.items()))
-        return path
-
-    def folder(self, name='cats'):
-        return self.place / 'lists' / name
-
-    def begin(self, words=None):
-        told = self.told
-        before = told.count(LISTENS)
-        self.agent = subprocess.Popen([*(words or self.world.words), self.settings()], stdout=subprocess.PIPE, stderr=subprocess.STDOUT)
-        self.listening = threading.Thread(target=self.world.listen, args=[self.agent.stdout, told])
-        self.listening.start()
-        self.world.told.append(told) if not any(told is each for each in self.world.told) else None
-        until(lambda: told.count(LISTENS) > before or self.agent.poll() is not None)
-
-    def end(self, number=signal.SIGTERM):
-        if self.agent is None:
-            return None
-        self.agent.send_signal(number)
-        status = self.agent.wait(LONG)
-        self.listening.join()
-        self.agent = None
-        return status
-
-    def log(self):
-        return self.told.decode(errors='replace')
-
-    def says(self, *words):
-        return until(lambda: all(word in self.log() for word in words))
-
-    def command(self, word, *more, given=b''):
-        done = subprocess.run([*self.world.words, word, self.settings(), *more], input=given, stdout=subprocess.PIPE, stderr=subprocess.STDOUT,
-                              check=False)
-        return done.returncode, done.stdout.decode()
-
-    def mail(self, sender, recipient, message):
-        try:
-            with Client(self.place / 'lmtp') as client:
-                return client.mail(sender, [recipient], message)[0]
-        except (OSError, EOFError):
-            return None
-
-    def post(self, n=1, to='cats', **more):
-        return self.mail('w@m.net', f'{to}@{HOST}', post(n, to, **more))
-
-
-@contextlib.contextmanager
-def machines(world, many=3, kept=1, standby='none', names=NAMES):
-    """Hosts with a copy of the list cats each, over so many servers. Nothing where PostgreSQL isn't there."""
-    if (lacking := servers.lacking()) is not None:
-        world.note = f'not tried, as {lacking} is not there'
-        yield None, None
-        return
-    with servers.Servers(many=kept) as those:
-        first = world.list()
-        found = [Machine(world, name, those.string(), standby) for name in names[:many]]
-        for each in found:
-            shutil.copytree(first, each.folder())
-        shutil.rmtree(world.place / 'lists')
-        try:
-            yield those, found
-        finally:
-            for each in found:
-                each.end(signal.SIGKILL)
-
-
-def files(folder):
-    """A list's files but its lock and its log."""
-    return {str(path.relative_to(folder)): path.read_bytes() for path in sorted(folder.rglob('*'))
-            if path.is_file() and path.relative_to(folder).parts[0] not in ('lock', 'log')}
-
-
-def are_the_same(hosts, name='cats'):
-    """Whether the copies become equal to the byte."""
-    return until(lambda: all((each.folder(name) / 'log').stat().st_size <= 1 for each in hosts)
-                 and len({repr(files(each.folder(name))) for each in hosts}) == 1)
-
-
-def are_at_rest(hosts, name='cats'):
-    """Whether each host comes to know that all was handed on."""
-    return until(lambda: not any(list(each.folder(name).glob('queue/*')) for each in hosts))
+from .machines import are_at_rest, are_the_same, copied, leader, machines
+from .world import HASTY, MEMBERS, begins, check, same, until
 
 
 def case_shared(world):
@@ -128,17 +26,6 @@ def case_shared(world):
         same(sum('this host hands on' in each.log() for each in hosts), 1, 'hosts that hand on')
         for each in hosts:
             same(each.end(), 0, 'the status')
-
-
-def leader(hosts):
-    """The host that hands on, when one does."""
-    found = []
-
-    def holds():
-        found[:] = re.findall(r'(\w+) hands on', hosts[0].command('--status', 'cats')[1])
-        return found and found[-1] != 'nobody'
-    check(until(holds), 'no host hands on')
-    return next(each for each in hosts if each.name == found[-1])
 
 
 def case_shared_takes_over(world):
@@ -230,70 +117,35 @@ def case_shared_servers(world):
         world.note = f'{len(taken)} posts, {len(world.sink.copies) - 3 * len(taken)} copies twice'
 
 
-def case_shared_given(world):
-    """--give: items of operators go to each copy, count once by their numbers, and are answered as the program answers them."""
-    with machines(world, 2) as (those, hosts):
+def case_shared_from_alone(world):
+    """A host that served its list alone goes on with a history, and back: what was posted and handed on before counts as before."""
+    with machines(world, 1) as (those, hosts):
         if hosts is None:
             return
-        for each in hosts:
-            each.begin()
-        one, two = hosts
-        given = b'A1:0,1:1,4:list,5:d@e.f,R4:1000,1:1,4:list,7:a@m.net,F1:7,1:1,3:513,T1:5,10:1000000000,'
-        same(one.command('--give', 'cats', given=given), (0, '0 0 subscribed\n1000 0 unsubscribed\n7 0 floored 513\n5 0 timed 0\n'), 'at first')
-        same(two.command('--give', 'cats', given=given),
-             (0, '0 0 already\n1000 0 unsubscribed\n7 0 floored 513\n5 0 timed 0\n'), 'again on another host')
-        same(two.command('--give', 'cats', given=b'A1:0,1:1,3:mod,5:d@e.f,x'), (65, '0 0 subscribed\n- 65 bad 23\n'), 'a bad stream')
-        same(two.command('--give', 'cats', given=b'A1:0,1:1,3:mod'), (65, '- 65 short 9\n'), 'a short stream')
-        status, said = two.command('--give', 'dogs', given=given)
-        check(status == 75 and 'dogs has no history' in said, said)
-        many = b''.join(b'A%d:%d,1:1,5:allow,%d:m%d@x.y,' % (len(str(n)), n, len(f'm{n}@x.y'), n) for n in range(600_000_000_000, 600_000_000_300))
-        status, said = one.command('--give', 'cats', given=many)
-        same((status, said.count(' 0 subscribed\n'), said.count('\n')), (0, 300, 300), 'many')
-        same(one.post(1), '250 2.0.0 posted 1', 'a post')
-        check(until(lambda: len(world.sink.copies) == 3) and are_at_rest(hosts) and are_the_same(hosts), 'the copies differ')
-        same(sorted(world.sink.recipients()), ['b@m.net', 'c@m.net', 'd@e.f'], 'recipients')
-
-
-def case_shared_configured(world):
-    """--configure: a configuration is laid into each copy at one place; one that is changed by hand on one host isn't served there."""
-    with machines(world, 2) as (those, hosts):
-        if hosts is None:
-            return
-        for each in hosts:
-            each.begin()
-        one, two = hosts
-        same(one.post(1), '250 2.0.0 posted 1', 'a post')
-        check(are_the_same(hosts), 'the copies differ')
-        was = (one.folder() / 'config').read_bytes()
-        refused = was.replace(b'U\n', b'u\n', 1)
-        file = world.place / 'config'
-        rows = [(was + b'x', 'is no configuration'), (was.replace(b'local cats', b'local dogs'), 'of another list'),
-                (was.replace(b'DF', b'Df', 1), 'check would say'), (was.replace(b'owner owner@m.net', b'owner cats-x@ex.org'), 'check would say')]
-        for text, wanted in rows:
-            file.write_bytes(text)
-            status, said = two.command('--configure', 'cats', str(file))
-            check(status == 65 and wanted in said and said.count('\n') == 1, f'{text!r}: {status} {said}')
-        two.end()
-        for n, text in enumerate((refused, was.replace(b'max 1048576', b'max 1000'), refused), 2):
-            file.write_bytes(text)
-            same(one.command('--configure', 'cats', str(file))[0], 0, 'a configuration')
-            begins(one.post(n), '550' if text == refused else '250', 'a post of a stranger')
-        two.begin()
-        check(are_the_same(hosts), 'the copies differ')
-        same((two.folder() / 'config').read_bytes(), refused, 'the configuration')
-        (two.folder() / 'config').write_bytes(was)
-        check(until(lambda: (two.post(7) or '').startswith('451')), 'a post where the configuration was changed by hand')
-        check(two.says('its configuration was changed by hand on this host'), 'nothing is said')
-        same((two.place / 'state/cats.config').read_bytes(), refused, 'the one that all have')
-        begins(one.post(8), '550', 'a post on the other host')
-        (two.folder() / 'config').write_bytes(refused)
-        begins(two.post(9), '550', 'a post')
-        (two.folder() / 'key').write_bytes(bytes(range(32)))
-        check(until(lambda: (two.post(10) or '').startswith('451')), 'a post where the key was changed by hand')
-        check(two.says('its key was changed by hand on this host'), 'nothing is said')
-        shutil.copy(one.folder() / 'key', two.folder() / 'key')
-        begins(two.post(11), '550', 'a post')
-        check(are_the_same(hosts), 'the copies differ')
+        host, = hosts
+        shared = dict(host.rows)
+        alone = {name: value for name, value in shared.items() if name not in ('history', 'host', 'standby', 'takeover')}
+        host.rows = alone
+        world.sink.defer = {'b@m.net'}
+        host.begin()
+        same(host.post(1), '250 2.0.0 posted 1', 'a post')
+        check(until(lambda: len(world.sink.copies) == 2), 'it did not go out')
+        host.end()
+        world.sink.defer = set()
+        host.rows = shared
+        host.begin()
+        same(host.post(1), '250 2.0.0 posted 1', 'the same')
+        same(host.post(2), '250 2.0.0 posted 2', 'another one')
+        check(until(lambda: len(world.sink.copies) >= 6) and are_at_rest(hosts), 'they did not go out')
+        same(sorted(world.sink.recipients()), sorted(2 * MEMBERS), 'recipients')
+        same(those.sql('SELECT min(number), count(*) FROM ezmlm.item WHERE get_byte(text, 0) = 68'), [(513, 1)], 'mails of the history')
+        host.end()
+        host.rows = alone
+        host.begin()
+        same(host.post(1), '250 2.0.0 posted 1', 'the first one once more')
+        same(host.post(3), '250 2.0.0 posted 3', 'a third one')
+        check(until(lambda: len(world.sink.copies) >= 9) and are_at_rest(hosts), 'it did not go out')
+        same(len(world.sink.copies), 9, 'copies')
 
 
 def case_shared_compared(world):
@@ -330,218 +182,3 @@ def case_shared_compared(world):
         for each in hosts:
             each.end()
         check(len(set(copy[1:] for copy in world.sink.copies)) == 18, 'copies are missing')
-
-
-def copied(folder, to):
-    """Copies a list's folder as docs/OPERATING.md does it."""
-    with held(folder):
-        shutil.copytree(folder, to)
-
-
-def case_shared_from_alone(world):
-    """A host that served its list alone goes on with a history, and back: what was posted and handed on before counts as before."""
-    with machines(world, 1) as (those, hosts):
-        if hosts is None:
-            return
-        host, = hosts
-        shared = dict(host.rows)
-        alone = {name: value for name, value in shared.items() if name not in ('history', 'host', 'standby', 'takeover')}
-        host.rows = alone
-        world.sink.defer = {'b@m.net'}
-        host.begin()
-        same(host.post(1), '250 2.0.0 posted 1', 'a post')
-        check(until(lambda: len(world.sink.copies) == 2), 'it did not go out')
-        host.end()
-        world.sink.defer = set()
-        host.rows = shared
-        host.begin()
-        same(host.post(1), '250 2.0.0 posted 1', 'the same')
-        same(host.post(2), '250 2.0.0 posted 2', 'another one')
-        check(until(lambda: len(world.sink.copies) >= 6) and are_at_rest(hosts), 'they did not go out')
-        same(sorted(world.sink.recipients()), sorted(2 * MEMBERS), 'recipients')
-        same(those.sql('SELECT min(number), count(*) FROM ezmlm.item WHERE get_byte(text, 0) = 68'), [(513, 1)], 'mails of the history')
-        host.end()
-        host.rows = alone
-        host.begin()
-        same(host.post(1), '250 2.0.0 posted 1', 'the first one once more')
-        same(host.post(3), '250 2.0.0 posted 3', 'a third one')
-        check(until(lambda: len(world.sink.copies) >= 9) and are_at_rest(hosts), 'it did not go out')
-        same(len(world.sink.copies), 9, 'copies')
-
-
-def case_shared_status(world):
-    """--status tells where each host stands, who hands on, and what waits, with the status of a monitor's plugin; --forget-host forgets one."""
-    with machines(world) as (those, hosts):
-        if hosts is None:
-            return
-        one, two, three = hosts
-        status, said = one.command('--status')
-        check(status == 2 and said.startswith('EZMLM-AGENT CRITICAL - ') and 'can\'t be reached' in said, said)
-        for each in hosts:
-            each.begin()
-        same(one.post(1), '250 2.0.0 posted 1', 'a post')
-
-        def says(level, *wanted, name='cats'):
-            def holds():
-                self_said = one.command('--status', name)
-                said.append(self_said)
-                return self_said[0] == level and all(word in self_said[1] for word in wanted)
-            said = []
-            check(until(holds), f'{wanted}: {said[-1:]}')
-            return said[-1][1].splitlines()
-        lines = says(0, 'EZMLM-AGENT OK - 1 list', 'cats: queue 0, ', ' hands on', 'cats: one at item 514, has all', 'cats: two at item 514, has all',
-                     'cats: three at item 514, has all, never compared')
-        same(len(lines), 5, lines)
-        three.end()
-        says(1, 'EZMLM-AGENT WARNING - cats: three isn\'t there')
-        world.sink.defer = set(MEMBERS)
-        same(two.post(2), '250 2.0.0 posted 2', 'a post')
-        says(1, 'cats: queue 1, the oldest for ', 'cats: three at item 514, 1 items and ')
-        those.sql("UPDATE ezmlm.item SET first = first - 4000 WHERE number = 514")
-        says(2, 'EZMLM-AGENT CRITICAL - cats: three is 1 items and 40')
-        same(one.command('--forget-host', 'two'), (65, 'ezmlm-agent: an agent of the host two runs: end it first\n'), 'a host that runs')
-        same(one.command('--forget-host', 'four'), (65, 'ezmlm-agent: no list has a copy on a host four\n'), 'a host that there is not')
-        same(one.command('--forget-host', 'three'), (0, 'three is forgotten, which had 1 lists\n'), 'a host')
-        says(0, 'EZMLM-AGENT OK')
-        os.utime(one.folder() / 'queue/2', 2 * (time.time() - 2 * 86400,))
-        says(2, 'cats: the oldest entry of the queue is ')
-        status, said = one.command('--status', 'dogs')
-        check(status == 2 and said.startswith('EZMLM-AGENT CRITICAL - there is no list dogs'), said)
-        one.end()
-        says(2, 'no agent runs here', 'two hands on')
-        three.begin()
-        check(until(lambda: 'cats: three at item 515, has all' in one.command('--status')[1]), 'a host that was forgotten comes back')
-
-
-def case_status_alone(world):
-    """--status without a history tells of this host's queues, and whether the agent runs."""
-    world.list()
-
-    def said():
-        done = subprocess.run([*world.words, '--status', world.settings()], capture_output=True, text=True, check=False)
-        return done.returncode, done.stdout.splitlines()
-    same(said(), (2, ['EZMLM-AGENT CRITICAL - no agent runs here', 'cats: queue 0']), 'before the agent')
-    world.begin()
-    same(said(), (0, ['EZMLM-AGENT OK - 1 list', 'cats: queue 0']), 'with the agent')
-    world.sink.defer = set(MEMBERS)
-    world.post()
-    status, lines = said()
-    check(status == 0 and lines[1].startswith('cats: queue 1, the oldest for '), lines)
-    os.utime(world.folder() / 'queue/1', 2 * (time.time() - 2 * 86400,))
-    status, lines = said()
-    check(status == 2 and lines[0].startswith('EZMLM-AGENT CRITICAL - cats: the oldest entry of the queue is '), lines)
-
-
-def case_shared_words(world):
-    """Words and settings of several hosts that make no sense are refused, each by name."""
-    world.list()
-    rows = [({'history': 'host=x'}, 'history and host belong together'), ({'host': 'one'}, 'and there is no history'),
-            ({'history': 'host=x', 'host': 'a b'}, 'host is no name'), ({'history': 'host=x', 'host': 'a', 'standby': 'some'}, 'neither quorum nor none'),
-            ({'history': 'host=x', 'host': 'a', 'takeover': '1'}, 'takeover is below 2'), ({'history': 'nonsense', 'host': 'a'}, 'no connection string'),
-            ({'history': 'host=x,y port=1,2,3', 'host': 'a'}, 'not as many of the one as of the other')]
-    for more, wanted in rows:
-        kept = dict(world.rows)
-        world.rows.update(more)
-        done = subprocess.run([*world.words, world.settings()], capture_output=True, text=True, check=False)
-        check(done.returncode == 78 and wanted in done.stderr and done.stderr.count('\n') == 1, f'{more}: {done.returncode} {done.stderr}')
-        world.rows = kept
-    done = subprocess.run(['/usr/bin/python3', '-c', 'import sys; from ezmlm_agent import __main__; print("psycopg" in sys.modules)'],
-                          cwd=TOP / 'agent', capture_output=True, text=True, check=False)
-    same(done.stdout, 'False\n', 'whether psycopg is read without a history')
-    for words, status in ((['--give', world.settings()], 2), (['--status'], 2), (['--status', 'x', 'y', 'z'], 2),
-                          (['--check', '--give', world.settings(), 'cats'], 2), (['--give', world.settings(), 'cats'], 78),
-                          (['--configure', world.settings(), 'cats', 'x'], 78), (['--forget-host', world.settings(), 'one'], 78)):
-        done = subprocess.run([*world.words, *words], stdin=subprocess.DEVNULL, capture_output=True, text=True, check=False)
-        check(done.returncode == status and 'Traceback' not in done.stderr, f'{words}: {done.returncode} {done.stderr}')
-
-
-def case_shared_refused(world):
-    """Servers that can't keep a history, and a history that isn't this agent's, are refused in words at the start and by --check."""
-    with machines(world, 1) as (those, hosts):
-        if hosts is None:
-            return
-        host, = hosts
-        first = those.all[0]
-
-        def refused(wanted, sql=(), undo=(), rows=None, starts=1):
-            for text in sql:
-                first.sql(text) if 'SYSTEM' in text or 'ROLE' in text else those.sql(text)
-            kept, host.rows = host.rows, {**host.rows, **(rows or {})}
-            status, said = host.command('--check')
-            check(status == 1 and any(line.startswith('! ') and wanted in line for line in said.splitlines()), f'{wanted}: {said}')
-            done = subprocess.run([*world.words, host.settings()], capture_output=True, text=True, check=False) if starts is not None else None
-            check(done is None or done.returncode == starts and wanted in done.stderr, f'{wanted}: {done}')
-            host.rows = kept
-            for text in undo:
-                first.sql(text) if 'SYSTEM' in text or 'ROLE' in text else those.sql(text)
-        status, said = host.command('--check')
-        check(status == 0 and 'has no tables yet' in said and 'on one server alone' not in said, said)
-        refused('the server has no synchronous standby', rows={'standby': 'quorum'})
-        refused('synchronous_commit is off', ["ALTER ROLE ezmlm SET synchronous_commit = off"], ["ALTER ROLE ezmlm RESET synchronous_commit"])
-        refused('connection failed', rows={'history': 'host=127.0.0.1 port=1 dbname=x'}, starts=None)
-        refused('synchronous_commit is local', ["ALTER ROLE ezmlm SET synchronous_commit = local"], ["ALTER ROLE ezmlm RESET synchronous_commit"],
-                rows={'standby': 'quorum'})
-        host.begin()
-        same(host.post(1), '250 2.0.0 posted 1', 'a post')
-        status, said = host.command('--check')
-        check(status == 0 and 'on one server alone' in said and 'cats: the history has the ' in said, said)
-        host.end()
-        refused('the history has version 2, and this agent knows version 1: install the newer agent', ['UPDATE ezmlm.version SET number = 2'],
-                ['UPDATE ezmlm.version SET number = 1'])
-        refused('permission denied', ['REVOKE ALL ON ezmlm.version FROM ezmlm'], ['GRANT ALL ON ezmlm.version TO ezmlm'])
-        refused('its history is the one of the list dogs@ex.org', ["UPDATE ezmlm.list SET local = 'dogs'"], ["UPDATE ezmlm.list SET local = 'cats'"],
-                starts=None)
-        refused('this copy wants item 514, and the history begins at item 600', ['UPDATE ezmlm.list SET first = 600, next = 700'],
-                ['UPDATE ezmlm.list SET first = 512, next = 514'], starts=None)
-        host.begin()
-        same(host.post(2), '250 2.0.0 posted 2', 'a post')
-
-
-def case_shared_one_name(world):
-    """A second host of the same name ends, and says so; the first one goes on."""
-    with machines(world, 2) as (those, hosts):
-        if hosts is None:
-            return
-        one, two = hosts
-        two.rows['host'] = 'one'
-        one.begin()
-        two.begin()
-        check(two.agent.wait(60) == 1 and two.says('another agent calls itself host = one'), two.log())
-        same(one.post(1), '250 2.0.0 posted 1', 'a post')
-        two.end()
-
-
-def case_shared_address(world):
-    """A list whose history is another one's isn't served there; a host whose folder is gone puts its mail off."""
-    with machines(world, 2) as (those, hosts):
-        if hosts is None:
-            return
-        one, two = hosts
-        one.begin()
-        same(one.post(1), '250 2.0.0 posted 1', 'a post')
-        shutil.rmtree(two.folder())
-        subprocess.run([world.program, two.folder(), 'make', '--key', '1' * 64, 'birds', HOST, 'o@m.net'], check=True, stdout=subprocess.DEVNULL)
-        two.begin()
-        begins(two.post(2, 'birds'), '451 ', 'a post to another list')
-        check(two.says('the history of cats is the one of the list cats@ex.org'), two.log())
-        shutil.move(one.folder(), one.place / 'away')
-        begins(one.post(3), '451 ', 'a post without a folder')
-        shutil.move(one.place / 'away', one.folder())
-        check(until(lambda: (one.post(3) or '').startswith('250 2.0.0 posted 2')), 'a post with it')
-
-
-def case_shared_clock(world):
-    """Clocks that differ by more than a minute are told, and nothing more."""
-    if servers.lacking():
-        return
-    from ezmlm_agent import servers as connections
-    with servers.Servers(many=1) as those:
-        told = []
-        found = connections.Servers(those.string(), 'one', 'none', 5)
-        found.said = told.append
-        found.connect().close()
-        same(told, [], 'with one clock')
-        kept, connections.SKEW = connections.SKEW, -1
-        found.connect().close()
-        connections.SKEW = kept
-        check(len(told) == 1 and told[0].startswith('the clocks of this host and of the server differ by 0 seconds'), told)
