@@ -22,7 +22,7 @@ def spell(word):
 
 
 @contextlib.contextmanager
-def histories(world, hosts=('one', 'two'), many=1, standby='none'):
+def histories(world, hosts=('one', 'two'), many=1, standby='none', takeover=5):
     """A history for each host over servers of their own, or nothing where PostgreSQL isn't there."""
     if (lacking := servers.lacking()) is not None:
         world.note = f'not tried, as {lacking} is not there'
@@ -31,7 +31,7 @@ def histories(world, hosts=('one', 'two'), many=1, standby='none'):
     from ezmlm_agent import history
     from ezmlm_agent import servers as connections
     with servers.Servers(many=many) as those:
-        found = [history.History(connections.Lines(connections.Servers(those.string(), host, standby, 5))) for host in hosts]
+        found = [history.History(connections.Lines(connections.Servers(those.string(), host, standby, takeover))) for host in hosts]
         with contextlib.closing(found[0].lines.servers.connect()) as connection:
             found[0].prepare(connection)
         try:
@@ -84,7 +84,7 @@ def case_history_rows(world):
 
 def case_history_at_once(world):
     """What many hosts put in at once gets numbers in a row, each its own."""
-    with histories(world, [f'host{n}' for n in range(4)]) as (those, pasts):
+    with histories(world, [f'host{n}' for n in range(4)], takeover=60) as (those, pasts):
         if pasts is None:
             return
 
