@@ -101,7 +101,8 @@ class Servers:
     def parameters(self, row: dict[str, Any], idle: bool) -> str:
         seconds, milliseconds = max(2, self.takeover // 3), 1000 * self.takeover
         limits = {'idle_in_transaction_session_timeout': milliseconds, 'lock_timeout': milliseconds, 'tcp_user_timeout': milliseconds,
-                  'client_connection_check_interval': 1000} | ({'idle_session_timeout': milliseconds} if idle else {})
+                  'client_connection_check_interval': 1000, 'tcp_keepalives_idle': seconds, 'tcp_keepalives_interval': max(1, seconds // 3),
+                  'tcp_keepalives_count': 3} | ({'idle_session_timeout': milliseconds} if idle else {})
         options = ' '.join([str(row.get('options') or ''), *(f'-c {name}={value}' for name, value in limits.items())])
         more = {'connect_timeout': seconds, 'keepalives': 1, 'keepalives_idle': seconds, 'keepalives_interval': max(1, seconds // 3),
                 'keepalives_count': 3, 'tcp_user_timeout': milliseconds, 'target_session_attrs': 'read-write',

@@ -127,6 +127,17 @@ def case_history_forgets(world):
         asyncio.run(ask())
 
 
+def case_history_of_a_lost_host(world):
+    """A server asks a host that says nothing whether it is still there, also in the middle of a call, so that its locks go within `takeover`."""
+    with histories(world) as (those, found):
+        if those is None:
+            return
+        with contextlib.closing(found[0].lines.servers.connect()) as connection:
+            rows = [connection.execute(f'SHOW tcp_keepalives_{name}').fetchone() for name in ('idle', 'interval', 'count')]
+        idle, interval, count = (int(value) for value, in rows)
+        check(0 < idle + interval * count <= 5, f'a host is asked after {idle} s, and {count} times every {interval} s')
+
+
 def case_history_of_another(world):
     """A copy that can't be one of the history's list is refused in words."""
     with histories(world) as (those, pasts):
