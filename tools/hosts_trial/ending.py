@@ -7,14 +7,16 @@ import pathlib
 import re
 import shutil
 import subprocess
+import time
 from collections.abc import Iterable
-from typing import NamedTuple
+from typing import Any, NamedTuple
 
 from .people import LISTS, People
 from .setting import Setting
 from .sink import Copy, copy_of
 
 NOT_COMPARED = {'lock', 'log'}
+COMPARING = 60  # seconds in which the hosts have compared their copies, which they do after each timed run
 LATER = 75, 124  # the statuses of a command that is to be given again, and of one that took too long and was killed
 IDENT = re.compile(rb'(?m)^Received: by mx\.ex\.org id (\S+)\r?$')
 
@@ -72,11 +74,18 @@ class Ending:
             self.wrong.append(f'{what}: {len(shown)}, as {", ".join(str(one) for one in shown[:5])}')
 
     def watch(self) -> None:
-        """Each host says that all is well, while the agents run."""
+        """Each host says that all is well, and the hosts compare their copies, while the agents run."""
         for host in self.setting.hosts:
             status, said = host.command('--status')
             if status != 0:
                 self.wrong.append(f'--status on {host.name} ends with {status}: {said!r}')
+        end = time.monotonic() + COMPARING
+        for name in LISTS:
+            while not any(hosts > 1 for _, hosts, _ in self.seen(name)):
+                if time.monotonic() > end:
+                    self.wrong.append(f'{name}: no two hosts compared their copies')
+                    break
+                time.sleep(0.2)
 
     def look(self) -> None:
         if self.settled is None:
@@ -107,7 +116,7 @@ class Ending:
                 replayed[place], _ = self.replay(name, [row for row in rows if row.number < place], f'replayed.{place}')
             self.note(f'{name}: files of {host.name} and of one list that got all items differ', different(host.lists / name, replayed[place]))
         unsent, answers = self.replay(name, [row for row in rows if row.text[:1] != b'S'], 'unsent')
-        self.compared(name)
+        self.note(f'{name}: hosts saw that their copies differ', [place for place, _, digests in self.seen(name) if digests > 1])
         self.told(name, rows, answers)
         self.given(name, answers)
         self.archived(name, max(replayed), answers)
@@ -136,13 +145,11 @@ class Ending:
         self.note(f'{name}: items that one list does not answer', unanswered)
         return folder, answers
 
-    def compared(self, name: str) -> None:
-        """The hosts compared their copies with each other, and found no difference."""
-        rows = self.setting.servers.sql('SELECT place, count(*), count(DISTINCT digest) FROM ezmlm.digest WHERE list = %s '
+    def seen(self, name: str) -> list[tuple[Any, ...]]:
+        """Where hosts looked at their copies, how many did, and how many digests they saw there. Of what was before a later timed run nothing is
+        kept."""
+        return self.setting.servers.sql('SELECT place, count(*), count(DISTINCT digest) FROM ezmlm.digest WHERE list = %s '
                                         'GROUP BY place, back', name)
-        self.note(f'{name}: hosts saw that their copies differ', [place for place, _, digests in rows if digests > 1])
-        if not any(hosts > 1 for _, hosts, _ in rows):
-            self.wrong.append(f'{name}: no two hosts compared their copies')
 
     def told(self, name: str, rows: list[Row], answers: dict[int, str]) -> None:
         """Each mail that was taken or refused is in the history once, and was told what the list answers."""
