@@ -11,7 +11,7 @@ import time
 from . import comparing, folder, handed, history, leading, mailing, mails, notes, program, retrying, rows, servers, trouble
 
 log = logging.getLogger('ezmlm-agent')
-RESTS = 1  # seconds behind the last item
+RESTS = 1  # seconds after the last item
 
 
 @dataclasses.dataclass(frozen=True)
@@ -46,7 +46,7 @@ class SharedList(mailing.MailingList):
         self.answers: list[tuple[int, str]] = []  # of operators' items, until they are noted
         self.others: list[str] = []  # hosts of which the copy is another list than this one
         self.is_judging = True       # whether what the hosts saw may have changed
-        self.looks_behind: rows.Row | None = None  # a timed run behind which this copy is looked at
+        self.looks_after: rows.Row | None = None  # a timed run after which this copy is looked at
         self.looking: asyncio.Task[None] | None = None
 
     def start(self) -> None:
@@ -103,8 +103,8 @@ class SharedList(mailing.MailingList):
             await self.past.forget(self.name, self.load.stale)
         await self.note_answers()
         await self.forget_copies()
-        if self.looks_behind is not None and self.place == self.looks_behind.number + 1:
-            await self.look(self.place, self.looks_behind.back or rows.WHOLE)
+        if self.looks_after is not None and self.place == self.looks_after.number + 1:
+            await self.look(self.place, self.looks_after.back or rows.WHOLE)
         self.lead.want(self.name, self.health.cause is None)
         if self.next > self.place and self.health.cause is None:
             self.wake.set()
@@ -200,7 +200,7 @@ class SharedList(mailing.MailingList):
     # Items.
 
     async def step(self, batch: list[mails.Mail]) -> list[program.Item]:
-        """Puts mails, reports and a timed run into the history. The answer is items for the list: repeats, and those behind its place."""
+        """Puts mails, reports and a timed run into the history. The answer is items for the list: repeats, and those from its place on."""
         is_leading = self.copies() is not None
         sent = self.queue.handed_on - self.reporting if is_leading else set()
         is_timed = self.is_due and is_leading and not self.stopping
@@ -217,10 +217,10 @@ class SharedList(mailing.MailingList):
             mail.number = number
             self.waits.setdefault(number, []).append((mail, key))
         items = self.repeats() + [program.Item(row.text, functools.partial(self.answered, row)) for row in told.again]
-        behind, self.looks_behind = told.rows, None
+        behind, self.looks_after = told.rows, None
         for at, row in enumerate(behind):
             if row.back is not None:  # The run ends there, so that the copy is looked at.
-                behind, self.looks_behind, self.load.until = behind[:at + 1], row, 0
+                behind, self.looks_after, self.load.until = behind[:at + 1], row, 0
                 break
         if told.configured != self.configured_at:  # It is laid in between two runs.
             self.configured_at, self.load.until = -1, 0

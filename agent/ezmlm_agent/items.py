@@ -37,7 +37,7 @@ ELEMENTS = {b'D': (ENVELOPE, ENVELOPE, MESSAGE), b'T': (), b'S': (ID,), b'A': (S
 
 @dataclasses.dataclass(frozen=True)
 class Given:
-    """An item that somebody gives: its letter, its number, and all that stands behind that."""
+    """An item that somebody gives: its letter, its number, and all that follows."""
     letter: bytes
     number: int
     rest: bytes

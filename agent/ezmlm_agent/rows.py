@@ -27,7 +27,7 @@ class Row:
     """An item of the row."""
     number: int
     text: bytes
-    back: int | None = None  # of a timed run, how many of the newest posts are compared behind it
+    back: int | None = None  # of a timed run, how many of the newest posts are compared after it
     is_given: bool = False   # whether an operator waits for its answer
 
 
@@ -92,7 +92,7 @@ class Rows:
                        'seen = excluded.seen, key = excluded.key', (name, self.host, place, now, key))
 
     async def proceed(self, name: str, place: int, key: bytes | None, adds: Adds, most: int, size: int) -> Told:
-        """Puts items behind the others, and tells those from a host's place on that its list hasn't answered: so many at most, and of so many
+        """Puts items after the others, and tells those from a host's place on that its list hasn't answered: so many at most, and of so many
         bytes, but one where there is one. What it tells is kept by the servers for good, whoever put it there."""
         return await self.lines.call(self.proceeded, name, place, key, adds, most, size)
 

@@ -64,8 +64,8 @@ class Servers:
 
     def __init__(self, servers: str, host: str, standby: str, takeover: int) -> None:
         self.rows, self.host, self.standby, self.takeover = each(servers), host, standby, takeover
-        self.said: Callable[[str], object] = lambda why: None  # is told what is odd, and no reason to end
-        self.moved: Callable[[], object] = lambda: None  # is told when another server is taken than before
+        self.said: Callable[[str], object] = lambda why: None  # gets what is odd and no reason to end
+        self.moved: Callable[[], object] = lambda: None  # is called when another server is taken than before
         self.first = self.last = 0  # the server that is tried first, and the one that was taken last
 
     def shown(self) -> str:

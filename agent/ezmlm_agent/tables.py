@@ -8,7 +8,7 @@ TABLES = '''
     -- The lists by their folders' names: the next number, the first of which the item is kept, the floor, the last timed run and its day.
     CREATE TABLE IF NOT EXISTS list (name text PRIMARY KEY, local bytea NOT NULL, host bytea NOT NULL, next bigint NOT NULL,
         first bigint NOT NULL, floor bigint NOT NULL, timed bigint NOT NULL, day bigint NOT NULL);
-    -- The items: when each came, and of a timed run how many of the newest posts are compared behind it.
+    -- The items: when each came, and of a timed run how many of the newest posts are compared after it.
     CREATE TABLE IF NOT EXISTS item (list text, number bigint, first bigint NOT NULL, back bigint, text bytea NOT NULL,
         PRIMARY KEY (list, number));
     -- The numbers of mails by their keys, and of items that operators gave, by the numbers that they gave them, with their answers.
