@@ -48,10 +48,10 @@ const CALLS: usize = 60_000;
 
 const ROOM: usize = 10_000;
 
-fn plain(alloc: Global, moment: Option<u64>) -> Next {
+fn plain(alloc: Global, moment: Option<u64>, input: Bytes) -> Next {
     Next {
         moment,
-        input: Bytes::new(alloc),
+        input,
         reads: Numbers::new(alloc),
         failing: Numbers::new(alloc),
         calls: CALLS,
@@ -74,7 +74,7 @@ pub(crate) fn empty(alloc: Global) -> Stage {
         image: nothing(alloc),
         before: nothing(alloc),
         unread: 0,
-        next: plain(alloc, Some(1_000_000_000)),
+        next: plain(alloc, Some(1_000_000_000), Bytes::new(alloc)),
     }
 }
 
@@ -87,25 +87,31 @@ fn copied(alloc: Global, image: &Image) -> Result<Image, AllocError> {
 
 /// The same list, whose next command meets the same moment and input.
 pub(crate) fn beginning(alloc: Global, stage: &Stage) -> Result<Stage, AllocError> {
-    let mut next = plain(alloc, stage.next.moment);
-    next.input = Bytes::from_slice(alloc, stage.next.input.as_slice())?;
+    let image = copied(alloc, &stage.image)?;
+    let input = Bytes::from_slice(alloc, stage.next.input.as_slice())?;
     Ok(Stage {
-        image: copied(alloc, &stage.image)?,
+        image,
         before: nothing(alloc),
         unread: 0,
-        next,
+        next: plain(alloc, stage.next.moment, input),
     })
 }
 
-// The words of a command, with single spaces between them. An empty word is spelled `''`.
+// A word as it is spelled. An empty one is spelled `''`.
+fn word_of(alloc: Global, named: &Named, word: &str) -> Result<String, Fail> {
+    if word == "''" {
+        return Ok(String::new(alloc));
+    }
+    let word = spelled_with(alloc, named, word)?;
+    Ok(String::from_utf8(word.into_vec())?)
+}
+
+// The words of a command, with single spaces between them.
 fn words_of(alloc: Global, named: &Named, text: &str) -> Result<Vec<String>, Fail> {
     let mut words = Vec::new(alloc);
     for word in text.split(' ') {
-        if word == "''" {
-            words.push(String::new(alloc))?;
-        } else if !word.is_empty() {
-            let word = spelled_with(alloc, named, word)?;
-            words.push(String::from_utf8(word.into_vec())?)?;
+        if !word.is_empty() {
+            words.push(word_of(alloc, named, word)?)?;
         }
     }
     Ok(words)
@@ -190,7 +196,7 @@ fn ended<P: Program>(
 fn take_left(alloc: Global, stage: &mut Stage, site: &MemSite) -> Result<(), Fail> {
     stage.before = copied(alloc, &stage.image)?;
     stage.image = site.crash(alloc, stage.next.stop, stage.next.fill)?;
-    stage.next = plain(alloc, stage.next.moment);
+    stage.next = plain(alloc, stage.next.moment, Bytes::new(alloc));
     Ok(())
 }
 

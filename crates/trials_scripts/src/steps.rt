@@ -87,6 +87,21 @@ fn put(image: &mut Image, name: Name, text: Bytes) -> Result<(), Fail> {
     Ok(())
 }
 
+// The bytes but the last.
+fn without_last(bytes: &[u8]) -> &[u8] {
+    match bytes {
+        [rest @ .., _] => rest,
+        [] => bytes,
+    }
+}
+
+// A text after another.
+fn joined(alloc: Global, first: &[u8], second: &[u8]) -> Result<Bytes, Fail> {
+    let mut bytes = Bytes::from_slice(alloc, first)?;
+    bytes.extend(second)?;
+    Ok(bytes)
+}
+
 // What a file is changed to: `put` gives it a text, `cut` takes its last byte, `grow` adds a text at its end, and `take` gives it what
 // another file has.
 fn changed(
@@ -97,19 +112,20 @@ fn changed(
     name: Name,
     text: &str,
 ) -> Result<Option<Bytes>, Fail> {
-    let mut bytes = Bytes::from_slice(alloc, file_of(image, name))?;
     if verb == "put" {
-        bytes = spelled_with(alloc, named, text)?;
+        Ok(Some(spelled_with(alloc, named, text)?))
     } else if verb == "cut" {
-        bytes.truncate(bytes.len().saturating_sub(1));
+        let rest = without_last(file_of(image, name));
+        Ok(Some(Bytes::from_slice(alloc, rest)?))
     } else if verb == "grow" {
-        bytes.extend(spelled_with(alloc, named, text)?.as_slice())?;
+        let more = spelled_with(alloc, named, text)?;
+        Ok(Some(joined(alloc, file_of(image, name), more.as_slice())?))
     } else if verb == "take" {
-        bytes = Bytes::from_slice(alloc, file_of(image, name_of(text)?))?;
+        let other = name_of(text)?;
+        Ok(Some(Bytes::from_slice(alloc, file_of(image, other))?))
     } else {
-        return Ok(None);
+        Ok(None)
     }
-    Ok(Some(bytes))
 }
 
 // Fails where a file hasn't this text, or isn't absent where it is to `lack` or the command to `lose` it.
@@ -143,15 +159,27 @@ fn allow(alloc: Global, stage: &mut Stage, verb: &str, name: Name) -> Result<(),
     Ok(())
 }
 
+// Gives the file of a number in a folder a text.
+fn put_numbered(
+    alloc: Global,
+    named: &Named,
+    image: &mut Image,
+    folder: &str,
+    number: u64,
+    text: &str,
+) -> Result<(), Fail> {
+    let text = spelled_with(alloc, named, text)?;
+    let path = format!(in alloc; "{folder}/{number}")?;
+    put(image, name_of(path.as_str())?, text)
+}
+
 // Gives the files of some numbers in a folder a text: `each FIRST LAST FOLDER TEXT`.
 fn put_each(alloc: Global, named: &Named, image: &mut Image, rest: &str) -> Result<(), Fail> {
     let (first, rest) = rest.split_once(' ').unwrap_or((rest, ""));
     let (last, rest) = rest.split_once(' ').unwrap_or((rest, ""));
     let (folder, text) = rest.split_once(' ').unwrap_or((rest, ""));
     for number in number_of(first)?..=number_of(last)? {
-        let path = format!(in alloc; "{folder}/{number}")?;
-        let text = spelled_with(alloc, named, text)?;
-        put(image, name_of(path.as_str())?, text)?;
+        put_numbered(alloc, named, image, folder, number, text)?;
     }
     Ok(())
 }
@@ -242,27 +270,70 @@ fn behind_piece<'a>(text: &'a [u8], piece: &[u8]) -> Option<&'a [u8]> {
 }
 
 // Whether a command ended as a text says, by the verb before it: `run` as it stands, `like` with any bytes for each `*`, and `may` also as
-// one of which a call failed.
-fn is_ending(
-    alloc: Global,
-    verb: &str,
-    status: u8,
-    output: &[u8],
-    wanted: &[u8],
-) -> Result<bool, Fail> {
-    let came = told(alloc, status, output)?;
+// one of which a call failed. `came` is its status with its output.
+fn is_ending(verb: &str, status: u8, output: &[u8], came: &[u8], wanted: &[u8]) -> bool {
     let answer = match split_first(b' ', wanted) {
         Some((_, answer)) => answer,
         None => &[],
     };
-    Ok(
-        came.as_slice() == wanted
-            || (verb == "like" && is_like(came.as_slice(), wanted))
-            || (verb == "may" && says_so(status, output, answer)),
-    )
+    came == wanted
+        || (verb == "like" && is_like(came, wanted))
+        || (verb == "may" && says_so(status, output, answer))
 }
 
-// Fails where a command doesn't end as it is to: `run WORDS => STATUS OUTPUT`, with further endings behind `||`; `like` and `may` for other
+// Whether a command ended as one of the endings says that have `||` between them.
+fn is_one_of(
+    alloc: Global,
+    named: &Named,
+    verb: &str,
+    endings: &str,
+    status: u8,
+    output: &[u8],
+    came: &[u8],
+) -> Result<bool, Fail> {
+    for ending in endings.split(" || ") {
+        let wanted = spelled_with(alloc, named, ending)?;
+        if is_ending(verb, status, output, came, wanted.as_slice()) {
+            return Ok(true);
+        }
+    }
+    Ok(false)
+}
+
+// Fails with what came beside the last of these endings.
+fn differs(
+    alloc: Global,
+    named: &Named,
+    place: &str,
+    endings: &str,
+    came: &[u8],
+) -> Result<(), Fail> {
+    let mut wanted = Bytes::new(alloc);
+    for ending in endings.split(" || ") {
+        wanted = spelled_with(alloc, named, ending)?;
+    }
+    same(alloc, place, 0, came, wanted.as_slice())?;
+    Err(Fail::new(format_args!("{place}: no such ending")))
+}
+
+// Fails where a command didn't end as one of these endings says.
+fn ends_so(
+    alloc: Global,
+    named: &Named,
+    place: &str,
+    verb: &str,
+    endings: &str,
+    status: u8,
+    output: &[u8],
+) -> Result<(), Fail> {
+    let came = told(alloc, status, output)?;
+    if is_one_of(alloc, named, verb, endings, status, output, came.as_slice())? {
+        return Ok(());
+    }
+    differs(alloc, named, place, endings, came.as_slice())
+}
+
+// Fails where a command doesn't end as it is to: `run WORDS => STATUS OUTPUT`, with further endings after `||`; `like` and `may` for other
 // endings too.
 fn command<P: Program>(
     alloc: Global,
@@ -276,16 +347,15 @@ fn command<P: Program>(
         return Err(Fail::new(format_args!("{place}: no ending")));
     };
     let (status, output) = run::<P>(alloc, named, stage, words)?;
-    let mut wanted = Bytes::new(alloc);
-    for ending in endings.split(" || ") {
-        wanted = spelled_with(alloc, named, ending)?;
-        if is_ending(alloc, verb, status, output.as_slice(), wanted.as_slice())? {
-            return Ok(());
-        }
-    }
-    let came = told(alloc, status, output.as_slice())?;
-    same(alloc, place, 0, came.as_slice(), wanted.as_slice())?;
-    Err(Fail::new(format_args!("{place}: no such ending")))
+    ends_so(
+        alloc,
+        named,
+        place,
+        verb,
+        endings,
+        status,
+        output.as_slice(),
+    )
 }
 
 // Fails where the last command left a list that isn't as it was.

@@ -37,6 +37,24 @@ pub(crate) fn spelled_with(alloc: Global, named: &Named, text: &str) -> Result<B
     Ok(out)
 }
 
+/// Keeps a text under a name.
+pub(crate) fn push_named(
+    alloc: Global,
+    named: &mut Named,
+    name: &str,
+    text: Bytes,
+) -> Result<(), Fail> {
+    named.push((String::from_str(alloc, name)?, text))?;
+    Ok(())
+}
+
+/// Keeps a text under its name: `NAME TEXT`.
+pub(crate) fn keep(alloc: Global, named: &mut Named, text: &str) -> Result<(), Fail> {
+    let (name, text) = text.split_once(' ').unwrap_or((text, ""));
+    let text = spelled_with(alloc, named, text)?;
+    push_named(alloc, named, name, text)
+}
+
 // Adds what braces stand for that a text begins with, and what is behind them.
 fn add_braced(alloc: Global, named: &Named, out: &mut Bytes, text: &str) -> Result<(), Fail> {
     let Some((inner, behind)) = text.split_once('}') else {
