@@ -6,10 +6,11 @@ ghost use Rattle.ml_base.specs.ReadFiles.{IsReading};
 ghost use Rattle.ml_base.specs.Faults.{Rose};
 ghost use Rattle.ml_base.specs.declared.part.PartError.TheVariants.{Fault};
 
+use crate::told::push_debug;
 use ml_base::{Bytes, Files, Layer, MapFiles, Name, Numbers, PartError, Put, Txn};
 use std::alloc::{AllocError, Global};
-use std::collections::BTreeMap;
 use std::test::Fail;
+use trials_lists::{memory, texts};
 
 const KEY: Name = Name { kind: 2, at: 0 };
 
@@ -35,11 +36,8 @@ const IN_PLACE: [Change; 3] = [
 
 // Files with a key and a count, of which the reads of these numbers fail.
 fn files(alloc: Global, failing: &[u64]) -> Result<MapFiles, AllocError> {
-    let mut files = BTreeMap::new(alloc);
-    files.insert(KEY, Bytes::from_slice(alloc, b"key")?)?;
-    files.insert(COUNT, Bytes::from_slice(alloc, b"7")?)?;
-    let fail = Numbers::from_vec(Vec::from_slice(alloc, failing)?);
-    Ok(MapFiles::new(files, fail))
+    let files = [(2, 0, b"key".as_slice()), (11, 0, b"7".as_slice())];
+    memory(alloc, &texts(alloc, &files)?, failing)
 }
 
 fn put(alloc: Global, change: Change) -> Result<Put, AllocError> {
@@ -74,21 +72,27 @@ fn changes(alloc: Global) -> Result<Txn, AllocError> {
     Ok(changes)
 }
 
-// The texts of the bucket, the key and the count, with `-` for an absent one.
-fn shown<F: Files>(alloc: Global, files: &mut F) -> Result<String, Fail> {
-    let mut out = Bytes::new(alloc);
-    for found in [
-        files.get(alloc, LIST)?,
-        files.get(alloc, KEY)?,
-        files.get(alloc, COUNT)?,
-    ] {
-        match found {
-            Some(bytes) => out.extend(bytes.as_slice())?,
-            None => out.push(b'-')?,
-        }
-        out.push(b' ')?;
+// Adds the text of a file, with `-` for an absent one, and a space.
+fn push_file<F: Files>(
+    alloc: Global,
+    files: &mut F,
+    name: Name,
+    out: &mut Bytes,
+) -> Result<(), Fail>
+    requires { IsTrue (is_file name) }
+{
+    match files.get(alloc, name)? {
+        Some(bytes) => out.extend(bytes.as_slice())?,
+        None => out.push(b'-')?,
     }
-    Ok(String::from_utf8(out.into_vec())?)
+    Ok(out.push(b' ')?)
+}
+
+// Adds the texts of the bucket, the key and the count.
+fn show<F: Files>(alloc: Global, files: &mut F, out: &mut Bytes) -> Result<(), Fail> {
+    push_file(alloc, files, LIST, out)?;
+    push_file(alloc, files, KEY, out)?;
+    push_file(alloc, files, COUNT, out)
 }
 
 // Whether both of two files are there.
@@ -124,34 +128,61 @@ fn both_there_laid<F: Files>(
     (files, txn, found)
 }
 
-// What a layer shows, one above it, how many puts that one had, and what the first shows again.
-pub(crate) fn layered(alloc: Global) -> Result<String, Fail> {
-    let mut below = Layer::new(files(alloc, &[])?, changes(alloc)?);
-    let first = shown(alloc, &mut below)?;
-    let mut above = Layer::new(below, txn(alloc, &WRITTEN, false)?);
-    let second = shown(alloc, &mut above)?;
-    let (mut below, puts) = above.parts();
-    let third = shown(alloc, &mut below)?;
-    let count = puts.as_slice().len();
-    Ok(format!(in alloc; "{first}; {second}; {count}; {third}")?)
+// The files with the changes laid over them, of which the reads of these numbers fail.
+fn changed(alloc: Global, failing: &[u64]) -> Result<Layer<MapFiles>, AllocError> {
+    let changes = changes(alloc)?;
+    Ok(Layer::new(files(alloc, failing)?, changes))
 }
 
-// Whether the count and the bucket are there, the same where the second read fails, whether the count and the key are
+// Adds what a layer shows, how many puts it has, and what the one below it shows.
+fn show_both(alloc: Global, above: Layer<Layer<MapFiles>>, out: &mut Bytes) -> Result<(), Fail> {
+    let mut above = above;
+    show(alloc, &mut above, out)?;
+    let (mut below, puts) = above.parts();
+    out.extend(b"; ")?;
+    out.push_number(puts.as_slice().len() as u64)?;
+    out.extend(b"; ")?;
+    show(alloc, &mut below, out)
+}
+
+// Adds what a layer shows, one above it, how many puts that one had, and what the first shows again.
+pub(crate) fn layered(alloc: Global, out: &mut Bytes) -> Result<(), Fail> {
+    let written = txn(alloc, &WRITTEN, false)?;
+    let mut below = changed(alloc, &[])?;
+    show(alloc, &mut below, out)?;
+    out.extend(b"; ")?;
+    show_both(alloc, Layer::new(below, written), out)
+}
+
+// Adds what was found of two files, and what stands between two of these.
+fn push_found(
+    alloc: Global,
+    out: &mut Bytes,
+    found: &Result<bool, PartError>,
+) -> Result<(), AllocError> {
+    push_debug(alloc, out, found)?;
+    out.extend(b"; ")
+}
+
+// Adds whether the count and the bucket are there, the same where the second read fails, whether the count and the key are
 // there, and how many puts there are then.
-pub(crate) fn failing(alloc: Global) -> Result<String, Fail> {
-    let mut layer = Layer::new(files(alloc, &[2])?, changes(alloc)?);
+pub(crate) fn failing(alloc: Global, out: &mut Bytes) -> Result<(), AllocError> {
+    let mut layer = changed(alloc, &[2])?;
     let first = both_there(alloc, &mut layer, COUNT, LIST);
     let second = both_there(alloc, &mut layer, LIST, COUNT);
     let (files, puts) = layer.parts();
     let (_, puts, third) = both_there_laid(alloc, files, puts, COUNT, KEY);
-    let count = puts.as_slice().len();
-    Ok(format!(in alloc; "{first:?}; {second:?}; {third:?}; {count}")?)
+    let count = puts.as_slice().len() as u64;
+    for found in [first, second, third] {
+        push_found(alloc, out, &found)?;
+    }
+    out.push_number(count)
 }
 
-// How many puts are left of those that are laid in place, and what they show.
-pub(crate) fn in_place(alloc: Global) -> Result<String, Fail> {
+// Adds how many puts are left of those that are laid in place, and what they show.
+pub(crate) fn in_place(alloc: Global, out: &mut Bytes) -> Result<(), Fail> {
     let puts = txn(alloc, &IN_PLACE, true)?;
-    let count = puts.as_slice().len();
-    let texts = shown(alloc, &mut Layer::new(files(alloc, &[])?, puts))?;
-    Ok(format!(in alloc; "{count}; {texts}")?)
+    out.push_number(puts.as_slice().len() as u64)?;
+    out.extend(b"; ")?;
+    show(alloc, &mut Layer::new(files(alloc, &[])?, puts), out)
 }

@@ -11,3 +11,5 @@ mod layers;
 mod tables;
 #[cfg(test)]
 mod texts;
+#[cfg(test)]
+mod told;

@@ -1,5 +1,6 @@
 // Codes, names, numbers, netstrings, addresses and byte strings, each call that takes memory once.
 use crate::layers::{failing, in_place, layered};
+use crate::told::{push_bool, push_debug, push_pair, push_texts};
 use ml_base::{
     Address, AddressError, AddressFault, AddressList, Bytes, FilesError, Name, Numbers, PartError,
     compare_keys, copied, hash, hash_lower, is_below, is_drawn, is_kept, is_moment, is_own,
@@ -7,7 +8,7 @@ use ml_base::{
     split_last, split_line, split_netstring, write_number,
 };
 use ml_plain::{has_number, status, word as word_of};
-use std::alloc::Global;
+use std::alloc::{AllocError, Global};
 use std::test::Fail;
 
 // The word at a place. If there are fewer it is empty.
@@ -27,6 +28,12 @@ fn number_of(text: &[u8]) -> u64 {
     }
 }
 
+fn are_same(alloc: Global, first: &[u8], second: &[u8]) -> Result<bool, Fail> {
+    let first = Address::parse(alloc, first)?;
+    let second = Address::parse(alloc, second)?;
+    Ok(first.same(&second))
+}
+
 // What is either so or not: whether a recipient is one of the addresses of the list List@ex.Org, a text is kept, a local part and a host make
 // an address, two addresses are the same, and a number is a moment, one of a post, or one that is drawn.
 fn is_so(alloc: Global, verb: &str, first: &[u8], second: &[u8]) -> Result<bool, Fail> {
@@ -37,7 +44,7 @@ fn is_so(alloc: Global, verb: &str, first: &[u8], second: &[u8]) -> Result<bool,
     } else if verb == "is_address" {
         Ok(make_address(first, second))
     } else if verb == "same" {
-        Ok(Address::parse(alloc, first)?.same(&Address::parse(alloc, second)?))
+        are_same(alloc, first, second)
     } else if verb == "moment" {
         Ok(is_moment(number_of(first)))
     } else if verb == "post" {
@@ -49,176 +56,202 @@ fn is_so(alloc: Global, verb: &str, first: &[u8], second: &[u8]) -> Result<bool,
     }
 }
 
-// What a call answers, as text.
-pub(crate) fn told(alloc: Global, verb: &str, words: &[String]) -> Result<String, Fail> {
+// Adds what a call answers.
+pub(crate) fn told(
+    alloc: Global,
+    verb: &str,
+    words: &[String],
+    out: &mut Bytes,
+) -> Result<(), Fail> {
     let (first, second) = (word(words, 0), word(words, 1));
     if verb == "code" {
-        code(alloc, number_of(first))
+        code(out, number_of(first))
     } else if verb == "path" {
-        path_text(alloc, number_of(first), number_of(second))
+        Ok(path_text(out, number_of(first), number_of(second))?)
     } else if verb == "check" {
-        Ok(format!(in alloc; "{:?}", Address::check(first))?)
+        Ok(push_debug(alloc, out, &Address::check(first))?)
     } else if verb == "address" {
-        address(alloc, first)
+        address(alloc, first, out)
     } else if verb == "addresses" {
-        addresses(alloc, words)
+        addresses(alloc, words, out)
     } else if verb == "grown" {
-        grown(alloc, first, second, word(words, 2))
+        Ok(grown(alloc, first, second, word(words, 2), out)?)
     } else if verb == "copied" {
-        copy(alloc, words.first())
+        Ok(copy(alloc, words.first(), out)?)
     } else if verb == "numbers" {
-        numbers(alloc, words)
+        Ok(numbers(alloc, words, out)?)
     } else if verb == "number" {
-        number(alloc, number_of(first))
+        Ok(number(out, number_of(first))?)
     } else if verb == "netstrings" {
-        netstrings(alloc, words)
+        Ok(netstrings(alloc, words, out)?)
     } else {
-        told_of_bytes(alloc, verb, first, second)
+        told_of_bytes(alloc, verb, first, second, out)
     }
 }
 
-// What a call on one or two byte strings answers, or one without arguments.
-fn told_of_bytes(alloc: Global, verb: &str, first: &[u8], second: &[u8]) -> Result<String, Fail> {
+// Adds what a call on one or two byte strings answers, or one without arguments.
+fn told_of_bytes(
+    alloc: Global,
+    verb: &str,
+    first: &[u8],
+    second: &[u8],
+    out: &mut Bytes,
+) -> Result<(), Fail> {
     if verb == "span" {
         let from = number_of(second) as usize;
-        Ok(format!(in alloc; "{:?}", read_netstring(first, from))?)
+        Ok(push_debug(alloc, out, &read_netstring(first, from))?)
     } else if verb == "netstring" {
-        pair(alloc, split_netstring(first))
+        Ok(push_pair(out, split_netstring(first))?)
     } else if verb == "first" {
-        pair(alloc, split_first(b'.', first))
+        Ok(push_pair(out, split_first(b'.', first))?)
     } else if verb == "last" {
-        pair(alloc, split_last(b'.', first))
+        Ok(push_pair(out, split_last(b'.', first))?)
     } else if verb == "line" {
-        pair(alloc, split_line(first))
+        Ok(push_pair(out, split_line(first))?)
     } else if verb == "hash" {
-        Ok(format!(in alloc; "{} {}", hash(first), hash_lower(first))?)
+        Ok(hashes(out, first)?)
     } else if verb == "order" {
-        let order = compare_keys(first, second);
-        Ok(format!(in alloc; "{order:?} {}", is_below(first, second))?)
+        Ok(order(alloc, first, second, out)?)
     } else if verb == "layered" {
-        layered(alloc)
+        layered(alloc, out)
     } else if verb == "failing" {
-        failing(alloc)
+        Ok(failing(alloc, out)?)
     } else if verb == "in_place" {
-        in_place(alloc)
+        in_place(alloc, out)
     } else if verb == "errors" {
-        errors(alloc)
+        Ok(errors(alloc, out)?)
     } else {
-        Ok(format!(in alloc; "{}", is_so(alloc, verb, first, second)?)?)
+        Ok(push_bool(out, is_so(alloc, verb, first, second)?)?)
     }
 }
 
-// A code's word, its status, and whether a number follows.
-fn code(alloc: Global, code: u64) -> Result<String, Fail> {
+fn hashes(out: &mut Bytes, text: &[u8]) -> Result<(), AllocError> {
+    out.push_number(hash(text) as u64)?;
+    out.push(b' ')?;
+    out.push_number(hash_lower(text) as u64)
+}
+
+fn order(alloc: Global, first: &[u8], second: &[u8], out: &mut Bytes) -> Result<(), AllocError> {
+    push_debug(alloc, out, &compare_keys(first, second))?;
+    out.push(b' ')?;
+    push_bool(out, is_below(first, second))
+}
+
+// Adds a code's word, its status, and whether a number follows.
+fn code(out: &mut Bytes, code: u64) -> Result<(), Fail> {
     if code < 1 || code > 36 {
         return Err(Fail::new("no code"));
     }
     let code = code as u8;
-    let word = str::from_utf8(word_of(code))?;
-    Ok(format!(in alloc; "{word} {} {}", status(code), has_number(code))?)
+    out.extend(word_of(code))?;
+    out.push(b' ')?;
+    out.push_number(status(code) as u64)?;
+    out.push(b' ')?;
+    Ok(push_bool(out, has_number(code))?)
 }
 
-fn path_text(alloc: Global, kind: u64, at: u64) -> Result<String, Fail> {
+fn path_text(out: &mut Bytes, kind: u64, at: u64) -> Result<(), AllocError> {
     let kind = kind.min(255) as u8;
     let name = Name { kind, at };
-    let mut out = [0; 48];
+    let mut text = [0; 48];
     if !name.is_in_table() {
-        return Ok(String::from_str(alloc, "no file")?);
+        return out.extend(b"no file");
     }
-    let len = path(name, &mut out);
-    Ok(String::from_str(alloc, str::from_utf8(&out[..len])?)?)
+    let len = path(name, &mut text);
+    out.extend(&text[..len])
 }
 
-// The texts, each with a `|` behind it.
-fn joined(alloc: Global, texts: &[&[u8]]) -> Result<String, Fail> {
-    let mut out = Bytes::new(alloc);
-    for text in texts {
-        out.extend(text)?;
-        out.push(b'|')?;
-    }
-    Ok(String::from_utf8(out.into_vec())?)
-}
-
-fn pair(alloc: Global, found: Option<(&[u8], &[u8])>) -> Result<String, Fail> {
-    match found {
-        Some((first, second)) => joined(alloc, &[first, second]),
-        None => Ok(String::from_str(alloc, "none")?),
-    }
-}
-
-// An address, its local part, its host, and its copy.
-fn address(alloc: Global, text: &[u8]) -> Result<String, Fail> {
+// Adds an address, its local part, its host, and its copy.
+fn address(alloc: Global, text: &[u8], out: &mut Bytes) -> Result<(), Fail> {
     let found = Address::parse(alloc, text)?;
-    let copy = found.copy(alloc)?;
-    let parts = [found.bytes(), found.local(), found.host(), copy.bytes()];
-    joined(alloc, &parts)
+    Ok(push_address(alloc, out, &found)?)
 }
 
-// The addresses of a list, one behind another.
-fn addresses(alloc: Global, words: &[String]) -> Result<String, Fail> {
+fn push_address(alloc: Global, out: &mut Bytes, found: &Address) -> Result<(), AllocError> {
+    let copy = found.copy(alloc)?;
+    push_texts(
+        out,
+        &[found.bytes(), found.local(), found.host(), copy.bytes()],
+    )
+}
+
+// Adds the addresses of a list, one after the other.
+fn addresses(alloc: Global, words: &[String], out: &mut Bytes) -> Result<(), Fail> {
     let mut list = AddressList::new(alloc);
     for word in words {
         list.push(Address::parse(alloc, word.as_bytes())?)?;
     }
-    let mut out = Bytes::new(alloc);
     for address in list.as_slice() {
         out.extend(address.bytes())?;
     }
-    Ok(String::from_utf8(out.into_vec())?)
+    Ok(())
 }
 
-// A byte string that begins with a text, and grows by a byte and by a text.
-fn grown(alloc: Global, first: &[u8], byte: &[u8], rest: &[u8]) -> Result<String, Fail> {
-    let mut bytes = Bytes::from_slice(alloc, first)?;
+// Lets a byte string grow by a byte and by a text.
+fn grow(bytes: &mut Bytes, byte: &[u8], rest: &[u8]) -> Result<(), AllocError> {
     bytes.push(byte.first().copied().unwrap_or(0))?;
     bytes.reserve(rest.len())?;
-    bytes.extend(rest)?;
-    Ok(String::from_utf8(bytes.into_vec())?)
+    bytes.extend(rest)
 }
 
-// The copy of a byte string, or of none.
-fn copy(alloc: Global, text: Option<&String>) -> Result<String, Fail> {
-    let mut room = Bytes::with_capacity(alloc, 3)?;
-    let from = match text {
-        Some(text) => {
-            room.extend(text.as_bytes())?;
-            Some(&room)
-        }
-        None => None,
-    };
+// Adds a byte string that begins with a text, and grows by a byte and by a text.
+fn grown(
+    alloc: Global,
+    first: &[u8],
+    byte: &[u8],
+    rest: &[u8],
+    out: &mut Bytes,
+) -> Result<(), AllocError> {
+    let mut bytes = Bytes::from_slice(alloc, first)?;
+    grow(&mut bytes, byte, rest)?;
+    out.extend(bytes.as_slice())
+}
+
+// Adds the copy of a byte string, or of none.
+fn push_copy(alloc: Global, from: Option<&Bytes>, out: &mut Bytes) -> Result<(), AllocError> {
     match copied(alloc, from)? {
-        Some(bytes) => Ok(String::from_utf8(bytes.into_vec())?),
-        None => Ok(String::from_str(alloc, "none")?),
+        Some(bytes) => out.extend(bytes.as_slice()),
+        None => out.extend(b"none"),
     }
 }
 
-fn numbers(alloc: Global, words: &[String]) -> Result<String, Fail> {
+fn copy(alloc: Global, text: Option<&String>, out: &mut Bytes) -> Result<(), AllocError> {
+    let Some(text) = text else {
+        return push_copy(alloc, None, out);
+    };
+    let mut room = Bytes::with_capacity(alloc, 3)?;
+    room.extend(text.as_bytes())?;
+    push_copy(alloc, Some(&room), out)
+}
+
+fn numbers(alloc: Global, words: &[String], out: &mut Bytes) -> Result<(), AllocError> {
     let mut numbers = Numbers::new(alloc);
     for word in words {
         numbers.push(number_of(word.as_bytes()))?;
     }
-    Ok(format!(in alloc; "{:?}", numbers.as_slice())?)
+    push_debug(alloc, out, &numbers.as_slice())
 }
 
-fn number(alloc: Global, n: u64) -> Result<String, Fail> {
-    let mut out = [0; 20];
-    let len = write_number(n, &mut out);
-    Ok(String::from_str(alloc, str::from_utf8(&out[..len])?)?)
+fn number(out: &mut Bytes, n: u64) -> Result<(), AllocError> {
+    let mut digits = [0; 20];
+    let len = write_number(n, &mut digits);
+    out.extend(&digits[..len])
 }
 
-// Netstrings behind a `W`.
-fn netstrings(alloc: Global, words: &[String]) -> Result<String, Fail> {
-    let mut out = Bytes::from_slice(alloc, b"W")?;
+// Adds netstrings after a `W`.
+fn netstrings(alloc: Global, words: &[String], out: &mut Bytes) -> Result<(), AllocError> {
+    let mut text = Bytes::from_slice(alloc, b"W")?;
     for word in words {
-        push_netstring(&mut out, word.as_bytes())?;
+        push_netstring(&mut text, word.as_bytes())?;
     }
-    Ok(String::from_utf8(out.into_vec())?)
+    out.extend(text.as_slice())
 }
 
-// The words of errors.
-fn errors(alloc: Global) -> Result<String, Fail> {
+// Adds the words of errors.
+fn errors(alloc: Global, out: &mut Bytes) -> Result<(), AllocError> {
     let address = AddressError::Fault(AddressFault::NoAt);
     let part = PartError::Damaged(Name { kind: 3, at: 1 });
     let (full, read) = (AddressError::Memory, FilesError::Memory);
-    Ok(format!(in alloc; "{address}; {full}; {part}; {}; {read}", PartError::Fault)?)
+    let text = format!(in alloc; "{address}; {full}; {part}; {}; {read}", PartError::Fault)?;
+    out.extend(text.as_bytes())
 }
