@@ -4,6 +4,7 @@ ghost use Rattle.ml_address.specs.Requests.{is_in_range};
 ghost use Rattle.ml_address.specs.Views.{request_view};
 
 use crate::program::word;
+use crate::told::{push_bool, push_debug, push_one, push_two};
 use ml_address::{
     Hmac, Path, Request, Who, Word, cookie, cookie_good, cookie_ok, hmac, read_request, unverp,
     verp, write_request,
@@ -58,29 +59,31 @@ const POST_BOUNCE: Request<'static> = Request::Bounce {
     who: WHO,
 };
 
-// A request in words, with all of its parts.
-fn in_words(alloc: Global, request: Option<Request<'_>>) -> Result<String, AllocError> {
+// Adds a request in words, with all of its parts.
+fn push_request(
+    alloc: Global,
+    out: &mut Bytes,
+    request: Option<Request<'_>>,
+) -> Result<(), AllocError> {
     match request {
-        None => String::from_str(alloc, "none"),
-        Some(Request::Post) => String::from_str(alloc, "post"),
-        Some(Request::Help) => String::from_str(alloc, "help"),
-        Some(Request::Owner) => String::from_str(alloc, "owner"),
-        Some(Request::Subscribe { set, who }) => format!(in alloc; "subscribe {set:?} {who:?}"),
-        Some(Request::Unsubscribe { set, who }) => {
-            format!(in alloc; "unsubscribe {set:?} {who:?}")
-        }
-        Some(Request::Members { set }) => format!(in alloc; "members {set:?}"),
-        Some(Request::Get { from, to }) => format!(in alloc; "get {from} {to:?}"),
-        Some(Request::Index { at }) => format!(in alloc; "index {at}"),
-        Some(Request::Thread { at }) => format!(in alloc; "thread {at}"),
-        Some(Request::ReplyBounce { set }) => format!(in alloc; "bounce of a reply {set:?}"),
-        Some(Request::Other) => String::from_str(alloc, "other"),
-        Some(signed) => signed_in_words(alloc, signed),
+        None => out.extend(b"none"),
+        Some(Request::Post) => out.extend(b"post"),
+        Some(Request::Help) => out.extend(b"help"),
+        Some(Request::Owner) => out.extend(b"owner"),
+        Some(Request::Subscribe { set, who }) => push_two(alloc, out, b"subscribe", &set, &who),
+        Some(Request::Unsubscribe { set, who }) => push_two(alloc, out, b"unsubscribe", &set, &who),
+        Some(Request::Members { set }) => push_one(alloc, out, b"members", &set),
+        Some(Request::Get { from, to }) => push_two(alloc, out, b"get", &from, &to),
+        Some(Request::Index { at }) => push_one(alloc, out, b"index", &at),
+        Some(Request::Thread { at }) => push_one(alloc, out, b"thread", &at),
+        Some(Request::ReplyBounce { set }) => push_one(alloc, out, b"bounce of a reply", &set),
+        Some(Request::Other) => out.extend(b"other"),
+        Some(signed) => push_signed(alloc, out, signed),
     }
 }
 
 // The same of a request that has a cookie, or that comes from a copy's sender.
-fn signed_in_words(alloc: Global, request: Request<'_>) -> Result<String, AllocError> {
+fn push_signed(alloc: Global, out: &mut Bytes, request: Request<'_>) -> Result<(), AllocError> {
     match request {
         Request::Confirm {
             word,
@@ -88,56 +91,72 @@ fn signed_in_words(alloc: Global, request: Request<'_>) -> Result<String, AllocE
             time,
             cookie,
             who,
-        } => format!(in alloc; "confirm {word:?} {set:?} {time} {cookie:?} {who:?}"),
-        Request::Accept { ticket, cookie } => format!(in alloc; "accept {ticket} {cookie:?}"),
-        Request::Reject { ticket, cookie } => format!(in alloc; "reject {ticket} {cookie:?}"),
+        } => {
+            push_one(alloc, out, b"confirm", &word)?;
+            push_of_set(alloc, out, b"", set, time, &cookie, who)
+        }
+        Request::Accept { ticket, cookie } => push_two(alloc, out, b"accept", &ticket, &cookie),
+        Request::Reject { ticket, cookie } => push_two(alloc, out, b"reject", &ticket, &cookie),
         Request::Bounce { set, number, who } => {
-            format!(in alloc; "bounce {set:?} {number} {who:?}")
+            push_two(alloc, out, b"bounce", &set, &number)?;
+            push_one(alloc, out, b"", &who)
         }
         Request::WarnBounce {
             set,
             time,
             cookie,
             who,
-        } => format!(in alloc; "bounce of a warning {set:?} {time} {cookie:?} {who:?}"),
+        } => push_of_set(alloc, out, b"bounce of a warning", set, time, &cookie, who),
         Request::ProbeBounce {
             set,
             time,
             cookie,
             who,
-        } => format!(in alloc; "bounce of a probe {set:?} {time} {cookie:?} {who:?}"),
-        _ => String::from_str(alloc, "no such request"),
+        } => push_of_set(alloc, out, b"bounce of a probe", set, time, &cookie, who),
+        _ => out.extend(b"no such request"),
     }
+}
+
+// Adds a word, a set, a moment, a cookie and an address.
+fn push_of_set(
+    alloc: Global,
+    out: &mut Bytes,
+    word: &[u8],
+    set: Set,
+    time: u64,
+    cookie: &[u8; 20],
+    who: Who<'_>,
+) -> Result<(), AllocError> {
+    push_two(alloc, out, word, &set, &time)?;
+    push_two(alloc, out, b"", cookie, &who)
 }
 
 // Adds a line of what is written of a request.
 fn push_written(alloc: Global, out: &mut Bytes, request: &Request) -> Result<(), AllocError>
     requires { IsTrue (is_in_range (request_view request.now)) }
 {
-    let text = write_request(alloc, b"list", b"ex.org", request)?;
-    out.extend(text.as_slice())?;
-    out.push(b'\n')
+    let mut text = write_request(alloc, b"list", b"ex.org", request)?;
+    text.push(b'\n')?;
+    out.extend(text.as_slice())
 }
 
-// What is written of requests, a line each.
-fn written(alloc: Global) -> Result<Bytes, AllocError> {
+// Adds what is written of requests, a line each.
+fn push_all_written(alloc: Global, out: &mut Bytes) -> Result<(), AllocError> {
     let leave = Request::Unsubscribe {
         set: Set::List,
         who: None,
     };
-    let mut out = Bytes::new(alloc);
-    push_written(alloc, &mut out, &Request::Post)?;
-    push_written(alloc, &mut out, &Request::Help)?;
-    push_written(alloc, &mut out, &DIGEST_SUBSCRIPTION)?;
-    push_written(alloc, &mut out, &leave)?;
-    push_written(alloc, &mut out, &Request::Members { set: Set::Allow })?;
-    push_written(alloc, &mut out, &UNSUBSCRIPTION)?;
-    push_written(alloc, &mut out, &RANGE)?;
-    push_written(alloc, &mut out, &REJECTION)?;
-    push_written(alloc, &mut out, &POST_BOUNCE)?;
-    push_written(alloc, &mut out, &PROBE_BOUNCE)?;
-    push_written(alloc, &mut out, &Request::ReplyBounce { set: Set::List })?;
-    Ok(out)
+    push_written(alloc, out, &Request::Post)?;
+    push_written(alloc, out, &Request::Help)?;
+    push_written(alloc, out, &DIGEST_SUBSCRIPTION)?;
+    push_written(alloc, out, &leave)?;
+    push_written(alloc, out, &Request::Members { set: Set::Allow })?;
+    push_written(alloc, out, &UNSUBSCRIPTION)?;
+    push_written(alloc, out, &RANGE)?;
+    push_written(alloc, out, &REJECTION)?;
+    push_written(alloc, out, &POST_BOUNCE)?;
+    push_written(alloc, out, &PROBE_BOUNCE)?;
+    push_written(alloc, out, &Request::ReplyBounce { set: Set::List })
 }
 
 // The number of a word, or the last one of all.
@@ -150,11 +169,7 @@ fn number(words: &[String], at: usize) -> u64 {
     }
 }
 
-fn in_bytes(alloc: Global, text: String) -> Result<Bytes, AllocError> {
-    Bytes::from_slice(alloc, text.as_bytes())
-}
-
-// What a call answers: `ask RECIPIENT` what a recipient of the list list@ex.org asks, `written` what is written of requests, `sender BASE HOST
+// Adds what a call answers: `ask RECIPIENT` what a recipient of the list list@ex.org asks, `written` what is written of requests, `sender BASE HOST
 // WAY TO` the sender of a mail, which names its recipient where the way is `each`, `unverp TEXT` the place of the `=` that stands for an `@`,
 // `mac SIZE LEN` so many bytes of the code of a text, where the input is a key of so many bytes and the text, in one piece and in two, `cookie
 // KIND SET MOMENT TEXT` by the input as the key, `ok LETTERS NOW` whether letters are good, and `good FORMER CHANGED MOMENT LETTERS NOW` the
@@ -164,57 +179,63 @@ pub(crate) fn told(
     verb: &str,
     words: &[String],
     input: &[u8],
-) -> Result<Bytes, Fail> {
+    out: &mut Bytes,
+) -> Result<(), Fail> {
     if verb == "ask" {
         let request = read_request(b"list", b"ex.org", word(words, 0));
-        Ok(in_bytes(alloc, in_words(alloc, request)?)?)
+        Ok(push_request(alloc, out, request)?)
     } else if verb == "written" {
-        Ok(written(alloc)?)
+        Ok(push_all_written(alloc, out)?)
     } else if verb == "sender" {
-        sender(alloc, words)
+        sender(alloc, words, out)
     } else if verb == "unverp" {
-        Ok(in_bytes(alloc, format!(in alloc; "{:?}", unverp(word(words, 0)))?)?)
+        Ok(push_debug(alloc, out, &unverp(word(words, 0)))?)
     } else if verb == "mac" {
-        Ok(mac(
-            alloc,
-            input,
-            number(words, 0) as usize,
-            number(words, 1) as usize,
-        )?)
+        let (size, len) = (number(words, 0) as usize, number(words, 1) as usize);
+        Ok(mac(out, input, size, len)?)
     } else if verb == "cookie" {
         let (kind, set) = (word(words, 0), word(words, 1));
         let letters = cookie(input, kind, set, number(words, 2), word(words, 3));
-        Ok(Bytes::from_slice(alloc, &letters)?)
+        Ok(out.extend(&letters)?)
     } else {
-        let text = format!(in alloc; "{}", is_good(verb, words)?)?;
-        Ok(in_bytes(alloc, text)?)
+        Ok(push_bool(out, is_good(verb, words)?)?)
     }
 }
 
-fn sender(alloc: Global, words: &[String]) -> Result<Bytes, Fail> {
-    let path = Path {
-        base: Bytes::from_slice(alloc, word(words, 0))?,
-        host: Bytes::from_slice(alloc, word(words, 1))?,
-        each: word(words, 2) == b"each".as_slice(),
-    };
-    Ok(verp(alloc, &path, &Address::parse(alloc, word(words, 3))?)?)
+fn sender(alloc: Global, words: &[String], out: &mut Bytes) -> Result<(), Fail> {
+    let to = Address::parse(alloc, word(words, 3))?;
+    let sender = sent_from(alloc, words, &to)?;
+    Ok(out.extend(sender.as_slice())?)
 }
 
-fn mac(alloc: Global, input: &[u8], size: usize, len: usize) -> Result<Bytes, AllocError> {
+fn sent_from(alloc: Global, words: &[String], to: &Address) -> Result<Bytes, AllocError> {
+    let base = Bytes::from_slice(alloc, word(words, 0))?;
+    let host = Bytes::from_slice(alloc, word(words, 1))?;
+    let each = word(words, 2) == b"each".as_slice();
+    verp(alloc, &Path { base, host, each }, to)
+}
+
+fn mac(out: &mut Bytes, input: &[u8], size: usize, len: usize) -> Result<(), AllocError> {
     let (key, text) = input.split_at(size.min(input.len()));
     let whole = hmac(key, text);
     let (first, rest) = text.split_at(text.len().min(3));
     let mut pieces = Hmac::new(key);
     pieces.add(first);
     pieces.add(rest);
-    let mut out = Bytes::new(alloc);
     if pieces.end() != whole {
         out.extend(b"otherwise in pieces: ")?;
     }
     for byte in &whole[..len.min(32)] {
-        out.extend(format!(in alloc; "{byte:02x}")?.as_bytes())?;
+        push_hex(out, *byte)?;
     }
-    Ok(out)
+    Ok(())
+}
+
+// Adds the two hexadecimal digits of a byte.
+fn push_hex(out: &mut Bytes, byte: u8) -> Result<(), AllocError> {
+    let digits = b"0123456789abcdef";
+    out.push(digits[(byte / 16) as usize])?;
+    out.push(digits[(byte % 16) as usize])
 }
 
 fn is_good(verb: &str, words: &[String]) -> Result<bool, Fail> {

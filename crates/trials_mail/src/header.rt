@@ -1,5 +1,6 @@
 // Messages: their fields, bodies, unfolded values and sent texts.
 use crate::program::word;
+use crate::told::push_bool;
 use ml_base::Bytes;
 use ml_header::Message;
 use std::alloc::{AllocError, Global};
@@ -26,8 +27,8 @@ list-unsubscribe
 list-subscribe
 ";
 
-// What a call answers about the message in the input: `fields` the name, value and lines of each field in brackets, and the body, `whole` the
-// message itself, `field NAME` the value of the first field of a name, `subject` the unfolded subject, `long` how many fields there are, and
+// Adds what a call answers about the message in the input: `fields` the name, value and lines of each field in brackets, and the body, `whole`
+// the message itself, `field NAME` the value of the first field of a name, `subject` the unfolded subject, `long` how many fields there are, and
 // whether it is sent as it is; and of what is sent: `sent` what the list list@ex.org sends of a post, `sent_trailed` the same with a trailer,
 // `without NAMES` without these fields, `prefixed PREFIX` with this prefix, and `trailed` with a trailer.
 pub(crate) fn told(
@@ -35,41 +36,67 @@ pub(crate) fn told(
     verb: &str,
     words: &[String],
     input: &[u8],
-) -> Result<Bytes, Fail> {
+    out: &mut Bytes,
+) -> Result<(), Fail> {
     let message = Message::scan(input);
     let first = word(words, 0);
-    let trailer: Option<&[u8]> = Some(b"--\n");
-    let text = if verb == "fields" {
-        printed(alloc, &message)?
+    if verb == "fields" {
+        Ok(push_fields(out, &message)?)
     } else if verb == "whole" {
-        Bytes::from_slice(alloc, message.bytes())?
+        Ok(out.extend(message.bytes())?)
     } else if verb == "field" {
-        field(alloc, &message, first)?
+        Ok(push_field(out, &message, first)?)
     } else if verb == "subject" {
-        match message.unfolded(alloc, b"Subject")? {
-            Some(value) => value,
-            None => Bytes::from_slice(alloc, b"none")?,
-        }
+        Ok(push_subject(alloc, out, &message)?)
     } else if verb == "long" {
-        kept(alloc, &message)?
-    } else if verb == "sent" {
-        message.rewritten(alloc, LEFT_OUT, ADDED, None, None)?
-    } else if verb == "sent_trailed" {
-        message.rewritten(alloc, LEFT_OUT, ADDED, None, trailer)?
-    } else if verb == "without" {
-        message.rewritten(alloc, first, b"", None, None)?
-    } else if verb == "prefixed" {
-        message.rewritten(alloc, b"", b"", Some(first), None)?
-    } else if verb == "trailed" {
-        message.rewritten(alloc, b"", b"", None, trailer)?
+        Ok(push_kept(alloc, out, &message)?)
     } else {
-        return Err(Fail::new(format_args!("no call: {verb}")));
-    };
-    Ok(text)
+        Ok(push_sent(alloc, out, verb, &message, first)?)
+    }
 }
 
-fn printed(alloc: Global, message: &Message<'_>) -> Result<Bytes, AllocError> {
-    let mut out = Bytes::new(alloc);
+// Adds what is sent of a message, or that there is no such call.
+fn push_sent(
+    alloc: Global,
+    out: &mut Bytes,
+    verb: &str,
+    message: &Message<'_>,
+    first: &[u8],
+) -> Result<(), AllocError> {
+    let text = sent(alloc, verb, message, first)?;
+    out.extend(text.as_slice())
+}
+
+fn sent(
+    alloc: Global,
+    verb: &str,
+    message: &Message<'_>,
+    first: &[u8],
+) -> Result<Bytes, AllocError> {
+    let trailer: Option<&[u8]> = Some(b"--\n");
+    if verb == "sent" {
+        message.rewritten(alloc, LEFT_OUT, ADDED, None, None)
+    } else if verb == "sent_trailed" {
+        message.rewritten(alloc, LEFT_OUT, ADDED, None, trailer)
+    } else if verb == "without" {
+        message.rewritten(alloc, first, b"", None, None)
+    } else if verb == "prefixed" {
+        message.rewritten(alloc, b"", b"", Some(first), None)
+    } else if verb == "trailed" {
+        message.rewritten(alloc, b"", b"", None, trailer)
+    } else {
+        Bytes::from_slice(alloc, b"no call")
+    }
+}
+
+fn push_subject(alloc: Global, out: &mut Bytes, message: &Message<'_>) -> Result<(), AllocError> {
+    match message.unfolded(alloc, b"Subject")? {
+        Some(value) => out.extend(value.as_slice()),
+        None => out.extend(b"none"),
+    }
+}
+
+fn push_fields(out: &mut Bytes, message: &Message<'_>) -> Result<(), AllocError> {
     for field in message.fields() {
         out.push(b'[')?;
         out.extend(field.name)?;
@@ -81,24 +108,27 @@ fn printed(alloc: Global, message: &Message<'_>) -> Result<Bytes, AllocError> {
     }
     out.push(b'(')?;
     out.extend(message.body())?;
-    out.push(b')')?;
-    Ok(out)
+    out.push(b')')
 }
 
-fn field(alloc: Global, message: &Message<'_>, name: &[u8]) -> Result<Bytes, AllocError> {
+fn push_field(out: &mut Bytes, message: &Message<'_>, name: &[u8]) -> Result<(), AllocError> {
     match message.field(name) {
-        Some(field) => Bytes::from_slice(alloc, field.value),
-        None => Bytes::from_slice(alloc, b"none"),
+        Some(field) => out.extend(field.value),
+        None => out.extend(b"none"),
     }
 }
 
-fn kept(alloc: Global, message: &Message<'_>) -> Result<Bytes, AllocError> {
-    let mut count: usize = 0;
+fn is_kept(alloc: Global, message: &Message<'_>) -> Result<bool, AllocError> {
+    let sent = message.rewritten(alloc, b"y\n", b"", Some(b"hell"), None)?;
+    Ok(sent.as_slice() == message.bytes())
+}
+
+fn push_kept(alloc: Global, out: &mut Bytes, message: &Message<'_>) -> Result<(), AllocError> {
+    let mut count: u64 = 0;
     for _ in message.fields() {
         count = count.saturating_add(1);
     }
-    let sent = message.rewritten(alloc, b"y\n", b"", Some(b"hell"), None)?;
-    let is_same = sent.as_slice() == message.bytes();
-    let text = format!(in alloc; "{count} {is_same}")?;
-    Bytes::from_slice(alloc, text.as_bytes())
+    out.push_number(count)?;
+    out.push(b' ')?;
+    push_bool(out, is_kept(alloc, message)?)
 }

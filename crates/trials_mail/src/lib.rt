@@ -11,3 +11,5 @@ mod program;
 mod reply;
 #[cfg(test)]
 mod tables;
+#[cfg(test)]
+mod told;

@@ -1,7 +1,8 @@
 // The calls of the tables, as words: `address`, `header` or `reply`, and what each of these modules takes behind it. Where the last word
 // is `size` it is told how many bytes the answer has.
 use crate::{address, header, reply};
-use ml_site::{Clock, Fill, MemClock, MemSite, MemSource};
+use ml_base::Bytes;
+use ml_site::{Clock, Fill, Image, MemClock, MemSite, MemSource};
 use std::alloc::Global;
 use std::test::Fail;
 use trials_scripts::{Program, ended_with, read_whole};
@@ -16,6 +17,43 @@ pub(crate) fn word(words: &[String], at: usize) -> &[u8] {
     }
 }
 
+// Adds what a call answers about the input.
+fn answered(
+    alloc: Global,
+    words: &[String],
+    input: &[u8],
+    clock: &mut MemClock,
+    out: &mut Bytes,
+) -> Result<(), Fail> {
+    let [part, verb, words @ ..] = words else {
+        return Err(Fail::new("no call"));
+    };
+    let (part, verb) = (part.as_str(), verb.as_str());
+    if part == "address" {
+        address::told(alloc, verb, words, input, out)
+    } else if part == "header" {
+        header::told(alloc, verb, words, input, out)
+    } else {
+        reply::told(alloc, verb, words, input, clock.now()?, out)
+    }
+}
+
+// How a call ends with this answer: with its size, if the last word asks for that.
+fn finished(
+    alloc: Global,
+    words: &[String],
+    image: Image,
+    text: &[u8],
+) -> Result<(u8, MemSite), Fail> {
+    let last = word(words, words.len().saturating_sub(1));
+    if last == b"size".as_slice() {
+        let mut size = Bytes::new(alloc);
+        size.push_number(text.len() as u64)?;
+        return ended_with(alloc, 0, image, size.as_slice());
+    }
+    ended_with(alloc, 0, image, text)
+}
+
 impl Program for Calls {
     fn ended(
         alloc: Global,
@@ -24,24 +62,14 @@ impl Program for Calls {
         site: MemSite,
         clock: &mut MemClock,
     ) -> Result<(u8, MemSite), Fail> {
-        let [part, verb, words @ ..] = words else {
-            return Err(Fail::new("no call"));
-        };
         let input = read_whole(alloc, input)?;
-        let (verb, bytes) = (verb.as_str(), input.as_slice());
-        let part = part.as_str();
-        let text = if part == "address" {
-            address::told(alloc, verb, words, bytes)?
-        } else if part == "header" {
-            header::told(alloc, verb, words, bytes)?
-        } else {
-            reply::told(alloc, verb, words, bytes, clock.now()?)?
-        };
-        let image = site.crash(alloc, 0, Fill::Old)?;
-        if word(words, words.len().saturating_sub(1)) == b"size".as_slice() {
-            let size = format!(in alloc; "{}", text.len())?;
-            return ended_with(alloc, 0, image, size.as_bytes());
-        }
-        ended_with(alloc, 0, image, text.as_slice())
+        let mut out = Bytes::new(alloc);
+        answered(alloc, words, input.as_slice(), clock, &mut out)?;
+        finished(
+            alloc,
+            words,
+            site.crash(alloc, 0, Fill::Old)?,
+            out.as_slice(),
+        )
     }
 }
