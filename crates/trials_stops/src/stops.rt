@@ -29,20 +29,31 @@ fn held(alloc: Global, site: &MemSite) -> Result<Image, AllocError> {
     site.crash(alloc, CALLS, Fill::New)
 }
 
-// Runs the program with these words, with single spaces between them, over a site.
+// The words of a command, with single spaces between them.
+fn words_of(alloc: Global, command: &str) -> Result<Vec<String>, AllocError> {
+    let mut words = Vec::new(alloc);
+    for word in command.split(' ') {
+        words.push(String::from_str(alloc, word)?)?;
+    }
+    Ok(words)
+}
+
+fn source(alloc: Global, stream: &[u8]) -> Result<MemSource, AllocError> {
+    let bytes = Bytes::from_slice(alloc, stream)?;
+    Ok(MemSource::new(bytes, Numbers::new(alloc)))
+}
+
+// Runs the program with these words over a site.
 fn run_words(
     alloc: Global,
     words: &str,
     stream: &[u8],
     site: MemSite,
-) -> Result<(u8, MemSite), Fail> {
-    let mut owned = Vec::new(alloc);
-    for word in words.split(' ') {
-        owned.push(String::from_str(alloc, word)?)?;
-    }
-    let mut input = MemSource::new(Bytes::from_slice(alloc, stream)?, Numbers::new(alloc));
+) -> Result<(u8, MemSite), AllocError> {
+    let words = words_of(alloc, words)?;
+    let mut input = source(alloc, stream)?;
     let mut clock = MemClock::new(1_000_000_000, Numbers::new(alloc));
-    Ok(ezmlm_main(alloc, &owned, &mut input, site, &mut clock))
+    Ok(ezmlm_main(alloc, &words, &mut input, site, &mut clock))
 }
 
 // What is behind the answer to an item in an output, where it is this one; for a number below the floor it is another one.
@@ -102,10 +113,16 @@ fn floor_in(image: &Image) -> u64 {
     }
 }
 
+// A site that holds the same.
+fn copy_of(alloc: Global, found: &MemSite) -> Result<MemSite, AllocError> {
+    site(alloc, held(alloc, found)?)
+}
+
 // The floor of the list on a site, as a run of no items leaves its files.
-fn floor_of(alloc: Global, found: &MemSite) -> Result<u64, Fail> {
-    let (_, opened) = run_words(alloc, "spool", b"", site(alloc, held(alloc, found)?)?)?;
-    Ok(floor_in(&held(alloc, &opened)?))
+fn floor_of(alloc: Global, found: &MemSite) -> Result<u64, AllocError> {
+    let (_, opened) = run_words(alloc, "spool", b"", copy_of(alloc, found)?)?;
+    let left = held(alloc, &opened)?;
+    Ok(floor_in(&left))
 }
 
 // Whether two images have the same bytes.
@@ -130,21 +147,37 @@ struct Trial {
     end: Image,
 }
 
-// The stream of some first items of a script, and their answers.
-fn read_script(alloc: Global, script: &str, most: usize) -> Result<(Bytes, Answers), Fail> {
-    let mut stream = Bytes::new(alloc);
-    let mut answers = Vec::new(alloc);
+// Adds the bytes of an item to a stream.
+fn push_item(alloc: Global, item: &str, stream: &mut Bytes) -> Result<(), Fail> {
+    let bytes = spelled(alloc, item)?;
+    Ok(stream.extend(bytes.as_slice())?)
+}
+
+// Adds an answer, with its LF.
+fn push_answer(alloc: Global, answer: &str, answers: &mut Answers) -> Result<(), AllocError> {
+    let mut line = Bytes::from_slice(alloc, answer.as_bytes())?;
+    line.push(b'\n')?;
+    answers.push(line)?;
+    Ok(())
+}
+
+// Adds the first items of a script to a stream, and their answers.
+fn read_script(
+    alloc: Global,
+    script: &str,
+    most: usize,
+    stream: &mut Bytes,
+    answers: &mut Answers,
+) -> Result<(), Fail> {
     for line in script.lines() {
         if let Some((item, answer)) = line.split_once(" => ")
             && answers.len() < most
         {
-            stream.extend(spelled(alloc, item)?.as_slice())?;
-            let mut line = Bytes::from_slice(alloc, answer.as_bytes())?;
-            line.push(b'\n')?;
-            answers.push(line)?;
+            push_item(alloc, item, stream)?;
+            push_answer(alloc, answer, answers)?;
         }
     }
-    Ok((stream, answers))
+    Ok(())
 }
 
 // A run over a list that stops after so many calls.
@@ -153,24 +186,37 @@ fn stopped_run(
     stream: &[u8],
     start: &MemSite,
     calls: u64,
-) -> Result<(u8, MemSite), Fail> {
-    let mut stopping = site(alloc, held(alloc, start)?)?;
+) -> Result<(u8, MemSite), AllocError> {
+    let mut stopping = copy_of(alloc, start)?;
     stopping.stop_after(calls);
     run_words(alloc, "spool", stream, stopping)
 }
 
-fn trial_of(alloc: Global, make: &str, script: &str, most: usize) -> Result<Trial, Fail> {
-    let (stream, answers) = read_script(alloc, script, most)?;
+// A new list, made by these words.
+fn made_by(alloc: Global, make: &str) -> Result<MemSite, AllocError> {
     let nothing = Image {
         log: Bytes::new(alloc),
         files: BTreeMap::new(alloc),
     };
     let (_, start) = run_words(alloc, make, b"", site(alloc, nothing)?)?;
-    let (_, plain) = stopped_run(alloc, stream.as_slice(), &start, u64::MAX)?;
-    if !answers_all(&answers, plain.output(), 0) {
-        return Err("the plain run has other answers".into());
+    Ok(start)
+}
+
+// What a run leaves that nothing stops. It has to give all answers.
+fn end_of(alloc: Global, stream: &[u8], answers: &Answers, start: &MemSite) -> Result<Image, Fail> {
+    let (_, plain) = stopped_run(alloc, stream, start, u64::MAX)?;
+    if !answers_all(answers, plain.output(), 0) {
+        return Err(Fail::new("the plain run has other answers"));
     }
-    let end = held(alloc, &plain)?;
+    Ok(held(alloc, &plain)?)
+}
+
+fn trial_of(alloc: Global, make: &str, script: &str, most: usize) -> Result<Trial, Fail> {
+    let start = made_by(alloc, make)?;
+    let mut stream = Bytes::new(alloc);
+    let mut answers = Vec::new(alloc);
+    read_script(alloc, script, most, &mut stream, &mut answers)?;
+    let end = end_of(alloc, stream.as_slice(), &answers, &start)?;
     Ok(Trial {
         stream,
         answers,
@@ -179,7 +225,30 @@ fn trial_of(alloc: Global, make: &str, script: &str, most: usize) -> Result<Tria
     })
 }
 
-// Whether the next run over a site, behind a first one that put this out, answers all and leaves the files of the plain run. Numbers below
+// The floor of the list on a site, if there is one in what the plain run leaves.
+fn floor_before(alloc: Global, trial: &Trial, found: &MemSite) -> Result<u64, AllocError> {
+    if floor_in(&trial.end) == 0 {
+        Ok(0)
+    } else {
+        floor_of(alloc, found)
+    }
+}
+
+// Whether a run's output has all answers after what the site had put out before it.
+fn tells_all(trial: &Trial, output: &[u8], before: &[u8], floor: u64) -> bool {
+    match output.strip_prefix(before) {
+        Some(told) => answers_all(&trial.answers, told, floor),
+        None => false,
+    }
+}
+
+// Whether a run left the files of the plain run, and a log of one closed gate.
+fn leaves_all(alloc: Global, trial: &Trial, again: &MemSite) -> Result<bool, AllocError> {
+    let left = held(alloc, again)?;
+    Ok(is_same(&left, &trial.end) && left.log.as_slice() == CLOSED)
+}
+
+// Whether the next run over a site, after a first one that put this out, answers all and leaves the files of the plain run. Numbers below
 // a floor are refused exactly where it stands then, and it does where its answer is out. What the site had put out before that run is in
 // front of its answers.
 fn is_made_good(
@@ -188,21 +257,16 @@ fn is_made_good(
     first: &[u8],
     before: &[u8],
     found: MemSite,
-) -> Result<bool, Fail> {
-    let end = floor_in(&trial.end);
-    let floor = if end == 0 {
-        0
-    } else {
-        floor_of(alloc, &found)?
-    };
+) -> Result<bool, AllocError> {
+    let floor = floor_before(alloc, trial, &found)?;
+    if answers_all(&trial.answers, first, 0) && floor != floor_in(&trial.end) {
+        return Ok(false);
+    }
     let (status, again) = run_words(alloc, "spool", trial.stream.as_slice(), found)?;
-    let told = match again.output().strip_prefix(before) {
-        Some(second) => answers_all(&trial.answers, second, floor),
-        None => false,
-    };
-    let done = !answers_all(&trial.answers, first, 0) || floor == end;
-    let left = held(alloc, &again)?;
-    Ok(status == 0 && told && done && is_same(&left, &trial.end) && left.log.as_slice() == CLOSED)
+    if status != 0 || !tells_all(trial, again.output(), before, floor) {
+        return Ok(false);
+    }
+    leaves_all(alloc, trial, &again)
 }
 
 // What no sync has settled when the program stops: what was there before, or what was written, or these bytes.
@@ -221,8 +285,57 @@ struct Left {
     first: Bytes,
 }
 
-// Fails where the next run doesn't make good a stop after so many calls, and says so. Answers whether the run was at its end by then. What
-// a fill left behind the call before, in BEFORE, isn't tried again.
+// What a stop after so many calls left with a fill.
+fn left_by(alloc: Global, stopped: &MemSite, calls: u64, fill: Fill) -> Result<Left, AllocError> {
+    let image = stopped.crash(alloc, calls, fill)?;
+    let first = Bytes::from_slice(alloc, stopped.output())?;
+    Ok(Left { image, first })
+}
+
+fn is_again(before: Option<&Left>, left: &Left) -> bool {
+    match before {
+        Some(before) => {
+            is_same(&before.image, &left.image) && before.first.as_slice() == left.first.as_slice()
+        }
+        None => false,
+    }
+}
+
+// Whether the stopped run put out a front of the answers, and the next run over what it left with a fill makes it good.
+fn is_good_stop(
+    alloc: Global,
+    trial: &Trial,
+    stopped: &MemSite,
+    calls: u64,
+    fill: Fill,
+) -> Result<bool, AllocError> {
+    let first = stopped.output();
+    if !is_front(&trial.answers, first) {
+        return Ok(false);
+    }
+    let next = site(alloc, stopped.crash(alloc, calls, fill)?)?;
+    is_made_good(alloc, trial, first, b"", next)
+}
+
+// Fails where the next run doesn't make good a stop after so many calls with a fill, and says so. If the stop before it left the same, it
+// isn't tried.
+fn hold_fill(
+    alloc: Global,
+    trial: &Trial,
+    stopped: &MemSite,
+    calls: u64,
+    fill: Fill,
+    before: Option<&Left>,
+) -> Result<Left, Fail> {
+    let left = left_by(alloc, stopped, calls, fill)?;
+    if !is_again(before, &left) && !is_good_stop(alloc, trial, stopped, calls, fill)? {
+        return Err(Fail::new(format_args!("a stop after call {calls}, left {fill:?}")));
+    }
+    Ok(left)
+}
+
+// Fails where the next run doesn't make good a stop after so many calls. Answers whether the run was at its end by then. What a fill left
+// after the call before, in BEFORE, isn't tried again.
 fn hold_stop(
     alloc: Global,
     trial: &Trial,
@@ -230,38 +343,36 @@ fn hold_stop(
     before: &mut Vec<Left>,
 ) -> Result<bool, Fail> {
     let (status, stopped) = stopped_run(alloc, trial.stream.as_slice(), &trial.start, calls)?;
-    let first = stopped.output();
     let mut tried = Vec::new(alloc);
     for (at, fill) in FILLS.iter().enumerate() {
-        let image = stopped.crash(alloc, calls, *fill)?;
-        let again = match before.get(at) {
-            Some(left) => is_same(&left.image, &image) && left.first.as_slice() == first,
-            None => false,
-        };
-        let next = site(alloc, stopped.crash(alloc, calls, *fill)?)?;
-        if !again
-            && !(is_front(&trial.answers, first) && is_made_good(alloc, trial, first, b"", next)?)
-        {
-            return Err(Fail::new(format_args!("a stop after call {calls}, left {fill:?}")));
-        }
-        let first = Bytes::from_slice(alloc, first)?;
-        tried.push(Left { image, first })?;
+        let left = hold_fill(alloc, trial, &stopped, calls, *fill, before.get(at))?;
+        tried.push(left)?;
     }
     *before = tried;
     Ok(status == 0)
 }
 
-// Fails where a call that fails alone doesn't end the run, or the next one over the same site doesn't make it good, and names the call.
-fn hold_failure(alloc: Global, trial: &Trial, call: u64) -> Result<(), Fail> {
-    let mut failing = site(alloc, held(alloc, &trial.start)?)?;
+// A run of which a call fails alone.
+fn failed_run(alloc: Global, trial: &Trial, call: u64) -> Result<(u8, MemSite), AllocError> {
+    let mut failing = copy_of(alloc, &trial.start)?;
     failing.fail(alloc, &[call])?;
-    let (status, found) = run_words(alloc, "spool", trial.stream.as_slice(), failing)?;
+    run_words(alloc, "spool", trial.stream.as_slice(), failing)
+}
+
+// Whether a run put out a front of the answers, and the next one over the same site makes it good.
+fn is_recovered(alloc: Global, trial: &Trial, found: MemSite) -> Result<bool, AllocError> {
     let first = Bytes::from_slice(alloc, found.output())?;
     let first = first.as_slice();
-    if status == 0
-        || !is_front(&trial.answers, first)
-        || !is_made_good(alloc, trial, first, first, found)?
-    {
+    if !is_front(&trial.answers, first) {
+        return Ok(false);
+    }
+    is_made_good(alloc, trial, first, first, found)
+}
+
+// Fails where a call that fails alone doesn't end the run, or the next one over the same site doesn't make it good, and names the call.
+fn hold_failure(alloc: Global, trial: &Trial, call: u64) -> Result<(), Fail> {
+    let (status, found) = failed_run(alloc, trial, call)?;
+    if status == 0 || !is_recovered(alloc, trial, found)? {
         return Err(Fail::new(format_args!("a failure of call {call}")));
     }
     Ok(())
@@ -286,7 +397,7 @@ fn hold_calls(
         hold_failure(alloc, &trial, calls + 1)?;
     }
     if last == CALLS {
-        return Err("a run has no end".into());
+        return Err(Fail::new("a run has no end"));
     }
     Ok(())
 }
