@@ -1,9 +1,12 @@
 // The steps on a site. Each answers a line: `done`, `failed`, or the bytes that it reads, with `-` for a file that is absent. A step is a verb
 // and what stands after it, with `=` between them. A file is named by its kind and its place, as `3.29`.
 use ml_base::{Bytes, Name, read_number, split_first};
-use ml_site::{Fill, Image, MemSite, Site, SiteError, Unfailing};
+use ml_site::{Failed, Fill, Image, MemSite, Site, SiteError, Unfailing};
 use std::alloc::{AllocError, Global};
 use trials_lists::text_of;
+
+// The key and a bucket.
+const SHOWN: [Name; 2] = [Name { kind: 2, at: 0 }, Name { kind: 3, at: 1 }];
 
 // The parts of a step that `=` stands between: the first, and what is behind it.
 pub(crate) fn parts(step: &[u8]) -> (&[u8], &[u8]) {
@@ -24,30 +27,58 @@ pub(crate) fn name(text: &[u8]) -> Name {
     }
 }
 
-// A call on a file, if there is one of this name: what it has, `-` where it is absent, or nothing where it is changed.
+// Adds that a call failed.
+fn push_error(error: SiteError, out: &mut Bytes) -> Result<(), AllocError> {
+    match error {
+        SiteError::Failed => out.extend(b"failed"),
+        SiteError::Memory => Err(AllocError),
+    }
+}
+
+// Adds what a call answers that changes something and takes memory.
+fn push_changed(changed: Result<(), SiteError>, out: &mut Bytes) -> Result<(), AllocError> {
+    match changed {
+        Ok(()) => out.extend(b"done"),
+        Err(error) => push_error(error, out),
+    }
+}
+
+// Adds what a call answers that takes no memory.
+pub(crate) fn push_done(done: Result<(), Failed>, out: &mut Bytes) -> Result<(), AllocError> {
+    match done {
+        Ok(()) => out.extend(b"done"),
+        Err(_) => out.extend(b"failed"),
+    }
+}
+
+// Adds what a call reads, with `-` for a file that is absent.
+fn push_read(found: Result<Option<Bytes>, SiteError>, out: &mut Bytes) -> Result<(), AllocError> {
+    match found {
+        Ok(Some(bytes)) => out.extend(bytes.as_slice()),
+        Ok(None) => out.push(b'-'),
+        Err(error) => push_error(error, out),
+    }
+}
+
+// Adds what a call on a file answers, if there is one of this name.
 fn on_file<S: Site>(
     alloc: Global,
     site: &mut S,
     verb: &[u8],
     rest: &[u8],
-) -> Result<Bytes, SiteError> {
+    out: &mut Bytes,
+) -> Result<(), AllocError> {
     let (name_text, bytes) = parts(rest);
     let name = name(name_text);
     if name.kind == 0 || !name.is_in_table() {
-        return Ok(Bytes::from_slice(alloc, b"no file")?);
-    }
-    if verb == b"read".as_slice() {
-        return match site.read_file(alloc, name)? {
-            Some(bytes) => Ok(bytes),
-            None => Ok(Bytes::from_slice(alloc, b"-")?),
-        };
-    }
-    if verb == b"write".as_slice() {
-        site.write_file(alloc, name, bytes)?;
+        out.extend(b"no file")
+    } else if verb == b"read".as_slice() {
+        push_read(site.read_file(alloc, name), out)
+    } else if verb == b"write".as_slice() {
+        push_changed(site.write_file(alloc, name, bytes), out)
     } else {
-        site.remove_file(alloc, name)?;
+        push_changed(site.remove_file(alloc, name), out)
     }
-    Ok(Bytes::from_slice(alloc, b"done")?)
 }
 
 // Writes to the log where it has so many bytes, or else at its end.
@@ -59,45 +90,47 @@ fn write_at<S: Site>(alloc: Global, site: &mut S, at: u64, bytes: &[u8]) -> Resu
 // Cuts the log to so many bytes, if it has more.
 fn cut_to<S: Site>(alloc: Global, site: &mut S, size: u64) -> Result<(), SiteError> {
     let len = site.read_log(alloc)?.len() as u64;
-    site.cut_log(len.min(size)).map_err(|_| SiteError::Failed)
+    match site.cut_log(len.min(size)) {
+        Ok(()) => Ok(()),
+        Err(_) => Err(SiteError::Failed),
+    }
 }
 
-// What a call answers, or that it failed.
-fn called<S: Site>(
+fn read_log<S: Site>(alloc: Global, site: &mut S) -> Result<Option<Bytes>, SiteError> {
+    match site.read_log(alloc) {
+        Ok(log) => Ok(Some(log)),
+        Err(error) => Err(error),
+    }
+}
+
+// Adds what a call on the log answers.
+fn on_log<S: Site>(
     alloc: Global,
     site: &mut S,
     verb: &[u8],
     rest: &[u8],
-) -> Result<Bytes, SiteError> {
-    let (first, behind) = parts(rest);
+    out: &mut Bytes,
+) -> Result<(), AllocError> {
     if verb == b"read_log".as_slice() {
-        return site.read_log(alloc);
-    } else if verb == b"read".as_slice()
-        || verb == b"write".as_slice()
-        || verb == b"remove".as_slice()
-    {
-        return on_file(alloc, site, verb, rest);
+        push_read(read_log(alloc, site), out)
     } else if verb == b"write_log".as_slice() {
-        site.write_log(alloc, 0, rest)?
+        push_changed(site.write_log(alloc, 0, rest), out)
     } else if verb == b"byte".as_slice() {
-        site.write_log(alloc, 0, &[number(rest).min(255) as u8])?
+        let byte = number(rest).min(255) as u8;
+        push_changed(site.write_log(alloc, 0, &[byte]), out)
     } else if verb == b"write_at".as_slice() {
-        write_at(alloc, site, number(first), behind)?
+        let (at, bytes) = parts(rest);
+        push_changed(write_at(alloc, site, number(at), bytes), out)
     } else if verb == b"cut_log".as_slice() {
-        site.cut_log(0).map_err(|_| SiteError::Failed)?
+        push_done(site.cut_log(0), out)
     } else if verb == b"cut_to".as_slice() {
-        cut_to(alloc, site, number(rest))?
-    } else if verb == b"sync".as_slice() {
-        site.sync().map_err(|_| SiteError::Failed)?
-    } else if verb == b"give".as_slice() {
-        site.give(rest).map_err(|_| SiteError::Failed)?
+        push_changed(cut_to(alloc, site, number(rest)), out)
     } else {
-        return Ok(Bytes::from_slice(alloc, b"no step")?);
+        out.extend(b"no step")
     }
-    Ok(Bytes::from_slice(alloc, b"done")?)
 }
 
-// Adds the answer of a call as a line.
+// Adds what a call answers, or that it failed.
 pub(crate) fn push_answer<S: Site>(
     alloc: Global,
     site: &mut S,
@@ -105,10 +138,14 @@ pub(crate) fn push_answer<S: Site>(
     rest: &[u8],
     out: &mut Bytes,
 ) -> Result<(), AllocError> {
-    match called(alloc, site, verb, rest) {
-        Ok(text) => out.extend(text.as_slice()),
-        Err(SiteError::Failed) => out.extend(b"failed"),
-        Err(SiteError::Memory) => Err(AllocError),
+    if verb == b"read".as_slice() || verb == b"write".as_slice() || verb == b"remove".as_slice() {
+        on_file(alloc, site, verb, rest, out)
+    } else if verb == b"sync".as_slice() {
+        push_done(site.sync(), out)
+    } else if verb == b"give".as_slice() {
+        push_done(site.give(rest), out)
+    } else {
+        on_log(alloc, site, verb, rest, out)
     }
 }
 
@@ -133,8 +170,20 @@ pub(crate) fn push_image(image: &Image, names: &[Name], out: &mut Bytes) -> Resu
     Ok(())
 }
 
-// A step that the site in memory has beside its calls, or a call.
-fn stepped(
+// Adds the log, the key and a bucket, as a crash leaves them: `MOMENT=FILL`.
+fn push_crash(
+    alloc: Global,
+    site: &MemSite,
+    text: &[u8],
+    out: &mut Bytes,
+) -> Result<(), AllocError> {
+    let (moment, left) = parts(text);
+    let image = site.crash(alloc, number(moment), fill(left))?;
+    push_image(&image, &SHOWN, out)
+}
+
+// Adds what a step answers that the site in memory has beside its calls, or a call.
+fn push_step(
     alloc: Global,
     site: &mut MemSite,
     step: &[u8],
@@ -147,45 +196,37 @@ fn stepped(
     } else if verb == b"output".as_slice() {
         out.extend(site.output())
     } else if verb == b"crash".as_slice() {
-        let (moment, left) = parts(rest);
-        let image = site.crash(alloc, number(moment), fill(left))?;
-        push_image(
-            &image,
-            &[Name { kind: 2, at: 0 }, Name { kind: 3, at: 1 }],
-            out,
-        )
+        push_crash(alloc, site, rest, out)
     } else {
         push_answer(alloc, site, verb, rest, out)
     }
 }
 
-// What steps on a site in memory answer, a line each.
-pub(crate) fn site_answers(
+// Adds what steps on a site in memory answer, a line each.
+pub(crate) fn on_mem_site(
     alloc: Global,
-    site: MemSite,
+    site: &mut MemSite,
     steps: &[u8],
-) -> Result<Bytes, AllocError> {
-    let mut site = site;
-    let mut out = Bytes::new(alloc);
+    out: &mut Bytes,
+) -> Result<(), AllocError> {
     for step in steps.split(|byte| *byte == b'\n') {
-        stepped(alloc, &mut site, step, &mut out)?;
+        push_step(alloc, site, step, out)?;
         out.push(b'\n')?;
     }
-    Ok(out)
+    Ok(())
 }
 
 // The same on a site that doesn't fail.
-pub(crate) fn unfailing_answers(
+pub(crate) fn on_unfailing(
     alloc: Global,
-    image: Image,
+    site: &mut Unfailing,
     steps: &[u8],
-) -> Result<Bytes, AllocError> {
-    let mut site = Unfailing::new(image);
-    let mut out = Bytes::new(alloc);
+    out: &mut Bytes,
+) -> Result<(), AllocError> {
     for step in steps.split(|byte| *byte == b'\n') {
         let (verb, rest) = parts(step);
-        push_answer(alloc, &mut site, verb, rest, &mut out)?;
+        push_answer(alloc, site, verb, rest, out)?;
         out.push(b'\n')?;
     }
-    Ok(out)
+    Ok(())
 }

@@ -1,17 +1,16 @@
 // What a disk is asked, as words: `site`, `unfailing` and `store` with steps in the input, one a line, `source` and `clock`.
-use crate::calls::{site_answers, unfailing_answers};
-use crate::storing::store_answers;
+use crate::calls::{on_mem_site, on_unfailing};
+use crate::storing::on_stores;
 use ml_base::{Bytes, Numbers, read_number};
-use ml_site::{Clock, Fill, MemClock, MemSite, MemSource, Source};
+use ml_site::{Clock, Fill, MemClock, MemSite, MemSource, Source, Unfailing};
 use std::alloc::{AllocError, Global};
 use std::test::Fail;
 use trials_scripts::{Program, ended_with, read_whole};
 
 pub(crate) struct Disk;
 
-// What five reads of two bytes answer, a line each: how many bytes came, and what the two are then.
-fn pairs(alloc: Global, source: &mut MemSource) -> Result<Bytes, AllocError> {
-    let mut out = Bytes::new(alloc);
+// Adds what five reads of two bytes answer, a line each: how many bytes came, and what the two are then.
+fn pairs(source: &mut MemSource, out: &mut Bytes) -> Result<(), AllocError> {
     let mut buf = [0u8; 2];
     for _ in 0..5 {
         match source.read(&mut buf) {
@@ -22,18 +21,11 @@ fn pairs(alloc: Global, source: &mut MemSource) -> Result<Bytes, AllocError> {
         out.extend(&buf)?;
         out.push(b'\n')?;
     }
-    Ok(out)
+    Ok(())
 }
 
-// What a clock answers that shows the first of these numbers, four times, and whose readings of the others' numbers fail.
-fn moments(alloc: Global, words: &[String]) -> Result<Bytes, AllocError> {
-    let mut numbers = Numbers::new(alloc);
-    for word in words {
-        numbers.push(read_number(word.as_bytes()).unwrap_or(0))?;
-    }
-    let moment = numbers.as_slice().first().copied().unwrap_or(0);
-    let mut clock = MemClock::new(moment.min(253_402_300_799), numbers);
-    let mut out = Bytes::new(alloc);
+// Adds what a clock answers that is read four times, a line each.
+fn moments(clock: &mut MemClock, out: &mut Bytes) -> Result<(), AllocError> {
     for _ in 0..4 {
         match clock.now() {
             Ok(moment) => out.push_number(moment)?,
@@ -41,7 +33,60 @@ fn moments(alloc: Global, words: &[String]) -> Result<Bytes, AllocError> {
         }
         out.push(b'\n')?;
     }
-    Ok(out)
+    Ok(())
+}
+
+// A clock that shows the first of these numbers, and whose readings of the others' numbers fail.
+fn clock_of(alloc: Global, words: &[String]) -> Result<MemClock, AllocError> {
+    let mut numbers = Numbers::new(alloc);
+    for word in words {
+        numbers.push(read_number(word.as_bytes()).unwrap_or(0))?;
+    }
+    let moment = numbers.as_slice().first().copied().unwrap_or(0);
+    Ok(MemClock::new(moment.min(253_402_300_799), numbers))
+}
+
+// Adds what steps answer.
+fn stepped(
+    alloc: Global,
+    verb: &str,
+    site: MemSite,
+    steps: &[u8],
+    out: &mut Bytes,
+) -> Result<(), Fail> {
+    let mut site = site;
+    if verb == "site" {
+        Ok(on_mem_site(alloc, &mut site, steps, out)?)
+    } else if verb == "unfailing" {
+        let image = site.crash(alloc, 0, Fill::Old)?;
+        Ok(on_unfailing(alloc, &mut Unfailing::new(image), steps, out)?)
+    } else if verb == "store" {
+        on_stores(alloc, site, steps, out)
+    } else {
+        Err(Fail::new("no call"))
+    }
+}
+
+// Adds what a call answers.
+fn answered(
+    alloc: Global,
+    words: &[String],
+    input: &mut MemSource,
+    site: MemSite,
+    out: &mut Bytes,
+) -> Result<(), Fail> {
+    let [verb, words @ ..] = words else {
+        return Err(Fail::new("no call"));
+    };
+    let verb = verb.as_str();
+    if verb == "source" {
+        Ok(pairs(input, out)?)
+    } else if verb == "clock" {
+        Ok(moments(&mut clock_of(alloc, words)?, out)?)
+    } else {
+        let steps = read_whole(alloc, input)?;
+        stepped(alloc, verb, site, steps.as_slice(), out)
+    }
 }
 
 impl Program for Disk {
@@ -52,28 +97,9 @@ impl Program for Disk {
         site: MemSite,
         _clock: &mut MemClock,
     ) -> Result<(u8, MemSite), Fail> {
-        let [verb, words @ ..] = words else {
-            return Err(Fail::new("no call"));
-        };
         let image = site.crash(alloc, 0, Fill::Old)?;
-        let verb = verb.as_str();
-        let text = if verb == "source" {
-            pairs(alloc, input)?
-        } else if verb == "clock" {
-            moments(alloc, words)?
-        } else {
-            let steps = read_whole(alloc, input)?;
-            if verb == "site" {
-                site_answers(alloc, site, steps.as_slice())?
-            } else if verb == "unfailing" {
-                let image = site.crash(alloc, 0, Fill::Old)?;
-                unfailing_answers(alloc, image, steps.as_slice())?
-            } else if verb == "store" {
-                store_answers(alloc, site, steps.as_slice())?
-            } else {
-                return Err(Fail::new("no call"));
-            }
-        };
-        ended_with(alloc, 0, image, text.as_slice())
+        let mut out = Bytes::new(alloc);
+        answered(alloc, words, input, site, &mut out)?;
+        ended_with(alloc, 0, image, out.as_slice())
     }
 }

@@ -1,6 +1,6 @@
 // Logs written by hand: what a store shows that is opened over each, and what it leaves of it.
 use crate::disk::Disk;
-use crate::storing::store_answers;
+use crate::storing::on_stores;
 use ml_base::{Bytes, push_netstring};
 use ml_site::{Image, MemSite};
 use std::alloc::{AllocError, Global};
@@ -88,46 +88,72 @@ put log \x0111:X3:259,1:0,, | calls 20 | room 0 | input open | run store => 0 th
 fn each_kind_has_its_places(rt: HostRuntime) -> Result<(), Fail> {
     hold::<Disk>(rt.alloc(), "kinds", KINDS)
 }
-// A log of a thousand open records, of which each writes one byte to one of 250 files.
+
+// A put of one byte to one of 250 files.
+fn put_of(alloc: Global, number: u64) -> Result<Bytes, AllocError> {
+    let mut at = Bytes::new(alloc);
+    at.push_number(number % 250)?;
+    let mut put = Bytes::from_slice(alloc, b"W2:20,")?;
+    push_netstring(&mut put, at.as_slice())?;
+    push_netstring(&mut put, &[(number % 199) as u8])?;
+    Ok(put)
+}
+
+// Adds an open record of one put to a log.
+fn push_record(log: &mut Bytes, put: &[u8]) -> Result<(), AllocError> {
+    log.push(1)?;
+    push_netstring(log, put)
+}
+
+// A log of a thousand open records.
 fn long_log(alloc: Global) -> Result<Bytes, AllocError> {
     let mut log = Bytes::new(alloc);
     for number in 0..1_000u64 {
-        let mut put = Bytes::from_slice(alloc, b"W2:20,")?;
-        push_netstring(&mut put, format!(in alloc; "{}", number % 250)?.as_bytes())?;
-        push_netstring(&mut put, &[(number % 199) as u8])?;
-        log.push(1)?;
-        push_netstring(&mut log, put.as_slice())?;
+        let put = put_of(alloc, number)?;
+        push_record(&mut log, put.as_slice())?;
     }
     Ok(log)
 }
 
-// The steps that show the first of 250 files, and so on, and what is shown then: the last record of a file counts, which is one of the
-// numbers 750 to 999.
-fn shown_of_long(alloc: Global) -> Result<(Bytes, Bytes), AllocError> {
-    let mut steps = Bytes::from_slice(alloc, b"open\nshow=20.0")?;
-    let mut wanted = Bytes::from_slice(alloc, b"done\n")?;
+// Adds the steps that show the first of 250 files, and so on.
+fn push_steps(steps: &mut Bytes) -> Result<(), AllocError> {
+    steps.extend(b"open\nshow=20.0")?;
+    for at in 1..250u64 {
+        steps.extend(b",20.")?;
+        steps.push_number(at)?;
+    }
+    Ok(())
+}
+
+// Adds what is shown then: the last record of a file counts, which is one of the numbers 750 to 999.
+fn push_wanted(wanted: &mut Bytes) -> Result<(), AllocError> {
+    wanted.extend(b"done\n")?;
     for at in 0..250u64 {
-        if at > 0 {
-            steps.extend(b",20.")?;
-            steps.push_number(at)?;
-        }
         wanted.push(((at + 750) % 199) as u8)?;
         wanted.push(b'|')?;
     }
-    wanted.push(b'\n')?;
-    Ok((steps, wanted))
+    wanted.push(b'\n')
+}
+
+// Adds what a store answers to steps that is opened over a log.
+fn push_shown(alloc: Global, log: Bytes, steps: &[u8], out: &mut Bytes) -> Result<(), Fail> {
+    let files = BTreeMap::new(alloc);
+    let site = MemSite::new(alloc, Image { log, files }, 1_000, 0)?;
+    on_stores(alloc, site, steps, out)
 }
 
 #[test]
 fn a_thousand_records_are_read(rt: HostRuntime) -> Result<(), Fail> {
     let alloc = rt.alloc();
-    let image = Image {
-        log: long_log(alloc)?,
-        files: BTreeMap::new(alloc),
-    };
-    let (steps, wanted) = shown_of_long(alloc)?;
-    let site = MemSite::new(alloc, image, 1_000, 0)?;
-    let came = store_answers(alloc, site, steps.as_slice())?;
+    let log = long_log(alloc)?;
+    let (mut steps, mut came, mut wanted) = (
+        Bytes::new(alloc),
+        Bytes::new(alloc),
+        Bytes::new(alloc),
+    );
+    push_steps(&mut steps)?;
+    push_wanted(&mut wanted)?;
+    push_shown(alloc, log, steps.as_slice(), &mut came)?;
     same(
         alloc,
         "a thousand records",

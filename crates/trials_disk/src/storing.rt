@@ -3,11 +3,12 @@
 ghost use Rattle.std.specs.Prelude.{IsTrue, IfOk};
 ghost use Rattle.ml_base.specs.Dir.{are_files};
 
-use crate::calls::{fill, name, number, parts, push_answer, push_image};
+use crate::calls::{fill, name, number, parts, push_answer, push_done, push_image};
 use ml_base::{Bytes, Files, Name, Put, Txn};
-use ml_journal::{CommitError, Store};
-use ml_site::{MemSite, Site};
+use ml_journal::{CommitError, OpenError, Store};
+use ml_site::MemSite;
 use std::alloc::{AllocError, Global};
+use std::fmt::Display;
 use std::test::Fail;
 
 const POSTS: [Name; 3] = [
@@ -23,25 +24,41 @@ enum Held {
     Site(MemSite),
 }
 
+// Adds that something is done, or an error in its words.
+fn push_ended<E: Display>(
+    alloc: Global,
+    ended: &Result<(), E>,
+    out: &mut Bytes,
+) -> Result<(), AllocError> {
+    match ended {
+        Ok(()) => out.extend(b"done"),
+        Err(error) => {
+            let text = format!(in alloc; "{error}")?;
+            out.extend(text.as_bytes())
+        }
+    }
+}
+
+// What is held after a site is opened, and how that ended.
+fn opened(alloc: Global, site: MemSite) -> (Held, Result<(), OpenError>) {
+    match Store::open(alloc, site) {
+        Ok(store) => (Held::Store(store), Ok(())),
+        Err((error, site)) => (Held::Site(site), Err(error)),
+    }
+}
+
 // The site is opened, also that of a store that is left.
 fn open(alloc: Global, held: Held, out: &mut Bytes) -> Result<Held, AllocError> {
     let site = match held {
         Held::Store(store) => store.leave(),
         Held::Site(site) => site,
     };
-    match Store::open(alloc, site) {
-        Ok(store) => {
-            out.extend(b"done")?;
-            Ok(Held::Store(store))
-        }
-        Err((error, site)) => {
-            out.extend(format!(in alloc; "{error}")?.as_bytes())?;
-            Ok(Held::Site(site))
-        }
-    }
+    let (held, ended) = opened(alloc, site);
+    push_ended(alloc, &ended, out)?;
+    Ok(held)
 }
 
-// A txn with a put behind the others, if its name is a file's: a text, or a removal by `-`.
+// A txn with a put after the others, if its name is a file's: a text, or a removal by `-`.
 fn with_put(alloc: Global, txn: Txn, name: Name, text: &[u8]) -> Result<Txn, AllocError>
     requires { IsTrue (are_files txn) }
     ensures { IfOk result (λ txn. IsTrue (are_files txn)) }
@@ -70,30 +87,45 @@ fn txn_of(alloc: Global, puts: &[u8]) -> Result<Txn, AllocError>
     with_put(alloc, txn, name(second), last)
 }
 
-// What is held behind a commit or a closing.
+// What is held after a commit, and how that ended.
 fn settled(
-    alloc: Global,
     done: Result<Store<MemSite>, (CommitError, MemSite)>,
+) -> (Held, Result<(), CommitError>) {
+    match done {
+        Ok(store) => (Held::Store(store), Ok(())),
+        Err((error, site)) => (Held::Site(site), Err(error)),
+    }
+}
+
+// Puts are committed in a txn that is given away.
+fn commit(
+    alloc: Global,
+    store: Store<MemSite>,
+    puts: &[u8],
     out: &mut Bytes,
 ) -> Result<Held, AllocError> {
-    match done {
-        Ok(store) => {
-            out.extend(b"done")?;
-            Ok(Held::Store(store))
-        }
-        Err((error, site)) => {
-            out.extend(format!(in alloc; "{error}")?.as_bytes())?;
-            Ok(Held::Site(site))
-        }
-    }
+    let txn = txn_of(alloc, puts)?;
+    let (held, ended) = settled(store.commit_owned(alloc, txn));
+    push_ended(alloc, &ended, out)?;
+    Ok(held)
+}
+
+// Puts are committed in a txn that is lent.
+fn lend(
+    alloc: Global,
+    store: Store<MemSite>,
+    puts: &[u8],
+    out: &mut Bytes,
+) -> Result<Held, AllocError> {
+    let txn = txn_of(alloc, puts)?;
+    let (held, ended) = settled(store.commit(alloc, &txn));
+    push_ended(alloc, &ended, out)?;
+    Ok(held)
 }
 
 fn close(alloc: Global, store: Store<MemSite>, out: &mut Bytes) -> Result<Held, AllocError> {
     let (closed, site) = store.close(alloc);
-    match closed {
-        Ok(()) => out.extend(b"done")?,
-        Err(error) => out.extend(format!(in alloc; "{error}")?.as_bytes())?,
-    }
+    push_ended(alloc, &closed, out)?;
     Ok(Held::Site(site))
 }
 
@@ -126,6 +158,21 @@ fn is_of_store(verb: &[u8]) -> bool {
         || verb == b"give".as_slice()
 }
 
+// Shows files of a store, or gives.
+fn show_or_give(
+    alloc: Global,
+    store: &mut Store<MemSite>,
+    verb: &[u8],
+    rest: &[u8],
+    out: &mut Bytes,
+) -> Result<(), Fail> {
+    if verb == b"show".as_slice() {
+        show(alloc, store, rest, out)
+    } else {
+        Ok(push_done(store.give(rest), out)?)
+    }
+}
+
 // What is held after a step on a store: `commit` of puts in a txn that is given away, `lend` of puts in one that is lent, `close`, `show`
 // of files, or `give`.
 fn on_store(
@@ -135,53 +182,74 @@ fn on_store(
     rest: &[u8],
     out: &mut Bytes,
 ) -> Result<Held, Fail> {
-    let mut store = store;
     if verb == b"commit".as_slice() {
-        let done = store.commit_owned(alloc, txn_of(alloc, rest)?);
-        return Ok(settled(alloc, done, out)?);
+        Ok(commit(alloc, store, rest, out)?)
     } else if verb == b"lend".as_slice() {
-        let done = store.commit(alloc, &txn_of(alloc, rest)?);
-        return Ok(settled(alloc, done, out)?);
+        Ok(lend(alloc, store, rest, out)?)
     } else if verb == b"close".as_slice() {
-        return Ok(close(alloc, store, out)?);
-    } else if verb == b"show".as_slice() {
-        show(alloc, &mut store, rest, out)?
+        Ok(close(alloc, store, out)?)
     } else {
-        match store.give(rest) {
-            Ok(()) => out.extend(b"done")?,
-            Err(_) => out.extend(b"failed")?,
-        }
+        let mut store = store;
+        show_or_give(alloc, &mut store, verb, rest, out)?;
+        Ok(Held::Store(store))
     }
-    Ok(Held::Store(store))
 }
 
-// The site after a step on it: `left` tells what a crash leaves, and after `crash` there is a site with that in place of the site. These
+// Adds what a crash leaves of a site: the log, the posts, and how many files there are.
+fn push_left(
+    alloc: Global,
+    site: &MemSite,
+    moment: u64,
+    left: &[u8],
+    out: &mut Bytes,
+) -> Result<(), AllocError> {
+    let image = site.crash(alloc, moment, fill(left))?;
+    push_image(&image, &POSTS, out)?;
+    out.push(b'|')?;
+    out.push_number(image.files.len() as u64)
+}
+
+// What a crash leaves of a site, as a site.
+fn crashed(alloc: Global, site: &MemSite, moment: u64, left: &[u8]) -> Result<MemSite, AllocError> {
+    let image = site.crash(alloc, moment, fill(left))?;
+    MemSite::new(alloc, image, 60, 0)
+}
+
+// Does a step on a site: `left` tells what a crash leaves, and after `crash` there is a site with that in place of the site. These
 // take after how many calls it comes, and what it leaves of what no sync has settled.
+fn step_on_site(
+    alloc: Global,
+    site: &mut MemSite,
+    verb: &[u8],
+    rest: &[u8],
+    out: &mut Bytes,
+) -> Result<(), AllocError> {
+    let (moment, left) = parts(rest);
+    if is_of_store(verb) {
+        out.extend(b"no store")
+    } else if verb == b"output".as_slice() {
+        out.extend(site.output())
+    } else if verb == b"left".as_slice() {
+        push_left(alloc, site, number(moment), left, out)
+    } else if verb == b"crash".as_slice() {
+        *site = crashed(alloc, site, number(moment), left)?;
+        Ok(())
+    } else {
+        push_answer(alloc, site, verb, rest, out)
+    }
+}
+
+// The site after a step on it.
 fn on_site(
     alloc: Global,
     site: MemSite,
     verb: &[u8],
     rest: &[u8],
     out: &mut Bytes,
-) -> Result<MemSite, AllocError> {
+) -> Result<Held, AllocError> {
     let mut site = site;
-    let (moment, left) = parts(rest);
-    if is_of_store(verb) {
-        out.extend(b"no store")?
-    } else if verb == b"output".as_slice() {
-        out.extend(site.output())?
-    } else if verb == b"left".as_slice() {
-        let image = site.crash(alloc, number(moment), fill(left))?;
-        push_image(&image, &POSTS, out)?;
-        out.push(b'|')?;
-        out.push_number(image.files.len() as u64)?;
-    } else if verb == b"crash".as_slice() {
-        let image = site.crash(alloc, number(moment), fill(left))?;
-        return MemSite::new(alloc, image, 60, 0);
-    } else {
-        push_answer(alloc, &mut site, verb, rest, out)?
-    }
-    Ok(site)
+    step_on_site(alloc, &mut site, verb, rest, out)?;
+    Ok(Held::Site(site))
 }
 
 // What is held after a step.
@@ -195,20 +263,24 @@ fn stepped(alloc: Global, held: Held, step: &[u8], out: &mut Bytes) -> Result<He
             if is_of_store(verb) {
                 on_store(alloc, store, verb, rest, out)
             } else {
-                Ok(Held::Site(on_site(alloc, store.leave(), verb, rest, out)?))
+                Ok(on_site(alloc, store.leave(), verb, rest, out)?)
             }
         }
-        Held::Site(site) => Ok(Held::Site(on_site(alloc, site, verb, rest, out)?)),
+        Held::Site(site) => Ok(on_site(alloc, site, verb, rest, out)?),
     }
 }
 
-// What steps over a site answer, a line each.
-pub(crate) fn store_answers(alloc: Global, site: MemSite, steps: &[u8]) -> Result<Bytes, Fail> {
+// Adds what steps over a site answer, a line each.
+pub(crate) fn on_stores(
+    alloc: Global,
+    site: MemSite,
+    steps: &[u8],
+    out: &mut Bytes,
+) -> Result<(), Fail> {
     let mut held = Held::Site(site);
-    let mut out = Bytes::new(alloc);
     for step in steps.split(|byte| *byte == b'\n') {
-        held = stepped(alloc, held, step, &mut out)?;
+        held = stepped(alloc, held, step, out)?;
         out.push(b'\n')?;
     }
-    Ok(out)
+    Ok(())
 }
