@@ -130,17 +130,15 @@ fn held_posts(rt: HostRuntime) -> Result<(), Fail> {
     hold_rows::<Calls>(rt.alloc(), "held posts", TABLE)
 }
 
-// Files of which one alone is there.
-fn one_file(alloc: Global, name: Name, text: Bytes) -> Result<Parts, Fail> {
+// No files.
+fn no_files(alloc: Global) -> Result<Parts, Fail> {
     let image = Image {
         log: Bytes::new(alloc),
         files: BTreeMap::new(alloc),
     };
     let site = MemSite::new(alloc, image, 10, 0)?;
     let files = BTreeMap::new(alloc);
-    let mut parts = Layer::new(OnSite { site, files }, Txn::new(alloc));
-    lay_text(alloc, &mut parts, name, text)?;
-    Ok(parts)
+    Ok(Layer::new(OnSite { site, files }, Txn::new(alloc)))
 }
 
 // A text with so many times `x` in it.
@@ -174,11 +172,8 @@ fn answers(
 // The most bytes of a message.
 const LARGEST: usize = 33_554_432;
 
-// These stand in no table: each command of one copies its files several times.
-#[test]
-fn the_largest_message(rt: HostRuntime) -> Result<(), Fail> {
-    let alloc = rt.alloc();
-    let mut parts = one_file(alloc, Name::TICKETS, Bytes::from_slice(alloc, b"1:1\n")?)?;
+// Fails unless the largest message is held under the first ticket.
+fn is_held(alloc: Global, parts: &mut Parts) -> Result<(), Fail> {
     let message = large(alloc, b"", LARGEST, b"")?;
     let wanted = large(
         alloc,
@@ -186,16 +181,38 @@ fn the_largest_message(rt: HostRuntime) -> Result<(), Fail> {
         LARGEST,
         b",\n14/0 1:2\n\n",
     )?;
-    answers(alloc, &mut parts, "hold", "g@h", message, &wanted)?;
+    answers(alloc, parts, "hold", "g@h", message, &wanted)
+}
+
+// Fails unless the largest message is found under the first ticket.
+fn is_found(alloc: Global, parts: &mut Parts) -> Result<(), Fail> {
     let wanted = large(alloc, b"1000000000 g@h\n", LARGEST, b"")?;
-    answers(alloc, &mut parts, "look", "1", Bytes::new(alloc), &wanted)
+    answers(alloc, parts, "look", "1", Bytes::new(alloc), &wanted)
+}
+
+// Puts a held post of a message that is too large by a byte.
+fn put_larger(alloc: Global, parts: &mut Parts) -> Result<(), Fail> {
+    let text = large(alloc, b"10:1000000000,3:g@h,33554433:", LARGEST + 1, b",")?;
+    lay_text(alloc, parts, Name { kind: 13, at: 1 }, text)?;
+    Ok(())
+}
+
+// These stand in no table: each command of one copies its files several times.
+#[test]
+fn the_largest_message(rt: HostRuntime) -> Result<(), Fail> {
+    let alloc = rt.alloc();
+    let mut parts = no_files(alloc)?;
+    let first = Bytes::from_slice(alloc, b"1:1\n")?;
+    lay_text(alloc, &mut parts, Name::TICKETS, first)?;
+    is_held(alloc, &mut parts)?;
+    is_found(alloc, &mut parts)
 }
 
 #[test]
 fn no_larger_message(rt: HostRuntime) -> Result<(), Fail> {
     let alloc = rt.alloc();
-    let text = large(alloc, b"10:1000000000,3:g@h,33554433:", LARGEST + 1, b",")?;
-    let mut parts = one_file(alloc, Name { kind: 13, at: 1 }, text)?;
+    let mut parts = no_files(alloc)?;
+    put_larger(alloc, &mut parts)?;
     let wanted = Bytes::from_slice(alloc, b"damaged 13 1")?;
     answers(alloc, &mut parts, "look", "1", Bytes::new(alloc), &wanted)
 }

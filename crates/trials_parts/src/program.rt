@@ -4,8 +4,8 @@ use crate::asked::{Asked, NoAnswer};
 use crate::parts::Parts;
 use crate::{digests, held, ledgers, queue, sets};
 use ml_base::{Bytes, Layer, PartError, Txn};
-use ml_site::{Clock, Fill, MemClock, MemSite, MemSource};
-use std::alloc::Global;
+use ml_site::{Clock, Fill, Image, MemClock, MemSite, MemSource};
+use std::alloc::{AllocError, Global};
 use std::test::Fail;
 use trials_lists::{Made, copy, error_text, lay, make};
 use trials_scripts::{OnSite, Program, ended_with, read_whole};
@@ -46,6 +46,59 @@ pub(crate) fn told(alloc: Global, answer: Result<Bytes, NoAnswer>) -> Result<(u8
     }
 }
 
+// The moment that the clock shows, and the whole input.
+fn met(alloc: Global, input: &mut MemSource, clock: &mut MemClock) -> Result<(u64, Bytes), Fail> {
+    let moment = clock.now()?;
+    Ok((moment, read_whole(alloc, input)?))
+}
+
+// How `made` ends over these files.
+fn made(alloc: Global, image: Image) -> Result<(u8, MemSite), Fail> {
+    let mut image = image;
+    make(alloc, &mut image.files, DUE)?;
+    ended_with(alloc, 0, image, b"")
+}
+
+// The files of a site that has this image, under no puts.
+fn parts_of(alloc: Global, site: MemSite, image: &Image) -> Result<Parts, AllocError> {
+    let files = copy(alloc, &image.files)?;
+    Ok(Layer::new(OnSite { site, files }, Txn::new(alloc)))
+}
+
+// The image with the puts laid over its files.
+fn laid(alloc: Global, parts: Parts, image: Image) -> Result<Image, AllocError> {
+    let (_, puts) = parts.parts();
+    let mut image = image;
+    lay(alloc, &mut image.files, &puts)?;
+    Ok(image)
+}
+
+// How the steps of the sets end, which leave the files as they were.
+fn stepped(
+    alloc: Global,
+    site: MemSite,
+    image: Image,
+    steps: &[u8],
+) -> Result<(u8, MemSite), Fail> {
+    let parts = parts_of(alloc, site, &image)?;
+    let (status, text) = told(alloc, sets::answer(alloc, parts, steps))?;
+    ended_with(alloc, status, image, text.as_slice())
+}
+
+// How a call of any other part ends.
+fn called(
+    alloc: Global,
+    site: MemSite,
+    image: Image,
+    part: &str,
+    asked: &Asked<'_>,
+) -> Result<(u8, MemSite), Fail> {
+    let mut parts = parts_of(alloc, site, &image)?;
+    let (status, text) = told(alloc, answer(alloc, &mut parts, part, asked))?;
+    let image = laid(alloc, parts, image)?;
+    ended_with(alloc, status, image, text.as_slice())
+}
+
 impl Program for Calls {
     fn ended(
         alloc: Global,
@@ -57,27 +110,21 @@ impl Program for Calls {
         let [part, verb, words @ ..] = words else {
             return Err(Fail::new("no call"));
         };
+        let (part, verb) = (part.as_str(), verb.as_str());
+        let image = site.crash(alloc, u64::MAX, Fill::New)?;
+        if part == "made" {
+            return made(alloc, image);
+        }
+        let (moment, input) = met(alloc, input, clock)?;
+        if part == "sets" {
+            return stepped(alloc, site, image, input.as_slice());
+        }
         let asked = Asked {
-            verb: verb.as_str(),
+            verb,
             words,
-            moment: clock.now()?,
-            input: read_whole(alloc, input)?,
+            moment,
+            input,
         };
-        let mut image = site.crash(alloc, u64::MAX, Fill::New)?;
-        if part.as_str() == "made" {
-            make(alloc, &mut image.files, DUE)?;
-            return ended_with(alloc, 0, image, b"");
-        }
-        let files = copy(alloc, &image.files)?;
-        let mut parts = Layer::new(OnSite { site, files }, Txn::new(alloc));
-        if part.as_str() == "sets" {
-            let (status, text) = told(alloc, sets::answer(alloc, parts, asked.input.as_slice()))?;
-            return ended_with(alloc, status, image, text.as_slice());
-        }
-        let answer = answer(alloc, &mut parts, part.as_str(), &asked);
-        let (status, text) = told(alloc, answer)?;
-        let (_, puts) = parts.parts();
-        lay(alloc, &mut image.files, &puts)?;
-        ended_with(alloc, status, image, text.as_slice())
+        called(alloc, site, image, part, &asked)
     }
 }

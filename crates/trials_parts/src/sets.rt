@@ -96,19 +96,34 @@ fn change(
     }
 }
 
-// Adds the bucket of `a@b` and the count, each with `|` behind it, as they are once these puts are laid over the files, which then stand for
-// a list. The files stay as they were.
+// Adds the text of a file, or `-` if it is absent, with `|` behind it.
+fn push_file(
+    alloc: Global,
+    laid: &mut Layer<Parts>,
+    name: Name,
+    out: &mut Bytes,
+) -> Result<(), NoAnswer> {
+    match laid.get(alloc, name) {
+        Ok(Some(bytes)) => out.extend(bytes.as_slice())?,
+        Ok(None) => out.push(b'-')?,
+        Err(error) => return Err(NoAnswer::Part(error.into())),
+    }
+    out.push(b'|')?;
+    Ok(())
+}
+
+// Adds the bucket of `a@b` and the count as they are, over files that stand for a list.
+fn push_files(alloc: Global, laid: &mut Layer<Parts>, out: &mut Bytes) -> Result<(), NoAnswer> {
+    audit(alloc, laid)?;
+    push_file(alloc, laid, BUCKET, out)?;
+    push_file(alloc, laid, COUNT, out)
+}
+
+// Adds the bucket of `a@b` and the count as they are once these puts are laid over the files, which then stand for a list. The files stay as
+// they were.
 fn push_laid(alloc: Global, files: Parts, txn: Txn, out: &mut Bytes) -> Result<Parts, NoAnswer> {
     let mut laid = Layer::new(files, txn);
-    audit(alloc, &mut laid)?;
-    for found in [laid.get(alloc, BUCKET), laid.get(alloc, COUNT)] {
-        match found {
-            Ok(Some(bytes)) => out.extend(bytes.as_slice())?,
-            Ok(None) => out.push(b'-')?,
-            Err(error) => return Err(NoAnswer::Part(error.into())),
-        }
-        out.push(b'|')?;
-    }
+    push_files(alloc, &mut laid, out)?;
     let (files, _) = laid.parts();
     Ok(files)
 }
@@ -210,6 +225,48 @@ fn push_answer(
     }
 }
 
+// Lays files, if this is a step that does.
+fn lay_step(
+    alloc: Global,
+    files: &mut Parts,
+    verb: &[u8],
+    rest: &[u8],
+) -> Result<bool, AllocError> {
+    if verb == b"files".as_slice() {
+        lay_files(alloc, files, rest)?;
+        Ok(true)
+    } else if verb == b"members".as_slice() {
+        lay_members(alloc, files, rest)?;
+        Ok(true)
+    } else {
+        Ok(false)
+    }
+}
+
+// Adds what a call answers, or its error, unless it is a change that is made, which answers its puts.
+fn push_call(
+    alloc: Global,
+    files: &mut Parts,
+    memo: &mut Checked,
+    verb: &[u8],
+    rest: &[u8],
+    out: &mut Bytes,
+) -> Result<Option<Txn>, NoAnswer> {
+    let answer = if rest.is_empty() {
+        push_set(alloc, files, verb, out)
+    } else {
+        push_answer(alloc, files, memo, verb, rest, out)
+    };
+    match answer {
+        Ok(txn) => Ok(txn),
+        Err(NoAnswer::Part(error)) => {
+            out.extend(error_text(alloc, error)?.as_slice())?;
+            Ok(None)
+        }
+        Err(NoAnswer::NoCall) => Err(NoAnswer::NoCall),
+    }
+}
+
 // Does a step. `files` and `members` lay files. Any other adds what it answers, or its error, and ends the line.
 fn step(
     alloc: Global,
@@ -220,24 +277,11 @@ fn step(
 ) -> Result<Parts, NoAnswer> {
     let mut files = files;
     let (verb, rest) = parts(step);
-    if verb == b"files".as_slice() {
-        lay_files(alloc, &mut files, rest)?;
+    if lay_step(alloc, &mut files, verb, rest)? {
         return Ok(files);
     }
-    if verb == b"members".as_slice() {
-        lay_members(alloc, &mut files, rest)?;
-        return Ok(files);
-    }
-    let answer = if rest.is_empty() {
-        push_set(alloc, &mut files, verb, out)
-    } else {
-        push_answer(alloc, &mut files, memo, verb, rest, out)
-    };
-    match answer {
-        Ok(Some(txn)) => files = push_laid(alloc, files, txn, out)?,
-        Ok(None) => (),
-        Err(NoAnswer::Part(error)) => out.extend(error_text(alloc, error)?.as_slice())?,
-        Err(NoAnswer::NoCall) => return Err(NoAnswer::NoCall),
+    if let Some(txn) = push_call(alloc, &mut files, memo, verb, rest, out)? {
+        files = push_laid(alloc, files, txn, out)?;
     }
     out.push(b'\n')?;
     Ok(files)
