@@ -3,7 +3,7 @@ ghost use Rattle.ml_plain.specs.Items.{IsItem};
 
 use ml_base::{Bytes, Layer, Name, PartError, Txn, read_number};
 use ml_list::{apply, floor, load};
-use ml_plain::Item;
+use ml_plain::{Item, Reply};
 use ml_site::{Fill, Image, MemSite, MemSource};
 use ml_stream::Items;
 use std::alloc::{AllocError, Global};
@@ -14,20 +14,33 @@ use trials_scripts::{OnSite, ended_with};
 // The files, and what the items before have made of them.
 type List = Layer<OnSite>;
 
+// The code and the number of a reply, whose puts are laid over the list, or an error.
+fn told(
+    alloc: Global,
+    list: &mut List,
+    answer: Result<(Txn, Reply), PartError>,
+) -> Result<Bytes, AllocError> {
+    match answer {
+        Ok((txn, reply)) => {
+            list.lay(txn)?;
+            reply_text(alloc, reply.code, reply.number)
+        }
+        Err(error) => error_text(alloc, error),
+    }
+}
+
+fn push_line(out: &mut Bytes, text: &[u8]) -> Result<(), AllocError> {
+    out.extend(text)?;
+    out.push(b'\n')
+}
+
 // The list after an item, whose answer is added as a line: the code and the number of its reply, or an error.
 fn applied(alloc: Global, list: List, item: &Item, out: &mut Bytes) -> Result<List, Fail>
     requires { IsItem item.now }
 {
     let (mut list, answer) = apply(alloc, list, item);
-    let text = match answer {
-        Ok((txn, reply)) => {
-            list.lay(txn)?;
-            reply_text(alloc, reply.code, reply.number)?
-        }
-        Err(error) => error_text(alloc, error)?,
-    };
-    out.extend(text.as_slice())?;
-    out.push(b'\n')?;
+    let text = told(alloc, &mut list, answer)?;
+    push_line(out, text.as_slice())?;
     Ok(list)
 }
 
@@ -100,6 +113,58 @@ fn groups(alloc: Global, image: &Image, words: &[String]) -> Result<Bytes, Alloc
     Ok(out)
 }
 
+// The files of a site that has this image, under no puts.
+fn list_of(alloc: Global, site: MemSite, image: &Image) -> Result<List, AllocError> {
+    let files = copy(alloc, &image.files)?;
+    Ok(Layer::new(OnSite { site, files }, Txn::new(alloc)))
+}
+
+// The image with the puts laid over its files.
+fn laid(alloc: Global, list: List, image: Image) -> Result<Image, AllocError> {
+    let (_, puts) = list.parts();
+    let mut image = image;
+    lay(alloc, &mut image.files, &puts)?;
+    Ok(image)
+}
+
+// What is read of a list.
+fn looked_at(alloc: Global, list: &mut List, verb: &str) -> Result<Bytes, Fail> {
+    if verb == "floor" {
+        Ok(floor_text(alloc, list)?)
+    } else if verb == "load" {
+        Ok(load_text(alloc, list)?)
+    } else {
+        Err(Fail::new(format_args!("no call: {verb}")))
+    }
+}
+
+// The list after a call, and what that answers.
+fn called(
+    alloc: Global,
+    list: List,
+    verb: &str,
+    input: &mut MemSource,
+) -> Result<(List, Bytes), Fail> {
+    let mut list = list;
+    if verb == "apply" {
+        let mut out = Bytes::new(alloc);
+        let list = all_applied(alloc, list, input, &mut out)?;
+        return Ok((list, out));
+    }
+    let out = looked_at(alloc, &mut list, verb)?;
+    Ok((list, out))
+}
+
+// How a call ends that looks at the kept replies.
+fn seen(alloc: Global, image: Image, verb: &str, words: &[String]) -> Result<(u8, MemSite), Fail> {
+    let text = if verb == "kept" {
+        kept(alloc, &image, words)?
+    } else {
+        groups(alloc, &image, words)?
+    };
+    ended_with(alloc, 0, image, text.as_slice())
+}
+
 // How a call on the files of a site ends.
 pub(crate) fn ended(
     alloc: Global,
@@ -108,24 +173,12 @@ pub(crate) fn ended(
     words: &[String],
     input: &mut MemSource,
 ) -> Result<(u8, MemSite), Fail> {
-    let mut image = site.crash(alloc, 0, Fill::Old)?;
-    let files = copy(alloc, &image.files)?;
-    let mut list = Layer::new(OnSite { site, files }, Txn::new(alloc));
-    let mut out = Bytes::new(alloc);
-    if verb == "apply" {
-        list = all_applied(alloc, list, input, &mut out)?
-    } else if verb == "floor" {
-        out = floor_text(alloc, &mut list)?
-    } else if verb == "load" {
-        out = load_text(alloc, &mut list)?
-    } else if verb == "kept" {
-        out = kept(alloc, &image, words)?
-    } else if verb == "groups" {
-        out = groups(alloc, &image, words)?
-    } else {
-        return Err(Fail::new(format_args!("no call: {verb}")));
+    let image = site.crash(alloc, 0, Fill::Old)?;
+    if verb == "kept" || verb == "groups" {
+        return seen(alloc, image, verb, words);
     }
-    let (_, puts) = list.parts();
-    lay(alloc, &mut image.files, &puts)?;
+    let list = list_of(alloc, site, &image)?;
+    let (list, out) = called(alloc, list, verb, input)?;
+    let image = laid(alloc, list, image)?;
     ended_with(alloc, 0, image, out.as_slice())
 }

@@ -3,13 +3,56 @@
 // `ends BYTES`.
 use crate::running::{cut, gate, longest, made, spool, with_members};
 use crate::{applying, reading};
-use ml_base::read_number;
+use ml_base::{Bytes, read_number};
 use ml_site::{Fill, MemClock, MemSite, MemSource};
 use std::alloc::Global;
 use std::test::Fail;
 use trials_scripts::{Program, ended_with};
 
 pub(crate) struct Calls;
+
+// What a call tells of a site, or of its input alone.
+fn text_of(
+    alloc: Global,
+    site: &MemSite,
+    verb: &str,
+    words: &[String],
+    number: Option<u64>,
+    input: &mut MemSource,
+) -> Result<Bytes, Fail> {
+    if verb == "longest" {
+        Ok(longest(alloc, site, words, input)?)
+    } else if verb == "gate" {
+        Ok(gate(alloc, site)?)
+    } else if verb == "read" {
+        Ok(reading::answers(alloc, words, input)?)
+    } else {
+        reading::ending(alloc, number, input)
+    }
+}
+
+// How such a call ends, which leaves the files as they are.
+fn told(
+    alloc: Global,
+    site: MemSite,
+    verb: &str,
+    words: &[String],
+    number: Option<u64>,
+    input: &mut MemSource,
+) -> Result<(u8, MemSite), Fail> {
+    let text = text_of(alloc, &site, verb, words, number, input)?;
+    let image = site.crash(alloc, 0, Fill::Old)?;
+    ended_with(alloc, 0, image, text.as_slice())
+}
+
+fn is_told(verb: &str) -> bool {
+    verb == "longest" || verb == "gate" || verb == "read" || verb == "ends"
+}
+
+// The number at the head of these words, if there is one.
+fn first_number(words: &[String]) -> Option<u64> {
+    read_number(words.first()?.as_bytes())
+}
 
 impl Program for Calls {
     fn ended(
@@ -22,32 +65,20 @@ impl Program for Calls {
         let [verb, words @ ..] = words else {
             return Err(Fail::new("no call"));
         };
-        let number = match words.first() {
-            Some(word) => read_number(word.as_bytes()),
-            None => None,
-        };
+        let number = first_number(words);
         let verb = verb.as_str();
         if verb == "make" {
-            return made(alloc, site);
+            made(alloc, site)
         } else if verb == "spool" {
-            return spool(alloc, site, number.unwrap_or(1_000_000), input);
+            spool(alloc, site, number.unwrap_or(1_000_000), input)
         } else if verb == "cut" {
-            return cut(alloc, site, number.unwrap_or(0), input);
+            cut(alloc, site, number.unwrap_or(0), input)
         } else if verb == "members" {
-            return with_members(alloc, site, number.unwrap_or(0));
-        }
-        let text = if verb == "longest" {
-            longest(alloc, &site, words, input)?
-        } else if verb == "gate" {
-            gate(alloc, &site)?
-        } else if verb == "read" {
-            reading::answers(alloc, words, input)?
-        } else if verb == "ends" {
-            reading::ending(alloc, number, input)?
+            with_members(alloc, site, number.unwrap_or(0))
+        } else if is_told(verb) {
+            told(alloc, site, verb, words, number, input)
         } else {
-            return applying::ended(alloc, site, verb, words, input);
-        };
-        let image = site.crash(alloc, 0, Fill::Old)?;
-        ended_with(alloc, 0, image, text.as_slice())
+            applying::ended(alloc, site, verb, words, input)
+        }
     }
 }

@@ -148,6 +148,24 @@ fn push_read(alloc: Global, input: &mut MemSource, out: &mut Bytes) -> Result<()
     }
 }
 
+// The reader after it is asked for one of the following.
+fn asked(
+    alloc: Global,
+    reader: Reader,
+    ask: &str,
+    input: &mut MemSource,
+    out: &mut Bytes,
+) -> Result<Reader, AllocError> {
+    if ask == "more" {
+        more(reader, input, out)
+    } else if ask == "read" {
+        push_read(alloc, input, out)?;
+        Ok(reader)
+    } else {
+        next(alloc, reader, ask, input, out)
+    }
+}
+
 // What is answered, a line each, where these are asked: `more`, whether there is a further byte; `next`, the next item with its number, its
 // moment, its act and its bytes as they are written; `written`, these bytes alone; and `read`, two bytes of the source itself, with how many
 // it gives.
@@ -161,14 +179,7 @@ pub(crate) fn answers(
     });
     let mut out = Bytes::new(alloc);
     for ask in asks {
-        let ask = ask.as_str();
-        if ask == "more" {
-            reader = more(reader, input, &mut out)?;
-        } else if ask == "read" {
-            push_read(alloc, input, &mut out)?;
-        } else {
-            reader = next(alloc, reader, ask, input, &mut out)?;
-        }
+        reader = asked(alloc, reader, ask.as_str(), input, &mut out)?;
         out.push(b'\n')?;
     }
     Ok(out)
