@@ -1,5 +1,5 @@
 -- An exercise of a list, behind the look at its configuration.
-use Rattle.std.proofs.Common.{◌≡◌, inl, inr, ⊎_elim, ℕ, IsTrue, List, [], ◌++◌, take, drop, Option, None, ap, sym, refl, subst, ◌∙◌}
+use Rattle.std.proofs.Common.{◌≡◌, inl, inr, ⊎_elim, ℕ, IsTrue, List, [], ◌++◌, take, drop, Option, Some, None, ap, sym, refl, subst, ◌∙◌}
 use Rattle.std.specs.Prelude.{IsSome}
 use Rattle.std.proofs.lemmas.List.{append-nil, take-append-drop}
 use Rattle.ml_base.specs.Bytes.{Text}
@@ -18,12 +18,14 @@ use Rattle.ml_ending.specs.Lines.{stop_text}
 use Rattle.ml_ending.specs.Stops.{status_of_why}
 use Rattle.ml_ending.proofs.Finished.{rose_earlier}
 use Rattle.ml_ending.proofs.Said.{opening_then}
+use Rattle.ml_run.specs.Anywhere.{AtEachMoment}
 use Rattle.ml_run.specs.Endings.{CutOff, Names, Stopped}
 use Rattle.ml_run.specs.Leaving.{HasState, IsAfterSome}
+use Rattle.ml_run.proofs.Anywhere.{nothing_done}
 use Rattle.ml_run.proofs.Leaving.{other_list, same_state, some_answered}
 use Rattle.ml_run.proofs.Missing.{misses_before}
 use Rattle.ml_stream.specs.Stream.{End}
-use Rattle.ml_exercise.specs.Exercising.{answered_all, behind, Ends, Exercises, ExercisesList, IsExercising, IsOfItem, items_of}
+use Rattle.ml_exercise.specs.Exercising.{answered_all, behind, Ends, Exercises, ExercisesItems, ExercisesList, IsExercising, IsExercisingAt, IsOfItem, items_of}
 use Rattle.ml_exercise.specs.Finding.{Finds}
 use Rattle.ml_exercise.proofs.SummedUp.{tells_before}
 
@@ -109,6 +111,19 @@ module _ {S : Type 0} (told : Ghosts S) (reads_told : IsTrue told.tells_all → 
         (λ left out p. subst (λ (b : Text). IsExercising q count b left out) (finds.output t) p))
         (λ left out p. inl (none_done q (items_of q count) (directory (told.disk old).reads) (told.output old) out left state p.0 (inl p.1)))
 
+    -- of a directory, whatever it holds
+    exercising_at : IsTrue told.tells_reads → (files : Dir) → directory (told.disk old).reads ≡ Some files → ExercisesItems told (AtEachMoment told old new) count status list.answered old new files
+    exercising_at r files here =
+        let d = list.anywhere r files (finds.same r ∙ here) in
+        let before = told.output old in
+        let P = IsExercisingAt files d.first d.group count before in
+        let none : (left : Contents) (out : Text) → directory left ≡ directory (told.disk old).reads → SaysAtMost before out → P left out = λ left out same said. inl (nothing_done files (d.first ++ d.group) before out left (same ∙ here) said) in
+        let opened : IsTrue told.tells_all → Opens told old new P = λ t. opening_then told old mid new P (finds.moments t)
+        (weaker told.moment told.left_since told.disk told.output mid new (IsExercisingAt files d.first d.group count (told.output mid)) P (d.moments (finds.rest t) t)
+        (λ left out p. subst (λ (b : Text). IsExercisingAt files d.first d.group count b left out) (finds.output t) p))
+        (λ left out p. none left out p.0 (inl p.1)) in
+        record { first = d.first; group = d.group; row = d.row; moments = (opened, λ now t. opens_rest old new P now none (opened t) t) }
+
     pub found_then : Exercises told count old new status
     found_then = record {
       does = record {
@@ -117,6 +132,7 @@ module _ {S : Type 0} (told : Ghosts S) (reads_told : IsTrue told.tells_all → 
         whole = λ r q state. ends_before (IsTrue told.tells_all) status list.answered (told.disk new).reads (told.output new) q count (told.output mid) (told.output old) finds.output (list.whole r q (state_at r q state));
         at_rest = λ rest q state t. opens_rest old new (IsExercising q count (told.output old)) rest
             (λ left out same said. inl (none_done q (items_of q count) (directory (told.disk old).reads) (told.output old) out left state same said)) (opens t q state) t;
+        anywhere = λ r files here. let d = exercising_at r files here in record { first = d.first; group = d.group; row = d.row; moments = d.moments.1 };
         rest = λ none one two t. list.rest (λ rose. none (rose_earlier (told.disk_faults old) (told.disk_faults mid) (told.disk_faults new) finds.disk_later rose)) one two t;
         gate = λ some one two three r. list.gate (subst (λ (d : Option Dir). IsSome d) (sym (finds.same r)) some) one two three r;
         of_disk = λ e. rose_earlier (told.disk_faults old) (told.disk_faults mid) (told.disk_faults new) finds.disk_later (list.of_disk e);
@@ -125,4 +141,5 @@ module _ {S : Type 0} (told : Ghosts S) (reads_told : IsTrue told.tells_all → 
         nolist = λ r files is none. misses_before (IsTrue told.tells_all) status (told.output mid) (told.output old) (told.output new) finds.output (list.nolist r files (finds.same r ∙ is) none);
       };
       moments = opens;
+      anywhere = exercising_at;
     }

@@ -1,10 +1,10 @@
 -- A run of the items of an exercise, and the reading behind it, as one.
-use Rattle.std.proofs.Common.{◌≡◌, inl, inr, ℕ, true, false, IsTrue, List, [], ◌∷◌, length, ◌≤◌, Option, Some, None, ap, sym, refl, subst, ◌∙◌, arith}
+use Rattle.std.proofs.Common.{◌≡◌, inl, inr, ℕ, true, false, IsTrue, List, [], ◌∷◌, ◌++◌, length, ◌≤◌, Option, Some, None, ap, sym, refl, subst, ◌∙◌, arith}
 use Rattle.std.specs.Prelude.{IsSome}
 use Rattle.ml_base.specs.Bytes.{Text}
 use Rattle.ml_base.specs.Dir.{Dir}
 use Rattle.ml_base.specs.declared.names.Name.{Name}
-use Rattle.ml_config.specs.ConfigFile.{config_name, config_text}
+use Rattle.ml_config.specs.ConfigFile.{config_name, config_text, IsConfigFile}
 use Rattle.ml_config.specs.Configuration.{IsConfig}
 use Rattle.ml_config.specs.declared.configuration.Config.{Config}
 use Rattle.ml_generated.proofs.Streams.{items_read}
@@ -18,18 +18,20 @@ use Rattle.ml_journal.specs.Calls.{Leaves}
 use Rattle.ml_journal.specs.Log.{directory}
 use Rattle.ml_journal.specs.Stores.{the_dir}
 use Rattle.ml_ending.proofs.Finished.{rose_earlier}
+use Rattle.ml_run.specs.Anywhere.{after, answers_of, IsAfterFirst}
 use Rattle.ml_run.specs.Endings.{Brings, Ended, Names, Runs}
 use Rattle.ml_run.specs.Groups.{IsOfNext}
 use Rattle.ml_run.specs.Leaving.{HasState, IsAfterSome}
 use Rattle.ml_run.proofs.Leaving.{same_state}
 use Rattle.ml_run.proofs.Named.{names_map}
+use Rattle.ml_run.proofs.ServedAnywhere.{row_brought, row_end}
 use Rattle.ml_run.proofs.Streamed.{settled_not}
-use Rattle.ml_stream.specs.Stream.{End}
+use Rattle.ml_stream.specs.Stream.{StreamEnd, End}
 use Rattle.ml_stream.specs.Writing.{stream_text}
-use Rattle.ml_exercise.specs.Exercising.{answered_all, behind, ExercisesList, IsExercising, IsOfItem, items_of}
+use Rattle.ml_exercise.specs.Exercising.{answered_all, behind, ExercisesList, IsExercised, IsExercising, IsExercisingAt, IsOfItem, items_of}
 use Rattle.ml_exercise.specs.Finding.{HasConfig}
 use Rattle.ml_exercise.specs.Running.{items_for, RunsItems}
-use Rattle.ml_exercise.specs.Summing.{IsLooking, IsSummingUp, SumsUp}
+use Rattle.ml_exercise.specs.Summing.{IsLooking, IsLookingAt, IsSummingUp, IsToldOf, SumsUp}
 use Rattle.ml_exercise.proofs.Lists.{count_is, items_same}
 use Rattle.ml_exercise.proofs.Statuses.{all_ended, early, early_known}
 use Rattle.ml_exercise.proofs.SummedUp.{tells_before}
@@ -49,6 +51,17 @@ has_one : (dir : Option Dir) (config : Config) (files : Dir) → HasConfig dir c
 has_one dir config files found is none =
     let same : found.files ≡ files = ap (λ (d : Option Dir). the_dir d) (sym found.is ∙ is) in
     some_none (config_text config) (sym none ∙ ap (λ (d : Dir). d config_name) (sym same) ∙ found.config_is.stands.text)
+
+-- the items of the configuration that was found are brought by the stream that spells them
+exercised_brought : (files : Dir) (config : Config) (count : ℕ) (all : List Item) (ending : StreamEnd) → HasConfig (Some files) config → IsConfig config → count ≤ 999_999 → IsExercised files count all ending
+    → Brings (Some (stream_text (items_for config count))) all ending
+exercised_brought files config count all ending found range few e =
+    let same : found.files ≡ e.1.files = ap (λ (d : Option Dir). the_dir d) (sym found.is ∙ e.1.is) in
+    let one : config ≡ e.0 = found.config_is.only e.0 (subst (λ (d : Dir). IsConfigFile (d config_name) e.0) (sym same) e.1.config_is.stands) in
+    let items : items_for config count ≡ all = ap (λ (c : Config). items_for c count) one ∙ sym e.2 in
+    subst (λ (end : StreamEnd). Brings (Some (stream_text (items_for config count))) all end) (sym e.3)
+    (subst (λ (l : List Item). Brings (Some (stream_text (items_for config count))) l End) items
+    (record { bytes = stream_text (items_for config count); left_is = refl; stream = items_read 0 config.local config.host 1 count range.local range.host (omega (arith, few)) }))
 
 -- an item that a stop line names is one of those of the list
 item_named : (dir : Option Dir) (config : Config) (count n : ℕ) (files : Dir) (who : Option ℕ) (name : Name) → HasConfig dir config → IsConfig config → count ≤ 999_999
@@ -87,6 +100,9 @@ module _ {S : Type 0} (told : Ghosts S) (reads_told : IsTrue told.tells_all → 
   run_named r is = names_map (IsTrue told.tells_all) (IsOfNext (Brings (Some (stream_text (items_for config count)))) runs.answered) (IsOfItem (directory (told.disk old).reads) count runs.answered) (directory (told.disk old).reads) (directory (told.disk mid).reads) (told.output mid)
       (λ files who name next. item_named (directory (told.disk old).reads) config count runs.answered files who name (found r) range few next) (runs.named r is)
 
+  exercised : IsTrue told.tells_reads → (files : Dir) → directory (told.disk old).reads ≡ Some files → (all : List Item) (ending : StreamEnd) → IsExercised files count all ending → Brings (Some (stream_text (items_for config count))) all ending
+  exercised r files here all ending e = exercised_brought files config count all ending (subst (λ (d : Option Dir). HasConfig d config) here (found r)) range few e
+
   -- it has ended early
   pub early_list : is_status run ≡ false → ExercisesList told count old mid run
   early_list is = record {
@@ -97,6 +113,14 @@ module _ {S : Type 0} (told : Ghosts S) (reads_told : IsTrue told.tells_all → 
         inr (record { end = e.0; hindered = e.1 });
     at_rest = λ _ q state t. weaker told.moment told.left_since told.disk told.output old mid (IsAfterSome q (items_of q count) (told.output old)) (IsExercising q count (told.output old)) (some_moments t q state t)
         (λ left out p. inl p);
+    anywhere = λ r files here.
+        let d = runs.anywhere r files here in
+        record {
+          first = d.first;
+          group = d.group;
+          row = row_brought told (Brings (Some (stream_text (items_for config count)))) (IsExercised files count) count run runs.answered mid files d.first d.group (exercised r files here) d.row;
+          moments = λ now t. weaker told.moment told.left_since told.disk told.output old mid (IsAfterFirst files (d.first ++ d.group) (told.output old)) (IsExercisingAt files d.first d.group count (told.output old)) (d.moments.1 now t) (λ left out p. inl p);
+        };
     rest = runs.closed.rest;
     gate = runs.closed.gate;
     of_disk = runs.counts.of_disk;
@@ -130,6 +154,26 @@ module _ {S : Type 0} (told : Ghosts S) (reads_told : IsTrue told.tells_all → 
             state = same_state (directory (told.disk mid).reads) (directory left) (behind q count) p.0 e.state;
             put = subst (λ (b : Text). IsSummingUp count (behind q count).plain b out) (e.put t) p.1;
           }));
+      anywhere = λ r files here.
+          let d = runs.anywhere r files here in
+          let none = d.row.whole (λ e. settled_not run 71 refl is e) (λ e. settled_not run 73 refl is e) (λ e. settled_not run 111 refl is e) in
+          let behind : directory (told.disk mid).reads ≡ Some (after files d.first) = row_end told (Brings (Some (stream_text (items_for config count)))) count run runs.answered mid files d.first d.group none d.row in
+          let row = row_brought told (Brings (Some (stream_text (items_for config count)))) (IsExercised files count) count run runs.answered mid files d.first d.group (exercised r files here) d.row in
+          record {
+            first = d.first;
+            group = d.group;
+            row = record { are = row.are; count = row.count; few = row.few; brought = row.brought; end = inl (sums.same r ∙ behind); whole = λ one two three. none };
+            moments = λ now t.
+                let before = told.output old in
+                let P = IsExercisingAt files d.first d.group count before in
+                joins told.moment told.left_since told.disk told.output old mid new (IsAfterFirst files (d.first ++ d.group) before) (IsLookingAt (directory (told.disk mid).reads) count (told.output mid)) P
+                (d.moments.1 now t) (sums.anywhere (runs.closed.settled is t) t) (λ left out p. inl p)
+                (λ left out p. inr (record {
+                  all = sym (runs.all is) ∙ d.row.count;
+                  dir = p.0 ∙ behind;
+                  put = subst (λ (o : Option Dir). IsToldOf o count (before ++ answers_of d.first) out) behind (subst (λ (b : Text). IsToldOf (directory (told.disk mid).reads) count b out) (d.answers is t) p.1);
+                }));
+          };
       rest = λ none one two. sums.rest (λ rose. none (rose_earlier (told.disk_faults old) (told.disk_faults mid) (told.disk_faults new) runs.counts.disk_later rose)) one two;
       gate = λ some one two three r.
           let here = runs.closed.gate some (λ e. settled_not run 71 refl is e) (λ e. settled_not run 73 refl is e) (λ e. settled_not run 111 refl is e) r in

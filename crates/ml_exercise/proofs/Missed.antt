@@ -1,5 +1,5 @@
 -- An exercise of a site on which no configuration is found.
-use Rattle.std.proofs.Common.{◌≡◌, ◌⊎◌, inl, inr, ⊎_elim, ℕ, true, false, IsTrue, ◌++◌, Option, Some, None, ap, sym, refl, subst, ◌∙◌, arith}
+use Rattle.std.proofs.Common.{◌≡◌, ◌⊎◌, inl, inr, ⊎_elim, ℕ, true, false, IsTrue, [], ◌++◌, take, Option, Some, None, ap, sym, refl, subst, ◌∙◌, arith}
 use Rattle.ml_base.specs.Bytes.{Text}
 use Rattle.ml_base.specs.Dir.{Dir}
 use Rattle.ml_base.specs.Faults.{Rose}
@@ -19,12 +19,14 @@ use Rattle.ml_ending.specs.Stops.{status_of_why}
 use Rattle.ml_ending.proofs.Finished.{disk_status, memory_status, rose_earlier}
 use Rattle.ml_ending.proofs.Said.{unopened_said}
 use Rattle.ml_reading.specs.Readings.{IsRefusal, is_reading_status}
+use Rattle.ml_run.specs.Anywhere.{IsAfterFirst, IsRow}
 use Rattle.ml_run.specs.Endings.{Runs}
 use Rattle.ml_run.specs.Leaving.{HasState, IsAfterSome}
+use Rattle.ml_run.proofs.Anywhere.{each_moment, opens_weaker, said_done}
 use Rattle.ml_run.proofs.Missing.{said_misses}
 use Rattle.ml_run.proofs.Opening.{early_runs, from_rest, opened_said}
 use Rattle.ml_stream.specs.Stream.{End}
-use Rattle.ml_exercise.specs.Exercising.{Exercises, ExercisesList, IsExercising, items_of}
+use Rattle.ml_exercise.specs.Exercising.{Exercises, ExercisesList, IsExercised, IsExercising, IsExercisingAt, items_of}
 use Rattle.ml_exercise.specs.Finding.{IsMiss, IsUnfound, Misses}
 use Rattle.ml_exercise.specs.Running.{is_items_status}
 use Rattle.ml_exercise.specs.Summing.{NamesWhole}
@@ -145,6 +147,23 @@ module _ {S : Type 0} (told : Ghosts S) (reads_told : IsTrue told.tells_all → 
       → Runs (IsTrue told.tells_all) ⊥ status count 0 (told.disk new).reads (told.output new) (items_of q count) End q (told.output old)
   runs r q state = early_runs told old mid new q (items_of q count) End ⊥ count 0 status why r state miss.same miss.output refl (over_list why (directory (told.disk old).reads) q state (miss.reason r)) says
 
+  -- nothing is done of a directory, whatever it holds
+  nothing_opens : IsTrue told.tells_all → (files : Dir) → directory (told.disk old).reads ≡ Some files → Opens told old new (IsAfterFirst files [] (told.output old))
+  nothing_opens t files here = ⊎_elim
+      (λ early. inl (unopened_said told old mid new status why early says t))
+      (λ late. inr (record {
+        synced = late.synced;
+        first = late.first;
+        rest = late.rest;
+        same = late.same;
+        until = late.until;
+        since = said_done told files old late.synced mid new status why here (miss.output t) late.since says t;
+      }))
+      (miss.moments t)
+
+  nothing_row : IsTrue told.tells_reads → (files : Dir) → directory (told.disk old).reads ≡ Some files → IsRow told (IsExercised files count) count status 0 new files [] []
+  nothing_row r files here = record { are = tt; count = refl; few = omega arith; brought = λ all ending b. (take count all, refl); end = inl (ap directory (says.reads r) ∙ miss.same r ∙ here); whole = λ one two three. refl }
+
   missed_list : ExercisesList told count old new status
   missed_list = record {
     answered = 0;
@@ -155,6 +174,13 @@ module _ {S : Type 0} (told : Ghosts S) (reads_told : IsTrue told.tells_all → 
         inr (record { end = e.0; hindered = e.1 });
     at_rest = λ rest q state t. weaker told.moment told.left_since told.disk told.output old new (IsAfterSome q (items_of q count) (told.output old)) (IsExercising q count (told.output old))
         (from_rest told old new q (items_of q count) state rest (after_some t q state)) (λ left out p. inl p);
+    anywhere = λ r files here. record {
+      first = [];
+      group = [];
+      row = nothing_row r files here;
+      moments = λ now t. weaker told.moment told.left_since told.disk told.output old new (IsAfterFirst files [] (told.output old)) (IsExercisingAt files [] [] count (told.output old))
+          ((each_moment told files [] old new here (λ u. nothing_opens u files here)).1 now t) (λ left out p. inl p);
+    };
     rest = λ none one two t. subst (λ (d : Disk). IsAtRest d) (sym (says.disk_is t)) (miss.rest (λ e. memory_status told mid new status None why says e one two)
         (λ e. none (subst (λ (n : ℕ). Rose (told.disk_faults old) n) (sym says.disk_faults) (miss.cause e))) t);
     gate = λ some one two three r. ap (λ (c : Contents). c.log) (says.reads r) ∙ miss.gate (λ e. memory_status told mid new status None why says e one two) (λ e. disk_status told mid new status None why says e three two) some r;
@@ -183,10 +209,21 @@ module _ {S : Type 0} (told : Ghosts S) (reads_told : IsTrue told.tells_all → 
           says.line
 
   pub missed : Exercises told count old new status
+  unfolding missed_list
   missed = record {
     does = missed_list;
     moments = λ t q state. ⊎_elim (λ early. inl early)
         (λ late. inr (first_weaker told.moment told.left_since told.disk told.output told.syncs old new (Now (told.disk old) (told.output old)) (IsAfterSome q (items_of q count) (told.output old)) (Now (told.disk old) (told.output old)) (IsExercising q count (told.output old))
         late (λ left out p. p) (λ left out p. inl p)))
         (after_some t q state);
+    anywhere = λ r files here. record {
+      first = [];
+      group = [];
+      row = nothing_row r files here;
+      moments = (
+        λ t. opens_weaker told old new (IsAfterFirst files [] (told.output old)) (IsExercisingAt files [] [] count (told.output old)) (nothing_opens t files here) (λ left out p. inl p),
+        λ now t. weaker told.moment told.left_since told.disk told.output old new (IsAfterFirst files [] (told.output old)) (IsExercisingAt files [] [] count (told.output old))
+            ((each_moment told files [] old new here (λ u. nothing_opens u files here)).1 now t) (λ left out p. inl p),
+      );
+    };
   }

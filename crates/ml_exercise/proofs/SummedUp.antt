@@ -28,7 +28,7 @@ use Rattle.ml_reading.specs.Giving.{GivesAnswer}
 use Rattle.ml_reading.specs.Readings.{GivesText, IsAnswer, IsFront, IsLeftByReading, IsRefusal, Reads, is_reading_status}
 use Rattle.ml_run.specs.Leaving.{HasState}
 use Rattle.ml_run.proofs.Leaving.{same_state}
-use Rattle.ml_exercise.specs.Summing.{exercised_line, IsLooking, IsSummingUp, NamesWhole, SumsUp, TellsOf, two_lines}
+use Rattle.ml_exercise.specs.Summing.{exercised_line, IsLooking, IsLookingAt, IsSummingUp, NamesWhole, SumsUp, TellsOf, two_lines}
 use Rattle.ml_run.proofs.MadeLists.{some_status}
 
 -- the text of a check is the line of the list
@@ -104,6 +104,17 @@ module _ {S : Type 0} (told : Ghosts S) (reads_told : IsTrue told.tells_all → 
       (λ left out g. (ap directory (rest_contents (told.disk old) left rest g.0), inl (front_longer (exercised_line count) (whole_line (sizes_of q.plain)) (told.output old) out g.1)))
       (λ left image. (subst (λ (d : Disk). IsImage d left) (tells.disk_is t) image, tells_front told old mid line (exercised_line count) tells t))
 
+  -- the same, whatever the directory holds
+  any_moments : IsAtRest (told.disk old) → IsTrue told.tells_all
+      → LeavesOnly told.moment told.left_since told.disk told.output old mid (IsLookingAt (directory (told.disk old).reads) count (told.output old))
+  any_moments rest t =
+      let P = IsLookingAt (directory (told.disk old).reads) count (told.output old) in
+      goes_on told.moment told.left_since told.disk told.output old old mid P (Giving (told.disk old) (told.output old) (exercised_line count))
+      (at_start told.moment told.left_since told.disk told.output (λ site left out l. only_now site left out t l) old P rest (λ left is out put. (ap directory is, inl (nothing_out (exercised_line count) (told.output old) out put))))
+      (tells.time t)
+      (λ left out g. (ap directory (rest_contents (told.disk old) left rest g.0), inl g.1))
+      (λ left image. (subst (λ (d : Disk). IsImage d left) (tells.disk_is t) image, tells_front told old mid line (exercised_line count) tells t))
+
   -- the output failed before the list was looked over
   pub cut_short : (line ≡ 0 → ⊥) → SumsUp told count old mid line
   cut_short bad = ⊎_elim (λ whole. absurd (bad whole.0)) go tells.line_is
@@ -114,6 +125,7 @@ module _ {S : Type 0} (told : Ghosts S) (reads_told : IsTrue told.tells_all → 
         same = λ r. ap directory (tells.reads r);
         given = λ r q state. inr (inr (cut.0, λ t. inl (front_longer (exercised_line count) (whole_line (sizes_of q.plain)) (told.output old) (told.output mid) (cut.2 t))));
         at_rest = λ rest q state t. line_moments rest q t;
+        anywhere = any_moments;
         rest = λ none one two. absurd (two cut.0);
         gate = λ some one two three. absurd (two cut.0);
         of_disk = λ e. let is = cut.0 in absurd (omega (arith, e, is));
@@ -154,6 +166,16 @@ module _ {S : Type 0} (told : Ghosts S) (reads_told : IsTrue told.tells_all → 
           joins told.moment told.left_since told.disk told.output old mid new (IsLooking (directory (told.disk old).reads) count q.plain (told.output old)) (IsLeftByReading check_meaning (directory (told.disk mid).reads) (told.output mid))
           (IsLooking (directory (told.disk old).reads) count q.plain (told.output old)) (line_moments rest q t) (gives.at_rest still t) (λ left out p. p)
           (λ left out p. (p.0 ∙ ap directory (tells.reads r), front_is (directory (told.disk mid).reads) q count (told.output old) (told.output mid) out here (line_out t) p.1));
+      anywhere = λ rest t.
+          let same = ap directory (tells.reads (reads_told t)) in
+          let still : IsAtRest (told.disk mid) = subst (λ (d : Disk). IsAtRest d) (sym (tells.disk_is t)) rest in
+          let P = IsLookingAt (directory (told.disk old).reads) count (told.output old) in
+          joins told.moment told.left_since told.disk told.output old mid new P (IsLeftByReading check_meaning (directory (told.disk mid).reads) (told.output mid)) P (any_moments rest t) (gives.at_rest still t) (λ left out p. p)
+          (λ left out p. (
+            p.0 ∙ same,
+            inr (subst (λ (d : Option Dir). IsFront check_meaning d (told.output old ++ exercised_line count) out) same
+                (subst (λ (b : Text). IsFront check_meaning (directory (told.disk mid).reads) b out) (line_out t) p.1)),
+          ));
       rest = λ none one two. gives.rest (λ rose. none (subst (λ (n : ℕ). Rose n (told.disk_faults new)) tells.disk_faults rose)) one two;
       gate = λ some one two three r. gives.gate (subst (λ (d : Option Dir). IsSome d) (sym (ap directory (tells.reads r))) some) one two three r;
       of_disk = λ e. subst (λ (n : ℕ). Rose n (told.disk_faults new)) tells.disk_faults (gives.of_disk e);

@@ -17,11 +17,12 @@ use Rattle.ml_journal.specs.Calls.{Leaves}
 use Rattle.ml_journal.specs.Log.{directory}
 use Rattle.ml_ending.specs.Endings.{MissesList, Opens}
 use Rattle.ml_reading.specs.Readings.{IsHindered, is_reading_status}
+use Rattle.ml_run.specs.Anywhere.{Done, after, answers_of, AtEachMoment, IsAfterFirst, IsRow}
 use Rattle.ml_run.specs.Endings.{CutOff, Names, Stopped}
 use Rattle.ml_run.specs.Leaving.{HasState, IsAfterSome}
-use Rattle.ml_stream.specs.Stream.{End}
+use Rattle.ml_stream.specs.Stream.{StreamEnd, End}
 use Rattle.ml_exercise.specs.Finding.{HasConfig}
-use Rattle.ml_exercise.specs.Summing.{IsSummingUp, NamesWhole, TellsOf}
+use Rattle.ml_exercise.specs.Summing.{IsSummingUp, IsToldOf, NamesWhole, TellsOf}
 
 -- the items of an exercise of a list
 abbrev pub items_of : State → ℕ → List Item
@@ -75,6 +76,27 @@ pub record IsOfItem (dir : Option Dir) (count answered : ℕ) (files : Dir) (who
   pub reads : is_read_by_item item name ≡ true
   pub asked : IsReadBy files item name
 
+-- the items of an exercise of a directory, whatever else it holds: those of the configuration that it has
+abbrev pub IsExercised : Dir → ℕ → List Item → StreamEnd → Type 0
+IsExercised files count all ending = (config : Config) × HasConfig (Some files) config × (all ≡ generated config.local config.host count) × (ending ≡ End)
+
+-- so many items are done and answered, and what is told behind them may be out
+pub record IsToldAfter (files : Dir) (done : List Done) (count : ℕ) (before : Text) (left : Contents) (out : Text) : Type 0 where
+  pub all : count ≡ length done
+  pub dir : directory left ≡ Some (after files done)
+  pub put : IsToldOf (Some (after files done)) count (before ++ answers_of done) out
+
+-- At each moment, whatever the directory holds: as in a run of the items, or behind them all.
+abbrev pub IsExercisingAt : Dir → List Done → List Done → ℕ → Text → Contents → Text → Type 0
+IsExercisingAt files first group count before left out = IsAfterFirst files (first ++ group) before left out ⊎ IsToldAfter files first count before left out
+
+-- What an exercise does of a directory, whatever it holds: there is a row of its items as of a run, and at each moment (M) it is so.
+pub record ExercisesItems {S : Type 0} (told : Ghosts S) (M : (Contents → Text → Type 0) → Type 0) (count status answered : ℕ) (old new : S) (files : Dir) : Type 0 where
+  pub first : List Done
+  pub group : List Done
+  pub row : IsRow told (IsExercised files count) count status answered new files first group
+  pub moments : M (IsExercisingAt files first group count (told.output old))
+
 -- What an exercise of so many items does that answers these first ones of them, but for the moments of its opening.
 pub record ExercisesList {S : Type 0} (told : Ghosts S) (count : ℕ) (old new : S) (status : ℕ) : Type 0 where
   pub answered : ℕ
@@ -83,6 +105,8 @@ pub record ExercisesList {S : Type 0} (told : Ghosts S) (count : ℕ) (old new :
       → Ends (IsTrue told.tells_all) status answered (told.disk new).reads (told.output new) q count (told.output old)
   pub at_rest : IsAtRest (told.disk old) → (q : State) → HasState (directory (told.disk old).reads) q
       → Leaves told old new (IsExercising q count (told.output old))
+  pub anywhere : IsTrue told.tells_reads → (files : Dir) → directory (told.disk old).reads ≡ Some files
+      → ExercisesItems told (λ P. IsAtRest (told.disk old) → Leaves told old new P) count status answered old new files
   pub rest : (Rose (told.disk_faults old) (told.disk_faults new) → ⊥) → (status ≡ 71 → ⊥) → (status ≡ 73 → ⊥) → IsTrue told.tells_all → IsAtRest (told.disk new)
   pub gate : IsSome (directory (told.disk old).reads) → (status ≡ 71 → ⊥) → (status ≡ 73 → ⊥) → (status ≡ 111 → ⊥) → IsTrue told.tells_reads → (told.disk new).reads.log ≡ nul ∷ []
   pub of_disk : status ≡ 111 → Rose (told.disk_faults old) (told.disk_faults new)
@@ -97,3 +121,4 @@ pub record ExercisesList {S : Type 0} (told : Ghosts S) (count : ℕ) (old new :
 pub record Exercises {S : Type 0} (told : Ghosts S) (count : ℕ) (old new : S) (status : ℕ) : Type 0 where
   pub does : ExercisesList told count old new status
   pub moments : IsTrue told.tells_all → (q : State) → HasState (directory (told.disk old).reads) q → Opens told old new (IsExercising q count (told.output old))
+  pub anywhere : IsTrue told.tells_reads → (files : Dir) → directory (told.disk old).reads ≡ Some files → ExercisesItems told (AtEachMoment told old new) count status does.answered old new files

@@ -3,11 +3,13 @@ use Rattle.std.specs.Prelude.{◌≡◌, ℕ, Bool, ◌==◌, ◌||◌, IsTrue, 
 use Rattle.ml_config.specs.declared.configuration.Config.{Config}
 use Rattle.ml_generated.specs.Items.{generated}
 use Rattle.ml_plain.specs.Histories.{State}
+use Rattle.ml_plain.specs.Replies.{is_status}
 use Rattle.ml_plain.specs.declared.Item.{Item}
 use Rattle.ml_site.specs.Disk.{IsAtRest}
 use Rattle.ml_site.specs.declared.site.Site.{Ghosts}
 use Rattle.ml_journal.specs.Calls.{Leaves}
 use Rattle.ml_journal.specs.Log.{directory}
+use Rattle.ml_run.specs.Anywhere.{RunsAnywhere}
 use Rattle.ml_run.specs.Clauses.{ClosesRun, CountsSite}
 use Rattle.ml_run.specs.Endings.{Brings, Names, Runs}
 use Rattle.ml_run.specs.Groups.{IsOfNext}
@@ -30,6 +32,8 @@ pub record RunsItems {S : Type 0} (told : Ghosts S) (items : List Item) (count :
   pub whole : IsTrue told.tells_reads → (q : State) → HasState (directory (told.disk old).reads) q
       → Runs (IsTrue told.tells_all) ⊥ status count answered (told.disk new).reads (told.output new) items End q (told.output old)
   pub at_rest : IsAtRest (told.disk old) → (q : State) → HasState (directory (told.disk old).reads) q → Leaves told old new (IsAfterSome q items (told.output old))
+  pub all : IsTrue (is_status status) → answered ≡ count
+  pub anywhere : RunsAnywhere told (Brings (Some (stream_text items))) count status answered old new
   pub closed : ClosesRun told status old new
   pub counts : CountsSite told status old new
   pub named : IsTrue told.tells_reads → status ≡ 75

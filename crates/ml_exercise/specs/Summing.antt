@@ -16,7 +16,7 @@ use Rattle.ml_ending.specs.declared.lines.Why.{Why}
 use Rattle.ml_ending.specs.Endings.{SaysAtMost, TellsAtMost}
 use Rattle.ml_ending.specs.Lines.{stop_text}
 use Rattle.ml_ending.specs.Stops.{status_of_why}
-use Rattle.ml_reading.specs.Readings.{IsHindered, IsRefusal, is_reading_status}
+use Rattle.ml_reading.specs.Readings.{IsFront, IsHindered, IsRefusal, is_reading_status}
 use Rattle.ml_run.specs.Leaving.{HasState}
 
 -- the line of how many items there were
@@ -43,6 +43,15 @@ TellsOf told status count list before output =
 abbrev pub IsLooking : Option Dir → ℕ → Plain → Text → Contents → Text → Type 0
 IsLooking dir count list before left out = (directory left ≡ dir) × IsSummingUp count list before out
 
+-- Whatever the directory holds: some first bytes of the line of how many items there were are out; or that line, and some first bytes of what a
+-- check of the directory tells, or of one stop line.
+abbrev pub IsToldOf : Option Dir → ℕ → Text → Text → Type 0
+IsToldOf dir count before out = TellsAtMost (exercised_line count) before out ⊎ IsFront check_meaning dir (before ++ exercised_line count) out
+
+-- the directory is this one, and that is out
+abbrev pub IsLookingAt : Option Dir → ℕ → Text → Contents → Text → Type 0
+IsLookingAt dir count before left out = (directory left ≡ dir) × IsToldOf dir count before out
+
 -- a stop line of status 75 is one that a look at the whole list gives, and the output ends in it
 pub record NamesWhole (told : Type 0) (dir : Option Dir) (output : Text) : Type 0 where
   pub why : Why
@@ -57,6 +66,7 @@ pub record SumsUp {S : Type 0} (told : Ghosts S) (count : ℕ) (old new : S) (st
   pub given : IsTrue told.tells_reads → (q : State) → HasState (directory (told.disk old).reads) q → TellsOf (IsTrue told.tells_all) status count q.plain (told.output old) (told.output new)
   pub at_rest : IsAtRest (told.disk old) → (q : State) → HasState (directory (told.disk old).reads) q
       → Leaves told old new (IsLooking (directory (told.disk old).reads) count q.plain (told.output old))
+  pub anywhere : IsAtRest (told.disk old) → Leaves told old new (IsLookingAt (directory (told.disk old).reads) count (told.output old))
   pub rest : (Rose (told.disk_faults old) (told.disk_faults new) → ⊥) → (status ≡ 71 → ⊥) → (status ≡ 73 → ⊥) → IsTrue told.tells_all → IsAtRest (told.disk new)
   pub gate : IsSome (directory (told.disk old).reads) → (status ≡ 71 → ⊥) → (status ≡ 73 → ⊥) → (status ≡ 111 → ⊥) → IsTrue told.tells_reads → (told.disk new).reads.log ≡ nul ∷ []
   pub of_disk : status ≡ 111 → Rose (told.disk_faults old) (told.disk_faults new)

@@ -18,3 +18,5 @@ pub mod Taken
 pub mod Streamed
 pub mod Unfailing
 pub mod InHand
+pub mod Anywhere
+pub mod ServedAnywhere

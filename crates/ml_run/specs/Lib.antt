@@ -7,4 +7,5 @@ pub mod Spending
 pub mod Feeds
 pub mod Held
 pub mod Clauses
+pub mod Anywhere
 pub mod Single

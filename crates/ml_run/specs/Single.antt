@@ -14,6 +14,7 @@ use Rattle.ml_run.specs.Groups.{IsOfNext}
 use Rattle.ml_run.specs.Clauses.{ClosesRun, CountsSite, SaysRefusal}
 use Rattle.ml_run.specs.Endings.{AnswersAll, AnswersEach, Runs}
 use Rattle.ml_run.specs.Leaving.{HasState, IsAfterSome}
+use Rattle.ml_run.specs.Anywhere.{RunsAnywhere}
 
 -- the items of a stream are this one alone, and then it ends
 abbrev pub IsAlone : Item → List Item → StreamEnd → Type 0
@@ -36,6 +37,7 @@ pub record RunsItem {S : Type 0} (told : Ghosts S) (item : Item) (old new : S) (
       → Opens told old new (IsAfterSome q (item ∷ []) (told.output old))
   pub at_rest : IsAtRest (told.disk old) → (q : State) → HasState (directory (told.disk old).reads) q
       → Leaves told old new (IsAfterSome q (item ∷ []) (told.output old))
+  pub anywhere : RunsAnywhere told (IsAlone item) 1 ending.status ending.answered old new
   pub answers : IsTrue (is_status ending.status) → AnswersEach (IsTrue told.tells_all) ending.status (item ∷ []) (told.output old) (told.output new)
   pub closed : ClosesRun told ending.status old new
   pub refusals : SaysRefusal told (IsOfNext (IsAlone item) ending.answered) ending.status old new

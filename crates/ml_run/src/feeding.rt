@@ -16,6 +16,7 @@ ghost use Rattle.ml_run.specs.Groups.{IsOfNext};
 ghost use Rattle.ml_run.specs.Endings.{Begins, Brings, Runs, Names, FromTaken, TakesFew};
 ghost use Rattle.ml_journal.specs.Calls.{Leaves};
 ghost use Rattle.ml_run.specs.Leaving.{IsAfterSome};
+ghost use Rattle.ml_run.specs.Anywhere.{DoesItems, RunsAnywhere};
 ghost use Rattle.ml_stream.specs.Stream.{StreamEnd};
 
 use crate::feed::Feed;
@@ -43,6 +44,7 @@ pub(crate) fn run_feed<F: Feed, S: Site>(
         Begins (F.left feed.old) (S.disk site).reads all ending q →
         Runs (IsTrue S.tells_all) (Rose (F.faults feed.old) (F.faults feed.new)) result.0.status limit result.0.answered
         (S.disk result.1).reads (S.output result.1) all ending q (S.output site) }
+    ensures anywhere { RunsAnywhere ⟦<S as Site>⟧ (Brings (F.left feed.old)) limit result.0.status result.0.answered site result.1 }
     ensures crashes { CrashesAfterSome ⟦<S as Site>⟧ (F.left feed.old) limit site result.1 }
     ensures taken { IsTrue S.tells_reads → (all : List TheItem) (ending : StreamEnd) (q : State) →
         Begins (F.left feed.old) (S.disk site).reads all ending q → FromTaken (F.left feed.old) (F.left feed.new) (λ items.
@@ -85,6 +87,8 @@ fn opened<F: Feed, S: Site>(
         Begins (F.left feed.old) (S.disk (site_of store)).reads all ending q →
         Runs (IsTrue S.tells_all) (Rose (F.faults feed.old) (F.faults feed.new)) result.0.status limit result.0.answered
         (S.disk result.1).reads (S.output result.1) all ending q (S.output (site_of store)) }
+    ensures anywhere { IsTrue S.tells_reads → (files : Dir) → directory (S.disk (site_of store)).reads ≡ Some files →
+        DoesItems ⟦<S as Site>⟧ (Leaves ⟦<S as Site>⟧ (site_of store) result.1) (Brings (F.left feed.old)) limit result.0.status result.0.answered (site_of store) result.1 files }
     ensures moments { (all : List TheItem) (ending : StreamEnd) (q : State) →
         Begins (F.left feed.old) (S.disk (site_of store)).reads all ending q →
         Leaves ⟦<S as Site>⟧ (site_of store) result.1 (IsAfterSome q (take limit all) (S.output (site_of store))) }

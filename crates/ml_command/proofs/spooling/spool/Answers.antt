@@ -17,6 +17,8 @@ returns g c =
       moments = c.run-site.ensures.crashes.moments;
       at_rest = c.run-site.ensures.crashes.at_rest;
       rest = λ none one two. c.run-site.ensures.closed.rest none (λ e. one (keeps run status 71 is refl e)) (λ e. two (keeps run status 73 is refl e));
+      settled = c.run-site.ensures.closed.settled;
+      anywhere = c.run-site.ensures.anywhere;
       taken = λ told all ending q b.
           let t = c.run-site.ensures.taken told all ending q b in
           record { taken = t.taken; rest = t.rest; before_is = t.before_is; after_is = t.after_is; items = t.items; ending = t.ending; stream = t.stream; holds = (t.holds.0, λ e. t.holds.1 (back run status 74 is (omega arith) e)) };

@@ -1,4 +1,4 @@
-use Rattle.std.proofs.Common.{◌≡◌, ◌∙◌, IsTrue, List, Some, ap, ap₂, subst, arith}
+use Rattle.std.proofs.Common.{◌≡◌, ◌∙◌, sym, IsTrue, List, Some, ap, ap₂, subst, arith}
 use Rattle.ml_base.specs.Bytes.{Text}
 use Rattle.ml_generated.specs.Generated.{generated_left}
 use Rattle.ml_generated.specs.Items.{generated}
@@ -7,9 +7,11 @@ use Rattle.ml_plain.specs.Histories.{State}
 use Rattle.ml_plain.specs.declared.Item.{Item}
 use Rattle.ml_journal.specs.Calls.{Leaves}
 use Rattle.ml_journal.specs.Log.{directory}
+use Rattle.ml_run.specs.Anywhere.{AtEachMoment}
 use Rattle.ml_run.specs.Endings.{Begins, Brings, Names}
 use Rattle.ml_run.specs.Groups.{IsOfNext}
 use Rattle.ml_run.specs.Leaving.{HasState, IsAfterSome}
+use Rattle.ml_run.proofs.ServedAnywhere.{items_at}
 use Rattle.ml_run.proofs.Unfailing.{never_fails}
 use Rattle.ml_stream.specs.Stream.{End}
 use Rattle.ml_stream.specs.Writing.{stream_text}
@@ -40,6 +42,9 @@ returns g c =
       known = items_known status c.run-site.ensures.counts.statuses (λ e. never_broken (tells.broken e).0) (λ e. never_more count (items) long (tells.more e).1) (λ e. none_rose (c.run-site.ensures.counts.of_input e));
       whole = λ r q state. never_fails (IsTrue g.S.Site.tells_all) _ status count c.run-site.result.0.answered held out items End q (g.S.Site.output c.args.site) none_rose (c.run-site.ensures.whole r items End q (begins q state));
       at_rest = λ rest q state. subst (λ (all : List Item). Leaves g.S.Site c.args.site c.run-site.result.1 (IsAfterSome q all (g.S.Site.output c.args.site))) (all_taken config count) (c.run-site.ensures.crashes.at_rest rest items End q (begins q state));
+      all = λ ok. (tells.whole ok).1 ∙ long;
+      anywhere = λ r files here. items_at g.S.Site (AtEachMoment g.S.Site c.args.site c.run-site.result.1) (Brings (Some (generated_left c.new-items.result))) (Brings (Some (stream_text items))) count status c.run-site.result.0.answered c.args.site c.run-site.result.1 files
+          (λ all ending b. subst (λ (left : Text). Brings (Some left) all ending) (sym is) b) (c.run-site.ensures.anywhere r files here);
       closed = c.run-site.ensures.closed;
       counts = c.run-site.ensures.counts.site;
       named = λ r e. subst (λ (left : Text). Names (IsTrue g.S.Site.tells_all) (IsOfNext (Brings (Some left)) c.run-site.result.0.answered) (directory old.reads) (directory held) out) is (c.run-site.ensures.refusals.named r e);

@@ -15,6 +15,10 @@ use Rattle.ml_journal.specs.Calls.{Leaves}
 use Rattle.ml_run.specs.Leaving.{IsAfterSome}
 use Rattle.ml_run.proofs.Taken.{few_none, nothing_taken, taken_map, said_after}
 use Rattle.ml_run.proofs.Streamed.{is_failing, open_failing, said_failing, stream_before}
+use Rattle.ml_run.specs.Anywhere.{AtEachMoment}
+use Rattle.ml_run.specs.Endings.{Brings}
+use Rattle.ml_run.proofs.Anywhere.{each_moment, opened_done, said_done}
+use Rattle.ml_run.proofs.ServedAnywhere.{early_items, items_before}
 use Rattle.ml_run.proofs.feeding.run_feed.Goals as goal
 
 pub returns-in_default-clause-whole : goal.returns-in_default-clause-whole
@@ -100,3 +104,36 @@ pub returns-in-Err-clause-few : goal.returns-in-Err-clause-few
 returns-in-Err-clause-few g c bytes is =
     few_none (g.F.Feed.left c.args.feed.now) bytes c.say-in-Err.result.0.status c.args.limit is
     (said_failing g.S.Site c.in-Err.site c.say-in-Err.result.1 c.say-in-Err.result.0.status None c.not_opened.result c.say-in-Err.ensures.says (ap (λ (w : Why). is_failing (status_of_why w)) c.not_opened.ensures ∙ open_failing c.in-Err.error))
+
+pub returns-in_default-clause-anywhere : goal.returns-in_default-clause-anywhere
+returns-in_default-clause-anywhere g c told files here =
+    early_items g.S.Site (AtEachMoment g.S.Site c.args.site c.say.result.1) (Brings (g.F.Feed.left c.args.feed.now)) c.args.limit c.say.result.0.status c.say.result.0.answered c.args.site c.say.result.1 files c.say.ensures.answered
+    (ap directory (c.say.ensures.says.reads told) ∙ here) (said_failing g.S.Site c.args.site c.say.result.1 c.say.result.0.status None whys.Memory c.say.ensures.says refl)
+    (each_moment g.S.Site files [] c.args.site c.say.result.1 here (λ t. inl (unopened_said g.S.Site c.args.site c.args.site c.say.result.1 c.say.result.0.status whys.Memory (untouched g.S.Site g.met.S.Site.only_now c.args.site t) c.say.ensures.says t)))
+
+pub returns-in-Ok-open-clause-anywhere : goal.returns-in-Ok-open-clause-anywhere
+returns-in-Ok-open-clause-anywhere g c told files here =
+    let now = site_of c.in-Ok-open.store in
+    let same = at_site (λ s. directory (g.S.Site.disk s).reads ≡ directory (g.S.Site.disk c.args.site).reads) c.open.result _ c.in-Ok-open.is (c.open.ensures.same told) in
+    let put : IsTrue g.S.Site.tells_all → g.S.Site.output now ≡ g.S.Site.output c.args.site = λ t. at_site (λ s. g.S.Site.output s ≡ g.S.Site.output c.args.site) c.open.result _ c.in-Ok-open.is (c.open.ensures.keeps.output t) in
+    items_before g.S.Site (Leaves g.S.Site now c.opened.result.1) (AtEachMoment g.S.Site c.args.site c.opened.result.1) (Brings (g.F.Feed.left c.args.feed.now)) c.args.limit c.opened.result.0.status c.opened.result.0.answered c.args.site now c.opened.result.1 files put
+    (λ done run. each_moment g.S.Site files done c.args.site c.opened.result.1 here (λ t. opened_done g.S.Site files done c.args.site now c.opened.result.1 here (put t) (c.in-Ok-open.ensures.moments t) (run t)))
+    (c.opened.ensures.anywhere told files (same ∙ here))
+
+pub returns-in-Err-clause-anywhere : goal.returns-in-Err-clause-anywhere
+returns-in-Err-clause-anywhere g c told files here =
+    let same = at_site (λ s. directory (g.S.Site.disk s).reads ≡ directory (g.S.Site.disk c.args.site).reads) c.open.result _ c.in-Err.is (c.open.ensures.same told) in
+    early_items g.S.Site (AtEachMoment g.S.Site c.args.site c.say-in-Err.result.1) (Brings (g.F.Feed.left c.args.feed.now)) c.args.limit c.say-in-Err.result.0.status c.say-in-Err.result.0.answered c.args.site c.say-in-Err.result.1 files c.say-in-Err.ensures.answered
+    (ap directory (c.say-in-Err.ensures.says.reads told) ∙ same ∙ here)
+    (said_failing g.S.Site c.in-Err.site c.say-in-Err.result.1 c.say-in-Err.result.0.status None c.not_opened.result c.say-in-Err.ensures.says (ap (λ (w : Why). is_failing (status_of_why w)) c.not_opened.ensures ∙ open_failing c.in-Err.error))
+    (each_moment g.S.Site files [] c.args.site c.say-in-Err.result.1 here (λ t. ⊎_elim
+    (λ early. inl (unopened_said g.S.Site c.args.site c.in-Err.site c.say-in-Err.result.1 c.say-in-Err.result.0.status c.not_opened.result early.1 c.say-in-Err.ensures.says t))
+    (λ late. inr (record {
+      synced = late.synced;
+      first = late.first;
+      rest = late.rest;
+      same = late.same;
+      until = late.until;
+      since = said_done g.S.Site files c.args.site late.synced c.in-Err.site c.say-in-Err.result.1 c.say-in-Err.result.0.status c.not_opened.result here (at_site (λ s. g.S.Site.output s ≡ g.S.Site.output c.args.site) c.open.result _ c.in-Err.is (c.open.ensures.keeps.output t)) late.since c.say-in-Err.ensures.says t;
+    }))
+    (c.in-Err.ensures.moments_err t)))

@@ -11,6 +11,8 @@ use Rattle.ml_run.proofs.Complete.{answers_all}
 use Rattle.ml_run.proofs.InHand.{alone_next, begins_item, brings_item, none_rose, status_known}
 use Rattle.ml_run.proofs.Named.{names_map}
 use Rattle.ml_run.proofs.Unfailing.{never_fails}
+use Rattle.ml_run.specs.Anywhere.{AtEachMoment}
+use Rattle.ml_run.proofs.ServedAnywhere.{items_of_one}
 use Rattle.ml_run.proofs.running.run_held.Goals as goal
 
 pub returns : goal.returns
@@ -34,6 +36,7 @@ returns g c =
       complete = λ t q s. answers_all told _ status 1 answered new.reads output (item ∷ []) q before (omega arith) (c.run_feed.ensures.whole t (item ∷ []) End q (begins q s));
       moments = λ t q s. c.run_feed.ensures.crashes.moments t (item ∷ []) End q (begins q s);
       at_rest = λ rest q s. c.run_feed.ensures.crashes.at_rest rest (item ∷ []) End q (begins q s);
+      anywhere = λ t files here. items_of_one g.S.Site (AtEachMoment g.S.Site c.args.site c.run_feed.result.1) item status answered c.args.site c.run_feed.result.1 files brings (c.run_feed.ensures.anywhere t files here);
       answers = λ is. c.run_feed.ensures.stream.answers (item ∷ []) End brings is;
       closed = c.run_feed.ensures.closed;
       refusals = record {

@@ -1,0 +1,296 @@
+-- What a run does of any directory, step by step.
+use Rattle.std.proofs.Common.{◌≡◌, ◌⊎◌, inl, inr, ⊎_elim, ℕ, ◌+◌, ◌-◌, IsTrue, List, [], ◌∷◌, ◌++◌, length, take, drop, Option, Some, None, ap, sym, refl, subst, ◌∙◌, arith, append_assoc, length-append}
+use Rattle.std.specs.Prelude.{IsSome}
+use Rattle.std.proofs.lemmas.List.{append-nil, take-append-drop}
+use Rattle.ml_base.specs.Bytes.{Text}
+use Rattle.ml_base.specs.Dir.{Dir, with_puts}
+use Rattle.ml_base.specs.declared.puts.Put.{Put}
+use Rattle.ml_site.specs.Disk.{Contents, IsImage, Now}
+use Rattle.ml_site.specs.Moments.{LeavesOnly, FromFirstSync}
+use Rattle.ml_site.specs.declared.site.Site.{Ghosts}
+use Rattle.ml_site.proofs.Steps.{first_weaker, joins, weaker, rest_contents}
+use Rattle.ml_journal.specs.Calls.{Leaves}
+use Rattle.ml_journal.specs.Kept.{IsStill}
+use Rattle.ml_journal.specs.Log.{directory}
+use Rattle.ml_journal.specs.Moments.{with_txn, IsOld}
+use Rattle.ml_journal.specs.Stores.{the_dir}
+use Rattle.ml_plain.specs.declared.Item.{Item}
+use Rattle.ml_plain.specs.Replies.{line}
+use Rattle.ml_ending.specs.declared.lines.Why.{Why}
+use Rattle.ml_ending.specs.Endings.{StopLine, SaysAtMost, IsUnopened, Opens, Says, Finishes, Refuses}
+use Rattle.ml_ending.specs.Lines.{stop_text}
+use Rattle.ml_ending.specs.Stops.{status_of_why}
+use Rattle.ml_ending.proofs.Leaving.{said_leaves}
+use Rattle.ml_run.specs.declared.groups.Group.{Group}
+use Rattle.ml_run.specs.Groups.{IsEmptyGroup}
+use Rattle.ml_run.specs.Leaving.{IsSettling}
+use Rattle.ml_run.specs.Anywhere.{Done, items_of, answers_of, after, IsDone, AreDone, Adds, HoldsDone, IsAfterFirst, HasDone, AtEachMoment}
+use Rattle.ml_run.proofs.LaidPuts.{laid_over}
+
+-- two rows, one behind the other
+pub after_joined : (files : Dir) (xs ys : List Done) → after files (xs ++ ys) ≡ after (after files xs) ys
+after_joined files [] ys = refl
+after_joined files (x ∷ xs) ys = after_joined (with_puts files x.puts) xs ys
+
+pub answers_joined : (xs ys : List Done) → answers_of (xs ++ ys) ≡ answers_of xs ++ answers_of ys
+answers_joined [] ys = refl
+answers_joined (x ∷ xs) ys =
+    let own = line x.item.number x.reply in
+    ap (λ (t : Text). own ++ t) (answers_joined xs ys) ∙ sym (append_assoc own (answers_of xs) (answers_of ys))
+
+pub items_joined : (xs ys : List Done) → items_of (xs ++ ys) ≡ items_of xs ++ items_of ys
+items_joined [] ys = refl
+items_joined (x ∷ xs) ys = ap (λ (l : List Item). x.item ∷ l) (items_joined xs ys)
+
+pub items_length : (xs : List Done) → length (items_of xs) ≡ length xs
+items_length [] = refl
+items_length (x ∷ xs) = omega (arith, items_length xs)
+
+pub done_joined : (files : Dir) (xs ys : List Done) → AreDone files xs → AreDone (after files xs) ys → AreDone files (xs ++ ys)
+done_joined files [] ys a b = b
+done_joined files (x ∷ xs) ys a b = (a.0, done_joined (with_puts files x.puts) xs ys a.1 b)
+
+-- a group without items
+pub none_done : (files : Dir) (g : Group) → IsEmptyGroup g → HoldsDone files g []
+none_done files g e = record { laid = ap (λ (txn : List Put). with_puts files txn) e.txn; lines = e.lines; count = e.count; are = tt }
+
+-- a group with one item more
+pub one_done : (files : Dir) (g new : Group) (done : List Done) (d : Done) → HoldsDone files g done → Adds files g new d → HoldsDone files new (done ++ d ∷ [])
+one_done files g new done d h a =
+    let own = line d.item.number d.reply in record {
+      laid = ap (λ (txn : List Put). with_puts files txn) a.next.txn ∙ laid_over files g.txn d.puts ∙ ap (λ (f : Dir). with_puts f d.puts) h.laid ∙ sym (after_joined files done (d ∷ []));
+      lines = a.next.lines ∙ ap (λ (t : Text). t ++ own) h.lines ∙ ap (λ (t : Text). answers_of done ++ t) (sym (append-nil own)) ∙ sym (answers_joined done (d ∷ []));
+      count = a.next.count ∙ ap (λ (n : ℕ). n + 1) h.count ∙ sym (length-append done (d ∷ []));
+      are = done_joined files done (d ∷ []) h.are (subst (λ (f : Dir). IsDone f d) h.laid a.is, tt);
+    }
+
+-- the same over another name of the directory
+pub adds_over : (old new : Dir) (g next : Group) (d : Done) → new ≡ old → Adds new g next d → Adds old g next d
+adds_over old new g next d is a = subst (λ (f : Dir). Adds f g next d) is a
+
+-- all of these are done, and their answers are out
+pub all_answered : (files : Dir) (done behind : List Done) (before out : Text) (left : Contents) → directory left ≡ Some (after files done) → out ≡ before ++ answers_of done → IsAfterFirst files (done ++ behind) before left out
+all_answered files done behind before out left dir put = record {
+  first = done;
+  rest = behind;
+  split = refl;
+  dir = dir;
+  put = inl (answers_of done, [], sym (append-nil (answers_of done)), put);
+}
+
+-- some more are done, and of their answers some first bytes are out
+pub some_answering : (files : Dir) (done more : List Done) (before out : Text) (left : Contents) (n : ℕ) → directory left ≡ Some (after files (done ++ more)) → out ≡ (before ++ answers_of done) ++ take n (answers_of more)
+    → IsAfterFirst files (done ++ more) before left out
+some_answering files done more before out left n dir put = record {
+  first = done ++ more;
+  rest = [];
+  split = sym (append-nil (done ++ more));
+  dir = dir;
+  put = inl (
+    answers_of done ++ take n (answers_of more),
+    drop n (answers_of more),
+    answers_joined done more ∙ ap (λ (t : Text). answers_of done ++ t) (sym (take-append-drop n (answers_of more)))
+        ∙ sym (append_assoc (answers_of done) (take n (answers_of more)) (drop n (answers_of more))),
+    put ∙ append_assoc before (answers_of done) (take n (answers_of more)),
+  );
+}
+
+-- the answers of some of them are out, and some first bytes of a stop line
+pub some_said : (files : Dir) (done more behind : List Done) (before out : Text) (left : Contents) (who : Option ℕ) (why : Why) (n : ℕ) → directory left ≡ Some (after files (done ++ more))
+    → out ≡ (before ++ answers_of done) ++ take n (stop_text who (status_of_why why) why) → IsAfterFirst files ((done ++ more) ++ behind) before left out
+some_said files done more behind before out left who why n dir put = record {
+  first = done ++ more;
+  rest = behind;
+  split = refl;
+  dir = dir;
+  put = inr (done, more, who, why, n, refl, put);
+}
+
+-- what may be left of some items may be left of more
+pub first_wider : (files : Dir) (done more : List Done) (before out : Text) (left : Contents) → IsAfterFirst files done before left out → IsAfterFirst files (done ++ more) before left out
+first_wider files done more before out left p = record {
+  first = p.first;
+  rest = p.rest ++ more;
+  split = ap (λ (l : List Done). l ++ more) p.split ∙ append_assoc p.first p.rest more;
+  dir = p.dir;
+  put = p.put;
+}
+
+-- nothing is done
+pub nothing_done : (files : Dir) (done : List Done) (before out : Text) (left : Contents) → directory left ≡ Some files → SaysAtMost before out → IsAfterFirst files done before left out
+nothing_done files done before out left dir put = ⊎_elim
+    (λ same. all_answered files [] done before out left dir (same ∙ sym (append-nil before)))
+    (λ said. some_said files [] [] done before out left None said.0 said.1 dir (said.2 ∙ ap (λ (o : Text). o ++ take said.1 (stop_text None (status_of_why said.0) said.0)) (sym (append-nil before))))
+    put
+
+-- a directory with a group's txn
+pub with_group : (files : Dir) (done more : List Done) (g : Group) (dir : Option Dir) → dir ≡ Some (after files done) → HoldsDone (after files done) g more → with_txn g.txn dir ≡ Some (after files (done ++ more))
+with_group files done more g dir here h = ap (with_txn g.txn) here ∙ ap (λ (f : Dir). Some f) (h.laid ∙ sym (after_joined files done more))
+
+-- in the course of a commit and its answers
+pub settling_done : (files : Dir) (done more : List Done) (g : Group) (before output lines : Text) (dir : Option Dir) (left : Contents) (out : Text)
+    → dir ≡ Some (after files done) → HoldsDone (after files done) g more → lines ≡ g.lines → output ≡ before ++ answers_of done
+    → IsSettling dir g.txn lines output left out → IsAfterFirst files (done ++ more) before left out
+settling_done files done more g before output lines dir left out here h is put s = ⊎_elim
+    (λ old. all_answered files done more before out left (old.0 ∙ here) (old.1 ∙ put))
+    (λ new. some_answering files done more before out left new.1.0 (new.0 ∙ with_group files done more g dir here h)
+    (new.1.1 ∙ ap (λ (t : Text). output ++ take new.1.0 t) (is ∙ h.lines) ∙ ap (λ (t : Text). t ++ take new.1.0 (answers_of more)) put))
+    s
+
+-- a group over the directory that a site shows
+pub group_here : (files : Dir) (done more : List Done) (g : Group) (dir : Option Dir) → dir ≡ Some (after files done) → HoldsDone (the_dir dir) g more → HoldsDone (after files done) g more
+group_here files done more g dir here h = subst (λ (f : Dir). HoldsDone f g more) (ap the_dir here) h
+
+module _ {S : Type 0} (told : Ghosts S) where
+  -- nothing is done yet, on a store
+  pub first_done : (files : Dir) (start : S) → directory (told.disk start).reads ≡ Some files → Leaves told start start (IsStill told start) → HasDone told files start start []
+  first_done files start here still = record {
+    are = tt;
+    dir = here;
+    put = λ t. sym (append-nil (told.output start));
+    moments = λ t. weaker told.moment told.left_since told.disk told.output start start (IsStill told start) (IsAfterFirst files [] (told.output start)) (still t)
+        (λ left out p. nothing_done files [] (told.output start) out left (ap directory p.0 ∙ here) (inl p.1));
+  }
+
+  -- the moments of a group that was read, and of its commit and answers
+  pub settling_moments : (files : Dir) (start old read new : S) (done more : List Done) (g : Group) (lines : Text) → (IsTrue told.tells_all → IsTrue told.tells_reads)
+      → HasDone told files start old done → HoldsDone (after files done) g more → lines ≡ g.lines → (IsTrue told.tells_reads → (told.disk read).reads ≡ (told.disk old).reads)
+      → (IsTrue told.tells_all → told.output read ≡ told.output old) → Leaves told old read (IsStill told old)
+      → Leaves told read new (IsSettling (directory (told.disk read).reads) g.txn lines (told.output read)) → Leaves told start new (IsAfterFirst files (done ++ more) (told.output start))
+  settling_moments files start old read new done more g lines reads s h is same put still time t =
+      let P = IsAfterFirst files (done ++ more) (told.output start) in
+      let one = joins told.moment told.left_since told.disk told.output start old read (IsAfterFirst files done (told.output start)) (IsStill told old) P (s.moments t) (still t)
+      (λ left out p. first_wider files done more (told.output start) out left p)
+      (λ left out p. all_answered files done more (told.output start) out left (ap directory p.0 ∙ s.dir) (p.1 ∙ s.put t)) in
+      joins told.moment told.left_since told.disk told.output start read new P (IsSettling (directory (told.disk read).reads) g.txn lines (told.output read)) P one (time t) (λ left out p. p)
+      (λ left out p. settling_done files done more g (told.output start) (told.output read) lines (directory (told.disk read).reads) left out (ap directory (same (reads t)) ∙ s.dir) h is (put t ∙ s.put t) p)
+
+  -- a group was committed and answered
+  pub next_done : (files : Dir) (start old read new : S) (done more : List Done) (g : Group) (lines : Text) → (IsTrue told.tells_all → IsTrue told.tells_reads) → IsTrue told.tells_reads
+      → HasDone told files start old done → HoldsDone (after files done) g more → lines ≡ g.lines → (IsTrue told.tells_reads → (told.disk read).reads ≡ (told.disk old).reads)
+      → (IsTrue told.tells_all → told.output read ≡ told.output old) → Leaves told old read (IsStill told old)
+      → directory (told.disk new).reads ≡ with_txn g.txn (directory (told.disk read).reads) → (IsTrue told.tells_all → told.output new ≡ told.output read ++ lines)
+      → Leaves told read new (IsSettling (directory (told.disk read).reads) g.txn lines (told.output read)) → HasDone told files start new (done ++ more)
+  next_done files start old read new done more g lines reads r s h is same put still committed answered time = record {
+    are = done_joined files done more s.are h.are;
+    dir = committed ∙ with_group files done more g (directory (told.disk read).reads) (ap directory (same r) ∙ s.dir) h;
+    put = λ t. answered t ∙ ap (λ (o : Text). o ++ lines) (put t ∙ s.put t) ∙ ap (λ (l : Text). (told.output start ++ answers_of done) ++ l) (is ∙ h.lines)
+        ∙ append_assoc (told.output start) (answers_of done) (answers_of more) ∙ ap (λ (l : Text). told.output start ++ l) (sym (answers_joined done more));
+    moments = settling_moments files start old read new done more g lines reads s h is same put still time;
+  }
+
+  -- a run whose store was closed: its directory, and its moments
+  pub finished_dir : (files : Dir) (start now new : S) (done : List Done) (line : StopLine) (status last : ℕ) → IsTrue told.tells_reads → HasDone told files start now done → Finishes told now new line status last
+      → directory (told.disk new).reads ≡ Some (after files done)
+  finished_dir files start now new done line status last r s f = ⊎_elim
+      (λ quiet. ap (λ (x : S). directory (told.disk x).reads) quiet.2 ∙ f.same r ∙ s.dir)
+      (λ said. ap directory (said.3.reads r) ∙ f.same r ∙ s.dir)
+      f.said
+
+  pub finished_done : (files : Dir) (start now new : S) (done : List Done) (line : StopLine) (status last : ℕ) → HasDone told files start now done → Finishes told now new line status last
+      → Leaves told start new (IsAfterFirst files done (told.output start))
+  finished_done files start now new done line status last s f t =
+      let P = IsAfterFirst files done (told.output start) in
+      let none : done ++ [] ≡ done = append-nil done in
+      let wide : (left : Contents) (out : Text) → IsAfterFirst files (done ++ []) (told.output start) left out → P left out = λ left out p. subst (λ (l : List Done). IsAfterFirst files l (told.output start) left out) none p in
+      let one : LeavesOnly told.moment told.left_since told.disk told.output start f.mid P =
+      joins told.moment told.left_since told.disk told.output start now f.mid P (IsOld (directory (told.disk now).reads) (told.output now)) P (s.moments t) (f.moments t) (λ left out p. p)
+      (λ left out p. wide left out (all_answered files done [] (told.output start) out left (p.0 ∙ s.dir) (p.1 ∙ s.put t))) in
+      ⊎_elim
+      (λ quiet. subst (λ (x : S). LeavesOnly told.moment told.left_since told.disk told.output start x P) (sym quiet.2) one)
+      (λ said. said_leaves told start f.mid new P status said.0 said.1 one
+      (λ left out n image e. wide left out (subst (λ (l : List Done). IsAfterFirst files (l ++ []) (told.output start) left out) none
+      (some_said files done [] [] (told.output start) out left said.0 said.1 n (((f.moments t).now left image).0 ∙ s.dir ∙ ap (λ (l : List Done). Some (after files l)) (sym none))
+      (e ∙ ap (λ (o : Text). o ++ take n (stop_text said.0 (status_of_why said.1) said.1)) (f.output t ∙ s.put t))))) said.3 t)
+      f.said
+
+  -- a group was refused: the directory then, and the moments
+  pub refused_dir : (files : Dir) (read mid new : S) (done more : List Done) (g : Group) (first : Option ℕ) (why : Option Why) (status : ℕ) → IsTrue told.tells_reads
+      → directory (told.disk read).reads ≡ Some (after files done) → HoldsDone (after files done) g more
+      → (directory (told.disk mid).reads ≡ directory (told.disk read).reads) ⊎ (directory (told.disk mid).reads ≡ with_txn g.txn (directory (told.disk read).reads)) → Refuses told mid new first why status
+      → (directory (told.disk new).reads ≡ Some (after files done)) ⊎ (directory (told.disk new).reads ≡ Some (after files (done ++ more)))
+  refused_dir files read mid new done more g first why status r here h any f =
+      let same : directory (told.disk new).reads ≡ directory (told.disk mid).reads = stays why refl in
+      ⊎_elim (λ old. inl (same ∙ old ∙ here)) (λ next. inr (same ∙ next ∙ with_group files done more g (directory (told.disk read).reads) here h)) any
+    where
+      stays : (w : Option Why) → why ≡ w → directory (told.disk new).reads ≡ directory (told.disk mid).reads
+      stays None e = ap (λ (x : S). directory (told.disk x).reads) (f.quiet e).1
+      stays (Some reason) e = ap directory ((f.said reason e).reads r)
+
+  pub refused_done : (files : Dir) (start old read mid new : S) (done more : List Done) (g : Group) (lines : Text) (first : Option ℕ) (why : Option Why) (status : ℕ) → (IsTrue told.tells_all → IsTrue told.tells_reads)
+      → HasDone told files start old done → HoldsDone (after files done) g more → lines ≡ g.lines → (IsTrue told.tells_reads → (told.disk read).reads ≡ (told.disk old).reads)
+      → (IsTrue told.tells_all → told.output read ≡ told.output old) → Leaves told old read (IsStill told old)
+      → (IsTrue told.tells_all → IsSome why → told.output mid ≡ told.output read)
+      → Leaves told read mid (IsSettling (directory (told.disk read).reads) g.txn lines (told.output read)) → Refuses told mid new first why status
+      → Leaves told start new (IsAfterFirst files (done ++ more) (told.output start))
+  refused_done files start old read mid new done more g lines first None status reads s h is same put still quiet time f t =
+      subst (λ (x : S). LeavesOnly told.moment told.left_since told.disk told.output start x (IsAfterFirst files (done ++ more) (told.output start))) (sym (f.quiet refl).1)
+      (settling_moments files start old read mid done more g lines reads s h is same put still time t)
+  refused_done files start old read mid new done more g lines first (Some reason) status reads s h is same put still quiet time f t =
+      let P = IsAfterFirst files (done ++ more) (told.output start) in
+      let here : directory (told.disk read).reads ≡ Some (after files done) = ap directory (same (reads t)) ∙ s.dir in
+      let line = stop_text first (status_of_why reason) reason in
+      said_leaves told start mid new P status first reason (settling_moments files start old read mid done more g lines reads s h is same put still time t)
+      (λ left out n image e.
+      let put_is : out ≡ (told.output start ++ answers_of done) ++ take n line = e ∙ ap (λ (o : Text). o ++ take n line) (quiet t refl ∙ put t ∙ s.put t) in
+      ⊎_elim
+      (λ before. subst (λ (l : List Done). IsAfterFirst files (l ++ more) (told.output start) left out) (append-nil done)
+      (some_said files done [] more (told.output start) out left first reason n (before.0 ∙ here ∙ ap (λ (l : List Done). Some (after files l)) (sym (append-nil done))) put_is))
+      (λ next. subst (λ (l : List Done). IsAfterFirst files l (told.output start) left out) (append-nil (done ++ more))
+      (some_said files done more [] (told.output start) out left first reason n (next.0 ∙ with_group files done more g (directory (told.disk read).reads) here h) put_is))
+      ((time t).now left image)) (f.said reason refl) t
+
+  -- a store that was read from, and then a run over it
+  pub still_done : (files : Dir) (done : List Done) (old now new : S) → directory (told.disk old).reads ≡ Some files → Leaves told old now (IsStill told old) → (IsTrue told.tells_all → told.output now ≡ told.output old)
+      → Leaves told now new (IsAfterFirst files done (told.output now)) → Leaves told old new (IsAfterFirst files done (told.output old))
+  still_done files done old now new here still same run t =
+      joins told.moment told.left_since told.disk told.output old now new (IsStill told old) (IsAfterFirst files done (told.output now)) (IsAfterFirst files done (told.output old)) (still t) (run t)
+      (λ left out p. nothing_done files done (told.output old) out left (ap directory p.0 ∙ here) (inl p.1))
+      (λ left out p. subst (λ (o : Text). IsAfterFirst files done o left out) (same t) p)
+
+  -- a run over a store that was opened
+  pub opened_done : (files : Dir) (done : List Done) (start now new : S) → directory (told.disk start).reads ≡ Some files → told.output now ≡ told.output start
+      → FromFirstSync told.moment told.left_since told.disk told.output told.syncs start now (Now (told.disk start) (told.output start)) (IsOld (directory (told.disk start).reads) (told.output start))
+      → LeavesOnly told.moment told.left_since told.disk told.output now new (IsAfterFirst files done (told.output now)) → Opens told start new (IsAfterFirst files done (told.output start))
+  opened_done files done start now new here same first run = inr (record {
+    synced = first.synced;
+    first = first.first;
+    rest = first.rest;
+    same = first.same;
+    until = first.until;
+    since = joins told.moment told.left_since told.disk told.output first.synced now new (IsOld (directory (told.disk start).reads) (told.output start)) (IsAfterFirst files done (told.output now)) (IsAfterFirst files done (told.output start)) first.since run
+        (λ left out p. nothing_done files done (told.output start) out left (p.0 ∙ here) (inl p.1))
+        (λ left out p. subst (λ (o : Text). IsAfterFirst files done o left out) same p);
+  })
+
+  -- a stop line on a site that was opened in part
+  pub said_done : (files : Dir) (start first mid new : S) (status : ℕ) (why : Why) → directory (told.disk start).reads ≡ Some files → told.output mid ≡ told.output start
+      → LeavesOnly told.moment told.left_since told.disk told.output first mid (IsOld (directory (told.disk start).reads) (told.output start)) → Says told mid new status None why → IsTrue told.tells_all
+      → LeavesOnly told.moment told.left_since told.disk told.output first new (IsAfterFirst files [] (told.output start))
+  said_done files start first mid new status why here same l s t =
+      said_leaves told first mid new (IsAfterFirst files [] (told.output start)) status None why
+      (weaker told.moment told.left_since told.disk told.output first mid (IsOld (directory (told.disk start).reads) (told.output start)) (IsAfterFirst files [] (told.output start)) l
+      (λ left out p. nothing_done files [] (told.output start) out left (p.0 ∙ here) (inl p.1)))
+      (λ left out n image e. nothing_done files [] (told.output start) out left ((l.now left image).0 ∙ here) (inr (why, n, e ∙ ap (λ (o : Text). o ++ take n (stop_text None (status_of_why why) why)) same)))
+      s t
+
+  -- what follows from P is left too
+  pub opens_weaker : (old new : S) (P Q : Contents → Text → Type 0) → Opens told old new P → ((left : Contents) (out : Text) → P left out → Q left out) → Opens told old new Q
+  opens_weaker old new P Q opens f = ⊎_elim (λ early. inl early)
+      (λ late. inr (first_weaker told.moment told.left_since told.disk told.output told.syncs old new (Now (told.disk old) (told.output old)) P (Now (told.disk old) (told.output old)) Q late (λ left out p. p) f)) opens
+
+  -- where nothing is pending at the start, what a run leaves is known from there on
+  pub each_moment : (files : Dir) (done : List Done) (start new : S) → directory (told.disk start).reads ≡ Some files → (IsTrue told.tells_all → Opens told start new (IsAfterFirst files done (told.output start)))
+      → AtEachMoment told start new (IsAfterFirst files done (told.output start))
+  each_moment files done start new here opens = (
+    opens,
+    λ rest t.
+        let P = IsAfterFirst files done (told.output start) in
+        let image_is : (left : Contents) → IsImage (told.disk start) left → directory left ≡ Some files = λ left image. ap directory (rest_contents (told.disk start) left rest image) ∙ here in
+        ⊎_elim
+        (λ early. weaker told.moment told.left_since told.disk told.output start new (IsUnopened (told.disk start) (told.output start)) P early.all
+        (λ left out u. nothing_done files done (told.output start) out left (image_is left u.image) u.put))
+        (λ late. joins told.moment told.left_since told.disk told.output start late.synced new (Now (told.disk start) (told.output start)) P P late.until late.since
+        (λ left out p. nothing_done files done (told.output start) out left (image_is left p.0) (inl p.1)) (λ left out p. p))
+        (opens t),
+  )

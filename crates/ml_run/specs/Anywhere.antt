@@ -1,0 +1,143 @@
+-- What a run does of any directory: the items that it did, one over the other, and what a crash may leave of them.
+use Rattle.std.specs.Prelude.{◌≡◌, ◌⊎◌, ◌≤◌, ℕ, IsTrue, List, [], ◌∷◌, ◌++◌, length, take, Option, Some}
+use Rattle.ml_base.specs.Bytes.{Text}
+use Rattle.ml_base.specs.Dir.{Dir, are_files, with_puts}
+use Rattle.ml_base.specs.declared.puts.Put.{Put}
+use Rattle.ml_site.specs.Disk.{Contents, IsAtRest}
+use Rattle.ml_site.specs.declared.site.Site.{Ghosts}
+use Rattle.ml_journal.specs.Calls.{Leaves}
+use Rattle.ml_journal.specs.Log.{directory}
+use Rattle.ml_plain.specs.declared.Item.{Item}
+use Rattle.ml_plain.specs.declared.Reply.{Reply}
+use Rattle.ml_plain.specs.Directory.{IsState}
+use Rattle.ml_plain.specs.Histories.{State, step}
+use Rattle.ml_plain.specs.Replies.{is_code, is_status, line}
+use Rattle.ml_list.specs.Applying.{Does}
+use Rattle.ml_ending.specs.declared.lines.Why.{Why}
+use Rattle.ml_ending.specs.Endings.{Opens}
+use Rattle.ml_ending.specs.Lines.{stop_text}
+use Rattle.ml_ending.specs.Stops.{status_of_why}
+use Rattle.ml_stream.specs.declared.items.Items.{Items}
+use Rattle.ml_stream.specs.Stream.{StreamEnd}
+use Rattle.ml_run.specs.declared.groups.Group.{Group}
+use Rattle.ml_run.specs.declared.groups.GroupEnd.{GroupEnd}
+use Rattle.ml_run.specs.declared.groups.GroupEnd.TheVariants as ends
+use Rattle.ml_run.specs.Groups.{HasNext, IsAhead}
+use Rattle.ml_run.specs.Endings.{Brings}
+
+-- what was done of an item: its puts, and its reply
+pub record Done : Type 0 where
+  pub item : Item
+  pub puts : List Put
+  pub reply : Reply
+
+-- the items, in order
+abbrev pub items_of : List Done → List Item
+items_of [] = []
+items_of (d ∷ more) = d.item ∷ items_of more
+
+-- their answer lines, in order
+abbrev pub answers_of : List Done → Text
+answers_of [] = []
+answers_of (d ∷ more) = line d.item.number d.reply ++ answers_of more
+
+-- a directory with the puts of each laid over it, in order
+abbrev pub after : Dir → List Done → Dir
+after files [] = files
+after files (d ∷ more) = after (with_puts files d.puts) more
+
+-- What may be done of an item over a directory: its puts are of files of the table, and its reply is one of the table. Of a directory that stands
+-- for a list both are those of the list's step.
+pub record IsDone (files : Dir) (d : Done) : Type 0 where
+  pub table : IsTrue (are_files d.puts)
+  pub code : IsTrue (is_code d.reply.code)
+  pub steps : (q : State) → IsState files q → Does files (d.puts, d.reply) (step q d.item)
+
+-- each of these was done over the directory that those before it left
+abbrev pub AreDone : Dir → List Done → Type 0
+AreDone files [] = Unit {0}
+AreDone files (d ∷ more) = IsDone files d × AreDone (with_puts files d.puts) more
+
+-- an item was added to a group, and this was done of it over the directory with the group's puts
+pub record Adds (files : Dir) (old new : Group) (d : Done) : Type 0 where
+  pub next : HasNext old new d.item.number d.puts d.reply
+  pub is : IsDone (with_puts files old.txn) d
+
+-- a group holds what was done of these items, and their answers
+pub record HoldsDone (files : Dir) (g : Group) (done : List Done) : Type 0 where
+  pub laid : with_puts files g.txn ≡ after files done
+  pub lines : g.lines ≡ answers_of done
+  pub count : g.count ≡ length done
+  pub are : AreDone files done
+
+-- the items behind a group that is full are ahead of the reader
+abbrev pub GoesOn : GroupEnd → Items → Option Text → List Item → StreamEnd → Type 0
+GoesOn ends.Full reader left rest ending = IsAhead reader left rest ending
+GoesOn _ reader left rest ending = Unit {0}
+
+-- a group of the first items that were ahead of a reader
+pub record GathersDone (files : Dir) (g : Group) (end : GroupEnd) (reader next : Items) (left left' : Option Text) : Type 0 where
+  pub done : List Done
+  pub holds : HoldsDone files g done
+  pub ahead : (ahead : List Item) (ending : StreamEnd) → IsAhead reader left ahead ending → (rest : List Item) × (ahead ≡ items_of done ++ rest) × GoesOn end next left' rest ending
+
+-- of the answers of these items some first bytes are out
+abbrev pub AnswersDone : List Done → Text → Text → Type 0
+AnswersDone done before out = (front more : Text) × (answers_of done ≡ front ++ more) × (out ≡ before ++ front)
+
+-- the answers of some first of these items are out, and some first bytes of one stop line
+abbrev pub LineDone : List Done → Text → Text → Type 0
+LineDone done before out =
+    (answered waiting : List Done) × (who : Option ℕ) × (why : Why) × (n : ℕ) × (done ≡ answered ++ waiting) × (out ≡ (before ++ answers_of answered) ++ take n (stop_text who (status_of_why why) why))
+
+-- The directory has the puts of some first of these items over it, each of them whole. What was put out is some first bytes of the answers of
+-- those, or the answers of some first of them and some first bytes of one stop line.
+pub record IsAfterFirst (files : Dir) (done : List Done) (before : Text) (left : Contents) (out : Text) : Type 0 where
+  pub first : List Done
+  pub rest : List Done
+  pub split : done ≡ first ++ rest
+  pub dir : directory left ≡ Some (after files first)
+  pub put : AnswersDone first before out ⊎ LineDone first before out
+
+-- these were done and answered since a site was the old one, whose directory was this
+pub record HasDone {S : Type 0} (told : Ghosts S) (files : Dir) (start now : S) (done : List Done) : Type 0 where
+  pub are : AreDone files done
+  pub dir : directory (told.disk now).reads ≡ Some (after files done)
+  pub put : IsTrue told.tells_all → told.output now ≡ told.output start ++ answers_of done
+  pub moments : Leaves told start now (IsAfterFirst files done (told.output start))
+
+-- so many were done and answered, the first ones that are brought, and the reader stands behind them
+pub record HasServed {S : Type 0} (told : Ghosts S) (files : Dir) (start now : S) (answered : ℕ) (reader : Items) (left before : Option Text) : Type 0 where
+  pub done : List Done
+  pub has : HasDone told files start now done
+  pub count : answered ≡ length done
+  pub items : (all : List Item) (ending : StreamEnd) → Brings before all ending → (ahead : List Item) × (all ≡ items_of done ++ ahead) × IsAhead reader left ahead ending
+
+-- a crash at any moment since the old site left what has P: where something is pending there, from the first sync that succeeds on
+abbrev pub AtEachMoment : {S : Type 0} → Ghosts S → S → S → (Contents → Text → Type 0) → Type 0
+AtEachMoment told old new P = (IsTrue told.tells_all → Opens told old new P) × (IsAtRest (told.disk old) → Leaves told old new P)
+
+-- A row of items with what was done of each: so many were answered, first, in the order in which they were brought, and at most one group's
+-- more were done. At the end the directory has the answered ones or all, and all are answered but after want of memory and faults of the output
+-- and the disk.
+pub record IsRow {S : Type 0} (told : Ghosts S) (brings : List Item → StreamEnd → Type 0) (limit status answered : ℕ) (new : S) (files : Dir) (first group : List Done) : Type 0 where
+  pub are : AreDone files (first ++ group)
+  pub count : answered ≡ length first
+  pub few : length group ≤ 16
+  pub brought : (all : List Item) (ending : StreamEnd) → brings all ending → (behind : List Item) × (take limit all ≡ items_of (first ++ group) ++ behind)
+  pub end : (directory (told.disk new).reads ≡ Some (after files first)) ⊎ (directory (told.disk new).reads ≡ Some (after files (first ++ group)))
+  pub whole : (status ≡ 71 → ⊥) → (status ≡ 73 → ⊥) → (status ≡ 111 → ⊥) → group ≡ []
+
+-- What a run does of a directory, whatever it holds: there is such a row, and at each moment (M) the directory has the puts of some first of its
+-- items, of all whose answers have a byte out. Where all that was brought is answered, the answers are out, and nothing else.
+pub record DoesItems {S : Type 0} (told : Ghosts S) (M : (Contents → Text → Type 0) → Type 0) (brings : List Item → StreamEnd → Type 0) (limit status answered : ℕ) (old new : S) (files : Dir) : Type 0 where
+  pub first : List Done
+  pub group : List Done
+  pub row : IsRow told brings limit status answered new files first group
+  pub moments : M (IsAfterFirst files (first ++ group) (told.output old))
+  pub answers : IsTrue (is_status status) → IsTrue told.tells_all → told.output new ≡ told.output old ++ answers_of first
+
+-- the same of a run that begins with what lies on a site, where reads are told and there is a directory
+abbrev pub RunsAnywhere : {S : Type 0} → Ghosts S → (List Item → StreamEnd → Type 0) → ℕ → ℕ → ℕ → S → S → Type 0
+RunsAnywhere told brings limit status answered old new =
+    IsTrue told.tells_reads → (files : Dir) → directory (told.disk old).reads ≡ Some files → DoesItems told (AtEachMoment told old new) brings limit status answered old new files
