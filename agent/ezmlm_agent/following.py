@@ -11,7 +11,7 @@ import time
 from . import comparing, folder, handed, history, leading, mailing, mails, notes, program, retrying, rows, servers, trouble
 
 log = logging.getLogger('ezmlm-agent')
-RESTS = 1  # seconds after the last item
+RESTS = 0.5  # seconds for which reports, and where this host stands, wait for mail
 
 
 @dataclasses.dataclass(frozen=True)
@@ -37,6 +37,8 @@ class SharedList(mailing.MailingList):
         self.past, self.lead = past, lead
         self.is_taken_up = False
         self.place = self.next = 0  # the first item that the list hasn't answered, and the next that its history gets
+        self.is_asking = False  # whether the history is asked now
+        self.soon: asyncio.TimerHandle | None = None  # when the history is asked though no mail comes
         self.waits: dict[int, list[tuple[mails.Mail, bytes]]] = {}  # mails that wait for the answers of items, with their keys
         self.configured_at, self.config = -1, b''  # the configuration that holds here, and from which item on
         self.key: bytes | None = None  # the hash of the keys after the last run, where it is known
@@ -55,7 +57,7 @@ class SharedList(mailing.MailingList):
 
     def hear(self, number: int) -> None:
         """The next item of the history has this number; or, with 0, this host begins or ends to hand on, or a host has looked at its copy."""
-        if number == 0 or number > self.next:
+        if number == 0 or number > self.next and not self.is_asking:
             self.wake.set()
         self.next = max(self.next, number)
         self.is_judging = self.is_judging or number == 0
@@ -102,14 +104,25 @@ class SharedList(mailing.MailingList):
         if self.load.stale:
             await self.past.forget(self.name, self.load.stale)
         await self.note_answers()
-        await self.forget_copies()
         if self.looks_after is not None and self.place == self.looks_after.number + 1:
             await self.look(self.place, self.looks_after.back or rows.WHOLE)
         self.lead.want(self.name, self.health.cause is None)
         if self.next > self.place and self.health.cause is None:
             self.wake.set()
         elif self.place > state.place:  # The history learns where this host stands when nothing else comes.
-            asyncio.get_running_loop().call_later(RESTS, self.wake.set)
+            self.wake_later()
+
+    def wake_later(self) -> None:
+        """Has the history asked soon, though no mail comes: what is to be told to it then is told at once."""
+        if self.soon is None:
+            self.soon = asyncio.get_running_loop().call_later(RESTS, self.wake_now)
+
+    def wake_now(self) -> None:
+        self.soon = None
+        self.wake.set()
+
+    def report(self) -> None:
+        self.wake_later()
 
     async def fail(self, batch: list[mails.Mail], error: Exception) -> None:
         self.lead.want(self.name, False)
@@ -203,13 +216,16 @@ class SharedList(mailing.MailingList):
         """Puts mails, reports and a timed run into the history. The answer is items for the list: repeats, and those from its place on."""
         is_leading = self.copies() is not None
         sent = self.queue.handed_on - self.reporting if is_leading else set()
+        left = frozenset(self.queue.left)
         is_timed = self.is_due and is_leading and not self.stopping
         keys = [mail.key() for mail in batch]
         adds = rows.Adds([(key, functools.partial(spelled, mail)) for key, mail in zip(keys, batch)], sorted(sent),
-                            int(time.time()) - self.settings.keep_days * mailing.DAY if is_timed else None)
-        told = await self.past.proceed(self.name, self.place, self.key, adds, mails.MOST_MAILS, mails.MOST_BYTES)
-        self.next = told.next
+                         int(time.time()) - self.settings.keep_days * mailing.DAY if is_timed else None, left=left if is_leading else ())
+        told = await self.asked(adds)
         self.reporting |= sent
+        self.queue.left -= left
+        if left and self.kept is not None:
+            self.kept.forget(left)
         self.is_due = self.is_due and not is_timed and self.lead.term(self.name) is not None
         self.load.mails += max(len(batch), len(told.rows))
         self.load.size += max(sum(len(mail.message) for mail in batch), sum(len(row.text) for row in told.rows))
@@ -226,6 +242,16 @@ class SharedList(mailing.MailingList):
             self.configured_at, self.load.until = -1, 0
             return items
         return items + [program.Item(row.text, functools.partial(self.answered, row)) for row in behind]
+
+    async def asked(self, adds: rows.Adds) -> rows.Told:
+        """What the history says. What it tells of meanwhile may be what is put in now, or what other hosts put in after it."""
+        self.next, self.is_asking = 0, True
+        try:
+            told = await self.past.proceed(self.name, self.place, self.key, adds, mails.MOST_MAILS, mails.MOST_BYTES)
+            self.next = max(self.next, told.next)
+            return told
+        finally:
+            self.is_asking = False
 
     def repeats(self) -> list[program.Item]:
         """Items of the mails that wait for what the list has answered before: it tells its answer again."""
@@ -272,13 +298,6 @@ class SharedList(mailing.MailingList):
         answers, self.answers = self.answers, []
         if answers:
             await self.past.answer(self.name, answers)
-
-    async def forget_copies(self) -> None:
-        """Forgets the copies of entries that left the queue."""
-        left = frozenset(self.queue.left)
-        if left and self.kept is not None and self.copies() is not None:
-            await self.kept.forget(left)
-        self.queue.left -= left
 
 
 def spelled(mail: mails.Mail, number: int, moment: int) -> bytes:

@@ -1,6 +1,5 @@
 """The copies of a shared list that were handed on, by whichever host."""
 
-import asyncio
 from collections.abc import Collection, Sequence
 
 from . import history, leading, rows, servers
@@ -11,7 +10,6 @@ class Handed:
 
     def __init__(self, past: history.History, name: str, term: leading.Term, known: rows.Handed, before: 'Handed | None') -> None:
         self.past, self.name, self.term = past, name, term
-        self.turn = asyncio.Lock()
         self.unwritten: list[tuple[int, bytes, bytes]] = list(before.unwritten) if before else []
         self.copies: dict[tuple[int, bytes], set[bytes]] = {}
         for entry, mark, recipients in [*known, *self.unwritten]:
@@ -32,20 +30,16 @@ class Handed:
             raise servers.Lost('this host hands on no more')
 
     async def keep(self) -> None:
-        """Writes what isn't written yet. What several tasks note at once is one transaction."""
-        if not self.unwritten:
+        """Writes what isn't written yet, and nobody writes now."""
+        copies, self.unwritten = self.unwritten, []
+        if not copies:
             return
-        async with self.turn:
-            copies, self.unwritten = self.unwritten, []
-            if not copies:
-                return
-            try:
-                await self.past.hand(self.name, copies)
-            except BaseException:
-                self.unwritten = copies + self.unwritten
-                raise
+        try:
+            await self.past.hand(self.name, copies)
+        except BaseException:
+            self.unwritten = copies + self.unwritten
+            raise
 
-    async def forget(self, entries: Collection[int]) -> None:
-        """Forgets the copies of entries that left the queue."""
-        await self.past.forget_copies(self.name, entries)
+    def forget(self, entries: Collection[int]) -> None:
+        """Forgets the copies of entries that left the queue, and of which the history has forgotten them."""
         self.copies = {copies: recipients for copies, recipients in self.copies.items() if copies[0] not in entries}

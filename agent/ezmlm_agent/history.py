@@ -20,15 +20,15 @@ class History(rows.Rows):
     def prepare(self, connection: servers.Connection) -> None:
         """Makes the tables where they are missing. It is Unfit if they are of a newer version, or can't be written."""
         try:
-            with connection.transaction(), connection.cursor() as cursor:
-                self.make_tables(cursor)
+            with connection.transaction():
+                self.make_tables(servers.Cursor(connection))
         except psycopg.errors.InsufficientPrivilege as error:
             raise servers.Unfit(f'the history can\'t be written: {servers.words_of(error)}') from error
 
     def make_tables(self, cursor: servers.Cursor) -> None:
         cursor.execute("SELECT pg_advisory_xact_lock(hashtext('ezmlm tables'))")
         if not self.has_tables(cursor):
-            cursor.execute(TABLES)
+            cursor.connection.execute(TABLES)
             cursor.execute('INSERT INTO version VALUES (%s)', (VERSION,))
         self.write_tables(cursor)
 
@@ -63,10 +63,9 @@ class History(rows.Rows):
     async def configure(self, name: str, text: bytes) -> None:
         """Has a configuration hold from the next item on, and puts an item there that does nothing: so each host comes to lay it in."""
         def configure(cursor: servers.Cursor) -> None:
-            cursor.execute('SELECT next FROM ezmlm.list WHERE name = %s FOR UPDATE', (name,))
-            (following,) = row_of(cursor)
-            cursor.execute('INSERT INTO ezmlm.configuration VALUES (%s, %s, %s)', (name, following, text))
-            self.add(cursor, name, following, rows.Adds(sent=[NOTHING]))
+            put = rows.Put(0, int(time.time()))
+            self.add(cursor, name, rows.Adds(sent=[NOTHING]), put)
+            cursor.execute('INSERT INTO ezmlm.configuration VALUES (%s, %s, %s)', (name, put.following, text))
         await self.lines.call(configure)
 
     # Operators.
@@ -74,8 +73,7 @@ class History(rows.Rows):
     async def give(self, name: str, given: Sequence[tuple[int, rows.Spell]]) -> list[int]:
         """Puts an operator's items into the row, by his numbers. The answer is the numbers that they have there."""
         def give(cursor: servers.Cursor) -> list[int]:
-            cursor.execute('SELECT next FROM ezmlm.list WHERE name = %s FOR UPDATE', (name,))
-            return self.add(cursor, name, row_of(cursor)[0], rows.Adds(given=given))
+            return self.add(cursor, name, rows.Adds(given=given), rows.Put(0, int(time.time())))
         return await self.lines.call(give)
 
     async def answers(self, name: str, numbers: Sequence[int]) -> dict[int, str]:
@@ -101,8 +99,8 @@ class History(rows.Rows):
             if not one(cursor):
                 return None
             cursor.execute('DELETE FROM ezmlm.digest WHERE host = %s', (host,))
-            cursor.execute('DELETE FROM ezmlm.host WHERE host = %s', (host,))
-            return cursor.rowcount
+            cursor.execute('DELETE FROM ezmlm.host WHERE host = %s RETURNING list', (host,))
+            return len(cursor.fetchall())
         return await self.lines.call(forget)
 
     # What copies are.
@@ -138,11 +136,7 @@ class History(rows.Rows):
 
     async def hand(self, name: str, copies: rows.Handed) -> None:
         """Notes copies that were handed on."""
-        await self.lines.call(make_each, 'INSERT INTO ezmlm.handed VALUES (%s, %s, %s, %s)', [(name, *row) for row in copies])
-
-    async def forget_copies(self, name: str, entries: Collection[int]) -> None:
-        """Forgets the copies of entries that left the queue."""
-        await self.lines.call(make_each, 'DELETE FROM ezmlm.handed WHERE list = %s AND entry = ANY(%s)', [(name, list(entries))])
+        await self.lines.call(rows.keep_handed, name, list(copies))
 
     async def stands(self, name: str) -> tuple[int, int]:
         """The number that the next item gets, and when the last timed run was put into the history."""
@@ -180,8 +174,8 @@ class History(rows.Rows):
         return [keys[key] for key, in found]
 
     def confirm(self, connection: servers.Connection) -> None:
-        """Writes nothing that is kept, and waits until as many servers confirm it as confirm all else."""
-        connection.execute("SELECT pg_logical_emit_message(true, 'ezmlm', '')")
+        """Waits until as many servers confirm what was written as confirm all else."""
+        connection.execute(servers.CONFIRMED)
 
     def release(self, connection: servers.Connection, name: str) -> None:
         connection.execute('SELECT pg_advisory_unlock(%s)', (key_of(name),))

@@ -168,7 +168,14 @@ class Leading:
             del self.terms[name]
             self.past.release(connection, f'list {name}')
             self.tell(name)
-        if select.select([connection.fileno()], [], [], self.pause)[0]:
+        left = self.pause
+        while left > 0 and not self.is_ending.is_set():
+            self.listen(connection, left)
+            left = begun + self.pause - clock()
+
+    def listen(self, connection: servers.Connection, seconds: float) -> None:
+        """Waits for what is told, so long at most, and tells it."""
+        if select.select([connection.fileno()], [], [], seconds)[0]:
             connection.pgconn.consume_input()
         while notify := connection.pgconn.notifies():
             self.heard.append(notify.extra.decode())

@@ -161,10 +161,12 @@ class MailingList:
         except Exception as error:
             await self.fail(batch, error)
 
-    async def serve(self, batch: list[mails.Mail]) -> None:
-        """Gives the list these mails, and what else it is to be told."""
+    async def serve(self, batch: list[mails.Mail]) -> None:  # Gives the list these mails, and what else it is to be told.
         opened = await self.begin()
         await self.give(opened, [mail for mail in batch if mail.is_wanted()])
+
+    def report(self) -> None:  # An entry was handed on.
+        self.wake.set()
 
     def copies(self) -> notes.Copies | None:
         """Where it is kept which copies were handed on, or None while this host hands nothing on."""

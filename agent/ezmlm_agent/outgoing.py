@@ -162,7 +162,7 @@ class Queue:
         if done:
             self.later.pop(entry, None)
             self.handed_on.add(entry)
-            self.list.wake.set()
+            self.list.report()
         else:
             self.put_off(entry)
         if self.has_more or not done:  # Else what comes next comes by a run of the program, after which the queue is looked at.

@@ -7,14 +7,19 @@ some place of the row. A list's place is the number of the first item that it ha
 
 import dataclasses
 import functools
+import itertools
 import time
 from collections.abc import Callable, Collection, Iterable, Mapping, Sequence
 from typing import Any, LiteralString
+
+import psycopg
 
 from . import notes, program, servers
 
 CHANNEL = 'ezmlm'
 STEP = 512_000  # by which the floor may rise at once
+MAILS = 'SELECT key, number FROM ezmlm.mail WHERE list = %s AND key = ANY(%s)'
+GIVEN = 'SELECT theirs, number FROM ezmlm.given WHERE list = %s AND theirs = ANY(%s)'
 DAY = 86400
 WHOLE = 100_000_000  # posts back from the newest that are compared where all of a list is
 
@@ -38,9 +43,32 @@ class Adds:
     sent: Collection[int] = ()                    # entries of the outgoing queue that were handed on
     timed_before: int | None = None               # a timed run; mails that came first before this moment are forgotten
     given: Sequence[tuple[int, Spell]] = ()       # of an operator's, by his numbers
+    left: Collection[int] = ()                    # entries that left the queue, of which the copies are forgotten
 
     def __bool__(self) -> bool:
-        return bool(self.mails or self.sent or self.given or self.timed_before is not None)
+        return bool(self.mails or self.sent or self.given or self.left or self.timed_before is not None)
+
+
+@dataclasses.dataclass
+class Put:
+    """Items that are put behind a number, until they are written."""
+    following: int
+    now: int
+    texts: list[bytes] = dataclasses.field(default_factory=list)
+    timed: tuple[int, int] | None = None  # the number of a timed run, and how many of the newest posts are compared after it
+
+    def put(self, text: Spell) -> int:
+        number = self.following + len(self.texts)
+        self.texts.append(text(number, self.now))
+        return number
+
+    def put_timed(self, text: Spell, back: int) -> None:
+        self.timed = self.put(text), back
+
+    def rows(self) -> list[Row]:
+        """The items as a list is given them."""
+        timed, back = self.timed or (None, None)
+        return [Row(number, text, back if number == timed else None) for number, text in enumerate(self.texts, self.following)]
 
 
 @dataclasses.dataclass
@@ -70,12 +98,12 @@ class Rows:
     def taken_up(self, cursor: servers.Cursor, name: str, address: notes.Address, place: int, floor: int, config: bytes, key: bytes,
                  known: Mapping[bytes, tuple[int, int]], handed: Handed) -> None:
         now = int(time.time())
-        cursor.execute('INSERT INTO ezmlm.list VALUES (%s, %s, %s, %s, %s, %s, %s, %s) ON CONFLICT DO NOTHING',
+        cursor.execute('INSERT INTO ezmlm.list VALUES (%s, %s, %s, %s, %s, %s, %s, %s) ON CONFLICT DO NOTHING RETURNING name',
                        (name, *address, place, place, floor, now, now // DAY))
-        if cursor.rowcount:
+        if cursor.fetchone() is not None:
             cursor.execute('INSERT INTO ezmlm.configuration VALUES (%s, %s, %s)', (name, place, config))
             cursor.executemany('INSERT INTO ezmlm.mail VALUES (%s, %s, %s, %s)', [(name, key, *row) for key, row in known.items()])
-            cursor.executemany('INSERT INTO ezmlm.handed VALUES (%s, %s, %s, %s)', [(name, *row) for row in handed])
+            keep_handed(cursor, name, list(handed))
         cursor.execute('SELECT local, host, next, first FROM ezmlm.list WHERE name = %s FOR UPDATE', (name,))
         local, host, following, first = row_of(cursor)
         if (local, host) != address:
@@ -97,28 +125,31 @@ class Rows:
         return await self.lines.call(self.proceeded, name, place, key, adds, most, size)
 
     def proceeded(self, cursor: servers.Cursor, name: str, place: int, key: bytes | None, adds: Adds, most: int, size: int) -> Told:
-        cursor.execute('SELECT next FROM ezmlm.list WHERE name = %s' + ' FOR UPDATE' * bool(adds), (name,))
-        (following,) = row_of(cursor)
-        look_at_place(name, place, following)
-        numbers = self.add(cursor, name, following, adds) if adds else []
+        put = Put(0, int(time.time()))
+        numbers: list[int] = []
+        if adds:
+            numbers = self.add(cursor, name, adds, put, place)
         cursor.execute('SELECT l.next, h.place, (SELECT max(number) FROM ezmlm.configuration WHERE list = l.name AND number <= %s), '
-                       '(SELECT min(number) FROM ezmlm.configuration WHERE list = l.name AND number > %s) '
+                       '(SELECT min(number) FROM ezmlm.configuration WHERE list = l.name AND number > %s), '
+                       'EXISTS (SELECT FROM ezmlm.given WHERE list = l.name AND answer IS NULL AND number < %s) '
                        'FROM ezmlm.list l LEFT JOIN ezmlm.host h ON h.list = l.name AND h.host = %s WHERE l.name = %s',
-                       (place, place, self.host, name))
-        following, known, configured, limit = row_of(cursor)
+                       (place, place, place, self.host, name))
+        following, known, configured, limit, is_waited_for = row_of(cursor)
+        look_at_place(name, place, following)
+        if known is None:
+            raise servers.Unfit(f'this host is none of {name}\'s any more: it was removed by --forget-host, and takes the list up again')
         if following == place == known:
             return Told(numbers, following, [], [], configured)
-        # This is written also where nothing is put in: a commit that the standbys confirm confirms all that was committed before it. So no host
-        # gives its list an item that may be lost with the first server.
         cursor.execute('UPDATE ezmlm.host SET place = %s, seen = %s, key = coalesce(%s, key) WHERE list = %s AND host = %s',
-                       (place, int(time.time()), key, name, self.host))
-        if not cursor.rowcount:
-            raise servers.Unfit(f'this host is none of {name}\'s any more: it was removed by --forget-host, and takes the list up again')
-        rows = self.rows(cursor, 'SELECT number, text, back, sum(length(text)) OVER (ORDER BY number) AS sum FROM ezmlm.item '
-                         'WHERE list = %s AND number >= %s AND number < %s ORDER BY number LIMIT %s', (name, place, limit or following, most), size)
+                       (place, put.now, key, name, self.host))
+        if place == put.following and not adds.given:  # What is put in now is all there is.
+            rows = first_of(put.rows(), limit or following, most, size)
+        else:
+            rows = self.rows(cursor, 'SELECT number, text, back, sum(length(text)) OVER (ORDER BY number) AS sum FROM ezmlm.item '
+                             'WHERE list = %s AND number >= %s AND number < %s ORDER BY number LIMIT %s', (name, place, limit or following, most), size)
         again = self.rows(cursor, 'SELECT i.number, i.text, i.back, sum(length(i.text)) OVER (ORDER BY i.number) AS sum FROM ezmlm.item i '
                           'JOIN ezmlm.given g USING (list, number) WHERE g.list = %s AND g.answer IS NULL AND g.number < %s '
-                          'ORDER BY i.number LIMIT %s', (name, place, most), size)
+                          'ORDER BY i.number LIMIT %s', (name, place, most), size) if is_waited_for else []
         if rows[:1] and rows[0].number != place:
             raise servers.Unfit(f'the history of {name} has no item {place}')
         return Told(numbers, following, rows, again, configured)
@@ -131,46 +162,56 @@ class Rows:
                        'WHERE r.sum <= %s OR r.at = 1 ORDER BY r.number', (*words, words[0], size))
         return [Row(*row) for row in cursor.fetchall()]
 
-    def add(self, cursor: servers.Cursor, name: str, following: int, adds: Adds) -> list[int]:
-        """Puts items into the row, which is locked. The answer is the numbers of mails, and of operators' items: those that they had, where these
-        came before."""
-        now = int(time.time())
-        items: list[tuple[str, int, int, int | None, bytes]] = []
-
-        def put(text: Spell, back: int | None = None) -> int:
-            number = following + len(items)
-            items.append((name, number, now, back, text(number, now)))
-            return number
-        query = 'SELECT key, number FROM ezmlm.mail WHERE list = %s AND key = ANY(%s)'
-        numbers, known = numbered(cursor.execute(query, (name, [key for key, _ in adds.mails])).fetchall() if adds.mails else [], adds.mails, put)
-        query = 'SELECT theirs, number FROM ezmlm.given WHERE list = %s AND theirs = ANY(%s)'
+    def add(self, cursor: servers.Cursor, name: str, adds: Adds, put: Put, place: int | None = None) -> list[int]:
+        """Puts items into the row, which is locked until they are there. The answer is the numbers of mails, and of operators' items: those that
+        they had, where these came before."""
+        locked = cursor.execute('SELECT next FROM ezmlm.list WHERE name = %s FOR UPDATE', (name,))
+        mails = cursor.execute(MAILS, (name, [key for key, _ in adds.mails])) if adds.mails else None
         keys = [key for key, _ in adds.given if key]
-        theirs, given = numbered(cursor.execute(query, (name, keys)).fetchall() if keys else [], adds.given, put)
+        given = cursor.execute(GIVEN, (name, keys)) if keys else None
+        (put.following,) = row_of(locked)
+        if place is not None:
+            look_at_place(name, place, put.following)
+        numbers, known = numbered(mails.fetchall() if mails else [], adds.mails, put.put)
+        theirs, told = numbered(given.fetchall() if given else [], adds.given, put.put)
         for entry in adds.sent:
-            put(functools.partial(report, entry))
+            put.put(functools.partial(report, entry))
         if adds.timed_before is not None:
-            self.timed(cursor, name, following, adds.timed_before, put)
-        cursor.executemany('INSERT INTO ezmlm.item VALUES (%s, %s, %s, %s, %s)', items)
-        cursor.executemany('INSERT INTO ezmlm.mail VALUES (%s, %s, %s, %s)', [(name, key, number, now) for key, number in known])
-        cursor.executemany('INSERT INTO ezmlm.given VALUES (%s, %s, %s)', [(name, number, key) for key, number in given])
-        if items:
-            cursor.execute('UPDATE ezmlm.list SET next = %s WHERE name = %s', (following + len(items), name))
-            cursor.execute('SELECT pg_notify(%s, %s)', (CHANNEL, f'{following + len(items)} {name}'))
+            self.timed(cursor, name, adds.timed_before, put)
+        if adds.left:
+            cursor.execute('DELETE FROM ezmlm.handed WHERE list = %s AND entry = ANY(%s)', (name, list(adds.left)))
+        if put.texts:
+            self.write(cursor, name, put)
+        if known:
+            cursor.execute('INSERT INTO ezmlm.mail SELECT %s, key, number, %s FROM unnest(%s::bytea[], %s::bigint[]) AS new (key, number)',
+                           (name, put.now, *map(list, zip(*known))))
+        if told:
+            cursor.execute('INSERT INTO ezmlm.given SELECT %s, number, theirs FROM unnest(%s::bigint[], %s::bigint[]) AS new (theirs, number)',
+                           (name, *map(list, zip(*told))))
         return numbers + theirs
 
-    def timed(self, cursor: servers.Cursor, name: str, following: int, before: int, put: Callable[[Spell, int | None], int]) -> None:
+    def write(self, cursor: servers.Cursor, name: str, put: Put) -> None:
+        """Writes items that were put, and has all hosts hear of them."""
+        following = put.following + len(put.texts)
+        cursor.execute('INSERT INTO ezmlm.item SELECT %s, %s + at - 1, %s, CASE WHEN %s + at - 1 = %s THEN %s::bigint END, text '
+                       'FROM unnest(%s::bytea[]) WITH ORDINALITY AS new (text, at)',
+                       (name, put.following, put.now, put.following, *(put.timed or (0, 0)), put.texts))
+        cursor.execute('UPDATE ezmlm.list SET next = %s WHERE name = %s', (following, name))
+        cursor.execute('SELECT pg_notify(%s, %s)', (CHANNEL, f'{following} {name}'))
+
+    def timed(self, cursor: servers.Cursor, name: str, before: int, put: Put) -> None:
         """Puts a timed run into the row, and what raises the floor: mails that came first before a moment can't come again, and are forgotten.
         What all hosts have answered by then is removed."""
-        now = int(time.time())
+        now, following = put.now, put.following
         cursor.execute('SELECT number FROM ezmlm.mail WHERE list = %s AND first >= %s ORDER BY number LIMIT 1', (name, before))
         (lowest,) = cursor.fetchone() or (following,)
         cursor.execute('DELETE FROM ezmlm.mail WHERE list = %s AND number < %s', (name, lowest))
         cursor.execute('SELECT floor, day, (SELECT max(number) FROM ezmlm.item WHERE list = name AND back IS NOT NULL) FROM ezmlm.list '
                        'WHERE name = %s', (name,))
         floor, day, last = row_of(cursor)
-        put(lambda number, moment: program.item(b'T', number, moment), WHOLE if last is None or day != now // DAY else following - last)
+        put.put_timed(lambda number, moment: program.item(b'T', number, moment), WHOLE if last is None or day != now // DAY else following - last)
         for value in [*range(floor + STEP, lowest, STEP), lowest] if lowest > max(floor, notes.FIRST) else []:
-            put(functools.partial(raised, value), None)
+            put.put(functools.partial(raised, value))
         cursor.execute('UPDATE ezmlm.list SET timed = %s, day = %s, floor = greatest(floor, %s) WHERE name = %s', (now, now // DAY, lowest, name))
         cursor.execute('SELECT least((SELECT min(place) FROM ezmlm.host WHERE list = %s), (SELECT number FROM ezmlm.item WHERE list = %s AND '
                        'first >= %s ORDER BY number LIMIT 1), %s)', (name, name, before, following))
@@ -199,6 +240,17 @@ def look_at_place(name: str, place: int, following: int) -> None:
                             'by itself, or the history is an old one')
 
 
+def first_of(rows: Sequence[Row], limit: int, most: int, size: int) -> list[Row]:
+    """The first of these items, below a number: so many at most, and of so many bytes, but one where there is one."""
+    kept: list[Row] = []
+    for row in itertools.islice(rows, most):
+        size -= len(row.text)
+        if row.number >= limit or kept and size < 0:
+            break
+        kept.append(row)
+    return kept
+
+
 def numbered(found: Iterable[tuple[Any, ...]], entries: Sequence[tuple[Any, Spell]],
              put: Callable[[Spell], int]) -> tuple[list[int], list[tuple[Any, int]]]:
     """The numbers of entries by their keys, those that were found or new ones; and the new ones with their keys. The key 0 is none."""
@@ -221,12 +273,19 @@ def raised(floor: int, number: int, moment: int) -> bytes:
     return program.item(b'F', number, moment, floor)
 
 
+def keep_handed(cursor: servers.Cursor, name: str, copies: Collection[tuple[int, bytes, bytes]]) -> None:
+    """Notes copies that were handed on."""
+    if copies:
+        cursor.execute('INSERT INTO ezmlm.handed SELECT %s, entry, mark, recipients FROM unnest(%s::bigint[], %s::bytea[], %s::bytea[]) '
+                       'AS new (entry, mark, recipients)', (name, *map(list, zip(*copies))))
+
+
 def make_each(cursor: servers.Cursor, statement: LiteralString, rows: Sequence[Sequence[Any]]) -> None:
     """Makes a change for each row of words."""
     cursor.executemany(statement, rows)
 
 
-def row_of(cursor: servers.Cursor) -> tuple[Any, ...]:
+def row_of(cursor: 'servers.Cursor | psycopg.Cursor[tuple[Any, ...]]') -> tuple[Any, ...]:
     """The one row of an answer. Where there is none the list has no history."""
     row = cursor.fetchone()
     if row is None:

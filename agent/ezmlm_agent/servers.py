@@ -6,8 +6,8 @@ import os
 import select
 import socket
 import time
-from collections.abc import Callable
-from typing import Any, TypeAlias, TypeVar
+from collections.abc import Callable, Iterable, Sequence
+from typing import Any, LiteralString, TypeAlias, TypeVar
 
 import psycopg
 from psycopg import conninfo
@@ -16,12 +16,12 @@ from . import aside, wire
 
 Result = TypeVar('Result')
 Connection: TypeAlias = 'psycopg.Connection[tuple[Any, ...]]'
-Cursor: TypeAlias = 'psycopg.Cursor[tuple[Any, ...]]'
 Notice: TypeAlias = 'psycopg.errors.Diagnostic'
 MOST = 4      # connections for calls, at once
 SKEW = 60     # seconds by which the clocks of a host and of the servers may differ
 OLDEST = 140000  # of PostgreSQL: idle_session_timeout came with 14
 FLUSHED = 'on', 'remote_apply'  # values of synchronous_commit by which a standby has what is committed on its disk
+CONFIRMED = "SELECT pg_logical_emit_message(true, 'ezmlm', '')"  # writes nothing that is kept, and is committed as all else would be
 STATE = '''SELECT current_setting('synchronous_commit'), current_setting('synchronous_standby_names'),
     current_setting('server_version_num')::int, extract(epoch FROM clock_timestamp())::float8'''
 
@@ -128,23 +128,76 @@ class Servers:
             self.said(f'the clocks of this host and of the server differ by {abs(time.time() - clock):.0f} seconds')
 
 
-class Job:
-    """One call over a connection, in a thread."""
+class Cursor:
+    """How calls give statements, each to a cursor of its own: while statements go out together a cursor has one answer. What is fetched is the
+    answer of the last, unless the caller keeps what `execute` answers."""
 
-    def __init__(self, lines: 'Lines', call: Callable[..., Any], words: tuple[Any, ...]) -> None:
-        self.lines, self.do, self.words = lines, call, words
+    def __init__(self, connection: Connection) -> None:
+        self.connection = connection
+        self.last: 'psycopg.Cursor[tuple[Any, ...]]' = connection.cursor(binary=True)
+
+    def execute(self, query: LiteralString, words: Sequence[Any] | None = None) -> 'psycopg.Cursor[tuple[Any, ...]]':
+        self.last = self.connection.cursor(binary=True)
+        return self.last.execute(query, words)
+
+    def executemany(self, query: LiteralString, rows: Iterable[Sequence[Any]]) -> None:
+        self.connection.cursor(binary=True).executemany(query, rows)
+
+    def fetchone(self) -> tuple[Any, ...] | None:
+        return self.last.fetchone()
+
+    def fetchall(self) -> list[tuple[Any, ...]]:
+        return self.last.fetchall()
+
+
+class Job:
+    """A call that waits for its turn, and what came of it."""
+
+    def __init__(self, call: Callable[..., Any], words: tuple[Any, ...]) -> None:
+        self.call, self.words = call, words
+        self.ended: asyncio.Future[Any] = asyncio.get_running_loop().create_future()
+        self.ended.add_done_callback(lambda ended: ended.cancelled() or ended.exception())  # Nobody may ask for it any more.
+        self.result: Any = None
+        self.error: BaseException | None = None
+
+    def make(self, connection: Connection) -> None:
+        """Makes one transaction of the call. Its statements go out together where none wants the answer of another. No disk is waited for."""
+        with connection.pipeline():
+            cursor = Cursor(connection)
+            cursor.execute('BEGIN')
+            cursor.execute('SET LOCAL synchronous_commit TO off')
+            self.result = self.call(cursor, *self.words)
+            cursor.execute('COMMIT')
+
+    def tell(self, error: BaseException | None) -> None:
+        """Tells what came of it to whoever waits. The error is one of all calls over the same connection."""
+        if self.ended.done():
+            return
+        if error is None and self.error is None:
+            self.ended.set_result(self.result)
+        else:
+            self.ended.set_exception(error or self.error or Lost())
+
+
+class Batch:
+    """Calls over one connection, in a thread. Each is a transaction of its own, which holds its locks for no longer than it takes. Behind the
+    last a commit over the same connection waits for the disks: by its answer all that was committed before is there for good."""
+
+    def __init__(self, lines: 'Lines', jobs: list[Job]) -> None:
+        self.lines, self.jobs = lines, jobs
         self.connection: Connection | None = None
         self.warning = ''
 
-    def run(self) -> Any:
+    def run(self) -> None:
         connection = self.lines.taken(self.has)
         connection.add_notice_handler(self.noticed)
         try:
-            with connection.transaction(), connection.cursor(binary=True) as cursor:
-                result = self.do(cursor, *self.words)
+            for job in self.jobs:
+                self.make(connection, job)
+            connection.execute(CONFIRMED)
         except psycopg.Error as error:
             connection.close()
-            raise (Unfit if isinstance(error, psycopg.errors.InsufficientPrivilege) else Lost)(words_of(error)) from error
+            raise Lost(words_of(error)) from error
         except BaseException:
             connection.close()
             raise
@@ -153,7 +206,18 @@ class Job:
             connection.close()
             raise Lost(self.warning)
         self.lines.idle.append(connection)
-        return result
+
+    def make(self, connection: Connection, job: Job) -> None:
+        """Makes a call. Where it alone fails the others go on."""
+        try:
+            job.make(connection)
+        except Exception as error:
+            if connection.closed:
+                raise
+            connection.rollback()
+            job.error = error
+            if isinstance(error, psycopg.Error):
+                job.error = (Unfit if isinstance(error, psycopg.errors.InsufficientPrivilege) else Lost)(words_of(error))
 
     def noticed(self, notice: Notice) -> None:
         self.warning = warning_of(notice) or self.warning
@@ -162,7 +226,7 @@ class Job:
         self.connection = connection
 
     def cut(self) -> None:
-        """Ends a call that takes too long."""
+        """Ends calls that take too long."""
         if self.connection is not None:
             cut(self.connection)
 
@@ -174,27 +238,48 @@ def cut(connection: Connection) -> None:
 
 
 class Lines:
-    """Connections for calls, each of which is one transaction."""
+    """Connections for calls. What waits when one of them is free goes over it together."""
 
     def __init__(self, servers: Servers) -> None:
         self.servers = servers
         self.idle: list[Connection] = []
-        self.turns = asyncio.Semaphore(MOST)
+        self.waiting: list[Job] = []
+        self.at_work: set[asyncio.Task[None]] = set()
 
     async def call(self, call: Callable[..., Result], *words: Any) -> Result:
-        """What a call answers that gets a cursor. It is Lost if the servers are, or that takes longer than twice `takeover`."""
-        async with self.turns:
-            job = Job(self, call, words)
-            future: asyncio.Future[Result] = asyncio.get_running_loop().create_future()
-            future.add_done_callback(lambda ended: ended.cancelled() or ended.exception())  # Nobody may ask for it any more.
-            aside.begin((future, job.run, ()))
-            done, _ = await asyncio.wait([future], timeout=2 * self.servers.takeover)
-            if not done:
-                job.cut()
-                self.servers.turn()
-                self.close()
-                raise Lost(f'a call took longer than {2 * self.servers.takeover} seconds, as when no standby confirms')
-            return future.result()
+        """What a call answers that gets a cursor. All that it changed, and all that it saw, is on as many disks as the servers are told to keep
+        it on. It is Lost if the servers are, or that takes longer than twice `takeover`."""
+        self.waiting.append(job := Job(call, words))
+        self.begin()
+        result: Result = await job.ended
+        return result
+
+    def begin(self) -> None:
+        """Gives the calls that wait to a connection, if one is free."""
+        if self.waiting and len(self.at_work) < MOST:
+            jobs, self.waiting = self.waiting, []
+            task = asyncio.create_task(self.work(jobs))
+            self.at_work.add(task)
+            task.add_done_callback(self.has_worked)
+
+    def has_worked(self, task: 'asyncio.Task[None]') -> None:
+        self.at_work.discard(task)
+        if not task.cancelled():
+            self.begin()
+
+    async def work(self, jobs: list[Job]) -> None:
+        batch = Batch(self, jobs)
+        future: asyncio.Future[None] = asyncio.get_running_loop().create_future()
+        future.add_done_callback(lambda ended: ended.cancelled() or ended.exception())
+        aside.begin((future, batch.run, ()))
+        done, _ = await asyncio.wait([future], timeout=2 * self.servers.takeover)
+        error = future.exception() if done else Lost(f'a call took longer than {2 * self.servers.takeover} seconds, as when no standby confirms')
+        if not done:
+            batch.cut()
+            self.servers.turn()
+            self.close()
+        for job in jobs:
+            job.tell(error)
 
     def taken(self, has: Callable[[Connection], object]) -> Connection:
         """A connection at which nothing came since it was used last, or a new one. `has` gets it as soon as it is there."""

@@ -45,10 +45,10 @@ async def taken_up(past, place=512, floor=1, address=ADDRESS, config=b'config', 
     await past.take_up('cats', address, place, floor, config, key, dict(known), handed)
 
 
-async def told(past, place, mails=(), sent=(), before=None, given=(), most=128, size=1 << 20):
+async def told(past, place, mails=(), sent=(), before=None, given=(), left=(), most=128, size=1 << 20):
     """What a history says: the numbers, the next one, and the items by their texts."""
     from ezmlm_agent import rows
-    adds = rows.Adds([(key.encode(), spell(key)) for key in mails], sent, before, [(number, spell(word)) for number, word in given])
+    adds = rows.Adds([(key.encode(), spell(key)) for key in mails], sent, before, [(number, spell(word)) for number, word in given], left)
     said = await past.proceed('cats', place, None, adds, most, size)
     return said.numbers, said.next, [row.text.split(b':')[0].decode() for row in said.rows]
 
@@ -190,7 +190,7 @@ def case_history_known(world):
             same(await told(two, 600, ['a', 'b']), ([555, 600], 601, ['b 600']), 'numbers')
             same(await two.handed('cats'), [(3, b'mark', b'x\0y')], 'copies')
             await two.hand('cats', [(4, b'm', b'u'), (5, b'm', b'v')])
-            await one.forget_copies('cats', [3, 4])
+            same(await told(one, 600, left=[3, 4]), ([], 601, ['b 600']), 'copies are forgotten')
             same(await one.handed('cats'), [(5, b'm', b'v')], 'copies that are left')
         asyncio.run(ask())
 
