@@ -11,7 +11,7 @@ import time
 from . import comparing, folder, handed, history, leading, mailing, mails, notes, program, retrying, rows, servers, trouble
 
 log = logging.getLogger('ezmlm-agent')
-RESTS = 0.5  # seconds for which reports, and where this host stands, wait for mail
+REPORTS, RESTS = 0.5, 2  # seconds for which reports, and where this host stands, wait for mail
 
 
 @dataclasses.dataclass(frozen=True)
@@ -110,19 +110,22 @@ class SharedList(mailing.MailingList):
         if self.next > self.place and self.health.cause is None:
             self.wake.set()
         elif self.place > state.place:  # The history learns where this host stands when nothing else comes.
-            self.wake_later()
+            self.wake_later(RESTS)
 
-    def wake_later(self) -> None:
-        """Has the history asked soon, though no mail comes: what is to be told to it then is told at once."""
-        if self.soon is None:
-            self.soon = asyncio.get_running_loop().call_later(RESTS, self.wake_now)
+    def wake_later(self, seconds: float) -> None:
+        """Has the history told soon what there is to tell, though no mail comes."""
+        at = asyncio.get_running_loop().time() + seconds
+        if self.soon is None or self.soon.when() > at:
+            if self.soon is not None:
+                self.soon.cancel()
+            self.soon = asyncio.get_running_loop().call_at(at, self.wake_now)
 
     def wake_now(self) -> None:
         self.soon = None
         self.wake.set()
 
     def report(self) -> None:
-        self.wake_later()
+        self.wake_later(REPORTS)
 
     async def fail(self, batch: list[mails.Mail], error: Exception) -> None:
         self.lead.want(self.name, False)

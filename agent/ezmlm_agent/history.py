@@ -1,5 +1,6 @@
 """All that is asked of the database that keeps the histories of lists."""
 
+import asyncio
 import hashlib
 import time
 from collections.abc import Collection, Sequence
@@ -11,11 +12,18 @@ from . import comparing, notes, rows, servers, status
 from .rows import make_each, one, row_of
 from .tables import TABLES, VERSION
 
+NOTINGS = 2  # transactions in which copies are noted, at once
 NOTHING = 10**15  # an entry of a queue that was never there, of which a report does nothing
 
 class History(rows.Rows):
     """The one class that knows SQL, with the part of it that has the items. Each call is one transaction, and its answer is on the disks of as
     many servers as these are told to keep it on."""
+
+    def __init__(self, lines: servers.Lines) -> None:
+        super().__init__(lines)
+        self.copies: list[tuple[str, int, bytes, bytes]] = []  # that wait to be noted
+        self.noting: asyncio.Task[None] | None = None  # notes them, when its turn comes
+        self.notings = asyncio.Semaphore(NOTINGS)
 
     def prepare(self, connection: servers.Connection) -> None:
         """Makes the tables where they are missing. It is Unfit if they are of a newer version, or can't be written."""
@@ -63,9 +71,8 @@ class History(rows.Rows):
     async def configure(self, name: str, text: bytes) -> None:
         """Has a configuration hold from the next item on, and puts an item there that does nothing: so each host comes to lay it in."""
         def configure(cursor: servers.Cursor) -> None:
-            put = rows.Put(0, int(time.time()))
-            self.add(cursor, name, rows.Adds(sent=[NOTHING]), put)
-            cursor.execute('INSERT INTO ezmlm.configuration VALUES (%s, %s, %s)', (name, put.following, text))
+            _, following = self.put(cursor, name, rows.Adds(sent=[NOTHING]))
+            cursor.execute('INSERT INTO ezmlm.configuration VALUES (%s, %s, %s)', (name, following, text))
         await self.lines.call(configure)
 
     # Operators.
@@ -73,7 +80,7 @@ class History(rows.Rows):
     async def give(self, name: str, given: Sequence[tuple[int, rows.Spell]]) -> list[int]:
         """Puts an operator's items into the row, by his numbers. The answer is the numbers that they have there."""
         def give(cursor: servers.Cursor) -> list[int]:
-            return self.add(cursor, name, rows.Adds(given=given), rows.Put(0, int(time.time())))
+            return self.put(cursor, name, rows.Adds(given=given))[0]
         return await self.lines.call(give)
 
     async def answers(self, name: str, numbers: Sequence[int]) -> dict[int, str]:
@@ -135,8 +142,16 @@ class History(rows.Rows):
         return await self.lines.call(read)
 
     async def hand(self, name: str, copies: rows.Handed) -> None:
-        """Notes copies that were handed on."""
-        await self.lines.call(rows.keep_handed, name, list(copies))
+        """Notes copies that were handed on. What is to be noted of all lists while some is on its way goes together."""
+        self.copies += [(name, *row) for row in copies]
+        if self.noting is None:
+            self.noting = asyncio.create_task(self.note_copies())
+        await asyncio.shield(self.noting)
+
+    async def note_copies(self) -> None:
+        async with self.notings:
+            copies, self.copies, self.noting = self.copies, [], None
+            await self.lines.call(rows.keep_handed, copies)
 
     async def stands(self, name: str) -> tuple[int, int]:
         """The number that the next item gets, and when the last timed run was put into the history."""

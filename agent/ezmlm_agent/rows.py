@@ -12,12 +12,22 @@ import time
 from collections.abc import Callable, Collection, Iterable, Mapping, Sequence
 from typing import Any, LiteralString
 
-import psycopg
-
 from . import notes, program, servers
 
 CHANNEL = 'ezmlm'
 STEP = 512_000  # by which the floor may rise at once
+STATE = '''SELECT l.next, h.place, (SELECT max(number) FROM ezmlm.configuration WHERE list = l.name AND number <= %s),
+        (SELECT min(number) FROM ezmlm.configuration WHERE list = l.name AND number > %s),
+        EXISTS (SELECT FROM ezmlm.given WHERE list = l.name AND answer IS NULL AND number < %s)
+    FROM ezmlm.list l LEFT JOIN ezmlm.host h ON h.list = l.name AND h.host = %s WHERE l.name = %s'''
+# One statement that puts items in, with the keys of mails, and has all hosts hear of them.
+PUT = '''WITH given AS (SELECT %s::bigint AS first, %s::bigint AS now, %s::text AS name, %s::bytea[] AS texts, %s::bytea[] AS keys, %s::bigint[] AS numbers,
+            %s::bigint AS timed, %s::bigint AS back),
+        items AS (INSERT INTO ezmlm.item SELECT name, first + at - 1, now, CASE WHEN first + at - 1 = timed THEN back END, text
+            FROM given, unnest(texts) WITH ORDINALITY AS new (text, at)),
+        mails AS (INSERT INTO ezmlm.mail SELECT name, key, number, now FROM given, unnest(keys, numbers) AS new (key, number)),
+        lists AS (UPDATE ezmlm.list l SET next = given.first + cardinality(texts) FROM given WHERE l.name = given.name)
+    SELECT pg_notify(%s, first + cardinality(texts) || ' ' || name) FROM given'''
 MAILS = 'SELECT key, number FROM ezmlm.mail WHERE list = %s AND key = ANY(%s)'
 GIVEN = 'SELECT theirs, number FROM ezmlm.given WHERE list = %s AND theirs = ANY(%s)'
 DAY = 86400
@@ -58,9 +68,13 @@ class Put:
     timed: tuple[int, int] | None = None  # the number of a timed run, and how many of the newest posts are compared after it
 
     def put(self, text: Spell) -> int:
-        number = self.following + len(self.texts)
+        number = self.next()
         self.texts.append(text(number, self.now))
         return number
+
+    def next(self) -> int:
+        """The number of the next item."""
+        return self.following + len(self.texts)
 
     def put_timed(self, text: Spell, back: int) -> None:
         self.timed = self.put(text), back
@@ -69,6 +83,14 @@ class Put:
         """The items as a list is given them."""
         timed, back = self.timed or (None, None)
         return [Row(number, text, back if number == timed else None) for number, text in enumerate(self.texts, self.following)]
+
+
+@dataclasses.dataclass
+class Asked:
+    """What was asked when the list's row was locked: the next number, and the numbers of mails and of operators' items that came before."""
+    next: servers.Answer
+    mails: 'servers.Answer | None'
+    given: 'servers.Answer | None'
 
 
 @dataclasses.dataclass
@@ -103,7 +125,7 @@ class Rows:
         if cursor.fetchone() is not None:
             cursor.execute('INSERT INTO ezmlm.configuration VALUES (%s, %s, %s)', (name, place, config))
             cursor.executemany('INSERT INTO ezmlm.mail VALUES (%s, %s, %s, %s)', [(name, key, *row) for key, row in known.items()])
-            keep_handed(cursor, name, list(handed))
+            keep_handed(cursor, [(name, *row) for row in handed])
         cursor.execute('SELECT local, host, next, first FROM ezmlm.list WHERE name = %s FOR UPDATE', (name,))
         local, host, following, first = row_of(cursor)
         if (local, host) != address:
@@ -125,34 +147,30 @@ class Rows:
         return await self.lines.call(self.proceeded, name, place, key, adds, most, size)
 
     def proceeded(self, cursor: servers.Cursor, name: str, place: int, key: bytes | None, adds: Adds, most: int, size: int) -> Told:
-        put = Put(0, int(time.time()))
-        numbers: list[int] = []
-        if adds:
-            numbers = self.add(cursor, name, adds, put, place)
-        cursor.execute('SELECT l.next, h.place, (SELECT max(number) FROM ezmlm.configuration WHERE list = l.name AND number <= %s), '
-                       '(SELECT min(number) FROM ezmlm.configuration WHERE list = l.name AND number > %s), '
-                       'EXISTS (SELECT FROM ezmlm.given WHERE list = l.name AND answer IS NULL AND number < %s) '
-                       'FROM ezmlm.list l LEFT JOIN ezmlm.host h ON h.list = l.name AND h.host = %s WHERE l.name = %s',
-                       (place, place, place, self.host, name))
+        asked = self.ask(cursor, name, adds) if adds else None
+        cursor.execute(STATE, (place, place, place, self.host, name))
         following, known, configured, limit, is_waited_for = row_of(cursor)
         look_at_place(name, place, following)
         if known is None:
             raise servers.Unfit(f'this host is none of {name}\'s any more: it was removed by --forget-host, and takes the list up again')
-        if following == place == known:
-            return Told(numbers, following, [], [], configured)
+        put = Put(following, int(time.time()))
+        numbers = self.add(cursor, name, adds, asked, put) if asked else []
+        if put.next() == place == known:
+            return Told(numbers, place, [], [], configured)
         cursor.execute('UPDATE ezmlm.host SET place = %s, seen = %s, key = coalesce(%s, key) WHERE list = %s AND host = %s',
                        (place, put.now, key, name, self.host))
-        if place == put.following and not adds.given:  # What is put in now is all there is.
-            rows = first_of(put.rows(), limit or following, most, size)
+        if place == following and not adds.given:  # What is put in now is all there is.
+            rows = first_of(put.rows(), limit or put.next(), most, size)
         else:
             rows = self.rows(cursor, 'SELECT number, text, back, sum(length(text)) OVER (ORDER BY number) AS sum FROM ezmlm.item '
-                             'WHERE list = %s AND number >= %s AND number < %s ORDER BY number LIMIT %s', (name, place, limit or following, most), size)
+                             'WHERE list = %s AND number >= %s AND number < %s ORDER BY number LIMIT %s',
+                             (name, place, limit or put.next(), most), size)
         again = self.rows(cursor, 'SELECT i.number, i.text, i.back, sum(length(i.text)) OVER (ORDER BY i.number) AS sum FROM ezmlm.item i '
                           'JOIN ezmlm.given g USING (list, number) WHERE g.list = %s AND g.answer IS NULL AND g.number < %s '
                           'ORDER BY i.number LIMIT %s', (name, place, most), size) if is_waited_for else []
         if rows[:1] and rows[0].number != place:
             raise servers.Unfit(f'the history of {name} has no item {place}')
-        return Told(numbers, following, rows, again, configured)
+        return Told(numbers, put.next(), rows, again, configured)
 
     def rows(self, cursor: servers.Cursor, query: LiteralString, words: Sequence[Any], size: int) -> list[Row]:
         """The items of a query, as many as have so many bytes together, and one at least."""
@@ -162,18 +180,18 @@ class Rows:
                        'WHERE r.sum <= %s OR r.at = 1 ORDER BY r.number', (*words, words[0], size))
         return [Row(*row) for row in cursor.fetchall()]
 
-    def add(self, cursor: servers.Cursor, name: str, adds: Adds, put: Put, place: int | None = None) -> list[int]:
-        """Puts items into the row, which is locked until they are there. The answer is the numbers of mails, and of operators' items: those that
-        they had, where these came before."""
-        locked = cursor.execute('SELECT next FROM ezmlm.list WHERE name = %s FOR UPDATE', (name,))
-        mails = cursor.execute(MAILS, (name, [key for key, _ in adds.mails])) if adds.mails else None
+    def ask(self, cursor: servers.Cursor, name: str, adds: Adds) -> Asked:
+        """Locks the list's row, and asks which of these items came before. The answers come with those of what is asked next."""
+        cursor.execute('SELECT next FROM ezmlm.list WHERE name = %s FOR UPDATE', (name,))
         keys = [key for key, _ in adds.given if key]
-        given = cursor.execute(GIVEN, (name, keys)) if keys else None
-        (put.following,) = row_of(locked)
-        if place is not None:
-            look_at_place(name, place, put.following)
-        numbers, known = numbered(mails.fetchall() if mails else [], adds.mails, put.put)
-        theirs, told = numbered(given.fetchall() if given else [], adds.given, put.put)
+        return Asked(cursor.last, cursor.execute(MAILS, (name, [key for key, _ in adds.mails])) if adds.mails else None,
+                     cursor.execute(GIVEN, (name, keys)) if keys else None)
+
+    def add(self, cursor: servers.Cursor, name: str, adds: Adds, asked: Asked, put: Put) -> list[int]:
+        """Puts items into the row, which is locked. The answer is the numbers of mails, and of operators' items: those that they had, where these
+        came before."""
+        numbers, mails = numbered(asked.mails.fetchall() if asked.mails else [], adds.mails, put.put)
+        theirs, given = numbered(asked.given.fetchall() if asked.given else [], adds.given, put.put)
         for entry in adds.sent:
             put.put(functools.partial(report, entry))
         if adds.timed_before is not None:
@@ -181,23 +199,19 @@ class Rows:
         if adds.left:
             cursor.execute('DELETE FROM ezmlm.handed WHERE list = %s AND entry = ANY(%s)', (name, list(adds.left)))
         if put.texts:
-            self.write(cursor, name, put)
-        if known:
-            cursor.execute('INSERT INTO ezmlm.mail SELECT %s, key, number, %s FROM unnest(%s::bytea[], %s::bigint[]) AS new (key, number)',
-                           (name, put.now, *map(list, zip(*known))))
-        if told:
+            # Mails are of items that are put in, so without these there is none.
+            cursor.execute(PUT, (put.following, put.now, name, put.texts, [key for key, _ in mails], [number for _, number in mails],
+                                 *(put.timed or (None, None)), CHANNEL))
+        if given:
             cursor.execute('INSERT INTO ezmlm.given SELECT %s, number, theirs FROM unnest(%s::bigint[], %s::bigint[]) AS new (theirs, number)',
-                           (name, *map(list, zip(*told))))
+                           (name, *map(list, zip(*given))))
         return numbers + theirs
 
-    def write(self, cursor: servers.Cursor, name: str, put: Put) -> None:
-        """Writes items that were put, and has all hosts hear of them."""
-        following = put.following + len(put.texts)
-        cursor.execute('INSERT INTO ezmlm.item SELECT %s, %s + at - 1, %s, CASE WHEN %s + at - 1 = %s THEN %s::bigint END, text '
-                       'FROM unnest(%s::bytea[]) WITH ORDINALITY AS new (text, at)',
-                       (name, put.following, put.now, put.following, *(put.timed or (0, 0)), put.texts))
-        cursor.execute('UPDATE ezmlm.list SET next = %s WHERE name = %s', (following, name))
-        cursor.execute('SELECT pg_notify(%s, %s)', (CHANNEL, f'{following} {name}'))
+    def put(self, cursor: servers.Cursor, name: str, adds: Adds) -> tuple[list[int], int]:
+        """Puts items into the row. The answer is their numbers, as `add` has them, and the number that was the next one."""
+        asked = self.ask(cursor, name, adds)
+        (following,) = row_of(asked.next)
+        return self.add(cursor, name, adds, asked, Put(following, int(time.time()))), following
 
     def timed(self, cursor: servers.Cursor, name: str, before: int, put: Put) -> None:
         """Puts a timed run into the row, and what raises the floor: mails that came first before a moment can't come again, and are forgotten.
@@ -273,11 +287,11 @@ def raised(floor: int, number: int, moment: int) -> bytes:
     return program.item(b'F', number, moment, floor)
 
 
-def keep_handed(cursor: servers.Cursor, name: str, copies: Collection[tuple[int, bytes, bytes]]) -> None:
-    """Notes copies that were handed on."""
+def keep_handed(cursor: servers.Cursor, copies: Collection[tuple[str, int, bytes, bytes]]) -> None:
+    """Notes copies that were handed on, each with its list's name."""
     if copies:
-        cursor.execute('INSERT INTO ezmlm.handed SELECT %s, entry, mark, recipients FROM unnest(%s::bigint[], %s::bytea[], %s::bytea[]) '
-                       'AS new (entry, mark, recipients)', (name, *map(list, zip(*copies))))
+        cursor.execute('INSERT INTO ezmlm.handed SELECT * FROM unnest(%s::text[], %s::bigint[], %s::bytea[], %s::bytea[])',
+                       tuple(map(list, zip(*copies))))
 
 
 def make_each(cursor: servers.Cursor, statement: LiteralString, rows: Sequence[Sequence[Any]]) -> None:
@@ -285,7 +299,7 @@ def make_each(cursor: servers.Cursor, statement: LiteralString, rows: Sequence[S
     cursor.executemany(statement, rows)
 
 
-def row_of(cursor: 'servers.Cursor | psycopg.Cursor[tuple[Any, ...]]') -> tuple[Any, ...]:
+def row_of(cursor: 'servers.Cursor | servers.Answer') -> tuple[Any, ...]:
     """The one row of an answer. Where there is none the list has no history."""
     row = cursor.fetchone()
     if row is None:

@@ -16,6 +16,7 @@ from . import aside, wire
 
 Result = TypeVar('Result')
 Connection: TypeAlias = 'psycopg.Connection[tuple[Any, ...]]'
+Answer: TypeAlias = 'psycopg.Cursor[tuple[Any, ...]]'
 Notice: TypeAlias = 'psycopg.errors.Diagnostic'
 MOST = 4      # connections for calls, at once
 SKEW = 60     # seconds by which the clocks of a host and of the servers may differ
@@ -134,9 +135,9 @@ class Cursor:
 
     def __init__(self, connection: Connection) -> None:
         self.connection = connection
-        self.last: 'psycopg.Cursor[tuple[Any, ...]]' = connection.cursor(binary=True)
+        self.last: Answer = connection.cursor(binary=True)
 
-    def execute(self, query: LiteralString, words: Sequence[Any] | None = None) -> 'psycopg.Cursor[tuple[Any, ...]]':
+    def execute(self, query: LiteralString, words: Sequence[Any] | None = None) -> Answer:
         self.last = self.connection.cursor(binary=True)
         return self.last.execute(query, words)
 
