@@ -52,8 +52,7 @@ class MailingList:
 
     def wait_for_hour(self) -> None:
         """A timed run is due each hour, at a second that is the list's own: so those of many lists don't come at once."""
-        seconds = (own_second(self.folder.name) - time.time()) % HOUR
-        self.hour = asyncio.get_running_loop().call_later(seconds or HOUR, self.strike)
+        self.hour = asyncio.get_running_loop().call_later((own_second(self.folder.name) - time.time()) % HOUR or HOUR, self.strike)
 
     def strike(self) -> None:
         self.is_due = True
@@ -161,11 +160,13 @@ class MailingList:
         except Exception as error:
             await self.fail(batch, error)
 
-    async def serve(self, batch: list[mails.Mail]) -> None:  # Gives the list these mails, and what else it is to be told.
+    async def serve(self, batch: list[mails.Mail]) -> None:
+        """Gives the list these mails, and what else it is to be told."""
         opened = await self.begin()
         await self.give(opened, [mail for mail in batch if mail.is_wanted()])
 
-    def report(self) -> None:  # An entry was handed on.
+    def report(self) -> None:
+        """An entry was handed on, of which the list is to be told."""
         self.wake.set()
 
     def copies(self) -> notes.Copies | None:
@@ -177,8 +178,7 @@ class MailingList:
         return await self.threads.call('folder', call, *words)
 
     async def begin(self) -> notes.Notes:
-        """The list's notes, which it opens at first; no number is drawn that the list has answered. The program isn't run where there is no
-        list."""
+        """The list's notes, which it opens at first. No number is drawn that the list has answered, and the program isn't run without a list."""
         if (address := await self.free()) is None:
             raise retrying.Refused('there is no list')
         if self.notes is None:
@@ -234,9 +234,7 @@ class MailingList:
         """Items of the mails that came while a run goes, for a second at most."""
         if not self.waiting:
             await asyncio.sleep(GATHERING[0])
-        if self.stopping or self.load.is_full():
-            return []
-        return await self.joining(opened)
+        return [] if self.stopping or self.load.is_full() else await self.joining(opened)
 
     async def joining(self, opened: notes.Notes) -> list[program.Item]:
         """Items of the mails that came meanwhile."""
