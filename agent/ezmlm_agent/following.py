@@ -12,6 +12,7 @@ from . import comparing, folder, handed, history, leading, mailing, mails, notes
 
 log = logging.getLogger('ezmlm-agent')
 REPORTS, RESTS = 0.5, 2  # seconds for which reports, and where this host stands, wait for mail
+AGAIN = 1  # seconds until servers are asked again that couldn't be reached, while mail waits
 
 
 @dataclasses.dataclass(frozen=True)
@@ -114,22 +115,24 @@ class SharedList(mailing.MailingList):
 
     def wake_later(self, seconds: float) -> None:
         """Has the history told soon what there is to tell, though no mail comes."""
-        at = asyncio.get_running_loop().time() + seconds
-        if self.soon is None or self.soon.when() > at:
+        loop = asyncio.get_running_loop()
+        if self.soon is None or not loop.time() < self.soon.when() <= loop.time() + seconds:
             if self.soon is not None:
                 self.soon.cancel()
-            self.soon = asyncio.get_running_loop().call_at(at, self.wake_now)
-
-    def wake_now(self) -> None:
-        self.soon = None
-        self.wake.set()
+            self.soon = loop.call_later(seconds, self.wake.set)
 
     def report(self) -> None:
         self.wake_later(REPORTS)
 
     async def fail(self, batch: list[mails.Mail], error: Exception) -> None:
+        """While no server can be reached mail waits as long as its patience lasts: another one may take the place of the first."""
         self.lead.want(self.name, False)
+        if is_waited_for := is_lost(error) and not self.stopping:
+            self.waiting.extendleft(mail for mail in reversed(batch) if mail.is_wanted())
+            batch = []
         await super().fail(batch, error)
+        if is_waited_for and self.waiting:
+            await asyncio.sleep(AGAIN)
 
     # This host's copy.
 
@@ -301,6 +304,12 @@ class SharedList(mailing.MailingList):
         answers, self.answers = self.answers, []
         if answers:
             await self.past.answer(self.name, answers)
+
+
+def is_lost(error: BaseException | None) -> bool:
+    """Whether an error says that no server can be reached. One that can be, and isn't as it has to be, is another thing."""
+    error = error.__cause__ if isinstance(error, retrying.Refused) else error
+    return isinstance(error, servers.Lost) and not isinstance(error, servers.Unfit)
 
 
 def spelled(mail: mails.Mail, number: int, moment: int) -> bytes:

@@ -90,13 +90,14 @@ def case_shared_servers(world):
             return
         for each in hosts:
             each.begin()
-        taken, stop = {}, threading.Event()
+        taken, put_off, stop = {}, [], threading.Event()
 
         def posts(at):
             n = 1000 * at
             while not stop.is_set():
                 n += 1
                 while not (reply := hosts[at].post(n) or '').startswith('250'):
+                    put_off.append(reply)
                     time.sleep(0.1)
                 taken[n] = reply
         threads = [threading.Thread(target=posts, args=[at]) for at in range(2)]
@@ -110,6 +111,7 @@ def case_shared_servers(world):
         stop.set()
         for thread in threads:
             thread.join()
+        same(put_off, [], 'replies to mail that had to be given again')
         same(len(set(taken.values())), len(taken), 'numbers of posts')
         check(until(lambda: len({copy[1:] for copy in world.sink.copies}) == 3 * len(taken)), 'copies are missing')
         check(are_the_same(hosts), 'the copies differ')
