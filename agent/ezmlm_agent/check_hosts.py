@@ -3,7 +3,7 @@
 import asyncio
 import pathlib
 
-from . import check, folder, following, history, notes, servers, settings, wire
+from . import check, folder, history, notes, servers, settings, states, wire
 
 
 async def faults(chosen: settings.Settings, addresses: 'check.Addresses') -> list[str]:
@@ -42,11 +42,11 @@ def kept_by(chosen: settings.Settings) -> str:
     return 'it is on one server alone, as standby = none says' if chosen.standby == 'none' else 'what is in it is on more than one server'
 
 
-def settled_state(path: pathlib.Path) -> following.State:
-    return folder.settled(path, following.state_of)
+def settled_state(path: pathlib.Path) -> states.State:
+    return folder.settled(path, states.state_of)
 
 
-async def copy_of(path: pathlib.Path) -> following.State | str:
+async def copy_of(path: pathlib.Path) -> states.State | str:
     """What this host's copy is, or why that can't be told."""
     for _ in range(check.TRIES):
         try:
@@ -58,7 +58,7 @@ async def copy_of(path: pathlib.Path) -> following.State | str:
     return f'{check.shown(path)}: another run has it, or its log isn\'t empty, so it isn\'t told whether the history has what it wants'
 
 
-def copy(name: str, address: notes.Address, state: following.State, other: notes.Address, kept: range) -> list[str]:
+def copy(name: str, address: notes.Address, state: states.State, other: notes.Address, kept: range) -> list[str]:
     """What is wrong with a copy beside the history, and what is good about it."""
     if other != address:
         return [f'{name}: its history is the one of the list {wire.shown(b"@".join(other))}']
@@ -71,7 +71,7 @@ def copy(name: str, address: notes.Address, state: following.State, other: notes
     return []
 
 
-def configured(name: str, state: following.State, rows: list[tuple[int, bytes]]) -> list[str]:
+def configured(name: str, state: states.State, rows: list[tuple[int, bytes]]) -> list[str]:
     """What is wrong with a copy's configuration: it is the one that holds at its place, or the former one if that begins there."""
     at, config = rows[0] if rows else (0, state.config)
     if state.config == config or at == state.place and state.config in [text for _, text in rows[1:]]:

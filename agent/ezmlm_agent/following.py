@@ -1,33 +1,17 @@
 """A list that several hosts have: each gives its own copy what the list's history has, and one of them hands on what it sends."""
 
 import asyncio
-import dataclasses
 import functools
-import hashlib
 import logging
 import pathlib
 import time
 
-from . import comparing, folder, handed, history, leading, mailing, mails, notes, program, retrying, rows, servers, trouble
+from . import comparing, folder, handed, history, leading, mailing, mails, notes, program, retrying, rows, servers, states, trouble
 
 log = logging.getLogger('ezmlm-agent')
+FOLLOWS = 0.5  # seconds for which items that another host put in, and hands on, wait for further ones
 REPORTS, RESTS = 0.5, 2  # seconds for which reports, and where this host stands, wait for mail
 AGAIN = 1  # seconds until servers are asked again that couldn't be reached, while mail waits
-
-
-@dataclasses.dataclass(frozen=True)
-class State:
-    """What a copy of a list is: the number of the first item that it hasn't answered, its floor, its configuration, and a hash of its keys."""
-    place: int
-    floor: int
-    config: bytes
-    key: bytes
-
-
-def state_of(path: pathlib.Path) -> State:
-    """Reads a list's folder, while nothing else has it."""
-    key = hashlib.sha256(folder.bytes_or_none(path / 'key') or b'').digest()
-    return State(max(notes.FIRST, folder.behind_answers(path)), folder.floor(path), folder.bytes_or_none(path / 'config') or b'', key)
 
 
 class SharedList(mailing.MailingList):
@@ -58,10 +42,26 @@ class SharedList(mailing.MailingList):
 
     def hear(self, number: int) -> None:
         """The next item of the history has this number; or, with 0, this host begins or ends to hand on, or a host has looked at its copy."""
-        if number == 0 or number > self.next and not self.is_asking:
+        if number == 0:
             self.wake.set()
+        elif number > self.next and not self.is_asking:
+            self.wake_soon()
         self.next = max(self.next, number)
         self.is_judging = self.is_judging or number == 0
+
+    def lags(self) -> bool:
+        """Whether the history has more than one run is given at once."""
+        return self.next - self.place >= mails.MOST_MAILS
+
+    def is_in_no_hurry(self) -> bool:
+        """Whether nobody waits for what this host's list does with the next items: it has no mail, and another host hands on."""
+        return not self.waiting and not self.lags() and self.lead.term(self.name) is None
+
+    def wake_soon(self) -> None:
+        if self.is_in_no_hurry():
+            self.wake_later(FOLLOWS)
+        else:
+            self.wake.set()
 
     async def stop(self) -> None:
         await super().stop()
@@ -76,7 +76,7 @@ class SharedList(mailing.MailingList):
     async def serve(self, batch: list[mails.Mail]) -> None:
         try:
             await self.proceed([mail for mail in batch if mail.is_wanted()])
-            while self.next > self.place and self.health.cause is None and not self.waiting and not self.stopping:
+            while self.lags() and self.health.cause is None and not self.waiting and not self.stopping:
                 await self.proceed([])
         except servers.Unfit as error:
             self.is_taken_up = False
@@ -90,7 +90,7 @@ class SharedList(mailing.MailingList):
     async def proceed(self, batch: list[mails.Mail]) -> None:
         """Puts mails and what else there is into the history, and gives the list what the history has."""
         opened = await self.begin()
-        state = await self.reading(state_of)
+        state = await self.reading(states.state_of)
         self.place = state.place
         if not self.is_taken_up:
             await self.take_up(opened, state)
@@ -109,7 +109,7 @@ class SharedList(mailing.MailingList):
             await self.look(self.place, self.looks_after.back or rows.WHOLE)
         self.lead.want(self.name, self.health.cause is None)
         if self.next > self.place and self.health.cause is None:
-            self.wake.set()
+            self.wake_soon()
         elif self.place > state.place:  # The history learns where this host stands when nothing else comes.
             self.wake_later(RESTS)
 
@@ -136,7 +136,7 @@ class SharedList(mailing.MailingList):
 
     # This host's copy.
 
-    async def take_up(self, opened: notes.Notes, state: State) -> None:
+    async def take_up(self, opened: notes.Notes, state: states.State) -> None:
         """Takes the list up, with the mails and copies that this host alone knew where it has no history yet."""
         address = await self.aside(folder.address, self.folder)
         assert address
@@ -179,7 +179,7 @@ class SharedList(mailing.MailingList):
         except Exception as error:  # Whatever it is, the next look is soon.
             log.error('%s: the copy can\'t be compared: %s: %s', self.name, type(error).__name__, error)
 
-    async def look_at(self, state: State) -> None:
+    async def look_at(self, state: states.State) -> None:
         """Looks whether the configuration and the keys are those that the history has made, and lays in a configuration that begins here."""
         if self.key not in (None, state.key):
             raise retrying.Refused('the key', trouble.Cause('its key was changed by hand on this host', self.folder / 'key', 'put the file of '
@@ -286,7 +286,7 @@ class SharedList(mailing.MailingList):
         """What came into the history while a run goes, and mails that came meanwhile, which are put into it, for a second at most."""
         if not self.waiting and self.next <= self.place:
             await asyncio.sleep(mailing.GATHERING[0])
-        if self.stopping or self.load.is_full() or not self.waiting and self.next <= self.place:
+        if self.stopping or self.load.is_full() or not self.waiting and (self.next <= self.place or self.is_in_no_hurry()):
             return []
         batch = mails.first_of(self.waiting)
         try:
