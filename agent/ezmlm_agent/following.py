@@ -11,7 +11,7 @@ from . import comparing, folder, handed, history, leading, mailing, mails, notes
 log = logging.getLogger('ezmlm-agent')
 FOLLOWS = 0.5  # seconds for which items that another host put in, and hands on, wait for further ones
 REPORTS, RESTS = 0.5, 2  # seconds for which reports, and where this host stands, wait for mail
-AGAIN = 1  # seconds until servers are asked again that couldn't be reached, while mail waits
+AGAIN = 0.25  # seconds until servers are asked again that couldn't be reached, while mail waits
 
 
 class SharedList(mailing.MailingList):

@@ -127,6 +127,55 @@ def case_history_forgets(world):
         asyncio.run(ask())
 
 
+def case_history_confirmed(world):
+    """Nothing is told before a second server has it on its disk, be it put in now, or read: not what another host put in either."""
+    with histories(world, many=3, standby='quorum', takeover=2) as (those, pasts):
+        if pasts is None:
+            return
+        from ezmlm_agent import servers as connections
+        one, two = pasts
+
+        async def ask():
+            for past in pasts:
+                await taken_up(past)
+            same(await told(one, 512, ['a']), ([512], 513, ['a 512']), 'a mail')
+            others = [server for server in those.all if server is not those.all[those.first]]
+            for server in others:
+                server.stop()
+            calls = told(one, 512, ['b']), told(two, 512), one.stands('cats'), two.hand('cats', [(3, b'm', b'u')]), one.lists()
+            same([type(found) for found in await asyncio.gather(*calls, return_exceptions=True)], 5 * [connections.Lost], 'while none confirms')
+            for server in others:
+                server.go_on()
+            same(await told(two, 512, ['b']), ([513], 514, ['a 512', 'b 513']), 'when they confirm again')
+        asyncio.run(ask())
+
+
+def case_history_apart(world):
+    """Of calls that go over one connection one that fails takes no other along, and leaves nothing of itself."""
+    with histories(world) as (those, pasts):
+        if pasts is None:
+            return
+        one, _ = pasts
+
+        async def ask():
+            await taken_up(one)
+
+            def fails(cursor):
+                cursor.execute('UPDATE ezmlm.list SET floor = 7')
+                raise ZeroDivisionError
+
+            def is_wrong(cursor):
+                cursor.execute('UPDATE ezmlm.list SET floor = 8')
+                cursor.execute('SELECT 1 / 0').fetchone()
+            calls = [call for n in range(8) for call in (told(one, 512, [f'{n}']), one.lines.call(fails), one.lines.call(is_wrong))]
+            found = await asyncio.gather(*calls, return_exceptions=True)
+            same(sorted(numbers[0] for numbers, *_ in found[::3]), list(range(512, 520)), 'numbers')
+            same([type(error) for error in found[1::3]], 8 * [ZeroDivisionError], 'errors of their own')
+            same([str(error) for error in found[2::3]], 8 * ['division by zero'], 'errors of the server')
+            same(those.sql('SELECT next, floor FROM ezmlm.list'), [(520, 1)], 'the list')
+        asyncio.run(ask())
+
+
 def case_history_of_a_lost_host(world):
     """A server asks a host that says nothing whether it is still there, also in the middle of a call, so that its locks go within `takeover`."""
     with histories(world) as (those, found):

@@ -25,8 +25,8 @@ AGENT = TOP / 'agent/ezmlm-agent'
 CLIENTS, AT_ONCE = 4, 5  # processes, and connections of each
 POSTS = {3: 500, 1000: 30}  # how many are measured, by the members of their list
 LISTS = 20
-MANY = 2_000  # posts whose history is measured
-TIMES = 3     # kills, each
+MANY = 10_000  # posts whose history is measured
+TIMES = 3     # measures of each rate, and kills, each
 Post = tuple[pathlib.Path, Mail]  # a host's socket, and what is given there
 BODY = 'x' * 70 + '\r\n'
 KEY = '0' * 63 + '1'
@@ -186,7 +186,7 @@ class Bench:
 
 
 def told(name: str, *values: object) -> None:
-    print(f'| {name} | ' + ' | '.join(f'{value:,.0f}' if isinstance(value, float) else str(value) for value in values) + ' |', flush=True)
+    print(f'| {name} | ' + ' | '.join(map(str, values)) + ' |', flush=True)
 
 
 def measured(program: pathlib.Path, place: pathlib.Path) -> int:
@@ -202,8 +202,9 @@ def measured(program: pathlib.Path, place: pathlib.Path) -> int:
             for members, posts in POSTS.items():
                 for lists in (1, LISTS):
                     name = f'posts a second to {members:,} members, {lists} list{"s" * (lists > 1)}'
-                    rates.setdefault(name, []).append(bench.rate(members, lists, posts))
-                    print(f'    {way}: {name}: {rates[name][-1]:.1f}, load {os.getloadavg()[0]:.0f}', flush=True)
+                    many_rates = [bench.rate(members, lists, posts) for _ in range(TIMES)]
+                    rates.setdefault(name, []).append(shown(many_rates, 0 if members < 100 else 1))
+                    print(f'    {way}: {name}: {rates[name][-1]}, load {os.getloadavg()[0]:.0f}', flush=True)
             found = bench.latencies()
             rates.setdefault('milliseconds until a post is taken: median, 99th of 100', []).append(
                 f'{1000 * statistics.median(found):.0f}, {1000 * found[len(found) * 99 // 100]:.0f}')
@@ -215,9 +216,9 @@ def measured(program: pathlib.Path, place: pathlib.Path) -> int:
         told('---', *('---' for _ in ways))
         for name, values in rates.items():
             told(name, *values)
-        told('seconds from the kill of the agent that hands on until the next copy', '', '', seconds(killed))
-        told('the same, when it is held, as when its machine stands still', '', '', seconds(held))
-        told('seconds from the kill of the first server until the next 250', '', '', seconds(answers))
+        told('seconds from the kill of the agent that hands on until the next copy', '', '', shown(killed))
+        told('the same, when it is held, as when its machine stands still', '', '', shown(held))
+        told('seconds from the kill of the first server until the next 250', '', '', shown(answers))
         bench.begin(1, True)
         bench.rate(3, 1, MANY)
         told(f'history of {MANY:,} posts', '', bench.size(), '')
@@ -232,5 +233,6 @@ def measured(program: pathlib.Path, place: pathlib.Path) -> int:
     return 0
 
 
-def seconds(found: list[float]) -> str:
-    return f'{statistics.median(found):.1f} ({min(found):.1f} to {max(found):.1f})'
+def shown(found: list[float], digits: int = 1) -> str:
+    """The median, and the least and the most."""
+    return f'{statistics.median(found):.{digits}f} ({min(found):.{digits}f} to {max(found):.{digits}f})'
