@@ -19,6 +19,7 @@ Connection: TypeAlias = 'psycopg.Connection[tuple[Any, ...]]'
 Answer: TypeAlias = 'psycopg.Cursor[tuple[Any, ...]]'
 Notice: TypeAlias = 'psycopg.errors.Diagnostic'
 MOST = 4      # connections for calls, at once
+SLOW = 1.0    # seconds after which a connection begins no further call before what it made is confirmed
 SKEW = 60     # seconds by which the clocks of a host and of the servers may differ
 OLDEST = 140000  # of PostgreSQL: idle_session_timeout came with 14
 FLUSHED = 'on', 'remote_apply'  # values of synchronous_commit by which a standby has what is committed on its disk
@@ -181,11 +182,12 @@ class Job:
 
 
 class Batch:
-    """Calls over one connection, in a thread. Each is a transaction of its own, which holds its locks for no longer than it takes. Behind the
-    last a commit over the same connection waits for the disks: by its answer all that was committed before is there for good."""
+    """Calls over one connection, in a thread. Each is a transaction of its own, which holds its locks for no longer than it takes. After the
+    last one a commit over the same connection waits for the disks: by its answer all that was committed before is there for good."""
 
     def __init__(self, lines: 'Lines', jobs: list[Job]) -> None:
         self.lines, self.jobs = lines, jobs
+        self.left: list[Job] = []  # that go over another connection, or later
         self.connection: Connection | None = None
         self.warning = ''
 
@@ -193,8 +195,7 @@ class Batch:
         connection = self.lines.taken(self.has)
         connection.add_notice_handler(self.noticed)
         try:
-            for job in self.jobs:
-                self.make(connection, job)
+            self.make_all(connection)
             connection.execute(CONFIRMED)
         except psycopg.Error as error:
             connection.close()
@@ -207,6 +208,15 @@ class Batch:
             connection.close()
             raise Lost(self.warning)
         self.lines.idle.append(connection)
+
+    def make_all(self, connection: Connection) -> None:
+        """Makes the calls. After one that takes long, as where another host has a list's row and stands still, the others aren't waited for."""
+        end = time.monotonic() + SLOW
+        for at, job in enumerate(self.jobs):
+            if at and time.monotonic() > end:
+                self.jobs, self.left = self.jobs[:at], self.jobs[at:]
+                break
+            self.make(connection, job)
 
     def make(self, connection: Connection, job: Job) -> None:
         """Makes a call. Where it alone fails the others go on."""
@@ -279,8 +289,9 @@ class Lines:
             batch.cut()
             self.servers.turn()
             self.close()
-        for job in jobs:
+        for job in batch.jobs:
             job.tell(error)
+        self.waiting = batch.left + self.waiting
 
     def taken(self, has: Callable[[Connection], object]) -> Connection:
         """A connection at which nothing came since it was used last, or a new one. `has` gets it as soon as it is there."""
