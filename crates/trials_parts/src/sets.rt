@@ -2,7 +2,9 @@
 use crate::asked::NoAnswer;
 use crate::parts::{Parts, push_number};
 use crate::program::Calls;
-use ml_base::{Address, Bytes, Files, Layer, Name, Put, Set, Txn, is_below, split_first};
+use ml_base::{
+    Address, Bytes, Files, FilesError, Layer, Name, Put, Set, Txn, is_below, split_first,
+};
 use ml_subs::{
     AddAnswer, Checked, Member, add, add_with_memo, all, audit, bucket, find, member, members,
     remove, remove_with_memo, size,
@@ -96,14 +98,9 @@ fn change(
     }
 }
 
-// Adds the text of a file, or `-` if it is absent, with `|` behind it.
-fn push_file(
-    alloc: Global,
-    laid: &mut Layer<Parts>,
-    name: Name,
-    out: &mut Bytes,
-) -> Result<(), NoAnswer> {
-    match laid.get(alloc, name) {
+// Adds the text that was found of a file, or `-` if it is absent, with `|` after it.
+fn push_found(found: Result<Option<Bytes>, FilesError>, out: &mut Bytes) -> Result<(), NoAnswer> {
+    match found {
         Ok(Some(bytes)) => out.extend(bytes.as_slice())?,
         Ok(None) => out.push(b'-')?,
         Err(error) => return Err(NoAnswer::Part(error.into())),
@@ -115,8 +112,8 @@ fn push_file(
 // Adds the bucket of `a@b` and the count as they are, over files that stand for a list.
 fn push_files(alloc: Global, laid: &mut Layer<Parts>, out: &mut Bytes) -> Result<(), NoAnswer> {
     audit(alloc, laid)?;
-    push_file(alloc, laid, BUCKET, out)?;
-    push_file(alloc, laid, COUNT, out)
+    push_found(laid.get(alloc, BUCKET), out)?;
+    push_found(laid.get(alloc, COUNT), out)
 }
 
 // Adds the bucket of `a@b` and the count as they are once these puts are laid over the files, which then stand for a list. The files stay as
