@@ -71,7 +71,7 @@ archive/threads/161 x => 30 75 archive/threads/161
 floor x => 30 75 floor
 ";
 
-// The items: which of these files each reads, and what it is answered and changes on the sound list.
+// The items: which of these files each reads, and in the next line what it is answered and changes on the sound list.
 const ITEMS: &str = r"reads log config floor done/0 subscribers/] counts/list
 input A2:30,10:1000000200,4:list,3:a@5, | run spool => 0 30 0 subscribed\n | gets subscribers/] layout 2\nTa@5\01000000200\0Ta@b\01000000000\0 | gets counts/list 4\n | gets done/0 {before}\x04{1..8:\0}{after}
 reads log config floor done/0 subscribers/] counts/list bounce/]
@@ -123,17 +123,19 @@ fn table_of(alloc: Global, reads: &str, row: &str) -> Result<String, Fail> {
     Ok(table)
 }
 
+// Tries an item on the sound list, and on one of which each file is damaged in turn.
+fn hold_item(alloc: Global, reads: &str, row: &str) -> Result<(), Fail> {
+    let (name, _) = row.split_once(" => ").unwrap_or((row, ""));
+    let table = table_of(alloc, reads, row)?;
+    hold::<Whole>(alloc, name, table.as_str())
+}
+
 #[test]
 fn a_damaged_file_harms_only_what_reads_it(rt: HostRuntime) -> Result<(), Fail> {
     let alloc = rt.alloc();
-    let mut reads = "";
-    for line in ITEMS.lines() {
-        if let Some(paths) = line.strip_prefix("reads ") {
-            reads = paths;
-        } else {
-            let (name, _) = line.split_once(" => ").unwrap_or((line, ""));
-            let table = table_of(alloc, reads, line)?;
-            hold::<Whole>(alloc, name, table.as_str())?;
+    for item in ITEMS.split("reads ") {
+        if let Some((reads, row)) = item.split_once('\n') {
+            hold_item(alloc, reads, row.strip_suffix('\n').unwrap_or(row))?;
         }
     }
     Ok(())
