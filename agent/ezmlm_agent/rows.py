@@ -61,7 +61,7 @@ class Adds:
 
 @dataclasses.dataclass
 class Put:
-    """Items that are put behind a number, until they are written."""
+    """Items that are put in from a number on, until they are written."""
     following: int
     now: int
     texts: list[bytes] = dataclasses.field(default_factory=list)
