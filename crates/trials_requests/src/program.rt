@@ -110,6 +110,51 @@ fn called(
     }
 }
 
+// Whether the first word makes a list, which is then in the image.
+fn made(alloc: Global, words: &[String], image: &mut Image) -> Result<bool, Fail> {
+    let verb = word(words, 0);
+    if verb == "new" {
+        image.log = Bytes::from_slice(alloc, LOG)?;
+        make(alloc, &mut image.files, NEW)?;
+    } else if verb == "bounced" {
+        make(alloc, &mut image.files, BOUNCED)?;
+    }
+    Ok(verb == "new" || verb == "bounced")
+}
+
+// The files after a call, and what it tells.
+fn called_on(
+    alloc: Global,
+    words: &[String],
+    files: OnSite,
+    now: u64,
+    message: &[u8],
+) -> Result<(OnSite, Told), Fail> {
+    if word(words, 0) == "timed" {
+        let config = configured(alloc, word(words, 1), "")?;
+        return timed_run(alloc, files, &config, now);
+    }
+    let mut files = files;
+    let told = called(alloc, words, &mut files, now, message)?;
+    Ok((files, told))
+}
+
+// How a call ends over this image, with its puts laid over the files.
+fn ended_by(
+    alloc: Global,
+    words: &[String],
+    site: MemSite,
+    image: Image,
+    now: u64,
+    message: &[u8],
+) -> Result<(u8, MemSite), Fail> {
+    let Image { log, files } = image;
+    let (files, (puts, text)) = called_on(alloc, words, OnSite { site, files }, now, message)?;
+    let OnSite { mut files, .. } = files;
+    lay(alloc, &mut files, &puts)?;
+    ended_with(alloc, 0, Image { log, files }, text.as_slice())
+}
+
 impl Program for Requests {
     fn ended(
         alloc: Global,
@@ -119,30 +164,12 @@ impl Program for Requests {
         clock: &mut MemClock,
     ) -> Result<(u8, MemSite), Fail> {
         let mut image = site.crash(alloc, 0, Fill::Old)?;
-        if word(words, 0) == "new" {
-            image.log = Bytes::from_slice(alloc, LOG)?;
-            make(alloc, &mut image.files, NEW)?;
-            return ended_with(alloc, 0, image, b"");
-        }
-        if word(words, 0) == "bounced" {
-            make(alloc, &mut image.files, BOUNCED)?;
+        if made(alloc, words, &mut image)? {
             return ended_with(alloc, 0, image, b"");
         }
         let message = read_whole(alloc, input)?;
-        let Image { log, files } = image;
-        let mut files = OnSite { site, files };
         let now = clock.now()?;
-        let (puts, text) = if word(words, 0) == "timed" {
-            let config = configured(alloc, word(words, 1), "")?;
-            let (left, answer) = timed_run(alloc, files, &config, now)?;
-            files = left;
-            answer
-        } else {
-            called(alloc, words, &mut files, now, message.as_slice())?
-        };
-        let OnSite { mut files, .. } = files;
-        lay(alloc, &mut files, &puts)?;
-        ended_with(alloc, 0, Image { log, files }, text.as_slice())
+        ended_by(alloc, words, site, image, now, message.as_slice())
     }
 }
 
