@@ -211,8 +211,8 @@ fn end_of(alloc: Global, stream: &[u8], answers: &Answers, start: &MemSite) -> R
     Ok(held(alloc, &plain)?)
 }
 
-fn trial_of(alloc: Global, make: &str, script: &str, most: usize) -> Result<Trial, Fail> {
-    let start = made_by(alloc, make)?;
+// The trial of the first items of a script on a list.
+fn trial_of(alloc: Global, start: MemSite, script: &str, most: usize) -> Result<Trial, Fail> {
     let mut stream = Bytes::new(alloc);
     let mut answers = Vec::new(alloc);
     read_script(alloc, script, most, &mut stream, &mut answers)?;
@@ -379,16 +379,8 @@ fn hold_failure(alloc: Global, trial: &Trial, call: u64) -> Result<(), Fail> {
 }
 
 // Fails where the next run doesn't make good a stop after so many calls, from FIRST on and before LAST or the end of the run, or a failure of
-// the call behind. It is an error that the run has no end before the room for calls is taken.
-fn hold_calls(
-    alloc: Global,
-    make: &str,
-    script: &str,
-    most: usize,
-    first: u64,
-    last: u64,
-) -> Result<(), Fail> {
-    let trial = trial_of(alloc, make, script, most)?;
+// the call after it. It is an error that the run has no end before the room for calls is taken.
+fn hold_calls(alloc: Global, trial: Trial, first: u64, last: u64) -> Result<(), Fail> {
     let mut left = Vec::new(alloc);
     for calls in first..last {
         if hold_stop(alloc, &trial, calls, &mut left)? {
@@ -402,9 +394,54 @@ fn hold_calls(
     Ok(())
 }
 
-// The same of so many first items of an exercise and the floor behind it.
+// The same of so many first items of an exercise and the floor after it.
 fn hold_exercise(alloc: Global, most: usize, first: u64, last: u64) -> Result<(), Fail> {
-    hold_calls(alloc, MAKE, EXERCISE, most, first, last)
+    let trial = trial_of(alloc, made_by(alloc, MAKE)?, EXERCISE, most)?;
+    hold_calls(alloc, trial, first, last)
+}
+
+// The same of all items of a script, on a list that these words make.
+fn hold_script(alloc: Global, make: &str, script: &str) -> Result<(), Fail> {
+    let trial = trial_of(alloc, made_by(alloc, make)?, script, 100)?;
+    hold_calls(alloc, trial, 0, CALLS)
+}
+
+// Files that no item of SETTINGS reads: an index, the number of posts, the mark of the digests, a held post, the counter of tickets, a file
+// of the digests' ledger, the counter of ids and a thread file.
+const UNREAD: [Name; 8] = [
+    Name { kind: 10, at: 0 },
+    Name { kind: 11, at: 0 },
+    Name { kind: 12, at: 0 },
+    Name { kind: 13, at: 1 },
+    Name { kind: 14, at: 0 },
+    Name { kind: 16, at: 5 },
+    Name { kind: 18, at: 0 },
+    Name { kind: 20, at: 161 },
+];
+
+// What these files have on a damaged list: no such file is spelled so.
+const DAMAGE: &[u8] = b"x";
+
+// The list with these files damaged.
+fn damaged(alloc: Global, start: &MemSite) -> Result<MemSite, AllocError> {
+    let mut image = held(alloc, start)?;
+    for name in UNREAD {
+        image.files.insert(name, Bytes::from_slice(alloc, DAMAGE)?)?;
+    }
+    site(alloc, image)
+}
+
+// Whether these files are as they were damaged.
+fn is_still_damaged(image: &Image) -> bool {
+    let mut same = true;
+    for name in UNREAD {
+        let there = match image.files.get(&name) {
+            Some(found) => found.as_slice() == DAMAGE,
+            None => false,
+        };
+        same = same && there;
+    }
+    same
 }
 
 #[test]
@@ -469,15 +506,26 @@ fn an_exercise_and_a_floor_are_made_good_from_call_500_on(rt: HostRuntime) -> Re
 
 #[test]
 fn settings_are_made_good(rt: HostRuntime) -> Result<(), Fail> {
-    hold_calls(rt.alloc(), MAKE, SETTINGS, 100, 0, CALLS)
+    hold_script(rt.alloc(), MAKE, SETTINGS)
+}
+
+#[test]
+fn settings_of_a_damaged_list_are_made_good(rt: HostRuntime) -> Result<(), Fail> {
+    let alloc = rt.alloc();
+    let start = damaged(alloc, &made_by(alloc, MAKE)?)?;
+    let trial = trial_of(alloc, start, SETTINGS, 100)?;
+    if !is_still_damaged(&trial.end) {
+        return Err(Fail::new("a file that no item reads is another"));
+    }
+    hold_calls(alloc, trial, 0, CALLS)
 }
 
 #[test]
 fn requests_are_made_good(rt: HostRuntime) -> Result<(), Fail> {
-    hold_calls(rt.alloc(), MAKE_MODERATED, REQUESTS, 100, 0, CALLS)
+    hold_script(rt.alloc(), MAKE_MODERATED, REQUESTS)
 }
 
 #[test]
 fn bounces_are_made_good(rt: HostRuntime) -> Result<(), Fail> {
-    hold_calls(rt.alloc(), MAKE, BOUNCES, 100, 0, CALLS)
+    hold_script(rt.alloc(), MAKE, BOUNCES)
 }
