@@ -3,7 +3,7 @@
 import asyncio
 import pathlib
 
-from . import check, folder, history, notes, servers, settings, states, wire
+from . import check, folder, history, lines, notes, servers, settings, states, wire
 
 
 async def faults(chosen: settings.Settings, addresses: 'check.Addresses') -> list[str]:
@@ -15,7 +15,7 @@ async def faults(chosen: settings.Settings, addresses: 'check.Addresses') -> lis
         for row in those.rows:
             host = str(row.get('hostaddr') or row.get('host') or '/')
             wrong += [] if host.startswith('/') else check.kept_away((host, int(row.get('port') or 5432)), 'history')
-        past = history.History(servers.Lines(those))
+        past = history.History(lines.Lines(those))
         if not await past.try_tables():
             print(f'history: {those.shown()} can be reached, and has no tables yet: the first agent makes them')
             return wrong

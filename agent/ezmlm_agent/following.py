@@ -6,7 +6,7 @@ import logging
 import pathlib
 import time
 
-from . import comparing, folder, handed, history, leading, mailing, mails, notes, program, retrying, rows, servers, states, trouble
+from . import comparing, folder, handed, history, leading, mailing, mails, notes, program, puts, retrying, servers, states, trouble
 
 log = logging.getLogger('ezmlm-agent')
 FOLLOWS = 0.5  # seconds for which items that another host put in, and hands on, wait for further ones
@@ -33,7 +33,7 @@ class SharedList(mailing.MailingList):
         self.answers: list[tuple[int, str]] = []  # of operators' items, until they are noted
         self.others: list[str] = []  # hosts of which the copy is another list than this one
         self.is_judging = True       # whether what the hosts saw may have changed
-        self.looks_after: rows.Row | None = None  # a timed run after which this copy is looked at
+        self.looks_after: puts.Row | None = None  # a timed run after which this copy is looked at
         self.looking: asyncio.Task[None] | None = None
 
     def start(self) -> None:
@@ -106,7 +106,7 @@ class SharedList(mailing.MailingList):
             await self.past.forget(self.name, self.load.stale)
         await self.note_answers()
         if self.looks_after is not None and self.place == self.looks_after.number + 1:
-            await self.look(self.place, self.looks_after.back or rows.WHOLE)
+            await self.look(self.place, self.looks_after.back or puts.WHOLE)
         self.lead.want(self.name, self.health.cause is None)
         if self.next > self.place and self.health.cause is None:
             self.wake_soon()
@@ -225,8 +225,9 @@ class SharedList(mailing.MailingList):
         left = frozenset(self.queue.left)
         is_timed = self.is_due and is_leading and not self.stopping
         keys = [mail.key() for mail in batch]
-        adds = rows.Adds([(key, functools.partial(spelled, mail)) for key, mail in zip(keys, batch)], sorted(sent),
-                         int(time.time()) - self.settings.keep_days * mailing.DAY if is_timed else None, left=left if is_leading else ())
+        adds = puts.Adds([(key, functools.partial(spelled, mail)) for key, mail in zip(keys, batch)], sorted(sent),
+                         int(time.time()) - self.settings.keep_days * mailing.DAY if is_timed else None, left=left if is_leading else (),
+                         size=sum(len(mail.message) for mail in batch))
         told = await self.asked(adds)
         self.reporting |= sent
         self.queue.left -= left
@@ -249,11 +250,11 @@ class SharedList(mailing.MailingList):
             return items
         return items + [program.Item(row.text, functools.partial(self.answered, row)) for row in behind]
 
-    async def asked(self, adds: rows.Adds) -> rows.Told:
+    async def asked(self, adds: puts.Adds) -> puts.Told:
         """What the history says. What it tells of meanwhile may be what is put in now, or what other hosts put in after it."""
         self.next, self.is_asking = 0, True
         try:
-            told = await self.past.proceed(self.name, self.place, self.key, adds, mails.MOST_MAILS, mails.MOST_BYTES)
+            told = await self.past.proceed(puts.Wish(self.name, self.place, self.key, adds, mails.MOST_MAILS, mails.MOST_BYTES))
             self.next = max(self.next, told.next)
             return told
         finally:
@@ -266,7 +267,7 @@ class SharedList(mailing.MailingList):
         return [program.Item(spelled(mail, number, int(time.time())), functools.partial(self.delivered, mail, key), mail.is_wanted)
                 for number, mail, key in again if mail.is_wanted()]
 
-    def answered(self, row: rows.Row, answer: program.Answer) -> None:
+    def answered(self, row: puts.Row, answer: program.Answer) -> None:
         """An item of the history has an answer, or why it has none."""
         if answer.is_answer:
             self.place = max(self.place, row.number + 1)

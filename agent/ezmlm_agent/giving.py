@@ -11,7 +11,7 @@ import tempfile
 import time
 from typing import BinaryIO
 
-from . import check, comparing, folder, history, items, mails, program, servers, settings, wire
+from . import check, comparing, folder, history, items, lines, mails, program, servers, settings, wire
 
 PIECE = 1 << 16
 WAITS, SLOWEST = 0.02, 0.5  # seconds between two looks for answers, at first and at most
@@ -33,7 +33,7 @@ def opened(chosen: settings.Settings) -> history.History:
     """The history that the settings name. It is Refused where they name none."""
     if not chosen.history:
         raise Refused('the settings name no history: by hand use the program itself', settings.WRONG)
-    return history.History(servers.Lines(servers.Servers(chosen.history, chosen.host, chosen.standby, chosen.takeover)))
+    return history.History(lines.Lines(servers.Servers(chosen.history, chosen.host, chosen.standby, chosen.takeover)))
 
 
 async def known(past: history.History, name: str) -> tuple[bytes, bytes]:

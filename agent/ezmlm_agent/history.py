@@ -1,6 +1,5 @@
 """All that is asked of the database that keeps the histories of lists."""
 
-import asyncio
 import hashlib
 import time
 from collections.abc import Collection, Sequence
@@ -8,43 +7,37 @@ from typing import Any
 
 import psycopg
 
-from . import comparing, notes, rows, servers, status
+from . import comparing, lines, notes, puts, rows, servers, status
 from .rows import make_each, one, row_of
 from .tables import TABLES, VERSION
 
-NOTINGS = 2  # transactions in which copies are noted, at once
 NOTHING = 10**15  # an entry of a queue that was never there, of which a report does nothing
+
 
 class History(rows.Rows):
     """The one class that knows SQL, with the part of it that has the items. Each call is one transaction, and its answer is on the disks of as
     many servers as these are told to keep it on."""
 
-    def __init__(self, lines: servers.Lines) -> None:
-        super().__init__(lines)
-        self.copies: list[tuple[str, int, bytes, bytes]] = []  # that wait to be noted
-        self.noting: asyncio.Task[None] | None = None  # notes them, when its turn comes
-        self.notings = asyncio.Semaphore(NOTINGS)
-
     def prepare(self, connection: servers.Connection) -> None:
         """Makes the tables where they are missing. It is Unfit if they are of a newer version, or can't be written."""
         try:
             with connection.transaction():
-                self.make_tables(servers.Cursor(connection))
+                self.make_tables(lines.Cursor(connection))
         except psycopg.errors.InsufficientPrivilege as error:
             raise servers.Unfit(f'the history can\'t be written: {servers.words_of(error)}') from error
 
-    def make_tables(self, cursor: servers.Cursor) -> None:
+    def make_tables(self, cursor: lines.Cursor) -> None:
         cursor.execute("SELECT pg_advisory_xact_lock(hashtext('ezmlm tables'))")
         if not self.has_tables(cursor):
             cursor.connection.execute(TABLES)
             cursor.execute('INSERT INTO version VALUES (%s)', (VERSION,))
         self.write_tables(cursor)
 
-    def has_tables(self, cursor: servers.Cursor) -> bool:
+    def has_tables(self, cursor: lines.Cursor) -> bool:
         cursor.execute("SELECT to_regclass('ezmlm.version')::text")
         return one(cursor) is not None
 
-    def write_tables(self, cursor: servers.Cursor) -> None:
+    def write_tables(self, cursor: lines.Cursor) -> None:
         """Changes nothing, so that it is seen whether the tables are of this version, and can be written."""
         cursor.execute('UPDATE ezmlm.version SET number = number RETURNING number')
         if (found := one(cursor)) != VERSION:
@@ -53,7 +46,7 @@ class History(rows.Rows):
 
     async def try_tables(self) -> bool:
         """Whether the tables are there. It is Unfit or Lost where they can't be written, or where no standby confirms what is."""
-        def look(cursor: servers.Cursor) -> bool:
+        def look(cursor: lines.Cursor) -> bool:
             if is_there := self.has_tables(cursor):
                 self.write_tables(cursor)
             return is_there
@@ -63,29 +56,29 @@ class History(rows.Rows):
 
     async def configurations(self, name: str, place: int) -> list[tuple[int, bytes]]:
         """The configuration that holds at a place, and the one that held before, with the numbers from which on they hold."""
-        def read(cursor: servers.Cursor) -> list[tuple[int, bytes]]:
+        def read(cursor: lines.Cursor) -> list[tuple[int, bytes]]:
             cursor.execute('SELECT number, text FROM ezmlm.configuration WHERE list = %s AND number <= %s ORDER BY number DESC LIMIT 2', (name, place))
             return [(number, text) for number, text in cursor.fetchall()]
         return await self.lines.call(read)
 
     async def configure(self, name: str, text: bytes) -> None:
         """Has a configuration hold from the next item on, and puts an item there that does nothing: so each host comes to lay it in."""
-        def configure(cursor: servers.Cursor) -> None:
-            _, following = self.put(cursor, name, rows.Adds(sent=[NOTHING]))
+        def configure(cursor: lines.Cursor) -> None:
+            _, following = self.put(cursor, name, puts.Adds(sent=[NOTHING]))
             cursor.execute('INSERT INTO ezmlm.configuration VALUES (%s, %s, %s)', (name, following, text))
         await self.lines.call(configure)
 
     # Operators.
 
-    async def give(self, name: str, given: Sequence[tuple[int, rows.Spell]]) -> list[int]:
+    async def give(self, name: str, given: Sequence[tuple[int, puts.Spell]]) -> list[int]:
         """Puts an operator's items into the row, by his numbers. The answer is the numbers that they have there."""
-        def give(cursor: servers.Cursor) -> list[int]:
-            return self.put(cursor, name, rows.Adds(given=given))[0]
+        def give(cursor: lines.Cursor) -> list[int]:
+            return self.put(cursor, name, puts.Adds(given=given))[0]
         return await self.lines.call(give)
 
     async def answers(self, name: str, numbers: Sequence[int]) -> dict[int, str]:
         """What the list answered to items of operators, as far as it did. One that was removed before its answer was noted is `stale`."""
-        def read(cursor: servers.Cursor) -> dict[int, str]:
+        def read(cursor: lines.Cursor) -> dict[int, str]:
             cursor.execute("SELECT g.number, CASE WHEN g.answer IS NULL THEN '100 stale' ELSE g.answer END FROM ezmlm.given g JOIN ezmlm.list l ON "
                            'l.name = g.list WHERE g.list = %s AND g.number = ANY(%s) AND (g.answer IS NOT NULL OR g.number < l.first)',
                            (name, list(numbers)))
@@ -94,14 +87,14 @@ class History(rows.Rows):
 
     async def lists(self) -> dict[str, tuple[notes.Address, range]]:
         """The lists that have a history, by their folders' names: their addresses, and the numbers of the items that are kept."""
-        def read(cursor: servers.Cursor) -> dict[str, tuple[notes.Address, range]]:
+        def read(cursor: lines.Cursor) -> dict[str, tuple[notes.Address, range]]:
             cursor.execute('SELECT name, local, host, first, next FROM ezmlm.list ORDER BY name')
             return {name: ((local, host), range(first, following)) for name, local, host, first, following in cursor.fetchall()}
         return await self.lines.call(read)
 
     async def forget_host(self, host: str) -> int | None:
         """Forgets a host that is gone for good. The answer is how many lists it had, or None where an agent of it runs."""
-        def forget(cursor: servers.Cursor) -> int | None:
+        def forget(cursor: lines.Cursor) -> int | None:
             cursor.execute('SELECT pg_try_advisory_xact_lock(%s)', (key_of(f'host {host}'),))
             if not one(cursor):
                 return None
@@ -114,7 +107,7 @@ class History(rows.Rows):
 
     async def look(self, name: str, place: int, back: int, digest: bytes) -> None:
         """Notes what this host's copy is at a place, and has all hosts compare."""
-        def note(cursor: servers.Cursor) -> None:
+        def note(cursor: lines.Cursor) -> None:
             cursor.execute('INSERT INTO ezmlm.digest VALUES (%s, %s, %s, %s, %s, %s) ON CONFLICT (list, place, host) DO UPDATE SET '
                            'back = excluded.back, digest = excluded.digest, moment = excluded.moment',
                            (name, place, self.host, back, digest, int(time.time())))
@@ -123,7 +116,7 @@ class History(rows.Rows):
 
     async def seen(self, name: str) -> list[comparing.Seen]:
         """What the hosts saw of a list."""
-        def read(cursor: servers.Cursor) -> list[comparing.Seen]:
+        def read(cursor: lines.Cursor) -> list[comparing.Seen]:
             cursor.execute('SELECT place, host, back, digest, moment FROM ezmlm.digest WHERE list = %s', (name,))
             return [comparing.Seen(*row) for row in cursor.fetchall()]
         return await self.lines.call(read)
@@ -136,26 +129,19 @@ class History(rows.Rows):
 
     async def handed(self, name: str) -> list[tuple[int, bytes, bytes]]:
         """The copies of the entries of a list's queue that were handed on, by whichever host."""
-        def read(cursor: servers.Cursor) -> list[tuple[int, bytes, bytes]]:
+        def read(cursor: lines.Cursor) -> list[tuple[int, bytes, bytes]]:
             cursor.execute('SELECT entry, mark, recipients FROM ezmlm.handed WHERE list = %s', (name,))
             return [(entry, mark, recipients) for entry, mark, recipients in cursor.fetchall()]
         return await self.lines.call(read)
 
     async def hand(self, name: str, copies: rows.Handed) -> None:
-        """Notes copies that were handed on. What is to be noted of all lists while some is on its way goes together."""
-        self.copies += [(name, *row) for row in copies]
-        if self.noting is None:
-            self.noting = asyncio.create_task(self.note_copies())
-        await asyncio.shield(self.noting)
-
-    async def note_copies(self) -> None:
-        async with self.notings:
-            copies, self.copies, self.noting = self.copies, [], None
-            await self.lines.call(rows.keep_handed, copies)
+        """Notes copies that were handed on."""
+        those = [(name, *row) for row in copies]
+        await self.lines.join(rows.keep_all_handed, those, object(), 0)
 
     async def stands(self, name: str) -> tuple[int, int]:
         """The number that the next item gets, and when the last timed run was put into the history."""
-        def read(cursor: servers.Cursor) -> tuple[int, int]:
+        def read(cursor: lines.Cursor) -> tuple[int, int]:
             following, timed = row_of(cursor.execute('SELECT next, timed FROM ezmlm.list WHERE name = %s', (name,)))
             return following, timed
         return await self.lines.call(read)
@@ -164,7 +150,7 @@ class History(rows.Rows):
         """How the lists stand on all hosts, without their queues."""
         return await self.lines.call(self.stood)
 
-    def stood(self, cursor: servers.Cursor) -> list[status.Standing]:
+    def stood(self, cursor: lines.Cursor) -> list[status.Standing]:
         cursor.execute("SELECT (k.classid::bigint << 32) | k.objid::bigint, a.application_name FROM pg_locks k JOIN pg_stat_activity a USING (pid) "
                        "WHERE k.locktype = 'advisory' AND k.granted AND k.objsubid = 1 AND a.datname = current_database()")
         holders = {key: str(name).removeprefix('ezmlm-agent ') for key, name in cursor.fetchall()}

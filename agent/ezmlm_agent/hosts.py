@@ -6,7 +6,7 @@ import pathlib
 import time
 from collections.abc import Callable, Iterable
 
-from . import following, history, leading, mailing, mails, servers, settings
+from . import following, history, leading, lines, mailing, mails, servers, settings
 
 log = logging.getLogger('ezmlm-agent')
 HOUR = 3600
@@ -20,7 +20,7 @@ class Hosts:
         self.servers = servers.Servers(chosen.history, chosen.host, chosen.standby, chosen.takeover)
         self.servers.said = self.say
         self.said = float('-inf')  # when the last thing was said that is odd
-        self.past = history.History(servers.Lines(self.servers))
+        self.past = history.History(lines.Lines(self.servers))
         self.lists = lists
         self.lead = leading.Leading(self.past, self.told)
 

@@ -7,107 +7,60 @@ some place of the row. A list's place is the number of the first item that it ha
 
 import dataclasses
 import functools
-import itertools
 import time
-from collections.abc import Callable, Collection, Iterable, Mapping, Sequence
+from collections.abc import Collection, Iterable, Mapping, Sequence
 from typing import Any, LiteralString
 
-from . import notes, program, servers
+from . import lines, notes, program, puts, servers
 
 CHANNEL = 'ezmlm'
 STEP = 512_000  # by which the floor may rise at once
-STATE = '''SELECT l.next, h.place, (SELECT max(number) FROM ezmlm.configuration WHERE list = l.name AND number <= %s),
-        (SELECT min(number) FROM ezmlm.configuration WHERE list = l.name AND number > %s),
-        EXISTS (SELECT FROM ezmlm.given WHERE list = l.name AND answer IS NULL AND number < %s)
-    FROM ezmlm.list l LEFT JOIN ezmlm.host h ON h.list = l.name AND h.host = %s WHERE l.name = %s'''
+# Each of these is asked for many lists at once, by columns of words.
+STATES = '''SELECT l.name, l.next, l.first, h.place, (SELECT max(number) FROM ezmlm.configuration WHERE list = l.name AND number <= w.place),
+        (SELECT min(number) FROM ezmlm.configuration WHERE list = l.name AND number > w.place),
+        EXISTS (SELECT FROM ezmlm.given WHERE list = l.name AND answer IS NULL AND number < w.place)
+    FROM unnest(%s::text[], %s::bigint[]) AS w (name, place) JOIN ezmlm.list l ON l.name = w.name
+        LEFT JOIN ezmlm.host h ON h.list = l.name AND h.host = %s'''
+MAILS = '''SELECT list, key, number FROM (SELECT list, key, (SELECT number FROM ezmlm.mail m WHERE m.list = w.list AND m.key = w.key) AS number
+    FROM unnest(%s::text[], %s::bytea[]) AS w (list, key)) AS found WHERE number IS NOT NULL'''
+GIVEN = 'SELECT list, theirs, number FROM ezmlm.given JOIN unnest(%s::text[], %s::bigint[]) AS w (list, theirs) USING (list, theirs)'
 # One statement that puts items in, with the keys of mails, and has all hosts hear of them.
-PUT = '''WITH given AS (SELECT %s::bigint AS first, %s::bigint AS now, %s::text AS name, %s::bytea[] AS texts, %s::bytea[] AS keys, %s::bigint[] AS numbers,
-            %s::bigint AS timed, %s::bigint AS back),
-        items AS (INSERT INTO ezmlm.item SELECT name, first + at - 1, now, CASE WHEN first + at - 1 = timed THEN back END, text
-            FROM given, unnest(texts) WITH ORDINALITY AS new (text, at)),
-        mails AS (INSERT INTO ezmlm.mail SELECT name, key, number, now FROM given, unnest(keys, numbers) AS new (key, number)),
-        lists AS (UPDATE ezmlm.list l SET next = given.first + cardinality(texts) FROM given WHERE l.name = given.name)
-    SELECT pg_notify(%s, first + cardinality(texts) || ' ' || name) FROM given'''
-MAILS = 'SELECT key, number FROM ezmlm.mail WHERE list = %s AND key = ANY(%s)'
-GIVEN = 'SELECT theirs, number FROM ezmlm.given WHERE list = %s AND theirs = ANY(%s)'
+PUT = '''WITH items AS (INSERT INTO ezmlm.item (list, number, first, text) SELECT list, number, %s, text
+            FROM unnest(%s::text[], %s::bigint[], %s::bytea[]) AS new (list, number, text)),
+        mails AS (INSERT INTO ezmlm.mail (list, key, number, first) SELECT list, key, number, %s
+            FROM unnest(%s::text[], %s::bytea[], %s::bigint[]) AS new (list, key, number)),
+        lists AS (UPDATE ezmlm.list l SET next = new.next FROM unnest(%s::text[], %s::bigint[]) AS new (name, next) WHERE l.name = new.name)
+    SELECT pg_notify(%s, next || ' ' || name) FROM unnest(%s::text[], %s::bigint[]) AS new (name, next)'''
+STANDS = '''UPDATE ezmlm.host h SET place = w.place, seen = %s, key = coalesce(w.key, h.key)
+    FROM unnest(%s::text[], %s::bigint[], %s::bytea[]) AS w (list, place, key) WHERE h.list = w.list AND h.host = %s'''
+LEFT = 'DELETE FROM ezmlm.handed h USING unnest(%s::text[], %s::bigint[]) AS w (list, entry) WHERE h.list = w.list AND h.entry = w.entry'
+# Items from a place on and below a bound, of so many bytes for each list, and one at least.
+ROWS = '''SELECT w.list, r.number, r.text, r.back, g.number IS NOT NULL FROM unnest(%s::text[], %s::bigint[], %s::bigint[], %s::bigint[])
+        AS w (list, place, bound, size) CROSS JOIN LATERAL (SELECT number, text, back, sum(length(text)) OVER (ORDER BY number) AS sum
+            FROM ezmlm.item WHERE list = w.list AND number >= w.place AND number < w.bound) AS r
+        LEFT JOIN ezmlm.given g ON g.list = w.list AND g.number = r.number AND g.answer IS NULL
+    WHERE r.sum <= w.size OR r.number = w.place ORDER BY w.list, r.number'''
+AGAIN = '''SELECT number, text, back, true FROM (SELECT i.number, i.text, i.back, sum(length(i.text)) OVER (ORDER BY i.number) AS sum,
+        row_number() OVER (ORDER BY i.number) AS at FROM ezmlm.item i JOIN ezmlm.given g USING (list, number)
+        WHERE g.list = %s AND g.answer IS NULL AND g.number < %s ORDER BY i.number LIMIT %s) AS r WHERE sum <= %s OR at = 1 ORDER BY number'''
 DAY = 86400
-WHOLE = 100_000_000  # posts back from the newest that are compared where all of a list is
 
-Spell = Callable[[int, int], bytes]  # an item's bytes by its number and its moment
 Handed = Iterable[tuple[int, bytes, bytes]]  # entries, their marks, and the recipients with a NUL between two
-
-
-@dataclasses.dataclass(frozen=True)
-class Row:
-    """An item of the row."""
-    number: int
-    text: bytes
-    back: int | None = None  # of a timed run, how many of the newest posts are compared after it
-    is_given: bool = False   # whether an operator waits for its answer
-
-
-@dataclasses.dataclass
-class Adds:
-    """What a host puts into a list's history."""
-    mails: Sequence[tuple[bytes, Spell]] = ()     # by their keys
-    sent: Collection[int] = ()                    # entries of the outgoing queue that were handed on
-    timed_before: int | None = None               # a timed run; mails that came first before this moment are forgotten
-    given: Sequence[tuple[int, Spell]] = ()       # of an operator's, by his numbers
-    left: Collection[int] = ()                    # entries that left the queue, of which the copies are forgotten
-
-    def __bool__(self) -> bool:
-        return bool(self.mails or self.sent or self.given or self.left or self.timed_before is not None)
-
-
-@dataclasses.dataclass
-class Put:
-    """Items that are put in from a number on, until they are written."""
-    following: int
-    now: int
-    texts: list[bytes] = dataclasses.field(default_factory=list)
-    timed: tuple[int, int] | None = None  # the number of a timed run, and how many of the newest posts are compared after it
-
-    def put(self, text: Spell) -> int:
-        number = self.next()
-        self.texts.append(text(number, self.now))
-        return number
-
-    def next(self) -> int:
-        """The number of the next item."""
-        return self.following + len(self.texts)
-
-    def put_timed(self, text: Spell, back: int) -> None:
-        self.timed = self.put(text), back
-
-    def rows(self) -> list[Row]:
-        """The items as a list is given them."""
-        timed, back = self.timed or (None, None)
-        return [Row(number, text, back if number == timed else None) for number, text in enumerate(self.texts, self.following)]
 
 
 @dataclasses.dataclass
 class Asked:
-    """What was asked when the list's row was locked: the next number, and the numbers of mails and of operators' items that came before."""
-    next: servers.Answer
-    mails: 'servers.Answer | None'
-    given: 'servers.Answer | None'
-
-
-@dataclasses.dataclass
-class Told:
-    """What the history says to a host."""
-    numbers: list[int]       # of its mails, or of an operator's items
-    next: int                # the number that the next item gets
-    rows: list[Row]          # items from the host's place on
-    again: list[Row]         # items before it for whose answers operators still wait
-    configured: int          # the number from which on the configuration holds that holds at this place
+    """What was asked when lists' rows were locked: the next numbers, and the numbers of mails and of operators' items that came before."""
+    next: 'servers.Answer | None' = None
+    mails: 'servers.Answer | None' = None
+    given: 'servers.Answer | None' = None
 
 
 class Rows:
     """The part of `history.History` that has the items. Each call is one transaction."""
 
-    def __init__(self, lines: servers.Lines) -> None:
-        self.lines, self.host = lines, lines.servers.host
+    def __init__(self, those: lines.Lines) -> None:
+        self.lines, self.host = those, those.servers.host
 
     # A host and its lists.
 
@@ -117,7 +70,7 @@ class Rows:
         copies that were handed on that its host knows. It is Unfit if the copy can't be one of the history's list."""
         await self.lines.call(self.taken_up, name, address, place, floor, config, key, known, handed)
 
-    def taken_up(self, cursor: servers.Cursor, name: str, address: notes.Address, place: int, floor: int, config: bytes, key: bytes,
+    def taken_up(self, cursor: lines.Cursor, name: str, address: notes.Address, place: int, floor: int, config: bytes, key: bytes,
                  known: Mapping[bytes, tuple[int, int]], handed: Handed) -> None:
         now = int(time.time())
         cursor.execute('INSERT INTO ezmlm.list VALUES (%s, %s, %s, %s, %s, %s, %s, %s) ON CONFLICT DO NOTHING RETURNING name',
@@ -130,7 +83,7 @@ class Rows:
         local, host, following, first = row_of(cursor)
         if (local, host) != address:
             raise servers.Unfit(f'the history of {name} is the one of the list {(local + b"@" + host).decode("ascii", "replace")}')
-        look_at_place(name, place, following)
+        puts.look_at_place(name, place, following)
         if place < first:
             raise servers.Unfit(f'this host\'s copy of {name} wants item {place}, and the history begins at item {first}: take a newer copy of '
                                 'another host')
@@ -141,79 +94,100 @@ class Rows:
         cursor.execute('INSERT INTO ezmlm.host VALUES (%s, %s, %s, %s, %s) ON CONFLICT (list, host) DO UPDATE SET place = excluded.place, '
                        'seen = excluded.seen, key = excluded.key', (name, self.host, place, now, key))
 
-    async def proceed(self, name: str, place: int, key: bytes | None, adds: Adds, most: int, size: int) -> Told:
-        """Puts items after the others, and tells those from a host's place on that its list hasn't answered: so many at most, and of so many
-        bytes, but one where there is one. What it tells is kept by the servers for good, whoever put it there."""
-        return await self.lines.call(self.proceeded, name, place, key, adds, most, size)
+    async def proceed(self, wish: puts.Wish) -> puts.Told:
+        """Puts items after the others, and tells those from a host's place on that its list hasn't answered. What it tells is kept by the servers
+        for good, whoever put it there. What is asked of several lists at one moment is one transaction."""
+        if wish.adds.takes_long():
+            return await self.lines.call(self.proceeded_alone, wish)
+        return await self.lines.join(self.proceeded, wish, wish.name, wish.adds.size)
 
-    def proceeded(self, cursor: servers.Cursor, name: str, place: int, key: bytes | None, adds: Adds, most: int, size: int) -> Told:
-        asked = self.ask(cursor, name, adds) if adds else None
-        cursor.execute(STATE, (place, place, place, self.host, name))
-        following, known, configured, limit, is_waited_for = row_of(cursor)
-        look_at_place(name, place, following)
-        if known is None:
-            raise servers.Unfit(f'this host is none of {name}\'s any more: it was removed by --forget-host, and takes the list up again')
-        put = Put(following, int(time.time()))
-        numbers = self.add(cursor, name, adds, asked, put) if asked else []
-        if put.next() == place == known:
-            return Told(numbers, place, [], [], configured)
-        cursor.execute('UPDATE ezmlm.host SET place = %s, seen = %s, key = coalesce(%s, key) WHERE list = %s AND host = %s',
-                       (place, put.now, key, name, self.host))
-        if place == following and not adds.given:  # What is put in now is all there is.
-            rows = first_of(put.rows(), limit or put.next(), most, size)
-        else:
-            rows = self.rows(cursor, 'SELECT number, text, back, sum(length(text)) OVER (ORDER BY number) AS sum FROM ezmlm.item '
-                             'WHERE list = %s AND number >= %s AND number < %s ORDER BY number LIMIT %s',
-                             (name, place, limit or put.next(), most), size)
-        again = self.rows(cursor, 'SELECT i.number, i.text, i.back, sum(length(i.text)) OVER (ORDER BY i.number) AS sum FROM ezmlm.item i '
-                          'JOIN ezmlm.given g USING (list, number) WHERE g.list = %s AND g.answer IS NULL AND g.number < %s '
-                          'ORDER BY i.number LIMIT %s', (name, place, most), size) if is_waited_for else []
-        if rows[:1] and rows[0].number != place:
-            raise servers.Unfit(f'the history of {name} has no item {place}')
-        return Told(numbers, put.next(), rows, again, configured)
+    def proceeded_alone(self, cursor: lines.Cursor, wish: puts.Wish) -> puts.Told:
+        told, = self.proceeded(cursor, [wish])
+        if isinstance(told, servers.Unfit):
+            raise told
+        return told
 
-    def rows(self, cursor: servers.Cursor, query: LiteralString, words: Sequence[Any], size: int) -> list[Row]:
-        """The items of a query, as many as have so many bytes together, and one at least."""
-        cursor.execute('SELECT r.number, r.text, r.back, g.number IS NOT NULL FROM '
-                       f'(SELECT *, row_number() OVER (ORDER BY number) AS at FROM ({query}) AS q) AS r '
-                       'LEFT JOIN ezmlm.given g ON g.list = %s AND g.number = r.number AND g.answer IS NULL '
-                       'WHERE r.sum <= %s OR r.at = 1 ORDER BY r.number', (*words, words[0], size))
-        return [Row(*row) for row in cursor.fetchall()]
+    def proceeded(self, cursor: lines.Cursor, wishes: Sequence[puts.Wish]) -> list[puts.Told | servers.Unfit]:
+        """What the histories of several lists tell, or why a host's copy can't go by one: then nothing was put into that one."""
+        asked = self.ask(cursor, {wish.name: wish.adds for wish in wishes if wish.adds})
+        cursor.execute(STATES, (*puts.columns(((wish.name, wish.place) for wish in wishes), 2), self.host))
+        stands = {row[0]: puts.Stand(*row) for row in cursor.fetchall()}
+        mails, given = found_of(asked.mails), found_of(asked.given)
+        steps: dict[str, puts.Step] = {}
+        unfit: dict[str, servers.Unfit] = {}
+        for wish in wishes:
+            try:
+                stand = puts.look_at(wish, stands.get(wish.name))
+            except servers.Unfit as error:
+                unfit[wish.name] = error
+                continue
+            put = puts.Put(wish.name, stand.next, int(time.time()))
+            put.add(wish.adds, mails.get(wish.name, {}), given.get(wish.name, {}))
+            if wish.adds.timed_before is not None:
+                self.timed(cursor, wish.name, wish.adds.timed_before, put)
+            steps[wish.name] = puts.Step(wish, stand, put)
+        self.write(cursor, [step.put for step in steps.values()], [(name, entry) for name, step in steps.items() for entry in step.wish.adds.left])
+        self.tell(cursor, [step for step in steps.values() if step.has_news()])
+        return [unfit[wish.name] if wish.name in unfit else steps[wish.name].told() for wish in wishes]
 
-    def ask(self, cursor: servers.Cursor, name: str, adds: Adds) -> Asked:
-        """Locks the list's row, and asks which of these items came before. The answers come with those of what is asked next."""
-        cursor.execute('SELECT next FROM ezmlm.list WHERE name = %s FOR UPDATE', (name,))
-        keys = [key for key, _ in adds.given if key]
-        return Asked(cursor.last, cursor.execute(MAILS, (name, [key for key, _ in adds.mails])) if adds.mails else None,
-                     cursor.execute(GIVEN, (name, keys)) if keys else None)
+    def ask(self, cursor: lines.Cursor, adds: Mapping[str, puts.Adds]) -> Asked:
+        """Locks lists' rows, each agent in the same order, and asks which of these items came before. The answers come with those of what is asked
+        next."""
+        if not adds:
+            return Asked()
+        mails = [(name, key) for name, each in adds.items() for key, _ in each.mails]
+        given = [(name, key) for name, each in adds.items() for key, _ in each.given if key]
+        return Asked(cursor.execute('SELECT next FROM ezmlm.list WHERE name = ANY(%s) ORDER BY name FOR UPDATE', (list(adds),)),
+                     cursor.execute(MAILS, puts.columns(mails, 2)) if mails else None, cursor.execute(GIVEN, puts.columns(given, 2)) if given else None)
 
-    def add(self, cursor: servers.Cursor, name: str, adds: Adds, asked: Asked, put: Put) -> list[int]:
-        """Puts items into the row, which is locked. The answer is the numbers of mails, and of operators' items: those that they had, where these
-        came before."""
-        numbers, mails = numbered(asked.mails.fetchall() if asked.mails else [], adds.mails, put.put)
-        theirs, given = numbered(asked.given.fetchall() if asked.given else [], adds.given, put.put)
-        for entry in adds.sent:
-            put.put(functools.partial(report, entry))
-        if adds.timed_before is not None:
-            self.timed(cursor, name, adds.timed_before, put)
-        if adds.left:
-            cursor.execute('DELETE FROM ezmlm.handed WHERE list = %s AND entry = ANY(%s)', (name, list(adds.left)))
-        if put.texts:
+    def write(self, cursor: lines.Cursor, those: Sequence[puts.Put], left: Sequence[tuple[str, int]]) -> None:
+        """Writes what is put into lists' rows, which are locked, and forgets copies of entries that left the queue."""
+        if left:
+            cursor.execute(LEFT, puts.columns(left, 2))
+        if grown := [put for put in those if put.texts]:
+            now, nexts = grown[0].now, puts.columns(((put.name, put.next()) for put in grown), 2)
+            items = ((put.name, number, text) for put in grown for number, text in enumerate(put.texts, put.following))
             # Mails are of items that are put in, so without these there is none.
-            cursor.execute(PUT, (put.following, put.now, name, put.texts, [key for key, _ in mails], [number for _, number in mails],
-                                 *(put.timed or (None, None)), CHANNEL))
-        if given:
-            cursor.execute('INSERT INTO ezmlm.given SELECT %s, number, theirs FROM unnest(%s::bigint[], %s::bigint[]) AS new (theirs, number)',
-                           (name, *map(list, zip(*given))))
-        return numbers + theirs
+            mails = ((put.name, key, number) for put in grown for key, number in put.mails)
+            cursor.execute(PUT, (now, *puts.columns(items, 3), now, *puts.columns(mails, 3), *nexts, CHANNEL, *nexts))
+        for put in grown:
+            if put.timed:
+                number, back = put.timed
+                cursor.execute('UPDATE ezmlm.item SET back = %s WHERE list = %s AND number = %s', (back, put.name, number))
+        if given := [(put.name, number, theirs) for put in grown for theirs, number in put.given]:
+            cursor.execute('INSERT INTO ezmlm.given SELECT * FROM unnest(%s::text[], %s::bigint[], %s::bigint[])', puts.columns(given, 3))
 
-    def put(self, cursor: servers.Cursor, name: str, adds: Adds) -> tuple[list[int], int]:
-        """Puts items into the row. The answer is their numbers, as `add` has them, and the number that was the next one."""
-        asked = self.ask(cursor, name, adds)
+    def tell(self, cursor: lines.Cursor, steps: Sequence[puts.Step]) -> None:
+        """Notes where this host's lists stand, and finds the items that they are told, which share the bytes that one may have."""
+        if not steps:
+            return
+        places = puts.columns(((step.wish.name, step.wish.place, step.wish.key) for step in steps), 3)
+        cursor.execute(STANDS, (steps[0].put.now, *places, self.host))
+        sizes = {step.wish.name: step.wish.size // len(steps) for step in steps}
+        kept = {step.wish.name: step for step in steps if not step.is_all_new()}
+        waited = [step for step in steps if step.stand.is_waited_for]
+        rows = cursor.execute(ROWS, puts.columns(((name, step.wish.place, step.bound(), sizes[name]) for name, step in kept.items()), 4)) if kept else None
+        again = [cursor.execute(AGAIN, (name, step.wish.place, step.wish.most, sizes[name])) for step in waited for name in [step.wish.name]]
+        for step in steps:
+            if step.is_all_new():
+                step.rows = puts.first_of(step.put.rows(), step.bound(), sizes[step.wish.name])
+        for name, *row in rows.fetchall() if rows else []:
+            kept[name].rows.append(puts.Row(*row))
+        for step, answer in zip(waited, again):
+            step.again = [puts.Row(*row) for row in answer.fetchall()]
+
+    def put(self, cursor: lines.Cursor, name: str, adds: puts.Adds) -> tuple[list[int], int]:
+        """Puts items into a list's row. The answer is their numbers, those that they had where they came before, and the number that was the next
+        one."""
+        asked = self.ask(cursor, {name: adds})
+        assert asked.next
         (following,) = row_of(asked.next)
-        return self.add(cursor, name, adds, asked, Put(following, int(time.time()))), following
+        put = puts.Put(name, following, int(time.time()))
+        put.add(adds, found_of(asked.mails).get(name, {}), found_of(asked.given).get(name, {}))
+        self.write(cursor, [put], [])
+        return put.numbers, following
 
-    def timed(self, cursor: servers.Cursor, name: str, before: int, put: Put) -> None:
+    def timed(self, cursor: lines.Cursor, name: str, before: int, put: puts.Put) -> None:
         """Puts a timed run into the row, and what raises the floor: mails that came first before a moment can't come again, and are forgotten.
         What all hosts have answered by then is removed."""
         now, following = put.now, put.following
@@ -223,9 +197,9 @@ class Rows:
         cursor.execute('SELECT floor, day, (SELECT max(number) FROM ezmlm.item WHERE list = name AND back IS NOT NULL) FROM ezmlm.list '
                        'WHERE name = %s', (name,))
         floor, day, last = row_of(cursor)
-        put.put_timed(lambda number, moment: program.item(b'T', number, moment), WHOLE if last is None or day != now // DAY else following - last)
+        put.put_timed(lambda number, moment: program.item(b'T', number, moment), puts.WHOLE if last is None or day != now // DAY else following - last)
         for value in [*range(floor + STEP, lowest, STEP), lowest] if lowest > max(floor, notes.FIRST) else []:
-            put.put(functools.partial(raised, value))
+            put.put(functools.partial(puts.raised, value))
         cursor.execute('UPDATE ezmlm.list SET timed = %s, day = %s, floor = greatest(floor, %s) WHERE name = %s', (now, now // DAY, lowest, name))
         cursor.execute('SELECT least((SELECT min(place) FROM ezmlm.host WHERE list = %s), (SELECT number FROM ezmlm.item WHERE list = %s AND '
                        'first >= %s ORDER BY number LIMIT 1), %s)', (name, name, before, following))
@@ -247,59 +221,32 @@ class Rows:
                               [(answer, name, number) for number, answer in answers])
 
 
-def look_at_place(name: str, place: int, following: int) -> None:
-    """Servers that lost items, as old copies of them have, would give a number to another item. A copy that has answered that one is Unfit."""
-    if place > following:
-        raise servers.Unfit(f'this host\'s copy of {name} has answered item {place - 1}, and its history goes to item {following - 1}: it was served '
-                            'by itself, or the history is an old one')
+def found_of(answer: 'servers.Answer | None') -> dict[str, dict[Any, int]]:
+    """The numbers of what came before, by the lists and the keys."""
+    found: dict[str, dict[Any, int]] = {}
+    for name, key, number in answer.fetchall() if answer else []:
+        found.setdefault(name, {})[key] = number
+    return found
 
 
-def first_of(rows: Sequence[Row], limit: int, most: int, size: int) -> list[Row]:
-    """The first of these items, below a number: so many at most, and of so many bytes, but one where there is one."""
-    kept: list[Row] = []
-    for row in itertools.islice(rows, most):
-        size -= len(row.text)
-        if row.number >= limit or kept and size < 0:
-            break
-        kept.append(row)
-    return kept
-
-
-def numbered(found: Iterable[tuple[Any, ...]], entries: Sequence[tuple[Any, Spell]],
-             put: Callable[[Spell], int]) -> tuple[list[int], list[tuple[Any, int]]]:
-    """The numbers of entries by their keys, those that were found or new ones; and the new ones with their keys. The key 0 is none."""
-    known: dict[Any, int] = {key: number for key, number in found}
-    numbers: list[int] = []
-    new: list[tuple[Any, int]] = []
-    for key, text in entries:
-        if not key or key not in known:
-            known[key] = put(text)
-            new.append((key, known[key]))
-        numbers.append(known[key])
-    return numbers, new
-
-
-def report(entry: int, number: int, moment: int) -> bytes:
-    return program.item(b'S', number, moment, entry)
-
-
-def raised(floor: int, number: int, moment: int) -> bytes:
-    return program.item(b'F', number, moment, floor)
-
-
-def keep_handed(cursor: servers.Cursor, copies: Collection[tuple[str, int, bytes, bytes]]) -> None:
+def keep_handed(cursor: lines.Cursor, copies: Collection[tuple[str, int, bytes, bytes]]) -> None:
     """Notes copies that were handed on, each with its list's name."""
     if copies:
-        cursor.execute('INSERT INTO ezmlm.handed SELECT * FROM unnest(%s::text[], %s::bigint[], %s::bytea[], %s::bytea[])',
-                       tuple(map(list, zip(*copies))))
+        cursor.execute('INSERT INTO ezmlm.handed SELECT * FROM unnest(%s::text[], %s::bigint[], %s::bytea[], %s::bytea[])', puts.columns(copies, 4))
 
 
-def make_each(cursor: servers.Cursor, statement: LiteralString, rows: Sequence[Sequence[Any]]) -> None:
+def keep_all_handed(cursor: lines.Cursor, those: Sequence[Collection[tuple[str, int, bytes, bytes]]]) -> list[None | Exception]:
+    """The same of what several calls note."""
+    keep_handed(cursor, [copy for copies in those for copy in copies])
+    return [None for _ in those]
+
+
+def make_each(cursor: lines.Cursor, statement: LiteralString, rows: Sequence[Sequence[Any]]) -> None:
     """Makes a change for each row of words."""
     cursor.executemany(statement, rows)
 
 
-def row_of(cursor: 'servers.Cursor | servers.Answer') -> tuple[Any, ...]:
+def row_of(cursor: 'lines.Cursor | servers.Answer') -> tuple[Any, ...]:
     """The one row of an answer. Where there is none the list has no history."""
     row = cursor.fetchone()
     if row is None:
@@ -307,6 +254,6 @@ def row_of(cursor: 'servers.Cursor | servers.Answer') -> tuple[Any, ...]:
     return row
 
 
-def one(cursor: servers.Cursor) -> Any:
+def one(cursor: lines.Cursor) -> Any:
     row = cursor.fetchone()
     return None if row is None else row[0]

@@ -26,10 +26,10 @@ def histories(world, hosts=('one', 'two'), many=1, standby='none', takeover=5):
         world.note = f'not tried, as {lacking} is not there'
         yield None, None
         return
-    from ezmlm_agent import history
+    from ezmlm_agent import history, lines
     from ezmlm_agent import servers as connections
     with servers.Servers(many=many) as those:
-        found = [history.History(connections.Lines(connections.Servers(those.string(), host, standby, takeover))) for host in hosts]
+        found = [history.History(lines.Lines(connections.Servers(those.string(), host, standby, takeover))) for host in hosts]
         with contextlib.closing(found[0].lines.servers.connect()) as connection:
             found[0].prepare(connection)
         try:
@@ -45,9 +45,9 @@ async def taken_up(past, place=512, floor=1, address=ADDRESS, config=b'config', 
 
 async def told(past, place, mails=(), sent=(), before=None, given=(), left=(), most=128, size=1 << 20):
     """What a history says: the numbers, the next one, and the items by their texts."""
-    from ezmlm_agent import rows
-    adds = rows.Adds([(key.encode(), spell(key)) for key in mails], sent, before, [(number, spell(word)) for number, word in given], left)
-    said = await past.proceed('cats', place, None, adds, most, size)
+    from ezmlm_agent import puts
+    adds = puts.Adds([(key.encode(), spell(key)) for key in mails], sent, before, [(number, spell(word)) for number, word in given], left)
+    said = await past.proceed(puts.Wish('cats', place, None, adds, most, size))
     return said.numbers, said.next, [row.text.split(b':')[0].decode() for row in said.rows]
 
 

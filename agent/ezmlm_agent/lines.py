@@ -1,0 +1,270 @@
+"""Calls that go over a few connections to the servers: what waits at one moment goes together, and is told when it is on their disks."""
+
+import asyncio
+import collections
+import select
+import time
+from collections.abc import Callable, Iterable, Sequence
+from typing import Any, LiteralString, TypeVar
+
+import psycopg
+
+from . import aside, servers
+
+Result = TypeVar('Result')
+Word = TypeVar('Word')
+MOST = 2      # connections for calls, at once: with more of them fewer calls go together, and each takes longer
+HELD = 0.05   # seconds for which calls wait for the connection that is at work, before they go over another one
+SLOW = 1.0    # seconds after which a connection begins no further call before what it made is confirmed
+WAITS = 500   # milliseconds for which a transaction of many calls waits for a lock that somebody else has
+LARGEST = 8 << 20  # bytes that the calls of one transaction put in, unless one alone has more
+
+
+class Cursor:
+    """How calls give statements, each to a cursor of its own: while statements go out together a cursor has one answer. What is fetched is the
+    answer of the last, unless the caller keeps what `execute` answers."""
+
+    def __init__(self, connection: servers.Connection) -> None:
+        self.connection = connection
+        self.last: servers.Answer = connection.cursor(binary=True)
+
+    def execute(self, query: LiteralString, words: Sequence[Any] | None = None) -> servers.Answer:
+        self.last = self.connection.cursor(binary=True)
+        return self.last.execute(query, words)
+
+    def executemany(self, query: LiteralString, rows: Iterable[Sequence[Any]]) -> None:
+        self.connection.cursor(binary=True).executemany(query, rows)
+
+    def fetchone(self) -> tuple[Any, ...] | None:
+        return self.last.fetchone()
+
+    def fetchall(self) -> list[tuple[Any, ...]]:
+        return self.last.fetchall()
+
+
+class Job:
+    """A call that waits for its turn, and what came of it. One that may be one transaction with others says what it is about, and how many bytes it
+    puts in: it gets a word, and is called once with the words of all such calls. No transaction has it twice about the same."""
+
+    def __init__(self, call: Callable[..., Any], words: tuple[Any, ...], of: object = None, size: int = 0) -> None:
+        self.call, self.words, self.of, self.size = call, words, of, size
+        self.is_joined = of is not None
+        self.is_alone = not self.is_joined  # whether it is a transaction by itself
+        self.ended: asyncio.Future[Any] = asyncio.get_running_loop().create_future()
+        self.ended.add_done_callback(lambda ended: ended.cancelled() or ended.exception())  # Nobody may ask for it any more.
+        self.result: Any = None
+        self.error: BaseException | None = None
+
+    def tell(self, error: BaseException | None) -> None:
+        """Tells what came of it to whoever waits. The error is one of all calls over the same connection."""
+        if self.ended.done():
+            return
+        if error is None and self.error is None:
+            self.ended.set_result(self.result)
+        else:
+            self.ended.set_exception(error or self.error or servers.Lost())
+
+
+class Transaction:
+    """Calls that are made together."""
+
+    def __init__(self, job: Job) -> None:
+        self.jobs, self.size = [job], job.size
+        self.known = {(job.call, job.of)}
+
+    def takes(self, job: Job) -> bool:
+        """Whether a further call may go with these, which it does then."""
+        if job.is_alone or self.jobs[0].is_alone or (job.call, job.of) in self.known or self.size + job.size > LARGEST:
+            return False
+        self.jobs.append(job)
+        self.size += job.size
+        self.known.add((job.call, job.of))
+        return True
+
+    def make(self, connection: servers.Connection) -> None:
+        """Makes the calls. Their statements go out together where none wants the answer of another. No disk is waited for."""
+        with connection.pipeline():
+            cursor = Cursor(connection)
+            cursor.execute('BEGIN')
+            cursor.execute('SET LOCAL synchronous_commit TO off')
+            if len(self.jobs) > 1:
+                cursor.execute(f'SET LOCAL lock_timeout TO {WAITS}')
+            for call in dict.fromkeys(job.call for job in self.jobs):
+                self.call(call, cursor, [job for job in self.jobs if job.call == call])
+            cursor.execute('COMMIT')
+
+    def call(self, call: Callable[..., Any], cursor: Cursor, jobs: Sequence[Job]) -> None:
+        """Calls once for all who ask for it, and keeps what each of them is told."""
+        if not jobs[0].is_joined:
+            jobs[0].result = call(cursor, *jobs[0].words)
+            return
+        for job, result in zip(jobs, call(cursor, [job.words[0] for job in jobs]), strict=True):
+            job.result, job.error = (None, result) if isinstance(result, Exception) else (result, None)
+
+
+def transactions(jobs: Iterable[Job]) -> list[Transaction]:
+    """Calls as they are made: those together that may be."""
+    found: list[Transaction] = []
+    for job in jobs:
+        if not any(each.takes(job) for each in found):
+            found.append(Transaction(job))
+    return found
+
+
+class Batch:
+    """Calls over one connection, in a thread. No transaction of them holds its locks for longer than it takes. After the last one a commit over
+    the same connection waits for the disks: by its answer all that was committed before is there for good."""
+
+    def __init__(self, lines: 'Lines', jobs: list[Job]) -> None:
+        self.lines, self.jobs = lines, jobs
+        self.left: list[Job] = []  # that go over another connection, or later
+        self.connection: servers.Connection | None = None
+        self.warning = ''
+
+    def run(self) -> None:
+        connection = self.lines.taken(self.has)
+        connection.add_notice_handler(self.noticed)
+        try:
+            self.make_all(connection)
+            connection.execute(servers.CONFIRMED)
+        except psycopg.Error as error:
+            connection.close()
+            raise servers.Lost(servers.words_of(error)) from error
+        except BaseException:
+            connection.close()
+            raise
+        connection.remove_notice_handler(self.noticed)
+        if self.warning:
+            connection.close()
+            raise servers.Lost(self.warning)
+        self.lines.idle.append(connection)
+
+    def make_all(self, connection: servers.Connection) -> None:
+        """Makes the calls, and those of a transaction that fails each alone. After one that takes long, as where another host has a list's row and
+        stands still, the others aren't waited for."""
+        end = time.monotonic() + SLOW
+        waiting, ended = collections.deque(transactions(self.jobs)), list[Job]()
+        while waiting and not (ended and time.monotonic() > end):
+            transaction = waiting.popleft()
+            if self.make(connection, transaction):
+                ended += transaction.jobs
+            else:
+                waiting.extendleft(map(Transaction, reversed(transaction.jobs)))
+        self.jobs, self.left = ended, [job for transaction in waiting for job in transaction.jobs]
+
+    def make(self, connection: servers.Connection, transaction: Transaction) -> bool:
+        """Makes a transaction. Where it fails nothing is left of it. If it has one call, that one fails; the answer is whether it is so, or all was
+        made. Else each call is to be made alone."""
+        try:
+            transaction.make(connection)
+            return True
+        except Exception as error:
+            if connection.closed:
+                raise
+            connection.rollback()
+            first, *others = transaction.jobs
+            if isinstance(error, psycopg.Error):
+                is_refused = isinstance(error, psycopg.errors.InsufficientPrivilege)
+                first.error = (servers.Unfit if is_refused else servers.Lost)(servers.words_of(error))
+            else:
+                first.error = error
+            for job in transaction.jobs if others else []:
+                job.error, job.is_alone = None, True
+            return not others
+
+    def noticed(self, notice: servers.Notice) -> None:
+        self.warning = servers.warning_of(notice) or self.warning
+
+    def has(self, connection: servers.Connection) -> None:
+        self.connection = connection
+
+    def cut(self) -> None:
+        """Ends calls that take too long."""
+        if self.connection is not None:
+            servers.cut(self.connection)
+
+
+class Lines:
+    """Connections for calls. What waits when one of them is free goes over it together."""
+
+    def __init__(self, those: servers.Servers) -> None:
+        self.servers = those
+        self.idle: list[servers.Connection] = []
+        self.waiting: list[Job] = []
+        self.at_work: set[asyncio.Task[None]] = set()
+        self.begun = float('-inf')  # when the last of these began
+        self.later: asyncio.TimerHandle | None = None  # when calls go over another connection
+
+    async def call(self, call: Callable[..., Result], *words: Any) -> Result:
+        """What a call answers that gets a cursor, in a transaction by itself. All that it changed, and all that it saw, is on as many disks as the
+        servers are told to keep it on. It is Lost if the servers are, or that takes longer than twice `takeover`."""
+        result: Result = await self.ended(Job(call, words))
+        return result
+
+    async def join(self, call: Callable[[Cursor, Sequence[Word]], Sequence[Result | Exception]], word: Word, of: object, size: int) -> Result:
+        """The same of a call that may be one transaction with others, also with such calls about something else: it gets the words of all of these,
+        and answers for each, or says why that one failed, which has changed nothing then."""
+        result: Result = await self.ended(Job(call, (word,), of, size))
+        return result
+
+    async def ended(self, job: Job) -> Any:
+        self.waiting.append(job)
+        self.begin()
+        return await job.ended
+
+    def begin(self) -> None:
+        """Gives the calls that wait to a connection. While one is at work, and not for long, they wait for that, since more of them go together
+        then."""
+        loop = asyncio.get_running_loop()
+        if not self.waiting or len(self.at_work) == MOST:
+            return
+        if self.at_work and loop.time() < self.begun + HELD:
+            if self.later is None:
+                self.later = loop.call_at(self.begun + HELD, self.begin_later)
+            return
+        jobs, self.waiting, self.begun = self.waiting, [], loop.time()
+        task = asyncio.create_task(self.work(jobs))
+        self.at_work.add(task)
+        task.add_done_callback(self.has_worked)
+
+    def begin_later(self) -> None:
+        self.later = None
+        self.begin()
+
+    def has_worked(self, task: 'asyncio.Task[None]') -> None:
+        self.at_work.discard(task)
+        if not task.cancelled():
+            self.begin()
+
+    async def work(self, jobs: list[Job]) -> None:
+        batch = Batch(self, jobs)
+        future: asyncio.Future[None] = asyncio.get_running_loop().create_future()
+        future.add_done_callback(lambda ended: ended.cancelled() or ended.exception())
+        aside.begin((future, batch.run, ()))
+        done, _ = await asyncio.wait([future], timeout=2 * self.servers.takeover)
+        error = future.exception() if done else servers.Lost(
+            f'a call took longer than {2 * self.servers.takeover} seconds, as when no standby confirms')
+        if not done:
+            batch.cut()
+            self.servers.turn()
+            self.close()
+        for job in batch.jobs:
+            job.tell(error)
+        self.waiting = batch.left + self.waiting
+
+    def taken(self, has: Callable[[servers.Connection], object]) -> servers.Connection:
+        """A connection at which nothing came since it was used last, or a new one. `has` gets it as soon as it is there."""
+        while self.idle:
+            try:
+                connection = self.idle.pop()
+            except IndexError:
+                break
+            if not connection.closed and not select.select([connection.fileno()], [], [], 0)[0]:
+                has(connection)
+                return connection
+            connection.close()
+        return self.servers.connect(opened=has)
+
+    def close(self) -> None:
+        while self.idle:
+            self.idle.pop().close()

@@ -1,0 +1,197 @@
+"""What hosts put into the histories of lists, and what these tell them: items with numbers in a row."""
+
+import dataclasses
+import functools
+from collections.abc import Callable, Collection, Iterable, Mapping, Sequence
+from typing import Any
+
+from . import program, servers
+
+WHOLE = 100_000_000  # posts back from the newest that are compared where all of a list is
+
+Spell = Callable[[int, int], bytes]  # an item's bytes by its number and its moment
+
+
+@dataclasses.dataclass(frozen=True)
+class Row:
+    """An item of the row."""
+    number: int
+    text: bytes
+    back: int | None = None  # of a timed run, how many of the newest posts are compared after it
+    is_given: bool = False   # whether an operator waits for its answer
+
+
+@dataclasses.dataclass
+class Adds:
+    """What a host puts into a list's history."""
+    mails: Sequence[tuple[bytes, Spell]] = ()     # by their keys
+    sent: Collection[int] = ()                    # entries of the outgoing queue that were handed on
+    timed_before: int | None = None               # a timed run; mails that came first before this moment are forgotten
+    given: Sequence[tuple[int, Spell]] = ()       # of an operator's, by his numbers
+    left: Collection[int] = ()                    # entries that left the queue, of which the copies are forgotten
+    size: int = 0                                 # bytes of the mails, as far as that is known
+
+    def __bool__(self) -> bool:
+        return bool(self.mails or self.sent or self.given or self.left or self.timed_before is not None)
+
+    def takes_long(self) -> bool:
+        """Whether it is more than items after others, so that other lists don't wait for it."""
+        return bool(self.given) or self.timed_before is not None
+
+
+@dataclasses.dataclass(frozen=True)
+class Wish:
+    """What a host asks of a list's history: what it puts in, and the items from its place on, so many at most, and of so many bytes, but one where
+    there is one. `key` is the hash of the list's keys, if it is known."""
+    name: str
+    place: int
+    key: bytes | None
+    adds: Adds
+    most: int
+    size: int
+
+
+@dataclasses.dataclass
+class Put:
+    """Items that are put into a list's history from a number on, until they are written."""
+    name: str
+    following: int
+    now: int
+    texts: list[bytes] = dataclasses.field(default_factory=list)
+    timed: tuple[int, int] | None = None  # the number of a timed run, and how many of the newest posts are compared after it
+    mails: list[tuple[bytes, int]] = dataclasses.field(default_factory=list)  # keys of those that are new, and their numbers
+    given: list[tuple[int, int]] = dataclasses.field(default_factory=list)    # an operator's numbers of those that are new, and theirs
+    numbers: list[int] = dataclasses.field(default_factory=list)  # of mails, and of operators' items: those that they had, where these came before
+
+    def add(self, adds: Adds, mails: Mapping[Any, int], given: Mapping[Any, int]) -> None:
+        """Puts in what isn't there yet. The numbers of what is are given."""
+        numbers, self.mails = numbered(mails, adds.mails, self.put)
+        theirs, self.given = numbered(given, adds.given, self.put)
+        self.numbers = numbers + theirs
+        for entry in adds.sent:
+            self.put(functools.partial(report, entry))
+
+    def put(self, text: Spell) -> int:
+        number = self.next()
+        self.texts.append(text(number, self.now))
+        return number
+
+    def next(self) -> int:
+        """The number of the next item."""
+        return self.following + len(self.texts)
+
+    def put_timed(self, text: Spell, back: int) -> None:
+        self.timed = self.put(text), back
+
+    def rows(self) -> list[Row]:
+        """The items as a list is given them."""
+        timed, back = self.timed or (None, None)
+        return [Row(number, text, back if number == timed else None) for number, text in enumerate(self.texts, self.following)]
+
+
+@dataclasses.dataclass(frozen=True)
+class Stand:
+    """How a list's history stands for a host that is at some place."""
+    name: str
+    next: int                # the number that the next item gets
+    first: int               # the number of the first item that is kept
+    known: int | None        # the host's place, as it said last, if it is one of the list's
+    configured: int          # the number from which on the configuration holds that holds at its place
+    limit: int | None        # the number from which on another one holds
+    is_waited_for: bool      # whether operators wait for answers of items before its place
+
+
+@dataclasses.dataclass
+class Told:
+    """What the history says to a host."""
+    numbers: list[int]       # of its mails, or of an operator's items
+    next: int                # the number that the next item gets
+    rows: list[Row]          # items from the host's place on
+    again: list[Row]         # items before it for whose answers operators still wait
+    configured: int          # the number from which on the configuration holds that holds at this place
+
+
+@dataclasses.dataclass
+class Step:
+    """What one host's wish comes to."""
+    wish: Wish
+    stand: Stand
+    put: Put
+    rows: list[Row] = dataclasses.field(default_factory=list)
+    again: list[Row] = dataclasses.field(default_factory=list)
+
+    def has_news(self) -> bool:
+        """Whether there is something to note, or to tell."""
+        return not self.put.next() == self.wish.place == self.stand.known
+
+    def is_all_new(self) -> bool:
+        """Whether what is put in now is all there is from the place on."""
+        return self.wish.place == self.stand.next and not self.wish.adds.given
+
+    def bound(self) -> int:
+        """The number below which the items are that are told."""
+        return min(self.stand.limit or self.put.next(), self.put.next(), self.wish.place + self.wish.most)
+
+    def told(self) -> Told | servers.Unfit:
+        if self.rows and self.rows[0].number != self.wish.place:
+            return servers.Unfit(f'the history of {self.wish.name} has no item {self.wish.place}')
+        return Told(self.put.numbers, self.put.next(), self.rows, self.again, self.stand.configured)
+
+
+def look_at(wish: Wish, stand: Stand | None) -> Stand:
+    """How a list's history stands. It is Unfit if a host's copy can't go by it."""
+    name, place = wish.name, wish.place
+    if stand is None:
+        raise servers.Unfit('the list has no history')
+    look_at_place(name, place, stand.next)
+    if stand.known is None:
+        raise servers.Unfit(f'this host is none of {name}\'s any more: it was removed by --forget-host, and takes the list up again')
+    if place < stand.first:
+        raise servers.Unfit(f'the history of {name} has no item {place}')
+    return stand
+
+
+def look_at_place(name: str, place: int, following: int) -> None:
+    """Servers that lost items, as old copies of them have, would give a number to another item. A copy that has answered that one is Unfit."""
+    if place > following:
+        raise servers.Unfit(f'this host\'s copy of {name} has answered item {place - 1}, and its history goes to item {following - 1}: it was served '
+                            'by itself, or the history is an old one')
+
+
+def first_of(rows: Sequence[Row], bound: int, size: int) -> list[Row]:
+    """The first of these items, below a number: of so many bytes, but one where there is one."""
+    kept: list[Row] = []
+    for row in rows:
+        size -= len(row.text)
+        if row.number >= bound or kept and size < 0:
+            break
+        kept.append(row)
+    return kept
+
+
+def numbered(found: Mapping[Any, int], entries: Sequence[tuple[Any, Spell]],
+             put: Callable[[Spell], int]) -> tuple[list[int], list[tuple[Any, int]]]:
+    """The numbers of entries by their keys, those that were found or new ones; and the new ones with their keys. The key 0 is none."""
+    known = dict(found)
+    numbers: list[int] = []
+    new: list[tuple[Any, int]] = []
+    for key, text in entries:
+        if not key or key not in known:
+            known[key] = put(text)
+            new.append((key, known[key]))
+        numbers.append(known[key])
+    return numbers, new
+
+
+def columns(rows: Iterable[Sequence[Any]], many: int) -> list[list[Any]]:
+    """Rows of so many values as their columns."""
+    found = list(zip(*rows))
+    return [list(column) for column in found] if found else [[] for _ in range(many)]
+
+
+def report(entry: int, number: int, moment: int) -> bytes:
+    return program.item(b'S', number, moment, entry)
+
+
+def raised(floor: int, number: int, moment: int) -> bytes:
+    return program.item(b'F', number, moment, floor)
