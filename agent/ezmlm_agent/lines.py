@@ -16,7 +16,8 @@ Word = TypeVar('Word')
 MOST = 2      # connections for calls, at once: with more of them fewer calls go together, and each takes longer
 HELD = 0.05   # seconds for which calls wait for the connection that is at work, before they go over another one
 SLOW = 1.0    # seconds after which a connection begins no further call before what it made is confirmed
-WAITS = 500   # milliseconds for which a transaction of many calls waits for a lock that somebody else has
+# A transaction of many calls waits only so many milliseconds for a lock that somebody else has.
+TOGETHER = "SELECT set_config('synchronous_commit', 'off', true), set_config('lock_timeout', '500', true)"
 LARGEST = 8 << 20  # bytes that the calls of one transaction put in, unless one alone has more
 
 
@@ -86,9 +87,10 @@ class Transaction:
         with connection.pipeline():
             cursor = Cursor(connection)
             cursor.execute('BEGIN')
-            cursor.execute('SET LOCAL synchronous_commit TO off')
             if len(self.jobs) > 1:
-                cursor.execute(f'SET LOCAL lock_timeout TO {WAITS}')
+                cursor.execute(TOGETHER)
+            else:
+                cursor.execute('SET LOCAL synchronous_commit TO off')
             for call in dict.fromkeys(job.call for job in self.jobs):
                 self.call(call, cursor, [job for job in self.jobs if job.call == call])
             cursor.execute('COMMIT')

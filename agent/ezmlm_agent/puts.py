@@ -2,7 +2,7 @@
 
 import dataclasses
 import functools
-from collections.abc import Callable, Collection, Iterable, Mapping, Sequence
+from collections.abc import Callable, Collection, Mapping, Sequence
 from typing import Any
 
 from . import program, servers
@@ -181,12 +181,6 @@ def numbered(found: Mapping[Any, int], entries: Sequence[tuple[Any, Spell]],
             new.append((key, known[key]))
         numbers.append(known[key])
     return numbers, new
-
-
-def columns(rows: Iterable[Sequence[Any]], many: int) -> list[list[Any]]:
-    """Rows of so many values as their columns."""
-    found = list(zip(*rows))
-    return [list(column) for column in found] if found else [[] for _ in range(many)]
 
 
 def report(entry: int, number: int, moment: int) -> bytes:

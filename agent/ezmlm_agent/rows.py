@@ -24,16 +24,19 @@ STATES = '''SELECT l.name, l.next, l.first, h.place, (SELECT max(number) FROM ez
 MAILS = '''SELECT list, key, number FROM (SELECT list, key, (SELECT number FROM ezmlm.mail m WHERE m.list = w.list AND m.key = w.key) AS number
     FROM unnest(%s::text[], %s::bytea[]) AS w (list, key)) AS found WHERE number IS NOT NULL'''
 GIVEN = 'SELECT list, theirs, number FROM ezmlm.given JOIN unnest(%s::text[], %s::bigint[]) AS w (list, theirs) USING (list, theirs)'
-# One statement that puts items in, with the keys of mails, and has all hosts hear of them.
-PUT = '''WITH items AS (INSERT INTO ezmlm.item (list, number, first, text) SELECT list, number, %s, text
+# One statement that writes all: items, the keys of mails, where the lists' rows go on and where this host's lists stand, and that copies are
+# forgotten. All hosts hear of the items.
+WRITE = '''WITH items AS (INSERT INTO ezmlm.item (list, number, first, text) SELECT list, number, %s, text
             FROM unnest(%s::text[], %s::bigint[], %s::bytea[]) AS new (list, number, text)),
         mails AS (INSERT INTO ezmlm.mail (list, key, number, first) SELECT list, key, number, %s
             FROM unnest(%s::text[], %s::bytea[], %s::bigint[]) AS new (list, key, number)),
-        lists AS (UPDATE ezmlm.list l SET next = new.next FROM unnest(%s::text[], %s::bigint[]) AS new (name, next) WHERE l.name = new.name)
-    SELECT pg_notify(%s, next || ' ' || name) FROM unnest(%s::text[], %s::bigint[]) AS new (name, next)'''
-STANDS = '''UPDATE ezmlm.host h SET place = w.place, seen = %s, key = coalesce(w.key, h.key)
-    FROM unnest(%s::text[], %s::bigint[], %s::bytea[]) AS w (list, place, key) WHERE h.list = w.list AND h.host = %s'''
-LEFT = 'DELETE FROM ezmlm.handed h USING unnest(%s::text[], %s::bigint[]) AS w (list, entry) WHERE h.list = w.list AND h.entry = w.entry'
+        hosts AS (UPDATE ezmlm.host h SET place = w.place, seen = %s, key = coalesce(w.key, h.key)
+            FROM unnest(%s::text[], %s::bigint[], %s::bytea[]) AS w (list, place, key) WHERE h.list = w.list AND h.host = %s),
+        copies AS (DELETE FROM ezmlm.handed h USING unnest(%s::text[], %s::bigint[]) AS w (list, entry)
+            WHERE h.list = w.list AND h.entry = w.entry),
+        grown AS (SELECT * FROM unnest(%s::text[], %s::bigint[]) AS w (list, next)),
+        lists AS (UPDATE ezmlm.list l SET next = grown.next FROM grown WHERE l.name = grown.list)
+    SELECT pg_notify(%s, next || ' ' || list) FROM grown'''
 # Items from a place on and below a bound, of so many bytes for each list, and one at least.
 ROWS = '''SELECT w.list, r.number, r.text, r.back, g.number IS NOT NULL FROM unnest(%s::text[], %s::bigint[], %s::bigint[], %s::bigint[])
         AS w (list, place, bound, size) CROSS JOIN LATERAL (SELECT number, text, back, sum(length(text)) OVER (ORDER BY number) AS sum
@@ -110,7 +113,7 @@ class Rows:
     def proceeded(self, cursor: lines.Cursor, wishes: Sequence[puts.Wish]) -> list[puts.Told | servers.Unfit]:
         """What the histories of several lists tell, or why a host's copy can't go by one: then nothing was put into that one."""
         asked = self.ask(cursor, {wish.name: wish.adds for wish in wishes if wish.adds})
-        cursor.execute(STATES, (*puts.columns(((wish.name, wish.place) for wish in wishes), 2), self.host))
+        cursor.execute(STATES, (*arrays(((wish.name, wish.place) for wish in wishes), 2), self.host))
         stands = {row[0]: puts.Stand(*row) for row in cursor.fetchall()}
         mails, given = found_of(asked.mails), found_of(asked.given)
         steps: dict[str, puts.Step] = {}
@@ -126,8 +129,10 @@ class Rows:
             if wish.adds.timed_before is not None:
                 self.timed(cursor, wish.name, wish.adds.timed_before, put)
             steps[wish.name] = puts.Step(wish, stand, put)
-        self.write(cursor, [step.put for step in steps.values()], [(name, entry) for name, step in steps.items() for entry in step.wish.adds.left])
-        self.tell(cursor, [step for step in steps.values() if step.has_news()])
+        news = [step for step in steps.values() if step.has_news()]
+        self.write(cursor, [step.put for step in news], [(name, entry) for name, step in steps.items() for entry in step.wish.adds.left],
+                   [(step.wish.name, step.wish.place, step.wish.key) for step in news])
+        self.tell(cursor, news)
         return [unfit[wish.name] if wish.name in unfit else steps[wish.name].told() for wish in wishes]
 
     def ask(self, cursor: lines.Cursor, adds: Mapping[str, puts.Adds]) -> Asked:
@@ -138,35 +143,35 @@ class Rows:
         mails = [(name, key) for name, each in adds.items() for key, _ in each.mails]
         given = [(name, key) for name, each in adds.items() for key, _ in each.given if key]
         return Asked(cursor.execute('SELECT next FROM ezmlm.list WHERE name = ANY(%s) ORDER BY name FOR UPDATE', (list(adds),)),
-                     cursor.execute(MAILS, puts.columns(mails, 2)) if mails else None, cursor.execute(GIVEN, puts.columns(given, 2)) if given else None)
+                     cursor.execute(MAILS, arrays(mails, 2)) if mails else None, cursor.execute(GIVEN, arrays(given, 2)) if given else None)
 
-    def write(self, cursor: lines.Cursor, those: Sequence[puts.Put], left: Sequence[tuple[str, int]]) -> None:
-        """Writes what is put into lists' rows, which are locked, and forgets copies of entries that left the queue."""
-        if left:
-            cursor.execute(LEFT, puts.columns(left, 2))
-        if grown := [put for put in those if put.texts]:
-            now, nexts = grown[0].now, puts.columns(((put.name, put.next()) for put in grown), 2)
+    def write(self, cursor: lines.Cursor, those: Sequence[puts.Put], left: Sequence[tuple[str, int]] = (),
+              places: Sequence[tuple[str, int, bytes | None]] = ()) -> None:
+        """Writes what is put into lists' rows, which are locked, and where this host's lists stand, and forgets copies of entries that left the
+        queue."""
+        grown = [put for put in those if put.texts]
+        if grown or left or places:
+            now = int(time.time())
             items = ((put.name, number, text) for put in grown for number, text in enumerate(put.texts, put.following))
             # Mails are of items that are put in, so without these there is none.
             mails = ((put.name, key, number) for put in grown for key, number in put.mails)
-            cursor.execute(PUT, (now, *puts.columns(items, 3), now, *puts.columns(mails, 3), *nexts, CHANNEL, *nexts))
+            nexts = ((put.name, put.next()) for put in grown)
+            cursor.execute(WRITE, (now, *arrays(items, 3), now, *arrays(mails, 3), now, *arrays(places, 3), self.host, *arrays(left, 2),
+                                   *arrays(nexts, 2), CHANNEL))
         for put in grown:
             if put.timed:
                 number, back = put.timed
                 cursor.execute('UPDATE ezmlm.item SET back = %s WHERE list = %s AND number = %s', (back, put.name, number))
         if given := [(put.name, number, theirs) for put in grown for theirs, number in put.given]:
-            cursor.execute('INSERT INTO ezmlm.given SELECT * FROM unnest(%s::text[], %s::bigint[], %s::bigint[])', puts.columns(given, 3))
+            cursor.execute('INSERT INTO ezmlm.given SELECT * FROM unnest(%s::text[], %s::bigint[], %s::bigint[])', arrays(given, 3))
 
     def tell(self, cursor: lines.Cursor, steps: Sequence[puts.Step]) -> None:
-        """Notes where this host's lists stand, and finds the items that they are told, which share the bytes that one may have."""
-        if not steps:
-            return
-        places = puts.columns(((step.wish.name, step.wish.place, step.wish.key) for step in steps), 3)
-        cursor.execute(STANDS, (steps[0].put.now, *places, self.host))
+        """Finds the items that lists are told, which share the bytes that one may have."""
         sizes = {step.wish.name: step.wish.size // len(steps) for step in steps}
         kept = {step.wish.name: step for step in steps if not step.is_all_new()}
         waited = [step for step in steps if step.stand.is_waited_for]
-        rows = cursor.execute(ROWS, puts.columns(((name, step.wish.place, step.bound(), sizes[name]) for name, step in kept.items()), 4)) if kept else None
+        bounds = [(name, step.wish.place, step.bound(), sizes[name]) for name, step in kept.items()]
+        rows = cursor.execute(ROWS, arrays(bounds, 4)) if kept else None
         again = [cursor.execute(AGAIN, (name, step.wish.place, step.wish.most, sizes[name])) for step in waited for name in [step.wish.name]]
         for step in steps:
             if step.is_all_new():
@@ -184,7 +189,7 @@ class Rows:
         (following,) = row_of(asked.next)
         put = puts.Put(name, following, int(time.time()))
         put.add(adds, found_of(asked.mails).get(name, {}), found_of(asked.given).get(name, {}))
-        self.write(cursor, [put], [])
+        self.write(cursor, [put])
         return put.numbers, following
 
     def timed(self, cursor: lines.Cursor, name: str, before: int, put: puts.Put) -> None:
@@ -221,6 +226,23 @@ class Rows:
                               [(answer, name, number) for number, answer in answers])
 
 
+def arrays(rows: Iterable[Sequence[int | str | bytes | None]], many: int) -> list[str]:
+    """Rows of so many values as arrays, one for each column, as PostgreSQL spells them."""
+    columns: list[tuple[int | str | bytes | None, ...]] = list(zip(*rows)) or [()] * many
+    return ['{' + ','.join(map(spelled, column)) + '}' for column in columns]
+
+
+def spelled(value: int | str | bytes | None) -> str:
+    """A value as it stands in an array."""
+    if value is None:
+        return 'NULL'
+    if isinstance(value, int):
+        return str(value)
+    if isinstance(value, bytes):
+        return f'"\\\\x{value.hex()}"'
+    return '"' + value.replace('\\', '\\\\').replace('"', '\\"') + '"'
+
+
 def found_of(answer: 'servers.Answer | None') -> dict[str, dict[Any, int]]:
     """The numbers of what came before, by the lists and the keys."""
     found: dict[str, dict[Any, int]] = {}
@@ -232,7 +254,7 @@ def found_of(answer: 'servers.Answer | None') -> dict[str, dict[Any, int]]:
 def keep_handed(cursor: lines.Cursor, copies: Collection[tuple[str, int, bytes, bytes]]) -> None:
     """Notes copies that were handed on, each with its list's name."""
     if copies:
-        cursor.execute('INSERT INTO ezmlm.handed SELECT * FROM unnest(%s::text[], %s::bigint[], %s::bytea[], %s::bytea[])', puts.columns(copies, 4))
+        cursor.execute('INSERT INTO ezmlm.handed SELECT * FROM unnest(%s::text[], %s::bigint[], %s::bytea[], %s::bytea[])', arrays(copies, 4))
 
 
 def keep_all_handed(cursor: lines.Cursor, those: Sequence[Collection[tuple[str, int, bytes, bytes]]]) -> list[None | Exception]:
