@@ -2,6 +2,7 @@
 
 import asyncio
 import collections
+import logging
 import select
 import time
 from collections.abc import Callable, Iterable, Sequence
@@ -19,6 +20,7 @@ SLOW = 1.0    # seconds after which a connection begins no further call before w
 # A transaction of many calls waits only so many milliseconds for a lock that somebody else has.
 TOGETHER = "SELECT set_config('synchronous_commit', 'off', true), set_config('lock_timeout', '500', true)"
 LARGEST = 8 << 20  # bytes that the calls of one transaction put in, unless one alone has more
+logging.getLogger('psycopg').setLevel(logging.ERROR)  # It warns of what ends with a call that failed, and that tells why.
 
 
 class Cursor:

@@ -9,7 +9,7 @@ import sys
 import traceback
 
 from . import (backscatter, beside, checking, given, histories, hosts, killed, looks, mail_in, mail_out, numbers, receivers, records, set_up,
-               shared, shared_by_hand, signatures, trouble, weeding)
+               shared, shared_by_hand, signatures, together, trouble, weeding)
 from .world import TOP, World, Wrong
 
 AT_ONCE = 4
@@ -18,8 +18,8 @@ AT_ONCE = 4
 def cases():
     """The cases by their names, the longest first."""
     found = {f'killed{part}': functools.partial(killed.case_killed, part=part) for part in range(killed.PARTS)}
-    for module in (shared, shared_by_hand, histories, given, mail_out, beside, trouble, weeding, backscatter, hosts, checking, mail_in, numbers,
-                   set_up, receivers, records, looks, signatures):
+    for module in (shared, shared_by_hand, histories, together, given, mail_out, beside, trouble, weeding, backscatter, hosts, checking, mail_in,
+                   numbers, set_up, receivers, records, looks, signatures):
         found.update({name.removeprefix('case_'): call for name, call in vars(module).items() if name.startswith('case_')})
     return found
 
