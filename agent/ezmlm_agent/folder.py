@@ -152,8 +152,8 @@ def behind_answers(folder: pathlib.Path) -> int:
     groups = [int(name) for name in names(folder / 'done') if name.isdecimal() and int(name) < NO_MAIL // SLOTS]
     if not groups:
         return floor(folder)
-    kept = bytes_or_none(folder / 'done' / str(max(groups))) or b''
-    last = max((slot for slot in range(SLOTS) if any(kept[SLOT * slot:SLOT * slot + SLOT])), default=SLOTS - 1)
+    kept = (bytes_or_none(folder / 'done' / str(max(groups))) or b'')[:SLOTS * SLOT].rstrip(b'\0')
+    last = (len(kept) - 1) // SLOT if kept else SLOTS - 1
     return max(floor(folder), SLOTS * max(groups) + last + 1)
 
 
