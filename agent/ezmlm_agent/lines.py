@@ -19,7 +19,7 @@ HELD = 0.05   # seconds for which calls wait for the connection that is at work,
 SLOW = 1.0    # seconds after which a connection begins no further call before what it made is confirmed
 # A transaction of many calls waits only so many milliseconds for a lock that somebody else has.
 TOGETHER = "SELECT set_config('synchronous_commit', 'off', true), set_config('lock_timeout', '500', true)"
-LARGEST = 8 << 20  # bytes that the calls of one transaction put in, unless one alone has more
+MANY, LARGEST = 64, 8 << 20  # calls of one transaction, and bytes that they put in, unless one alone has more
 logging.getLogger('psycopg').setLevel(logging.ERROR)  # It warns of what ends with a call that failed, and that tells why.
 
 
@@ -77,7 +77,7 @@ class Transaction:
 
     def takes(self, job: Job) -> bool:
         """Whether a further call may go with these, which it does then."""
-        if job.is_alone or self.jobs[0].is_alone or (job.call, job.of) in self.known or self.size + job.size > LARGEST:
+        if len(self.jobs) == MANY or (job.call, job.of) in self.known or self.size + job.size > LARGEST:
             return False
         self.jobs.append(job)
         self.size += job.size
@@ -109,9 +109,11 @@ class Transaction:
 def transactions(jobs: Iterable[Job]) -> list[Transaction]:
     """Calls as they are made: those together that may be."""
     found: list[Transaction] = []
+    joined: list[Transaction] = []
     for job in jobs:
-        if not any(each.takes(job) for each in found):
+        if job.is_alone or not any(each.takes(job) for each in joined):
             found.append(Transaction(job))
+            joined += found[-1:] if not job.is_alone else []
     return found
 
 
@@ -195,8 +197,7 @@ class Lines:
         self.servers = those
         self.idle: list[servers.Connection] = []
         self.waiting: list[Job] = []
-        self.at_work: set[asyncio.Task[None]] = set()
-        self.begun = float('-inf')  # when the last of these began
+        self.at_work: dict[asyncio.Task[None], float] = {}  # and when each began
         self.later: asyncio.TimerHandle | None = None  # when calls go over another connection
 
     async def call(self, call: Callable[..., Result], *words: Any) -> Result:
@@ -222,13 +223,13 @@ class Lines:
         loop = asyncio.get_running_loop()
         if not self.waiting or len(self.at_work) == MOST:
             return
-        if self.at_work and loop.time() < self.begun + HELD:
-            if self.later is None:
-                self.later = loop.call_at(self.begun + HELD, self.begin_later)
+        soonest = max(self.at_work.values(), default=float('-inf')) + HELD
+        if loop.time() < soonest:
+            self.later = self.later or loop.call_at(soonest, self.begin_later)
             return
-        jobs, self.waiting, self.begun = self.waiting, [], loop.time()
+        jobs, self.waiting = self.waiting, []
         task = asyncio.create_task(self.work(jobs))
-        self.at_work.add(task)
+        self.at_work[task] = loop.time()
         task.add_done_callback(self.has_worked)
 
     def begin_later(self) -> None:
@@ -236,7 +237,7 @@ class Lines:
         self.begin()
 
     def has_worked(self, task: 'asyncio.Task[None]') -> None:
-        self.at_work.discard(task)
+        del self.at_work[task]
         if not task.cancelled():
             self.begin()
 
