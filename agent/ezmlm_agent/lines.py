@@ -15,10 +15,11 @@ from . import aside, servers
 Result = TypeVar('Result')
 Word = TypeVar('Word')
 MOST = 2      # connections for calls, at once: with more of them fewer calls go together, and each takes longer
-HELD = 0.05   # seconds for which calls wait for the connection that is at work, before they go over another one
+SOON = 0.05   # seconds for which calls wait for the connection that is at work, before they go over another one
+NEVER = float('-inf')
 SLOW = 1.0    # seconds after which a connection begins no further call before what it made is confirmed
-# A transaction of many calls waits only so many milliseconds for a lock that somebody else has.
-TOGETHER = "SELECT set_config('synchronous_commit', 'off', true), set_config('lock_timeout', '500', true)"
+# No disk is waited for, and so many milliseconds for a lock that somebody else has. What waits for longer does so over a connection by itself.
+SHORT = "SELECT set_config('synchronous_commit', 'off', true), set_config('lock_timeout', '500', true)"
 MANY, LARGEST = 64, 8 << 20  # calls of one transaction, and bytes that they put in, unless one alone has more
 logging.getLogger('psycopg').setLevel(logging.ERROR)  # It warns of what ends with a call that failed, and that tells why.
 
@@ -53,6 +54,7 @@ class Job:
         self.call, self.words, self.of, self.size = call, words, of, size
         self.is_joined = of is not None
         self.is_alone = not self.is_joined  # whether it is a transaction by itself
+        self.is_held = False  # whether somebody has a lock for long that it waits for
         self.ended: asyncio.Future[Any] = asyncio.get_running_loop().create_future()
         self.ended.add_done_callback(lambda ended: ended.cancelled() or ended.exception())  # Nobody may ask for it any more.
         self.result: Any = None
@@ -89,10 +91,7 @@ class Transaction:
         with connection.pipeline():
             cursor = Cursor(connection)
             cursor.execute('BEGIN')
-            if len(self.jobs) > 1:
-                cursor.execute(TOGETHER)
-            else:
-                cursor.execute('SET LOCAL synchronous_commit TO off')
+            cursor.execute('SET LOCAL synchronous_commit TO off' if self.jobs[0].is_held else SHORT)
             for call in dict.fromkeys(job.call for job in self.jobs):
                 self.call(call, cursor, [job for job in self.jobs if job.call == call])
             cursor.execute('COMMIT')
@@ -146,37 +145,35 @@ class Batch:
         self.lines.idle.append(connection)
 
     def make_all(self, connection: servers.Connection) -> None:
-        """Makes the calls, and those of a transaction that fails each alone. After one that takes long, as where another host has a list's row and
-        stands still, the others aren't waited for."""
+        """Makes the calls, and those of a transaction that fails each alone. After one that takes long the others aren't waited for."""
         end = time.monotonic() + SLOW
         waiting, ended = collections.deque(transactions(self.jobs)), list[Job]()
-        while waiting and not (ended and time.monotonic() > end):
+        while waiting and not ((ended or self.left) and time.monotonic() > end):
             transaction = waiting.popleft()
             if self.make(connection, transaction):
                 ended += transaction.jobs
+            elif transaction.jobs[0].is_held:
+                self.left += transaction.jobs
             else:
                 waiting.extendleft(map(Transaction, reversed(transaction.jobs)))
-        self.jobs, self.left = ended, [job for transaction in waiting for job in transaction.jobs]
+        self.jobs, self.left = ended, self.left + [job for transaction in waiting for job in transaction.jobs]
 
     def make(self, connection: servers.Connection, transaction: Transaction) -> bool:
-        """Makes a transaction. Where it fails nothing is left of it. If it has one call, that one fails; the answer is whether it is so, or all was
-        made. Else each call is to be made alone."""
+        """Makes a transaction. Where it fails nothing is left of it, and if it has one call, that one fails. The answer is whether it has ended; else
+        each of its calls is to be made alone, or waits for a lock."""
         try:
             transaction.make(connection)
-            return True
         except Exception as error:
             if connection.closed:
                 raise
             connection.rollback()
             first, *others = transaction.jobs
-            if isinstance(error, psycopg.Error):
-                is_refused = isinstance(error, psycopg.errors.InsufficientPrivilege)
-                first.error = (servers.Unfit if is_refused else servers.Lost)(servers.words_of(error))
-            else:
-                first.error = error
-            for job in transaction.jobs if others else []:
-                job.error, job.is_alone = None, True
-            return not others
+            if others or isinstance(error, psycopg.errors.LockNotAvailable) and not first.is_held:
+                for job in transaction.jobs:
+                    job.error, job.is_alone, job.is_held = None, True, not others
+                return False
+            first.error = why_of(error)
+        return True
 
     def noticed(self, notice: servers.Notice) -> None:
         self.warning = servers.warning_of(notice) or self.warning
@@ -190,6 +187,14 @@ class Batch:
             servers.cut(self.connection)
 
 
+def why_of(error: Exception) -> Exception:
+    """Why a call fails, by the error that ended it."""
+    if not isinstance(error, psycopg.Error):
+        return error
+    is_refused = isinstance(error, psycopg.errors.InsufficientPrivilege)
+    return (servers.Unfit if is_refused else servers.Lost)(servers.words_of(error))
+
+
 class Lines:
     """Connections for calls. What waits when one of them is free goes over it together."""
 
@@ -197,7 +202,8 @@ class Lines:
         self.servers = those
         self.idle: list[servers.Connection] = []
         self.waiting: list[Job] = []
-        self.at_work: dict[asyncio.Task[None], float] = {}  # and when each began
+        self.held: list[Job] = []  # that wait for locks, over no more than one connection
+        self.at_work: dict[asyncio.Task[None], float] = {}  # and when each began, or NEVER for one that waits for a lock
         self.later: asyncio.TimerHandle | None = None  # when calls go over another connection
 
     async def call(self, call: Callable[..., Result], *words: Any) -> Result:
@@ -221,20 +227,25 @@ class Lines:
         """Gives the calls that wait to a connection. While one is at work, and not for long, they wait for that, since more of them go together
         then."""
         loop = asyncio.get_running_loop()
-        if not self.waiting or len(self.at_work) == MOST:
-            return
-        soonest = max(self.at_work.values(), default=float('-inf')) + HELD
-        if loop.time() < soonest:
-            self.later = self.later or loop.call_at(soonest, self.begin_later)
-            return
-        jobs, self.waiting = self.waiting, []
-        task = asyncio.create_task(self.work(jobs))
-        self.at_work[task] = loop.time()
-        task.add_done_callback(self.has_worked)
+        if self.held and len(self.at_work) < MOST and NEVER not in self.at_work.values():
+            jobs, self.held = self.held, []
+            self.give(jobs, NEVER)
+        if self.waiting and len(self.at_work) < MOST:
+            soonest = max(self.at_work.values(), default=NEVER) + SOON
+            if loop.time() < soonest:
+                self.later = self.later or loop.call_at(soonest, self.begin_later)
+                return
+            jobs, self.waiting = self.waiting, []
+            self.give(jobs, loop.time())
 
     def begin_later(self) -> None:
         self.later = None
         self.begin()
+
+    def give(self, jobs: list[Job], begun: float) -> None:
+        task = asyncio.create_task(self.work(jobs))
+        self.at_work[task] = begun
+        task.add_done_callback(self.has_worked)
 
     def has_worked(self, task: 'asyncio.Task[None]') -> None:
         del self.at_work[task]
@@ -255,7 +266,8 @@ class Lines:
             self.close()
         for job in batch.jobs:
             job.tell(error)
-        self.waiting = batch.left + self.waiting
+        self.waiting = [job for job in batch.left if not job.is_held] + self.waiting
+        self.held += [job for job in batch.left if job.is_held]
 
     def taken(self, has: Callable[[servers.Connection], object]) -> servers.Connection:
         """A connection at which nothing came since it was used last, or a new one. `has` gets it as soon as it is there."""

@@ -114,8 +114,8 @@ def case_history_together_fails(world):
 
 
 def case_history_together_held(world):
-    """A list's row that somebody holds for long holds up no other list for as long, and its own call is made when it is free."""
-    with histories(world, takeover=20) as (those, pasts):
+    """Lists' rows that somebody holds for long hold up no other list, and their own calls are made when they are free."""
+    with histories(world, takeover=30) as (those, pasts):
         if pasts is None:
             return
         one, _ = pasts
@@ -123,7 +123,7 @@ def case_history_together_held(world):
 
         def hold():
             with contextlib.closing(one.lines.servers.connect()) as connection, connection.transaction():
-                connection.execute('SELECT FROM ezmlm.list WHERE name = %s FOR UPDATE', (NAMES[-1],))
+                connection.execute('SELECT FROM ezmlm.list WHERE name = ANY(%s) FOR UPDATE', (NAMES[-2:],))
                 holds.set()
                 over.wait(60)
 
@@ -131,14 +131,15 @@ def case_history_together_held(world):
             await taken_up(one)
             thread = threading.Thread(target=hold)
             thread.start()
-            await asyncio.to_thread(holds.wait, 60)
+            await asyncio.to_thread(holds.wait, 20)
             calls = [asyncio.create_task(told(one, name, 512, [b'a'])) for name in (NAMES[0], *NAMES)]
-            # Those before it are made alone, and told when a commit confirms them, at the latest after the one that waits.
-            await asyncio.sleep(3)
-            later = await asyncio.wait_for(told(one, NAMES[0], 513, [b'b']), 60)
-            check(not calls[-1].done(), 'the held list was told something')
-            same(later.numbers, [513], 'another list')
+            calls.insert(0, asyncio.create_task(one.give(NAMES[-1], [(0, spell('x'))])))
+            await asyncio.wait(calls[1:6], timeout=25)
+            same((await told(one, NAMES[0], 513, [b'b'])).numbers, [513], 'another list, all the while')
+            same([call.done() for call in calls], [False] + 5 * [True] + 2 * [False], 'which calls have ended')
             over.set()
-            same([said.numbers for said in await asyncio.gather(*calls)], 7 * [[512]], 'numbers')
+            same([said.numbers for said in await asyncio.gather(*calls[1:6])], 5 * [[512]], 'numbers of the others')
+            given, *held = await asyncio.gather(calls[0], *calls[6:])
+            same(sorted(given + held[1].numbers) + held[0].numbers, [512, 513, 512], 'numbers of those that were held')
             await asyncio.to_thread(thread.join)
         asyncio.run(ask())
