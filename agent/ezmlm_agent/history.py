@@ -57,7 +57,8 @@ class History(rows.Rows):
     async def configurations(self, name: str, place: int) -> list[tuple[int, bytes]]:
         """The configuration that holds at a place, and the one that held before, with the numbers from which on they hold."""
         def read(cursor: lines.Cursor) -> list[tuple[int, bytes]]:
-            cursor.execute('SELECT number, text FROM ezmlm.configuration WHERE list = %s AND number <= %s ORDER BY number DESC LIMIT 2', (name, place))
+            cursor.execute('SELECT number, text FROM ezmlm.configuration WHERE list = %s AND number <= %s ORDER BY number DESC LIMIT 2',
+                           (name, place))
             return [(number, text) for number, text in cursor.fetchall()]
         return await self.lines.call(read)
 

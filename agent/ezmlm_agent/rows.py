@@ -202,7 +202,8 @@ class Rows:
         cursor.execute('SELECT floor, day, (SELECT max(number) FROM ezmlm.item WHERE list = name AND back IS NOT NULL) FROM ezmlm.list '
                        'WHERE name = %s', (name,))
         floor, day, last = row_of(cursor)
-        put.put_timed(lambda number, moment: program.item(b'T', number, moment), puts.WHOLE if last is None or day != now // DAY else following - last)
+        is_whole = last is None or day != now // DAY
+        put.put_timed(lambda number, moment: program.item(b'T', number, moment), puts.WHOLE if is_whole else following - last)
         for value in [*range(floor + STEP, lowest, STEP), lowest] if lowest > max(floor, notes.FIRST) else []:
             put.put(functools.partial(puts.raised, value))
         cursor.execute('UPDATE ezmlm.list SET timed = %s, day = %s, floor = greatest(floor, %s) WHERE name = %s', (now, now // DAY, lowest, name))
