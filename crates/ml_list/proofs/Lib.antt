@@ -9,6 +9,8 @@ pub mod States
 pub mod Named
 pub mod Asked
 pub mod Told
+pub mod Written
+pub mod Again
 mod Delivered
 mod Readable
 mod Requested

@@ -1,8 +1,9 @@
 // An item is applied to the files of a list.
-ghost use Rattle.std.specs.Prelude.{◌≡◌, ◌≢◌, ◌≤◌, ◌<◌, true, IsTrue, IfOk, IfErr, IfSome, Some, None, ◌/◌, ◌++◌, ◌∷◌, []};
+ghost use Rattle.std.specs.Prelude.{◌≡◌, ◌≢◌, ◌≤◌, ◌<◌, Bool, true, IsTrue, IfOk, IfErr, IfSome, Some, None, ◌/◌, ◌++◌, ◌∷◌, []};
 ghost use Rattle.std.specs.Option.{option_copied};
-ghost use Rattle.ml_base.specs.Dir.{Dir, are_files, newest_put, with_puts};
+ghost use Rattle.ml_base.specs.Dir.{Dir, are_files, newest_put, touches_only, with_puts};
 ghost use Rattle.ml_base.specs.ReadFiles.{IsReading, NamesDamaged};
+ghost use Rattle.ml_base.specs.declared.names.Name.{Name as TheName};
 ghost use Rattle.ml_base.specs.declared.part.PartError.TheVariants.{Memory};
 ghost use Rattle.ml_base.specs.PartErrors.{OnDamaged};
 ghost use Rattle.ml_plain.specs.declared.Act.TheVariants.{Timed};
@@ -13,10 +14,12 @@ ghost use Rattle.ml_plain.specs.Histories as steps;
 ghost use Rattle.ml_plain.specs.Directory.{IsState};
 ghost use Rattle.ml_plain.specs.KeptFiles.{is_kept};
 ghost use Rattle.ml_plain.specs.KeptFiles as states;
+ghost use Rattle.ml_list.specs.Again.{CountsOnce, IsAgain};
 ghost use Rattle.ml_list.specs.Applying.{Does, Repeats};
 ghost use Rattle.ml_list.specs.Lookups.{answer_of, IsNew, IsInRange, IsRead};
 ghost use Rattle.ml_list.specs.Asked.{IsDamagedFor, IsDamagedForAct};
 ghost use Rattle.ml_list.specs.Damage.{IsDamagedInList, is_looked_up, is_read_by, is_read_by_item};
+ghost use Rattle.ml_list.specs.Written.{is_written_by, is_written_by_act};
 
 use crate::changing::{add_member, change_key, remove_member};
 use crate::delivering::deliver;
@@ -37,6 +40,10 @@ use std::alloc::{AllocError, Global};
 ///
 /// An item whose number isn't 0 and is below the floor is answered `stale`, one whose number has a kept reply is answered
 /// with it, and neither changes anything. The reply of any other item is kept for its number, where that isn't 0.
+///
+/// Whatever else the files hold, the puts are of files that the item may write, and a number counts once: of an item with a number that is
+/// answered, the floor's file and the number's own slot were in their grammar.
+///
 /// `Damaged` names a file that the item may read, a delivery by the numbers of what its recipient asks under the configuration that the
 /// files hold, and that is outside its grammar; one of the archive is damaged for what is asked. `Fault` comes only where a read failed.
 ///
@@ -46,6 +53,8 @@ pub fn apply<F: Files>(alloc: Global, files: F, item: &Item) -> (F, Result<(Txn,
     ensures value { IsTrue F.tells → IfOk result.1 (λ done. (q : State) → IsState (F.map files) q → Does (F.map files) done (step q item.now)) }
     ensures reply { IfOk result.1 (λ done. IsTrue (is_code done.1.code)) }
     ensures files { IfOk result.1 (λ done. IsTrue (are_files done.0)) }
+    ensures written { IsTrue F.tells → IfOk result.1 (λ done. touches_only (is_written_by item.now) done.0 ≡ true) }
+    ensures once { IsTrue F.tells → IfOk result.1 (λ done. CountsOnce (F.map files) item.now.number done) }
     ensures names { NamesDamaged ⟦<F as Files>⟧ (λ name. is_read_by_item item.now name ≡ true) (IsDamagedFor (F.map files) item.now) result.1 }
     ensures sound { IsTrue F.tells → (q : State) → IsState (F.map files) q → IfErr result.1 (λ e. OnDamaged e (λ _. ⊥)) }
     ensures reads { IsReading ⟦<F as Files>⟧ files result.0 result.1 }
@@ -64,6 +73,8 @@ pub fn apply_with_memo<F: Files>(
     ensures value { IsTrue F.tells → IfOk result.1 (λ done. (q : State) → IsState (F.map files) q → Does (F.map files) done (step q item.now)) }
     ensures reply { IfOk result.1 (λ done. IsTrue (is_code done.1.code)) }
     ensures files { IfOk result.1 (λ done. IsTrue (are_files done.0)) }
+    ensures written { IsTrue F.tells → IfOk result.1 (λ done. touches_only (is_written_by item.now) done.0 ≡ true) }
+    ensures once { IsTrue F.tells → IfOk result.1 (λ done. CountsOnce (F.map files) item.now.number done) }
     ensures names { NamesDamaged ⟦<F as Files>⟧ (λ name. is_read_by_item item.now name ≡ true) (IsDamagedFor (F.map files) item.now) result.1 }
     ensures sound { IsTrue F.tells → (q : State) → IsState (F.map files) q → IfErr result.1 (λ e. OnDamaged e (λ _. ⊥)) }
     ensures reads { IsReading ⟦<F as Files>⟧ files result.0 result.1 }
@@ -83,6 +94,8 @@ fn answered<F: Files>(
     ensures value { IsTrue F.tells → IfOk result.1 (λ done. (q : State) → IsState (F.map files) q → Does (F.map files) done (step q item.now)) }
     ensures reply { IfOk result.1 (λ done. IsTrue (is_code done.1.code)) }
     ensures files { IfOk result.1 (λ done. IsTrue (are_files done.0)) }
+    ensures written { IsTrue F.tells → IfOk result.1 (λ done. touches_only (is_written_by item.now) done.0 ≡ true) }
+    ensures once { IsTrue F.tells → IfOk result.1 (λ done. CountsOnce (F.map files) item.now.number done) }
     ensures names { NamesDamaged ⟦<F as Files>⟧ (λ name. is_read_by_item item.now name ≡ true) (IsDamagedFor (F.map files) item.now) result.1 }
     ensures sound { IsTrue F.tells → (q : State) → IsState (F.map files) q → IfErr result.1 (λ e. OnDamaged e (λ _. ⊥)) }
     ensures reads { IsReading ⟦<F as Files>⟧ files result.0 result.1 }
@@ -111,6 +124,7 @@ fn look_up<F: Files>(alloc: Global, files: &mut F, number: u64) -> Result<Lookup
     ensures known { IsTrue F.tells → IfOk result (λ found. IsNew found (IsRead (F.map files.old) number)) }
     ensures range { IfOk result (λ found. IsNew found (λ known. IsInRange known.floor)) }
     ensures reply { IfOk result (λ found. IfSome (answer_of found) (λ r. IsTrue (is_code r.code))) }
+    ensures looked { IsTrue F.tells → IfOk result (λ found. number ≢ 0 → IsAgain (F.map files.old) number (answer_of found)) }
     ensures names { NamesDamaged ⟦<F as Files>⟧ (λ name. is_looked_up number name ≡ true) (IsDamagedInList (F.map files.old)) result }
     ensures reads { IsReading ⟦<F as Files>⟧ files.old files.new result }
 {
@@ -155,6 +169,7 @@ fn count<F: Files>(
     ensures value { IsTrue F.tells → IfOk result.1 (λ done. (q : State) → IsState (F.map files) q → Repeats q item.now.number None → Does (F.map files) done (with_reply item.now.number (steps.effect q item.now))) }
     ensures reply { IfOk result.1 (λ done. IsTrue (is_code done.1.code)) }
     ensures files { IfOk result.1 (λ done. IsTrue (are_files done.0)) }
+    ensures written { IsTrue F.tells → IfOk result.1 (λ done. touches_only (is_written_by item.now) done.0 ≡ true) }
     ensures names { NamesDamaged ⟦<F as Files>⟧ (λ name. is_read_by item.now.act name ≡ true) (IsDamagedForAct (F.map files) item.now.act) result.1 }
     ensures reads { IsReading ⟦<F as Files>⟧ files result.0 result.1 }
 {
@@ -182,6 +197,7 @@ fn effect<F: Files>(
     ensures value { IsTrue F.tells → IfOk result.1 (λ done. (q : State) → IsState (F.map files) q → Does (F.map files) done (steps.effect q item.now)) }
     ensures reply { IfOk result.1 (λ done. is_kept done.1 ≡ true) }
     ensures files { IfOk result.1 (λ done. IsTrue (are_files done.0)) }
+    ensures written { IsTrue F.tells → IfOk result.1 (λ done. touches_only (is_written_by_act item.now.act) done.0 ≡ true) }
     ensures names { NamesDamaged ⟦<F as Files>⟧ (λ name. is_read_by item.now.act name ≡ true) (IsDamagedForAct (F.map files) item.now.act) result.1 }
     ensures reads { IsReading ⟦<F as Files>⟧ files result.0 result.1 }
 {
@@ -210,6 +226,7 @@ fn change<F: Files>(
     ensures value { IsTrue F.tells → IfOk result (λ done. (q : State) → IsState (F.map files.old) q → Does (F.map files.old) done (steps.effect q item.now)) }
     ensures reply { IfOk result (λ done. is_kept done.1 ≡ true) }
     ensures files { IfOk result (λ done. IsTrue (are_files done.0)) }
+    ensures written { IsTrue F.tells → IfOk result (λ done. touches_only (is_written_by_act item.now.act) done.0 ≡ true) }
     ensures names { NamesDamaged ⟦<F as Files>⟧ (λ name. is_read_by item.now.act name ≡ true) (IsDamagedForAct (F.map files.old) item.now.act) result }
     ensures reads { IsReading ⟦<F as Files>⟧ files.old files.new result }
 {
@@ -252,6 +269,7 @@ fn with_reply_kept(
     ensures value { IfOk result (λ done. (dir : Dir) (q : State) → (number ≢ 0 → file ≡ dir (states.replies_name (number / 512))) → IsState (with_puts dir txn) q → (number ≢ 0 → q.floor ≤ number) → Does dir done (with_reply number (q, reply))) }
     ensures reply { IfOk result (λ done. IsTrue (is_code done.1.code)) }
     ensures files { IfOk result (λ done. IsTrue (are_files done.0)) }
+    ensures written { IfOk result (λ done. (own : TheName → Bool) → touches_only own txn ≡ true → (number ≢ 0 → own (states.replies_name (number / 512)) ≡ true) → touches_only own done.0 ≡ true) }
     ensures error { IfErr result (λ e. e ≡ Memory) }
 {
     if number == 0 {

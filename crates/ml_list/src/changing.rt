@@ -1,6 +1,7 @@
 // What acts change of the list: its sets and its keys.
 ghost use Rattle.std.specs.Prelude.{◌≡◌, ◌<◌, ◌≤◌, true, IsTrue, IfOk, IfErr, IfSome, IsErrOf};
 ghost use Rattle.ml_subs.specs.Answers.{puts_of};
+ghost use Rattle.ml_base.specs.Dir.{touches_only};
 ghost use Rattle.ml_base.specs.Ranges.{IsMoment};
 ghost use Rattle.ml_plain.specs.declared.Act.TheVariants as acts;
 ghost use Rattle.ml_plain.specs.Answers.{rekeyed, toosoon};
@@ -11,6 +12,7 @@ ghost use Rattle.ml_acts.specs.Doing.{DoesList};
 ghost use Rattle.ml_acts.specs.Acting.{AnswersAct};
 ghost use Rattle.ml_list.specs.Applying.{addition_reply};
 ghost use Rattle.ml_list.specs.Damage.{IsDamagedInList, is_read_by};
+ghost use Rattle.ml_list.specs.Written.{is_written_by_act};
 
 use ml_acts::remove_member_with_memo;
 use ml_base::{Address, Files, PartError, Set, Txn, age};
@@ -33,6 +35,7 @@ pub(crate) fn add_member<F: Files>(
 ) -> Result<(Txn, Reply), PartError>
     requires { IsMoment now }
     ensures value { IsTrue F.tells → IfOk result (λ done. (p : Plain) → IsList (F.map files.old) p → DoesList (F.map files.old) done (spec.add now set who.now p)) }
+    ensures written { IfOk result (λ done. touches_only (is_written_by_act (acts.Add set who.now)) done.0 ≡ true) }
     ensures act { AnswersAct ⟦<F as Files>⟧ (λ name. is_read_by (acts.Add set who.now) name ≡ true) (IsDamagedInList (F.map files.old)) files.old files.new result }
 {
     let answer = add_with_memo(alloc, files, memo, set, who, now)?;
@@ -60,6 +63,7 @@ pub(crate) fn remove_member<F: Files>(
     who: &Address,
 ) -> Result<(Txn, Reply), PartError>
     ensures value { IsTrue F.tells → IfOk result (λ done. (p : Plain) → IsList (F.map files.old) p → DoesList (F.map files.old) done (spec.remove set who.now p)) }
+    ensures written { IfOk result (λ done. touches_only (is_written_by_act (acts.Remove set who.now)) done.0 ≡ true) }
     ensures act { AnswersAct ⟦<F as Files>⟧ (λ name. is_read_by (acts.Remove set who.now) name ≡ true) (IsDamagedInList (F.map files.old)) files.old files.new result }
 {
     match remove_member_with_memo(alloc, files, memo, set, who)? {
@@ -77,6 +81,7 @@ pub(crate) fn change_key<F: Files>(
 ) -> Result<(Txn, Reply), PartError>
     requires { IsMoment now }
     ensures value { IsTrue F.tells → IfOk result (λ done. (p : Plain) → IsList (F.map files.old) p → DoesList (F.map files.old) done (spec.rekey now new.now p)) }
+    ensures written { IfOk result (λ done. touches_only (is_written_by_act (acts.Rekey new.now)) done.0 ≡ true) }
     ensures act { AnswersAct ⟦<F as Files>⟧ (λ name. is_read_by (acts.Rekey new.now) name ≡ true) (IsDamagedInList (F.map files.old)) files.old files.new result }
 {
     let keys = key(alloc, files)?;

@@ -14,6 +14,7 @@ ghost use Rattle.ml_list.specs.Applying.{Does};
 ghost use Rattle.ml_list.specs.Damage.{IsDamagedInList, IsNoReplies, is_read_by};
 ghost use Rattle.ml_list.specs.Lookups.{IsInRange, IsRead};
 ghost use Rattle.ml_list.specs.Rising.{removals, rise_puts};
+ghost use Rattle.ml_list.specs.Written.{is_written_by_act};
 ghost use Rattle.ml_plain.specs.declared.Act.TheVariants as acts;
 ghost use Rattle.ml_plain.specs.KeptFiles.{IsEmptied};
 
@@ -40,6 +41,7 @@ pub(crate) fn raise<F: Files>(
     ensures value { IsTrue F.tells → IfOk result (λ done. (q : State) → IsState (F.map files.old) q → Does (F.map files.old) done (steps.raise q number at)) }
     ensures reply { IfOk result (λ done. is_kept done.1 ≡ true) }
     ensures files { IfOk result (λ done. IsTrue (are_files done.0)) }
+    ensures written { IsTrue F.tells → IfOk result (λ done. touches_only (is_written_by_act (acts.Floor at)) done.0 ≡ true) }
     ensures names { NamesDamaged ⟦<F as Files>⟧ (λ name. is_read_by (acts.Floor at) name ≡ true) (IsDamagedInList (F.map files.old)) result }
     ensures reads { IsReading ⟦<F as Files>⟧ files.old files.new result }
 {

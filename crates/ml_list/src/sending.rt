@@ -1,6 +1,7 @@
 // Entries of the queue that were sent.
 ghost use Rattle.std.specs.Prelude.{◌≡◌, true, IsTrue, IfOk};
-ghost use Rattle.ml_base.specs.Dir.{same_name};
+ghost use Rattle.ml_base.specs.Dir.{same_name, touches_only};
+ghost use Rattle.ml_plain.specs.declared.Act.TheVariants as acts;
 ghost use Rattle.ml_plain.specs.Directory.{IsList};
 ghost use Rattle.ml_plain.specs.Plain.{Plain};
 ghost use Rattle.ml_plain.specs.Steps as spec;
@@ -8,6 +9,7 @@ ghost use Rattle.ml_queue.specs.Answers.{ids_name};
 ghost use Rattle.ml_acts.specs.Damaged.{IsDamaged};
 ghost use Rattle.ml_acts.specs.Doing.{DoesList};
 ghost use Rattle.ml_acts.specs.Acting.{AnswersAct};
+ghost use Rattle.ml_list.specs.Written.{is_written_by_act};
 
 use ml_base::{Files, PartError, Txn};
 use ml_plain::Reply;
@@ -21,6 +23,7 @@ pub(crate) fn sent_entry<F: Files>(
     id: u64,
 ) -> Result<(Txn, Reply), PartError>
     ensures value { IsTrue F.tells → IfOk result (λ done. (p : Plain) → IsList (F.map files.old) p → DoesList (F.map files.old) done (spec.sent id p)) }
+    ensures written { IsTrue F.tells → IfOk result (λ done. touches_only (is_written_by_act (acts.Sent id)) done.0 ≡ true) }
     ensures act { AnswersAct ⟦<F as Files>⟧ (λ name. same_name name ids_name ≡ true) (IsDamaged (F.map files.old)) files.old files.new result }
 {
     match sent(alloc, files, id)? {

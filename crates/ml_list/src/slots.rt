@@ -1,5 +1,5 @@
 // The files of kept replies: 512 slots of nine bytes each.
-ghost use Rattle.std.specs.Prelude.{◌≡◌, ◌≢◌, ◌<◌, ◌≤◌, ◌+◌, ◌*◌, ◌/◌, true, ℕ, Option, Some, None, IsTrue, IfOk, IfErr, IfSome, IfNone, IsErrOf, length, replicate};
+ghost use Rattle.std.specs.Prelude.{◌≡◌, ◌≢◌, ◌<◌, ◌≤◌, ◌+◌, ◌*◌, ◌/◌, ◌%◌, true, ℕ, Option, Some, None, IsTrue, IfOk, IfErr, IfSome, IfNone, IsErrOf, length, replicate, take};
 ghost use Rattle.ml_base.specs.Dir.{Dir, with_put};
 ghost use Rattle.ml_base.specs.ReadFiles.{IsReading, NamesDamaged};
 ghost use Rattle.ml_base.specs.Name.{is_file};
@@ -10,6 +10,7 @@ ghost use Rattle.ml_plain.specs.Histories.{Kept};
 ghost use Rattle.ml_plain.specs.Histories as steps;
 ghost use Rattle.ml_plain.specs.KeptFiles.{AreReplies, IsRepliesFile, IsWritten, slot_text, slots_of};
 ghost use Rattle.ml_plain.specs.KeptFiles as states;
+ghost use Rattle.ml_list.specs.Again.{HoldsReply};
 ghost use Rattle.ml_list.specs.Damage.{IsNoReplies};
 
 use ml_base::{Bytes, Files, LAST_DRAWN, Name, PartError, Put, put_piece};
@@ -57,6 +58,7 @@ fn is_code(code: u8) -> bool
 // What the nine bytes of a slot spell: a reply, or that there is none. It is None where they spell neither.
 fn read_slot(bytes: &[u8]) -> Option<Option<Reply>>
     ensures read { (found : Option Reply) → IfSome found (λ r. states.is_kept r ≡ true) → bytes.now ≡ slot_text found → result ≡ Some found }
+    ensures spelled { IfSome result (λ found. take 9 bytes.now ≡ slot_text found) }
     ensures fits { IfSome result (λ found. IfSome found (λ r. states.is_kept r ≡ true)) }
 {
     let (head, rest) = bytes.split_first_chunk::<1>()?;
@@ -79,6 +81,7 @@ fn read_slot(bytes: &[u8]) -> Option<Option<Reply>>
 fn reply_in(file: &Option<Bytes>, slot: usize) -> Option<Option<Reply>>
     requires { slot < 512 }
     ensures read { (first : ℕ) (kept : Kept) → IsRepliesFile first file.now kept → result ≡ Some (kept (first + slot)) }
+    ensures spelled { IfSome result (λ found. HoldsReply file.now slot found) }
     ensures fits { IfSome result (λ found. IfSome found (λ r. states.is_kept r ≡ true)) }
 {
     let Some(text) = file else {
@@ -114,6 +117,7 @@ pub(crate) fn kept_reply<F: Files>(
     requires { number ≤ 999_999_999_999 }
     ensures value { IsTrue F.tells → IfOk result (λ found. (kept : Kept) → IsRepliesFile (512 * (number / 512)) (F.map files.old (states.replies_name (number / 512))) kept → found.reply ≡ kept number) }
     ensures file { IsTrue F.tells → IfOk result (λ found. found.file ≡ F.map files.old (states.replies_name (number / 512))) }
+    ensures spelled { IsTrue F.tells → IfOk result (λ found. HoldsReply (F.map files.old (states.replies_name (number / 512))) (number % 512) found.reply) }
     ensures fits { IfOk result (λ found. IfSome found.reply (λ r. states.is_kept r ≡ true)) }
     ensures names { NamesDamaged ⟦<F as Files>⟧ (λ name. name ≡ states.replies_name (number / 512)) (λ _. IsNoReplies (F.map files.old) (number / 512)) result }
     ensures reads { IsReading ⟦<F as Files>⟧ files.old files.new result }

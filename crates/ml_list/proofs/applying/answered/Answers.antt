@@ -1,4 +1,4 @@
-use Rattle.std.proofs.Common.{◌≡◌, inl, inr, true, None, IfErr, subst}
+use Rattle.std.proofs.Common.{◌≡◌, ◌≢◌, inl, inr, true, None, IfErr, subst}
 use Rattle.std.proofs.lemmas.Bool.{or_left, or_right}
 use Rattle.std.proofs.lemmas.Result.{IfOk-weaker}
 use Rattle.ml_base.specs.Dir.{Dir}
@@ -7,10 +7,12 @@ use Rattle.ml_base.proofs.DamagedNames.{err_damaged, on_both, on_damaged}
 use Rattle.ml_plain.specs.Histories.{State, effect, with_reply}
 use Rattle.ml_plain.specs.Directory.{IsState}
 use Rattle.ml_list.specs.declared.applying.Lookup.{Lookup}
+use Rattle.ml_list.specs.Again.{IsAgain}
 use Rattle.ml_list.specs.Applying.{Does, Repeats}
 use Rattle.ml_list.specs.Asked.{IsDamagedFor, IsDamagedForAct}
 use Rattle.ml_list.specs.Damage.{IsDamagedInList, is_looked_up, is_read_by, is_read_by_item}
 use Rattle.ml_list.specs.Lookups.{answer_of}
+use Rattle.ml_list.proofs.Again.{again_once, new_once}
 use Rattle.ml_list.proofs.Damages.{none_damaged, sound_by}
 use Rattle.ml_list.proofs.Steps.{answered_does, new_does}
 use Rattle.ml_list.proofs.applying.answered.Goals as goal
@@ -66,3 +68,16 @@ returns-in-Ok-New-clause-names g c =
           err_damaged r (IsDamagedForAct dir item.act) (IsDamagedFor dir item) (λ name bad. record { damaged = bad.damaged; read = inr bad.read })
           (subst (λ (d : Dir). IfErr r (λ e. OnDamaged e (IsDamagedForAct d item.act))) same (c.count.ensures.names.damaged told));
     }
+
+pub returns-in-Ok-Answered-clause-once : goal.returns-in-Ok-Answered-clause-once
+returns-in-Ok-Answered-clause-once g c told =
+    let dir = g.F.Files.map c.args.files in
+    let number = c.args.item.now.number in
+    again_once dir number c.in-Ok-Answered.reply c.new.result c.new.ensures (subst (λ (l : Lookup). number ≢ 0 → IsAgain dir number (answer_of l)) c.in-Ok-Answered.field-0-is (c.in-Ok-Answered.ensures.looked told))
+
+pub returns-in-Ok-New-clause-once : goal.returns-in-Ok-New-clause-once
+returns-in-Ok-New-clause-once g c told =
+    let dir = g.F.Files.map c.args.files in
+    let number = c.args.item.now.number in
+    let found = subst (λ (l : Lookup). number ≢ 0 → IsAgain dir number (answer_of l)) c.in-Ok-New.field-0-is (c.in-Ok-New.ensures.looked told) in
+    IfOk-weaker c.count.result.1 _ _ (λ done any. new_once dir number done found) c.count.ensures.files

@@ -1,9 +1,10 @@
-use Rattle.std.proofs.Common.{◌≡◌, true, sym, ap, subst}
-use Rattle.ml_base.specs.Dir.{same_name}
+use Rattle.std.proofs.Common.{◌≡◌, true, IfOk, sym, ap, subst}
+use Rattle.ml_base.specs.Dir.{same_name, touches_only}
 use Rattle.ml_base.specs.ReadFiles.{NamesDamaged}
 use Rattle.ml_queue.specs.Answers.{ids_name}
 use Rattle.ml_list.specs.Asked.{IsDamagedForAct}
 use Rattle.ml_list.specs.Damage.{is_read_by}
+use Rattle.ml_list.specs.Written.{is_written_by_act}
 use Rattle.ml_list.proofs.Asked.{acted_named, delivered_named}
 use Rattle.ml_list.proofs.Damages.{part_named}
 use Rattle.ml_plain.specs.declared.Act.{Act}
@@ -99,3 +100,27 @@ returns-in-Floor-clause-names g c =
     let dir = g.F.Files.map c.args.files.now in
     subst (λ (a : Act). NamesDamaged g.F.Files (λ name. is_read_by a name ≡ true) (IsDamagedForAct dir a) c.raise.result) (sym c.in-Floor.is)
     (acted_named g.F.Files c.raise.result dir (Floor _) (λ name e. e) c.raise.ensures.names)
+
+pub returns-in-Deliver-clause-written : goal.returns-in-Deliver-clause-written
+returns-in-Deliver-clause-written g c told =
+    subst (λ (a : Act). IfOk c.deliver.result (λ done. touches_only (is_written_by_act a) done.0 ≡ true)) (sym c.in-Deliver.is) c.deliver.ensures.act.own
+
+pub returns-in-Add-clause-written : goal.returns-in-Add-clause-written
+returns-in-Add-clause-written g c told =
+    subst (λ (a : Act). IfOk c.add_member.result (λ done. touches_only (is_written_by_act a) done.0 ≡ true)) (sym c.in-Add.is) c.add_member.ensures.written
+
+pub returns-in-Remove-clause-written : goal.returns-in-Remove-clause-written
+returns-in-Remove-clause-written g c told =
+    subst (λ (a : Act). IfOk c.remove_member.result (λ done. touches_only (is_written_by_act a) done.0 ≡ true)) (sym c.in-Remove.is) c.remove_member.ensures.written
+
+pub returns-in-Sent-clause-written : goal.returns-in-Sent-clause-written
+returns-in-Sent-clause-written g c told =
+    subst (λ (a : Act). IfOk c.sent_entry.result (λ done. touches_only (is_written_by_act a) done.0 ≡ true)) (sym c.in-Sent.is) (c.sent_entry.ensures.written told)
+
+pub returns-in-Rekey-clause-written : goal.returns-in-Rekey-clause-written
+returns-in-Rekey-clause-written g c told =
+    subst (λ (a : Act). IfOk c.change_key.result (λ done. touches_only (is_written_by_act a) done.0 ≡ true)) (sym c.in-Rekey.is) c.change_key.ensures.written
+
+pub returns-in-Floor-clause-written : goal.returns-in-Floor-clause-written
+returns-in-Floor-clause-written g c told =
+    subst (λ (a : Act). IfOk c.raise.result (λ done. touches_only (is_written_by_act a) done.0 ≡ true)) (sym c.in-Floor.is) (c.raise.ensures.written told)

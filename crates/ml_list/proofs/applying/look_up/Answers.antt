@@ -1,11 +1,13 @@
-use Rattle.std.proofs.Common.{◌≡◌, ◌∙◌, ◌*◌, ◌/◌, ◌<◌, ℕ, Option, IfSome, true, refl, sym, ap, subst, arith, rules}
+use Rattle.std.proofs.Common.{◌≡◌, ◌∙◌, ◌*◌, ◌/◌, ◌%◌, ◌<◌, ℕ, Option, IfSome, true, refl, sym, ap, subst, arith, rules}
 use Rattle.std.proofs.lemmas.Nat.{div_below}
 use Rattle.ml_base.specs.Dir.{Dir}
 use Rattle.ml_plain.specs.declared.Reply.{Reply}
 use Rattle.ml_plain.specs.KeptFiles.{IsFloorFile, IsRepliesFile, floor_name, replies_name}
+use Rattle.ml_list.specs.Again.{HoldsReply, IsAgain}
 use Rattle.ml_list.specs.Lookups.{IsInRange}
 use Rattle.ml_list.specs.Applying.{Repeats}
 use Rattle.ml_list.specs.Damage.{IsDamagedInList, IsNoReplies, is_looked_up, replies}
+use Rattle.ml_list.proofs.Again.{found_below, found_slot}
 use Rattle.ml_list.proofs.Damages.{one_named}
 use Rattle.ml_list.proofs.Named.{looks_up_replies}
 use Rattle.ml_list.proofs.LookedUp.{is_new_weaker}
@@ -49,3 +51,18 @@ returns-in_err-found-clause-names g c =
     let names = one_named g.F.Files (λ name. is_looked_up n name ≡ true) _ (replies_name (n / 512)) (IsNoReplies (g.F.Files.map c.floor.new.files) (n / 512)) (IsDamagedInList dir) (looks_up_replies n c.if-number-eq0.false)
     (λ told none. replies (n / 512) group refl (subst (λ (d : Dir). IsNoReplies d (n / 512)) (g.met.F.Files.kept_map c.args.files.now c.floor.new.files told c.floor.ensures.reads.kept) none)) c.in_err-found.ensures.names in
     search rules
+
+pub returns-then-number-eq0-clause-looked : goal.returns-then-number-eq0-clause-looked
+returns-then-number-eq0-clause-looked g c told some = absurd (some c.if-number-eq0.true)
+
+pub returns-then-number-floor-clause-looked : goal.returns-then-number-floor-clause-looked
+returns-then-number-floor-clause-looked g c told some =
+    found_below (g.F.Files.map c.args.files.now) c.args.number c.in_ok-floor.floor c.plain.result (c.in_ok-floor.ensures.value told) c.if-number-floor.true c.plain.ensures
+
+pub returns-clause-looked : goal.returns-clause-looked
+returns-clause-looked g c told some =
+    let dir = g.F.Files.map c.args.files.now in
+    let n = c.args.number in
+    let same = g.met.F.Files.kept_map c.args.files.now c.floor.new.files told c.floor.ensures.reads.kept in
+    let spelled = subst (λ (d : Dir). HoldsReply (d (replies_name (n / 512))) (n % 512) c.in_ok-found.found.reply) same (c.in_ok-found.ensures.spelled told) in
+    subst (λ (o : Option Reply). IsAgain dir n o) (sym c.looked_up.ensures.answer) (found_slot dir n c.in_ok-floor.floor c.in_ok-found.found.reply (c.in_ok-floor.ensures.value told) c.if-number-floor.false some c.in_ok-found.ensures.fits spelled)

@@ -19,3 +19,10 @@ returns-clause-value c =
 
 pub returns-clause-files : goal.returns-clause-files
 returns-clause-files c = IfOk-weaker c.with_put.result _ _ (λ done puts. files_more is_file c.args.txn done.0 c.in_ok-put.put puts c.requires.names c.in_ok-put.ensures.file) c.with_put.ensures.puts
+
+pub returns-then-number-eq0-clause-written : goal.returns-then-number-eq0-clause-written
+returns-then-number-eq0-clause-written c = λ own all one. all
+
+pub returns-clause-written : goal.returns-clause-written
+returns-clause-written c =
+    IfOk-weaker c.with_put.result _ _ (λ done puts own all one. files_more own c.args.txn done.0 c.in_ok-put.put puts all (ap own c.in_ok-put.ensures.name ∙ one c.if-number-eq0.false)) c.with_put.ensures.puts

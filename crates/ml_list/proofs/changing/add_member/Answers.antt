@@ -1,5 +1,7 @@
-use Rattle.std.proofs.Common.{◌≡◌, false, true, rules}
+use Rattle.std.proofs.Common.{◌≡◌, ◌∙◌, false, true, ap, rules}
 use Rattle.ml_base.specs.Address.{key}
+use Rattle.ml_base.specs.Dir.{touches_only}
+use Rattle.ml_subs.specs.Subscribers.{is_touched}
 use Rattle.ml_acts.proofs.Damages.{change_named}
 use Rattle.ml_list.proofs.Damages.{part_named}
 use Rattle.ml_list.proofs.Lists.{added_list, touched_puts}
@@ -24,3 +26,6 @@ pub returns-clause-act : goal.returns-clause-act
 returns-clause-act g c =
     let own = touched_puts c.args.set (key c.args.who.now) _ c.addition.result.0 c.in_ok-answer.ensures.others c.addition.ensures.puts in
     search rules
+
+pub returns-clause-written : goal.returns-clause-written
+returns-clause-written g c = ap (touches_only (is_touched c.args.set (key c.args.who.now))) c.addition.ensures.puts ∙ c.in_ok-answer.ensures.others

@@ -27,3 +27,6 @@ pub returns-in-Some-clause-act : goal.returns-in-Some-clause-act
 returns-in-Some-clause-act g c =
     let own = touches_weaker is_beside_queue is_of_list c.in-Some.txn beside_list (subst (λ (o : Option (List Put)). touches_only is_beside_queue (puts_if o) ≡ true) c.in-Some.is c.in_ok-txn.ensures.own) in
     search rules
+
+pub returns-in-Some-clause-written : goal.returns-in-Some-clause-written
+returns-in-Some-clause-written g c = subst (λ (o : Option (List Put)). touches_only is_beside_queue (puts_if o) ≡ true) c.in-Some.is c.in_ok-txn.ensures.own

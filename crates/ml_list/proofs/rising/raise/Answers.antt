@@ -1,13 +1,15 @@
-use Rattle.std.proofs.Common.{◌≡◌, ◌∙◌, ◌*◌, ◌/◌, true, refl, sym, subst, arith, rules}
+use Rattle.std.proofs.Common.{◌≡◌, ◌∙◌, ◌*◌, ◌/◌, true, refl, sym, ap, subst, arith, rules}
 use Rattle.std.proofs.lemmas.Nat.{div_below}
-use Rattle.ml_base.specs.Dir.{Dir}
+use Rattle.ml_base.specs.Dir.{Dir, touches_only}
 use Rattle.ml_plain.specs.Histories.{Kept, from_floor}
 use Rattle.ml_plain.specs.KeptFiles.{IsRepliesFile, replies_name}
 use Rattle.ml_list.specs.Damage.{IsDamagedInList, IsNoReplies, is_read_by, replies}
+use Rattle.ml_list.specs.Written.{is_up_to}
 use Rattle.ml_list.proofs.Damages.{one_named}
 use Rattle.ml_list.proofs.Named.{reads_replies}
 use Rattle.ml_plain.specs.declared.Act.TheVariants.{Floor}
 use Rattle.ml_list.proofs.Steps.{raise_refused, raise_stays, raise_rises}
+use Rattle.ml_list.proofs.Written.{rise_written}
 use Rattle.ml_list.proofs.rising.raise.Goals as goal
 
 pub returns-then-not-may_rise-clause-value : goal.returns-then-not-may_rise-clause-value
@@ -40,3 +42,8 @@ returns-clause-value g c told q is =
     raise_rises dir q c.args.number at c.in_ok-floor.floor is (c.in_ok-floor.ensures.value told) (c.in_ok-txn.txn, c.floored-2.result) rise.0
     (sym c.may_rise.ensures ∙ c.if-not-may_rise.false) c.if-at-floor.false most (div_below at 512 1_953_125_000 (omega arith) (omega (arith, most))) rise.1 c.floored-2.ensures
     (subst (λ (d : Dir). (kept : Kept) → IsRepliesFile (512 * (at / 512)) (d (replies_name (at / 512))) kept → IsRepliesFile (512 * (at / 512)) rise.0 (from_floor at kept)) same rise.2)
+
+pub returns-clause-written : goal.returns-clause-written
+returns-clause-written g c told =
+    let rise = c.in_ok-txn.ensures.value told in
+    ap (touches_only (is_up_to (c.args.at / 512))) rise.1 ∙ rise_written c.in_ok-floor.floor c.args.at rise.0 c.if-at-floor.false

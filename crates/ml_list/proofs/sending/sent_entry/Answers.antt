@@ -3,11 +3,12 @@ use Rattle.ml_base.specs.Dir.{touches_only}
 use Rattle.ml_base.specs.declared.puts.Put.{Put}
 use Rattle.ml_drawn.specs.Names.{is_of_series}
 use Rattle.ml_drawn.specs.declared.series.Series.TheVariants.{Ids}
-use Rattle.ml_queue.specs.Answers.{IsSent, puts_of}
+use Rattle.ml_queue.specs.Answers.{IsSent, SendsBy, puts_of}
 use Rattle.ml_plain.specs.Directory.{is_of_list}
 use Rattle.ml_acts.proofs.Queued.{queue_list, queue_own, touches_weaker}
 use Rattle.ml_acts.specs.Doing.{is_of_queue}
 use Rattle.ml_list.proofs.Delivered.{not_there, sent_away}
+use Rattle.ml_list.proofs.Written.{taken_written}
 use Rattle.ml_list.proofs.sending.sent_entry.Goals as goal
 
 pub returns-in-Some-clause-value : goal.returns-in-Some-clause-value
@@ -28,3 +29,9 @@ returns-in-None-clause-value g c told p is =
     let dir = g.F.Files.map c.args.files.now in
     let none = subst (λ (o : Option (List Put)). IsSent dir p.queue c.args.id o) c.in-None.is (c.in_ok-txn.ensures.value told p.queue is.queue) in
     not_there dir p c.args.id (c.new.result, c.plain-in-None.result) is none c.new.ensures c.plain-in-None.ensures
+
+pub returns-in-Some-clause-written : goal.returns-in-Some-clause-written
+returns-in-Some-clause-written g c told =
+    let dir = g.F.Files.map c.args.files.now in
+    let sends = subst (λ (o : Option (List Put)). SendsBy dir c.args.id o) c.in-Some.is (c.in_ok-txn.ensures.read told) in
+    taken_written dir c.args.id c.in-Some.txn sends.2

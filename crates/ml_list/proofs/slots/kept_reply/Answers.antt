@@ -1,7 +1,8 @@
-use Rattle.std.proofs.Common.{◌∙◌, ◌*◌, ◌/◌, Option, sym, ap, subst}
+use Rattle.std.proofs.Common.{◌∙◌, ◌*◌, ◌/◌, ◌%◌, Option, sym, ap, subst}
 use Rattle.ml_base.specs.Bytes.{Text}
 use Rattle.ml_plain.specs.KeptFiles.{IsRepliesFile}
 use Rattle.ml_plain.proofs.Changes.{place_is}
+use Rattle.ml_list.specs.Again.{HoldsReply}
 use Rattle.ml_list.proofs.Reading.{same_some, no_some}
 use Rattle.ml_list.proofs.slots.kept_reply.Goals as goal
 
@@ -26,3 +27,8 @@ returns-in_default-clause-names g c = record {
 
 pub returns-clause-file : goal.returns-clause-file
 returns-clause-file g c told = c.in_ok-file.ensures.value told ∙ ap (g.F.Files.map c.args.files.now) c.replies_name-name.ensures.name
+
+pub returns-clause-spelled : goal.returns-clause-spelled
+returns-clause-spelled g c told =
+    let there = c.in_ok-file.ensures.value told ∙ ap (g.F.Files.map c.args.files.now) c.replies_name-name.ensures.name in
+    subst (λ (f : Option Text). HoldsReply f (c.args.number % 512) c.in-Some.reply) there c.in-Some.ensures.spelled
