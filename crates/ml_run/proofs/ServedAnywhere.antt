@@ -3,7 +3,7 @@ use Rattle.std.proofs.Common.{◌≡◌, ◌≢◌, ◌⊎◌, inl, ⊎_elim, �
 use Rattle.std.specs.Prelude.{IsSome}
 use Rattle.std.proofs.lemmas.List.{append-nil}
 use Rattle.ml_base.specs.Bytes.{Text}
-use Rattle.ml_base.specs.Dir.{Dir, are_files, with_puts}
+use Rattle.ml_base.specs.Dir.{Dir, are_files, touches_only, with_puts}
 use Rattle.ml_base.specs.declared.names.Name.{Name}
 use Rattle.ml_base.specs.declared.puts.Put.{Put}
 use Rattle.ml_site.specs.Disk.{Contents}
@@ -18,7 +18,9 @@ use Rattle.ml_plain.specs.declared.Reply.{Reply}
 use Rattle.ml_plain.specs.Directory.{IsState}
 use Rattle.ml_plain.specs.Histories.{State, step}
 use Rattle.ml_plain.specs.Replies.{is_code, is_status}
+use Rattle.ml_list.specs.Again.{CountsOnce}
 use Rattle.ml_list.specs.Applying.{Does}
+use Rattle.ml_list.specs.Written.{is_written_by}
 use Rattle.ml_ending.specs.declared.lines.Why.{Why}
 use Rattle.ml_ending.specs.declared.lines.Why.TheVariants as whys
 use Rattle.ml_ending.specs.Endings.{StopLine, Finishes, Refuses}
@@ -75,10 +77,10 @@ other_goes (ends.Stopped who why) reader left rest ending other = tt
 
 -- an item was added to a group, with what was done of it
 pub added_done : (r : Result (Unit {0}) Why) (files : Dir) (g mid new : Group) (item : Item) (more : List Put) (reply : Reply) → mid ≡ g → OnOk r (HasNext mid new item.number more reply) → IsTrue (are_files more) → IsTrue (is_code reply.code)
-    → ((q : State) → IsState (with_puts files g.txn) q → Does (with_puts files g.txn) (more, reply) (step q item)) → OnOk r ((d : Done) × (d.item ≡ item) × Adds files g new d)
-added_done (Ok u) files g mid new item more reply same next table code gives =
-    (record { item = item; puts = more; reply = reply }, refl, record { next = subst (λ (m : Group). HasNext m new item.number more reply) same next; is = record { table = table; code = code; steps = gives } })
-added_done (Err e) files g mid new item more reply same next table code gives = tt
+    → touches_only (is_written_by item) more ≡ true → CountsOnce (with_puts files g.txn) item.number (more, reply) → ((q : State) → IsState (with_puts files g.txn) q → Does (with_puts files g.txn) (more, reply) (step q item)) → OnOk r ((d : Done) × (d.item ≡ item) × Adds files g new d)
+added_done (Ok u) files g mid new item more reply same next table code own once gives =
+    (record { item = item; puts = more; reply = reply }, refl, record { next = subst (λ (m : Group). HasNext m new item.number more reply) same next; is = record { table = table; own = own; code = code; once = once; steps = gives } })
+added_done (Err e) files g mid new item more reply same next table code own once gives = tt
 
 -- a stop that is told of with a reason is no answer
 reason_unanswered : (why : Why) (input disk : Type 0) (damaged : Name → Type 0) → HasReason why input disk damaged → is_status (status_of_why why) ≡ false

@@ -1,7 +1,7 @@
 -- What a run does of any directory: the items that it did, one over the other, and what a crash may leave of them.
-use Rattle.std.specs.Prelude.{◌≡◌, ◌⊎◌, ◌≤◌, ℕ, IsTrue, List, [], ◌∷◌, ◌++◌, length, take, Option, Some}
+use Rattle.std.specs.Prelude.{◌≡◌, ◌⊎◌, ◌≤◌, ℕ, true, IsTrue, List, [], ◌∷◌, ◌++◌, length, take, Option, Some}
 use Rattle.ml_base.specs.Bytes.{Text}
-use Rattle.ml_base.specs.Dir.{Dir, are_files, with_puts}
+use Rattle.ml_base.specs.Dir.{Dir, are_files, touches_only, with_puts}
 use Rattle.ml_base.specs.declared.puts.Put.{Put}
 use Rattle.ml_site.specs.Disk.{Contents, IsAtRest}
 use Rattle.ml_site.specs.declared.site.Site.{Ghosts}
@@ -12,7 +12,9 @@ use Rattle.ml_plain.specs.declared.Reply.{Reply}
 use Rattle.ml_plain.specs.Directory.{IsState}
 use Rattle.ml_plain.specs.Histories.{State, step}
 use Rattle.ml_plain.specs.Replies.{is_code, is_status, line}
+use Rattle.ml_list.specs.Again.{CountsOnce}
 use Rattle.ml_list.specs.Applying.{Does}
+use Rattle.ml_list.specs.Written.{is_written_by}
 use Rattle.ml_ending.specs.declared.lines.Why.{Why}
 use Rattle.ml_ending.specs.Endings.{Opens}
 use Rattle.ml_ending.specs.Lines.{stop_text}
@@ -46,11 +48,13 @@ abbrev pub after : Dir → List Done → Dir
 after files [] = files
 after files (d ∷ more) = after (with_puts files d.puts) more
 
--- What may be done of an item over a directory: its puts are of files of the table, and its reply is one of the table. Of a directory that stands
--- for a list both are those of the list's step.
+-- What may be done of an item over a directory: its puts are of files of the table that the item may write, its reply is one of the table, and under
+-- its number it counts once. Of a directory that stands for a list puts and reply are those of the list's step.
 pub record IsDone (files : Dir) (d : Done) : Type 0 where
   pub table : IsTrue (are_files d.puts)
+  pub own : touches_only (is_written_by d.item) d.puts ≡ true
   pub code : IsTrue (is_code d.reply.code)
+  pub once : CountsOnce files d.item.number (d.puts, d.reply)
   pub steps : (q : State) → IsState files q → Does files (d.puts, d.reply) (step q d.item)
 
 -- each of these was done over the directory that those before it left
