@@ -41,8 +41,8 @@ use std::alloc::{AllocError, Global};
 /// An item whose number isn't 0 and is below the floor is answered `stale`, one whose number has a kept reply is answered
 /// with it, and neither changes anything. The reply of any other item is kept for its number, where that isn't 0.
 ///
-/// Whatever else the files hold, the puts are of files that the item may write, and a number counts once: of an item with a number that is
-/// answered, the floor's file and the number's own slot were in their grammar.
+/// Whatever else the files hold, the puts are of files that the item may write, and a number counts once: if an item with a number is answered,
+/// the floor's file was in its grammar, and so was the number's own slot, unless the number is below the floor.
 ///
 /// `Damaged` names a file that the item may read, a delivery by the numbers of what its recipient asks under the configuration that the
 /// files hold, and that is outside its grammar; one of the archive is damaged for what is asked. `Fault` comes only where a read failed.
