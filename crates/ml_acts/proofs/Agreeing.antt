@@ -6,6 +6,7 @@ use Rattle.std.specs.Option.{option_map}
 use Rattle.ml_base.specs.Bytes.{Text}
 use Rattle.ml_base.specs.Dir.{Dir}
 use Rattle.ml_base.specs.Drawn.{IsCounter}
+use Rattle.ml_base.specs.Kinds.{floor_name, replies_name}
 use Rattle.ml_base.specs.declared.names.Name.{Name}
 use Rattle.ml_base.specs.declared.names.Set.{Set}
 use Rattle.ml_base.specs.declared.names.Set.TheVariants as sets
@@ -280,3 +281,13 @@ module _ (dir : Dir) where
             | inl lacks ↦ lacks (subst (λ (ts : List Thread). IsAmong (numbers_under k ts) n) (sym one) (under c n lost.entry config lost.found place))
             | inr (m, among, none) ↦ named k m (subst (λ (ts : List Thread). IsAmong (numbers_under k ts) m) one among) none
           ]
+
+-- no act names the configuration, the floor or a file of kept replies
+pub no_config : (dir : Dir) → ¬ IsDamaged dir config_name
+no_config dir bad = cause_of dir config_name bad
+
+pub no_floor : (dir : Dir) → ¬ IsDamaged dir floor_name
+no_floor dir bad = cause_of dir floor_name bad
+
+pub no_replies : (dir : Dir) (group : ℕ) → ¬ IsDamaged dir (replies_name group)
+no_replies dir group bad = cause_of dir (replies_name group) bad

@@ -1,6 +1,6 @@
 -- What the puts that remove an address make of a list.
 use Rattle.std.proofs.Common.{◌≡◌, ◌⊎◌, inl, inr, ℕ, ◌≤◌, Bool, true, false, eqb, leb, not, ◌&&◌, ◌||◌, List, ◌++◌, refl, sym, ap, ap₂, ◌∙◌, arith, subst}
-use Rattle.std.proofs.lemmas.Bool.{and_parts, and_from, or_cases, eq-eqb, ne_eqb, eqb-true, le-leb}
+use Rattle.std.proofs.lemmas.Bool.{and_parts, and_from, or_cases, or_left, or_right, eq-eqb, ne_eqb, eqb-true, le-leb}
 use Rattle.ml_base.specs.Bytes.{Text}
 use Rattle.ml_base.specs.Address.{key}
 use Rattle.ml_base.specs.Name.{set_kind, set_number}
@@ -21,27 +21,35 @@ use Rattle.ml_plain.specs.Plain.{Plain, with_members, removed}
 use Rattle.ml_plain.proofs.Frames.{few_sets}
 use Rattle.ml_plain.proofs.Changes.{members_changed}
 use Rattle.ml_plain.proofs.PartChanges.{list_ledger_changed, digest_ledger_changed}
-use Rattle.ml_acts.specs.Doing.{is_beside_queue, without_entry}
-use Rattle.ml_acts.proofs.Queued.{touches_both, touches_weaker}
+use Rattle.ml_acts.specs.Doing.{is_beside_mark, is_beside_queue, is_changed_for, is_entry_of, is_left_by, is_of_queue, without_entry}
+use Rattle.ml_acts.proofs.Queued.{beside_mail, queue_beside, touches_both, touches_weaker}
 
--- a kind below the queue's is the list's and none of the queue's
-beside_kind : (k : ℕ) → 1 ≤ k → k ≤ 16 → (((leb 1 k && leb k 18) || eqb k 20) && not (eqb k 17 || eqb k 18)) ≡ true
-beside_kind k least most =
-    and_from _ _ (ap (λ (b : Bool). b || eqb k 20) (and_from (leb 1 k) (leb k 18) (le-leb 1 k least) (le-leb k 18 (omega (arith, most)))))
+-- a kind below the queue's that isn't the mark's
+beside_kind : (k : ℕ) → 3 ≤ k → k ≤ 16 → (k ≡ 12 → ⊥) → ((((leb 3 k && leb k 18) || eqb k 20) && not (eqb k 12)) && not (eqb k 17 || eqb k 18)) ≡ true
+beside_kind k least most apart =
+    and_from _ _
+    (and_from _ _ (ap (λ (b : Bool). b || eqb k 20) (and_from (leb 3 k) (leb k 18) (le-leb 3 k least) (le-leb k 18 (omega (arith, most))))) (ap not (ne_eqb k 12 apart)))
     (ap₂ (λ (a b : Bool). not (a || b)) (ne_eqb k 17 (λ e. omega (arith, e, most))) (ne_eqb k 18 (λ e. omega (arith, e, most))))
 
 -- a set's files that are touched
-pub touched_beside : (set : Set) (k : Text) (name : Name) → is_touched set k name ≡ true → is_beside_queue name ≡ true
-touched_beside set k name e = go (or_cases (same_name name (bucket_name set (bucket_of k))) (same_name name (count_name set)) e)
+touched_kind : (set : Set) (k : Text) (name : Name) → is_touched set k name ≡ true → (3 ≤ name.kind) × (name.kind ≤ 8)
+touched_kind set k name e = go (or_cases (same_name name (bucket_name set (bucket_of k))) (same_name name (count_name set)) e)
   where
-    go : ((same_name name (bucket_name set (bucket_of k)) ≡ true) ⊎ (same_name name (count_name set) ≡ true)) → is_beside_queue name ≡ true
+    go : ((same_name name (bucket_name set (bucket_of k)) ≡ true) ⊎ (same_name name (count_name set) ≡ true)) → (3 ≤ name.kind) × (name.kind ≤ 8)
     go (inl b) =
         let kind = eqb-true name.kind (set_kind set) (and_parts (eqb name.kind (set_kind set)) (eqb name.at (bucket_of k)) b).0 in
-        let few = few_sets set in beside_kind name.kind (omega (arith, kind, few)) (omega (arith, kind, few))
-    go (inr c) = let kind = eqb-true name.kind 8 (and_parts (eqb name.kind 8) (eqb name.at (set_number set)) c).0 in beside_kind name.kind (omega (arith, kind)) (omega (arith, kind))
+        let few = few_sets set in (omega (arith, kind, few), omega (arith, kind, few))
+    go (inr c) = let kind = eqb-true name.kind 8 (and_parts (eqb name.kind 8) (eqb name.at (set_number set)) c).0 in (omega (arith, kind), omega (arith, kind))
+
+pub touched_beside : (set : Set) (k : Text) (name : Name) → is_touched set k name ≡ true → is_beside_queue name ≡ true
+touched_beside set k name e = let kind = touched_kind set k name e in let low = kind.0 in let high = kind.1 in beside_kind name.kind low (omega (arith, high)) (λ same. omega (arith, same, high))
 
 pub touched_own : (set : Set) (k : Text) (puts : List Put) → touches_only (is_touched set k) puts ≡ true → touches_only is_beside_queue puts ≡ true
 touched_own set k puts only = touches_weaker (is_touched set k) is_beside_queue puts (touched_beside set k) only
+
+-- so are those that change when an address leaves
+pub touched_left : (set : Set) (who : Text) (puts : List Put) → touches_only (is_touched set (key who)) puts ≡ true → touches_only (is_left_by set who) puts ≡ true
+touched_left set who puts only = touches_weaker (is_touched set (key who)) (is_left_by set who) puts (λ name e. or_left (is_touched set (key who) name) (is_entry_of set who name) e) only
 
 -- the list without an address, and then without the entry in the ledger
 abbrev left_by : Set → Text → Plain → Plain
@@ -64,15 +72,50 @@ removed_list dir p set who txn done is now only behind =
 pub entry_kind : (set : Set) (k : Text) (name : Name) → same_name name (key_file set k) ≡ true → name.kind ≡ ledger_kind set
 entry_kind set k name e = eqb-true name.kind (ledger_kind set) (and_parts (eqb name.kind (ledger_kind set)) (eqb name.at (ledger_place k)) e).0
 
+ledger_kinds : (set : Set) → has_ledger set ≡ true → (15 ≤ ledger_kind set) × (ledger_kind set ≤ 16)
+ledger_kinds sets.List has = (omega arith, omega arith)
+ledger_kinds sets.Digest has = (omega arith, omega arith)
+ledger_kinds sets.Allow has = absurd (let bad : false ≡ true = has in cc)
+ledger_kinds sets.Deny has = absurd (let bad : false ≡ true = has in cc)
+ledger_kinds sets.Moderators has = absurd (let bad : false ≡ true = has in cc)
+
 pub entry_own : (set : Set) (k : Text) → has_ledger set ≡ true → (name : Name) → same_name name (key_file set k) ≡ true → is_beside_queue name ≡ true
-entry_own set k has name e = let kind = entry_kind set k name e in let few = low set has in beside_kind name.kind (omega (arith, kind, few)) (omega (arith, kind, few))
+entry_own set k has name e =
+    let kind = entry_kind set k name e in
+    let kinds = ledger_kinds set has in
+    let low = kinds.0 in
+    let high = kinds.1 in beside_kind name.kind (omega (arith, kind, low)) (omega (arith, kind, high)) (λ same. omega (arith, same, kind, low))
+
+-- all that changes when an address leaves
+pub left_beside : (set : Set) (who : Text) (name : Name) → is_left_by set who name ≡ true → is_beside_queue name ≡ true
+left_beside set who name e = go (or_cases (is_touched set (key who) name) (is_entry_of set who name) e)
   where
-    low : (set : Set) → has_ledger set ≡ true → (1 ≤ ledger_kind set) × (ledger_kind set ≤ 16)
-    low sets.List has = (omega arith, omega arith)
-    low sets.Digest has = (omega arith, omega arith)
-    low sets.Allow has = absurd (let bad : false ≡ true = has in cc)
-    low sets.Deny has = absurd (let bad : false ≡ true = has in cc)
-    low sets.Moderators has = absurd (let bad : false ≡ true = has in cc)
+    go : ((is_touched set (key who) name ≡ true) ⊎ (is_entry_of set who name ≡ true)) → is_beside_queue name ≡ true
+    go (inl t) = touched_beside set (key who) name t
+    go (inr l) = let parts = and_parts (has_ledger set) (same_name name (key_file set (key who))) l in entry_own set (key who) parts.0 name parts.1
+
+-- and what may change for an address in a set
+pub changed_beside : (set : Set) (who : Text) (name : Name) → is_changed_for set who name ≡ true → is_beside_mark name ≡ true
+changed_beside set who name e = go (or_cases (is_left_by set who name) (is_of_queue name) e)
+  where
+    go : ((is_left_by set who name ≡ true) ⊎ (is_of_queue name ≡ true)) → is_beside_mark name ≡ true
+    go (inl l) = beside_mail name (left_beside set who name l)
+    go (inr q) = queue_beside name q
+
+pub queue_changed_for : (set : Set) (who : Text) (name : Name) → is_of_queue name ≡ true → is_changed_for set who name ≡ true
+queue_changed_for set who name e = or_right (is_left_by set who name) (is_of_queue name) e
+
+pub left_changed_for : (set : Set) (who : Text) (puts : List Put) → touches_only (is_left_by set who) puts ≡ true → touches_only (is_changed_for set who) puts ≡ true
+left_changed_for set who puts only = touches_weaker (is_left_by set who) (is_changed_for set who) puts (λ name e. or_left (is_left_by set who name) (is_of_queue name) e) only
+
+pub touched_changed_for : (set : Set) (who : Text) (puts : List Put) → touches_only (is_touched set (key who)) puts ≡ true → touches_only (is_changed_for set who) puts ≡ true
+touched_changed_for set who puts only = left_changed_for set who puts (touched_left set who puts only)
+
+pub entry_changed_for : (set : Set) (who : Text) (puts : List Put) → has_ledger set ≡ true → touches_only (λ name. same_name name (key_file set (key who))) puts ≡ true → touches_only (is_changed_for set who) puts ≡ true
+entry_changed_for set who puts has only =
+    left_changed_for set who puts
+    (touches_weaker (λ name. same_name name (key_file set (key who))) (is_left_by set who) puts
+    (λ name same. or_right (is_touched set (key who) name) (is_entry_of set who name) (and_from (has_ledger set) (same_name name (key_file set (key who))) has same)) only)
 
 -- a set without a ledger
 pub nothing_forgotten : (dir : Dir) (set : Set) (who : Text) (p : Plain) → has_ledger set ≡ false → IsList dir p → IsList dir (without_entry set who p)
@@ -111,6 +154,14 @@ pub both_own : (who : Text) (txn more done : List Put) (set : Set) → has_ledge
 both_own who txn more done set has only others e =
     ap (touches_only is_beside_queue) e
     ∙ touches_both is_beside_queue txn more (touched_own set (key who) txn only) (touches_weaker (λ name. same_name name (key_file set (key who))) is_beside_queue more (entry_own set (key who) has) others)
+
+pub both_left : (who : Text) (txn more done : List Put) (set : Set) → has_ledger set ≡ true → touches_only (is_touched set (key who)) txn ≡ true
+    → touches_only (λ name. same_name name (key_file set (key who))) more ≡ true → done ≡ txn ++ more → touches_only (is_left_by set who) done ≡ true
+both_left who txn more done set has only others e =
+    ap (touches_only (is_left_by set who)) e
+    ∙ touches_both (is_left_by set who) txn more (touched_left set who txn only)
+    (touches_weaker (λ name. same_name name (key_file set (key who))) (is_left_by set who) more
+    (λ name same. or_right (is_touched set (key who) name) (is_entry_of set who name) (and_from (has_ledger set) (same_name name (key_file set (key who))) has same)) others)
 
 -- the configuration of a list that an address leaves
 pub removed_config : (set : Set) (who : Text) (p : Plain) → (removed set who p).config ≡ p.config

@@ -1,5 +1,5 @@
 -- An act on the list, behind other calls and in other words.
-use Rattle.std.proofs.Common.{◌≡◌, true, List, [], Result, Ok, Err, IfErr, IsTrue, refl, sym, subst}
+use Rattle.std.proofs.Common.{◌≡◌, Bool, true, List, [], Result, Ok, Err, IfErr, IsTrue, refl, sym, subst}
 use Rattle.ml_base.specs.Dir.{Dir}
 use Rattle.ml_base.specs.PartErrors.{OnDamaged}
 use Rattle.ml_base.specs.ReadFiles.{AreKept, IsReading, NamesDamaged}
@@ -15,9 +15,10 @@ use Rattle.ml_filing.specs.Threads.{is_of_archive}
 use Rattle.ml_plain.specs.KeptFiles.{is_kept}
 use Rattle.ml_plain.specs.declared.Reply.{Reply}
 use Rattle.ml_acts.proofs.Asked.{named_beside}
-use Rattle.ml_acts.proofs.Damages.{named_so}
+use Rattle.ml_acts.proofs.Damages.{named_so, ok_then}
 use Rattle.ml_acts.proofs.HeldConfig.{named_held}
-use Rattle.ml_acts.specs.Acting.{AnswersAct}
+use Rattle.ml_acts.proofs.Queued.{touches_weaker}
+use Rattle.ml_acts.specs.Acting.{AnswersWithin}
 use Rattle.ml_acts.specs.Asked.{Asked, IsDamagedOf}
 use Rattle.ml_acts.specs.Configured.{with_config}
 use Rattle.ml_acts.specs.Damaged.{IsDamaged}
@@ -28,8 +29,8 @@ KeepsMap {F} told = (old new : F) → IsTrue told.tells → told.kept old new �
 
 module _ {F : Type 0} (told : Ghosts F) (r : Result (List Put × Reply) PartError) (May Bad Worse : Name → Type 0) where
   -- behind a call that only read
-  pub act_then : KeepsOn told → (first second third : F) → AreKept told first second → (IsTrue told.tells → (name : Name) → Bad name → Worse name) → AnswersAct told May Bad second third r
-      → AnswersAct told May Worse first third r
+  pub act_then : {may_write : Name → Bool} → KeepsOn told → (first second third : F) → AreKept told first second → (IsTrue told.tells → (name : Name) → Bad name → Worse name) → AnswersWithin may_write told May Bad second third r
+      → AnswersWithin may_write told May Worse first third r
   act_then on first second third kept worse is = record {
     own = is.own;
     files = is.files;
@@ -39,7 +40,7 @@ module _ {F : Type 0} (told : Ghosts F) (r : Result (List Put × Reply) PartErro
   }
 
   -- more may be read, and what is named is damaged in other words
-  pub act_so : (Few : Name → Type 0) (old new : F) → ((name : Name) → Few name → May name) → ((name : Name) → Few name → Bad name → Worse name) → AnswersAct told Few Bad old new r → AnswersAct told May Worse old new r
+  pub act_so : {may_write : Name → Bool} (Few : Name → Type 0) (old new : F) → ((name : Name) → Few name → May name) → ((name : Name) → Few name → Bad name → Worse name) → AnswersWithin may_write told Few Bad old new r → AnswersWithin may_write told May Worse old new r
   act_so Few old new may worse is = record {
     own = is.own;
     files = is.files;
@@ -49,8 +50,8 @@ module _ {F : Type 0} (told : Ghosts F) (r : Result (List Put × Reply) PartErro
   }
 
 -- both: damaged in the files as they were before the read
-pub act_behind : {F T : Type 0} {first second third : F} {May Few Worse : Name → Type 0} {r : Result (List Put × Reply) PartError} {found : Result T PartError} (told : Ghosts F) (Bad : Dir → Name → Type 0) → KeepsOn told → KeepsMap told → IsReading told first second found
-    → AnswersAct told Few (Bad (told.map second)) second third r → ((name : Name) → Few name → May name) → (IsTrue told.tells → (name : Name) → Few name → Bad (told.map first) name → Worse name) → AnswersAct told May Worse first third r
+pub act_behind : {F T : Type 0} {may_write : Name → Bool} {first second third : F} {May Few Worse : Name → Type 0} {r : Result (List Put × Reply) PartError} {found : Result T PartError} (told : Ghosts F) (Bad : Dir → Name → Type 0) → KeepsOn told → KeepsMap told → IsReading told first second found
+    → AnswersWithin may_write told Few (Bad (told.map second)) second third r → ((name : Name) → Few name → May name) → (IsTrue told.tells → (name : Name) → Few name → Bad (told.map first) name → Worse name) → AnswersWithin may_write told May Worse first third r
 act_behind {first = first} {second = second} {third = third} {May = May} {Few = Few} {Worse = Worse} {r = r} {found = found} told Bad on maps read is may worse = record {
   own = is.own;
   files = is.files;
@@ -63,13 +64,13 @@ act_behind {first = first} {second = second} {third = third} {May = May} {Few = 
 }
 
 -- the same of the list's files
-pub act_kept : {F T : Type 0} {told : Ghosts F} {first second third : F} {May Few : Name → Type 0} {r : Result (List Put × Reply) PartError} {found : Result T PartError} → KeepsOn told → KeepsMap told → IsReading told first second found
-    → AnswersAct told Few (IsDamaged (told.map second)) second third r → ((name : Name) → Few name → May name) → AnswersAct told May (IsDamaged (told.map first)) first third r
+pub act_kept : {F T : Type 0} {may_write : Name → Bool} {told : Ghosts F} {first second third : F} {May Few : Name → Type 0} {r : Result (List Put × Reply) PartError} {found : Result T PartError} → KeepsOn told → KeepsMap told → IsReading told first second found
+    → AnswersWithin may_write told Few (IsDamaged (told.map second)) second third r → ((name : Name) → Few name → May name) → AnswersWithin may_write told May (IsDamaged (told.map first)) first third r
 act_kept {told = told} on maps read act may = act_behind told IsDamaged on maps read act may (λ t name few bad. bad)
 
 -- an act that names none of the archive's files, behind a call that only read
-pub act_beside : {F : Type 0} {first second third : F} {May Few : Name → Type 0} {r : Result (List Put × Reply) PartError} (told : Ghosts F) (asked : Asked) → KeepsOn told → AreKept told first second → (IsTrue told.tells → told.map second ≡ told.map first)
-    → ((name : Name) → Few name → May name) → ((name : Name) → Few name → is_of_archive name ≡ true → ⊥) → AnswersAct told Few (IsDamaged (told.map second)) second third r → AnswersAct told May (IsDamagedOf (told.map first) asked) first third r
+pub act_beside : {F : Type 0} {may_write : Name → Bool} {first second third : F} {May Few : Name → Type 0} {r : Result (List Put × Reply) PartError} (told : Ghosts F) (asked : Asked) → KeepsOn told → AreKept told first second → (IsTrue told.tells → told.map second ≡ told.map first)
+    → ((name : Name) → Few name → May name) → ((name : Name) → Few name → is_of_archive name ≡ true → ⊥) → AnswersWithin may_write told Few (IsDamaged (told.map second)) second third r → AnswersWithin may_write told May (IsDamagedOf (told.map first) asked) first third r
 act_beside {first = first} {second = second} {third = third} {May = May} {Few = Few} {r = r} told asked on kept same may beside act = record {
   own = act.own;
   files = act.files;
@@ -79,17 +80,17 @@ act_beside {first = first} {second = second} {third = third} {May = May} {Few = 
 }
 
 -- an act that was said under a configuration which the files hold
-pub act_held : {F : Type 0} {May : Name → Type 0} {old new : F} {r : Result (List Put × Reply) PartError} (c : Config) (dir : Dir) (told : Ghosts F) (Bad : Dir → Name → Type 0) → (IsTrue told.tells → IsConfigFile (dir config_name) c) → AnswersAct told May (Bad (with_config c dir)) old new r
-    → AnswersAct told May (Bad dir) old new r
+pub act_held : {F : Type 0} {may_write : Name → Bool} {May : Name → Type 0} {old new : F} {r : Result (List Put × Reply) PartError} (c : Config) (dir : Dir) (told : Ghosts F) (Bad : Dir → Name → Type 0) → (IsTrue told.tells → IsConfigFile (dir config_name) c) → AnswersWithin may_write told May (Bad (with_config c dir)) old new r
+    → AnswersWithin may_write told May (Bad dir) old new r
 act_held {May = May} {r = r} c dir told Bad held is = record { own = is.own; files = is.files; reply = is.reply; names = named_held c dir told May Bad r held is.names; reads = is.reads }
 
 -- an act that may read more
-pub act_fewer : {F : Type 0} {told : Ghosts F} {old new : F} {May Few Bad : Name → Type 0} {r : Result (List Put × Reply) PartError} → AnswersAct told Few Bad old new r → ((name : Name) → Few name → May name) → AnswersAct told May Bad old new r
+pub act_fewer : {F : Type 0} {may_write : Name → Bool} {told : Ghosts F} {old new : F} {May Few Bad : Name → Type 0} {r : Result (List Put × Reply) PartError} → AnswersWithin may_write told Few Bad old new r → ((name : Name) → Few name → May name) → AnswersWithin may_write told May Bad old new r
 act_fewer {told = told} {old = old} {new = new} {May = May} {Few = Few} {Bad = Bad} {r = r} act may = act_so told r May Bad Bad Few old new may (λ name few bad. bad) act
 
 -- a read that failed, whose file may be read
-pub act_err : {F T : Type 0} {told : Ghosts F} {old new : F} {May Few Bad : Name → Type 0} {r : Result (List Put × Reply) PartError} {e : PartError} → NamesDamaged {T = T} told Few Bad (Err e) → IsReading {T = T} told old new (Err e) → ((name : Name) → Few name → May name) → r ≡ Err e → AnswersAct told May Bad old new r
-act_err {told = told} {old = old} {new = new} {May = May} {Few = Few} {Bad = Bad} {e = e} named read may is = subst (λ (r : Result (List Put × Reply) PartError). AnswersAct told May Bad old new r) (sym is) (record {
+pub act_err : {F T : Type 0} {may_write : Name → Bool} {told : Ghosts F} {old new : F} {May Few Bad : Name → Type 0} {r : Result (List Put × Reply) PartError} {e : PartError} → NamesDamaged {T = T} told Few Bad (Err e) → IsReading {T = T} told old new (Err e) → ((name : Name) → Few name → May name) → r ≡ Err e → AnswersWithin may_write told May Bad old new r
+act_err {may_write = may_write} {told = told} {old = old} {new = new} {May = May} {Few = Few} {Bad = Bad} {e = e} named read may is = subst (λ (r : Result (List Put × Reply) PartError). AnswersWithin may_write told May Bad old new r) (sym is) (record {
   own = tt;
   files = tt;
   reply = tt;
@@ -98,11 +99,21 @@ act_err {told = told} {old = old} {new = new} {May = May} {Few = Few} {Bad = Bad
 })
 
 -- a reply alone
-pub act_reply : {F : Type 0} {told : Ghosts F} {files : F} {May Bad : Name → Type 0} {puts : List Put} {reply : Reply} → KeepsItself told → puts ≡ [] → is_kept reply ≡ true → AnswersAct told May Bad files files (Ok (puts, reply))
-act_reply {told = told} {files = files} {May = May} {Bad = Bad} {reply = reply} itself none kept = subst (λ (t : List Put). AnswersAct told May Bad files files (Ok (t, reply))) (sym none) (record {
+pub act_reply : {F : Type 0} {may_write : Name → Bool} {told : Ghosts F} {files : F} {May Bad : Name → Type 0} {puts : List Put} {reply : Reply} → KeepsItself told → puts ≡ [] → is_kept reply ≡ true → AnswersWithin may_write told May Bad files files (Ok (puts, reply))
+act_reply {may_write = may_write} {told = told} {files = files} {May = May} {Bad = Bad} {reply = reply} itself none kept = subst (λ (t : List Put). AnswersWithin may_write told May Bad files files (Ok (t, reply))) (sym none) (record {
   own = refl;
   files = refl;
   reply = kept;
   names = record { named = tt; damaged = λ t. tt };
   reads = reading_ok told files files ([], reply) (kept_self told itself files);
 })
+
+-- an act that may write more
+pub act_wider : {F : Type 0} {few more : Name → Bool} {told : Ghosts F} {old new : F} {May Bad : Name → Type 0} {r : Result (List Put × Reply) PartError} → AnswersWithin few told May Bad old new r → ((name : Name) → few name ≡ true → more name ≡ true) → AnswersWithin more told May Bad old new r
+act_wider {few = few} {more = more} {r = r} act wider = record {
+  own = ok_then r (λ done only. touches_weaker few more done.0 wider only) act.own;
+  files = act.files;
+  reply = act.reply;
+  names = act.names;
+  reads = act.reads;
+}

@@ -1,15 +1,17 @@
 // An address leaves a set.
-ghost use Rattle.std.specs.Prelude.{◌≡◌, ◌||◌, true, IsTrue, IfOk};
+ghost use Rattle.std.specs.Prelude.{◌≡◌, ◌||◌, true, IsTrue, IfOk, IfErr};
 ghost use Rattle.ml_base.specs.Address.{key};
-ghost use Rattle.ml_base.specs.Dir.{are_files, touches_only, with_puts};
+ghost use Rattle.ml_base.specs.Dir.{Dir, are_files, touches_only, with_puts};
+ghost use Rattle.ml_base.specs.PartErrors.{OnDamaged};
 ghost use Rattle.ml_base.specs.ReadFiles.{IsReading, NamesDamaged};
 ghost use Rattle.ml_bounce.specs.Answers as ledgers;
 ghost use Rattle.ml_plain.specs.Directory.{IsList};
 ghost use Rattle.ml_plain.specs.Plain.{Plain};
 ghost use Rattle.ml_subs.specs.Answers.{puts_if};
 ghost use Rattle.ml_subs.specs.Subscribers.{is_touched};
-ghost use Rattle.ml_acts.specs.Doing.{Leaves, is_beside_queue, is_entry_of, without_entry};
+ghost use Rattle.ml_acts.specs.Doing.{Alike, Leaves, is_beside_queue, is_entry_of, is_left_by, without_entry};
 ghost use Rattle.ml_acts.specs.Damaged.{IsDamaged};
+ghost use Rattle.ml_acts.specs.Found.{FoundToLeave, TellsEntry};
 
 use ml_base::{Address, Files, PartError, Set, Txn};
 use ml_bounce::forget;
@@ -26,8 +28,12 @@ pub fn remove_member<F: Files>(
     who: &Address,
 ) -> Result<Option<Txn>, PartError>
     ensures value { IsTrue F.tells → IfOk result (λ answer. (p : Plain) → IsList (F.map files.old) p → Leaves (F.map files.old) set who.now p answer) }
+    ensures apart { IsTrue F.tells → IfOk result (λ answer. (dir : Dir) (p : Plain) → Alike (is_left_by set who.now) (F.map files.old) dir → IsList dir p → Leaves dir set who.now p answer) }
+    ensures spared { IsTrue F.tells → (dir : Dir) (p : Plain) → Alike (is_left_by set who.now) (F.map files.old) dir → IsList dir p → IfErr result (λ e. OnDamaged e (λ _. ⊥)) }
     ensures own { IfOk result (λ answer. touches_only is_beside_queue (puts_if answer) ≡ true) }
+    ensures left { IfOk result (λ answer. touches_only (is_left_by set who.now) (puts_if answer) ≡ true) }
     ensures files { IfOk result (λ answer. IsTrue (are_files (puts_if answer))) }
+    ensures found { IsTrue F.tells → IfOk result (FoundToLeave (F.map files.old) set (key who.now)) }
     ensures names { NamesDamaged ⟦<F as Files>⟧ (λ name. (is_touched set (key who.now) name || is_entry_of set who.now name) ≡ true) (IsDamaged (F.map files.old)) result }
     ensures reads { IsReading ⟦<F as Files>⟧ files.old files.new result }
 {
@@ -43,8 +49,12 @@ pub fn remove_member_with_memo<F: Files>(
     who: &Address,
 ) -> Result<Option<Txn>, PartError>
     ensures value { IsTrue F.tells → IfOk result (λ answer. (p : Plain) → IsList (F.map files.old) p → Leaves (F.map files.old) set who.now p answer) }
+    ensures apart { IsTrue F.tells → IfOk result (λ answer. (dir : Dir) (p : Plain) → Alike (is_left_by set who.now) (F.map files.old) dir → IsList dir p → Leaves dir set who.now p answer) }
+    ensures spared { IsTrue F.tells → (dir : Dir) (p : Plain) → Alike (is_left_by set who.now) (F.map files.old) dir → IsList dir p → IfErr result (λ e. OnDamaged e (λ _. ⊥)) }
     ensures own { IfOk result (λ answer. touches_only is_beside_queue (puts_if answer) ≡ true) }
+    ensures left { IfOk result (λ answer. touches_only (is_left_by set who.now) (puts_if answer) ≡ true) }
     ensures files { IfOk result (λ answer. IsTrue (are_files (puts_if answer))) }
+    ensures found { IsTrue F.tells → IfOk result (FoundToLeave (F.map files.old) set (key who.now)) }
     ensures names { NamesDamaged ⟦<F as Files>⟧ (λ name. (is_touched set (key who.now) name || is_entry_of set who.now name) ≡ true) (IsDamaged (F.map files.old)) result }
     ensures reads { IsReading ⟦<F as Files>⟧ files.old files.new result }
 {
@@ -64,9 +74,12 @@ fn forgotten<F: Files>(
 ) -> Result<Txn, PartError>
     requires touched { touches_only (is_touched set (key who.now)) txn ≡ true }
     requires names { IsTrue (are_files txn) }
-    ensures value { IsTrue F.tells → IfOk result (λ done. (p : Plain) → IsList (with_puts (F.map files.old) txn) p → IsList (with_puts (F.map files.old) done) (without_entry set who.now p)) }
+    ensures value { IsTrue F.tells → IfOk result (λ done. (dir : Dir) (p : Plain) → Alike (is_entry_of set who.now) (F.map files.old) dir → IsList (with_puts dir txn) p → IsList (with_puts dir done) (without_entry set who.now p)) }
+    ensures spared { IsTrue F.tells → (dir : Dir) (p : Plain) → Alike (is_entry_of set who.now) (F.map files.old) dir → IsList dir p → IfErr result (λ e. OnDamaged e (λ _. ⊥)) }
     ensures own { IfOk result (λ done. touches_only is_beside_queue done ≡ true) }
+    ensures left { IfOk result (λ done. touches_only (is_left_by set who.now) done ≡ true) }
     ensures files { IfOk result (λ done. IsTrue (are_files done)) }
+    ensures found { IsTrue F.tells → IfOk result (λ _. TellsEntry (F.map files.old) set (key who.now)) }
     ensures names { NamesDamaged ⟦<F as Files>⟧ (λ name. is_entry_of set who.now name ≡ true) (IsDamaged (F.map files.old)) result }
     ensures reads { IsReading ⟦<F as Files>⟧ files.old files.new result }
 {

@@ -12,6 +12,7 @@ ghost use Rattle.ml_queue.specs.Answers.{ids_name};
 ghost use Rattle.ml_reply.specs.Mails.{mail_text};
 ghost use Rattle.ml_acts.specs.Doing.{Alike, DrawsId, HasIds, is_mailed_by, is_of_queue, is_with_queue};
 ghost use Rattle.ml_acts.specs.Damaged.{IsDamaged};
+ghost use Rattle.ml_acts.specs.Found.{QueuesMail, QueuesOut, QueuesToSet};
 
 use crate::{Moment, recipients, reply_path};
 use ml_address::Path;
@@ -33,8 +34,10 @@ pub fn send<F: Files>(
     requires sorted { is_sorted byte_cmp key to ≡ true }
     requires room { IsTrue F.tells → HasIds (F.map files.now) }
     ensures value { IsTrue F.tells → IfOk result (λ txn. (dir : Dir) (p : Plain) → Alike is_of_queue (F.map files.old) dir → IsList dir p → IsList (with_puts dir txn) (spec.send way body to p)) }
+    ensures apart { IsTrue F.tells → IfOk result (λ txn. (dir : Dir) (p : Plain) → dir ids_name ≡ F.map files.old ids_name → IsList dir p → IsList (with_puts dir txn) (spec.send way body to p)) }
     ensures own { IfOk result (λ txn. touches_only is_of_queue txn ≡ true) }
     ensures files { IfOk result (λ txn. IsTrue (are_files txn)) }
+    ensures found { IsTrue F.tells → IfOk result (QueuesOut (F.map files.old) (record { path = way; body = body; to = to })) }
     ensures drawn { IsTrue F.tells → IfOk result (λ txn. DrawsId (F.map files.old) txn) }
     ensures names { NamesDamaged ⟦<F as Files>⟧ (λ name. same_name name ids_name ≡ true) (IsDamaged (F.map files.old)) result }
     ensures reads { IsReading ⟦<F as Files>⟧ files.old files.new result }
@@ -52,8 +55,10 @@ pub(crate) fn send_out<F: Files>(alloc: Global, files: &mut F, out: &Out) -> Res
     requires sorted { is_sorted byte_cmp key out.now.to ≡ true }
     requires room { IsTrue F.tells → HasIds (F.map files.now) }
     ensures value { IsTrue F.tells → IfOk result (λ txn. (dir : Dir) (p : Plain) → Alike is_of_queue (F.map files.old) dir → IsList dir p → IsList (with_puts dir txn) (spec.send out.now.path out.now.body out.now.to p)) }
+    ensures apart { IsTrue F.tells → IfOk result (λ txn. (dir : Dir) (p : Plain) → dir ids_name ≡ F.map files.old ids_name → IsList dir p → IsList (with_puts dir txn) (spec.send out.now.path out.now.body out.now.to p)) }
     ensures own { IfOk result (λ txn. touches_only is_of_queue txn ≡ true) }
     ensures files { IfOk result (λ txn. IsTrue (are_files txn)) }
+    ensures found { IsTrue F.tells → IfOk result (QueuesOut (F.map files.old) out.now) }
     ensures drawn { IsTrue F.tells → IfOk result (λ txn. DrawsId (F.map files.old) txn) }
     ensures names { NamesDamaged ⟦<F as Files>⟧ (λ name. same_name name ids_name ≡ true) (IsDamaged (F.map files.old)) result }
     ensures reads { IsReading ⟦<F as Files>⟧ files.old files.new result }
@@ -95,8 +100,10 @@ pub fn mail_to<F: Files>(
 ) -> Result<Txn, PartError>
     requires room { IsTrue F.tells → HasIds (F.map files.now) }
     ensures value { IsTrue F.tells → IfOk result (λ txn. (dir : Dir) (p : Plain) → Alike is_of_queue (F.map files.old) dir → IsList dir p → p.config ≡ config.now → IsList (with_puts dir txn) (spec.mail_to to.now now.seconds mail p)) }
+    ensures apart { IsTrue F.tells → IfOk result (λ txn. (dir : Dir) (p : Plain) → dir ids_name ≡ F.map files.old ids_name → IsList dir p → p.config ≡ config.now → IsList (with_puts dir txn) (spec.mail_to to.now now.seconds mail p)) }
     ensures own { IfOk result (λ txn. touches_only is_of_queue txn ≡ true) }
     ensures files { IfOk result (λ txn. IsTrue (are_files txn)) }
+    ensures found { IsTrue F.tells → IfOk result (QueuesMail (F.map files.old)) }
     ensures drawn { IsTrue F.tells → IfOk result (λ txn. DrawsId (F.map files.old) txn) }
     ensures names { NamesDamaged ⟦<F as Files>⟧ (λ name. same_name name ids_name ≡ true) (IsDamaged (F.map files.old)) result }
     ensures reads { IsReading ⟦<F as Files>⟧ files.old files.new result }
@@ -118,8 +125,10 @@ pub fn mail_moderators<F: Files>(
 ) -> Result<Txn, PartError>
     requires room { IsTrue F.tells → HasIds (F.map files.now) }
     ensures value { IsTrue F.tells → IfOk result (λ txn. (dir : Dir) (p : Plain) → Alike (is_with_queue sets.Moderators) (F.map files.old) dir → IsList dir p → p.config ≡ config.now → IsList (with_puts dir txn) (spec.mail_moderators now.seconds mail p)) }
+    ensures apart { IsTrue F.tells → IfOk result (λ txn. (dir : Dir) (p : Plain) → Alike (is_mailed_by sets.Moderators) (F.map files.old) dir → IsList dir p → p.config ≡ config.now → IsList (with_puts dir txn) (spec.mail_moderators now.seconds mail p)) }
     ensures own { IfOk result (λ txn. touches_only is_of_queue txn ≡ true) }
     ensures files { IfOk result (λ txn. IsTrue (are_files txn)) }
+    ensures found { IsTrue F.tells → IfOk result (QueuesToSet (F.map files.old) sets.Moderators) }
     ensures names { NamesDamaged ⟦<F as Files>⟧ (λ name. is_mailed_by sets.Moderators name ≡ true) (IsDamaged (F.map files.old)) result }
     ensures reads { IsReading ⟦<F as Files>⟧ files.old files.new result }
 {

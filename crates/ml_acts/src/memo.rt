@@ -11,6 +11,7 @@ ghost use Rattle.ml_plain.specs.Plain.{Plain, addresses};
 ghost use Rattle.ml_subs.specs.Subscribers.{IsSpelled, is_of_set};
 ghost use Rattle.ml_acts.specs.Damaged.{IsDamaged};
 ghost use Rattle.ml_acts.specs.Doing.{Alike, HasIds, is_bucket, is_mailed_by, is_of_queue, is_with_queue};
+ghost use Rattle.ml_acts.specs.Found.{QueuesToSet, SpellsAddresses};
 
 use crate::mailing::send_out;
 use ml_address::Path;
@@ -55,7 +56,9 @@ fn members_again<F: Files>(
     requires before { IfSome before (IsSpelled sets.List) }
     ensures spelled { IfOk result (IsSpelled sets.List) }
     ensures value { IsTrue F.tells → IfOk result (λ now. (dir : Dir) (p : Plain) → Alike (is_of_set sets.List) (F.map files.old) dir → IsList dir p → now.addresses ≡ addresses p sets.List) }
+    ensures apart { IsTrue F.tells → IfOk result (λ now. (dir : Dir) (p : Plain) → Alike (is_bucket sets.List) (F.map files.old) dir → IsList dir p → now.addresses ≡ addresses p sets.List) }
     ensures sorted { IfOk result (λ now. is_sorted byte_cmp key now.addresses ≡ true) }
+    ensures found { IsTrue F.tells → IfOk result (λ now. SpellsAddresses (F.map files.old) sets.List now.addresses) }
     ensures names { NamesDamaged ⟦<F as Files>⟧ (λ name. is_bucket sets.List name ≡ true) (IsDamaged (F.map files.old)) result }
     ensures reads { IsReading ⟦<F as Files>⟧ files.old files.new result }
 {
@@ -73,8 +76,10 @@ pub fn send_to_list<F: Files>(
 ) -> Result<Txn, PartError>
     requires room { IsTrue F.tells → HasIds (F.map files.now) }
     ensures value { IsTrue F.tells → IfOk result (λ txn. (dir : Dir) (p : Plain) → Alike (is_with_queue sets.List) (F.map files.old) dir → IsList dir p → IsList (with_puts dir txn) (spec.send way body (addresses p sets.List) p)) }
+    ensures apart { IsTrue F.tells → IfOk result (λ txn. (dir : Dir) (p : Plain) → Alike (is_mailed_by sets.List) (F.map files.old) dir → IsList dir p → IsList (with_puts dir txn) (spec.send way body (addresses p sets.List) p)) }
     ensures own { IfOk result (λ txn. touches_only is_of_queue txn ≡ true) }
     ensures files { IfOk result (λ txn. IsTrue (are_files txn)) }
+    ensures found { IsTrue F.tells → IfOk result (QueuesToSet (F.map files.old) sets.List) }
     ensures names { NamesDamaged ⟦<F as Files>⟧ (λ name. is_mailed_by sets.List name ≡ true) (IsDamaged (F.map files.old)) result }
     ensures reads { IsReading ⟦<F as Files>⟧ files.old files.new result }
 {

@@ -114,7 +114,7 @@ module _ {S : Type 0} (told : Ghosts S) (reads_told : IsTrue told.tells_all → 
     at_rest = λ _ q state t. weaker told.moment told.left_since told.disk told.output old mid (IsAfterSome q (items_of q count) (told.output old)) (IsExercising q count (told.output old)) (some_moments t q state t)
         (λ left out p. inl p);
     anywhere = λ r files here.
-        let d = runs.anywhere r files here in
+        let d = (runs.anywhere r files here).0 in
         record {
           first = d.first;
           group = d.group;
@@ -155,7 +155,7 @@ module _ {S : Type 0} (told : Ghosts S) (reads_told : IsTrue told.tells_all → 
             put = subst (λ (b : Text). IsSummingUp count (behind q count).plain b out) (e.put t) p.1;
           }));
       anywhere = λ r files here.
-          let d = runs.anywhere r files here in
+          let d = (runs.anywhere r files here).0 in
           let none = d.row.whole (λ e. settled_not run 71 refl is e) (λ e. settled_not run 73 refl is e) (λ e. settled_not run 111 refl is e) in
           let behind : directory (told.disk mid).reads ≡ Some (after files d.first) = row_end told (Brings (Some (stream_text (items_for config count)))) count run runs.answered mid files d.first d.group none d.row in
           let row = row_brought told (Brings (Some (stream_text (items_for config count)))) (IsExercised files count) count run runs.answered mid files d.first d.group (exercised r files here) d.row in

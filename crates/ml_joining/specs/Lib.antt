@@ -1,3 +1,5 @@
 pub mod Operations
 pub mod Cases
 pub mod Reads
+pub mod Found
+pub mod Written

@@ -8,9 +8,10 @@ ghost use Rattle.ml_plain.specs.Directory.{IsList};
 ghost use Rattle.ml_plain.specs.Mailing as spec;
 ghost use Rattle.ml_plain.specs.Plain.{Plain};
 ghost use Rattle.ml_reply.specs.declared.mails.Mail.TheVariants.{AskTc};
-ghost use Rattle.ml_acts.specs.Acting.{AnswersAct};
-ghost use Rattle.ml_acts.specs.Doing.{DoesList, HasIds, is_bucket};
+ghost use Rattle.ml_acts.specs.Acting.{AnswersWithin};
+ghost use Rattle.ml_acts.specs.Doing.{DoesList, HasIds, is_bucket, is_of_queue};
 ghost use Rattle.ml_acts.specs.Damaged.{IsDamaged};
+ghost use Rattle.ml_joining.specs.Found.{FoundToAsk, FoundToAskModerators};
 ghost use Rattle.ml_joining.specs.Reads.{is_for_mail};
 
 use ml_acts::{Moment, confirm_address, owner_address, with_mail, with_mail_to_moderators};
@@ -71,7 +72,8 @@ pub(crate) fn ask<F: Files>(
     requires asked { IsTrue (is_asked set) }
     requires room { IsTrue F.tells → HasIds (F.map files.now) }
     ensures value { IsTrue F.tells → IfOk result (λ done. (p : Plain) → IsList (F.map files.old) p → p.config ≡ config.now → DoesList (F.map files.old) done (spec.ask to.now now.seconds word set x.now p, answers.asked)) }
-    ensures act { AnswersAct ⟦<F as Files>⟧ (λ name. is_for_mail name ≡ true) (IsDamaged (F.map files.old)) files.old files.new result }
+    ensures found { IsTrue F.tells → IfOk result (FoundToAsk (F.map files.old)) }
+    ensures act { AnswersWithin is_of_queue ⟦<F as Files>⟧ (λ name. is_for_mail name ≡ true) (IsDamaged (F.map files.old)) files.old files.new result }
 {
     let keys = key(alloc, files)?;
     let reply = confirm_address(alloc, config, &keys, word, set, x, now)?;
@@ -113,7 +115,8 @@ pub(crate) fn ask_moderators<F: Files>(
     requires asked { IsTrue (is_asked set) }
     requires room { IsTrue F.tells → HasIds (F.map files.now) }
     ensures value { IsTrue F.tells → IfOk result (λ done. (p : Plain) → IsList (F.map files.old) p → p.config ≡ config.now → DoesList (F.map files.old) done (spec.ask_moderators now.seconds set x.now p, answers.asked)) }
-    ensures act { AnswersAct ⟦<F as Files>⟧ (λ name. (is_for_mail name || is_bucket sets.Moderators name) ≡ true) (IsDamaged (F.map files.old)) files.old files.new result }
+    ensures found { IsTrue F.tells → IfOk result (FoundToAskModerators (F.map files.old)) }
+    ensures act { AnswersWithin is_of_queue ⟦<F as Files>⟧ (λ name. (is_for_mail name || is_bucket sets.Moderators name) ≡ true) (IsDamaged (F.map files.old)) files.old files.new result }
 {
     let keys = key(alloc, files)?;
     let reply = confirm_address(alloc, config, &keys, Word::Tc, set, x, now)?;

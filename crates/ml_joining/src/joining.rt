@@ -1,5 +1,5 @@
 // An address that is to join a set.
-ghost use Rattle.std.specs.Prelude.{◌≡◌, false, true, IsTrue, IfOk};
+ghost use Rattle.std.specs.Prelude.{◌≡◌, [], false, true, IsTrue, IfOk};
 ghost use Rattle.ml_base.specs.Address.{key};
 ghost use Rattle.ml_base.specs.Dir.{are_files, same_name, touches_only, with_puts};
 ghost use Rattle.ml_address.specs.Requests.{is_asked};
@@ -12,11 +12,13 @@ ghost use Rattle.ml_plain.specs.Plain.{Plain, is_full, is_in};
 ghost use Rattle.ml_queue.specs.Answers.{ids_name};
 ghost use Rattle.ml_reply.specs.declared.mails.Mail.TheVariants as mails;
 ghost use Rattle.ml_subs.specs.Subscribers.{is_touched};
-ghost use Rattle.ml_acts.specs.Acting.{AnswersAct};
-ghost use Rattle.ml_acts.specs.Doing.{DoesList, HasIds};
+ghost use Rattle.ml_acts.specs.Acting.{AnswersWithin};
+ghost use Rattle.ml_acts.specs.Doing.{DoesList, HasIds, is_of_queue};
 ghost use Rattle.ml_acts.specs.Damaged.{IsDamaged};
+ghost use Rattle.ml_joining.specs.Found.{FoundToDo, FoundToJoin, SendsMail};
 ghost use Rattle.ml_joining.specs.Operations.{IsSubject, MayJoin, joining_deed};
 ghost use Rattle.ml_joining.specs.Reads.{is_read_to_join, is_touched_with_mail};
+ghost use Rattle.ml_joining.specs.Written.{is_written_to_join};
 
 use crate::asking::{ask, ask_moderators};
 use crate::operations::{Joining, reply_of};
@@ -46,7 +48,8 @@ pub(crate) fn joined<F: Files>(
     requires fresh { MayJoin x.now.member operation }
     requires room { IsTrue F.tells → HasIds (F.map files.now) }
     ensures value { IsTrue F.tells → IfOk result (λ done. (p : Plain) → IsList (F.map files.old) p → p.config ≡ config.now → IsSubject p set x.now → DoesList (F.map files.old) done (spec.done now.seconds set sender.now x.now.who p (joining_deed operation))) }
-    ensures act { AnswersAct ⟦<F as Files>⟧ (λ name. is_read_to_join set x.now.named name ≡ true) (IsDamaged (F.map files.old)) files.old files.new result }
+    ensures found { IsTrue F.tells → IfOk result (FoundToDo (F.map files.old) set (key x.now.named) (joining_deed operation)) }
+    ensures act { AnswersWithin (is_written_to_join set x.now.named) ⟦<F as Files>⟧ (λ name. is_read_to_join set x.now.named name ≡ true) (IsDamaged (F.map files.old)) files.old files.new result }
 {
     let who = &x.who;
     match operation {
@@ -71,7 +74,8 @@ fn tell_already<F: Files>(
 ) -> Result<(Txn, Reply), PartError>
     requires room { IsTrue F.tells → HasIds (F.map files.now) }
     ensures value { IsTrue F.tells → IfOk result (λ done. (p : Plain) → IsList (F.map files.old) p → p.config ≡ config.now → DoesList (F.map files.old) done (mail_to sender.now now.seconds (mails.Already sender.now set x.now) p, answers.already)) }
-    ensures act { AnswersAct ⟦<F as Files>⟧ (λ name. same_name name ids_name ≡ true) (IsDamaged (F.map files.old)) files.old files.new result }
+    ensures found { IsTrue F.tells → IfOk result (SendsMail (F.map files.old) [] answers.already) }
+    ensures act { AnswersWithin is_of_queue ⟦<F as Files>⟧ (λ name. same_name name ids_name ≡ true) (IsDamaged (F.map files.old)) files.old files.new result }
 {
     let mail = Mail::Already {
         to: Bytes::from_slice(alloc, sender.bytes())?,
@@ -94,7 +98,8 @@ fn join<F: Files>(
 ) -> Result<(Txn, Reply), PartError>
     requires room { IsTrue F.tells → HasIds (F.map files.now) }
     ensures value { IsTrue F.tells → IfOk result (λ done. (p : Plain) → IsList (F.map files.old) p → p.config ≡ config.now → is_in p set who.now ≡ false → DoesList (F.map files.old) done (spec.joined now.seconds set who.now (is_full p set) p)) }
-    ensures act { AnswersAct ⟦<F as Files>⟧ (λ name. is_touched_with_mail set who.now name ≡ true) (IsDamaged (F.map files.old)) files.old files.new result }
+    ensures found { IsTrue F.tells → IfOk result (FoundToJoin (F.map files.old) set (key who.now)) }
+    ensures act { AnswersWithin (is_written_to_join set who.now) ⟦<F as Files>⟧ (λ name. is_touched_with_mail set who.now name ≡ true) (IsDamaged (F.map files.old)) files.old files.new result }
 {
     match add(alloc, files, set, who, now.seconds)? {
         AddAnswer::Added(txn) => welcome(alloc, files, config, now, set, who, txn),
@@ -117,7 +122,8 @@ fn welcome<F: Files>(
     requires touched { touches_only (is_touched set (key who.now)) txn ≡ true }
     requires names { IsTrue (are_files txn) }
     ensures value { IsTrue F.tells → IfOk result (λ done. (p : Plain) → IsList (with_puts (F.map files.old) txn) p → p.config ≡ config.now → DoesList (F.map files.old) done (mail_to who.now now.seconds (mails.Welcome who.now set who.now) p, answers.subscribed)) }
-    ensures act { AnswersAct ⟦<F as Files>⟧ (λ name. same_name name ids_name ≡ true) (IsDamaged (F.map files.old)) files.old files.new result }
+    ensures found { IsTrue F.tells → IfOk result (SendsMail (F.map files.old) txn answers.subscribed) }
+    ensures act { AnswersWithin (is_written_to_join set who.now) ⟦<F as Files>⟧ (λ name. same_name name ids_name ≡ true) (IsDamaged (F.map files.old)) files.old files.new result }
 {
     let mail = Mail::Welcome {
         to: Bytes::from_slice(alloc, who.bytes())?,

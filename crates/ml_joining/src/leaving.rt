@@ -1,6 +1,8 @@
 // An address that is to leave a set.
-ghost use Rattle.std.specs.Prelude.{◌≡◌, true, IsTrue, IfOk};
+ghost use Rattle.std.specs.Prelude.{◌≡◌, [], true, IsTrue, IfOk, Bool};
+ghost use Rattle.ml_base.specs.Address.{key};
 ghost use Rattle.ml_base.specs.Dir.{are_files, same_name, touches_only, with_puts};
+ghost use Rattle.ml_base.specs.declared.names.Name.{Name};
 ghost use Rattle.ml_address.specs.Requests.{is_asked};
 ghost use Rattle.ml_config.specs.Configuration.{IsConfig};
 ghost use Rattle.ml_plain.specs.Answers as answers;
@@ -10,9 +12,10 @@ ghost use Rattle.ml_plain.specs.Managing as spec;
 ghost use Rattle.ml_plain.specs.Plain.{Plain};
 ghost use Rattle.ml_queue.specs.Answers.{ids_name};
 ghost use Rattle.ml_reply.specs.declared.mails.Mail.TheVariants as mails;
-ghost use Rattle.ml_acts.specs.Acting.{AnswersAct};
-ghost use Rattle.ml_acts.specs.Doing.{DoesList, HasIds, is_beside_queue};
+ghost use Rattle.ml_acts.specs.Acting.{AnswersAct, AnswersWithin};
+ghost use Rattle.ml_acts.specs.Doing.{DoesList, HasIds, is_beside_queue, is_changed_for, is_of_queue};
 ghost use Rattle.ml_acts.specs.Damaged.{IsDamaged};
+ghost use Rattle.ml_joining.specs.Found.{FoundToDo, FoundToPart, SendsMail};
 ghost use Rattle.ml_joining.specs.Operations.{IsSubject, MayLeave, leaving_deed};
 ghost use Rattle.ml_joining.specs.Reads.{is_read_to_leave};
 
@@ -43,7 +46,8 @@ pub(crate) fn left<F: Files>(
     requires member { MayLeave x.now.member operation }
     requires room { IsTrue F.tells → HasIds (F.map files.now) }
     ensures value { IsTrue F.tells → IfOk result (λ done. (p : Plain) → IsList (F.map files.old) p → p.config ≡ config.now → IsSubject p set x.now → DoesList (F.map files.old) done (spec.done now.seconds set sender.now x.now.who p (leaving_deed operation))) }
-    ensures act { AnswersAct ⟦<F as Files>⟧ (λ name. is_read_to_leave set x.now.named name ≡ true) (IsDamaged (F.map files.old)) files.old files.new result }
+    ensures found { IsTrue F.tells → IfOk result (FoundToDo (F.map files.old) set (key x.now.named) (leaving_deed operation)) }
+    ensures act { AnswersWithin (is_changed_for set x.now.named) ⟦<F as Files>⟧ (λ name. is_read_to_leave set x.now.named name ≡ true) (IsDamaged (F.map files.old)) files.old files.new result }
 {
     let who = &x.who;
     match operation {
@@ -67,7 +71,8 @@ fn tell_absent<F: Files>(
 ) -> Result<(Txn, Reply), PartError>
     requires room { IsTrue F.tells → HasIds (F.map files.now) }
     ensures value { IsTrue F.tells → IfOk result (λ done. (p : Plain) → IsList (F.map files.old) p → p.config ≡ config.now → DoesList (F.map files.old) done (mail_to sender.now now.seconds (mails.Absent sender.now set x.now) p, answers.absent)) }
-    ensures act { AnswersAct ⟦<F as Files>⟧ (λ name. same_name name ids_name ≡ true) (IsDamaged (F.map files.old)) files.old files.new result }
+    ensures found { IsTrue F.tells → IfOk result (SendsMail (F.map files.old) [] answers.absent) }
+    ensures act { AnswersWithin is_of_queue ⟦<F as Files>⟧ (λ name. same_name name ids_name ≡ true) (IsDamaged (F.map files.old)) files.old files.new result }
 {
     let mail = Mail::Absent {
         to: Bytes::from_slice(alloc, sender.bytes())?,
@@ -91,7 +96,8 @@ fn leave<F: Files>(
     requires member { x.now.member ≡ true }
     requires room { IsTrue F.tells → HasIds (F.map files.now) }
     ensures value { IsTrue F.tells → IfOk result (λ done. (p : Plain) → IsList (F.map files.old) p → p.config ≡ config.now → IsSubject p set x.now → DoesList (F.map files.old) done (spec.left now.seconds set x.now.who p)) }
-    ensures act { AnswersAct ⟦<F as Files>⟧ (λ name. is_read_to_leave set x.now.named name ≡ true) (IsDamaged (F.map files.old)) files.old files.new result }
+    ensures found { IsTrue F.tells → IfOk result (FoundToPart (F.map files.old) set (key x.now.named)) }
+    ensures act { AnswersWithin (is_changed_for set x.now.named) ⟦<F as Files>⟧ (λ name. is_read_to_leave set x.now.named name ≡ true) (IsDamaged (F.map files.old)) files.old files.new result }
 {
     match remove_member(alloc, files, set, &x.named)? {
         Some(txn) => goodbye(alloc, files, config, now, set, &x.who, txn),
@@ -99,7 +105,7 @@ fn leave<F: Files>(
     }
 }
 
-// The puts that remove an address from a set, and behind them its goodbye.
+// The puts that remove an address from a set, and after them its goodbye: all puts are of the files of these and of the queue (`within`).
 fn goodbye<F: Files>(
     alloc: Global,
     files: &mut F,
@@ -113,6 +119,8 @@ fn goodbye<F: Files>(
     requires others { touches_only is_beside_queue txn ≡ true }
     requires names { IsTrue (are_files txn) }
     ensures value { IsTrue F.tells → IfOk result (λ done. (p : Plain) → IsList (with_puts (F.map files.old) txn) p → p.config ≡ config.now → DoesList (F.map files.old) done (mail_to who.now now.seconds (mails.Goodbye who.now set who.now) p, answers.unsubscribed)) }
+    ensures found { IsTrue F.tells → IfOk result (SendsMail (F.map files.old) txn answers.unsubscribed) }
+    ensures within { (may : Name → Bool) → ((name : Name) → is_of_queue name ≡ true → may name ≡ true) → touches_only may txn ≡ true → IfOk result (λ done. touches_only may done.0 ≡ true) }
     ensures act { AnswersAct ⟦<F as Files>⟧ (λ name. same_name name ids_name ≡ true) (IsDamaged (F.map files.old)) files.old files.new result }
 {
     let mail = Mail::Goodbye {

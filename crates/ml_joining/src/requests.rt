@@ -14,13 +14,16 @@ ghost use Rattle.ml_plain.specs.Directory.{IsList};
 ghost use Rattle.ml_plain.specs.Mailing.{is_good};
 ghost use Rattle.ml_plain.specs.Managing as spec;
 ghost use Rattle.ml_plain.specs.Plain.{Plain};
-ghost use Rattle.ml_acts.specs.Acting.{AnswersAct};
+ghost use Rattle.ml_acts.specs.Acting.{AnswersWithin};
 ghost use Rattle.ml_acts.specs.Configured.{with_config};
-ghost use Rattle.ml_acts.specs.Doing.{DoesList, HasIds, HasRoom};
+ghost use Rattle.ml_acts.specs.Doing.{DoesList, HasIds, HasRoom, is_changed_for};
 ghost use Rattle.ml_acts.specs.Damaged.{IsDamaged};
+ghost use Rattle.ml_acts.specs.Found.{TellsKeys, TellsMember};
+ghost use Rattle.ml_joining.specs.Found.{FoundToConfirm, FoundToDo, FoundToSubscribe, FoundToUnsubscribe, confirming};
 ghost use Rattle.ml_joining.specs.Operations.{IsSubject, asked_of};
 ghost use Rattle.ml_joining.specs.Reads as reads;
 ghost use Rattle.ml_joining.specs.Reads.{is_read_to_confirm, is_read_to_subscribe, is_read_to_unsubscribe};
+ghost use Rattle.ml_joining.specs.Written.{is_written_to_confirm, is_written_to_join};
 
 use crate::deciding::{Facts, confirmed_joining, confirmed_leaving, joining, leaving};
 use crate::joining::joined;
@@ -50,7 +53,8 @@ pub fn subscribe<F: Files>(
     requires range { IsTrue (if_who (option_map who_view who)) }
     requires room { IsTrue F.tells → HasRoom (F.map files.now) }
     ensures value { IsTrue F.tells → IfOk result (λ done. (p : Plain) → IsList (with_config config.now (F.map files.old)) p → DoesList (with_config config.now (F.map files.old)) done (spec.subscribe now sender.now set (spec.subject_of p set sender.now (option_map who_view who.entry)) p)) }
-    ensures act { AnswersAct ⟦<F as Files>⟧ (λ name. is_read_to_subscribe config.now sender.now set (asked_of sender.now (option_map who_view who.entry)) name ≡ true) (IsDamaged (with_config config.now (F.map files.old))) files.old files.new result }
+    ensures found { IsTrue F.tells → IfOk result (FoundToSubscribe (with_config config.now (F.map files.old)) config.now sender.now set (asked_of sender.now (option_map who_view who.entry))) }
+    ensures act { AnswersWithin (is_written_to_join set (asked_of sender.now (option_map who_view who.entry))) ⟦<F as Files>⟧ (λ name. is_read_to_subscribe config.now sender.now set (asked_of sender.now (option_map who_view who.entry)) name ≡ true) (IsDamaged (with_config config.now (F.map files.old))) files.old files.new result }
 {
     let mut under = Configured::new(files, config);
     join_asked(
@@ -79,7 +83,8 @@ fn join_asked<F: Files>(
     requires range { IsTrue (if_who (option_map who_view who)) }
     requires room { IsTrue F.tells → HasIds (F.map files.now) }
     ensures value { IsTrue F.tells → IfOk result (λ done. (p : Plain) → IsList (F.map files.old) p → p.config ≡ config.now → DoesList (F.map files.old) done (spec.subscribe now.seconds sender.now set (spec.subject_of p set sender.now (option_map who_view who.entry)) p)) }
-    ensures act { AnswersAct ⟦<F as Files>⟧ (λ name. is_read_to_subscribe config.now sender.now set (asked_of sender.now (option_map who_view who.entry)) name ≡ true) (IsDamaged (F.map files.old)) files.old files.new result }
+    ensures found { IsTrue F.tells → IfOk result (FoundToSubscribe (F.map files.old) config.now sender.now set (asked_of sender.now (option_map who_view who.entry))) }
+    ensures act { AnswersWithin (is_written_to_join set (asked_of sender.now (option_map who_view who.entry))) ⟦<F as Files>⟧ (λ name. is_read_to_subscribe config.now sender.now set (asked_of sender.now (option_map who_view who.entry)) name ≡ true) (IsDamaged (F.map files.old)) files.old files.new result }
 {
     let x = find_subject(alloc, files, set, sender, who)?;
     join_found(alloc, files, config, now, sender, set, &x)
@@ -106,7 +111,8 @@ fn join_found<F: Files>(
     requires asked { IsTrue (is_asked set) }
     requires room { IsTrue F.tells → HasIds (F.map files.now) }
     ensures value { IsTrue F.tells → IfOk result (λ done. (p : Plain) → IsList (F.map files.old) p → p.config ≡ config.now → IsSubject p set x.now → DoesList (F.map files.old) done (spec.subscribe now.seconds sender.now set x.now.who p)) }
-    ensures act { AnswersAct ⟦<F as Files>⟧ (λ name. is_read_to_subscribe config.now sender.now set x.now.named name ≡ true) (IsDamaged (F.map files.old)) files.old files.new result }
+    ensures found { IsTrue F.tells → IfOk result (λ done. TellsMember (F.map files.old) set (key x.now.named) x.now.member → FoundToSubscribe (F.map files.old) config.now sender.now set x.now.named done) }
+    ensures act { AnswersWithin (is_written_to_join set x.now.named) ⟦<F as Files>⟧ (λ name. is_read_to_subscribe config.now sender.now set x.now.named name ≡ true) (IsDamaged (F.map files.old)) files.old files.new result }
 {
     let moderator = moderates(alloc, files, asks_rank(config), sender)?;
     let facts = Facts {
@@ -135,7 +141,8 @@ pub fn unsubscribe<F: Files>(
     requires range { IsTrue (if_who (option_map who_view who)) }
     requires room { IsTrue F.tells → HasRoom (F.map files.now) }
     ensures value { IsTrue F.tells → IfOk result (λ done. (p : Plain) → IsList (with_config config.now (F.map files.old)) p → DoesList (with_config config.now (F.map files.old)) done (spec.unsubscribe now sender.now set (spec.subject_of p set sender.now (option_map who_view who.entry)) p)) }
-    ensures act { AnswersAct ⟦<F as Files>⟧ (λ name. is_read_to_unsubscribe config.now sender.now set (asked_of sender.now (option_map who_view who.entry)) name ≡ true) (IsDamaged (with_config config.now (F.map files.old))) files.old files.new result }
+    ensures found { IsTrue F.tells → IfOk result (FoundToUnsubscribe (with_config config.now (F.map files.old)) config.now sender.now set (asked_of sender.now (option_map who_view who.entry))) }
+    ensures act { AnswersWithin (is_changed_for set (asked_of sender.now (option_map who_view who.entry))) ⟦<F as Files>⟧ (λ name. is_read_to_unsubscribe config.now sender.now set (asked_of sender.now (option_map who_view who.entry)) name ≡ true) (IsDamaged (with_config config.now (F.map files.old))) files.old files.new result }
 {
     let mut under = Configured::new(files, config);
     leave_asked(
@@ -164,7 +171,8 @@ fn leave_asked<F: Files>(
     requires range { IsTrue (if_who (option_map who_view who)) }
     requires room { IsTrue F.tells → HasIds (F.map files.now) }
     ensures value { IsTrue F.tells → IfOk result (λ done. (p : Plain) → IsList (F.map files.old) p → p.config ≡ config.now → DoesList (F.map files.old) done (spec.unsubscribe now.seconds sender.now set (spec.subject_of p set sender.now (option_map who_view who.entry)) p)) }
-    ensures act { AnswersAct ⟦<F as Files>⟧ (λ name. is_read_to_unsubscribe config.now sender.now set (asked_of sender.now (option_map who_view who.entry)) name ≡ true) (IsDamaged (F.map files.old)) files.old files.new result }
+    ensures found { IsTrue F.tells → IfOk result (FoundToUnsubscribe (F.map files.old) config.now sender.now set (asked_of sender.now (option_map who_view who.entry))) }
+    ensures act { AnswersWithin (is_changed_for set (asked_of sender.now (option_map who_view who.entry))) ⟦<F as Files>⟧ (λ name. is_read_to_unsubscribe config.now sender.now set (asked_of sender.now (option_map who_view who.entry)) name ≡ true) (IsDamaged (F.map files.old)) files.old files.new result }
 {
     let x = find_subject(alloc, files, set, sender, who)?;
     leave_found(alloc, files, config, now, sender, set, &x)
@@ -184,7 +192,8 @@ fn leave_found<F: Files>(
     requires asked { IsTrue (is_asked set) }
     requires room { IsTrue F.tells → HasIds (F.map files.now) }
     ensures value { IsTrue F.tells → IfOk result (λ done. (p : Plain) → IsList (F.map files.old) p → p.config ≡ config.now → IsSubject p set x.now → DoesList (F.map files.old) done (spec.unsubscribe now.seconds sender.now set x.now.who p)) }
-    ensures act { AnswersAct ⟦<F as Files>⟧ (λ name. is_read_to_unsubscribe config.now sender.now set x.now.named name ≡ true) (IsDamaged (F.map files.old)) files.old files.new result }
+    ensures found { IsTrue F.tells → IfOk result (λ done. TellsMember (F.map files.old) set (key x.now.named) x.now.member → FoundToUnsubscribe (F.map files.old) config.now sender.now set x.now.named done) }
+    ensures act { AnswersWithin (is_changed_for set x.now.named) ⟦<F as Files>⟧ (λ name. is_read_to_unsubscribe config.now sender.now set x.now.named name ≡ true) (IsDamaged (F.map files.old)) files.old files.new result }
 {
     let moderator = moderates(alloc, files, config.flags.r, sender)?;
     let facts = Facts {
@@ -216,7 +225,8 @@ pub fn confirm<F: Files>(
     requires range { IsTrue (is_who (who_view who)) }
     requires room { IsTrue F.tells → HasRoom (F.map files.now) }
     ensures value { IsTrue F.tells → IfOk result (λ done. (p : Plain) → IsList (with_config config.now (F.map files.old)) p → DoesList (with_config config.now (F.map files.old)) done (spec.confirm now sender.now word set (record { time = time; cookie = cookie.now; who = who_view who.entry }) (spec.subject_of p set sender.now (Some (who_view who.entry))) p)) }
-    ensures act { AnswersAct ⟦<F as Files>⟧ (λ name. is_read_to_confirm word set (address_named (who_view who.entry)) name ≡ true) (IsDamaged (with_config config.now (F.map files.old))) files.old files.new result }
+    ensures found { IsTrue F.tells → IfOk result (FoundToConfirm (with_config config.now (F.map files.old)) config.now word set (address_named (who_view who.entry))) }
+    ensures act { AnswersWithin (is_written_to_confirm word set (address_named (who_view who.entry))) ⟦<F as Files>⟧ (λ name. is_read_to_confirm word set (address_named (who_view who.entry)) name ≡ true) (IsDamaged (with_config config.now (F.map files.old))) files.old files.new result }
 {
     let mut under = Configured::new(files, config);
     confirm_asked(
@@ -251,7 +261,8 @@ fn confirm_asked<F: Files>(
     requires range { IsTrue (is_who (who_view who)) }
     requires room { IsTrue F.tells → HasIds (F.map files.now) }
     ensures value { IsTrue F.tells → IfOk result (λ done. (p : Plain) → IsList (F.map files.old) p → p.config ≡ config.now → DoesList (F.map files.old) done (spec.confirm now.seconds sender.now word set (record { time = time; cookie = cookie.now; who = who_view who.entry }) (spec.subject_of p set sender.now (Some (who_view who.entry))) p)) }
-    ensures act { AnswersAct ⟦<F as Files>⟧ (λ name. is_read_to_confirm word set (address_named (who_view who.entry)) name ≡ true) (IsDamaged (F.map files.old)) files.old files.new result }
+    ensures found { IsTrue F.tells → IfOk result (FoundToConfirm (F.map files.old) config.now word set (address_named (who_view who.entry))) }
+    ensures act { AnswersWithin (is_written_to_confirm word set (address_named (who_view who.entry))) ⟦<F as Files>⟧ (λ name. is_read_to_confirm word set (address_named (who_view who.entry)) name ≡ true) (IsDamaged (F.map files.old)) files.old files.new result }
 {
     let x = find_subject(alloc, files, set, sender, Some(who))?;
     confirm_found(
@@ -276,7 +287,8 @@ fn confirm_found<F: Files>(
     requires asked { IsTrue (is_asked set) }
     requires room { IsTrue F.tells → HasIds (F.map files.now) }
     ensures value { IsTrue F.tells → IfOk result (λ done. (p : Plain) → IsList (F.map files.old) p → p.config ≡ config.now → IsSubject p set x.now → DoesList (F.map files.old) done (spec.done now.seconds set sender.now x.now.who p (spec.confirming p set x.now.who word (is_good p (word_text word) set time (key x.now.who) cookie.now now.seconds)))) }
-    ensures act { AnswersAct ⟦<F as Files>⟧ (λ name. is_read_to_confirm word set x.now.named name ≡ true) (IsDamaged (F.map files.old)) files.old files.new result }
+    ensures found { IsTrue F.tells → IfOk result (λ done. TellsMember (F.map files.old) set (key x.now.named) x.now.member → FoundToConfirm (F.map files.old) config.now word set x.now.named done) }
+    ensures act { AnswersWithin (is_written_to_confirm word set x.now.named) ⟦<F as Files>⟧ (λ name. is_read_to_confirm word set x.now.named name ≡ true) (IsDamaged (F.map files.old)) files.old files.new result }
 {
     let good = is_signed(alloc, files, now.seconds, word, set, time, cookie, &x.who)?;
     confirmed(alloc, files, config, now, sender, word, set, good, x)
@@ -294,6 +306,7 @@ fn is_signed<F: Files>(
     x: &Address,
 ) -> Result<bool, PartError>
     ensures value { IsTrue F.tells → IfOk result (λ good. (p : Plain) → IsList (F.map files.old) p → good ≡ is_good p (word_text word) set time (key x.now) cookie.now now) }
+    ensures found { IsTrue F.tells → IfOk result (λ _. TellsKeys (F.map files.old)) }
     ensures names { NamesDamaged ⟦<F as Files>⟧ (λ name. same_name name key_name ≡ true) (IsDamaged (F.map files.old)) result }
     ensures reads { IsReading ⟦<F as Files>⟧ files.old files.new result }
 {
@@ -319,7 +332,8 @@ fn confirmed<F: Files>(
     requires asked { IsTrue (is_asked set) }
     requires room { IsTrue F.tells → HasIds (F.map files.now) }
     ensures value { IsTrue F.tells → IfOk result (λ done. (p : Plain) → IsList (F.map files.old) p → p.config ≡ config.now → IsSubject p set x.now → DoesList (F.map files.old) done (spec.done now.seconds set sender.now x.now.who p (spec.confirming p set x.now.who word good))) }
-    ensures act { AnswersAct ⟦<F as Files>⟧ (λ name. is_read_to_confirm word set x.now.named name ≡ true) (IsDamaged (F.map files.old)) files.old files.new result }
+    ensures found { IsTrue F.tells → IfOk result (FoundToDo (F.map files.old) set (key x.now.named) (confirming word config.now x.now.member good)) }
+    ensures act { AnswersWithin (is_written_to_confirm word set x.now.named) ⟦<F as Files>⟧ (λ name. is_read_to_confirm word set x.now.named name ≡ true) (IsDamaged (F.map files.old)) files.old files.new result }
 {
     let member = x.member;
     match word {

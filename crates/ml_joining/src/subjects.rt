@@ -1,5 +1,5 @@
 // Whom a request is about.
-ghost use Rattle.std.specs.Prelude.{◌≡◌, true, IsTrue, IfOk};
+ghost use Rattle.std.specs.Prelude.{◌≡◌, false, true, IsTrue, IfOk};
 ghost use Rattle.std.specs.Option.{option_map};
 ghost use Rattle.ml_base.specs.ReadFiles.{IsReading, NamesDamaged};
 ghost use Rattle.ml_base.specs.declared.names.Set.TheVariants as sets;
@@ -11,6 +11,8 @@ ghost use Rattle.ml_plain.specs.Plain.{Plain, is_moderator};
 ghost use Rattle.std.specs.Prelude.{◌&&◌};
 ghost use Rattle.ml_acts.specs.Doing.{is_bucket_of};
 ghost use Rattle.ml_acts.specs.Damaged.{IsDamaged};
+ghost use Rattle.ml_acts.specs.Found.{TellsMember};
+ghost use Rattle.ml_base.specs.Address.{key};
 ghost use Rattle.ml_joining.specs.Operations.{IsSubject, asked_of};
 
 use ml_address::Who;
@@ -67,6 +69,7 @@ pub(crate) fn find_subject<F: Files>(
     requires { IsTrue (if_who (option_map who_view who)) }
     ensures value { IsTrue F.tells → IfOk result (λ x. (p : Plain) → IsList (F.map files.old) p → IsSubject p set x) }
     ensures named { IfOk result (λ x. x.named ≡ asked_of sender.now (option_map who_view who.entry)) }
+    ensures found { IsTrue F.tells → IfOk result (λ x. TellsMember (F.map files.old) set (key x.named) x.member) }
     ensures names { NamesDamaged ⟦<F as Files>⟧ (λ name. is_bucket_of set (asked_of sender.now (option_map who_view who.entry)) name ≡ true) (IsDamaged (F.map files.old)) result }
     ensures reads { IsReading ⟦<F as Files>⟧ files.old files.new result }
 {
@@ -96,6 +99,8 @@ pub(crate) fn moderates<F: Files>(
     sender: &Address,
 ) -> Result<bool, PartError>
     ensures value { IsTrue F.tells → IfOk result (λ is. (p : Plain) → IsList (F.map files.old) p → is ≡ (asked && is_moderator p sender.now)) }
+    ensures found { IsTrue F.tells → IfOk result (λ is. asked ≡ true → TellsMember (F.map files.old) sets.Moderators (key sender.now) is) }
+    ensures unasked { IfOk result (λ is. asked ≡ false → is ≡ false) }
     ensures names { NamesDamaged ⟦<F as Files>⟧ (λ name. (asked && is_bucket_of sets.Moderators sender.now name) ≡ true) (IsDamaged (F.map files.old)) result }
     ensures reads { IsReading ⟦<F as Files>⟧ files.old files.new result }
 {

@@ -8,13 +8,12 @@ use Rattle.ml_base.specs.declared.names.Name.{Name}
 use Rattle.ml_base.specs.declared.part.PartError.{PartError}
 use Rattle.ml_plain.specs.declared.Act.{Act}
 use Rattle.ml_plain.specs.declared.Act.TheVariants.{Deliver, Timed}
-use Rattle.ml_acts.specs.Asked.{IsDamagedOf, Undigested}
 use Rattle.ml_acts.specs.Damaged as acts
 use Rattle.ml_acts.proofs.Damages.{named_so}
 use Rattle.ml_list.specs.Delivering.{IsDelivered}
 use Rattle.ml_timed.specs.Reads.{is_of_timed}
 use Rattle.ml_list.specs.Reads.{is_of_acts}
-use Rattle.ml_list.specs.Asked.{IsDamagedForAct, IsReadByAct}
+use Rattle.ml_list.specs.Asked.{IsDamagedForAct, IsReadByAct, IsTimed}
 use Rattle.ml_list.specs.Damage.{IsDamagedInList, is_read_by, part}
 
 module _ {F T : Type 0} (told : Ghosts F) (r : Result T PartError) (dir : Dir) where
@@ -36,6 +35,6 @@ module _ {F T : Type 0} (told : Ghosts F) (r : Result T PartError) (dir : Dir) w
       }) is
 
   -- a timed run
-  pub timed_named : NamesDamaged told (λ name. is_of_timed name ≡ true) (IsDamagedOf dir Undigested) r → NamesDamaged told (λ name. is_read_by Timed name ≡ true) (IsDamagedForAct dir Timed) r
+  pub timed_named : NamesDamaged told (λ name. is_of_timed true name ≡ true) (IsTimed dir) r → NamesDamaged told (λ name. is_read_by Timed name ≡ true) (IsDamagedForAct dir Timed) r
   timed_named is =
-      named_so told (λ name. is_read_by Timed name ≡ true) r (λ name. is_of_timed name ≡ true) (IsDamagedOf dir Undigested) (IsDamagedForAct dir Timed) (λ name e. e) (λ name e bad. record { damaged = part bad.damaged; read = (e, bad) }) is
+      named_so told (λ name. is_read_by Timed name ≡ true) r (λ name. is_of_timed true name ≡ true) (IsTimed dir) (IsDamagedForAct dir Timed) (λ name e. e) (λ name e bad. record { damaged = part bad.bad.damaged; read = bad }) is

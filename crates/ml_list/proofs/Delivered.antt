@@ -1,16 +1,15 @@
 -- What a delivery does, from its parts.
-use Rattle.std.proofs.Common.{◌≡◌, ◌⊎◌, ⊎_elim, inl, inr, ◌∙◌, ℕ, Bool, cond, true, false, List, [], Option, Some, None, is_some, refl, sym, ap, subst}
+use Rattle.std.proofs.Common.{◌≡◌, ◌⊎◌, ⊎_elim, inl, inr, ◌∙◌, ℕ, Bool, cond, true, false, ◌||◌, List, [], Option, Some, None, is_some, refl, sym, ap, subst}
 use Rattle.std.specs.Prelude.{codes}
 use Rattle.ml_base.specs.Bytes.{Text}
-use Rattle.ml_base.specs.Dir.{Dir, with_puts}
-use Rattle.ml_base.specs.Dir.{touches_only}
+use Rattle.ml_base.specs.Dir.{Dir, with_puts, touches_only, same_name}
 use Rattle.ml_base.specs.declared.names.Name.{Name}
 use Rattle.ml_base.specs.declared.puts.Put.{Put}
 use Rattle.ml_config.specs.declared.configuration.Config.{Config}
 use Rattle.ml_address.specs.Reading.{request_of}
 use Rattle.ml_drawn.specs.Names.{is_of_series}
 use Rattle.ml_drawn.specs.declared.series.Series.TheVariants.{Ids}
-use Rattle.ml_queue.specs.Answers.{IsSent}
+use Rattle.ml_queue.specs.Answers.{IsSent, ids_name}
 use Rattle.ml_queue.specs.Queue.{without_id}
 use Rattle.ml_queue.specs.declared.entries.Out.{Out}
 use Rattle.ml_header.specs.Fields.{has_field}
@@ -26,12 +25,10 @@ use Rattle.ml_filing.specs.Threads.{is_of_archive}
 use Rattle.ml_acts.specs.Doing.{DoesList}
 use Rattle.ml_acts.proofs.Asked.{same_other}
 use Rattle.ml_acts.proofs.Queued.{queue_own}
-use Rattle.ml_base.specs.Dir.{same_name}
 use Rattle.ml_base.proofs.Bools.{one_name}
 use Rattle.ml_hold.specs.Answers.{tickets_name}
-use Rattle.ml_queue.specs.Answers.{ids_name}
-use Rattle.ml_timed.specs.Reads.{is_of_timed}
-use Rattle.std.proofs.lemmas.Bool.{or_cases}
+use Rattle.ml_timed.specs.Reads.{is_of_digesting, is_of_following, is_of_giving_back, is_of_timed}
+use Rattle.std.proofs.lemmas.Bool.{or_cases, or_left, or_right}
 use Rattle.ml_list.specs.Delivering.{is_of_worn}
 use Rattle.ml_list.specs.Moderating.{answer_to}
 
@@ -79,12 +76,23 @@ not_there dir p id done is none e f =
     (unchanged dir p done answers.noentry is e f)
 
 -- the counters that are read first
-pub worn_timed : (name : Name) → is_of_worn name ≡ true → is_of_timed name ≡ true
-worn_timed name e = go (or_cases (same_name name ids_name) (same_name name tickets_name) e)
+pub worn_timed : (digests : Bool) (name : Name) → is_of_worn name ≡ true → is_of_timed digests name ≡ true
+worn_timed digests name e = go (or_cases (same_name name ids_name) (same_name name tickets_name) e)
   where
-    go : ((same_name name ids_name ≡ true) ⊎ (same_name name tickets_name ≡ true)) → is_of_timed name ≡ true
-    go (inl ids) = subst (λ (n : Name). is_of_timed n ≡ true) (sym (one_name name ids_name ids)) refl
-    go (inr tickets) = subst (λ (n : Name). is_of_timed n ≡ true) (sym (one_name name tickets_name tickets)) refl
+    go : ((same_name name ids_name ≡ true) ⊎ (same_name name tickets_name ≡ true)) → is_of_timed digests name ≡ true
+    go (inl ids) = subst (λ (n : Name). is_of_timed digests n ≡ true) (sym (one_name name ids_name ids)) refl
+    go (inr tickets) = subst (λ (n : Name). is_of_timed digests n ≡ true) (sym (one_name name tickets_name tickets)) refl
+
+-- what a timed run reads of a list without digests, it may read of one with digests
+pub timed_more : (digests : Bool) (name : Name) → is_of_timed digests name ≡ true → is_of_timed true name ≡ true
+timed_more true name e = e
+timed_more false name e =
+    ⊎_elim (λ a. or_left (is_of_giving_back name || is_of_digesting name) (is_of_following name) (or_left (is_of_giving_back name) (is_of_digesting name) (or_false (is_of_giving_back name) a)))
+    (λ b. or_right (is_of_giving_back name || is_of_digesting name) (is_of_following name) b) (or_cases (is_of_giving_back name || false) (is_of_following name) e)
+  where
+    or_false : (b : Bool) → (b || false) ≡ true → b ≡ true
+    or_false true e = e
+    or_false false e = e
 
 -- neither is one of the archive
 pub worn_other : (name : Name) → is_of_worn name ≡ true → is_of_archive name ≡ true → ⊥

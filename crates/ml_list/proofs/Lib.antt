@@ -10,7 +10,10 @@ pub mod Named
 pub mod Asked
 pub mod Told
 pub mod Written
+pub mod Looked
 pub mod Again
 mod Delivered
+mod Undamaged
 mod Readable
 mod Requested
+mod Finding

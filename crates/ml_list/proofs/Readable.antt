@@ -1,6 +1,6 @@
 -- What a delivery and a timed run read is in the table, and is of the list's acts.
 use Rattle.std.proofs.Common.{◌≡◌, ⊎_elim, ◌<◌, ◌≤◌, ◌/◌, ℕ, Bool, true, false, eqb, leb, nat_lt, ◌&&◌, ◌||◌, Option, Some, None, refl, ap, ◌∙◌, arith}
-use Rattle.std.specs.Prelude.{unwrap_or}
+use Rattle.std.specs.Prelude.{not, unwrap_or}
 use Rattle.std.proofs.lemmas.Bool.{and_from, and_parts, eqb-true, le-leb, leb-true, ltb-true, or_cases}
 use Rattle.std.proofs.lemmas.Nat.{mod_below}
 use Rattle.ml_base.specs.Address.{address_of, key}
@@ -165,12 +165,14 @@ module _ (name : Name) where
   of_judged c sender e =
       let denied = c.flags.k && is_bucket_of sets.Deny sender name in
       let user = c.flags.u && is_of_user sender name in
-      either (denied || user) (same_name name number_name)
-      (λ a. either denied user (λ b. of_bucket_of sets.Deny sender (and_parts c.flags.k (is_bucket_of sets.Deny sender name) b).1) (λ b. of_user sender (and_parts c.flags.u (is_of_user sender name) b).1) a) of_number e
+      either (denied || user) (not c.flags.m && same_name name number_name)
+      (λ a. either denied user (λ b. of_bucket_of sets.Deny sender (and_parts c.flags.k (is_bucket_of sets.Deny sender name) b).1) (λ b. of_user sender (and_parts c.flags.u (is_of_user sender name) b).1) a) (λ a. of_number (and_parts (not c.flags.m) (same_name name number_name) a).1) e
 
   pub of_posted : (c : Config) (sender : Text) → is_posted_by c sender name ≡ true → is_of_acts name ≡ true
   of_posted c sender e =
-      either (is_judged_by c sender name || is_held_by name) (is_published_by name) (λ a. either (is_judged_by c sender name) (is_held_by name) (of_judged c sender) of_held a) of_published e
+      let held = c.flags.m && is_held_by name in
+      either (is_judged_by c sender name || held) (not c.flags.m && is_published_by name)
+      (λ a. either (is_judged_by c sender name) held (of_judged c sender) (λ b. of_held (and_parts c.flags.m (is_held_by name) b).1) a) (λ a. of_published (and_parts (not c.flags.m) (is_published_by name) a).1) e
 
   -- moderators' answers
   of_taken : (ticket : ℕ) → is_taken_by ticket name ≡ true → Acts name
@@ -347,7 +349,7 @@ module _ (name : Name) where
       (λ a. either progress told (λ b. either (same_name name mark_name) (same_name name number_name) of_mark of_number b) (λ b. either (same_name name number_name) (is_index name) of_number of_index b) a)
       (λ a. either (is_bucket sets.Digest name) (same_name name ids_name) (of_bucket sets.Digest) of_ids a) e
 
-  pub of_timed : is_of_timed name ≡ true → is_of_acts name ≡ true
+  pub of_timed : is_of_timed true name ≡ true → is_of_acts name ≡ true
   of_timed e =
       let back = is_of_giving_back name in
       let digesting = is_of_digesting name in

@@ -52,7 +52,11 @@ some_none t e = cc
 
 -- a directory that stands for a list has a configuration
 pub has_config : (dir : Dir) (q : State) → IsState dir q → HasConfig dir
-has_config dir q is = record { there = λ none. some_none (config_text (q.plain).config) (sym ((is.list).config).text ∙ none) }
+has_config dir q is = record {
+  there = λ none. some_none (config_text (q.plain).config) (sym ((is.list).config).text ∙ none);
+  config = (q.plain).config;
+  held = (is.list).config;
+}
 
 -- no file of a directory that stands for a list is damaged
 pub sound : (dir : Dir) (q : State) (name : Name) → IsState dir q → IsDamagedInList dir name → ⊥

@@ -22,7 +22,7 @@ use Rattle.ml_acts.specs.Doing.{DoesList}
 use Rattle.ml_list.specs.Applying.{Does, Repeats}
 use Rattle.ml_list.specs.Rising.{rise_puts}
 use Rattle.ml_list.proofs.Risen.{risen, cut_is, rise_own}
-use Rattle.ml_acts.proofs.Queued.{touches_both}
+use Rattle.ml_acts.proofs.Queued.{touches_both, touches_weaker}
 
 -- names of the list's files are none of those of the replies
 apart : (name : Name) → is_of_replies name ≡ true → is_of_list name ≡ false
@@ -43,14 +43,14 @@ apart_back name e = go (is_of_replies name) refl
     go false r = r
 
 -- a step of the list alone is a step of the state
-pub plain_does : (dir : Dir) (q : State) (item : Item) (done : List Put × Reply) → IsState dir q → floor_asked item.act ≡ None → touches_only is_of_list done.0 ≡ true
+pub plain_does : (own : Name → Bool) → ((name : Name) → own name ≡ true → is_of_list name ≡ true) → (dir : Dir) (q : State) (item : Item) (done : List Put × Reply) → IsState dir q → floor_asked item.act ≡ None → touches_only own done.0 ≡ true
     → DoesList dir done (act_step q.plain item.moment item.act) → Does dir done (effect q item)
 unfolding step0
-plain_does dir q item done is none only does = record {
+plain_does own listed dir q item done is none only does = record {
   reply = does.reply ∙ sym (ap (λ (o : Option ℕ). (effect_by q item o).1) none);
   state = subst (λ (s : State). IsState (with_puts dir done.0) s) (sym (ap (λ (o : Option ℕ). (effect_by q item o).0) none)) (record {
     list = does.list;
-    replies = own_replies dir (with_puts dir done.0) q.floor q.kept (λ name own. left_alone is_of_list dir done.0 name only (apart name own)) is.replies;
+    replies = own_replies dir (with_puts dir done.0) q.floor q.kept (λ name of. left_alone is_of_list dir done.0 name (touches_weaker own is_of_list done.0 listed only) (apart name of)) is.replies;
   });
 }
 

@@ -1,19 +1,25 @@
 -- The puts of items are of files that they may write.
-use Rattle.std.proofs.Common.{◌≡◌, ◌≢◌, ◌<◌, ◌≤◌, ℕ, zero, suc, ◌+◌, ◌-◌, ◌/◌, Bool, true, false, eqb, ◌==◌, not, ◌&&◌, List, [], ◌∷◌, map, Option, None, refl, ap, ◌∙◌, arith}
-use Rattle.std.proofs.lemmas.Bool.{and_from, eq-eqb, le-leb, ne_eqb, or_left, or_right}
+use Rattle.std.proofs.Common.{◌≡◌, ◌≢◌, ◌<◌, ◌≤◌, ℕ, zero, suc, ◌+◌, ◌-◌, ◌/◌, Bool, true, false, eqb, leb, ◌==◌, not, ◌&&◌, ◌||◌, List, [], ◌∷◌, map, Option, None, refl, ap, ◌∙◌, arith, subst}
+use Rattle.std.proofs.lemmas.Bool.{and_from, and_parts, eq-eqb, eqb-true, le-leb, leb-true, ne_eqb, or_left, or_right}
 use Rattle.std.specs.List.{range_with_len}
+use Rattle.ml_address.specs.Reading.{request_of}
 use Rattle.ml_base.specs.Bytes.{Text}
 use Rattle.ml_base.specs.Dir.{Dir, same_name, touches_only}
+use Rattle.ml_base.specs.declared.names.Name.{Name}
 use Rattle.ml_base.specs.declared.puts.Put.{Put}
+use Rattle.ml_config.specs.KeyFile.{key_name}
+use Rattle.ml_config.specs.declared.configuration.Config.{Config}
 use Rattle.ml_drawn.specs.Answers.{AreTaken, IsTaking}
 use Rattle.ml_drawn.specs.Answers as drawn
 use Rattle.ml_drawn.specs.declared.series.Series.TheVariants.{Ids}
 use Rattle.ml_queue.specs.Answers.{entry_name}
 use Rattle.ml_plain.specs.declared.Item.{Item}
 use Rattle.ml_plain.specs.declared.Act.TheVariants.{Sent}
+use Rattle.ml_plain.specs.Directory.{is_of_list}
 use Rattle.ml_plain.specs.KeptFiles.{replies_name}
+use Rattle.ml_acts.specs.Growing.{is_of_time}
 use Rattle.ml_list.specs.Rising.{removal, removals, rise_puts}
-use Rattle.ml_list.specs.Written.{is_reply_file, is_up_to, is_written_by, is_written_by_act}
+use Rattle.ml_list.specs.Written.{is_delivered_by, is_reply_file, is_up_to, is_written_by, is_written_by_act, is_written_under, is_written_under_act}
 use Rattle.ml_list.proofs.Risen.{in_order_is}
 use Rattle.ml_acts.proofs.Queued.{touches_both, touches_weaker}
 
@@ -29,6 +35,30 @@ reply_file number group some = ap (λ (b : Bool). not b && same_name (replies_na
 pub reply_written : (item : Item) → item.number ≢ 0 → is_written_by item (replies_name (item.number / 512)) ≡ true
 reply_written item some =
     or_right (is_written_by_act item.act (replies_name (item.number / 512))) (is_reply_file item.number (replies_name (item.number / 512))) (reply_file item.number (item.number / 512) some)
+
+-- the same under a configuration
+pub act_under : (c : Config) (item : Item) (puts : List Put) → touches_only (is_written_under_act c item.act) puts ≡ true → touches_only (is_written_under c item) puts ≡ true
+act_under c item puts own =
+    touches_weaker (is_written_under_act c item.act) (is_written_under c item) puts (λ name e. or_left (is_written_under_act c item.act name) (is_reply_file item.number name) e) own
+
+pub reply_under : (c : Config) (item : Item) → item.number ≢ 0 → is_written_under c item (replies_name (item.number / 512)) ≡ true
+reply_under c item some =
+    or_right (is_written_under_act c item.act (replies_name (item.number / 512))) (is_reply_file item.number (replies_name (item.number / 512))) (reply_file item.number (item.number / 512) some)
+
+-- a delivery of the same texts
+pub delivered_under : (k : Config) (puts : List Put) (sender recipient from to : Text) → from ≡ sender → to ≡ recipient → touches_only (is_delivered_by from (request_of k.local k.host to)) puts ≡ true → touches_only (is_delivered_by sender (request_of k.local k.host recipient)) puts ≡ true
+delivered_under k puts sender recipient from to a b own =
+    subst (λ (t : Text). touches_only (is_delivered_by sender (request_of k.local k.host t)) puts ≡ true) b (subst (λ (t : Text). touches_only (is_delivered_by t (request_of k.local k.host to)) puts ≡ true) a own)
+
+-- the files of a timed run, and the key, are the list's
+pub time_listed : (name : Name) → is_of_time name ≡ true → is_of_list name ≡ true
+time_listed name e =
+    let both = and_parts (leb 12 name.kind) (leb name.kind 18) e in
+    let low = leb-true 12 name.kind both.0 in
+    or_left (leb 1 name.kind && leb name.kind 18) (eqb name.kind 20) (and_from (leb 1 name.kind) (leb name.kind 18) (le-leb 1 name.kind (omega (arith, low))) both.1)
+
+pub key_listed : (name : Name) → same_name name key_name ≡ true → is_of_list name ≡ true
+key_listed name e = ap (λ (kind : ℕ). (leb 1 kind && leb kind 18) || eqb kind 20) (eqb-true name.kind 2 (and_parts (eqb name.kind 2) (eqb name.at 0) e).0)
 
 -- an entry that is taken out of the queue
 pub taken_written : (dir : Dir) (id : ℕ) (txn : List Put) → IsTaking dir Ids id txn → touches_only (is_written_by_act (Sent id)) txn ≡ true

@@ -12,7 +12,7 @@ use Rattle.ml_acts.specs.Asked.{IsBadFor, Next}
 use Rattle.ml_acts.specs.Damaged.{IsDamaged}
 use Rattle.ml_hold.specs.Answers.{tickets_name}
 use Rattle.ml_manage.specs.Reads.{IsForRequest, is_read_for_sender}
-use Rattle.ml_post.specs.Answering.{IsBadForTicket, is_answered_by}
+use Rattle.ml_post.specs.Answering.{IsBadForTicket, IsReadOfTicket, is_answered_by}
 use Rattle.ml_post.specs.Posting.{is_posted_by}
 use Rattle.ml_post.specs.Publishing.{sent_key}
 use Rattle.ml_queue.specs.Answers.{ids_name}
@@ -29,11 +29,14 @@ is_requested c sender (Reject ticket cookie) name = is_answered_by ticket false 
 is_requested c sender request name = is_read_for_sender c sender request name
 
 -- What a request asks of the archive with the message that came: a post, or one that waits under a ticket, a place behind the last one, by the key of
--- its own subject; any other what it says.
+-- its own subject; any other what it says. A moderator's answer reads the post of its ticket, if one waits there the keys, and only if its
+-- letters are the cookie what follows.
 abbrev pub IsForMail : Dir → Config → Text → PlainRequest → Name → Type 0
 IsForMail dir c m Post name = is_of_archive name ≡ true → IsBadFor dir (Next (sent_key c m)) name
-IsForMail dir c m (Accept ticket cookie) name = is_of_archive name ≡ true → IsBadForTicket dir c ticket name
-IsForMail dir c m (Reject ticket cookie) name = is_of_archive name ≡ true → IsBadForTicket dir c ticket name
+IsForMail dir c m (Accept ticket cookie) name =
+    (is_of_archive name ≡ true → IsBadForTicket dir c ticket name) × IsReadOfTicket dir ticket cookie true name
+IsForMail dir c m (Reject ticket cookie) name =
+    (is_of_archive name ≡ true → IsBadForTicket dir c ticket name) × IsReadOfTicket dir ticket cookie false name
 IsForMail dir c m request name = IsForRequest dir c request name
 
 -- A file that a request may read, where there is one, and of the archive one that is damaged for what it asks: none is read for a recipient who

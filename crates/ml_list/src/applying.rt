@@ -6,6 +6,8 @@ ghost use Rattle.ml_base.specs.ReadFiles.{IsReading, NamesDamaged};
 ghost use Rattle.ml_base.specs.declared.names.Name.{Name as TheName};
 ghost use Rattle.ml_base.specs.declared.part.PartError.TheVariants.{Memory};
 ghost use Rattle.ml_base.specs.PartErrors.{OnDamaged};
+ghost use Rattle.ml_config.specs.ConfigFile.{IsConfigFile, config_name};
+ghost use Rattle.ml_config.specs.declared.configuration.Config.{Config};
 ghost use Rattle.ml_plain.specs.declared.Act.TheVariants.{Timed};
 ghost use Rattle.ml_plain.specs.Items.{IsItem, IsAct};
 ghost use Rattle.ml_plain.specs.Replies.{is_code};
@@ -16,10 +18,13 @@ ghost use Rattle.ml_plain.specs.KeptFiles.{is_kept};
 ghost use Rattle.ml_plain.specs.KeptFiles as states;
 ghost use Rattle.ml_list.specs.Again.{CountsOnce, IsAgain};
 ghost use Rattle.ml_list.specs.Applying.{Does, Repeats};
+ghost use Rattle.ml_acts.specs.Doing.{Alike};
+ghost use Rattle.ml_list.specs.Looked.{AlikeFor, AlikeForAct};
 ghost use Rattle.ml_list.specs.Lookups.{answer_of, IsNew, IsInRange, IsRead};
 ghost use Rattle.ml_list.specs.Asked.{IsDamagedFor, IsDamagedForAct};
 ghost use Rattle.ml_list.specs.Damage.{IsDamagedInList, is_looked_up, is_read_by, is_read_by_item};
-ghost use Rattle.ml_list.specs.Written.{is_written_by, is_written_by_act};
+ghost use Rattle.ml_list.specs.Written.{WritesAsAsked, is_written_by, is_written_by_act, is_written_under_act};
+ghost use Rattle.ml_list.specs.Found.{FoundByAct, FoundNow, FoundWhole, KeepsReply};
 
 use crate::changing::{add_member, change_key, remove_member};
 use crate::delivering::deliver;
@@ -50,13 +55,15 @@ use std::alloc::{AllocError, Global};
 /// The item is in its ranges. The configuration is there, which `load` tells.
 pub fn apply<F: Files>(alloc: Global, files: F, item: &Item) -> (F, Result<(Txn, Reply), PartError>)
     requires item { IsItem item.now }
-    ensures value { IsTrue F.tells → IfOk result.1 (λ done. (q : State) → IsState (F.map files) q → Does (F.map files) done (step q item.now)) }
+    ensures value { IsTrue F.tells → IfOk result.1 (λ done. (dir : Dir) (q : State) → AlikeFor item.now (F.map files) dir → IsState dir q → Does dir done (step q item.now)) }
     ensures reply { IfOk result.1 (λ done. IsTrue (is_code done.1.code)) }
     ensures files { IfOk result.1 (λ done. IsTrue (are_files done.0)) }
     ensures written { IsTrue F.tells → IfOk result.1 (λ done. touches_only (is_written_by item.now) done.0 ≡ true) }
+    ensures asked { IsTrue F.tells → IfOk result.1 (λ done. WritesAsAsked (F.map files) item.now done.0) }
     ensures once { IsTrue F.tells → IfOk result.1 (λ done. CountsOnce (F.map files) item.now.number done) }
+    ensures found { IsTrue F.tells → IfOk result.1 (FoundWhole (F.map files) item.now) }
     ensures names { NamesDamaged ⟦<F as Files>⟧ (λ name. is_read_by_item item.now name ≡ true) (IsDamagedFor (F.map files) item.now) result.1 }
-    ensures sound { IsTrue F.tells → (q : State) → IsState (F.map files) q → IfErr result.1 (λ e. OnDamaged e (λ _. ⊥)) }
+    ensures sound { IsTrue F.tells → (dir : Dir) (q : State) → AlikeFor item.now (F.map files) dir → IsState dir q → IfErr result.1 (λ e. OnDamaged e (λ _. ⊥)) }
     ensures reads { IsReading ⟦<F as Files>⟧ files result.0 result.1 }
 {
     apply_with_memo(alloc, files, &mut Memo::new(alloc), item)
@@ -70,13 +77,15 @@ pub fn apply_with_memo<F: Files>(
     item: &Item,
 ) -> (F, Result<(Txn, Reply), PartError>)
     requires item { IsItem item.now }
-    ensures value { IsTrue F.tells → IfOk result.1 (λ done. (q : State) → IsState (F.map files) q → Does (F.map files) done (step q item.now)) }
+    ensures value { IsTrue F.tells → IfOk result.1 (λ done. (dir : Dir) (q : State) → AlikeFor item.now (F.map files) dir → IsState dir q → Does dir done (step q item.now)) }
     ensures reply { IfOk result.1 (λ done. IsTrue (is_code done.1.code)) }
     ensures files { IfOk result.1 (λ done. IsTrue (are_files done.0)) }
     ensures written { IsTrue F.tells → IfOk result.1 (λ done. touches_only (is_written_by item.now) done.0 ≡ true) }
+    ensures asked { IsTrue F.tells → IfOk result.1 (λ done. WritesAsAsked (F.map files) item.now done.0) }
     ensures once { IsTrue F.tells → IfOk result.1 (λ done. CountsOnce (F.map files) item.now.number done) }
+    ensures found { IsTrue F.tells → IfOk result.1 (FoundWhole (F.map files) item.now) }
     ensures names { NamesDamaged ⟦<F as Files>⟧ (λ name. is_read_by_item item.now name ≡ true) (IsDamagedFor (F.map files) item.now) result.1 }
-    ensures sound { IsTrue F.tells → (q : State) → IsState (F.map files) q → IfErr result.1 (λ e. OnDamaged e (λ _. ⊥)) }
+    ensures sound { IsTrue F.tells → (dir : Dir) (q : State) → AlikeFor item.now (F.map files) dir → IsState dir q → IfErr result.1 (λ e. OnDamaged e (λ _. ⊥)) }
     ensures reads { IsReading ⟦<F as Files>⟧ files result.0 result.1 }
 {
     let (once, answer) = answered(alloc, Once::new(alloc, files), memo, item);
@@ -91,13 +100,15 @@ fn answered<F: Files>(
     item: &Item,
 ) -> (F, Result<(Txn, Reply), PartError>)
     requires item { IsItem item.now }
-    ensures value { IsTrue F.tells → IfOk result.1 (λ done. (q : State) → IsState (F.map files) q → Does (F.map files) done (step q item.now)) }
+    ensures value { IsTrue F.tells → IfOk result.1 (λ done. (dir : Dir) (q : State) → AlikeFor item.now (F.map files) dir → IsState dir q → Does dir done (step q item.now)) }
     ensures reply { IfOk result.1 (λ done. IsTrue (is_code done.1.code)) }
     ensures files { IfOk result.1 (λ done. IsTrue (are_files done.0)) }
     ensures written { IsTrue F.tells → IfOk result.1 (λ done. touches_only (is_written_by item.now) done.0 ≡ true) }
+    ensures asked { IsTrue F.tells → IfOk result.1 (λ done. WritesAsAsked (F.map files) item.now done.0) }
     ensures once { IsTrue F.tells → IfOk result.1 (λ done. CountsOnce (F.map files) item.now.number done) }
+    ensures found { IsTrue F.tells → IfOk result.1 (FoundWhole (F.map files) item.now) }
     ensures names { NamesDamaged ⟦<F as Files>⟧ (λ name. is_read_by_item item.now name ≡ true) (IsDamagedFor (F.map files) item.now) result.1 }
-    ensures sound { IsTrue F.tells → (q : State) → IsState (F.map files) q → IfErr result.1 (λ e. OnDamaged e (λ _. ⊥)) }
+    ensures sound { IsTrue F.tells → (dir : Dir) (q : State) → AlikeFor item.now (F.map files) dir → IsState dir q → IfErr result.1 (λ e. OnDamaged e (λ _. ⊥)) }
     ensures reads { IsReading ⟦<F as Files>⟧ files result.0 result.1 }
 {
     let mut files = files;
@@ -120,10 +131,12 @@ enum Lookup {
 // What is found for the number of an item.
 fn look_up<F: Files>(alloc: Global, files: &mut F, number: u64) -> Result<Lookup, PartError>
     requires { number ≤ 999_999_999_999 }
-    ensures value { IsTrue F.tells → IfOk result (λ found. (q : State) → IsState (F.map files.old) q → Repeats q number (answer_of found)) }
+    ensures value { IsTrue F.tells → IfOk result (λ found. (dir : Dir) (q : State) → Alike (is_looked_up number) (F.map files.old) dir → IsState dir q → Repeats q number (answer_of found)) }
+    ensures sound { IsTrue F.tells → (dir : Dir) (q : State) → Alike (is_looked_up number) (F.map files.old) dir → IsState dir q → IfErr result (λ e. OnDamaged e (λ _. ⊥)) }
     ensures known { IsTrue F.tells → IfOk result (λ found. IsNew found (IsRead (F.map files.old) number)) }
     ensures range { IfOk result (λ found. IsNew found (λ known. IsInRange known.floor)) }
     ensures reply { IfOk result (λ found. IfSome (answer_of found) (λ r. IsTrue (is_code r.code))) }
+    ensures counts { IfOk result (λ found. number ≡ 0 → answer_of found ≡ None) }
     ensures looked { IsTrue F.tells → IfOk result (λ found. number ≢ 0 → IsAgain (F.map files.old) number (answer_of found)) }
     ensures names { NamesDamaged ⟦<F as Files>⟧ (λ name. is_looked_up number name ≡ true) (IsDamagedInList (F.map files.old)) result }
     ensures reads { IsReading ⟦<F as Files>⟧ files.old files.new result }
@@ -166,10 +179,13 @@ fn count<F: Files>(
     requires item { IsItem item.now }
     requires known { IsTrue F.tells → IsRead (F.map files) item.now.number known }
     requires range { IsInRange known.floor }
-    ensures value { IsTrue F.tells → IfOk result.1 (λ done. (q : State) → IsState (F.map files) q → Repeats q item.now.number None → Does (F.map files) done (with_reply item.now.number (steps.effect q item.now))) }
+    ensures value { IsTrue F.tells → IfOk result.1 (λ done. (dir : Dir) (q : State) → AlikeFor item.now (F.map files) dir → IsState dir q → Repeats q item.now.number None → Does dir done (with_reply item.now.number (steps.effect q item.now))) }
+    ensures sound { IsTrue F.tells → (dir : Dir) (q : State) → AlikeForAct item.now.act (F.map files) dir → IsState dir q → IfErr result.1 (λ e. OnDamaged e (λ _. ⊥)) }
     ensures reply { IfOk result.1 (λ done. IsTrue (is_code done.1.code)) }
     ensures files { IfOk result.1 (λ done. IsTrue (are_files done.0)) }
     ensures written { IsTrue F.tells → IfOk result.1 (λ done. touches_only (is_written_by item.now) done.0 ≡ true) }
+    ensures asked { IsTrue F.tells → IfOk result.1 (λ done. WritesAsAsked (F.map files) item.now done.0) }
+    ensures found { IsTrue F.tells → IfOk result.1 (FoundNow (F.map files) item.now.act) }
     ensures names { NamesDamaged ⟦<F as Files>⟧ (λ name. is_read_by item.now.act name ≡ true) (IsDamagedForAct (F.map files) item.now.act) result.1 }
     ensures reads { IsReading ⟦<F as Files>⟧ files result.0 result.1 }
 {
@@ -194,10 +210,13 @@ fn effect<F: Files>(
     requires item { IsItem item.now }
     requires known { IsTrue F.tells → IsRead (F.map files) item.now.number known.now }
     requires range { IsInRange known.now.floor }
-    ensures value { IsTrue F.tells → IfOk result.1 (λ done. (q : State) → IsState (F.map files) q → Does (F.map files) done (steps.effect q item.now)) }
+    ensures value { IsTrue F.tells → IfOk result.1 (λ done. (dir : Dir) (q : State) → AlikeForAct item.now.act (F.map files) dir → IsState dir q → Does dir done (steps.effect q item.now)) }
+    ensures sound { IsTrue F.tells → (dir : Dir) (q : State) → AlikeForAct item.now.act (F.map files) dir → IsState dir q → IfErr result.1 (λ e. OnDamaged e (λ _. ⊥)) }
     ensures reply { IfOk result.1 (λ done. is_kept done.1 ≡ true) }
     ensures files { IfOk result.1 (λ done. IsTrue (are_files done.0)) }
     ensures written { IsTrue F.tells → IfOk result.1 (λ done. touches_only (is_written_by_act item.now.act) done.0 ≡ true) }
+    ensures asked { IsTrue F.tells → IfOk result.1 (λ done. (c : Config) → IsConfigFile (F.map files config_name) c → touches_only (is_written_under_act c item.now.act) done.0 ≡ true) }
+    ensures found { IsTrue F.tells → IfOk result.1 (FoundByAct (F.map files) item.now.act) }
     ensures names { NamesDamaged ⟦<F as Files>⟧ (λ name. is_read_by item.now.act name ≡ true) (IsDamagedForAct (F.map files) item.now.act) result.1 }
     ensures reads { IsReading ⟦<F as Files>⟧ files result.0 result.1 }
 {
@@ -223,10 +242,13 @@ fn change<F: Files>(
     requires act { item.now.act ≢ Timed }
     requires known { IsTrue F.tells → IsRead (F.map files.old) item.now.number known.now }
     requires range { IsInRange known.now.floor }
-    ensures value { IsTrue F.tells → IfOk result (λ done. (q : State) → IsState (F.map files.old) q → Does (F.map files.old) done (steps.effect q item.now)) }
+    ensures value { IsTrue F.tells → IfOk result (λ done. (dir : Dir) (q : State) → AlikeForAct item.now.act (F.map files.old) dir → IsState dir q → Does dir done (steps.effect q item.now)) }
+    ensures sound { IsTrue F.tells → (dir : Dir) (q : State) → AlikeForAct item.now.act (F.map files.old) dir → IsState dir q → IfErr result (λ e. OnDamaged e (λ _. ⊥)) }
     ensures reply { IfOk result (λ done. is_kept done.1 ≡ true) }
     ensures files { IfOk result (λ done. IsTrue (are_files done.0)) }
     ensures written { IsTrue F.tells → IfOk result (λ done. touches_only (is_written_by_act item.now.act) done.0 ≡ true) }
+    ensures asked { IsTrue F.tells → IfOk result (λ done. (c : Config) → IsConfigFile (F.map files.old config_name) c → touches_only (is_written_under_act c item.now.act) done.0 ≡ true) }
+    ensures found { IsTrue F.tells → IfOk result (FoundByAct (F.map files.old) item.now.act) }
     ensures names { NamesDamaged ⟦<F as Files>⟧ (λ name. is_read_by item.now.act name ≡ true) (IsDamagedForAct (F.map files.old) item.now.act) result }
     ensures reads { IsReading ⟦<F as Files>⟧ files.old files.new result }
 {
@@ -270,6 +292,7 @@ fn with_reply_kept(
     ensures reply { IfOk result (λ done. IsTrue (is_code done.1.code)) }
     ensures files { IfOk result (λ done. IsTrue (are_files done.0)) }
     ensures written { IfOk result (λ done. (own : TheName → Bool) → touches_only own txn ≡ true → (number ≢ 0 → own (states.replies_name (number / 512)) ≡ true) → touches_only own done.0 ≡ true) }
+    ensures found { IfOk result (KeepsReply (txn, reply)) }
     ensures error { IfErr result (λ e. e ≡ Memory) }
 {
     if number == 0 {

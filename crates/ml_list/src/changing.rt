@@ -1,7 +1,8 @@
 // What acts change of the list: its sets and its keys.
 ghost use Rattle.std.specs.Prelude.{◌≡◌, ◌<◌, ◌≤◌, true, IsTrue, IfOk, IfErr, IfSome, IsErrOf};
 ghost use Rattle.ml_subs.specs.Answers.{puts_of};
-ghost use Rattle.ml_base.specs.Dir.{touches_only};
+ghost use Rattle.ml_base.specs.Dir.{Dir, touches_only};
+ghost use Rattle.ml_base.specs.PartErrors.{OnDamaged};
 ghost use Rattle.ml_base.specs.Ranges.{IsMoment};
 ghost use Rattle.ml_plain.specs.declared.Act.TheVariants as acts;
 ghost use Rattle.ml_plain.specs.Answers.{rekeyed, toosoon};
@@ -9,9 +10,12 @@ ghost use Rattle.ml_plain.specs.Plain.{Plain};
 ghost use Rattle.ml_plain.specs.Steps as spec;
 ghost use Rattle.ml_plain.specs.Directory.{IsList};
 ghost use Rattle.ml_acts.specs.Doing.{DoesList};
-ghost use Rattle.ml_acts.specs.Acting.{AnswersAct};
+ghost use Rattle.ml_acts.specs.Acting.{AnswersAct, AnswersWithin};
 ghost use Rattle.ml_list.specs.Applying.{addition_reply};
 ghost use Rattle.ml_list.specs.Damage.{IsDamagedInList, is_read_by};
+ghost use Rattle.ml_list.specs.Looked.{AlikeForAct};
+ghost use Rattle.ml_acts.specs.Found.{TellsKeys};
+ghost use Rattle.ml_list.specs.Found.{FoundToAddMember, FoundToRemoveMember};
 ghost use Rattle.ml_list.specs.Written.{is_written_by_act};
 
 use ml_acts::remove_member_with_memo;
@@ -34,10 +38,14 @@ pub(crate) fn add_member<F: Files>(
     now: u64,
 ) -> Result<(Txn, Reply), PartError>
     requires { IsMoment now }
-    ensures value { IsTrue F.tells → IfOk result (λ done. (p : Plain) → IsList (F.map files.old) p → DoesList (F.map files.old) done (spec.add now set who.now p)) }
+    ensures value { IsTrue F.tells → IfOk result (λ done. (dir : Dir) (p : Plain) → AlikeForAct (acts.Add set who.now) (F.map files.old) dir → IsList dir p → DoesList dir done (spec.add now set who.now p)) }
+    ensures sound { IsTrue F.tells → (dir : Dir) (p : Plain) → AlikeForAct (acts.Add set who.now) (F.map files.old) dir → IsList dir p → IfErr result (λ e. OnDamaged e (λ _. ⊥)) }
     ensures written { IfOk result (λ done. touches_only (is_written_by_act (acts.Add set who.now)) done.0 ≡ true) }
+    ensures found { IsTrue F.tells → IfOk result (FoundToAddMember (F.map files.old) set who.now) }
     ensures act { AnswersAct ⟦<F as Files>⟧ (λ name. is_read_by (acts.Add set who.now) name ≡ true) (IsDamagedInList (F.map files.old)) files.old files.new result }
 {
+    // That it is an address is known of its bytes.
+    let _address = who.bytes();
     let answer = add_with_memo(alloc, files, memo, set, who, now)?;
     Ok(addition(alloc, answer))
 }
@@ -62,8 +70,10 @@ pub(crate) fn remove_member<F: Files>(
     set: Set,
     who: &Address,
 ) -> Result<(Txn, Reply), PartError>
-    ensures value { IsTrue F.tells → IfOk result (λ done. (p : Plain) → IsList (F.map files.old) p → DoesList (F.map files.old) done (spec.remove set who.now p)) }
+    ensures value { IsTrue F.tells → IfOk result (λ done. (dir : Dir) (p : Plain) → AlikeForAct (acts.Remove set who.now) (F.map files.old) dir → IsList dir p → DoesList dir done (spec.remove set who.now p)) }
+    ensures sound { IsTrue F.tells → (dir : Dir) (p : Plain) → AlikeForAct (acts.Remove set who.now) (F.map files.old) dir → IsList dir p → IfErr result (λ e. OnDamaged e (λ _. ⊥)) }
     ensures written { IfOk result (λ done. touches_only (is_written_by_act (acts.Remove set who.now)) done.0 ≡ true) }
+    ensures found { IsTrue F.tells → IfOk result (FoundToRemoveMember (F.map files.old) set who.now) }
     ensures act { AnswersAct ⟦<F as Files>⟧ (λ name. is_read_by (acts.Remove set who.now) name ≡ true) (IsDamagedInList (F.map files.old)) files.old files.new result }
 {
     match remove_member_with_memo(alloc, files, memo, set, who)? {
@@ -80,9 +90,11 @@ pub(crate) fn change_key<F: Files>(
     now: u64,
 ) -> Result<(Txn, Reply), PartError>
     requires { IsMoment now }
-    ensures value { IsTrue F.tells → IfOk result (λ done. (p : Plain) → IsList (F.map files.old) p → DoesList (F.map files.old) done (spec.rekey now new.now p)) }
+    ensures value { IsTrue F.tells → IfOk result (λ done. (dir : Dir) (p : Plain) → AlikeForAct (acts.Rekey new.now) (F.map files.old) dir → IsList dir p → DoesList dir done (spec.rekey now new.now p)) }
+    ensures sound { IsTrue F.tells → (dir : Dir) (p : Plain) → AlikeForAct (acts.Rekey new.now) (F.map files.old) dir → IsList dir p → IfErr result (λ e. OnDamaged e (λ _. ⊥)) }
     ensures written { IfOk result (λ done. touches_only (is_written_by_act (acts.Rekey new.now)) done.0 ≡ true) }
-    ensures act { AnswersAct ⟦<F as Files>⟧ (λ name. is_read_by (acts.Rekey new.now) name ≡ true) (IsDamagedInList (F.map files.old)) files.old files.new result }
+    ensures found { IsTrue F.tells → IfOk result (λ _. TellsKeys (F.map files.old)) }
+    ensures act { AnswersWithin (is_written_by_act (acts.Rekey new.now)) ⟦<F as Files>⟧ (λ name. is_read_by (acts.Rekey new.now) name ≡ true) (IsDamagedInList (F.map files.old)) files.old files.new result }
 {
     let keys = key(alloc, files)?;
     if is_recent(now, keys.former) {

@@ -2,10 +2,12 @@
 ghost use Rattle.std.specs.Prelude.{◌≡◌, true, IsTrue, IfOk, IfErr, IfSome, Some};
 ghost use Rattle.ml_address.specs.Reading.{request_of};
 ghost use Rattle.ml_address.specs.Views.{request_view};
+ghost use Rattle.ml_base.specs.Dir.{touches_only, Dir};
 ghost use Rattle.ml_base.specs.PartErrors.{OnDamaged};
 ghost use Rattle.ml_base.specs.ReadFiles.{IsReading};
 ghost use Rattle.ml_config.specs.ConfigFile.{IsConfigFile, config_name};
 ghost use Rattle.ml_config.specs.Configuration.{IsConfig};
+ghost use Rattle.ml_config.specs.declared.configuration.Config.{Config as ConfigOf};
 ghost use Rattle.ml_plain.specs.Directory.{IsList};
 ghost use Rattle.ml_plain.specs.Managing as spec;
 ghost use Rattle.ml_plain.specs.Plain.{Plain};
@@ -13,7 +15,10 @@ ghost use Rattle.ml_acts.specs.Damaged.{IsDamaged};
 ghost use Rattle.ml_acts.specs.Doing.{DoesList, HasRoom};
 ghost use Rattle.ml_acts.specs.Acting.{AnswersAct};
 ghost use Rattle.ml_list.specs.Delivering.{IsDamagedServed, IsDelivered, IsRequested};
+ghost use Rattle.ml_list.specs.Found.{FoundByCounters, FoundOfRecipient, FoundOfRequest, FoundToDeliver};
+ghost use Rattle.ml_list.specs.Looked.{AlikeForMail, AlikeForRequest, AlikeServed};
 ghost use Rattle.ml_list.specs.Reads.{is_of_acts};
+ghost use Rattle.ml_list.specs.Written.{is_delivered_by};
 
 use crate::moderating::moderated;
 use ml_acts::{MailMemo, Moment, is_worn};
@@ -44,7 +49,10 @@ pub(crate) fn deliver<F: Files>(
     recipient: &[u8],
     message: &[u8],
 ) -> Result<(Txn, Reply), PartError>
-    ensures value { IsTrue F.tells → IfOk result (λ done. (p : Plain) → IsList (F.map files.old) p → DoesList (F.map files.old) done (spec.deliver now.seconds sender.now recipient.now message.now p)) }
+    ensures value { IsTrue F.tells → IfOk result (λ done. (dir : Dir) (p : Plain) → AlikeForMail sender.now recipient.now message.now (F.map files.old) dir → IsList dir p → DoesList dir done (spec.deliver now.seconds sender.now recipient.now message.now p)) }
+    ensures sound { IsTrue F.tells → (dir : Dir) (p : Plain) → AlikeForMail sender.now recipient.now message.now (F.map files.old) dir → IsList dir p → IfErr result (λ e. OnDamaged e (λ _. ⊥)) }
+    ensures asked { IsTrue F.tells → IfOk result (λ done. (c : ConfigOf) → IsConfigFile (F.map files.old config_name) c → touches_only (is_delivered_by sender.now (request_of c.local c.host recipient.now)) done.0 ≡ true) }
+    ensures found { IsTrue F.tells → IfOk result (FoundToDeliver (F.map files.old) sender.now recipient.now message.now) }
     ensures act { AnswersAct ⟦<F as Files>⟧ (λ name. is_of_acts name ≡ true) (λ name. IsDamaged (F.map files.old) name × IsDelivered (F.map files.old) sender.now recipient.now message.now name) files.old files.new result }
 {
     let config = configuration(alloc, files)?;
@@ -64,7 +72,10 @@ fn unless_worn<F: Files>(
 ) -> Result<(Txn, Reply), PartError>
     requires config { IsConfig config.now }
     requires loaded { IsTrue F.tells → IsConfigFile (F.map files.now config_name) config.now }
-    ensures value { IsTrue F.tells → IfOk result (λ done. (p : Plain) → IsList (F.map files.old) p → p.config ≡ config.now → DoesList (F.map files.old) done (spec.deliver now.seconds sender.now recipient.now message.now p)) }
+    ensures value { IsTrue F.tells → IfOk result (λ done. (dir : Dir) (p : Plain) → AlikeServed config.now sender.now message.now (request_of config.now.local config.now.host recipient.now) (F.map files.old) dir → IsList dir p → p.config ≡ config.now → DoesList dir done (spec.deliver now.seconds sender.now recipient.now message.now p)) }
+    ensures sound { IsTrue F.tells → (dir : Dir) (p : Plain) → AlikeServed config.now sender.now message.now (request_of config.now.local config.now.host recipient.now) (F.map files.old) dir → IsList dir p → IfErr result (λ e. OnDamaged e (λ _. ⊥)) }
+    ensures asked { IfOk result (λ done. touches_only (is_delivered_by sender.now (request_of config.now.local config.now.host recipient.now)) done.0 ≡ true) }
+    ensures found { IsTrue F.tells → IfOk result (FoundByCounters (F.map files.old) (FoundOfRecipient (F.map files.old) config.now sender.now message.now (request_of config.now.local config.now.host recipient.now))) }
     ensures act { AnswersAct ⟦<F as Files>⟧ (λ name. is_of_acts name ≡ true) (IsDamagedServed (F.map files.old) config.now sender.now message.now (request_of config.now.local config.now.host recipient.now)) files.old files.new result }
 {
     if is_worn(alloc, files)? {
@@ -115,7 +126,10 @@ fn by_recipient<F: Files>(
     requires config { IsConfig config.now }
     requires loaded { IsTrue F.tells → IsConfigFile (F.map files.now config_name) config.now }
     requires room { IsTrue F.tells → HasRoom (F.map files.now) }
-    ensures value { IsTrue F.tells → IfOk result (λ done. (p : Plain) → IsList (F.map files.old) p → p.config ≡ config.now → DoesList (F.map files.old) done (spec.by_recipient now.seconds sender.now message.now p (request_of config.now.local config.now.host recipient.now))) }
+    ensures value { IsTrue F.tells → IfOk result (λ done. (dir : Dir) (p : Plain) → AlikeForRequest config.now sender.now message.now (request_of config.now.local config.now.host recipient.now) (F.map files.old) dir → IsList dir p → p.config ≡ config.now → DoesList dir done (spec.by_recipient now.seconds sender.now message.now p (request_of config.now.local config.now.host recipient.now))) }
+    ensures sound { IsTrue F.tells → (dir : Dir) (p : Plain) → AlikeForRequest config.now sender.now message.now (request_of config.now.local config.now.host recipient.now) (F.map files.old) dir → IsList dir p → IfErr result (λ e. OnDamaged e (λ _. ⊥)) }
+    ensures asked { IfOk result (λ done. touches_only (is_delivered_by sender.now (request_of config.now.local config.now.host recipient.now)) done.0 ≡ true) }
+    ensures found { IsTrue F.tells → IfOk result (FoundOfRecipient (F.map files.old) config.now sender.now message.now (request_of config.now.local config.now.host recipient.now)) }
     ensures act { AnswersAct ⟦<F as Files>⟧ (λ name. is_of_acts name ≡ true) (λ name. IsDamaged (F.map files.old) name × IsRequested (F.map files.old) config.now sender.now message.now (request_of config.now.local config.now.host recipient.now) name) files.old files.new result }
 {
     let local = config.local.as_slice();
@@ -143,7 +157,10 @@ fn by_request<F: Files>(
     requires loaded { IsTrue F.tells → IsConfigFile (F.map files.now config_name) config.now }
     requires room { IsTrue F.tells → HasRoom (F.map files.now) }
     requires read { request_of config.now.local config.now.host recipient.now ≡ Some (request_view request.now) }
-    ensures value { IsTrue F.tells → IfOk result (λ done. (p : Plain) → IsList (F.map files.old) p → p.config ≡ config.now → DoesList (F.map files.old) done (spec.by_request now.seconds sender.now message.now p (request_view request.now))) }
+    ensures value { IsTrue F.tells → IfOk result (λ done. (dir : Dir) (p : Plain) → AlikeForRequest config.now sender.now message.now (Some (request_view request.now)) (F.map files.old) dir → IsList dir p → p.config ≡ config.now → DoesList dir done (spec.by_request now.seconds sender.now message.now p (request_view request.now))) }
+    ensures sound { IsTrue F.tells → (dir : Dir) (p : Plain) → AlikeForRequest config.now sender.now message.now (Some (request_view request.now)) (F.map files.old) dir → IsList dir p → IfErr result (λ e. OnDamaged e (λ _. ⊥)) }
+    ensures asked { IfOk result (λ done. touches_only (is_delivered_by sender.now (Some (request_view request.now))) done.0 ≡ true) }
+    ensures found { IsTrue F.tells → IfOk result (FoundOfRequest (F.map files.old) config.now sender.now message.now (request_view request.now)) }
     ensures act { AnswersAct ⟦<F as Files>⟧ (λ name. is_of_acts name ≡ true) (λ name. IsDamaged (F.map files.old) name × IsRequested (F.map files.old) config.now sender.now message.now (Some (request_view request.now)) name) files.old files.new result }
 {
     match request {

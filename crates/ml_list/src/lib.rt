@@ -17,6 +17,6 @@ mod timing;
 
 pub use applying::{apply, apply_with_memo};
 pub use floors::floor;
-pub use laws::law_damage;
+pub use laws::{law_damage, law_undamaged};
 pub use loading::load;
 pub use memo::Memo;

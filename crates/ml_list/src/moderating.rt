@@ -1,7 +1,10 @@
 // Moderators' answers: by a usable sender, and by no list.
-ghost use Rattle.std.specs.Prelude.{◌≡◌, true, codes, is_some, IsTrue, IfOk};
+ghost use Rattle.ml_list.specs.Found.{FoundModerated};
+ghost use Rattle.std.specs.Prelude.{◌≡◌, true, codes, is_some, IsTrue, IfErr, IfOk};
 ghost use Rattle.ml_address.specs.Requests.{Accept, Reject, PlainRequest};
 ghost use Rattle.ml_base.specs.Address.{address_of};
+ghost use Rattle.ml_base.specs.Dir.{Dir};
+ghost use Rattle.ml_base.specs.PartErrors.{OnDamaged};
 ghost use Rattle.ml_config.specs.ConfigFile.{IsConfigFile, config_name};
 ghost use Rattle.ml_config.specs.Configuration.{IsConfig};
 ghost use Rattle.ml_header.specs.Fields.{has_field};
@@ -9,8 +12,9 @@ ghost use Rattle.ml_plain.specs.Directory.{IsList};
 ghost use Rattle.ml_plain.specs.Managing as spec;
 ghost use Rattle.ml_plain.specs.Plain.{Plain};
 ghost use Rattle.ml_acts.specs.Doing.{DoesList, HasIds};
+ghost use Rattle.ml_post.specs.Alike.{AlikeForAnswer};
 ghost use Rattle.ml_post.specs.Answering.{IsDamagedOfTicket, accepts, is_answered_by};
-ghost use Rattle.ml_acts.specs.Acting.{AnswersAct};
+ghost use Rattle.ml_acts.specs.Acting.{AnswersPost as AnswersAct};
 ghost use Rattle.ml_list.specs.Moderating.{answer_to};
 
 use ml_acts::Moment;
@@ -36,8 +40,10 @@ pub(crate) fn moderated<F: Files>(
     requires config { IsConfig config.now }
     requires loaded { IsTrue F.tells → IsConfigFile (F.map files.now config_name) config.now }
     requires room { IsTrue F.tells → HasIds (F.map files.now) }
-    ensures value { IsTrue F.tells → IfOk result (λ done. (p : Plain) → IsList (F.map files.old) p → p.config ≡ config.now → DoesList (F.map files.old) done (spec.by_sender now.seconds message.now p (answer_to ticket letters.now (accepts decision)) (address_of sender.now))) }
-    ensures act { AnswersAct ⟦<F as Files>⟧ (λ name. is_answered_by ticket (accepts decision) name ≡ true) (IsDamagedOfTicket (F.map files.old) config.now ticket) files.old files.new result }
+    ensures value { IsTrue F.tells → IfOk result (λ done. (dir : Dir) (p : Plain) → AlikeForAnswer config.now ticket (accepts decision) (F.map files.old) dir → IsList dir p → p.config ≡ config.now → DoesList dir done (spec.by_sender now.seconds message.now p (answer_to ticket letters.now (accepts decision)) (address_of sender.now))) }
+    ensures sound { IsTrue F.tells → (dir : Dir) (p : Plain) → AlikeForAnswer config.now ticket (accepts decision) (F.map files.old) dir → IsList dir p → IfErr result (λ e. OnDamaged e (λ _. ⊥)) }
+    ensures found { IsTrue F.tells → IfOk result (FoundModerated (F.map files.old) config.now sender.now message.now ticket (accepts decision)) }
+    ensures act { AnswersAct ⟦<F as Files>⟧ (λ name. is_answered_by ticket (accepts decision) name ≡ true) (IsDamagedOfTicket (F.map files.old) config.now ticket letters.now (accepts decision)) files.old files.new result }
 {
     if !is_usable(sender) {
         return Ok((Txn::new(alloc), Reply::plain(Reply::NOSENDER)));

@@ -1,6 +1,6 @@
 // The floor rises.
 ghost use Rattle.std.specs.Prelude.{◌≡◌, ◌≢◌, ◌<◌, ◌≤◌, ◌+◌, ◌*◌, ◌/◌, ◌%◌, ◌++◌, max, true, ℕ, IsTrue, IfOk, IfErr, IfSome, IfNone, IsErrOf, OnOk, Option, length, ◌==◌};
-ghost use Rattle.ml_base.specs.Dir.{touches_only, with_puts, are_files};
+ghost use Rattle.ml_base.specs.Dir.{Dir, touches_only, with_puts, are_files};
 ghost use Rattle.ml_base.specs.ReadFiles.{IsReading, NamesDamaged};
 ghost use Rattle.ml_base.specs.PartErrors.{OnDamaged};
 ghost use Rattle.std.specs.List.{list_all};
@@ -13,6 +13,7 @@ ghost use Rattle.ml_plain.specs.KeptFiles as states;
 ghost use Rattle.ml_list.specs.Applying.{Does};
 ghost use Rattle.ml_list.specs.Damage.{IsDamagedInList, IsNoReplies, is_read_by};
 ghost use Rattle.ml_list.specs.Lookups.{IsInRange, IsRead};
+ghost use Rattle.ml_list.specs.Looked.{AlikeForAct};
 ghost use Rattle.ml_list.specs.Rising.{removals, rise_puts};
 ghost use Rattle.ml_list.specs.Written.{is_written_by_act};
 ghost use Rattle.ml_plain.specs.declared.Act.TheVariants as acts;
@@ -38,7 +39,8 @@ pub(crate) fn raise<F: Files>(
     requires most { at ≤ 999_999_999_999 }
     requires known { IsTrue F.tells → IsRead (F.map files.old) number known.now }
     requires range { IsInRange known.now.floor }
-    ensures value { IsTrue F.tells → IfOk result (λ done. (q : State) → IsState (F.map files.old) q → Does (F.map files.old) done (steps.raise q number at)) }
+    ensures value { IsTrue F.tells → IfOk result (λ done. (dir : Dir) (q : State) → AlikeForAct (acts.Floor at) (F.map files.old) dir → IsState dir q → Does dir done (steps.raise q number at)) }
+    ensures sound { IsTrue F.tells → (dir : Dir) (q : State) → AlikeForAct (acts.Floor at) (F.map files.old) dir → IsState dir q → IfErr result (λ e. OnDamaged e (λ _. ⊥)) }
     ensures reply { IfOk result (λ done. is_kept done.1 ≡ true) }
     ensures files { IfOk result (λ done. IsTrue (are_files done.0)) }
     ensures written { IsTrue F.tells → IfOk result (λ done. touches_only (is_written_by_act (acts.Floor at)) done.0 ≡ true) }

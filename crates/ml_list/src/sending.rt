@@ -1,6 +1,8 @@
 // Entries of the queue that were sent.
-ghost use Rattle.std.specs.Prelude.{◌≡◌, true, IsTrue, IfOk};
-ghost use Rattle.ml_base.specs.Dir.{same_name, touches_only};
+ghost use Rattle.std.specs.Prelude.{◌≡◌, true, IsTrue, IfOk, IfErr};
+ghost use Rattle.ml_base.specs.Dir.{Dir, same_name, touches_only};
+ghost use Rattle.ml_base.specs.PartErrors.{OnDamaged};
+ghost use Rattle.ml_list.specs.Found.{FoundToSend};
 ghost use Rattle.ml_plain.specs.declared.Act.TheVariants as acts;
 ghost use Rattle.ml_plain.specs.Directory.{IsList};
 ghost use Rattle.ml_plain.specs.Plain.{Plain};
@@ -9,6 +11,7 @@ ghost use Rattle.ml_queue.specs.Answers.{ids_name};
 ghost use Rattle.ml_acts.specs.Damaged.{IsDamaged};
 ghost use Rattle.ml_acts.specs.Doing.{DoesList};
 ghost use Rattle.ml_acts.specs.Acting.{AnswersAct};
+ghost use Rattle.ml_list.specs.Looked.{AlikeForAct};
 ghost use Rattle.ml_list.specs.Written.{is_written_by_act};
 
 use ml_base::{Files, PartError, Txn};
@@ -22,8 +25,10 @@ pub(crate) fn sent_entry<F: Files>(
     files: &mut F,
     id: u64,
 ) -> Result<(Txn, Reply), PartError>
-    ensures value { IsTrue F.tells → IfOk result (λ done. (p : Plain) → IsList (F.map files.old) p → DoesList (F.map files.old) done (spec.sent id p)) }
+    ensures value { IsTrue F.tells → IfOk result (λ done. (dir : Dir) (p : Plain) → AlikeForAct (acts.Sent id) (F.map files.old) dir → IsList dir p → DoesList dir done (spec.sent id p)) }
+    ensures sound { IsTrue F.tells → (dir : Dir) (p : Plain) → AlikeForAct (acts.Sent id) (F.map files.old) dir → IsList dir p → IfErr result (λ e. OnDamaged e (λ _. ⊥)) }
     ensures written { IsTrue F.tells → IfOk result (λ done. touches_only (is_written_by_act (acts.Sent id)) done.0 ≡ true) }
+    ensures found { IsTrue F.tells → IfOk result (FoundToSend (F.map files.old) id) }
     ensures act { AnswersAct ⟦<F as Files>⟧ (λ name. same_name name ids_name ≡ true) (IsDamaged (F.map files.old)) files.old files.new result }
 {
     match sent(alloc, files, id)? {

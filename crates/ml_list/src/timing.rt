@@ -1,5 +1,7 @@
 // Timed runs.
-ghost use Rattle.std.specs.Prelude.{◌≡◌, true, IsTrue, IfOk};
+ghost use Rattle.ml_list.specs.Found.{FoundByCounters, FoundToRun};
+ghost use Rattle.ml_timed.specs.Found.{FoundInRun};
+ghost use Rattle.std.specs.Prelude.{◌≡◌, [], true, IsTrue, IfOk};
 ghost use Rattle.ml_base.specs.Ranges.{IsMoment};
 ghost use Rattle.ml_config.specs.ConfigFile.{IsConfigFile, config_name};
 ghost use Rattle.ml_config.specs.Configuration.{IsConfig};
@@ -9,7 +11,8 @@ ghost use Rattle.ml_plain.specs.Timing as spec;
 ghost use Rattle.ml_acts.specs.Asked.{IsDamagedOf, Undigested};
 ghost use Rattle.ml_acts.specs.Doing.{DoesList};
 ghost use Rattle.ml_timed.specs.Reads.{is_of_timed};
-ghost use Rattle.ml_acts.specs.Acting.{AnswersAct};
+ghost use Rattle.ml_acts.specs.Acting.{AnswersTimed as AnswersAct};
+ghost use Rattle.ml_list.specs.Asked.{IsTimed};
 
 use crate::delivering::configuration;
 use ml_acts::{Moment, is_worn};
@@ -22,8 +25,8 @@ use std::alloc::Global;
 // What a timed run does: the puts, and the reply. Where ids or tickets are worn out it is `full`.
 //
 // `Damaged` names a file that was read and is outside its grammar, or names what isn't there, in the files as the run found them: what it
-// writes itself is in its grammar. One of the archive is the number of posts, or is damaged for a post that is in no digest yet. `Fault`
-// comes only where a read failed. The configuration is there: who asks has looked at it, and where it isn't, there is no memory. `now` is in
+// writes itself is in its grammar. One of the archive is the number of posts, or is damaged for a post that is in no digest yet. On a list
+// without digests none is named that is read for a digest alone. `Fault` comes only where a read failed. The configuration is there: who asks has looked at it, and where it isn't, there is no memory. `now` is in
 // seconds since 1970. The files come back, whatever it answers.
 pub(crate) fn run_timed<F: Files>(
     alloc: Global,
@@ -32,7 +35,8 @@ pub(crate) fn run_timed<F: Files>(
 ) -> (F, Result<(Txn, Reply), PartError>)
     requires { IsMoment now }
     ensures value { IsTrue F.tells → IfOk result.1 (λ done. (p : Plain) → IsList (F.map files) p → DoesList (F.map files) done (spec.timed now p)) }
-    ensures act { AnswersAct ⟦<F as Files>⟧ (λ name. is_of_timed name ≡ true) (IsDamagedOf (F.map files) Undigested) files result.0 result.1 }
+    ensures found { IsTrue F.tells → IfOk result.1 (FoundToRun (F.map files)) }
+    ensures act { AnswersAct ⟦<F as Files>⟧ (λ name. is_of_timed true name ≡ true) (IsTimed (F.map files)) files result.0 result.1 }
 {
     let mut files = files;
     match configuration(alloc, &mut files) {
@@ -50,7 +54,8 @@ fn run_unless_worn<F: Files>(
 ) -> (F, Result<(Txn, Reply), PartError>)
     requires config { IsConfig config.now }
     ensures value { IsTrue F.tells → IfOk result.1 (λ done. (p : Plain) → IsList (F.map files) p → p.config ≡ config.now → DoesList (F.map files) done (spec.timed now.seconds p)) }
-    ensures act { AnswersAct ⟦<F as Files>⟧ (λ name. is_of_timed name ≡ true) (IsDamagedOf (F.map files) Undigested) files result.0 result.1 }
+    ensures found { IsTrue F.tells → IfOk result.1 (FoundByCounters (F.map files) (λ d. FoundInRun (F.map files) [] d.0)) }
+    ensures act { AnswersAct ⟦<F as Files>⟧ (λ name. is_of_timed config.now.flags.d name ≡ true) (IsDamagedOf (F.map files) Undigested) files result.0 result.1 }
 {
     let mut files = files;
     match is_worn(alloc, &mut files) {

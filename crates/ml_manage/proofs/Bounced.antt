@@ -1,10 +1,9 @@
 -- What bounces do to the list's files.
-use Rattle.std.proofs.Common.{◌≡◌, ◌≤◌, ℕ, Bool, true, false, cond, eqb, leb, ◌&&◌, ◌||◌, List, [], Option, Some, None, refl, sym, ap, ◌∙◌, arith, subst}
-use Rattle.std.proofs.lemmas.Bool.{and_parts, and_from, eq-eqb, le-leb}
+use Rattle.std.proofs.Common.{◌≡◌, Bool, true, false, cond, List, [], Option, Some, None, refl, sym, ap, ◌∙◌, subst}
+use Rattle.std.proofs.lemmas.Bool.{and_from, eq-eqb}
 use Rattle.ml_base.specs.Bytes.{Text}
 use Rattle.ml_base.specs.Address.{key}
 use Rattle.ml_base.specs.Dir.{Dir, same_name, with_puts, touches_only}
-use Rattle.ml_base.specs.declared.names.Name.{Name}
 use Rattle.ml_base.specs.declared.names.Set.{Set}
 use Rattle.ml_base.specs.declared.names.Set.TheVariants as sets
 use Rattle.ml_base.specs.declared.puts.Put.{Put}
@@ -15,12 +14,11 @@ use Rattle.ml_bounce.specs.Ledger.{Ledger}
 use Rattle.ml_plain.specs.declared.Reply.{Reply}
 use Rattle.ml_plain.specs.Answers.{bounce, ignored, dropped}
 use Rattle.ml_plain.specs.Bouncing.{if_changed, if_probed}
-use Rattle.ml_plain.specs.Directory.{IsList, is_of_list, list_ledger_kinds, digest_ledger_kinds}
+use Rattle.ml_plain.specs.Directory.{IsList, list_ledger_kinds, digest_ledger_kinds}
 use Rattle.ml_plain.specs.KeptFiles.{is_kept}
 use Rattle.ml_plain.specs.Plain.{Plain, ledger_of, removed}
 use Rattle.ml_plain.proofs.PartChanges.{list_ledger_changed, digest_ledger_changed}
-use Rattle.std.specs.Prelude.{not}
-use Rattle.ml_acts.specs.Doing.{DoesList, is_beside_queue, is_of_queue}
+use Rattle.ml_acts.specs.Doing.{DoesList, is_entry_of}
 use Rattle.ml_manage.specs.Leaving.{change_reply}
 use Rattle.ml_acts.proofs.Queued.{touches_weaker}
 use Rattle.ml_acts.proofs.Left.{entry_kind}
@@ -48,31 +46,14 @@ does_by dir done puts reply p e f now = record {
   list = subst (λ (t : List Put). IsList (with_puts dir t) p) (sym e) now;
 }
 
-in_list : (k : ℕ) → 1 ≤ k → k ≤ 18 → ((leb 1 k && leb k 18) || eqb k 20) ≡ true
-in_list k least most = ap (λ (b : Bool). b || eqb k 20) (and_from (leb 1 k) (leb k 18) (le-leb 1 k least) (le-leb k 18 most))
-
--- the files of a ledger are the list's
-pub entry_own : (set : Set) (k : Text) → is_mailed set ≡ true → (name : Name) → same_name name (key_file set k) ≡ true → is_of_list name ≡ true
-entry_own set k mailed name e = let kind = entry_kind set k name e in let few = low set mailed in in_list name.kind (omega (arith, kind, few)) (omega (arith, kind, few))
-  where
-    low : (set : Set) → is_mailed set ≡ true → (1 ≤ ledger_kind set) × (ledger_kind set ≤ 18)
-    low sets.List has = (omega arith, omega arith)
-    low sets.Digest has = (omega arith, omega arith)
-    low sets.Allow has = absurd (let bad : false ≡ true = has in cc)
-    low sets.Deny has = absurd (let bad : false ≡ true = has in cc)
-    low sets.Moderators has = absurd (let bad : false ≡ true = has in cc)
-
--- files beside the queue's are the list's
-pub beside_own : (puts : List Put) → touches_only is_beside_queue puts ≡ true → touches_only is_of_list puts ≡ true
-beside_own puts only = touches_weaker is_beside_queue is_of_list puts (λ name e. (and_parts (is_of_list name) (not (is_of_queue name)) e).0) only
-
 abbrev IsEntryOnly : Set → Text → List Put → Type 0
 IsEntryOnly set x puts = touches_only (λ name. same_name name (key_file set (key x))) puts ≡ true
 
 -- a ledger's change
-pub changed_own : (set : Set) (x : Text) (answer : Option (List Put)) (puts : List Put) → is_mailed set ≡ true → IsEntryOnly set x (puts_of answer) → puts ≡ puts_of answer → touches_only is_of_list puts ≡ true
+pub changed_own : (set : Set) (x : Text) (answer : Option (List Put)) (puts : List Put) → is_mailed set ≡ true → IsEntryOnly set x (puts_of answer) → puts ≡ puts_of answer → touches_only (is_entry_of set x) puts ≡ true
 changed_own set x answer puts mailed only e =
-    ap (touches_only is_of_list) e ∙ touches_weaker (λ name. same_name name (key_file set (key x))) is_of_list (puts_of answer) (entry_own set (key x) mailed) only
+    ap (touches_only (is_entry_of set x)) e
+    ∙ touches_weaker (λ name. same_name name (key_file set (key x))) (is_entry_of set x) (puts_of answer) (λ name same. and_from (has_ledger set) (same_name name (key_file set (key x))) (mailed_ledger set mailed) same) only
 
 pub change_kept : (answer : Option (List Put)) (reply : Reply) → reply ≡ change_reply answer → is_kept reply ≡ true
 change_kept None reply e = ap is_kept e

@@ -1,5 +1,5 @@
 -- What is said of a request, by what is said of the one that it is.
-use Rattle.std.proofs.Common.{◌≡◌, true, IfOk, IsTrue, List, Result, sym, subst}
+use Rattle.std.proofs.Common.{◌≡◌, Bool, true, IfOk, IsTrue, List, Result, sym, subst}
 use Rattle.std.proofs.lemmas.Result.{IfOk-weaker}
 use Rattle.ml_address.specs.Requests.{PlainRequest, Post, Help, Other, Owner, Subscribe, Unsubscribe, Confirm, Members, Get, Index, Thread, Accept, Reject, Bounce, WarnBounce, ProbeBounce, ReplyBounce}
 use Rattle.ml_address.specs.Views.{request_view}
@@ -15,7 +15,7 @@ use Rattle.ml_config.specs.declared.configuration.Config.{Config}
 use Rattle.ml_plain.specs.Directory.{IsList}
 use Rattle.ml_plain.specs.Plain.{Plain}
 use Rattle.ml_plain.specs.declared.Reply.{Reply}
-use Rattle.ml_acts.specs.Acting.{AnswersAct}
+use Rattle.ml_acts.specs.Acting.{AnswersWithin}
 use Rattle.ml_acts.specs.Asked.{Asked, IsBadFor, IsDamagedOf}
 use Rattle.ml_acts.specs.Configured.{with_config}
 use Rattle.ml_acts.specs.Damaged.{IsDamaged}
@@ -41,25 +41,25 @@ module _ (r : Result (List Put × Reply) PartError) (dir : Dir) (c : Config) (st
   done_held does = done_for (IfOk-weaker r _ _ (λ done so p list same. listed c dir p done _ list same (so p)) does)
 
 -- an act for a request, of files that tell which are damaged for that
-module _ {F : Type 0} (told : Ghosts F) (May : PlainRequest → Name → Type 0) {r : Result (List Put × Reply) PartError} {dir : Dir} {c : Config} {old new : F} {q this : Request} (is : q ≡ this) where
-  of_this : (Bad : Name → Type 0) → ((name : Name) → Bad name → IsDamagedFor dir c (request_view this) name) → AnswersAct told (May (request_view this)) Bad old new r → AnswersAct told (May (request_view q)) (IsDamagedFor dir c (request_view q)) old new r
+module _ {F : Type 0} (told : Ghosts F) (Writes : PlainRequest → Name → Bool) (May : PlainRequest → Name → Type 0) {r : Result (List Put × Reply) PartError} {dir : Dir} {c : Config} {old new : F} {q this : Request} (is : q ≡ this) where
+  of_this : (Bad : Name → Type 0) → ((name : Name) → Bad name → IsDamagedFor dir c (request_view this) name) → AnswersWithin (Writes (request_view this)) told (May (request_view this)) Bad old new r → AnswersWithin (Writes (request_view q)) told (May (request_view q)) (IsDamagedFor dir c (request_view q)) old new r
   of_this Bad so act =
       let for = IsDamagedFor dir c (request_view this) in
-      subst (λ (s : Request). AnswersAct told (May (request_view s)) (IsDamagedFor dir c (request_view s)) old new r) (sym is)
+      subst (λ (s : Request). AnswersWithin (Writes (request_view s)) told (May (request_view s)) (IsDamagedFor dir c (request_view s)) old new r) (sym is)
       (act_so told r (May (request_view this)) Bad for (May (request_view this)) old new (λ name e. e) (λ name e bad. so name bad) act)
 
   -- one that reads nothing of the archive
-  pub for_other : ((name : Name) → IsForRequest dir c (request_view this) name) → AnswersAct told (May (request_view this)) (IsDamaged dir) old new r → AnswersAct told (May (request_view q)) (IsDamagedFor dir c (request_view q)) old new r
+  pub for_other : ((name : Name) → IsForRequest dir c (request_view this) name) → AnswersWithin (Writes (request_view this)) told (May (request_view this)) (IsDamaged dir) old new r → AnswersWithin (Writes (request_view q)) told (May (request_view q)) (IsDamagedFor dir c (request_view q)) old new r
   for_other none act = of_this (IsDamaged dir) (λ name bad. record { damaged = bad; own = none name }) act
 
   -- or that says so under the configuration
-  pub for_held : ((name : Name) → IsForRequest dir c (request_view this) name) → (IsTrue told.tells → IsConfigFile (dir config_name) c) → AnswersAct told (May (request_view this)) (IsDamaged (with_config c dir)) old new r
-      → AnswersAct told (May (request_view q)) (IsDamagedFor dir c (request_view q)) old new r
+  pub for_held : ((name : Name) → IsForRequest dir c (request_view this) name) → (IsTrue told.tells → IsConfigFile (dir config_name) c) → AnswersWithin (Writes (request_view this)) told (May (request_view this)) (IsDamaged (with_config c dir)) old new r
+      → AnswersWithin (Writes (request_view q)) told (May (request_view q)) (IsDamagedFor dir c (request_view q)) old new r
   for_held none held act = for_other none (act_held c dir told IsDamaged held act)
 
   -- one that asks this of the archive
-  pub for_asked : (asked : Asked) → ((name : Name) → (is_of_archive name ≡ true → IsBadFor dir asked name) → IsForRequest dir c (request_view this) name) → AnswersAct told (May (request_view this)) (IsDamagedOf dir asked) old new r
-      → AnswersAct told (May (request_view q)) (IsDamagedFor dir c (request_view q)) old new r
+  pub for_asked : (asked : Asked) → ((name : Name) → (is_of_archive name ≡ true → IsBadFor dir asked name) → IsForRequest dir c (request_view this) name) → AnswersWithin (Writes (request_view this)) told (May (request_view this)) (IsDamagedOf dir asked) old new r
+      → AnswersWithin (Writes (request_view q)) told (May (request_view q)) (IsDamagedFor dir c (request_view q)) old new r
   for_asked asked own act = of_this (IsDamagedOf dir asked) (λ name bad. record { damaged = bad.damaged; own = own name bad.own }) act
 
 -- a file that is none of the archive's, whatever the request

@@ -7,3 +7,5 @@ mod Senders
 pub mod Others
 mod OfArchive
 mod ForRequests
+pub mod Written
+mod Finding

@@ -14,10 +14,10 @@ use Rattle.ml_filing.specs.Threads.{is_of_archive}
 use Rattle.ml_config.specs.declared.configuration.Config.{Config}
 use Rattle.ml_plain.specs.declared.Reply.{Reply}
 use Rattle.ml_queue.specs.Answers.{ids_name}
-use Rattle.ml_acts.specs.Acting.{AnswersAct}
+use Rattle.ml_acts.specs.Acting.{AnswersWithin}
 use Rattle.ml_acts.specs.Asked.{Asked, IsDamagedOf}
 use Rattle.ml_acts.specs.Damaged.{IsDamaged}
-use Rattle.ml_acts.specs.Doing.{is_bucket_of}
+use Rattle.ml_acts.specs.Doing.{is_bucket_of, is_of_queue}
 use Rattle.ml_acts.proofs.Asked.{bucket_other, ids_other, named_as, named_beside}
 use Rattle.ml_acts.proofs.OfActs.{act_beside}
 use Rattle.ml_manage.specs.Reads.{is_of_reader}
@@ -48,6 +48,6 @@ module _ {F : Type 0} (told : Ghosts F) (asked : Asked) where
         (λ name e. or_left (is_of_reader c sender name || part name) (same_name name ids_name) (or_right (is_of_reader c sender name) (part name) e)) (λ name e bad. bad) is
 
     pub answer_act : (r : Result (List Put × Reply) PartError) → KeepsOn told → (first second third : F) → AreKept told first second → (IsTrue told.tells → told.map second ≡ told.map first)
-        → AnswersAct told (λ name. same_name name ids_name ≡ true) (IsDamaged (told.map second)) second third r → AnswersAct told IsOfAnswer (IsDamagedOf (told.map first) asked) first third r
+        → AnswersWithin is_of_queue told (λ name. same_name name ids_name ≡ true) (IsDamaged (told.map second)) second third r → AnswersWithin is_of_queue told IsOfAnswer (IsDamagedOf (told.map first) asked) first third r
     answer_act r on first second third kept same act =
         act_beside told asked on kept same (λ name e. or_right (is_of_reader c sender name || part name) (same_name name ids_name) e) (λ name e of. ids_other name e of) act

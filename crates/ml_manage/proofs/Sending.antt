@@ -1,21 +1,16 @@
 -- Answers that are one mail, or none.
 use Rattle.std.proofs.Common.{◌≡◌, ℕ, Bool, true, false, List, [], sym, arith, subst}
 use Rattle.ml_base.specs.Bytes.{Text}
-use Rattle.ml_base.specs.Dir.{Dir, touches_only}
+use Rattle.ml_base.specs.Dir.{Dir}
 use Rattle.ml_base.specs.declared.names.Set.{Set}
 use Rattle.ml_base.specs.declared.puts.Put.{Put}
 use Rattle.ml_plain.specs.declared.Reply.{Reply}
 use Rattle.ml_plain.specs.Answers.{private}
-use Rattle.ml_plain.specs.Directory.{IsList, is_of_list}
+use Rattle.ml_plain.specs.Directory.{IsList}
 use Rattle.ml_plain.specs.Managing.{from_archive, list_members}
 use Rattle.ml_plain.specs.Plain.{Plain}
-use Rattle.ml_acts.specs.Doing.{DoesList, HasIds, HasRoom, is_of_queue}
+use Rattle.ml_acts.specs.Doing.{DoesList, HasIds, HasRoom}
 use Rattle.ml_manage.proofs.Bounced.{does_by}
-use Rattle.ml_acts.proofs.Queued.{queue_list, touches_weaker}
-
--- the queue's files are the list's
-pub queue_own : (txn : List Put) → touches_only is_of_queue txn ≡ true → touches_only is_of_list txn ≡ true
-queue_own txn only = touches_weaker is_of_queue is_of_list txn queue_list only
 
 pub room_ids : (dir : Dir) → HasRoom dir → HasIds dir
 room_ids dir room low next is = let most = room.ids low next is in omega (arith, most)

@@ -1,3 +1,5 @@
 pub mod Reads
 pub mod Leaving
 pub mod Texts
+pub mod Written
+pub mod Found

@@ -1,5 +1,5 @@
 // Answers from the archive: to whom it is open, and what they are.
-ghost use Rattle.std.specs.Prelude.{◌≡◌, ◌/◌, ◌&&◌, ◌||◌, ◌++◌, not, true, unwrap_or, IsTrue, IfOk, OnOk};
+ghost use Rattle.std.specs.Prelude.{◌≡◌, ◌/◌, ◌&&◌, ◌||◌, ◌++◌, not, [], true, unwrap_or, IsTrue, IfOk, OnOk};
 ghost use Rattle.ml_filing.specs.Answers.{IsPostName};
 ghost use Rattle.ml_filing.specs.Archive.{number_name};
 ghost use Rattle.ml_filing.specs.Reads.{IsOfRow};
@@ -13,10 +13,14 @@ ghost use Rattle.ml_plain.specs.Directory.{IsList};
 ghost use Rattle.ml_plain.specs.Managing as spec;
 ghost use Rattle.ml_plain.specs.Plain.{Plain, is_in};
 ghost use Rattle.ml_queue.specs.Answers.{ids_name};
-ghost use Rattle.ml_acts.specs.Acting.{AnswersAct};
+ghost use Rattle.ml_acts.specs.Acting.{AnswersWithin};
 ghost use Rattle.ml_acts.specs.Asked.{Group, IsDamagedOf, Range, ThreadOf};
 ghost use Rattle.ml_acts.specs.Damaged.{IsDamaged};
-ghost use Rattle.ml_acts.specs.Doing.{DoesList, HasIds, is_bucket_of};
+ghost use Rattle.ml_acts.specs.Doing.{DoesList, HasIds, is_bucket_of, is_of_queue};
+ghost use Rattle.ml_base.specs.Address.{key};
+ghost use Rattle.ml_plain.specs.Answers as answers;
+ghost use Rattle.ml_joining.specs.Found.{SendsMail};
+ghost use Rattle.ml_manage.specs.Found.{FoundToRead, TellsIndex, TellsOpen, TellsRange, TellsReader, TellsSubscriber, TellsThread};
 ghost use Rattle.ml_manage.specs.Reads.{IsDamagedAmong, IsDamagedPost, is_of_index, is_of_posts, is_of_reader, is_of_thread};
 ghost use Rattle.ml_manage.specs.Texts as words;
 
@@ -42,7 +46,8 @@ pub(crate) fn get<F: Files>(
 ) -> Result<(Txn, Reply), PartError>
     requires room { IsTrue F.tells → HasIds (F.map files.now) }
     ensures value { IsTrue F.tells → IfOk result (λ done. (p : Plain) → IsList (F.map files.old) p → p.config ≡ config.now → DoesList (F.map files.old) done (spec.from_archive now.seconds sender.now p (spec.may_read p sender.now) (texts.get_text p from to))) }
-    ensures act { AnswersAct ⟦<F as Files>⟧ (λ name. (is_of_reader config.now sender.now name || is_of_posts from (unwrap_or to from) name || same_name name ids_name) ≡ true) (IsDamagedOf (F.map files.old) (Range from (unwrap_or to from))) files.old files.new result }
+    ensures found { IsTrue F.tells → IfOk result (FoundToRead (F.map files.old) config.now (key sender.now) (TellsRange (F.map files.old) from (unwrap_or to from))) }
+    ensures act { AnswersWithin is_of_queue ⟦<F as Files>⟧ (λ name. (is_of_reader config.now sender.now name || is_of_posts from (unwrap_or to from) name || same_name name ids_name) ≡ true) (IsDamagedOf (F.map files.old) (Range from (unwrap_or to from))) files.old files.new result }
 {
     if !may_read(alloc, files, config, sender)? {
         return Ok((Txn::new(alloc), Reply::plain(Reply::PRIVATE)));
@@ -63,7 +68,8 @@ pub(crate) fn thread_of<F: Files>(
     requires room { IsTrue F.tells → HasIds (F.map files.now) }
     requires loaded { IsTrue F.tells → IsConfigFile (F.map files.now config_name) config.now }
     ensures value { IsTrue F.tells → IfOk result (λ done. (p : Plain) → IsList (F.map files.old) p → p.config ≡ config.now → DoesList (F.map files.old) done (spec.from_archive now.seconds sender.now p (spec.may_read p sender.now) (texts.thread_text p at))) }
-    ensures act { AnswersAct ⟦<F as Files>⟧ (λ name. (is_of_reader config.now sender.now name || is_of_thread name || same_name name ids_name) ≡ true) (IsDamagedOf (F.map files.old) (ThreadOf config.now.prefix at)) files.old files.new result }
+    ensures found { IsTrue F.tells → IfOk result (FoundToRead (F.map files.old) config.now (key sender.now) (TellsThread (F.map files.old) config.now.prefix at)) }
+    ensures act { AnswersWithin is_of_queue ⟦<F as Files>⟧ (λ name. (is_of_reader config.now sender.now name || is_of_thread name || same_name name ids_name) ≡ true) (IsDamagedOf (F.map files.old) (ThreadOf config.now.prefix at)) files.old files.new result }
 {
     if !may_read(alloc, files, config, sender)? {
         return Ok((Txn::new(alloc), Reply::plain(Reply::PRIVATE)));
@@ -83,7 +89,8 @@ pub(crate) fn index_of<F: Files>(
 ) -> Result<(Txn, Reply), PartError>
     requires room { IsTrue F.tells → HasIds (F.map files.now) }
     ensures value { IsTrue F.tells → IfOk result (λ done. (p : Plain) → IsList (F.map files.old) p → p.config ≡ config.now → DoesList (F.map files.old) done (spec.from_archive now.seconds sender.now p (spec.may_read p sender.now) (texts.index_text p at))) }
-    ensures act { AnswersAct ⟦<F as Files>⟧ (λ name. (is_of_reader config.now sender.now name || is_of_index at name || same_name name ids_name) ≡ true) (IsDamagedOf (F.map files.old) (Group (at / 100))) files.old files.new result }
+    ensures found { IsTrue F.tells → IfOk result (FoundToRead (F.map files.old) config.now (key sender.now) (TellsIndex (F.map files.old) (at / 100))) }
+    ensures act { AnswersWithin is_of_queue ⟦<F as Files>⟧ (λ name. (is_of_reader config.now sender.now name || is_of_index at name || same_name name ids_name) ≡ true) (IsDamagedOf (F.map files.old) (Group (at / 100))) files.old files.new result }
 {
     if !may_read(alloc, files, config, sender)? {
         return Ok((Txn::new(alloc), Reply::plain(Reply::PRIVATE)));
@@ -100,6 +107,7 @@ fn may_read<F: Files>(
     sender: &Address,
 ) -> Result<bool, PartError>
     ensures value { IsTrue F.tells → IfOk result (λ is. (p : Plain) → IsList (F.map files.old) p → p.config ≡ config.now → is ≡ spec.may_read p sender.now) }
+    ensures found { IsTrue F.tells → IfOk result (TellsReader (F.map files.old) config.now (key sender.now)) }
     ensures names { NamesDamaged ⟦<F as Files>⟧ (λ name. is_of_reader config.now sender.now name ≡ true) (IsDamaged (F.map files.old)) result }
     ensures reads { IsReading ⟦<F as Files>⟧ files.old files.new result }
 {
@@ -117,6 +125,7 @@ fn is_open_to<F: Files>(
     sender: &Address,
 ) -> Result<bool, PartError>
     ensures value { IsTrue F.tells → IfOk result (λ is. (p : Plain) → IsList (F.map files.old) p → p.config ≡ config.now → is ≡ (not p.config.flags.b && p.config.flags.p && (not p.config.flags.g || is_in p sets.List sender.now || is_in p sets.Digest sender.now))) }
+    ensures found { IsTrue F.tells → IfOk result (TellsOpen (F.map files.old) config.now (key sender.now)) }
     ensures names { NamesDamaged ⟦<F as Files>⟧ (λ name. is_of_reader config.now sender.now name ≡ true) (IsDamaged (F.map files.old)) result }
     ensures reads { IsReading ⟦<F as Files>⟧ files.old files.new result }
 {
@@ -132,6 +141,7 @@ fn is_open_to<F: Files>(
 // Whether an address is in the list or the digest.
 fn is_subscriber<F: Files>(alloc: Global, files: &mut F, who: &Address) -> Result<bool, PartError>
     ensures value { IsTrue F.tells → IfOk result (λ is. (p : Plain) → IsList (F.map files.old) p → is ≡ (is_in p sets.List who.now || is_in p sets.Digest who.now)) }
+    ensures found { IsTrue F.tells → IfOk result (TellsSubscriber (F.map files.old) (key who.now)) }
     ensures names { NamesDamaged ⟦<F as Files>⟧ (λ name. (is_bucket_of sets.List who.now name || is_bucket_of sets.Digest who.now name) ≡ true) (IsDamaged (F.map files.old)) result }
     ensures reads { IsReading ⟦<F as Files>⟧ files.old files.new result }
 {
@@ -152,7 +162,8 @@ fn mail_lines<F: Files>(
 ) -> Result<(Txn, Reply), PartError>
     requires room { IsTrue F.tells → HasIds (F.map files.now) }
     ensures value { IsTrue F.tells → IfOk result (λ done. (p : Plain) → IsList (F.map files.old) p → p.config ≡ config.now → DoesList (F.map files.old) done (spec.from_archive now.seconds sender.now p true lines)) }
-    ensures act { AnswersAct ⟦<F as Files>⟧ (λ name. same_name name ids_name ≡ true) (IsDamaged (F.map files.old)) files.old files.new result }
+    ensures found { IsTrue F.tells → IfOk result (SendsMail (F.map files.old) [] answers.archive) }
+    ensures act { AnswersWithin is_of_queue ⟦<F as Files>⟧ (λ name. same_name name ids_name ≡ true) (IsDamaged (F.map files.old)) files.old files.new result }
 {
     let mail = Mail::Archive {
         to: Bytes::from_slice(alloc, sender.bytes())?,
@@ -180,6 +191,7 @@ fn get_text<F: Files>(
     to: Option<u64>,
 ) -> Result<Bytes, PartError>
     ensures value { IsTrue F.tells → IfOk result (λ text. (p : Plain) → IsList (F.map files.old) p → p.config ≡ config.now → text ≡ texts.get_text p from to) }
+    ensures found { IsTrue F.tells → IfOk result (λ _. TellsRange (F.map files.old) from (unwrap_or to from)) }
     ensures names { NamesDamaged ⟦<F as Files>⟧ (λ name. is_of_posts from (unwrap_or to from) name ≡ true) (IsDamagedOf (F.map files.old) (Range from (unwrap_or to from))) result }
     ensures reads { IsReading ⟦<F as Files>⟧ files.old files.new result }
 {
@@ -196,6 +208,7 @@ fn thread_text<F: Files>(
 ) -> Result<Bytes, PartError>
     requires { IsTrue F.tells → IsConfigFile (F.map files.now config_name) config.now }
     ensures value { IsTrue F.tells → IfOk result (λ text. (p : Plain) → IsList (F.map files.old) p → p.config ≡ config.now → text ≡ texts.thread_text p at) }
+    ensures found { IsTrue F.tells → IfOk result (λ _. TellsThread (F.map files.old) config.now.prefix at) }
     ensures names { NamesDamaged ⟦<F as Files>⟧ (λ name. is_of_thread name ≡ true) (IsDamagedOf (F.map files.old) (ThreadOf config.now.prefix at)) result }
     ensures reads { IsReading ⟦<F as Files>⟧ files.old files.new result }
 {
@@ -206,6 +219,7 @@ fn thread_text<F: Files>(
 // The text of the index of a post's group.
 fn index_text<F: Files>(alloc: Global, files: &mut F, at: u64) -> Result<Bytes, PartError>
     ensures value { IsTrue F.tells → IfOk result (λ text. (p : Plain) → IsList (F.map files.old) p → text ≡ texts.index_text p at) }
+    ensures found { IsTrue F.tells → IfOk result (λ _. TellsIndex (F.map files.old) (at / 100)) }
     ensures names { NamesDamaged ⟦<F as Files>⟧ (λ name. is_of_index at name ≡ true) (IsDamagedOf (F.map files.old) (Group (at / 100))) result }
     ensures reads { IsReading ⟦<F as Files>⟧ files.old files.new result }
 {

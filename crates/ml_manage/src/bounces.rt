@@ -1,5 +1,5 @@
 // What bounces do: of mail to a member, of a warning and of a probe.
-ghost use Rattle.std.specs.Prelude.{◌≡◌, ◌≤◌, ◌&&◌, ◌||◌, true, IsTrue, IfOk};
+ghost use Rattle.std.specs.Prelude.{◌≡◌, ◌⊎◌, ◌≤◌, ◌&&◌, ◌||◌, true, IsTrue, IfOk};
 ghost use Rattle.ml_address.specs.Requests.{is_mailed};
 ghost use Rattle.ml_base.specs.Address.{key};
 ghost use Rattle.ml_base.specs.Dir.{same_name};
@@ -16,10 +16,12 @@ ghost use Rattle.ml_plain.specs.Plain.{Plain, is_in, ledger_of, removed};
 ghost use Rattle.ml_filing.specs.Archive.{number_name};
 ghost use Rattle.ml_digest.specs.Due.{mark_name};
 ghost use Rattle.ml_subs.specs.Subscribers.{is_touched};
-ghost use Rattle.ml_acts.specs.Acting.{AnswersAct};
+ghost use Rattle.ml_acts.specs.Acting.{AnswersWithin};
 ghost use Rattle.ml_acts.specs.Asked.{Count, IsDamagedOf};
 ghost use Rattle.ml_acts.specs.Damaged.{IsDamaged};
-ghost use Rattle.ml_acts.specs.Doing.{DoesList, is_bucket_of, is_entry_of};
+ghost use Rattle.ml_acts.specs.Doing.{DoesList, is_bucket_of, is_entry_of, is_left_by};
+ghost use Rattle.ml_acts.specs.Found.{Says, TellsKeys};
+ghost use Rattle.ml_manage.specs.Found.{FoundToDrop, FoundToNote, FoundToProbe, FoundToWarn, IfMember, TellsLedger, TellsUsed};
 ghost use Rattle.ml_manage.specs.Leaving.{change_reply, of_probe, of_warning};
 ghost use Rattle.ml_manage.specs.Reads.{is_counted_in, is_of_bounce, is_of_probe, is_of_signed, is_of_warning};
 
@@ -45,7 +47,8 @@ pub(crate) fn bounced<F: Files>(
     requires mailed { is_mailed set ≡ true }
     requires number { number ≤ 99_999_999 }
     ensures value { IsTrue F.tells → IfOk result (λ done. (p : Plain) → IsList (F.map files.old) p → DoesList (F.map files.old) done (spec.bounced now.seconds set number x.now p)) }
-    ensures act { AnswersAct ⟦<F as Files>⟧ (λ name. is_of_bounce set x.now name ≡ true) (IsDamagedOf (F.map files.old) Count) files.old files.new result }
+    ensures found { IsTrue F.tells → IfOk result (FoundToNote (F.map files.old) set (key x.now)) }
+    ensures act { AnswersWithin (is_entry_of set x.now) ⟦<F as Files>⟧ (λ name. is_of_bounce set x.now name ≡ true) (IsDamagedOf (F.map files.old) Count) files.old files.new result }
 {
     if !was_mailed(alloc, files, set, number, x)? {
         return Ok((Txn::new(alloc), Reply::plain(Reply::IGNORED)));
@@ -62,6 +65,7 @@ fn was_mailed<F: Files>(
     x: &Address,
 ) -> Result<bool, PartError>
     ensures value { IsTrue F.tells → IfOk result (λ is. (p : Plain) → IsList (F.map files.old) p → is ≡ (is_in p set x.now && spec.is_used p set number)) }
+    ensures found { IsTrue F.tells → IfOk result (IfMember (F.map files.old) set (key x.now) (TellsUsed (F.map files.old) set)) }
     ensures names { NamesDamaged ⟦<F as Files>⟧ (λ name. is_of_bounce set x.now name ≡ true) (IsDamagedOf (F.map files.old) Count) result }
     ensures reads { IsReading ⟦<F as Files>⟧ files.old files.new result }
 {
@@ -74,6 +78,7 @@ fn was_mailed<F: Files>(
 // Whether a number of a set was used.
 fn is_used<F: Files>(alloc: Global, files: &mut F, set: Set, number: u64) -> Result<bool, PartError>
     ensures value { IsTrue F.tells → IfOk result (λ is. (p : Plain) → IsList (F.map files.old) p → is ≡ spec.is_used p set number) }
+    ensures found { IsTrue F.tells → IfOk result (λ _. TellsUsed (F.map files.old) set) }
     ensures names { NamesDamaged ⟦<F as Files>⟧ (λ name. is_counted_in set name ≡ true) (IsDamagedOf (F.map files.old) Count) result }
     ensures reads { IsReading ⟦<F as Files>⟧ files.old files.new result }
 {
@@ -86,6 +91,7 @@ fn is_used<F: Files>(alloc: Global, files: &mut F, set: Set, number: u64) -> Res
 // Whether a number is one of a digest that was sent.
 fn is_issue<F: Files>(alloc: Global, files: &mut F, number: u64) -> Result<bool, PartError>
     ensures value { IsTrue F.tells → IfOk result (λ is. (p : Plain) → IsList (F.map files.old) p → is ≡ spec.is_used p sets.Digest number) }
+    ensures found { IsTrue F.tells → IfOk result (λ _. TellsUsed (F.map files.old) sets.Digest) }
     ensures names { NamesDamaged ⟦<F as Files>⟧ (λ name. same_name name mark_name ≡ true) (IsDamagedOf (F.map files.old) Count) result }
     ensures reads { IsReading ⟦<F as Files>⟧ files.old files.new result }
 {
@@ -96,6 +102,7 @@ fn is_issue<F: Files>(alloc: Global, files: &mut F, number: u64) -> Result<bool,
 // Whether a number is one of a post that was sent.
 fn is_post<F: Files>(alloc: Global, files: &mut F, number: u64) -> Result<bool, PartError>
     ensures value { IsTrue F.tells → IfOk result (λ is. (p : Plain) → IsList (F.map files.old) p → is ≡ spec.is_used p sets.List number) }
+    ensures found { IsTrue F.tells → IfOk result (λ _. TellsUsed (F.map files.old) sets.List) }
     ensures names { NamesDamaged ⟦<F as Files>⟧ (λ name. same_name name number_name ≡ true) (IsDamagedOf (F.map files.old) Count) result }
     ensures reads { IsReading ⟦<F as Files>⟧ files.old files.new result }
 {
@@ -115,7 +122,8 @@ fn noted<F: Files>(
     requires mailed { is_mailed set ≡ true }
     requires number { number ≤ 99_999_999 }
     ensures value { IsTrue F.tells → IfOk result (λ done. (p : Plain) → IsList (F.map files.old) p → DoesList (F.map files.old) done (spec.if_changed p set (changes.note (key x.now) number now.seconds (ledger_of p set)))) }
-    ensures act { AnswersAct ⟦<F as Files>⟧ (λ name. is_entry_of set x.now name ≡ true) (IsDamaged (F.map files.old)) files.old files.new result }
+    ensures found { IsTrue F.tells → IfOk result (λ _. TellsLedger (F.map files.old) set (key x.now)) }
+    ensures act { AnswersWithin (is_entry_of set x.now) ⟦<F as Files>⟧ (λ name. is_entry_of set x.now name ≡ true) (IsDamaged (F.map files.old)) files.old files.new result }
 {
     let answer = note(alloc, files, set, x, number, now.seconds)?;
     Ok(changed(alloc, answer))
@@ -144,7 +152,8 @@ pub(crate) fn warning_bounced<F: Files>(
 ) -> Result<(Txn, Reply), PartError>
     requires mailed { is_mailed set ≡ true }
     ensures value { IsTrue F.tells → IfOk result (λ done. (p : Plain) → IsList (F.map files.old) p → DoesList (F.map files.old) done (of_warning now.seconds set time letters.now x.now p)) }
-    ensures act { AnswersAct ⟦<F as Files>⟧ (λ name. is_of_warning set x.now name ≡ true) (IsDamaged (F.map files.old)) files.old files.new result }
+    ensures found { IsTrue F.tells → IfOk result (FoundToWarn (F.map files.old) set (key x.now)) }
+    ensures act { AnswersWithin (is_entry_of set x.now) ⟦<F as Files>⟧ (λ name. is_of_warning set x.now name ≡ true) (IsDamaged (F.map files.old)) files.old files.new result }
 {
     if !is_signed(alloc, files, now.seconds, b"warn", set, time, letters, x)? {
         return Ok((Txn::new(alloc), Reply::plain(Reply::IGNORED)));
@@ -164,6 +173,7 @@ fn is_signed<F: Files>(
     x: &Address,
 ) -> Result<bool, PartError>
     ensures value { IsTrue F.tells → IfOk result (λ is. (p : Plain) → IsList (F.map files.old) p → is ≡ (is_in p set x.now && is_good_by p kind.now set time (key x.now) letters.now now)) }
+    ensures found { IsTrue F.tells → IfOk result (IfMember (F.map files.old) set (key x.now) (TellsKeys (F.map files.old))) }
     ensures names { NamesDamaged ⟦<F as Files>⟧ (λ name. is_of_signed set x.now name ≡ true) (IsDamaged (F.map files.old)) result }
     ensures reads { IsReading ⟦<F as Files>⟧ files.old files.new result }
 {
@@ -185,6 +195,7 @@ fn is_cookie<F: Files>(
     x: &Address,
 ) -> Result<bool, PartError>
     ensures value { IsTrue F.tells → IfOk result (λ is. (p : Plain) → IsList (F.map files.old) p → is ≡ is_good_by p kind.now set time (key x.now) letters.now now) }
+    ensures found { IsTrue F.tells → IfOk result (λ _. TellsKeys (F.map files.old)) }
     ensures names { NamesDamaged ⟦<F as Files>⟧ (λ name. same_name name key_name ≡ true) (IsDamaged (F.map files.old)) result }
     ensures reads { IsReading ⟦<F as Files>⟧ files.old files.new result }
 {
@@ -204,7 +215,8 @@ fn warning_failed<F: Files>(
 ) -> Result<(Txn, Reply), PartError>
     requires mailed { is_mailed set ≡ true }
     ensures value { IsTrue F.tells → IfOk result (λ done. (p : Plain) → IsList (F.map files.old) p → DoesList (F.map files.old) done (spec.if_changed p set (changes.warn_failed (key x.now) time now.seconds (ledger_of p set)))) }
-    ensures act { AnswersAct ⟦<F as Files>⟧ (λ name. is_entry_of set x.now name ≡ true) (IsDamaged (F.map files.old)) files.old files.new result }
+    ensures found { IsTrue F.tells → IfOk result (λ _. TellsLedger (F.map files.old) set (key x.now)) }
+    ensures act { AnswersWithin (is_entry_of set x.now) ⟦<F as Files>⟧ (λ name. is_entry_of set x.now name ≡ true) (IsDamaged (F.map files.old)) files.old files.new result }
 {
     let answer = warn_failed(alloc, files, set, x, time, now.seconds)?;
     Ok(changed(alloc, answer))
@@ -222,7 +234,8 @@ pub(crate) fn probe_bounced<F: Files>(
 ) -> Result<(Txn, Reply), PartError>
     requires { is_mailed set ≡ true }
     ensures value { IsTrue F.tells → IfOk result (λ done. (p : Plain) → IsList (F.map files.old) p → DoesList (F.map files.old) done (of_probe now set time letters.now x.now p)) }
-    ensures act { AnswersAct ⟦<F as Files>⟧ (λ name. is_of_probe set x.now name ≡ true) (IsDamaged (F.map files.old)) files.old files.new result }
+    ensures found { IsTrue F.tells → IfOk result (FoundToProbe (F.map files.old) set (key x.now)) }
+    ensures act { AnswersWithin (is_left_by set x.now) ⟦<F as Files>⟧ (λ name. is_of_probe set x.now name ≡ true) (IsDamaged (F.map files.old)) files.old files.new result }
 {
     if !is_signed(alloc, files, now, b"probe", set, time, letters, x)? {
         return Ok((Txn::new(alloc), Reply::plain(Reply::IGNORED)));
@@ -240,7 +253,8 @@ fn probed<F: Files>(
 ) -> Result<(Txn, Reply), PartError>
     requires { is_mailed set ≡ true }
     ensures value { IsTrue F.tells → IfOk result (λ done. (p : Plain) → IsList (F.map files.old) p → is_in p set x.now ≡ true → DoesList (F.map files.old) done (spec.if_probed p set x.now (changes.probe_failed (key x.now) time (ledger_of p set)))) }
-    ensures act { AnswersAct ⟦<F as Files>⟧ (λ name. (is_touched set (key x.now) name || is_entry_of set x.now name) ≡ true) (IsDamaged (F.map files.old)) files.old files.new result }
+    ensures found { IsTrue F.tells → IfOk result (λ done. TellsLedger (F.map files.old) set (key x.now) × (Says answers.ignored done ⊎ FoundToDrop (F.map files.old) set (key x.now) done)) }
+    ensures act { AnswersWithin (is_left_by set x.now) ⟦<F as Files>⟧ (λ name. (is_touched set (key x.now) name || is_entry_of set x.now name) ≡ true) (IsDamaged (F.map files.old)) files.old files.new result }
 {
     let Some(_) = probe_failed(alloc, files, set, x, time)? else {
         return Ok((Txn::new(alloc), Reply::plain(Reply::IGNORED)));
@@ -256,7 +270,8 @@ fn dropped<F: Files>(
     x: &Address,
 ) -> Result<(Txn, Reply), PartError>
     ensures value { IsTrue F.tells → IfOk result (λ done. (p : Plain) → IsList (F.map files.old) p → is_in p set x.now ≡ true → DoesList (F.map files.old) done (removed set x.now p, answers.dropped)) }
-    ensures act { AnswersAct ⟦<F as Files>⟧ (λ name. (is_touched set (key x.now) name || is_entry_of set x.now name) ≡ true) (IsDamaged (F.map files.old)) files.old files.new result }
+    ensures found { IsTrue F.tells → IfOk result (FoundToDrop (F.map files.old) set (key x.now)) }
+    ensures act { AnswersWithin (is_left_by set x.now) ⟦<F as Files>⟧ (λ name. (is_touched set (key x.now) name || is_entry_of set x.now name) ≡ true) (IsDamaged (F.map files.old)) files.old files.new result }
 {
     let Some(txn) = remove_member(alloc, files, set, x)? else {
         return Ok((Txn::new(alloc), Reply::plain(Reply::IGNORED)));

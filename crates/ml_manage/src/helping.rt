@@ -7,9 +7,12 @@ ghost use Rattle.ml_plain.specs.Directory.{IsList};
 ghost use Rattle.ml_plain.specs.Managing as spec;
 ghost use Rattle.ml_plain.specs.Plain.{Plain};
 ghost use Rattle.ml_queue.specs.Answers.{ids_name};
-ghost use Rattle.ml_acts.specs.Acting.{AnswersAct};
+ghost use Rattle.ml_acts.specs.Acting.{AnswersWithin};
 ghost use Rattle.ml_acts.specs.Damaged.{IsDamaged};
-ghost use Rattle.ml_acts.specs.Doing.{DoesList, HasIds};
+ghost use Rattle.ml_acts.specs.Doing.{DoesList, HasIds, is_of_queue};
+ghost use Rattle.ml_plain.specs.Answers as answers;
+ghost use Rattle.ml_joining.specs.Found.{SendsMail};
+ghost use Rattle.ml_manage.specs.Found.{FoundToOwner};
 
 use ml_acts::{Moment, reply_path, send, with_mail};
 use ml_base::{Address, AddressList, Bytes, Files, PartError, Row, Txn};
@@ -28,7 +31,8 @@ pub(crate) fn helped<F: Files>(
 ) -> Result<(Txn, Reply), PartError>
     requires room { IsTrue F.tells → HasIds (F.map files.now) }
     ensures value { IsTrue F.tells → IfOk result (λ done. (p : Plain) → IsList (F.map files.old) p → p.config ≡ config.now → DoesList (F.map files.old) done (spec.helped now.seconds sender.now p)) }
-    ensures act { AnswersAct ⟦<F as Files>⟧ (λ name. same_name name ids_name ≡ true) (IsDamaged (F.map files.old)) files.old files.new result }
+    ensures found { IsTrue F.tells → IfOk result (SendsMail (F.map files.old) [] answers.help) }
+    ensures act { AnswersWithin is_of_queue ⟦<F as Files>⟧ (λ name. same_name name ids_name ≡ true) (IsDamaged (F.map files.old)) files.old files.new result }
 {
     let mail = Mail::Help {
         to: Bytes::from_slice(alloc, sender.bytes())?,
@@ -55,7 +59,8 @@ pub(crate) fn to_owner<F: Files>(
 ) -> Result<(Txn, Reply), PartError>
     requires { IsTrue F.tells → HasIds (F.map files.now) }
     ensures value { IsTrue F.tells → IfOk result (λ done. (p : Plain) → IsList (F.map files.old) p → p.config ≡ config.now → DoesList (F.map files.old) done (spec.to_owner message.now p)) }
-    ensures act { AnswersAct ⟦<F as Files>⟧ (λ name. same_name name ids_name ≡ true) (IsDamaged (F.map files.old)) files.old files.new result }
+    ensures found { IsTrue F.tells → IfOk result (FoundToOwner (F.map files.old)) }
+    ensures act { AnswersWithin is_of_queue ⟦<F as Files>⟧ (λ name. same_name name ids_name ≡ true) (IsDamaged (F.map files.old)) files.old files.new result }
 {
     let way = reply_path(alloc, config)?;
     let body = Bytes::from_slice(alloc, message)?;

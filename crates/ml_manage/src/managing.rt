@@ -2,7 +2,7 @@
 ghost use Rattle.std.specs.Prelude.{◌≡◌, true, codes, IsTrue, IfOk};
 ghost use Rattle.ml_address.specs.Requests.{Bounce, WarnBounce, ProbeBounce, is_in_range};
 ghost use Rattle.ml_address.specs.Views.{request_view, who_view};
-ghost use Rattle.ml_base.specs.Address.{address_of};
+ghost use Rattle.ml_base.specs.Address.{address_of, key};
 ghost use Rattle.ml_base.specs.Ranges.{IsMoment};
 ghost use Rattle.ml_config.specs.ConfigFile.{IsConfigFile, config_name};
 ghost use Rattle.ml_config.specs.Configuration.{IsConfig};
@@ -12,13 +12,15 @@ ghost use Rattle.ml_plain.specs.Bouncing as bouncing;
 ghost use Rattle.ml_plain.specs.Directory.{IsList};
 ghost use Rattle.ml_plain.specs.Managing as spec;
 ghost use Rattle.ml_plain.specs.Plain.{Plain};
-ghost use Rattle.ml_acts.specs.Acting.{AnswersAct};
+ghost use Rattle.ml_acts.specs.Acting.{AnswersWithin};
 ghost use Rattle.ml_acts.specs.Asked.{Count, IsDamagedOf};
 ghost use Rattle.ml_acts.specs.Configured.{with_config};
 ghost use Rattle.ml_acts.specs.Damaged.{IsDamaged};
-ghost use Rattle.ml_acts.specs.Doing.{DoesList, HasRoom};
+ghost use Rattle.ml_acts.specs.Doing.{DoesList, HasRoom, is_entry_of, is_left_by};
+ghost use Rattle.ml_manage.specs.Found.{FoundByRequest, FoundBySender, FoundManaged, FoundToNote, FoundToProbe, FoundToWarn};
 ghost use Rattle.ml_manage.specs.Leaving.{signed};
 ghost use Rattle.ml_manage.specs.Reads.{IsDamagedFor, is_asked_of, is_managed, is_of_bounce, is_of_probe, is_of_warning, is_read_for, is_read_for_sender};
+ghost use Rattle.ml_manage.specs.Written.{is_written_for, is_written_for_sender, is_written_of};
 
 use crate::archive::{get, index_of, thread_of};
 use crate::bounces::{bounced, probe_bounced, warning_bounced};
@@ -55,7 +57,8 @@ pub fn manage<F: Files>(
     requires room { IsTrue F.tells → HasRoom (F.map files.now) }
     requires request { is_managed (request_view request.now) ≡ true }
     ensures value { IsTrue F.tells → IfOk result (λ done. (p : Plain) → IsList (with_config config.now (F.map files.old)) p → DoesList (with_config config.now (F.map files.old)) done (spec.by_request now sender.now message.now p (request_view request.now))) }
-    ensures act { AnswersAct ⟦<F as Files>⟧ (λ name. is_read_for_sender config.now sender.now (request_view request.now) name ≡ true) (IsDamagedFor (with_config config.now (F.map files.old)) config.now (request_view request.now)) files.old files.new result }
+    ensures found { IsTrue F.tells → IfOk result (FoundByRequest (with_config config.now (F.map files.old)) config.now sender.now message.now (request_view request.now)) }
+    ensures act { AnswersWithin (is_written_for_sender sender.now (request_view request.now)) ⟦<F as Files>⟧ (λ name. is_read_for_sender config.now sender.now (request_view request.now) name ≡ true) (IsDamagedFor (with_config config.now (F.map files.old)) config.now (request_view request.now)) files.old files.new result }
 {
     let mut under = Configured::new(files, config);
     let now = Moment { seconds: now };
@@ -77,7 +80,8 @@ fn by_request<F: Files>(
     requires room { IsTrue F.tells → HasRoom (F.map files.now) }
     requires request { is_managed (request_view request.now) ≡ true }
     ensures value { IsTrue F.tells → IfOk result (λ done. (p : Plain) → IsList (F.map files.old) p → p.config ≡ config.now → DoesList (F.map files.old) done (spec.by_request now.seconds sender.now message.now p (request_view request.now))) }
-    ensures act { AnswersAct ⟦<F as Files>⟧ (λ name. is_read_for_sender config.now sender.now (request_view request.now) name ≡ true) (IsDamagedFor (F.map files.old) config.now (request_view request.now)) files.old files.new result }
+    ensures found { IsTrue F.tells → IfOk result (FoundByRequest (F.map files.old) config.now sender.now message.now (request_view request.now)) }
+    ensures act { AnswersWithin (is_written_for_sender sender.now (request_view request.now)) ⟦<F as Files>⟧ (λ name. is_read_for_sender config.now sender.now (request_view request.now) name ≡ true) (IsDamagedFor (F.map files.old) config.now (request_view request.now)) files.old files.new result }
 {
     match request {
         Request::Bounce { set, number, who } => { of_bounce(alloc, files, now, *set, *number, who) }
@@ -110,7 +114,8 @@ fn of_bounce<F: Files>(
 ) -> Result<(Txn, Reply), PartError>
     requires range { IsTrue (is_in_range (Bounce set number (who_view who.now))) }
     ensures value { IsTrue F.tells → IfOk result (λ done. (p : Plain) → IsList (F.map files.old) p → DoesList (F.map files.old) done (bouncing.bounced now.seconds set number (address_named (who_view who.now)) p)) }
-    ensures act { AnswersAct ⟦<F as Files>⟧ (λ name. is_of_bounce set (address_named (who_view who.now)) name ≡ true) (IsDamagedOf (F.map files.old) Count) files.old files.new result }
+    ensures found { IsTrue F.tells → IfOk result (FoundToNote (F.map files.old) set (key (address_named (who_view who.now)))) }
+    ensures act { AnswersWithin (is_entry_of set (address_named (who_view who.now))) ⟦<F as Files>⟧ (λ name. is_of_bounce set (address_named (who_view who.now)) name ≡ true) (IsDamagedOf (F.map files.old) Count) files.old files.new result }
 {
     let x = named(alloc, who)?;
     bounced(alloc, files, now, set, number, &x)
@@ -128,7 +133,8 @@ fn of_warning<F: Files>(
 ) -> Result<(Txn, Reply), PartError>
     requires range { IsTrue (is_in_range (WarnBounce set (signed time letters.now (who_view who.now)))) }
     ensures value { IsTrue F.tells → IfOk result (λ done. (p : Plain) → IsList (F.map files.old) p → DoesList (F.map files.old) done (bouncing.warning_bounced now.seconds set (signed time letters.now (who_view who.now)) (address_named (who_view who.now)) p)) }
-    ensures act { AnswersAct ⟦<F as Files>⟧ (λ name. is_of_warning set (address_named (who_view who.now)) name ≡ true) (IsDamaged (F.map files.old)) files.old files.new result }
+    ensures found { IsTrue F.tells → IfOk result (FoundToWarn (F.map files.old) set (key (address_named (who_view who.now)))) }
+    ensures act { AnswersWithin (is_entry_of set (address_named (who_view who.now))) ⟦<F as Files>⟧ (λ name. is_of_warning set (address_named (who_view who.now)) name ≡ true) (IsDamaged (F.map files.old)) files.old files.new result }
 {
     let x = named(alloc, who)?;
     warning_bounced(alloc, files, now, set, time, letters, &x)
@@ -146,7 +152,8 @@ fn of_probe<F: Files>(
 ) -> Result<(Txn, Reply), PartError>
     requires { IsTrue (is_in_range (ProbeBounce set (signed time letters.now (who_view who.now)))) }
     ensures value { IsTrue F.tells → IfOk result (λ done. (p : Plain) → IsList (F.map files.old) p → DoesList (F.map files.old) done (bouncing.probe_bounced now set (signed time letters.now (who_view who.now)) (address_named (who_view who.now)) p)) }
-    ensures act { AnswersAct ⟦<F as Files>⟧ (λ name. is_of_probe set (address_named (who_view who.now)) name ≡ true) (IsDamaged (F.map files.old)) files.old files.new result }
+    ensures found { IsTrue F.tells → IfOk result (FoundToProbe (F.map files.old) set (key (address_named (who_view who.now)))) }
+    ensures act { AnswersWithin (is_left_by set (address_named (who_view who.now))) ⟦<F as Files>⟧ (λ name. is_of_probe set (address_named (who_view who.now)) name ≡ true) (IsDamaged (F.map files.old)) files.old files.new result }
 {
     let x = named(alloc, who)?;
     probe_bounced(alloc, files, now, set, time, letters, &x)
@@ -167,7 +174,8 @@ fn by_sender<F: Files>(
     requires room { IsTrue F.tells → HasRoom (F.map files.now) }
     requires request { is_managed (request_view request.now) ≡ true }
     ensures value { IsTrue F.tells → IfOk result (λ done. (p : Plain) → IsList (F.map files.old) p → p.config ≡ config.now → DoesList (F.map files.old) done (spec.by_sender now.seconds message.now p (request_view request.now) (address_of sender.now))) }
-    ensures act { AnswersAct ⟦<F as Files>⟧ (λ name. is_read_for config.now (address_of sender.now) (request_view request.now) name ≡ true) (IsDamagedFor (F.map files.old) config.now (request_view request.now)) files.old files.new result }
+    ensures found { IsTrue F.tells → IfOk result (FoundBySender (F.map files.old) config.now (address_of sender.now) message.now (request_view request.now)) }
+    ensures act { AnswersWithin (is_written_for (address_of sender.now) (request_view request.now)) ⟦<F as Files>⟧ (λ name. is_read_for config.now (address_of sender.now) (request_view request.now) name ≡ true) (IsDamagedFor (F.map files.old) config.now (request_view request.now)) files.old files.new result }
 {
     let Some(who) = usable(alloc, sender)? else {
         return Ok((Txn::new(alloc), Reply::plain(Reply::NOSENDER)));
@@ -210,7 +218,8 @@ fn managed<F: Files>(
     requires room { IsTrue F.tells → HasRoom (F.map files.now) }
     requires request { is_managed (request_view request.now) ≡ true }
     ensures value { IsTrue F.tells → IfOk result (λ done. (p : Plain) → IsList (F.map files.old) p → p.config ≡ config.now → DoesList (F.map files.old) done (spec.managed now.seconds sender.now p (request_view request.now))) }
-    ensures act { AnswersAct ⟦<F as Files>⟧ (λ name. is_asked_of config.now sender.now (request_view request.now) name ≡ true) (IsDamagedFor (F.map files.old) config.now (request_view request.now)) files.old files.new result }
+    ensures found { IsTrue F.tells → IfOk result (FoundManaged (F.map files.old) config.now sender.now (request_view request.now)) }
+    ensures act { AnswersWithin (is_written_of sender.now (request_view request.now)) ⟦<F as Files>⟧ (λ name. is_asked_of config.now sender.now (request_view request.now) name ≡ true) (IsDamagedFor (F.map files.old) config.now (request_view request.now)) files.old files.new result }
 {
     match request {
         Request::Subscribe { set, who } => {

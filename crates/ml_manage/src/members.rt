@@ -6,9 +6,14 @@ ghost use Rattle.ml_plain.specs.Directory.{IsList};
 ghost use Rattle.ml_plain.specs.Managing as spec;
 ghost use Rattle.ml_plain.specs.Plain.{Plain, addresses, is_in, is_moderator};
 ghost use Rattle.ml_reply.specs.declared.mails.Mail.TheVariants as mails;
-ghost use Rattle.ml_acts.specs.Acting.{AnswersAct};
+ghost use Rattle.ml_acts.specs.Acting.{AnswersWithin};
 ghost use Rattle.ml_acts.specs.Damaged.{IsDamaged};
-ghost use Rattle.ml_acts.specs.Doing.{DoesList, HasIds, is_bucket, is_bucket_of};
+ghost use Rattle.ml_acts.specs.Doing.{DoesList, HasIds, is_bucket, is_bucket_of, is_of_queue};
+ghost use Rattle.std.specs.Prelude.{List};
+ghost use Rattle.ml_base.specs.Address.{key};
+ghost use Rattle.ml_base.specs.Bytes.{Text};
+ghost use Rattle.ml_acts.specs.Found.{SpellsAddresses, TellsMember};
+ghost use Rattle.ml_manage.specs.Found.{FoundToList, TellsLister};
 ghost use Rattle.ml_manage.specs.Reads.{is_of_members};
 
 use ml_acts::{Moment, with_mail};
@@ -27,6 +32,7 @@ pub(crate) fn is_member<F: Files>(
     who: &Address,
 ) -> Result<bool, PartError>
     ensures value { IsTrue F.tells → IfOk result (λ is. (p : Plain) → IsList (F.map files.old) p → is ≡ (is_in p set who.now)) }
+    ensures found { IsTrue F.tells → IfOk result (TellsMember (F.map files.old) set (key who.now)) }
     ensures names { NamesDamaged ⟦<F as Files>⟧ (λ name. is_bucket_of set who.now name ≡ true) (IsDamaged (F.map files.old)) result }
     ensures reads { IsReading ⟦<F as Files>⟧ files.old files.new result }
 {
@@ -44,7 +50,8 @@ pub(crate) fn members<F: Files>(
 ) -> Result<(Txn, Reply), PartError>
     requires room { IsTrue F.tells → HasIds (F.map files.now) }
     ensures value { IsTrue F.tells → IfOk result (λ done. (p : Plain) → IsList (F.map files.old) p → p.config ≡ config.now → DoesList (F.map files.old) done (spec.list_members now.seconds sender.now set p (p.config.flags.l && is_moderator p sender.now))) }
-    ensures act { AnswersAct ⟦<F as Files>⟧ (λ name. is_of_members config.now sender.now set name ≡ true) (IsDamaged (F.map files.old)) files.old files.new result }
+    ensures found { IsTrue F.tells → IfOk result (FoundToList (F.map files.old) config.now set (key sender.now)) }
+    ensures act { AnswersWithin is_of_queue ⟦<F as Files>⟧ (λ name. is_of_members config.now sender.now set name ≡ true) (IsDamaged (F.map files.old)) files.old files.new result }
 {
     if !may_list(alloc, files, config, sender)? {
         return Ok((Txn::new(alloc), Reply::plain(Reply::PRIVATE)));
@@ -71,6 +78,7 @@ fn may_list<F: Files>(
     sender: &Address,
 ) -> Result<bool, PartError>
     ensures value { IsTrue F.tells → IfOk result (λ is. (p : Plain) → IsList (F.map files.old) p → p.config ≡ config.now → is ≡ (p.config.flags.l && is_moderator p sender.now)) }
+    ensures found { IsTrue F.tells → IfOk result (TellsLister (F.map files.old) config.now (key sender.now)) }
     ensures names { NamesDamaged ⟦<F as Files>⟧ (λ name. (config.now.flags.l && is_bucket_of sets.Moderators sender.now name) ≡ true) (IsDamaged (F.map files.old)) result }
     ensures reads { IsReading ⟦<F as Files>⟧ files.old files.new result }
 {
@@ -88,6 +96,7 @@ fn members_mail<F: Files>(
     set: Set,
 ) -> Result<Mail, PartError>
     ensures value { IsTrue F.tells → IfOk result (λ mail. (p : Plain) → IsList (F.map files.old) p → mail ≡ mails.Members sender.now set (addresses p set)) }
+    ensures found { IsTrue F.tells → IfOk result (λ _. (to : List Text) × SpellsAddresses (F.map files.old) set to) }
     ensures names { NamesDamaged ⟦<F as Files>⟧ (λ name. is_bucket set name ≡ true) (IsDamaged (F.map files.old)) result }
     ensures reads { IsReading ⟦<F as Files>⟧ files.old files.new result }
 {

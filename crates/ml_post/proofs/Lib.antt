@@ -8,3 +8,9 @@ mod Moderated
 mod Fitting
 mod Beside
 mod Sought
+pub mod Finding
+mod Read
+mod Judged
+mod Apart
+mod Spared
+mod Decided

@@ -104,6 +104,33 @@ posted_is found.Full e = absurd (cc)
 posted_is found.Held e = absurd (cc)
 posted_is found.Posted e = refl
 
+-- a message is held only where posts wait for the moderators, and posted only where they don't
+pub held_waits : (m : Bool) (v : Found) → outcome_of v ≡ fates.Held → rows.may_be_found m v ≡ true → m ≡ true
+held_waits m found.TooBig e may = absurd (cc)
+held_waits m found.BounceSender e may = absurd (cc)
+held_waits m found.Looped e may = absurd (cc)
+held_waits m found.Denied e may = absurd (cc)
+held_waits m found.NoSubject e may = absurd (cc)
+held_waits m found.CommandSubject e may = absurd (cc)
+held_waits m found.NotAddressed e may = absurd (cc)
+held_waits m found.UsersOnly e may = absurd (cc)
+held_waits m found.Full e may = absurd (cc)
+held_waits m found.Held e may = may
+held_waits m found.Posted e may = absurd (cc)
+
+pub posted_waits_not : (m : Bool) (v : Found) → outcome_of v ≡ fates.Posted → rows.may_be_found m v ≡ true → not m ≡ true
+posted_waits_not m found.TooBig e may = absurd (cc)
+posted_waits_not m found.BounceSender e may = absurd (cc)
+posted_waits_not m found.Looped e may = absurd (cc)
+posted_waits_not m found.Denied e may = absurd (cc)
+posted_waits_not m found.NoSubject e may = absurd (cc)
+posted_waits_not m found.CommandSubject e may = absurd (cc)
+posted_waits_not m found.NotAddressed e may = absurd (cc)
+posted_waits_not m found.UsersOnly e may = absurd (cc)
+posted_waits_not m found.Full e may = absurd (cc)
+posted_waits_not m found.Held e may = absurd (cc)
+posted_waits_not m found.Posted e may = may
+
 -- an answer of no puts
 pub does_nothing : (dir : Dir) (done : List Put × Reply) (p : Plain) (reply : Reply) (step : Plain × Reply) → step ≡ (p, reply) → done.0 ≡ [] → done.1 ≡ reply → IsList dir p → DoesList dir done step
 does_nothing dir done p reply step is e f list =
@@ -129,6 +156,23 @@ posts dir p now sender m (At n txn) done is room e f = record {
 }
 posts dir p now sender m Full done is room e f = absurd (let bad : true ≡ false = sym is ∙ room in cc)
 
+-- a message that is refused changes nothing
+refused_one : (a b : Reply) → fates.Refused a ≡ fates.Refused b → a ≡ b
+refused_one a b e = cc
+
+refused_is : (now : ℕ) (sender m : Text) (p : Plain) (reply : Reply) (v : Found) → outcome_of v ≡ fates.Refused reply → by_verdict now sender m p (rows.row_of v) ≡ (p, reply)
+refused_is now sender m p reply found.TooBig e = ap (λ (r : Reply). (p, r)) (refused_one answers.toobig reply e)
+refused_is now sender m p reply found.BounceSender e = ap (λ (r : Reply). (p, r)) (refused_one answers.nosender reply e)
+refused_is now sender m p reply found.Looped e = ap (λ (r : Reply). (p, r)) (refused_one answers.looped reply e)
+refused_is now sender m p reply found.Denied e = ap (λ (r : Reply). (p, r)) (refused_one answers.denied reply e)
+refused_is now sender m p reply found.NoSubject e = ap (λ (r : Reply). (p, r)) (refused_one answers.nosubject reply e)
+refused_is now sender m p reply found.CommandSubject e = ap (λ (r : Reply). (p, r)) (refused_one answers.command reply e)
+refused_is now sender m p reply found.NotAddressed e = ap (λ (r : Reply). (p, r)) (refused_one answers.notaddressed reply e)
+refused_is now sender m p reply found.UsersOnly e = ap (λ (r : Reply). (p, r)) (refused_one answers.usersonly reply e)
+refused_is now sender m p reply found.Full e = ap (λ (r : Reply). (p, r)) (refused_one answers.full reply e)
+refused_is now sender m p reply found.Held e = absurd (cc)
+refused_is now sender m p reply found.Posted e = absurd (cc)
+
 -- what a post does, by what follows its verdict
 module _ (dir : Dir) (p : Plain) (now : ℕ) (sender m : Text) (v : Found) (done : List Put × Reply) where
   pub follows_held : outcome_of v ≡ fates.Held → rows.row_of v ≡ verdict p sender m → (is_usable sender ≡ true → DoesList dir done (held_now now (as_address sender) m p)) → DoesList dir done (post now sender m p)
@@ -140,3 +184,6 @@ module _ (dir : Dir) (p : Plain) (now : ℕ) (sender m : Text) (v : Found) (done
   follows_posted outcome row does =
       let found = sym row ∙ posted_is v outcome in
       subst (λ (r : verdicts.Verdict). DoesList dir done (by_verdict now sender m p r)) (sym found) (does (posted_usable p sender m found) (posted_room p sender m found))
+
+  pub follows_refused : (reply : Reply) → outcome_of v ≡ fates.Refused reply → rows.row_of v ≡ verdict p sender m → done.0 ≡ [] → done.1 ≡ reply → IsList dir p → DoesList dir done (post now sender m p)
+  follows_refused reply outcome row e f is = does_nothing dir done p reply (post now sender m p) (ap (by_verdict now sender m p) (sym row) ∙ refused_is now sender m p reply v outcome) e f is

@@ -1,5 +1,5 @@
 -- A post in the archive and in the queue.
-use Rattle.std.proofs.Common.{◌≡◌, ◌⊎◌, inl, inr, ◌<◌, ◌+◌, ◌/◌, ℕ, Bool, true, false, eqb, leb, ◌&&◌, ◌||◌, not, List, [], ◌∷◌, ◌++◌, length, length-append, Option, refl, sym, ap, ◌∙◌, subst, arith}
+use Rattle.std.proofs.Common.{◌≡◌, ◌⊎◌, inl, inr, ◌<◌, ◌+◌, ◌/◌, ℕ, Bool, true, false, eqb, ◌||◌, not, List, [], ◌∷◌, ◌++◌, length, length-append, Option, refl, sym, ap, ◌∙◌, subst, arith}
 use Rattle.std.proofs.lemmas.Bool.{or_cases, or_left, or_right, eqb-true, lt-leb, le-leb}
 use Rattle.ml_base.specs.Bytes.{Text}
 use Rattle.ml_base.specs.Dir.{Dir, same_name, with_puts, touches_only}
@@ -11,21 +11,24 @@ use Rattle.ml_base.proofs.Laid.{laid_joined, left_alone}
 use Rattle.ml_filing.specs.Answers.{AppendsTo, IsAppendName, IsBadForAppend, ReadsAlike, new_post, post_thread}
 use Rattle.ml_filing.specs.Appending.{next_number}
 use Rattle.ml_filing.specs.Archive.{IsNumberFile, index_name, number_name}
-use Rattle.ml_filing.specs.Threads.{IsArchive, is_of_archive}
+use Rattle.ml_filing.specs.Reads.{IsOfNext}
+use Rattle.ml_filing.specs.Subjects.{subject, subject_key}
+use Rattle.ml_filing.specs.Threads.{IsArchive, is_of_archive, thread_name, thread_place}
 use Rattle.ml_filing.specs.declared.posts.Appended.{Appended}
 use Rattle.ml_filing.specs.declared.posts.Appended.TheVariants.{At, Full}
 use Rattle.ml_filing.specs.declared.posts.Post.{Post}
 use Rattle.ml_filing.proofs.Lengthened.{no_bad_next}
 use Rattle.ml_filing.proofs.Looking.{counted_is, no_bad_index}
 use Rattle.ml_config.specs.declared.configuration.Config.{Config}
-use Rattle.ml_plain.specs.Directory.{IsList, held_kinds, is_of_list}
+use Rattle.ml_plain.specs.Directory.{IsList, archive_kinds, held_kinds}
 use Rattle.ml_plain.specs.Mailing.{post_path, send}
 use Rattle.ml_plain.specs.Plain.{Plain, addresses, is_archive_full}
 use Rattle.ml_plain.specs.Posting.{sent_text, with_text}
 use Rattle.ml_plain.proofs.PartChanges.{posts_changed}
-use Rattle.ml_acts.specs.Doing.{Alike, is_index, is_mailed_by, is_thread_file, is_with_queue}
+use Rattle.ml_acts.specs.Doing.{Alike, is_index, is_mailed_by, is_of_posting, is_of_queue, is_thread_file, is_with_queue}
+use Rattle.ml_acts.proofs.Apart.{mailed_with}
 use Rattle.ml_acts.proofs.Placed.{index_placed, threads_placed}
-use Rattle.ml_post.specs.Publishing.{Publishes, is_beside_held, is_published_by}
+use Rattle.ml_post.specs.Publishing.{Publishes, is_beside_held, is_published_by, sent_key}
 
 -- a name of a kind is of no file that a mail to a set needs, where no name of that kind is
 of_kind : (set : Set) (name : Name) (k : ℕ) → eqb name.kind k ≡ true → is_with_queue set (record { kind = k; at = name.at }) ≡ false → is_with_queue set name ≡ false
@@ -79,11 +82,34 @@ needs_no_post name e = both_ways (is_of_archive name) (is_with_queue sets.List n
 pub needs_none_held : (set : Set) (name : Name) → is_with_queue set name ≡ true → is_beside_held name ≡ true
 needs_none_held set name e = ap not (both_ways (held_kinds name.kind) (is_with_queue set name) (held_apart set name) e)
 
--- the number of posts, where the same file has it
-count_here : (old dir : Dir) (p : Plain) (count : ℕ) → Alike is_beside_held old dir → IsList dir p → IsNumberFile (old number_name) count → count ≡ length p.posts
-count_here old dir p count alike is file = counted_is dir p.posts (is.archive).filed count (subst (λ (f : Option Text). IsNumberFile f count) (sym (alike number_name refl)) file)
+-- appending reads the same where all files but the held posts are the same
+pub reads_beside : (old dir : Dir) (p : Plain) (c : Config) (now : ℕ) (sender text : Text) → Alike is_beside_held old dir → ReadsAlike old dir c.prefix (new_post sender now text) p.posts
+reads_beside old dir p c now sender text alike = record {
+  number = alike number_name refl;
+  index = alike (index_name (next_number p.posts / 100)) refl;
+  thread = alike (post_thread c.prefix (new_post sender now text)) refl;
+}
 
-module _ (old dir : Dir) (p : Plain) (c : Config) (now : ℕ) (sender text : Text) (alike : Alike is_beside_held old dir) (is : IsList dir p) (same : p.config ≡ c) where
+-- and where the files of the post's own place are
+pub reads_placed : (old dir : Dir) (p : Plain) (c : Config) (now : ℕ) (sender text m : Text) (count : ℕ) → ((name : Name) → IsOfNext old (sent_key c m) name → dir name ≡ old name) → text ≡ sent_text c m
+    → IsNumberFile (old number_name) count → count < 99_999_999 → IsList dir p → ReadsAlike old dir c.prefix (new_post sender now text) p.posts
+reads_placed old dir p c now sender text m count placed same file less is = record {
+  number = number;
+  index = placed (index_name (next_number p.posts / 100)) (inr (inl (count, file, less, ap (λ (n : ℕ). index_name ((n + 1) / 100)) (sym counted))));
+  thread = placed (post_thread c.prefix (new_post sender now text)) (inr (inr (ap (λ (t : Text). thread_name (thread_place (subject_key c.prefix (subject t)))) same)));
+}
+  where
+    number : dir number_name ≡ old number_name
+    number = placed number_name (inl refl)
+
+    counted : count ≡ length p.posts
+    counted = counted_is dir p.posts (is.archive).filed count (subst (λ (f : Option Text). IsNumberFile f count) (sym number) file)
+
+module _ (old dir : Dir) (p : Plain) (c : Config) (now : ℕ) (sender text : Text) (reads : ReadsAlike old dir c.prefix (new_post sender now text) p.posts) (is : IsList dir p) (same : p.config ≡ c) where
+  -- the number of posts, where the same file has it
+  count_here : (count : ℕ) → IsNumberFile (old number_name) count → count ≡ length p.posts
+  count_here count file = counted_is dir p.posts (is.archive).filed count (subst (λ (f : Option Text). IsNumberFile f count) (sym reads.number) file)
+
   -- what the archive's call says of each directory that reads alike, it says of this one
   pub appended_here : (answer : Appended)
       → ((dir : Dir) (posts : List Post) → IsArchive dir c.prefix posts → ReadsAlike old dir c.prefix (new_post sender now text) posts → AppendsTo dir c.prefix posts (new_post sender now text) answer)
@@ -92,13 +118,6 @@ module _ (old dir : Dir) (p : Plain) (c : Config) (now : ℕ) (sender text : Tex
     where
       archive : IsArchive dir c.prefix p.posts
       archive = subst (λ (d : Config). IsArchive dir d.prefix p.posts) same is.archive
-
-      reads : ReadsAlike old dir c.prefix (new_post sender now text) p.posts
-      reads = record {
-        number = alike number_name refl;
-        index = alike (index_name (next_number p.posts / 100)) refl;
-        thread = alike (post_thread c.prefix (new_post sender now text)) refl;
-      }
 
   -- no number is left
   pub full_here : ((dir : Dir) (posts : List Post) → IsArchive dir c.prefix posts → ReadsAlike old dir c.prefix (new_post sender now text) posts → AppendsTo dir c.prefix posts (new_post sender now text) Full)
@@ -115,7 +134,7 @@ module _ (old dir : Dir) (p : Plain) (c : Config) (now : ℕ) (sender text : Tex
       → Publishes dir now sender m p (At (count + 1) done)
   publishes m count n txn done file e only appends mails = (
     lt-leb 99_999_999 (length p.posts) appended.0,
-    ap (λ k. k + 1) (count_here old dir p count alike is file),
+    ap (λ k. k + 1) (count_here count file),
     subst (λ (t : Text). IsList (with_puts dir done) (with_text now sender t (count + 1) p)) (e ∙ ap (λ (d : Config). sent_text d m) (sym same)) (mails after stands same),
   )
     where
@@ -157,6 +176,15 @@ mailed_behind old dir p c number text txn mail done alike only same e mails is =
     (subst (λ (d : Dir). IsList d (send (post_path c number) text (addresses p sets.List) p)) (sym (ap (λ (t : List Put). with_puts dir t) e ∙ laid_joined dir txn mail))
     (mails (with_puts dir txn) p (λ name needs. left_alone is_of_archive dir txn name only (needs_no_post name needs) ∙ alike name needs) is same))
 
+-- the same, where the files that the mail looks at are the same
+pub mailed_apart : (old dir : Dir) (p : Plain) (c : Config) (number : ℕ) (text : Text) (txn mail done : List Put) → Alike (is_mailed_by sets.List) old dir → touches_only is_of_archive txn ≡ true → p.config ≡ c
+    → done ≡ txn ++ mail → ((dir : Dir) (p : Plain) → Alike (is_mailed_by sets.List) old dir → IsList dir p → p.config ≡ c → IsList (with_puts dir mail) (send (post_path c number) text (addresses p sets.List) p))
+    → IsList (with_puts dir txn) p → IsList (with_puts dir done) (send (post_path p.config number) text (addresses p sets.List) p)
+mailed_apart old dir p c number text txn mail done alike only same e mails is =
+    subst (λ (d : Config). IsList (with_puts dir done) (send (post_path d number) text (addresses p sets.List) p)) (sym same)
+    (subst (λ (d : Dir). IsList d (send (post_path c number) text (addresses p sets.List) p)) (sym (ap (λ (t : List Put). with_puts dir t) e ∙ laid_joined dir txn mail))
+    (mails (with_puts dir txn) p (λ name needs. left_alone is_of_archive dir txn name only (needs_no_post name (mailed_with sets.List name needs)) ∙ alike name needs) is same))
+
 -- what appending says, of the same files, prefix, text and answer in other words
 module _ (now : ℕ) (sender : Text) where
   abbrev pub Appends : Dir → Text → Text → Appended → Type 0
@@ -167,21 +195,6 @@ module _ (now : ℕ) (sender : Text) where
   appends_so old new a b s t x y kept prefix text answer is =
       subst (λ (d : Dir). Appends d b t y) kept (subst (λ (p : Text). Appends new p t y) prefix (subst (λ (q : Text). Appends new a q y) text (subst (λ (r : Appended). Appends new a s r) answer is)))
 
--- the archive's files are the list's
-pub archive_listed : (name : Name) → is_of_archive name ≡ true → is_of_list name ≡ true
-archive_listed name e = any (or_cases (eqb name.kind 9 || eqb name.kind 10 || eqb name.kind 11) (eqb name.kind 20) e)
-  where
-    at : (k : ℕ) → eqb name.kind k ≡ true → ((leb 1 k && leb k 18) || eqb k 20) ≡ true → is_of_list name ≡ true
-    at k e t = ap (λ kind. (leb 1 kind && leb kind 18) || eqb kind 20) (eqb-true name.kind k e) ∙ t
-
-    two : ((eqb name.kind 9 ≡ true) ⊎ (eqb name.kind 10 ≡ true)) → is_of_list name ≡ true
-    two (inl k) = at 9 k refl
-    two (inr k) = at 10 k refl
-
-    three : (((eqb name.kind 9 || eqb name.kind 10) ≡ true) ⊎ (eqb name.kind 11 ≡ true)) → is_of_list name ≡ true
-    three (inl k) = two (or_cases (eqb name.kind 9) (eqb name.kind 10) k)
-    three (inr k) = at 11 k refl
-
-    any : (((eqb name.kind 9 || eqb name.kind 10 || eqb name.kind 11) ≡ true) ⊎ (eqb name.kind 20 ≡ true)) → is_of_list name ≡ true
-    any (inl k) = three (or_cases (eqb name.kind 9 || eqb name.kind 10) (eqb name.kind 11) k)
-    any (inr k) = at 20 k refl
+-- a post may write the archive's files
+pub archive_posting : (name : Name) → is_of_archive name ≡ true → is_of_posting name ≡ true
+archive_posting name e = or_left (archive_kinds name.kind || held_kinds name.kind) (is_of_queue name) (or_left (archive_kinds name.kind) (held_kinds name.kind) e)

@@ -1,7 +1,6 @@
 -- The first of three rows that holds.
 use Rattle.std.proofs.Common.{◌≡◌, Bool, true, false, [], ◌∷◌, length, ap, ◌∙◌, cond, sym, refl}
-use Rattle.std.specs.Prelude.{◌==◌}
-use Rattle.std.specs.Prelude.{not, ◌&&◌, ◌||◌}
+use Rattle.std.specs.Prelude.{◌==◌, not, ◌&&◌, ◌||◌, is_some, Option, Some, None}
 use Rattle.ml_base.specs.Address.{key}
 use Rattle.ml_base.specs.Bytes.{Text, is_empty, lower}
 use Rattle.ml_base.specs.Dir.{same_name}
@@ -13,7 +12,6 @@ use Rattle.ml_config.specs.declared.configuration.Config.{Config}
 use Rattle.ml_header.proofs.Headers.{no_bytes}
 use Rattle.ml_header.specs.Fields.{FieldText, field, has_field}
 use Rattle.std.specs.Option.{option_map}
-use Rattle.std.specs.Prelude.{is_some, Option, Some, None}
 use Rattle.ml_plain.specs.Plain.{Plain, first_row}
 use Rattle.ml_plain.specs.Verdicts.{Verdict, Denied, NoSubject, CommandSubject, NotAddressed, UsersOnly, is_command, is_addressed}
 use Rattle.ml_post.specs.Judging.{of_sender, of_room, is_judged_by}
@@ -56,7 +54,7 @@ abbrev read_by_key : Config → Text → Name → Bool
 read_by_key c k name =
     (c.flags.k && same_name name (bucket_name sets.Deny (bucket_of k)))
     || (c.flags.u && (same_name name (bucket_name sets.List (bucket_of k)) || same_name name (bucket_name sets.Digest (bucket_of k)) || same_name name (bucket_name sets.Allow (bucket_of k)) || same_name name (bucket_name sets.Moderators (bucket_of k))))
-    || same_name name number_name
+    || (not c.flags.m && same_name name number_name)
 
 pub same_files : (c : Config) (who sender : Text) (name : Name) → key who ≡ key sender → is_judged_by c who name ≡ is_judged_by c sender name
 same_files c who sender name e = ap (λ (k : Text). read_by_key c k name) e

@@ -1,18 +1,22 @@
 -- A post that waits, and the mail that asks about it.
-use Rattle.std.proofs.Common.{◌≡◌, ◌⊎◌, inl, inr, ℕ, Bool, true, false, eqb, leb, ◌&&◌, ◌||◌, not, List, refl, ap, subst, arith}
-use Rattle.std.proofs.lemmas.Bool.{or_cases, and_from, eqb-true}
+use Rattle.std.proofs.Common.{◌≡◌, ℕ, Bool, true, false, ◌||◌, not, List, Option, refl, sym, ap, subst, arith}
+use Rattle.std.proofs.lemmas.Bool.{and_from, or_left, or_right}
 use Rattle.ml_base.specs.Bytes.{Text}
 use Rattle.ml_base.specs.Dir.{Dir, with_puts, touches_only}
 use Rattle.ml_base.specs.declared.names.Name.{Name}
 use Rattle.ml_base.specs.declared.puts.Put.{Put}
 use Rattle.ml_base.proofs.Laid.{left_alone}
 use Rattle.ml_config.specs.declared.configuration.Config.{Config}
+use Rattle.ml_base.specs.Drawn.{IsCounter}
+use Rattle.ml_drawn.specs.Answers.{IsDrawing}
+use Rattle.ml_drawn.proofs.OfFiles.{drawing}
 use Rattle.ml_drawn.specs.Names.{is_of_series}
 use Rattle.ml_drawn.specs.declared.series.Series.TheVariants.{Tickets}
-use Rattle.ml_hold.specs.Held.{Pending, IsPending, hold}
+use Rattle.ml_hold.specs.Answers.{tickets_name}
+use Rattle.ml_hold.specs.Held.{Pending, IsHeld, IsPending, held_text, hold}
 use Rattle.ml_plain.specs.declared.Reply.{Reply}
 use Rattle.ml_plain.specs.Answers as answers
-use Rattle.ml_plain.specs.Directory.{IsList, held_kinds, is_of_list}
+use Rattle.ml_plain.specs.Directory.{IsList, archive_kinds, held_kinds}
 use Rattle.ml_plain.specs.Mailing.{mail_moderators, moderate_mail}
 use Rattle.ml_plain.specs.Plain.{Plain}
 use Rattle.ml_plain.specs.Posting.{held_now}
@@ -22,8 +26,8 @@ use Rattle.ml_config.specs.declared.key_file.Keys.{Keys}
 use Rattle.ml_base.specs.declared.names.Set.TheVariants as sets
 use Rattle.ml_hold.specs.declared.posts.Held.{Held}
 use Rattle.ml_subs.specs.Subscribers.{is_of_set}
-use Rattle.ml_acts.specs.Doing.{Alike, DoesList, HasIds, HasRoom, is_beside_mail, is_beside_queue, is_of_queue, is_with_queue}
-use Rattle.ml_acts.proofs.Queued.{touches_weaker, waits, held_own}
+use Rattle.ml_acts.specs.Doing.{Alike, DoesList, HasIds, HasRoom, is_beside_mail, is_beside_mark, is_beside_queue, is_of_posting, is_of_queue, is_with_queue}
+use Rattle.ml_acts.proofs.Queued.{held_own, posting_beside, touches_weaker, waits}
 use Rattle.ml_post.specs.Publishing.{is_beside_held}
 use Rattle.ml_post.proofs.Posts.{held_apart}
 
@@ -35,23 +39,23 @@ not_then false e = refl
 pub beside_held : (dir : Dir) (puts : List Put) → touches_only (λ name. held_kinds name.kind) puts ≡ true → Alike is_beside_held dir (with_puts dir puts)
 beside_held dir puts only name e = left_alone (λ name. held_kinds name.kind) dir puts name only (not_then (held_kinds name.kind) e)
 
-pub held_listed : (name : Name) → held_kinds name.kind ≡ true → is_of_list name ≡ true
-held_listed name e = go (or_cases (eqb name.kind 13) (eqb name.kind 14) e)
-  where
-    go : ((eqb name.kind 13 ≡ true) ⊎ (eqb name.kind 14 ≡ true)) → is_of_list name ≡ true
-    go (inl k) = ap (λ kind. (leb 1 kind && leb kind 18) || eqb kind 20) (eqb-true name.kind 13 k)
-    go (inr k) = ap (λ kind. (leb 1 kind && leb kind 18) || eqb kind 20) (eqb-true name.kind 14 k)
+-- a post may write the held posts
+pub held_posting : (name : Name) → held_kinds name.kind ≡ true → is_of_posting name ≡ true
+held_posting name e = or_left (archive_kinds name.kind || held_kinds name.kind) (is_of_queue name) (or_right (archive_kinds name.kind) (held_kinds name.kind) e)
+
+pub held_posted : (puts : List Put) → touches_only (λ name. held_kinds name.kind) puts ≡ true → touches_only is_of_posting puts ≡ true
+held_posted puts e = touches_weaker (λ name. held_kinds name.kind) is_of_posting puts held_posting e
 
 -- files that a mail to a set needs are none of the held posts
 pub held_beside_mail : (puts : List Put) → touches_only (is_of_series Tickets) puts ≡ true → touches_only (is_beside_mail sets.Moderators) puts ≡ true
 held_beside_mail puts e =
     touches_weaker (is_of_series Tickets) (is_beside_mail sets.Moderators) puts
-    (λ name own. let held = waits name own in and_from (is_of_list name) (not (is_with_queue sets.Moderators name)) (held_listed name held) (ap not (held_apart sets.Moderators name held))) e
+    (λ name own. let held = waits name own in and_from (is_beside_mark name) (not (is_with_queue sets.Moderators name)) (posting_beside name (held_posting name held)) (ap not (held_apart sets.Moderators name held))) e
 
 pub held_beside_queue : (puts : List Put) → touches_only (λ name. held_kinds name.kind) puts ≡ true → touches_only is_beside_queue puts ≡ true
 held_beside_queue puts e =
     touches_weaker (λ name. held_kinds name.kind) is_beside_queue puts
-    (λ name held. and_from (is_of_list name) (not (is_of_queue name)) (held_listed name held) (ap not (no_queue (is_of_queue name) (is_of_set sets.List name) (held_apart sets.List name held)))) e
+    (λ name held. and_from (is_beside_mark name) (not (is_of_queue name)) (posting_beside name (held_posting name held)) (ap not (no_queue (is_of_queue name) (is_of_set sets.List name) (held_apart sets.List name held)))) e
   where
     no_queue : (a b : Bool) → (a || b) ≡ false → a ≡ false
     no_queue true b e = e
@@ -78,3 +82,10 @@ asks dir p c keys now ticket m mail txn done same own asked does = subst (λ (t 
 -- there are ids where an item can draw what it may
 pub has_ids : (dir : Dir) → HasRoom dir → HasIds dir
 has_ids dir room low next counted = let top = room.ids low next counted in omega (arith, top)
+
+-- a post that is held by the next ticket, on every directory that has the same one
+pub waiting_apart : (old dir : Dir) (held : Held) (ticket : ℕ) (txn : List Put) → IsHeld held → dir tickets_name ≡ old tickets_name → IsDrawing old Tickets (held_text held) ticket txn
+    → (pending : Pending) → IsPending dir pending → (ticket ≡ pending.next) × IsPending (with_puts dir txn) (hold held pending)
+waiting_apart old dir held ticket txn is same drawn pending stands =
+    drawing IsHeld held_text Tickets dir held ticket txn pending is
+    (record { low = drawn.low; counted = subst (λ (f : Option Text). IsCounter f drawn.low ticket) (sym same) drawn.counted; drawn = drawn.drawn; are = drawn.are }) stands

@@ -1,12 +1,19 @@
 -- What moderators answer about posts that wait.
-use Rattle.std.specs.Prelude.{◌≡◌, ℕ, Bool, true, false, ◌&&◌, ◌||◌}
+use Rattle.std.specs.Prelude.{◌≡◌, ◌⊎◌, ℕ, Bool, true, false, ◌&&◌, ◌||◌, codes}
+use Rattle.std.specs.Fmt.{decimal}
+use Rattle.std.specs.Option.{option_map, option_map_or}
 use Rattle.ml_filing.specs.Threads.{is_of_archive}
+use Rattle.ml_address.specs.Cookies.{is_cookie_of}
+use Rattle.ml_base.specs.Bytes.{Text}
 use Rattle.ml_base.specs.Dir.{Dir, same_name}
+use Rattle.ml_base.specs.Name.{set_word}
 use Rattle.ml_base.specs.Ranges.{is_drawn}
 use Rattle.ml_base.specs.declared.names.Name.{Name}
-use Rattle.ml_config.specs.KeyFile.{key_name}
+use Rattle.ml_base.specs.declared.names.Set.TheVariants as sets
+use Rattle.ml_config.specs.KeyFile.{IsKeyFile, key_name}
 use Rattle.ml_config.specs.declared.configuration.Config.{Config}
-use Rattle.ml_hold.specs.Answers.{post_name, tickets_name}
+use Rattle.ml_config.specs.declared.key_file.Keys.{Keys}
+use Rattle.ml_hold.specs.Answers.{IsPostName, post_name, tickets_name}
 use Rattle.ml_hold.specs.Held.{IsHeldFile}
 use Rattle.ml_hold.specs.declared.posts.Held.{Held}
 use Rattle.ml_queue.specs.Answers.{ids_name}
@@ -44,7 +51,36 @@ is_answered_by ticket accept name = same_name name key_name || is_followed_by ti
 abbrev pub IsBadForTicket : Dir → Config → ℕ → Name → Type 0
 IsBadForTicket dir c ticket name = (held : Held) × IsHeldFile (dir (post_name ticket)) held × IsBadFor dir (Next (sent_key c held.message)) name
 
--- a damaged file: one of the archive is damaged for the post of the ticket, and no other
-pub record IsDamagedOfTicket (dir : Dir) (c : Config) (ticket : ℕ) (name : Name) : Type 0 where
+-- whether letters are the cookie of a post that is held under a ticket since a moment, by these keys
+abbrev pub is_ticket_cookie : Keys → ℕ → ℕ → Text → Bool
+is_ticket_cookie keys ticket moment letters =
+    is_cookie_of keys.key (option_map (λ f. f.key) keys.former) (option_map_or (λ f. f.changed) keys.former 0) (codes "hold")
+    (set_word sets.Moderators) moment (decimal ticket) letters
+
+-- letters are this cookie by the keys that the files hold
+pub record IsSigned (dir : Dir) (ticket moment : ℕ) (letters : Text) : Type 0 where
+  pub keys : Keys
+  pub kept : IsKeyFile (dir key_name) keys
+  pub right : is_ticket_cookie keys ticket moment letters ≡ true
+
+-- what an answer reads once the post is found: the keys, and only if the letters are its cookie what follows
+abbrev pub IsReadOfHeld : Dir → ℕ → ℕ → Text → Bool → Name → Type 0
+IsReadOfHeld dir ticket moment letters accept name =
+    (name ≡ key_name) ⊎ (IsSigned dir ticket moment letters × (is_followed_by ticket accept name ≡ true))
+
+-- what an answer reads, step by step: the post of the ticket, and only if one waits there the rest
+abbrev pub IsReadOfTicket : Dir → ℕ → Text → Bool → Name → Type 0
+IsReadOfTicket dir ticket letters accept name =
+    IsPostName ticket name ⊎ ((held : Held) × IsHeldFile (dir (post_name ticket)) held × IsReadOfHeld dir ticket held.moment letters accept name)
+
+-- a damaged file that an answer with these letters reads once the post is found: one of the archive is damaged for that post, and no other
+pub record IsDamagedOfHeld (dir : Dir) (c : Config) (ticket : ℕ) (held : Held) (letters : Text) (accept : Bool) (name : Name) : Type 0 where
+  pub damaged : IsDamaged dir name
+  pub own : is_of_archive name ≡ true → IsBadFor dir (Next (sent_key c held.message)) name
+  pub read : IsReadOfHeld dir ticket held.moment letters accept name
+
+-- a damaged file that an answer with these letters reads: one of the archive is damaged for the post of the ticket, and no other
+pub record IsDamagedOfTicket (dir : Dir) (c : Config) (ticket : ℕ) (letters : Text) (accept : Bool) (name : Name) : Type 0 where
   pub damaged : IsDamaged dir name
   pub own : is_of_archive name ≡ true → IsBadForTicket dir c ticket name
+  pub read : IsReadOfTicket dir ticket letters accept name

@@ -1,16 +1,14 @@
 -- What is found of a post, and the files that tell it.
-use Rattle.std.specs.Prelude.{Bool, not, ◌&&◌, ◌||◌, [], ◌∷◌}
-use Rattle.ml_base.specs.Bytes.{Text}
+use Rattle.std.specs.Prelude.{Bool, true, not, ◌&&◌, ◌||◌, [], ◌∷◌}
+use Rattle.ml_base.specs.Bytes.{Text, lower, is_empty}
 use Rattle.ml_base.specs.Dir.{same_name}
 use Rattle.ml_base.specs.declared.names.Name.{Name}
 use Rattle.ml_base.specs.declared.names.Set.TheVariants as sets
 use Rattle.ml_filing.specs.Archive.{number_name}
 use Rattle.ml_config.specs.declared.configuration.Config.{Config}
 use Rattle.ml_filing.specs.Subjects.{subject}
-use Rattle.ml_base.specs.Bytes.{lower, is_empty}
 use Rattle.ml_plain.specs.Plain.{Plain, is_in, is_archive_full, first_row}
-use Rattle.ml_plain.specs.Verdicts.{is_command, is_addressed, is_user}
-use Rattle.ml_plain.specs.Verdicts.{Verdict, TooBig, BounceSender, Looped, Denied, NoSubject, CommandSubject, NotAddressed, UsersOnly, Held, Full, Posted}
+use Rattle.ml_plain.specs.Verdicts.{is_command, is_addressed, is_user, Verdict, TooBig, BounceSender, Looped, Denied, NoSubject, CommandSubject, NotAddressed, UsersOnly, Held, Full, Posted}
 use Rattle.ml_acts.specs.Doing.{is_bucket_of}
 use Rattle.ml_post.specs.declared.verdicts.Verdict.{Verdict as Found}
 use Rattle.ml_post.specs.declared.verdicts.Verdict.TheVariants as found
@@ -48,7 +46,15 @@ of_sender p who m = first_row ((p.config.flags.k && is_in p sets.Deny who, Denie
 abbrev pub is_of_user : Text → Name → Bool
 is_of_user who name = is_bucket_of sets.List who name || is_bucket_of sets.Digest who name || is_bucket_of sets.Allow who name || is_bucket_of sets.Moderators who name
 
+-- whether this can be found of a post, by whether posts wait for the moderators: it is held only where they do, and full or posted only
+-- where they don't
+abbrev pub may_be_found : Bool → Found → Bool
+may_be_found moderated found.Held = moderated
+may_be_found moderated found.Full = not moderated
+may_be_found moderated found.Posted = not moderated
+may_be_found moderated _ = true
+
 -- the files that a verdict may read: the sender's in the deny list where there is one, his in the users' sets where only users
--- may post, and the number of posts
+-- may post, and the number of posts where they don't wait for the moderators
 abbrev pub is_judged_by : Config → Text → Name → Bool
-is_judged_by c sender name = (c.flags.k && is_bucket_of sets.Deny sender name) || (c.flags.u && is_of_user sender name) || same_name name number_name
+is_judged_by c sender name = (c.flags.k && is_bucket_of sets.Deny sender name) || (c.flags.u && is_of_user sender name) || (not c.flags.m && same_name name number_name)

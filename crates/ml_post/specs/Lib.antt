@@ -4,5 +4,8 @@ pub mod SentPieces
 pub mod Publishing
 pub mod Holding
 pub mod Posting
+pub mod Found
+pub mod Deciding
 pub mod Answering
 pub mod Places
+pub mod Alike

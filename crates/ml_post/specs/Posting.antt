@@ -1,5 +1,5 @@
 -- What follows a verdict.
-use Rattle.std.specs.Prelude.{Bool, ◌||◌}
+use Rattle.std.specs.Prelude.{Bool, not, ◌&&◌, ◌||◌}
 use Rattle.ml_base.specs.Bytes.{Text}
 use Rattle.ml_base.specs.declared.names.Name.{Name}
 use Rattle.ml_filing.specs.declared.posts.Appended.{Appended}
@@ -34,6 +34,7 @@ abbrev pub reply_of : Appended → Reply
 reply_of (At number txn) = answers.posted number
 reply_of Full = answers.full
 
--- the files that a post may read: those of its verdict, and those that are read where it is held or taken
+-- the files that a post may read: those of its verdict, and where posts wait for the moderators those that are read where it is held, and
+-- else those that are read where it is taken
 abbrev pub is_posted_by : Config → Text → Name → Bool
-is_posted_by c sender name = is_judged_by c sender name || is_held_by name || is_published_by name
+is_posted_by c sender name = is_judged_by c sender name || (c.flags.m && is_held_by name) || (not c.flags.m && is_published_by name)

@@ -1,7 +1,8 @@
 // What a moderator answers about a post that waits.
-ghost use Rattle.std.specs.Prelude.{◌≡◌, true, false, Some, IsTrue, IfOk, codes};
+ghost use Rattle.std.specs.Prelude.{◌≡◌, true, false, Some, IsTrue, IfErr, IfOk, codes};
 ghost use Rattle.std.specs.Fmt.{decimal};
-ghost use Rattle.ml_base.specs.Dir.{are_files, touches_only, with_puts};
+ghost use Rattle.ml_base.specs.Dir.{Dir, are_files, touches_only, with_puts};
+ghost use Rattle.ml_base.specs.PartErrors.{OnDamaged};
 ghost use Rattle.ml_base.specs.Ranges.{IsMoment, is_drawn};
 ghost use Rattle.ml_base.specs.ReadFiles.{IsReading, NamesDamaged};
 ghost use Rattle.ml_base.specs.declared.names.Set.TheVariants as sets;
@@ -14,12 +15,17 @@ ghost use Rattle.ml_plain.specs.Mailing as mailing;
 ghost use Rattle.ml_plain.specs.Managing as spec;
 ghost use Rattle.ml_plain.specs.Plain.{Plain, is_archive_full};
 ghost use Rattle.ml_config.specs.Configuration.{IsConfig};
-ghost use Rattle.ml_acts.specs.Acting.{AnswersAct};
+ghost use Rattle.ml_config.specs.KeyFile.{key_name};
+ghost use Rattle.ml_acts.specs.Acting.{AnswersPost as AnswersAct};
 ghost use Rattle.ml_acts.specs.Asked.{IsDamagedOf, Next};
 ghost use Rattle.ml_acts.specs.Configured.{with_config};
 ghost use Rattle.ml_acts.specs.Doing.{DoesList, HasIds};
+ghost use Rattle.ml_drawn.specs.Answers.{IsTaking};
+ghost use Rattle.ml_drawn.specs.declared.series.Series.TheVariants.{Tickets};
+ghost use Rattle.ml_post.specs.Alike.{AlikeForAnswer, AlikeToFollow, AlikeToTake};
+ghost use Rattle.ml_post.specs.Deciding.{FoundByDecision, FoundOfHeld, FoundToAccept, FoundToDecide, FoundToReject};
 ghost use Rattle.ml_post.specs.Publishing.{sent_key};
-ghost use Rattle.ml_post.specs.Answering.{IsDamagedOfTicket, accepts, is_accepted_by, is_answered_by, is_followed_by, is_rejected_by, is_taken_by};
+ghost use Rattle.ml_post.specs.Answering.{IsDamagedOfHeld, IsDamagedOfTicket, accepts, is_accepted_by, is_answered_by, is_followed_by, is_rejected_by, is_taken_by, is_ticket_cookie};
 
 use crate::holding::list_keys;
 use crate::publishing::publish;
@@ -67,7 +73,10 @@ pub fn answer<F: Files>(
     requires moment { IsMoment now }
     requires room { IsTrue F.tells → HasIds (F.map files.now) }
     ensures value { IsTrue F.tells → IsConfig config.now → IfOk result (λ done. (p : Plain) → IsList (with_config config.now (F.map files.old)) p → DoesList (with_config config.now (F.map files.old)) done (spec.answer now ticket letters.now accept p)) }
-    ensures act { AnswersAct ⟦<F as Files>⟧ (λ name. is_answered_by ticket accept name ≡ true) (IsDamagedOfTicket (with_config config.now (F.map files.old)) config.now ticket) files.old files.new result }
+    ensures apart { IsTrue F.tells → IfOk result (λ done. (dir : Dir) (p : Plain) → AlikeForAnswer config.now ticket accept (F.map files.old) dir → IsList dir p → p.config ≡ config.now → DoesList dir done (spec.answer now ticket letters.now accept p)) }
+    ensures spared { IsTrue F.tells → (dir : Dir) (p : Plain) → AlikeForAnswer config.now ticket accept (F.map files.old) dir → IsList dir p → IfErr result (λ e. OnDamaged e (λ _. ⊥)) }
+    ensures found { IsTrue F.tells → IfOk result (FoundByDecision (with_config config.now (F.map files.old)) config.now ticket accept) }
+    ensures act { AnswersAct ⟦<F as Files>⟧ (λ name. is_answered_by ticket accept name ≡ true) (IsDamagedOfTicket (with_config config.now (F.map files.old)) config.now ticket letters.now accept) files.old files.new result }
 {
     decide(
         alloc,
@@ -85,7 +94,8 @@ pub fn answer<F: Files>(
 /// `gone` where no post waits under the ticket, and `badcookie` where the letters aren't its cookie. A post that is accepted is posted
 /// and waits no longer; `full` where the archive is full, and then it still waits. One that is rejected goes back to its sender. All
 /// this is said of the files with the configuration in the place of theirs. Of the archive `Damaged` names the number of posts, the index of
-/// the next number's group, or the thread file of the subject key of the post that waits.
+/// the next number's group, or the thread file of the subject key of the post that waits. The keys are looked at only where a post waits
+/// under the ticket, and what its acceptance or rejection reads only where the letters are its cookie.
 pub fn decide<F: Files>(
     alloc: Global,
     files: &mut F,
@@ -98,7 +108,10 @@ pub fn decide<F: Files>(
     requires moment { IsMoment now }
     requires room { IsTrue F.tells → HasIds (F.map files.now) }
     ensures value { IsTrue F.tells → IsConfig config.now → IfOk result (λ done. (p : Plain) → IsList (with_config config.now (F.map files.old)) p → DoesList (with_config config.now (F.map files.old)) done (spec.answer now ticket letters.now (accepts decision) p)) }
-    ensures act { AnswersAct ⟦<F as Files>⟧ (λ name. is_answered_by ticket (accepts decision) name ≡ true) (IsDamagedOfTicket (with_config config.now (F.map files.old)) config.now ticket) files.old files.new result }
+    ensures apart { IsTrue F.tells → IfOk result (λ done. (dir : Dir) (p : Plain) → AlikeForAnswer config.now ticket (accepts decision) (F.map files.old) dir → IsList dir p → p.config ≡ config.now → DoesList dir done (spec.answer now ticket letters.now (accepts decision) p)) }
+    ensures spared { IsTrue F.tells → (dir : Dir) (p : Plain) → AlikeForAnswer config.now ticket (accepts decision) (F.map files.old) dir → IsList dir p → IfErr result (λ e. OnDamaged e (λ _. ⊥)) }
+    ensures found { IsTrue F.tells → IfOk result (FoundByDecision (with_config config.now (F.map files.old)) config.now ticket (accepts decision)) }
+    ensures act { AnswersAct ⟦<F as Files>⟧ (λ name. is_answered_by ticket (accepts decision) name ≡ true) (IsDamagedOfTicket (with_config config.now (F.map files.old)) config.now ticket letters.now (accepts decision)) files.old files.new result }
 {
     let mut under = Configured::new(files, config);
     answer_ticket(
@@ -124,7 +137,10 @@ fn answer_ticket<F: Files>(
 ) -> Result<(Txn, Reply), PartError>
     requires room { IsTrue F.tells → HasIds (F.map files.now) }
     ensures value { IsTrue F.tells → IfOk result (λ done. (p : Plain) → IsList (F.map files.old) p → p.config ≡ config.now → DoesList (F.map files.old) done (spec.answer now.seconds ticket letters.now (accepts decision) p)) }
-    ensures act { AnswersAct ⟦<F as Files>⟧ (λ name. is_answered_by ticket (accepts decision) name ≡ true) (IsDamagedOfTicket (F.map files.old) config.now ticket) files.old files.new result }
+    ensures apart { IsTrue F.tells → IfOk result (λ done. (dir : Dir) (p : Plain) → AlikeForAnswer config.now ticket (accepts decision) (F.map files.old) dir → IsList dir p → p.config ≡ config.now → DoesList dir done (spec.answer now.seconds ticket letters.now (accepts decision) p)) }
+    ensures spared { IsTrue F.tells → (dir : Dir) (p : Plain) → AlikeForAnswer config.now ticket (accepts decision) (F.map files.old) dir → IsList dir p → IfErr result (λ e. OnDamaged e (λ _. ⊥)) }
+    ensures found { IsTrue F.tells → IfOk result (FoundByDecision (F.map files.old) config.now ticket (accepts decision)) }
+    ensures act { AnswersAct ⟦<F as Files>⟧ (λ name. is_answered_by ticket (accepts decision) name ≡ true) (IsDamagedOfTicket (F.map files.old) config.now ticket letters.now (accepts decision)) files.old files.new result }
 {
     let Some(held) = look(alloc, files, ticket)? else {
         return Ok((Txn::new(alloc), Reply::plain(Reply::GONE)));
@@ -146,7 +162,10 @@ fn answer_held<F: Files>(
     requires drawn { IsTrue (is_drawn ticket) }
     requires room { IsTrue F.tells → HasIds (F.map files.now) }
     ensures value { IsTrue F.tells → IfOk result (λ done. (p : Plain) → IsList (F.map files.old) p → p.config ≡ config.now → held_post ticket p.held ≡ Some held.now → DoesList (F.map files.old) done (spec.answer_held now.seconds ticket letters.now p (accepts decision) (Some held.now))) }
-    ensures act { AnswersAct ⟦<F as Files>⟧ (λ name. is_answered_by ticket (accepts decision) name ≡ true) (IsDamagedOf (F.map files.old) (Next (sent_key config.now held.now.message))) files.old files.new result }
+    ensures apart { IsTrue F.tells → IfOk result (λ done. (dir : Dir) (p : Plain) → dir key_name ≡ F.map files.old key_name → AlikeToFollow config.now ticket held.now.message (accepts decision) (F.map files.old) dir → IsList dir p → p.config ≡ config.now → held_post ticket p.held ≡ Some held.now → DoesList dir done (spec.answer_held now.seconds ticket letters.now p (accepts decision) (Some held.now))) }
+    ensures spared { IsTrue F.tells → (dir : Dir) (p : Plain) → dir key_name ≡ F.map files.old key_name → AlikeToFollow config.now ticket held.now.message (accepts decision) (F.map files.old) dir → IsList dir p → IfErr result (λ e. OnDamaged e (λ _. ⊥)) }
+    ensures found { IsTrue F.tells → IfOk result (FoundOfHeld (F.map files.old) config.now ticket (accepts decision)) }
+    ensures act { AnswersAct ⟦<F as Files>⟧ (λ name. is_answered_by ticket (accepts decision) name ≡ true) (IsDamagedOfHeld (F.map files.old) config.now ticket held.now letters.now (accepts decision)) files.old files.new result }
 {
     let keys = list_keys(alloc, files)?;
     if !is_signed(&keys, ticket, held.moment, letters) {
@@ -157,7 +176,8 @@ fn answer_held<F: Files>(
 
 // Whether letters are the cookie of a post that is held under a ticket since a moment.
 fn is_signed(keys: &Keys, ticket: u64, moment: u64, letters: &[u8; 20]) -> bool
-    ensures { (p : Plain) → p.keys ≡ keys.now → result ≡ mailing.is_cookie p (codes "hold") sets.Moderators moment (decimal ticket) letters.now }
+    ensures value { (p : Plain) → p.keys ≡ keys.now → result ≡ mailing.is_cookie p (codes "hold") sets.Moderators moment (decimal ticket) letters.now }
+    ensures letters { result ≡ is_ticket_cookie keys.now ticket moment letters.now }
 {
     let mut digits = [0; 20];
     let len = write_number(ticket, &mut digits);
@@ -184,6 +204,9 @@ fn follow<F: Files>(
     requires drawn { IsTrue (is_drawn ticket) }
     requires room { IsTrue F.tells → HasIds (F.map files.now) }
     ensures value { IsTrue F.tells → IfOk result (λ done. (p : Plain) → IsList (F.map files.old) p → p.config ≡ config.now → held_post ticket p.held ≡ Some held.now → DoesList (F.map files.old) done (spec.answered now.seconds ticket held.now p (accepts decision))) }
+    ensures apart { IsTrue F.tells → IfOk result (λ done. (dir : Dir) (p : Plain) → AlikeToFollow config.now ticket held.now.message (accepts decision) (F.map files.old) dir → IsList dir p → p.config ≡ config.now → held_post ticket p.held ≡ Some held.now → DoesList dir done (spec.answered now.seconds ticket held.now p (accepts decision))) }
+    ensures spared { IsTrue F.tells → (dir : Dir) (p : Plain) → AlikeToFollow config.now ticket held.now.message (accepts decision) (F.map files.old) dir → IsList dir p → IfErr result (λ e. OnDamaged e (λ _. ⊥)) }
+    ensures found { IsTrue F.tells → IfOk result (FoundToDecide (F.map files.old) config.now ticket (accepts decision)) }
     ensures act { AnswersAct ⟦<F as Files>⟧ (λ name. is_followed_by ticket (accepts decision) name ≡ true) (IsDamagedOf (F.map files.old) (Next (sent_key config.now held.now.message))) files.old files.new result }
 {
     match decision {
@@ -204,6 +227,9 @@ fn accepted<F: Files>(
     requires drawn { IsTrue (is_drawn ticket) }
     requires room { IsTrue F.tells → HasIds (F.map files.now) }
     ensures value { IsTrue F.tells → IfOk result (λ done. (p : Plain) → IsList (F.map files.old) p → p.config ≡ config.now → held_post ticket p.held ≡ Some held.now → DoesList (F.map files.old) done (spec.accepted now.seconds ticket held.now p (is_archive_full p))) }
+    ensures apart { IsTrue F.tells → IfOk result (λ done. (dir : Dir) (p : Plain) → AlikeToFollow config.now ticket held.now.message true (F.map files.old) dir → IsList dir p → p.config ≡ config.now → held_post ticket p.held ≡ Some held.now → DoesList dir done (spec.answered now.seconds ticket held.now p true)) }
+    ensures spared { IsTrue F.tells → (dir : Dir) (p : Plain) → AlikeToFollow config.now ticket held.now.message true (F.map files.old) dir → IsList dir p → IfErr result (λ e. OnDamaged e (λ _. ⊥)) }
+    ensures found { IsTrue F.tells → IfOk result (FoundToAccept (F.map files.old) config.now ticket) }
     ensures act { AnswersAct ⟦<F as Files>⟧ (λ name. is_accepted_by ticket name ≡ true) (IsDamagedOf (F.map files.old) (Next (sent_key config.now held.now.message))) files.old files.new result }
 {
     let message = held.message.as_slice();
@@ -239,6 +265,9 @@ fn rejected<F: Files>(
     requires drawn { IsTrue (is_drawn ticket) }
     requires room { IsTrue F.tells → HasIds (F.map files.now) }
     ensures value { IsTrue F.tells → IfOk result (λ done. (p : Plain) → IsList (F.map files.old) p → p.config ≡ config.now → held_post ticket p.held ≡ Some held.now → DoesList (F.map files.old) done (spec.answered now.seconds ticket held.now p false)) }
+    ensures apart { IsTrue F.tells → IfOk result (λ done. (dir : Dir) (p : Plain) → AlikeToFollow config.now ticket held.now.message false (F.map files.old) dir → IsList dir p → p.config ≡ config.now → held_post ticket p.held ≡ Some held.now → DoesList dir done (spec.answered now.seconds ticket held.now p false)) }
+    ensures spared { IsTrue F.tells → (dir : Dir) (p : Plain) → AlikeToFollow config.now ticket held.now.message false (F.map files.old) dir → IsList dir p → IfErr result (λ e. OnDamaged e (λ _. ⊥)) }
+    ensures found { IsTrue F.tells → IfOk result (FoundToReject (F.map files.old) ticket) }
     ensures act { AnswersAct ⟦<F as Files>⟧ (λ name. is_rejected_by ticket name ≡ true) (IsDamagedOf (F.map files.old) (Next (sent_key config.now held.now.message))) files.old files.new result }
 {
     let txn = taken(alloc, files, ticket)?;
@@ -260,6 +289,9 @@ fn rejection(alloc: Global, held: &Held) -> Result<Mail, AllocError>
 fn taken<F: Files>(alloc: Global, files: &mut F, ticket: u64) -> Result<Txn, PartError>
     requires { IsTrue (is_drawn ticket) }
     ensures value { IsTrue F.tells → IfOk result (λ txn. (p : Plain) (held : TheHeld) → IsList (F.map files.old) p → held_post ticket p.held ≡ Some held → IsList (with_puts (F.map files.old) txn) (record p { held = without_ticket ticket p.held })) }
+    ensures apart { IsTrue F.tells → IfOk result (λ txn. (dir : Dir) (p : Plain) (held : TheHeld) → AlikeToTake ticket (F.map files.old) dir → IsList dir p → held_post ticket p.held ≡ Some held → IsList (with_puts dir txn) (record p { held = without_ticket ticket p.held })) }
+    ensures spared { IsTrue F.tells → (dir : Dir) (p : Plain) → AlikeToTake ticket (F.map files.old) dir → IsList dir p → IfErr result (λ e. OnDamaged e (λ _. ⊥)) }
+    ensures found { IsTrue F.tells → IfOk result (IsTaking (F.map files.old) Tickets ticket) }
     ensures own { IfOk result (λ txn. touches_only (λ name. held_kinds name.kind) txn ≡ true) }
     ensures files { IfOk result (λ txn. IsTrue (are_files txn)) }
     ensures names { NamesDamaged ⟦<F as Files>⟧ (λ name. is_taken_by ticket name ≡ true) (waiting.Breaks (F.map files.old)) result }

@@ -3,19 +3,23 @@ ghost use Rattle.std.specs.Prelude.{◌≡◌, ◌≤◌, true, IsTrue, IfOk, le
 ghost use Rattle.ml_address.specs.Requests.{Accept, Reject, is_cookie, is_in_range};
 ghost use Rattle.ml_address.specs.Views.{request_view};
 ghost use Rattle.ml_address.specs.Writing.{request_text};
+ghost use Rattle.ml_base.specs.Address.{IsAddress};
 ghost use Rattle.ml_base.specs.Dir.{Dir, are_files, touches_only, with_puts};
 ghost use Rattle.ml_base.specs.Ranges.{is_drawn};
 ghost use Rattle.ml_base.specs.ReadFiles.{IsReading, NamesDamaged};
 ghost use Rattle.ml_config.specs.Configuration.{IsConfig};
-ghost use Rattle.ml_config.specs.KeyFile.{key_name};
+ghost use Rattle.ml_config.specs.KeyFile.{IsKeyFile, key_name};
 ghost use Rattle.ml_plain.specs.Answers as answers;
 ghost use Rattle.ml_plain.specs.Directory.{IsList};
 ghost use Rattle.ml_plain.specs.Mailing as mailing;
 ghost use Rattle.ml_plain.specs.Plain.{Plain};
 ghost use Rattle.ml_plain.specs.Posting as spec;
-ghost use Rattle.ml_acts.specs.Acting.{AnswersAct};
+ghost use Rattle.ml_acts.specs.Acting.{AnswersPost as AnswersAct};
 ghost use Rattle.ml_acts.specs.Damaged.{IsDamaged, IsNoKeys};
-ghost use Rattle.ml_acts.specs.Doing.{DoesList, HasIds, HasRoom};
+ghost use Rattle.ml_acts.specs.Found.{AddsMailToSet, TellsKeys};
+ghost use Rattle.ml_post.specs.Found.{FoundToHold};
+ghost use Rattle.ml_base.specs.declared.names.Set.TheVariants as sets;
+ghost use Rattle.ml_acts.specs.Doing.{Alike, DoesList, HasIds, HasRoom};
 ghost use Rattle.ml_drawn.specs.Names.{is_of_series};
 ghost use Rattle.ml_drawn.specs.declared.series.Series.TheVariants.{Tickets};
 ghost use Rattle.ml_post.specs.Holding.{is_asked_by, is_held_by};
@@ -42,6 +46,8 @@ pub(crate) fn hold_post<F: Files>(
     requires size { length message.now ≤ 33_554_432 }
     requires room { IsTrue F.tells → HasRoom (F.map files.now) }
     ensures value { IsTrue F.tells → IfOk result (λ done. (p : Plain) → IsList (F.map files.old) p → p.config ≡ config.now → DoesList (F.map files.old) done (spec.held_now now.seconds sender message.now p)) }
+    ensures apart { IsTrue F.tells → IfOk result (λ done. (dir : Dir) (p : Plain) → IsAddress sender → Alike is_held_by (F.map files.old) dir → IsList dir p → p.config ≡ config.now → DoesList dir done (spec.held_now now.seconds sender message.now p)) }
+    ensures found { IsTrue F.tells → IfOk result (FoundToHold (F.map files.old)) }
     ensures act { AnswersAct ⟦<F as Files>⟧ (λ name. is_held_by name ≡ true) (IsDamaged (F.map files.old)) files.old files.new result }
 {
     let held = Held {
@@ -72,6 +78,8 @@ fn ask<F: Files>(
     requires own { touches_only (is_of_series Tickets) txn ≡ true }
     requires files { IsTrue (are_files txn) }
     ensures value { IsTrue F.tells → IfOk result (λ done. (p : Plain) → IsList (with_puts (F.map files.old) txn) p → p.config ≡ config.now → DoesList (F.map files.old) done (mailing.mail_moderators now.seconds (mailing.moderate_mail p ticket now.seconds message) p, answers.held ticket)) }
+    ensures apart { IsTrue F.tells → IfOk result (λ done. (dir : Dir) (p : Plain) → Alike is_asked_by (F.map files.old) dir → IsList (with_puts dir txn) p → p.config ≡ config.now → DoesList dir done (mailing.mail_moderators now.seconds (mailing.moderate_mail p ticket now.seconds message) p, answers.held ticket)) }
+    ensures found { IsTrue F.tells → IfOk result (λ done. TellsKeys (F.map files.old) × AddsMailToSet (F.map files.old) sets.Moderators txn done.0 × (done.1 ≡ answers.held ticket)) }
     ensures act { AnswersAct ⟦<F as Files>⟧ (λ name. is_asked_by name ≡ true) (IsDamaged (F.map files.old)) files.old files.new result }
 {
     let keys = list_keys(alloc, files)?;
@@ -170,7 +178,9 @@ fn ticket_cookie(keys: &Keys, ticket: u64, moment: u64) -> [u8; 20]
 // The keys of the list.
 pub(crate) fn list_keys<F: Files>(alloc: Global, files: &mut F) -> Result<Keys, PartError>
     ensures value { IsTrue F.tells → IfOk result (λ keys. (dir : Dir) (p : Plain) → dir key_name ≡ F.map files.old key_name → IsList dir p → p.keys ≡ keys) }
+    ensures held { IsTrue F.tells → IfOk result (IsKeyFile (F.map files.old key_name)) }
     ensures names { NamesDamaged ⟦<F as Files>⟧ (λ name. name ≡ key_name) (λ _. IsNoKeys (F.map files.old)) result }
+    ensures found { IsTrue F.tells → IfOk result (IsKeyFile (F.map files.old key_name)) }
     ensures reads { IsReading ⟦<F as Files>⟧ files.old files.new result }
 {
     key(alloc, files)

@@ -8,13 +8,15 @@ ghost use Rattle.ml_plain.specs.Directory.{IsList};
 ghost use Rattle.ml_plain.specs.Plain.{Plain, is_in};
 ghost use Rattle.ml_plain.specs.Verdicts as spec;
 ghost use Rattle.ml_filing.specs.Archive.{number_name};
-ghost use Rattle.ml_base.specs.Dir.{same_name};
+ghost use Rattle.ml_base.specs.Dir.{Dir, same_name};
 ghost use Rattle.ml_base.specs.declared.names.Set.TheVariants as sets;
 ghost use Rattle.ml_config.specs.Configuration.{IsConfig};
 ghost use Rattle.ml_acts.specs.Asked.{Count, IsDamagedOf};
 ghost use Rattle.ml_acts.specs.Configured.{with_config};
-ghost use Rattle.ml_acts.specs.Doing.{is_bucket_of};
-ghost use Rattle.ml_post.specs.Judging.{row_of, is_judged_by, is_of_user};
+ghost use Rattle.ml_acts.specs.Doing.{Alike, is_bucket_of};
+ghost use Rattle.ml_acts.specs.Found.{EitherTells, TellsMember};
+ghost use Rattle.ml_post.specs.Found.{FoundOfPost, FoundOfRoom, FoundOfSender, FoundOfText, FoundOfUser, TellsDenied, TellsStranger, TellsUser};
+ghost use Rattle.ml_post.specs.Judging.{row_of, is_judged_by, is_of_user, may_be_found};
 ghost use Rattle.ml_post.specs.Judging as rows;
 ghost use Rattle.ml_post.specs.declared.verdicts.Verdict.TheVariants.{TooBig};
 
@@ -31,8 +33,8 @@ use std::alloc::{AllocError, Global};
 /// What is found of a post of an envelope sender: the first row of the table that holds.
 ///
 /// Of the files it reads the sender's bucket of the deny list, where the list has one; his buckets of the sets list, digest,
-/// allow and mod, where only users may post; and the number of posts. `Damaged` names one of these that is outside its
-/// grammar. `Fault` comes only where a read failed. All this is said of the files with the configuration in the place of theirs.
+/// allow and mod, where only users may post; and the number of posts, where posts don't wait for the moderators. `Damaged`
+/// names one of these that is outside its grammar. `Fault` comes only where a read failed. All this is said of the files with the configuration in the place of theirs.
 pub fn verdict<F: Files>(
     alloc: Global,
     files: &mut F,
@@ -41,9 +43,13 @@ pub fn verdict<F: Files>(
     message: &Message<'_>,
 ) -> Result<Verdict, PartError>
     ensures value { IsTrue F.tells → IsConfig config.now → IfOk result (λ found. (p : Plain) → IsList (with_config config.now (F.map files.old)) p → row_of found ≡ spec.verdict p sender.now message.now) }
+    ensures apart { IsTrue F.tells → IfOk result (λ found. (dir : Dir) (p : Plain) → Alike (is_judged_by config.now sender.now) (F.map files.old) dir → IsList dir p → p.config ≡ config.now → row_of found ≡ spec.verdict p sender.now message.now) }
+    ensures spared { IsTrue F.tells → (dir : Dir) (p : Plain) → Alike (is_judged_by config.now sender.now) (F.map files.old) dir → IsList dir p → IfErr result (λ e. OnDamaged e (λ _. ⊥)) }
+    ensures moderated { IfOk result (λ found. may_be_found config.now.flags.m found ≡ true) }
     ensures fits { IfOk result (λ found. found ≢ TooBig → length message.now ≤ config.now.max) }
     ensures names { NamesDamaged ⟦<F as Files>⟧ (λ name. is_judged_by config.now sender.now name ≡ true) (IsDamagedOf (with_config config.now (F.map files.old)) Count) result }
     ensures sound { IsTrue F.tells → (p : Plain) → IsList (with_config config.now (F.map files.old)) p → IfErr result (λ e. OnDamaged e (λ _. ⊥)) }
+    ensures found { IsTrue F.tells → IfOk result (FoundOfPost (with_config config.now (F.map files.old)) config.now sender.now message.now) }
     ensures reads { IsReading ⟦<F as Files>⟧ files.old files.new result }
 {
     let mut under = Configured::new(files, config);
@@ -59,8 +65,11 @@ pub(crate) fn judged<F: Files>(
     message: &Message<'_>,
 ) -> Result<Verdict, PartError>
     ensures value { IsTrue F.tells → IfOk result (λ found. (p : Plain) → IsList (F.map files.old) p → p.config ≡ config.now → row_of found ≡ spec.verdict p sender.now message.now) }
+    ensures apart { IsTrue F.tells → IfOk result (λ found. (dir : Dir) (p : Plain) → Alike (is_judged_by config.now sender.now) (F.map files.old) dir → IsList dir p → p.config ≡ config.now → row_of found ≡ spec.verdict p sender.now message.now) }
+    ensures moderated { IfOk result (λ found. may_be_found config.now.flags.m found ≡ true) }
     ensures fits { IfOk result (λ found. found ≢ TooBig → length message.now ≤ config.now.max) }
     ensures names { NamesDamaged ⟦<F as Files>⟧ (λ name. is_judged_by config.now sender.now name ≡ true) (IsDamagedOf (F.map files.old) Count) result }
+    ensures found { IsTrue F.tells → IfOk result (FoundOfPost (F.map files.old) config.now sender.now message.now) }
     ensures reads { IsReading ⟦<F as Files>⟧ files.old files.new result }
 {
     if message.bytes().len() as u64 > config.max {
@@ -95,7 +104,10 @@ fn of_sender<F: Files>(
     message: &Message<'_>,
 ) -> Result<Verdict, PartError>
     ensures value { IsTrue F.tells → IfOk result (λ found. (p : Plain) → IsList (F.map files.old) p → p.config ≡ config.now → row_of found ≡ rows.of_sender p who.now message.now) }
+    ensures apart { IsTrue F.tells → IfOk result (λ found. (dir : Dir) (p : Plain) → Alike (is_judged_by config.now who.now) (F.map files.old) dir → IsList dir p → p.config ≡ config.now → row_of found ≡ rows.of_sender p who.now message.now) }
+    ensures moderated { IfOk result (λ found. may_be_found config.now.flags.m found ≡ true) }
     ensures names { NamesDamaged ⟦<F as Files>⟧ (λ name. is_judged_by config.now who.now name ≡ true) (IsDamagedOf (F.map files.old) Count) result }
+    ensures found { IsTrue F.tells → IfOk result (FoundOfSender (F.map files.old) config.now (key who.now) message.now) }
     ensures reads { IsReading ⟦<F as Files>⟧ files.old files.new result }
 {
     if is_denied(alloc, files, config, who)? {
@@ -113,6 +125,7 @@ fn is_denied<F: Files>(
 ) -> Result<bool, PartError>
     ensures value { IsTrue F.tells → IfOk result (λ is. (p : Plain) → IsList (F.map files.old) p → p.config ≡ config.now → is ≡ (p.config.flags.k && is_in p sets.Deny who.now)) }
     ensures names { NamesDamaged ⟦<F as Files>⟧ (λ name. is_judged_by config.now who.now name ≡ true) (IsDamagedOf (F.map files.old) Count) result }
+    ensures found { IsTrue F.tells → IfOk result (TellsDenied (F.map files.old) config.now (key who.now)) }
     ensures reads { IsReading ⟦<F as Files>⟧ files.old files.new result }
 {
     if !config.flags.k {
@@ -130,7 +143,10 @@ fn of_text<F: Files>(
     message: &Message<'_>,
 ) -> Result<Verdict, PartError>
     ensures value { IsTrue F.tells → IfOk result (λ found. (p : Plain) → IsList (F.map files.old) p → p.config ≡ config.now → row_of found ≡ rows.of_text p who.now message.now) }
+    ensures apart { IsTrue F.tells → IfOk result (λ found. (dir : Dir) (p : Plain) → Alike (is_judged_by config.now who.now) (F.map files.old) dir → IsList dir p → p.config ≡ config.now → row_of found ≡ rows.of_text p who.now message.now) }
+    ensures moderated { IfOk result (λ found. may_be_found config.now.flags.m found ≡ true) }
     ensures names { NamesDamaged ⟦<F as Files>⟧ (λ name. is_judged_by config.now who.now name ≡ true) (IsDamagedOf (F.map files.old) Count) result }
+    ensures found { IsTrue F.tells → IfOk result (FoundOfText (F.map files.old) config.now (key who.now) message.now) }
     ensures reads { IsReading ⟦<F as Files>⟧ files.old files.new result }
 {
     let subject = subject(alloc, message)?;
@@ -165,7 +181,9 @@ fn of_user<F: Files>(
     who: &Address,
 ) -> Result<Verdict, PartError>
     ensures value { IsTrue F.tells → IfOk result (λ found. (p : Plain) → IsList (F.map files.old) p → p.config ≡ config.now → row_of found ≡ rows.of_user p who.now) }
+    ensures moderated { IfOk result (λ found. may_be_found config.now.flags.m found ≡ true) }
     ensures names { NamesDamaged ⟦<F as Files>⟧ (λ name. is_judged_by config.now who.now name ≡ true) (IsDamagedOf (F.map files.old) Count) result }
+    ensures found { IsTrue F.tells → IfOk result (FoundOfUser (F.map files.old) config.now (key who.now)) }
     ensures reads { IsReading ⟦<F as Files>⟧ files.old files.new result }
 {
     if is_stranger(alloc, files, config, who)? {
@@ -183,6 +201,7 @@ fn is_stranger<F: Files>(
 ) -> Result<bool, PartError>
     ensures value { IsTrue F.tells → IfOk result (λ is. (p : Plain) → IsList (F.map files.old) p → p.config ≡ config.now → is ≡ (p.config.flags.u && not (spec.is_user p who.now))) }
     ensures names { NamesDamaged ⟦<F as Files>⟧ (λ name. is_judged_by config.now who.now name ≡ true) (IsDamagedOf (F.map files.old) Count) result }
+    ensures found { IsTrue F.tells → IfOk result (TellsStranger (F.map files.old) config.now (key who.now)) }
     ensures reads { IsReading ⟦<F as Files>⟧ files.old files.new result }
 {
     if !config.flags.u {
@@ -196,6 +215,7 @@ fn is_stranger<F: Files>(
 fn is_user<F: Files>(alloc: Global, files: &mut F, who: &Address) -> Result<bool, PartError>
     ensures value { IsTrue F.tells → IfOk result (λ is. (p : Plain) → IsList (F.map files.old) p → is ≡ (spec.is_user p who.now)) }
     ensures names { NamesDamaged ⟦<F as Files>⟧ (λ name. is_of_user who.now name ≡ true) (IsDamagedOf (F.map files.old) Count) result }
+    ensures found { IsTrue F.tells → IfOk result (TellsUser (F.map files.old) (key who.now)) }
     ensures reads { IsReading ⟦<F as Files>⟧ files.old files.new result }
 {
     if is_in_either(alloc, files, Set::List, Set::Digest, who)? {
@@ -214,6 +234,7 @@ fn is_in_either<F: Files>(
 ) -> Result<bool, PartError>
     ensures value { IsTrue F.tells → IfOk result (λ is. (p : Plain) → IsList (F.map files.old) p → is ≡ (is_in p first who.now || is_in p second who.now)) }
     ensures names { NamesDamaged ⟦<F as Files>⟧ (λ name. (is_bucket_of first who.now name || is_bucket_of second who.now name) ≡ true) (IsDamagedOf (F.map files.old) Count) result }
+    ensures found { IsTrue F.tells → IfOk result (EitherTells (TellsMember (F.map files.old) first (key who.now)) (TellsMember (F.map files.old) second (key who.now))) }
     ensures reads { IsReading ⟦<F as Files>⟧ files.old files.new result }
 {
     if is_member(alloc, files, first, who)? {
@@ -231,6 +252,7 @@ fn is_member<F: Files>(
 ) -> Result<bool, PartError>
     ensures value { IsTrue F.tells → IfOk result (λ is. (p : Plain) → IsList (F.map files.old) p → is ≡ (is_in p set who.now)) }
     ensures names { NamesDamaged ⟦<F as Files>⟧ (λ name. is_bucket_of set who.now name ≡ true) (IsDamagedOf (F.map files.old) Count) result }
+    ensures found { IsTrue F.tells → IfOk result (TellsMember (F.map files.old) set (key who.now)) }
     ensures reads { IsReading ⟦<F as Files>⟧ files.old files.new result }
 {
     member(alloc, files, set, who)
@@ -239,7 +261,9 @@ fn is_member<F: Files>(
 // What is found of a post that its sender may send: whether it waits, and whether there is room for it.
 fn of_room<F: Files>(alloc: Global, files: &mut F, config: &Config) -> Result<Verdict, PartError>
     ensures value { IsTrue F.tells → IfOk result (λ found. (p : Plain) → IsList (F.map files.old) p → p.config ≡ config.now → row_of found ≡ rows.of_room p) }
-    ensures names { NamesDamaged ⟦<F as Files>⟧ (λ name. same_name name number_name ≡ true) (IsDamagedOf (F.map files.old) Count) result }
+    ensures moderated { IfOk result (λ found. may_be_found config.now.flags.m found ≡ true) }
+    ensures names { NamesDamaged ⟦<F as Files>⟧ (λ name. (not config.now.flags.m && same_name name number_name) ≡ true) (IsDamagedOf (F.map files.old) Count) result }
+    ensures found { IsTrue F.tells → IfOk result (FoundOfRoom (F.map files.old) config.now) }
     ensures reads { IsReading ⟦<F as Files>⟧ files.old files.new result }
 {
     if config.flags.m {

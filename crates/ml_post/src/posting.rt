@@ -1,18 +1,22 @@
 // A message that is mailed to the list's own address.
-ghost use Rattle.std.specs.Prelude.{◌≡◌, ◌≤◌, true, false, IsTrue, IfOk, length};
+ghost use Rattle.std.specs.Prelude.{◌≡◌, ◌≤◌, true, false, IsTrue, IfErr, IfOk, length};
 ghost use Rattle.ml_filing.specs.Answers.{puts_of};
 ghost use Rattle.ml_base.specs.Address.{as_address};
+ghost use Rattle.ml_base.specs.Dir.{Dir};
+ghost use Rattle.ml_base.specs.PartErrors.{OnDamaged};
 ghost use Rattle.ml_base.specs.Ranges.{IsMoment};
 ghost use Rattle.ml_config.specs.Configuration.{IsConfig};
 ghost use Rattle.ml_plain.specs.Directory.{IsList};
 ghost use Rattle.ml_plain.specs.Plain.{Plain, is_archive_full};
 ghost use Rattle.ml_plain.specs.Posting as spec;
 ghost use Rattle.ml_plain.specs.Verdicts as verdicts;
-ghost use Rattle.ml_acts.specs.Acting.{AnswersAct};
+ghost use Rattle.ml_acts.specs.Acting.{AnswersPost as AnswersAct};
 ghost use Rattle.ml_acts.specs.Asked.{IsDamagedOf, Next};
 ghost use Rattle.ml_acts.specs.Configured.{with_config};
 ghost use Rattle.ml_acts.specs.Damaged.{IsDamaged};
-ghost use Rattle.ml_acts.specs.Doing.{DoesList, HasIds, HasRoom};
+ghost use Rattle.ml_acts.specs.Doing.{Alike, DoesList, HasIds, HasRoom};
+ghost use Rattle.ml_post.specs.Alike.{AlikeForPost, AlikeToPublish};
+ghost use Rattle.ml_post.specs.Found.{FoundByPost, FoundToHold, FoundToTake};
 ghost use Rattle.ml_post.specs.Holding.{is_held_by};
 ghost use Rattle.ml_post.specs.Posting.{outcome_of, is_posted_by, reply_of};
 ghost use Rattle.ml_post.specs.Publishing.{is_published_by, sent_key};
@@ -47,6 +51,9 @@ pub fn post<F: Files>(
     requires config { IsConfig config.now }
     requires room { IsTrue F.tells → HasRoom (F.map files.now) }
     ensures value { IsTrue F.tells → IfOk result (λ done. (p : Plain) → IsList (with_config config.now (F.map files.old)) p → DoesList (with_config config.now (F.map files.old)) done (spec.post now sender.now message.now p)) }
+    ensures apart { IsTrue F.tells → IfOk result (λ done. (dir : Dir) (p : Plain) → AlikeForPost config.now sender.now message.now (F.map files.old) dir → IsList dir p → p.config ≡ config.now → DoesList dir done (spec.post now sender.now message.now p)) }
+    ensures spared { IsTrue F.tells → (dir : Dir) (p : Plain) → AlikeForPost config.now sender.now message.now (F.map files.old) dir → IsList dir p → IfErr result (λ e. OnDamaged e (λ _. ⊥)) }
+    ensures found { IsTrue F.tells → IfOk result (FoundByPost (with_config config.now (F.map files.old)) config.now sender.now message.now) }
     ensures act { AnswersAct ⟦<F as Files>⟧ (λ name. is_posted_by config.now sender.now name ≡ true) (IsDamagedOf (with_config config.now (F.map files.old)) (Next (sent_key config.now message.now))) files.old files.new result }
 {
     let mut memo = MailMemo::new();
@@ -67,6 +74,9 @@ pub fn post_with_memo<F: Files>(
     requires config { IsConfig config.now }
     requires room { IsTrue F.tells → HasRoom (F.map files.now) }
     ensures value { IsTrue F.tells → IfOk result (λ done. (p : Plain) → IsList (with_config config.now (F.map files.old)) p → DoesList (with_config config.now (F.map files.old)) done (spec.post now sender.now message.now p)) }
+    ensures apart { IsTrue F.tells → IfOk result (λ done. (dir : Dir) (p : Plain) → AlikeForPost config.now sender.now message.now (F.map files.old) dir → IsList dir p → p.config ≡ config.now → DoesList dir done (spec.post now sender.now message.now p)) }
+    ensures spared { IsTrue F.tells → (dir : Dir) (p : Plain) → AlikeForPost config.now sender.now message.now (F.map files.old) dir → IsList dir p → IfErr result (λ e. OnDamaged e (λ _. ⊥)) }
+    ensures found { IsTrue F.tells → IfOk result (FoundByPost (with_config config.now (F.map files.old)) config.now sender.now message.now) }
     ensures act { AnswersAct ⟦<F as Files>⟧ (λ name. is_posted_by config.now sender.now name ≡ true) (IsDamagedOf (with_config config.now (F.map files.old)) (Next (sent_key config.now message.now))) files.old files.new result }
 {
     let mut under = Configured::new(files, config);
@@ -94,6 +104,9 @@ fn post_judged<F: Files>(
     requires config { IsConfig config.now }
     requires room { IsTrue F.tells → HasRoom (F.map files.now) }
     ensures value { IsTrue F.tells → IfOk result (λ done. (p : Plain) → IsList (F.map files.old) p → p.config ≡ config.now → DoesList (F.map files.old) done (spec.post now.seconds sender.now message.now p)) }
+    ensures apart { IsTrue F.tells → IfOk result (λ done. (dir : Dir) (p : Plain) → AlikeForPost config.now sender.now message.now (F.map files.old) dir → IsList dir p → p.config ≡ config.now → DoesList dir done (spec.post now.seconds sender.now message.now p)) }
+    ensures spared { IsTrue F.tells → (dir : Dir) (p : Plain) → AlikeForPost config.now sender.now message.now (F.map files.old) dir → IsList dir p → IfErr result (λ e. OnDamaged e (λ _. ⊥)) }
+    ensures found { IsTrue F.tells → IfOk result (FoundByPost (F.map files.old) config.now sender.now message.now) }
     ensures act { AnswersAct ⟦<F as Files>⟧ (λ name. is_posted_by config.now sender.now name ≡ true) (IsDamagedOf (F.map files.old) (Next (sent_key config.now message.now))) files.old files.new result }
 {
     let found = judged(alloc, files, config, sender, &Message::scan(message))?;
@@ -144,6 +157,8 @@ fn hold_message<F: Files>(
     requires size { length message.now ≤ 33_554_432 }
     requires room { IsTrue F.tells → HasRoom (F.map files.now) }
     ensures value { IsTrue F.tells → IfOk result (λ done. (p : Plain) → IsList (F.map files.old) p → p.config ≡ config.now → verdicts.is_usable sender.now ≡ true → DoesList (F.map files.old) done (spec.held_now now.seconds (as_address sender.now) message.now p)) }
+    ensures apart { IsTrue F.tells → IfOk result (λ done. (dir : Dir) (p : Plain) → Alike is_held_by (F.map files.old) dir → IsList dir p → p.config ≡ config.now → verdicts.is_usable sender.now ≡ true → DoesList dir done (spec.held_now now.seconds (as_address sender.now) message.now p)) }
+    ensures found { IsTrue F.tells → IfOk result (λ done. verdicts.is_usable sender.now ≡ true → FoundToHold (F.map files.old) done) }
     ensures act { AnswersAct ⟦<F as Files>⟧ (λ name. is_held_by name ≡ true) (IsDamaged (F.map files.old)) files.old files.new result }
 {
     match usable(alloc, sender)? {
@@ -164,6 +179,9 @@ fn post_message<F: Files>(
 ) -> Result<(Txn, Reply), PartError>
     requires room { IsTrue F.tells → HasIds (F.map files.now) }
     ensures value { IsTrue F.tells → IfOk result (λ done. (p : Plain) → IsList (F.map files.old) p → p.config ≡ config.now → verdicts.is_usable sender.now ≡ true → is_archive_full p ≡ false → DoesList (F.map files.old) done (spec.posted_now now.seconds (as_address sender.now) message.now p)) }
+    ensures apart { IsTrue F.tells → IfOk result (λ done. (dir : Dir) (p : Plain) → AlikeToPublish config.now message.now (F.map files.old) dir → IsList dir p → p.config ≡ config.now → verdicts.is_usable sender.now ≡ true → is_archive_full p ≡ false → DoesList dir done (spec.posted_now now.seconds (as_address sender.now) message.now p)) }
+    ensures spared { IsTrue F.tells → (dir : Dir) (p : Plain) → AlikeToPublish config.now message.now (F.map files.old) dir → IsList dir p → IfErr result (λ e. OnDamaged e (λ _. ⊥)) }
+    ensures found { IsTrue F.tells → IfOk result (λ done. verdicts.is_usable sender.now ≡ true → FoundToTake (F.map files.old) config.now.prefix done) }
     ensures act { AnswersAct ⟦<F as Files>⟧ (λ name. is_published_by name ≡ true) (IsDamagedOf (F.map files.old) (Next (sent_key config.now message.now))) files.old files.new result }
 {
     let Some(who) = usable(alloc, sender)? else {

@@ -6,13 +6,16 @@ ghost use Rattle.ml_base.specs.ReadFiles.{IsReading, NamesDamaged};
 ghost use Rattle.ml_base.specs.declared.names.Set.TheVariants as sets;
 ghost use Rattle.ml_filing.specs.Answers.{puts_of};
 ghost use Rattle.ml_filing.specs.Threads.{is_of_archive};
-ghost use Rattle.ml_plain.specs.Directory.{IsList, is_of_list};
+ghost use Rattle.ml_plain.specs.Directory.{IsList};
 ghost use Rattle.ml_plain.specs.Mailing as mailing;
 ghost use Rattle.ml_plain.specs.Plain.{Plain, addresses};
 ghost use Rattle.ml_plain.specs.Posting as spec;
 ghost use Rattle.ml_acts.specs.Asked.{IsDamagedOf, Next};
 ghost use Rattle.ml_acts.specs.Damaged.{IsDamaged};
-ghost use Rattle.ml_acts.specs.Doing.{Alike, HasIds, is_mailed_by, is_of_queue, is_with_queue};
+ghost use Rattle.ml_acts.specs.Doing.{Alike, HasIds, is_mailed_by, is_of_posting, is_of_queue, is_with_queue};
+ghost use Rattle.ml_acts.specs.Found.{AddsMailToSet, QueuesToSet};
+ghost use Rattle.ml_post.specs.Alike.{AlikeToPublish};
+ghost use Rattle.ml_post.specs.Found.{FoundToPublish};
 ghost use Rattle.ml_post.specs.Publishing.{Publishes, is_beside_held, is_published_by, number_of, sent_key};
 
 use crate::sending::sent_text;
@@ -35,10 +38,13 @@ pub(crate) fn publish<F: Files>(
 ) -> Result<Appended, PartError>
     requires room { IsTrue F.tells → HasIds (F.map files.now) }
     ensures value { IsTrue F.tells → IfOk result (λ answer. (dir : Dir) (p : Plain) → Alike is_beside_held (F.map files.old) dir → IsList dir p → p.config ≡ config.now → Publishes dir now.seconds sender.now message.now p answer) }
-    ensures own { IfOk result (λ answer. touches_only is_of_list (puts_of answer) ≡ true) }
+    ensures apart { IsTrue F.tells → IfOk result (λ answer. (dir : Dir) (p : Plain) → AlikeToPublish config.now message.now (F.map files.old) dir → IsList dir p → p.config ≡ config.now → Publishes dir now.seconds sender.now message.now p answer) }
+    ensures spared { IsTrue F.tells → (dir : Dir) (p : Plain) → AlikeToPublish config.now message.now (F.map files.old) dir → IsList dir p → IfErr result (λ e. OnDamaged e (λ _. ⊥)) }
+    ensures own { IfOk result (λ answer. touches_only is_of_posting (puts_of answer) ≡ true) }
     ensures files { IfOk result (λ answer. IsTrue (are_files (puts_of answer))) }
     ensures number { IfOk result (λ answer. number_of answer ≤ 99_999_999) }
     ensures names { NamesDamaged ⟦<F as Files>⟧ (λ name. is_published_by name ≡ true) (IsDamagedOf (F.map files.old) (Next (sent_key config.now message.now))) result }
+    ensures found { IsTrue F.tells → IfOk result (FoundToPublish (F.map files.old) config.now.prefix) }
     ensures reads { IsReading ⟦<F as Files>⟧ files.old files.new result }
 {
     let count = count(alloc, files)?;
@@ -70,9 +76,11 @@ fn with_mail<F: Files>(
     requires files { IsTrue (are_files txn) }
     requires room { IsTrue F.tells → HasIds (F.map files.now) }
     ensures value { IsTrue F.tells → IfOk result (λ done. (dir : Dir) (p : Plain) → Alike (is_with_queue sets.List) (F.map files.old) dir → IsList (with_puts dir txn) p → p.config ≡ config.now → IsList (with_puts dir done) (mailing.send (mailing.post_path p.config number) text (addresses p sets.List) p)) }
-    ensures own { IfOk result (λ done. touches_only is_of_list done ≡ true) }
+    ensures apart { IsTrue F.tells → IfOk result (λ done. (dir : Dir) (p : Plain) → Alike (is_mailed_by sets.List) (F.map files.old) dir → IsList (with_puts dir txn) p → p.config ≡ config.now → IsList (with_puts dir done) (mailing.send (mailing.post_path p.config number) text (addresses p sets.List) p)) }
+    ensures own { IfOk result (λ done. touches_only is_of_posting done ≡ true) }
     ensures files { IfOk result (λ done. IsTrue (are_files done)) }
     ensures names { NamesDamaged ⟦<F as Files>⟧ (λ name. is_mailed_by sets.List name ≡ true) (IsDamaged (F.map files.old)) result }
+    ensures found { IsTrue F.tells → IfOk result (AddsMailToSet (F.map files.old) sets.List txn) }
     ensures reads { IsReading ⟦<F as Files>⟧ files.old files.new result }
 {
     let mail = mail_members(alloc, files, memo, config, number, text)?;
@@ -104,9 +112,11 @@ fn mail_members<F: Files>(
 ) -> Result<Txn, PartError>
     requires room { IsTrue F.tells → HasIds (F.map files.now) }
     ensures value { IsTrue F.tells → IfOk result (λ txn. (dir : Dir) (p : Plain) → Alike (is_with_queue sets.List) (F.map files.old) dir → IsList dir p → p.config ≡ config.now → IsList (with_puts dir txn) (mailing.send (mailing.post_path config.now number) text (addresses p sets.List) p)) }
+    ensures apart { IsTrue F.tells → IfOk result (λ txn. (dir : Dir) (p : Plain) → Alike (is_mailed_by sets.List) (F.map files.old) dir → IsList dir p → p.config ≡ config.now → IsList (with_puts dir txn) (mailing.send (mailing.post_path config.now number) text (addresses p sets.List) p)) }
     ensures own { IfOk result (λ txn. touches_only is_of_queue txn ≡ true) }
     ensures files { IfOk result (λ txn. IsTrue (are_files txn)) }
     ensures names { NamesDamaged ⟦<F as Files>⟧ (λ name. is_mailed_by sets.List name ≡ true) (IsDamaged (F.map files.old)) result }
+    ensures found { IsTrue F.tells → IfOk result (QueuesToSet (F.map files.old) sets.List) }
     ensures reads { IsReading ⟦<F as Files>⟧ files.old files.new result }
 {
     let path = post_path(alloc, config, number)?;

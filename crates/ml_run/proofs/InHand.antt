@@ -77,6 +77,7 @@ alone_next item count files who name ranges typed of = record {
   number = of.number;
   reads = of.reads;
   asked = of.asked;
+  none = of.none;
   next = λ all ending alone. of.next all ending
       (subst (λ (e : StreamEnd). Brings (Some (spelled_item item)) all e) (sym alone.1) (subst (λ (items : List Item). Brings (Some (spelled_item item)) items End) (sym alone.0) (brings_item item ranges typed)));
 }

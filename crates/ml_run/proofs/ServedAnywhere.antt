@@ -19,8 +19,10 @@ use Rattle.ml_plain.specs.Directory.{IsState}
 use Rattle.ml_plain.specs.Histories.{State, step}
 use Rattle.ml_plain.specs.Replies.{is_code, is_status}
 use Rattle.ml_list.specs.Again.{CountsOnce}
+use Rattle.ml_list.specs.Found.{FoundWhole}
 use Rattle.ml_list.specs.Applying.{Does}
-use Rattle.ml_list.specs.Written.{is_written_by}
+use Rattle.ml_list.specs.Looked.{AlikeFor}
+use Rattle.ml_list.specs.Written.{WritesAsAsked, is_written_by}
 use Rattle.ml_ending.specs.declared.lines.Why.{Why}
 use Rattle.ml_ending.specs.declared.lines.Why.TheVariants as whys
 use Rattle.ml_ending.specs.Endings.{StopLine, Finishes, Refuses}
@@ -77,10 +79,11 @@ other_goes (ends.Stopped who why) reader left rest ending other = tt
 
 -- an item was added to a group, with what was done of it
 pub added_done : (r : Result (Unit {0}) Why) (files : Dir) (g mid new : Group) (item : Item) (more : List Put) (reply : Reply) → mid ≡ g → OnOk r (HasNext mid new item.number more reply) → IsTrue (are_files more) → IsTrue (is_code reply.code)
-    → touches_only (is_written_by item) more ≡ true → CountsOnce (with_puts files g.txn) item.number (more, reply) → ((q : State) → IsState (with_puts files g.txn) q → Does (with_puts files g.txn) (more, reply) (step q item)) → OnOk r ((d : Done) × (d.item ≡ item) × Adds files g new d)
-added_done (Ok u) files g mid new item more reply same next table code own once gives =
-    (record { item = item; puts = more; reply = reply }, refl, record { next = subst (λ (m : Group). HasNext m new item.number more reply) same next; is = record { table = table; own = own; code = code; once = once; steps = gives } })
-added_done (Err e) files g mid new item more reply same next table code own once gives = tt
+    → touches_only (is_written_by item) more ≡ true → WritesAsAsked (with_puts files g.txn) item more → CountsOnce (with_puts files g.txn) item.number (more, reply) → FoundWhole (with_puts files g.txn) item (more, reply)
+    → ((dir : Dir) (q : State) → AlikeFor item (with_puts files g.txn) dir → IsState dir q → Does dir (more, reply) (step q item)) → OnOk r ((d : Done) × (d.item ≡ item) × Adds files g new d)
+added_done (Ok u) files g mid new item more reply same next table code own asked once found gives =
+    (record { item = item; puts = more; reply = reply }, refl, record { next = subst (λ (m : Group). HasNext m new item.number more reply) same next; is = record { table = table; own = own; asked = asked; code = code; once = once; found = found; steps = gives } })
+added_done (Err e) files g mid new item more reply same next table code own asked once found gives = tt
 
 -- a stop that is told of with a reason is no answer
 reason_unanswered : (why : Why) (input disk : Type 0) (damaged : Name → Type 0) → HasReason why input disk damaged → is_status (status_of_why why) ≡ false

@@ -1,5 +1,5 @@
 -- What a run does of any directory: the items that it did, one over the other, and what a crash may leave of them.
-use Rattle.std.specs.Prelude.{◌≡◌, ◌⊎◌, ◌≤◌, ℕ, true, IsTrue, List, [], ◌∷◌, ◌++◌, length, take, Option, Some}
+use Rattle.std.specs.Prelude.{◌≡◌, ◌⊎◌, ◌<◌, ◌≤◌, ℕ, true, IsTrue, List, [], ◌∷◌, ◌++◌, length, take, Option, Some}
 use Rattle.ml_base.specs.Bytes.{Text}
 use Rattle.ml_base.specs.Dir.{Dir, are_files, touches_only, with_puts}
 use Rattle.ml_base.specs.declared.puts.Put.{Put}
@@ -14,7 +14,10 @@ use Rattle.ml_plain.specs.Histories.{State, step}
 use Rattle.ml_plain.specs.Replies.{is_code, is_status, line}
 use Rattle.ml_list.specs.Again.{CountsOnce}
 use Rattle.ml_list.specs.Applying.{Does}
-use Rattle.ml_list.specs.Written.{is_written_by}
+use Rattle.ml_list.specs.Loading.{HasConfig}
+use Rattle.ml_list.specs.Looked.{AlikeFor}
+use Rattle.ml_list.specs.Found.{FoundWhole}
+use Rattle.ml_list.specs.Written.{WritesAsAsked, is_written_by}
 use Rattle.ml_ending.specs.declared.lines.Why.{Why}
 use Rattle.ml_ending.specs.Endings.{Opens}
 use Rattle.ml_ending.specs.Lines.{stop_text}
@@ -48,14 +51,18 @@ abbrev pub after : Dir → List Done → Dir
 after files [] = files
 after files (d ∷ more) = after (with_puts files d.puts) more
 
--- What may be done of an item over a directory: its puts are of files of the table that the item may write, its reply is one of the table, and under
--- its number it counts once. Of a directory that stands for a list puts and reply are those of the list's step.
+-- What may be done of an item over a directory: its puts are of files of the table that the item may write, and those of a delivery of the files that
+-- what its recipient asks may write. Its reply is one of the table, under its number it counts once, and the files that tell what is done were in
+-- their grammar. If a directory stands for a list and has the same files of those that the item looks at, puts and reply are those of the list's
+-- step, whatever the other files hold.
 pub record IsDone (files : Dir) (d : Done) : Type 0 where
   pub table : IsTrue (are_files d.puts)
   pub own : touches_only (is_written_by d.item) d.puts ≡ true
+  pub asked : WritesAsAsked files d.item d.puts
   pub code : IsTrue (is_code d.reply.code)
   pub once : CountsOnce files d.item.number (d.puts, d.reply)
-  pub steps : (q : State) → IsState files q → Does files (d.puts, d.reply) (step q d.item)
+  pub found : FoundWhole files d.item (d.puts, d.reply)
+  pub steps : (dir : Dir) (q : State) → AlikeFor d.item files dir → IsState dir q → Does dir (d.puts, d.reply) (step q d.item)
 
 -- each of these was done over the directory that those before it left
 abbrev pub AreDone : Dir → List Done → Type 0
@@ -141,7 +148,9 @@ pub record DoesItems {S : Type 0} (told : Ghosts S) (M : (Contents → Text → 
   pub moments : M (IsAfterFirst files (first ++ group) (told.output old))
   pub answers : IsTrue (is_status status) → IsTrue told.tells_all → told.output new ≡ told.output old ++ answers_of first
 
--- the same of a run that begins with what lies on a site, where reads are told and there is a directory
+-- The same of a run that begins with what lies on a site, where reads are told and there is a directory. If an item is answered, the configuration's
+-- file is in its grammar.
 abbrev pub RunsAnywhere : {S : Type 0} → Ghosts S → (List Item → StreamEnd → Type 0) → ℕ → ℕ → ℕ → S → S → Type 0
 RunsAnywhere told brings limit status answered old new =
-    IsTrue told.tells_reads → (files : Dir) → directory (told.disk old).reads ≡ Some files → DoesItems told (AtEachMoment told old new) brings limit status answered old new files
+    IsTrue told.tells_reads → (files : Dir) → directory (told.disk old).reads ≡ Some files
+    → DoesItems told (AtEachMoment told old new) brings limit status answered old new files × (0 < answered → HasConfig files)

@@ -16,6 +16,7 @@ ghost use Rattle.ml_run.specs.Groups.{IsOfNext};
 ghost use Rattle.ml_run.specs.Endings.{Begins, Brings, Runs, Names, FromTaken, TakesFew};
 ghost use Rattle.ml_journal.specs.Calls.{Leaves};
 ghost use Rattle.ml_run.specs.Leaving.{IsAfterSome};
+ghost use Rattle.ml_list.specs.Loading.{HasConfig};
 ghost use Rattle.ml_run.specs.Anywhere.{DoesItems, RunsAnywhere};
 ghost use Rattle.ml_stream.specs.Stream.{StreamEnd};
 
@@ -89,6 +90,7 @@ fn opened<F: Feed, S: Site>(
         (S.disk result.1).reads (S.output result.1) all ending q (S.output (site_of store)) }
     ensures anywhere { IsTrue S.tells_reads → (files : Dir) → directory (S.disk (site_of store)).reads ≡ Some files →
         DoesItems ⟦<S as Site>⟧ (Leaves ⟦<S as Site>⟧ (site_of store) result.1) (Brings (F.left feed.old)) limit result.0.status result.0.answered (site_of store) result.1 files }
+    ensures configured { IsTrue S.tells_reads → (files : Dir) → directory (S.disk (site_of store)).reads ≡ Some files → 0 < result.0.answered → HasConfig files }
     ensures moments { (all : List TheItem) (ending : StreamEnd) (q : State) →
         Begins (F.left feed.old) (S.disk (site_of store)).reads all ending q →
         Leaves ⟦<S as Site>⟧ (site_of store) result.1 (IsAfterSome q (take limit all) (S.output (site_of store))) }

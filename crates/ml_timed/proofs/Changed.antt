@@ -35,7 +35,7 @@ use Rattle.ml_plain.specs.Plain.{Plain, ledger_of, with_ledger_of}
 use Rattle.ml_plain.specs.Timing.{change_entry, drop_entry, follow_at, follow_up, warn_member, probe_member}
 use Rattle.ml_plain.proofs.PartChanges.{list_ledger_changed, digest_ledger_changed}
 use Rattle.ml_acts.specs.Doing.{DrawsId, HasIdsUpTo, is_of_queue, without_entry}
-use Rattle.ml_acts.specs.Growing.{is_of_time}
+use Rattle.ml_timed.specs.Found.{is_followed_up}
 use Rattle.ml_acts.specs.Spelled.{AreSpelled}
 use Rattle.ml_acts.proofs.Left.{entry_kind}
 use Rattle.ml_acts.proofs.Queued.{touches_both, touches_weaker}
@@ -63,20 +63,20 @@ ids_beside sets.Deny k has = absurd (false≢true has)
 ids_beside sets.Moderators k has = absurd (false≢true has)
 
 -- time changes it
-timed_kind : (kind : ℕ) → 12 ≤ kind → kind ≤ 18 → (leb 12 kind && leb kind 18) ≡ true
-timed_kind kind least most = and_from (leb 12 kind) (leb kind 18) (le-leb 12 kind least) (le-leb kind 18 most)
+timed_kind : (kind : ℕ) → 15 ≤ kind → kind ≤ 18 → (leb 15 kind && leb kind 18) ≡ true
+timed_kind kind least most = and_from (leb 15 kind) (leb kind 18) (le-leb 15 kind least) (le-leb kind 18 most)
 
-pub file_timed : (set : Set) (k : Text) → has_ledger set ≡ true → (name : Name) → is_key_file set k name ≡ true → is_of_time name ≡ true
-file_timed sets.List k has name e = ap (λ kind. leb 12 kind && leb kind 18) (entry_kind sets.List k name e)
-file_timed sets.Digest k has name e = ap (λ kind. leb 12 kind && leb kind 18) (entry_kind sets.Digest k name e)
+pub file_timed : (set : Set) (k : Text) → has_ledger set ≡ true → (name : Name) → is_key_file set k name ≡ true → is_followed_up name ≡ true
+file_timed sets.List k has name e = ap (λ kind. leb 15 kind && leb kind 18) (entry_kind sets.List k name e)
+file_timed sets.Digest k has name e = ap (λ kind. leb 15 kind && leb kind 18) (entry_kind sets.Digest k name e)
 file_timed sets.Allow k has name e = absurd (false≢true has)
 file_timed sets.Deny k has name e = absurd (false≢true has)
 file_timed sets.Moderators k has name e = absurd (false≢true has)
 
-pub queue_timed : (name : Name) → is_of_queue name ≡ true → is_of_time name ≡ true
+pub queue_timed : (name : Name) → is_of_queue name ≡ true → is_followed_up name ≡ true
 queue_timed name e = elim (or_cases (eqb name.kind 17) (eqb name.kind 18) e) [
-  | inl k ↦ ap (λ kind. leb 12 kind && leb kind 18) (eqb-true name.kind 17 k)
-  | inr k ↦ ap (λ kind. leb 12 kind && leb kind 18) (eqb-true name.kind 18 k)
+  | inl k ↦ ap (λ kind. leb 15 kind && leb kind 18) (eqb-true name.kind 17 k)
+  | inr k ↦ ap (λ kind. leb 15 kind && leb kind 18) (eqb-true name.kind 18 k)
 ]
 
 -- the ledger of a set that has one
@@ -115,10 +115,10 @@ module _ (dir : Dir) (set : Set) (k : Text) (txn more done : List Put) (has : ha
   laid_two : (old : Dir) → with_puts old done ≡ with_puts (with_puts old txn) more
   laid_two old = ap (λ (t : List Put). with_puts old t) joined ∙ laid_joined old txn more
 
-  pub both_timed : touches_only is_of_time done ≡ true
+  pub both_timed : touches_only is_followed_up done ≡ true
   both_timed =
-      ap (touches_only is_of_time) joined
-      ∙ touches_both is_of_time txn more (touches_weaker is_of_queue is_of_time txn queue_timed queue) (touches_weaker (is_key_file set k) is_of_time more (file_timed set k has) only)
+      ap (touches_only is_followed_up) joined
+      ∙ touches_both is_followed_up txn more (touches_weaker is_of_queue is_followed_up txn queue_timed queue) (touches_weaker (is_key_file set k) is_followed_up more (file_timed set k has) only)
 
   pub both_drawn : DrawsId dir txn → AreSpelled dir more → DrawsId dir done
   both_drawn draws spelled = record {

@@ -15,3 +15,4 @@ mod Entries
 mod Named
 mod Whole
 mod Written
+mod Finding

@@ -48,6 +48,6 @@ is_followed_by set name = is_ledger set name || is_bucket set name || same_name 
 abbrev pub is_of_following : Name → Bool
 is_of_following name = same_name name key_name || is_followed_by sets.List name || is_followed_by sets.Digest name
 
--- what a timed run reads
-abbrev pub is_of_timed : Name → Bool
-is_of_timed name = is_of_giving_back name || is_of_digesting name || is_of_following name
+-- what a timed run reads, of a list with digests or without: what making a digest reads only where there are digests
+abbrev pub is_of_timed : Bool → Name → Bool
+is_of_timed digests name = is_of_giving_back name || (digests && is_of_digesting name) || is_of_following name

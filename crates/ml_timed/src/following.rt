@@ -12,7 +12,8 @@ ghost use Rattle.ml_plain.specs.Plain.{Plain, ledger_of};
 ghost use Rattle.ml_plain.specs.Timing as spec;
 ghost use Rattle.ml_acts.specs.Damaged.{IsDamaged};
 ghost use Rattle.ml_acts.specs.Doing.{HasIds, HasIdsUpTo};
-ghost use Rattle.ml_acts.specs.Growing.{IsGrown, is_of_time};
+ghost use Rattle.ml_acts.specs.Growing.{IsGrown};
+ghost use Rattle.ml_timed.specs.Found.{is_followed_up};
 ghost use Rattle.ml_acts.specs.Spelled.{DamagesNothing};
 ghost use Rattle.ml_timed.specs.Ahead.{HasIdsFor, IsAhead, of_set};
 ghost use Rattle.ml_timed.specs.Reads.{is_followed_by, is_of_following};
@@ -44,7 +45,7 @@ pub(crate) fn follow_all_up<F: Files>(
     ensures value { IsTrue F.tells → IfOk result (λ _. (p : Plain) → IsList (with_puts (F.map (files_below files.old)) (puts_over files.old)) p → p.config ≡ config.now → IsList (with_puts (F.map (files_below files.old)) (puts_over files.new)) (spec.follow_all_up now.seconds p)) }
     ensures room { IsTrue F.tells → IfOk result (λ _. HasIdsUpTo (with_puts (F.map (files_below files.old)) (puts_over files.new)) 1_000_000_000_000_001) }
     ensures harmless { IsTrue F.tells → DamagesNothing (with_puts (F.map (files_below files.old)) (puts_over files.old)) (with_puts (F.map (files_below files.old)) (puts_over files.new)) }
-    ensures grown { IsGrown is_of_time (puts_over files.old) (puts_over files.new) }
+    ensures grown { IsGrown is_followed_up (puts_over files.old) (puts_over files.new) }
     ensures names { NamesDamaged ⟦<F as Files>⟧ (λ name. is_of_following name ≡ true) (IsDamaged (with_puts (F.map (files_below files.old)) (puts_over files.new))) result }
     ensures reads { IsReading ⟦<F as Files>⟧ (files_below files.old) (files_below files.new) result }
 {
@@ -82,7 +83,7 @@ fn follow_each<F: Files>(
     ensures value { IsTrue F.tells → IfOk result (λ _. (p : Plain) (es : Ledger) → IsAhead (with_puts (F.map (files_below files.old)) (puts_over files.old)) config.now keys.now set actions.now p es → IsList (with_puts (F.map (files_below files.old)) (puts_over files.new)) (fold (spec.follow_up now.seconds) p (of_set set es))) }
     ensures harmless { IsTrue F.tells → DamagesNothing (with_puts (F.map (files_below files.old)) (puts_over files.old)) (with_puts (F.map (files_below files.old)) (puts_over files.new)) }
     ensures drawn { IsTrue F.tells → IfOk result (λ _. (more : ℕ) → HasIdsFor (with_puts (F.map (files_below files.old)) (puts_over files.old)) (length actions.now + more) → HasIdsFor (with_puts (F.map (files_below files.old)) (puts_over files.new)) more) }
-    ensures grown { IsGrown is_of_time (puts_over files.old) (puts_over files.new) }
+    ensures grown { IsGrown is_followed_up (puts_over files.old) (puts_over files.new) }
     ensures names { NamesDamaged ⟦<F as Files>⟧ (λ name. is_followed_by set name ≡ true) (IsDamaged (with_puts (F.map (files_below files.old)) (puts_over files.new))) result }
     ensures reads { IsReading ⟦<F as Files>⟧ (files_below files.old) (files_below files.new) result }
 {
@@ -110,7 +111,7 @@ fn follow_one<F: Files>(
     ensures same { OnErr result (puts_over files.new ≡ puts_over files.old) }
     ensures harmless { IsTrue F.tells → DamagesNothing (with_puts (F.map (files_below files.old)) (puts_over files.old)) (with_puts (F.map (files_below files.old)) (puts_over files.new)) }
     ensures drawn { IsTrue F.tells → IfOk result (λ _. (more : ℕ) → HasIdsFor (with_puts (F.map (files_below files.old)) (puts_over files.old)) (more + 1) → HasIdsFor (with_puts (F.map (files_below files.old)) (puts_over files.new)) more) }
-    ensures grown { IsGrown is_of_time (puts_over files.old) (puts_over files.new) }
+    ensures grown { IsGrown is_followed_up (puts_over files.old) (puts_over files.new) }
     ensures names { NamesDamaged ⟦<F as Files>⟧ (λ name. is_followed_by set name ≡ true) (IsDamaged (with_puts (F.map (files_below files.old)) (puts_over files.new))) result }
     ensures reads { IsReading ⟦<F as Files>⟧ (files_below files.old) (files_below files.new) result }
 {

@@ -137,6 +137,36 @@ put digest/subscribers/] Ta@b | input {timed} | run spool => 0 30 0 timed 0\n
 list run make --key {key} list ex.org o@own.org => {made} | input {three}{post} | run spool => 0 {added}20 0 posted 1\n
 put dig 0:0 | input {timed} | run spool => 0 30 0 timed 0\n
 put digest/subscribers/] Ta@b | put dig 0:0 | input {due} | run spool => 0 30 0 timed 0\n
+# A post that waits for the moderators looks at none of the archive, and one that doesn't at neither the key nor the moderators.
+list run make -m --key {key} list ex.org o@own.org => {made}
+input {deliver} | run spool => 0 30 0 held 1\n
+put num x | input {deliver} | run spool => 0 30 0 held 1\n
+put archive/0/index x | put archive/threads/231 x | input {deliver} | run spool => 0 30 0 held 1\n
+cut key | input {deliver} | run spool => 75 30 75 key\n | same
+put mod/subscribers/L x | input {deliver} | run spool => 75 30 75 mod/subscribers/L\n | same
+list run make --key {key} list ex.org o@own.org => {made}
+cut key | put mod/subscribers/L x | input {deliver} | run spool => 0 30 0 posted 1\n
+# A moderator's answer looks at the held post, then at the key, and with the right cookie alone at what follows.
+let right fnidiagkjnjiioefided
+let wrong fnidiagkjnjiioefidee
+let accept D2:30,10:1000000200,3:m@o,41:list-accept-1.{right}@ex.org,{message}
+let reject D2:30,10:1000000200,3:m@o,41:list-reject-1.{right}@ex.org,{message}
+let forged D2:30,10:1000000200,3:m@o,41:list-accept-1.{wrong}@ex.org,{message}
+let gone D2:30,10:1000000200,3:m@o,41:list-accept-2.{right}@ex.org,{message}
+list run make -m --key {key} list ex.org o@own.org => {made} | input {post} | run spool => 0 20 0 held 1\n
+input {accept} | run spool => 0 30 0 posted 1\n
+input {reject} | run spool => 0 30 0 rejected\n
+input {forged} | run spool => 0 30 100 badcookie\n
+input {gone} | run spool => 0 30 100 gone\n
+put pending/1 x | input {forged} | run spool => 75 30 75 pending/1\n | same
+put pending/1 x | input {gone} | run spool => 0 30 100 gone\n
+cut key | input {forged} | run spool => 75 30 75 key\n | same
+cut key | input {gone} | run spool => 0 30 100 gone\n
+put num x | input {accept} | run spool => 75 30 75 num\n | same
+put num x | input {reject} | run spool => 0 30 0 rejected\n
+put num x | input {forged} | run spool => 0 30 100 badcookie\n
+put subscribers/] x | input {accept} | run spool => 75 30 75 subscribers/]\n | same
+put subscribers/] x | input {forged} | run spool => 0 30 100 badcookie\n
 # What is at odds with posts that are not asked for is no damage to what is: their number, indexes, threads, and what is in no digest.
 let some D2:30,10:1000000200,3:g@h,19:list-get.5_7@ex.org,{message}
 let past D2:30,10:1000000200,3:g@h,23:list-get.115_125@ex.org,{message}

@@ -43,8 +43,11 @@ returns g c =
       whole = λ r q state. never_fails (IsTrue g.S.Site.tells_all) _ status count c.run-site.result.0.answered held out items End q (g.S.Site.output c.args.site) none_rose (c.run-site.ensures.whole r items End q (begins q state));
       at_rest = λ rest q state. subst (λ (all : List Item). Leaves g.S.Site c.args.site c.run-site.result.1 (IsAfterSome q all (g.S.Site.output c.args.site))) (all_taken config count) (c.run-site.ensures.crashes.at_rest rest items End q (begins q state));
       all = λ ok. (tells.whole ok).1 ∙ long;
-      anywhere = λ r files here. items_at g.S.Site (AtEachMoment g.S.Site c.args.site c.run-site.result.1) (Brings (Some (generated_left c.new-items.result))) (Brings (Some (stream_text items))) count status c.run-site.result.0.answered c.args.site c.run-site.result.1 files
-          (λ all ending b. subst (λ (left : Text). Brings (Some left) all ending) (sym is) b) (c.run-site.ensures.anywhere r files here);
+      anywhere = λ r files here. (
+        items_at g.S.Site (AtEachMoment g.S.Site c.args.site c.run-site.result.1) (Brings (Some (generated_left c.new-items.result))) (Brings (Some (stream_text items))) count status c.run-site.result.0.answered c.args.site c.run-site.result.1 files
+            (λ all ending b. subst (λ (left : Text). Brings (Some left) all ending) (sym is) b) (c.run-site.ensures.anywhere r files here).0,
+        (c.run-site.ensures.anywhere r files here).1,
+      );
       closed = c.run-site.ensures.closed;
       counts = c.run-site.ensures.counts.site;
       named = λ r e. subst (λ (left : Text). Names (IsTrue g.S.Site.tells_all) (IsOfNext (Brings (Some left)) c.run-site.result.0.answered) (directory old.reads) (directory held) out) is (c.run-site.ensures.refusals.named r e);

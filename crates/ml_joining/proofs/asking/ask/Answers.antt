@@ -1,14 +1,19 @@
-use Rattle.std.proofs.Common.{rules, ap, ap₂, ◌∙◌}
+use Rattle.std.proofs.Common.{rules, ap, ap₂, ◌∙◌, []}
 use Rattle.std.proofs.lemmas.Bool.{or_right, or_left}
 use Rattle.ml_base.specs.Bytes.{Text}
+use Rattle.ml_base.specs.Dir.{touches_only}
 use Rattle.ml_config.proofs.KeyLemmas.{one_key_file}
 use Rattle.ml_config.specs.KeyFile.{key_name}
 use Rattle.ml_plain.specs.Answers.{asked}
 use Rattle.ml_plain.specs.Mailing as spec
 use Rattle.ml_plain.specs.declared.Reply.{Reply}
 use Rattle.ml_reply.specs.declared.mails.Mail.{Mail}
+use Rattle.ml_acts.specs.Doing.{is_of_queue}
 use Rattle.ml_acts.proofs.OfActs.{act_kept}
 use Rattle.ml_joining.proofs.Does.{told_by}
+use Rattle.ml_joining.proofs.Finding.{sends}
+use Rattle.ml_acts.proofs.Damages.{ok_then}
+use Rattle.ml_plain.specs.Answers as answers
 use Rattle.ml_joining.proofs.asking.ask.Goals as goal
 
 pub returns-clause-value : goal.returns-clause-value
@@ -27,5 +32,12 @@ pub returns-clause-act : goal.returns-clause-act
 returns-clause-act g c =
     let mailed = c.with_mail.ensures in
     act_kept g.met.F.Files.kept_then g.met.F.Files.kept_map c.key.ensures.reads
-    (record { own = mailed.own; files = mailed.files; reply = search rules; names = mailed.names; reads = mailed.reads })
+    (record { own = mailed.within is_of_queue (λ name e. e) (ap (touches_only is_of_queue) c.new.ensures); files = mailed.files; reply = search rules; names = mailed.names; reads = mailed.reads })
     (λ name e. search (rules, or_left, or_right))
+
+pub returns-clause-found : goal.returns-clause-found
+returns-clause-found g c told =
+    let old = g.F.Files.map c.args.files.now in
+    let same = g.met.F.Files.kept_map c.args.files.now c.key.new.files told c.key.ensures.reads.kept in
+    ok_then c.with_mail.result (λ done sent. record { keys = (c.in_ok-keys.keys, c.in_ok-keys.ensures.value told); sent = sent })
+    (sends c.with_mail.result old (g.F.Files.map c.key.new.files) [] c.new.result c.plain-reply.result answers.asked same c.new.ensures c.plain-reply.ensures (c.with_mail.ensures.found told) c.with_mail.ensures.reply)

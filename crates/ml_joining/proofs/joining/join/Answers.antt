@@ -7,6 +7,10 @@ use Rattle.ml_acts.specs.Doing.{DoesList}
 use Rattle.ml_acts.proofs.Damages.{change_named, ok_then}
 use Rattle.ml_joining.specs.Reads.{is_touched_with_mail}
 use Rattle.ml_joining.proofs.Does.{added_list, has_none, has_room, only_reply}
+use Rattle.ml_acts.proofs.Found.{found_then}
+use Rattle.ml_subs.specs.declared.changing.AddAnswer.TheVariants.{Added, Already, Full}
+use Rattle.ml_joining.specs.Found.{FoundToAdd, FoundToJoin, SendsMail}
+use Rattle.ml_joining.proofs.Finding.{found_to_add}
 use Rattle.ml_joining.proofs.joining.join.Goals as goal
 
 pub returns-in-Added-clause-value : goal.returns-in-Added-clause-value
@@ -40,3 +44,33 @@ returns-in_err-txn-clause-act g c =
     let who = c.args.who.now in
     let names = change_named g.F.Files (λ name. is_touched_with_mail c.args.set who name ≡ true) _ (g.F.Files.map c.args.files.now) c.args.set (key who) false (λ name e. search (rules, or_left)) c.in_err-txn.ensures.names in
     search rules
+
+pub returns-in-Added-clause-found : goal.returns-in-Added-clause-found
+returns-in-Added-clause-found g c told =
+    let old = g.F.Files.map c.args.files.now in
+    let set = c.args.set in
+    let who = c.args.who.now in
+    let same = g.met.F.Files.kept_map c.args.files.now c.add.new.files told c.add.ensures.reads.kept in
+    let found = subst (FoundToAdd old set (key who)) c.in-Added.is (found_to_add old set who c.args.now.seconds _ (c.in_ok-txn.ensures.read told)) in
+    found_then c.welcome.result old (g.F.Files.map c.add.new.files) (λ d. SendsMail d c.in-Added.txn answers.subscribed) (FoundToJoin old set (key who)) same
+    (λ done is. record { answer = Added c.in-Added.txn; found = found; joined = is }) (c.welcome.ensures.found told)
+
+pub returns-in-Already-clause-found : goal.returns-in-Already-clause-found
+returns-in-Already-clause-found g c told =
+    let old = g.F.Files.map c.args.files.now in
+    let who = c.args.who.now in
+    record {
+      answer = Already;
+      found = subst (FoundToAdd old c.args.set (key who)) c.in-Already.is (found_to_add old c.args.set who c.args.now.seconds _ (c.in_ok-txn.ensures.read told));
+      joined = record { puts = c.new.ensures; is = c.plain.ensures };
+    }
+
+pub returns-in-Full-clause-found : goal.returns-in-Full-clause-found
+returns-in-Full-clause-found g c told =
+    let old = g.F.Files.map c.args.files.now in
+    let who = c.args.who.now in
+    record {
+      answer = Full;
+      found = subst (FoundToAdd old c.args.set (key who)) c.in-Full.is (found_to_add old c.args.set who c.args.now.seconds _ (c.in_ok-txn.ensures.read told));
+      joined = record { puts = c.new-in-Full.ensures; is = c.plain-in-Full.ensures };
+    }

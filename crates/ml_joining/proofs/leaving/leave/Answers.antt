@@ -1,9 +1,20 @@
-use Rattle.std.proofs.Common.{◌≡◌, true, false, sym, ◌∙◌}
+use Rattle.std.proofs.Common.{◌≡◌, true, false, sym, ◌∙◌, Some, None, subst, List, Option, rules}
+use Rattle.std.proofs.lemmas.Bool.{or_left, or_right}
+use Rattle.ml_base.specs.Dir.{touches_only}
+use Rattle.ml_base.specs.declared.puts.Put.{Put}
+use Rattle.ml_subs.specs.Answers.{puts_if}
 use Rattle.ml_plain.specs.Plain.{removed}
 use Rattle.ml_acts.proofs.Damages.{ok_then}
-use Rattle.ml_acts.proofs.Left.{removed_config}
+use Rattle.ml_acts.specs.Doing.{is_changed_for, is_left_by}
+use Rattle.ml_acts.proofs.Left.{left_changed_for, queue_changed_for, removed_config}
+use Rattle.ml_acts.proofs.OfActs.{act_kept}
 use Rattle.ml_joining.proofs.Asked.{who_key}
 use Rattle.ml_joining.proofs.Does.{same_removed}
+use Rattle.ml_acts.proofs.Found.{found_then}
+use Rattle.ml_base.specs.Address.{key}
+use Rattle.ml_plain.specs.Answers as answers
+use Rattle.ml_acts.specs.Found.{FoundToLeave}
+use Rattle.ml_joining.specs.Found.{FoundToPart, SendsMail}
 use Rattle.ml_joining.proofs.leaving.leave.Goals as goal
 
 pub returns-in-Some-clause-value : goal.returns-in-Some-clause-value
@@ -22,3 +33,36 @@ pub returns-in-None-clause-value : goal.returns-in-None-clause-value
 returns-in-None-clause-value g c told p is e about =
     let none = rw c.in-None.is at c.in_ok-txn.ensures.value told p is in
     absurd (let bad : true ≡ false = sym c.requires.member ∙ about.member ∙ none in cc)
+
+pub returns-in-Some-clause-found : goal.returns-in-Some-clause-found
+returns-in-Some-clause-found g c told =
+    let old = g.F.Files.map c.args.files.now in
+    let set = c.args.set in
+    let k = key c.args.x.now.named in
+    let same = g.met.F.Files.kept_map c.args.files.now c.remove_member.new.files told c.remove_member.ensures.reads.kept in
+    let found = subst (FoundToLeave old set k) c.in-Some.is (c.in_ok-txn.ensures.found told) in
+    found_then c.goodbye.result old (g.F.Files.map c.remove_member.new.files) (λ d. SendsMail d c.in-Some.txn answers.unsubscribed) (FoundToPart old set k) same
+    (λ done is. record { answer = Some c.in-Some.txn; found = found; left = is }) (c.goodbye.ensures.found told)
+
+pub returns-in-None-clause-found : goal.returns-in-None-clause-found
+returns-in-None-clause-found g c told = record {
+  answer = None;
+  found = subst (FoundToLeave (g.F.Files.map c.args.files.now) c.args.set (key c.args.x.now.named)) c.in-None.is (c.in_ok-txn.ensures.found told);
+  left = record { puts = c.new.ensures; is = c.plain.ensures };
+}
+
+pub returns-in-Some-clause-act : goal.returns-in-Some-clause-act
+returns-in-Some-clause-act g c =
+    let set = c.args.set in
+    let who = c.args.x.now.named in
+    let mailed = c.goodbye.ensures.act in
+    let left = subst (λ (o : Option (List Put)). touches_only (is_left_by set who) (puts_if o) ≡ true) c.in-Some.is c.in_ok-txn.ensures.left in
+    act_kept g.met.F.Files.kept_then g.met.F.Files.kept_map c.remove_member.ensures.reads
+    (record {
+      own = c.goodbye.ensures.within (is_changed_for set who) (queue_changed_for set who) (left_changed_for set who c.in-Some.txn left);
+      files = mailed.files;
+      reply = mailed.reply;
+      names = mailed.names;
+      reads = mailed.reads;
+    })
+    (λ name e. search (rules, or_left, or_right))

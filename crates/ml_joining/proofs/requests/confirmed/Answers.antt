@@ -1,9 +1,16 @@
-use Rattle.std.proofs.Common.{refl, ◌∙◌, sym, ap}
+use Rattle.std.proofs.Common.{refl, ◌∙◌, sym, ap, IfOk, subst, ◌≡◌, true}
 use Rattle.ml_address.specs.declared.Word.{Word}
 use Rattle.ml_plain.specs.Managing as spec
+use Rattle.ml_acts.specs.Acting.{AnswersWithin}
+use Rattle.ml_acts.specs.Damaged.{IsDamaged}
+use Rattle.ml_joining.specs.Reads.{is_read_to_confirm}
+use Rattle.ml_joining.specs.Written.{is_written_to_confirm}
 use Rattle.ml_joining.proofs.Asked.{who_there}
 use Rattle.ml_joining.proofs.Decided.{confirmed_join, confirmed_leave, moderators_join}
 use Rattle.ml_joining.proofs.Does.{found_by}
+use Rattle.ml_base.specs.Address.{key}
+use Rattle.ml_plain.specs.Managing.{Operation}
+use Rattle.ml_joining.specs.Found.{FoundToDo, confirming}
 use Rattle.ml_joining.proofs.requests.confirmed.Goals as goal
 
 pub returns-in-Uc-clause-value : goal.returns-in-Uc-clause-value
@@ -32,3 +39,45 @@ returns-in-Tc-clause-value g c told =
     (λ p is e about. ap (spec.done c.args.now.seconds set c.args.sender.now x.who p)
     (c.confirmed_joining-operation-in-Tc.ensures.operation ∙ moderators_join p set x.who x.member c.args.good (who_there p set x about) ∙ ap (λ (w : Word). spec.confirming p set x.who w c.args.good) (sym c.in-Tc.is)))
     (c.joined-in-Tc.ensures.value told)
+
+pub returns-in-Uc-clause-found : goal.returns-in-Uc-clause-found
+returns-in-Uc-clause-found g c told =
+    let dir = g.F.Files.map c.args.files.now in
+    let set = c.args.set in
+    let x = c.args.x.now in
+    subst (λ (w : Word). IfOk c.left.result (FoundToDo dir set (key x.named) (confirming w c.args.config.now x.member c.args.good))) (sym c.in-Uc.is)
+    (subst (λ (o : Operation). IfOk c.left.result (FoundToDo dir set (key x.named) o)) c.confirmed_leaving-operation.ensures.operation (c.left.ensures.found told))
+
+pub returns-in-Sc-clause-found : goal.returns-in-Sc-clause-found
+returns-in-Sc-clause-found g c told =
+    let dir = g.F.Files.map c.args.files.now in
+    let set = c.args.set in
+    let x = c.args.x.now in
+    subst (λ (w : Word). IfOk c.joined.result (FoundToDo dir set (key x.named) (confirming w c.args.config.now x.member c.args.good))) (sym c.in-Sc.is)
+    (subst (λ (o : Operation). IfOk c.joined.result (FoundToDo dir set (key x.named) o)) c.confirmed_joining-operation.ensures.operation (c.joined.ensures.found told))
+
+pub returns-in-Tc-clause-found : goal.returns-in-Tc-clause-found
+returns-in-Tc-clause-found g c told =
+    let dir = g.F.Files.map c.args.files.now in
+    let set = c.args.set in
+    let x = c.args.x.now in
+    subst (λ (w : Word). IfOk c.joined-in-Tc.result (FoundToDo dir set (key x.named) (confirming w c.args.config.now x.member c.args.good))) (sym c.in-Tc.is)
+    (subst (λ (o : Operation). IfOk c.joined-in-Tc.result (FoundToDo dir set (key x.named) o)) c.confirmed_joining-operation-in-Tc.ensures.operation (c.joined-in-Tc.ensures.found told))
+
+pub returns-in-Uc-clause-act : goal.returns-in-Uc-clause-act
+returns-in-Uc-clause-act g c =
+    let set = c.args.set in
+    let who = c.args.x.now.named in
+    subst (λ (w : Word). AnswersWithin (is_written_to_confirm w set who) g.F.Files (λ name. is_read_to_confirm w set who name ≡ true) (IsDamaged (g.F.Files.map c.args.files.now)) c.args.files.now c.left.new.files c.left.result) (sym c.in-Uc.is) c.left.ensures.act
+
+pub returns-in-Sc-clause-act : goal.returns-in-Sc-clause-act
+returns-in-Sc-clause-act g c =
+    let set = c.args.set in
+    let who = c.args.x.now.named in
+    subst (λ (w : Word). AnswersWithin (is_written_to_confirm w set who) g.F.Files (λ name. is_read_to_confirm w set who name ≡ true) (IsDamaged (g.F.Files.map c.args.files.now)) c.args.files.now c.joined.new.files c.joined.result) (sym c.in-Sc.is) c.joined.ensures.act
+
+pub returns-in-Tc-clause-act : goal.returns-in-Tc-clause-act
+returns-in-Tc-clause-act g c =
+    let set = c.args.set in
+    let who = c.args.x.now.named in
+    subst (λ (w : Word). AnswersWithin (is_written_to_confirm w set who) g.F.Files (λ name. is_read_to_confirm w set who name ≡ true) (IsDamaged (g.F.Files.map c.args.files.now)) c.args.files.now c.joined-in-Tc.new.files c.joined-in-Tc.result) (sym c.in-Tc.is) c.joined-in-Tc.ensures.act

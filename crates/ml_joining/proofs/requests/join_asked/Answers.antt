@@ -1,12 +1,17 @@
-use Rattle.std.proofs.Common.{ap, rules}
+use Rattle.std.proofs.Common.{ap, rules, subst}
 use Rattle.std.proofs.lemmas.Bool.{or_left, or_right}
 use Rattle.std.specs.Option.{option_map}
 use Rattle.ml_base.specs.Bytes.{Text}
 use Rattle.ml_address.specs.Views.{who_view}
 use Rattle.ml_plain.specs.Managing as spec
-use Rattle.ml_acts.proofs.OfActs.{act_kept, act_err}
+use Rattle.ml_acts.proofs.OfActs.{act_err, act_kept, act_wider}
 use Rattle.ml_joining.proofs.Asked.{subject_is}
 use Rattle.ml_joining.proofs.Does.{asked_by}
+use Rattle.ml_acts.proofs.Found.{found_then}
+use Rattle.ml_base.specs.Address.{key}
+use Rattle.ml_acts.specs.Found.{TellsMember}
+use Rattle.ml_joining.specs.Operations.{asked_of}
+use Rattle.ml_joining.specs.Found.{FoundToSubscribe}
 use Rattle.ml_joining.proofs.requests.join_asked.Goals as goal
 
 pub returns-clause-value : goal.returns-clause-value
@@ -21,5 +26,18 @@ returns-in_err-x-clause-act g c =
     (λ name e. search (rules, or_left, or_right)) (search rules)
 
 pub returns-clause-act : goal.returns-clause-act
-returns-clause-act g c = act_kept g.met.F.Files.kept_then g.met.F.Files.kept_map c.find_subject.ensures.reads c.join_found.ensures.act
+returns-clause-act g c =
+    act_wider (act_kept g.met.F.Files.kept_then g.met.F.Files.kept_map c.find_subject.ensures.reads c.join_found.ensures.act (λ name e. search rules))
     (λ name e. search rules)
+
+pub returns-clause-found : goal.returns-clause-found
+returns-clause-found g c told =
+    let old = g.F.Files.map c.args.files.now in
+    let set = c.args.set in
+    let x = c.in_ok-x.x in
+    let conf = c.args.config.now in
+    let sender = c.args.sender.now in
+    let same = g.met.F.Files.kept_map c.args.files.now c.find_subject.new.files told c.find_subject.ensures.reads.kept in
+    found_then c.join_found.result old (g.F.Files.map c.find_subject.new.files) (λ d done. TellsMember d set (key x.named) x.member → FoundToSubscribe d conf sender set x.named done)
+    (FoundToSubscribe old conf sender set (asked_of sender (option_map who_view c.args.who))) same
+    (λ done f. subst (λ (w : Text). FoundToSubscribe old conf sender set w done) c.in_ok-x.ensures.named (f (c.in_ok-x.ensures.found told))) (c.join_found.ensures.found told)

@@ -1,4 +1,4 @@
-use Rattle.std.proofs.Common.{Bool, ◌&&◌, ◌∙◌, ap, rules}
+use Rattle.std.proofs.Common.{Bool, ◌&&◌, ◌∙◌, ap, rules, subst}
 use Rattle.std.proofs.lemmas.Bool.{or_left, or_right}
 use Rattle.ml_plain.specs.Managing as spec
 use Rattle.ml_plain.specs.Plain.{is_moderator}
@@ -6,6 +6,13 @@ use Rattle.ml_acts.proofs.OfActs.{act_kept, act_err}
 use Rattle.ml_joining.proofs.Asked.{who_there}
 use Rattle.ml_joining.proofs.Decided.{joining_is, own_is}
 use Rattle.ml_joining.proofs.Does.{found_by}
+use Rattle.ml_acts.proofs.Found.{found_then}
+use Rattle.ml_base.specs.Address.{key}
+use Rattle.ml_plain.specs.Managing.{Operation}
+use Rattle.ml_acts.specs.Found.{TellsMember}
+use Rattle.ml_joining.specs.Found.{FoundToDo, FoundToSubscribe}
+use Rattle.ml_joining.specs.Operations.{joining_deed}
+use Rattle.ml_joining.specs.declared.deciding.Facts.{Facts}
 use Rattle.ml_joining.proofs.requests.join_found.Goals as goal
 
 pub returns-clause-value : goal.returns-clause-value
@@ -27,3 +34,20 @@ returns-in_err-moderator-clause-act g c =
 pub returns-clause-act : goal.returns-clause-act
 returns-clause-act g c = act_kept g.met.F.Files.kept_then g.met.F.Files.kept_map c.moderates.ensures.reads c.joined.ensures.act
     (λ name e. search (rules, or_left, or_right))
+
+pub returns-clause-found : goal.returns-clause-found
+returns-clause-found g c told =
+    let old = g.F.Files.map c.args.files.now in
+    let set = c.args.set in
+    let x = c.args.x.now in
+    let k = key x.named in
+    let same = g.met.F.Files.kept_map c.args.files.now c.moderates.new.files told c.moderates.ensures.reads.kept in
+    let facts : Facts = record { moderator = c.in_ok-moderator.moderator; member = x.member; own = c.same.result } in
+    found_then c.joined.result old (g.F.Files.map c.moderates.new.files) (λ d. FoundToDo d set k (joining_deed c.joining-operation.result)) (λ done. TellsMember old set k x.member → FoundToSubscribe old c.args.config.now c.args.sender.now set x.named done) same
+    (λ done is tells. record {
+      facts = facts;
+      member = tells;
+      rank = λ asked. c.in_ok-moderator.ensures.found told (c.asks_rank.ensures ∙ asked);
+      unasked = λ asked. c.in_ok-moderator.ensures.unasked (c.asks_rank.ensures ∙ asked);
+      follows = subst (λ (o : Operation). FoundToDo old set k o done) c.joining-operation.ensures.operation is;
+    }) (c.joined.ensures.found told)

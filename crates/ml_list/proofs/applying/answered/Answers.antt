@@ -1,49 +1,47 @@
-use Rattle.std.proofs.Common.{◌≡◌, ◌≢◌, inl, inr, true, None, IfErr, subst}
+use Rattle.std.proofs.Common.{◌≡◌, ◌≢◌, inl, inr, true, None, IfErr, subst, sym, IfOk, Some, refl}
 use Rattle.std.proofs.lemmas.Bool.{or_left, or_right}
 use Rattle.std.proofs.lemmas.Result.{IfOk-weaker}
 use Rattle.ml_base.specs.Dir.{Dir}
 use Rattle.ml_base.specs.PartErrors.{OnDamaged}
 use Rattle.ml_base.proofs.DamagedNames.{err_damaged, on_both, on_damaged}
-use Rattle.ml_plain.specs.Histories.{State, effect, with_reply}
-use Rattle.ml_plain.specs.Directory.{IsState}
 use Rattle.ml_list.specs.declared.applying.Lookup.{Lookup}
 use Rattle.ml_list.specs.Again.{IsAgain}
-use Rattle.ml_list.specs.Applying.{Does, Repeats}
+use Rattle.ml_list.specs.Applying.{Repeats}
 use Rattle.ml_list.specs.Asked.{IsDamagedFor, IsDamagedForAct}
 use Rattle.ml_list.specs.Damage.{IsDamagedInList, is_looked_up, is_read_by, is_read_by_item}
 use Rattle.ml_list.specs.Lookups.{answer_of}
+use Rattle.ml_list.specs.Written.{WritesAsAsked}
 use Rattle.ml_list.proofs.Again.{again_once, new_once}
-use Rattle.ml_list.proofs.Damages.{none_damaged, sound_by}
+use Rattle.ml_list.specs.Looked.{AlikeFor, AlikeForAct}
 use Rattle.ml_list.proofs.Steps.{answered_does, new_does}
+use Rattle.ml_acts.proofs.Found.{found_then}
+use Rattle.ml_list.specs.Found.{FoundNow, FoundWhole}
 use Rattle.ml_list.proofs.applying.answered.Goals as goal
 
 pub returns-in-Ok-Answered-clause-value : goal.returns-in-Ok-Answered-clause-value
-returns-in-Ok-Answered-clause-value g c told q is =
-    answered_does (g.F.Files.map c.args.files) q c.args.item.now c.in-Ok-Answered.reply c.new.result c.new.ensures is
-    (subst (λ (l : Lookup). Repeats q c.args.item.now.number (answer_of l)) c.in-Ok-Answered.field-0-is (c.in-Ok-Answered.ensures.value told q is))
+returns-in-Ok-Answered-clause-value g c told dir q alike is =
+    let item = c.args.item.now in
+    answered_does dir q item c.in-Ok-Answered.reply c.new.result c.new.ensures is
+    (subst (λ (l : Lookup). Repeats q item.number (answer_of l)) c.in-Ok-Answered.field-0-is (c.in-Ok-Answered.ensures.value told dir q alike.number is))
 
 pub returns-in-Ok-New-clause-value : goal.returns-in-Ok-New-clause-value
 returns-in-Ok-New-clause-value g c told =
-    let dir = g.F.Files.map c.args.files in
+    let old = g.F.Files.map c.args.files in
     let item = c.args.item.now in
     let same = g.met.F.Files.kept_map c.args.files c.look_up.new.files told c.look_up.ensures.reads.kept in
-    IfOk-weaker c.count.result.1 _ _ (λ done h q is.
-    let new = subst (λ (l : Lookup). Repeats q item.number (answer_of l)) c.in-Ok-New.field-0-is (c.in-Ok-New.ensures.value told q is) in
-    new_does dir q item done new (subst (λ (d : Dir). (s : State) → IsState d s → Repeats s item.number None → Does d done (with_reply item.number (effect s item))) same h q is new))
+    IfOk-weaker c.count.result.1 _ _ (λ done h dir q alike is.
+    let new = subst (λ (l : Lookup). Repeats q item.number (answer_of l)) c.in-Ok-New.field-0-is (c.in-Ok-New.ensures.value told dir q alike.number is) in
+    new_does dir q item done new (h dir q (subst (λ (d : Dir). AlikeFor item d dir) (sym same) alike) is new))
     (c.count.ensures.value told)
 
 pub returns-in-Err-clause-sound : goal.returns-in-Err-clause-sound
-returns-in-Err-clause-sound g c told q is =
-    let dir = g.F.Files.map c.args.files in
-    on_damaged c.in-Err.error (IsDamagedInList dir) (λ _. ⊥) (λ name bad. none_damaged dir q name is bad) (c.in-Err.ensures.names.damaged told)
+returns-in-Err-clause-sound g c told dir q alike is = c.in-Err.ensures.sound told dir q alike.number is
 
 pub returns-in-Ok-New-clause-sound : goal.returns-in-Ok-New-clause-sound
-returns-in-Ok-New-clause-sound g c told q is =
-    let dir = g.F.Files.map c.args.files in
+returns-in-Ok-New-clause-sound g c told dir q alike is =
     let item = c.args.item.now in
     let same = g.met.F.Files.kept_map c.args.files c.look_up.new.files told c.look_up.ensures.reads.kept in
-    let r = c.count.result.1 in
-    sound_by dir q r is (err_damaged r (IsDamagedForAct dir item.act) (IsDamagedInList dir) (λ name bad. bad.damaged) (subst (λ (d : Dir). IfErr r (λ e. OnDamaged e (IsDamagedForAct d item.act))) same (c.count.ensures.names.damaged told)))
+    c.count.ensures.sound told dir q (subst (λ (d : Dir). AlikeForAct item.act d dir) (sym same) alike.act) is
 
 pub returns-in-Err-clause-names : goal.returns-in-Err-clause-names
 returns-in-Err-clause-names g c =
@@ -81,3 +79,25 @@ returns-in-Ok-New-clause-once g c told =
     let number = c.args.item.now.number in
     let found = subst (λ (l : Lookup). number ≢ 0 → IsAgain dir number (answer_of l)) c.in-Ok-New.field-0-is (c.in-Ok-New.ensures.looked told) in
     IfOk-weaker c.count.result.1 _ _ (λ done any. new_once dir number done found) c.count.ensures.files
+
+pub returns-in-Ok-New-clause-asked : goal.returns-in-Ok-New-clause-asked
+returns-in-Ok-New-clause-asked g c told =
+    let same = g.met.F.Files.kept_map c.args.files c.look_up.new.files told c.look_up.ensures.reads.kept in
+    subst (λ (d : Dir). IfOk c.count.result.1 (λ done. WritesAsAsked d c.args.item.now done.0)) same (c.count.ensures.asked told)
+
+pub returns-in-Ok-New-clause-found : goal.returns-in-Ok-New-clause-found
+returns-in-Ok-New-clause-found g c told =
+    let dir = g.F.Files.map c.args.files in
+    let item = c.args.item.now in
+    let same = g.met.F.Files.kept_map c.args.files c.look_up.new.files told c.look_up.ensures.reads.kept in
+    found_then c.count.result.1 dir (g.F.Files.map c.look_up.new.files) (λ d. FoundNow d item.act) (FoundWhole dir item) same (λ done is. inr is) (c.count.ensures.found told)
+
+pub returns-in-Ok-Answered-clause-found : goal.returns-in-Ok-Answered-clause-found
+returns-in-Ok-Answered-clause-found g c told =
+    let dir = g.F.Files.map c.args.files in
+    let number = c.args.item.now.number in
+    let reply = c.in-Ok-Answered.reply in
+    let looked = subst (λ (l : Lookup). number ≢ 0 → IsAgain dir number (answer_of l)) c.in-Ok-Answered.field-0-is (c.in-Ok-Answered.ensures.looked told) in
+    let new = subst (λ (l : Lookup). number ≡ 0 → answer_of l ≡ None) c.in-Ok-Answered.field-0-is c.in-Ok-Answered.ensures.counts in
+    let some : number ≢ 0 = λ zero. absurd (let bad : Some reply ≡ None = new zero in cc) in
+    inl (record { counted = some; reply = reply; again = looked some; says = record { puts = c.new.ensures; is = refl } })

@@ -1,9 +1,10 @@
-use Rattle.std.proofs.Common.{◌∙◌, sym, ap}
+use Rattle.std.proofs.Common.{◌∙◌, sym, ap, [], refl}
 use Rattle.std.proofs.lemmas.Result.{IfOk-weaker}
 use Rattle.ml_base.specs.Dir.{with_puts}
 use Rattle.ml_base.specs.Name.{is_file}
 use Rattle.ml_base.proofs.DamagedNames.{ok_both}
 use Rattle.ml_list.proofs.Steps.{unkept_does, with_reply_does, files_more}
+use Rattle.std.proofs.lemmas.List.{append-nil}
 use Rattle.ml_list.proofs.applying.with_reply_kept.Goals as goal
 
 pub returns-then-number-eq0-clause-value : goal.returns-then-number-eq0-clause-value
@@ -26,3 +27,9 @@ returns-then-number-eq0-clause-written c = λ own all one. all
 pub returns-clause-written : goal.returns-clause-written
 returns-clause-written c =
     IfOk-weaker c.with_put.result _ _ (λ done puts own all one. files_more own c.args.txn done.0 c.in_ok-put.put puts all (ap own c.in_ok-put.ensures.name ∙ one c.if-number-eq0.false)) c.with_put.ensures.puts
+
+pub returns-then-number-eq0-clause-found : goal.returns-then-number-eq0-clause-found
+returns-then-number-eq0-clause-found c = record { kept = []; puts = sym (append-nil c.args.txn); reply = refl }
+
+pub returns-clause-found : goal.returns-clause-found
+returns-clause-found c = ok_both c.with_put.result _ _ _ (λ done puts reply. record { kept = _; puts = puts; reply = reply }) c.with_put.ensures.puts c.with_put.ensures.reply

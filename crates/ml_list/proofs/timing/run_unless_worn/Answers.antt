@@ -1,4 +1,4 @@
-use Rattle.std.proofs.Common.{◌≡◌, true, sym, subst, rules}
+use Rattle.std.proofs.Common.{◌≡◌, true, sym, subst, rules, false, []}
 use Rattle.std.proofs.lemmas.Result.{IfOk-weaker}
 use Rattle.ml_base.specs.Dir.{Dir}
 use Rattle.ml_base.proofs.ReadingLemmas.{kept_read}
@@ -12,6 +12,10 @@ use Rattle.ml_timed.specs.Reads.{is_of_timed}
 use Rattle.ml_list.specs.Delivering.{is_of_worn}
 use Rattle.ml_acts.proofs.OfActs.{act_then}
 use Rattle.ml_list.proofs.Delivered.{worn_other, worn_timed}
+use Rattle.ml_acts.proofs.Found.{found_then}
+use Rattle.ml_timed.specs.Found.{FoundInRun}
+use Rattle.ml_list.specs.Found.{FoundByCounters}
+use Rattle.ml_acts.specs.Found.{TellsWorn}
 use Rattle.ml_list.proofs.timing.run_unless_worn.Goals as goal
 
 pub returns-in-Ok-false-clause-value : goal.returns-in-Ok-false-clause-value
@@ -24,13 +28,30 @@ returns-in-Ok-false-clause-value g c told =
 
 pub returns-in-Ok-false-clause-act : goal.returns-in-Ok-false-clause-act
 returns-in-Ok-false-clause-act g c =
-    act_then g.F.Files c.timed.result.1 (λ name. is_of_timed name ≡ true) (IsDamagedOf (g.F.Files.map c.is_worn.new.files) Undigested) (IsDamagedOf (g.F.Files.map c.args.files) Undigested)
+    act_then g.F.Files c.timed.result.1 (λ name. is_of_timed c.args.config.now.flags.d name ≡ true) (IsDamagedOf (g.F.Files.map c.is_worn.new.files) Undigested) (IsDamagedOf (g.F.Files.map c.args.files) Undigested)
     g.met.F.Files.kept_then c.args.files c.is_worn.new.files c.timed.result.0 (kept_read g.F.Files c.args.files c.is_worn.new.files c.is_worn.result c.is_worn.ensures.reads)
     (λ told name bad. subst (λ (d : Dir). IsDamagedOf d Undigested name) (g.met.F.Files.kept_map c.args.files c.is_worn.new.files told c.is_worn.ensures.reads.kept) bad) c.timed.ensures.act
 
 pub returns-in-Err-clause-act : goal.returns-in-Err-clause-act
 returns-in-Err-clause-act g c =
     let dir = g.F.Files.map c.args.files in
-    let names = named_so g.F.Files (λ name. is_of_timed name ≡ true) _ (λ name. is_of_worn name ≡ true) (IsDamaged dir) (IsDamagedOf dir Undigested) worn_timed (λ name e bad. record { damaged = bad; own = λ of. absurd (worn_other name e of) })
+    let names = named_so g.F.Files (λ name. is_of_timed c.args.config.now.flags.d name ≡ true) _ (λ name. is_of_worn name ≡ true) (IsDamaged dir) (IsDamagedOf dir Undigested) (worn_timed c.args.config.now.flags.d) (λ name e bad. record { damaged = bad; own = λ of. absurd (worn_other name e of) })
     c.in-Err.ensures.names in
     search rules
+
+pub returns-in-Ok-true-clause-found : goal.returns-in-Ok-true-clause-found
+returns-in-Ok-true-clause-found g c told =
+    let is : c.in-Ok-true.field-0 ≡ true = search rules in
+    record {
+      worn = true;
+      counters = subst (TellsWorn (g.F.Files.map c.args.files)) is (c.in-Ok-true.ensures.found told);
+      follows = record { puts = c.new.ensures; is = c.plain.ensures };
+    }
+
+pub returns-in-Ok-false-clause-found : goal.returns-in-Ok-false-clause-found
+returns-in-Ok-false-clause-found g c told =
+    let dir = g.F.Files.map c.args.files in
+    let same = g.met.F.Files.kept_map c.args.files c.is_worn.new.files told c.is_worn.ensures.reads.kept in
+    let no : c.in-Ok-false.field-0 ≡ false = search rules in
+    found_then c.timed.result.1 dir (g.F.Files.map c.is_worn.new.files) (λ d done. FoundInRun d [] done.0) (FoundByCounters dir (λ d. FoundInRun dir [] d.0)) same
+    (λ done is. record { worn = false; counters = subst (TellsWorn dir) no (c.in-Ok-false.ensures.found told); follows = is }) (c.timed.ensures.found told)

@@ -1,4 +1,4 @@
-use Rattle.std.proofs.Common.{◌≡◌, ◌∙◌, true, sym, subst, rules}
+use Rattle.std.proofs.Common.{◌≡◌, ◌∙◌, true, sym, subst, rules, false, []}
 use Rattle.std.specs.Prelude.{unwrap_or}
 use Rattle.std.proofs.lemmas.Result.{IfOk-weaker}
 use Rattle.ml_base.specs.Dir.{Dir}
@@ -12,6 +12,11 @@ use Rattle.ml_manage.specs.Reads.{is_of_posts}
 use Rattle.ml_manage.proofs.OfArchive.{answer_act, reader_named}
 use Rattle.ml_manage.proofs.Sending.{closed, opened}
 use Rattle.ml_base.proofs.ReadingLemmas.{kept_read, kept_then}
+use Rattle.ml_base.specs.Address.{key}
+use Rattle.ml_plain.specs.Answers as answers
+use Rattle.ml_acts.proofs.Found.{found_then}
+use Rattle.ml_joining.specs.Found.{SendsMail}
+use Rattle.ml_manage.specs.Found.{FoundToRead, TellsReader, TellsRange}
 use Rattle.ml_manage.proofs.archive.get.Goals as goal
 
 pub returns-then-not-branch-clause-value : goal.returns-then-not-branch-clause-value
@@ -50,3 +55,22 @@ returns-clause-act g c =
     let on = g.met.F.Files.kept_then in
     let kept = kept_then g.F.Files on first c.may_read.new.files second (kept_read g.F.Files first c.may_read.new.files c.may_read.result c.may_read.ensures.reads) (kept_read g.F.Files c.may_read.new.files second c.get_text.result c.get_text.ensures.reads) in
     answer_act g.F.Files (Range c.args.from (unwrap_or c.args.to c.args.from)) c.args.config.now c.args.sender.now (is_of_posts c.args.from (unwrap_or c.args.to c.args.from)) c.mail_lines.result on first second c.mail_lines.new.files kept (λ told. g.met.F.Files.kept_map first second told kept.kept) c.mail_lines.ensures.act
+
+pub returns-then-not-branch-clause-found : goal.returns-then-not-branch-clause-found
+returns-then-not-branch-clause-found g c told = record {
+  may = false;
+  tells = subst (TellsReader (g.F.Files.map c.args.files.now) c.args.config.now (key c.args.sender.now)) c.if-not-branch.true (c.in_ok-may_read.ensures.found told);
+  follows = record { puts = c.new.ensures; is = c.plain.ensures };
+}
+
+pub returns-clause-found : goal.returns-clause-found
+returns-clause-found g c told =
+    let old = g.F.Files.map c.args.files.now in
+    let conf = c.args.config.now in
+    let k = key c.args.sender.now in
+    let first = g.met.F.Files.kept_map c.args.files.now c.may_read.new.files told c.may_read.ensures.reads.kept in
+    let all = g.met.F.Files.kept_map c.may_read.new.files c.get_text.new.files told c.get_text.ensures.reads.kept ∙ first in
+    let may = subst (TellsReader old conf k) c.if-not-branch.false (c.in_ok-may_read.ensures.found told) in
+    let read = subst (λ (d : Dir). TellsRange d c.args.from (unwrap_or c.args.to c.args.from)) first (c.in_ok-lines.ensures.found told) in
+    found_then c.mail_lines.result old (g.F.Files.map c.get_text.new.files) (λ d. SendsMail d [] answers.archive) (FoundToRead old conf k (TellsRange old c.args.from (unwrap_or c.args.to c.args.from))) all
+    (λ done sent. record { may = true; tells = may; follows = (read, sent) }) (c.mail_lines.ensures.found told)

@@ -16,6 +16,7 @@ use Rattle.ml_acts.proofs.Damages.{named_of}
 use Rattle.ml_manage.specs.Reads.{IsDamagedAmong, is_of_posts}
 use Rattle.ml_manage.specs.Texts.{posts_text}
 use Rattle.ml_manage.proofs.Posts.{posts_are, range_ones, range_read, row_read}
+use Rattle.ml_manage.proofs.Finding.{always_ok}
 use Rattle.ml_manage.proofs.archive.get_text.Goals as goal
 
 pub returns-in_err-numbers-clause-names : goal.returns-in_err-numbers-clause-names
@@ -62,3 +63,8 @@ returns-clause-value g c told =
     c.in_ok-numbers.ensures.value told p.posts (is.archive).filed ∙ ap (λ (n : ℕ). numbers (cut (in_range a n p.posts))) (search rules) in
     value p (subst (λ (d : Dir). IsList d p) (sym same) is) conf ∙ ap (posts_text p) (c.as_slice.ensures ∙ found) ∙ posts_are p (cut (in_range a b p.posts)) (range_ones p.posts a b))
     (c.posts_text.ensures.value told)
+
+pub returns-clause-found : goal.returns-clause-found
+returns-clause-found g c told =
+    let last : c.unwrap_or.result ≡ unwrap_or c.args.to c.args.from = search rules in
+    always_ok c.posts_text.result (c.in_ok-numbers.numbers, subst (λ (to : ℕ). IsRangeByFiles (g.F.Files.map c.args.files.now) c.args.from to c.in_ok-numbers.numbers) last (c.in_ok-numbers.ensures.read told))

@@ -1,4 +1,4 @@
-use Rattle.std.proofs.Common.{◌≡◌, ◌∙◌, ◌/◌, true, sym, subst, rules}
+use Rattle.std.proofs.Common.{◌≡◌, ◌∙◌, ◌/◌, true, sym, subst, rules, false, []}
 use Rattle.std.proofs.lemmas.Result.{IfOk-weaker}
 use Rattle.ml_base.specs.Dir.{Dir}
 use Rattle.ml_plain.specs.ArchiveText.{index_text}
@@ -11,6 +11,11 @@ use Rattle.ml_manage.specs.Reads.{is_of_index}
 use Rattle.ml_manage.proofs.OfArchive.{answer_act, reader_named}
 use Rattle.ml_manage.proofs.Sending.{closed, opened}
 use Rattle.ml_base.proofs.ReadingLemmas.{kept_read, kept_then}
+use Rattle.ml_base.specs.Address.{key}
+use Rattle.ml_plain.specs.Answers as answers
+use Rattle.ml_acts.proofs.Found.{found_then}
+use Rattle.ml_joining.specs.Found.{SendsMail}
+use Rattle.ml_manage.specs.Found.{FoundToRead, TellsReader, TellsIndex}
 use Rattle.ml_manage.proofs.archive.index_of.Goals as goal
 
 pub returns-then-not-branch-clause-value : goal.returns-then-not-branch-clause-value
@@ -49,3 +54,22 @@ returns-clause-act g c =
     let on = g.met.F.Files.kept_then in
     let kept = kept_then g.F.Files on first c.may_read.new.files second (kept_read g.F.Files first c.may_read.new.files c.may_read.result c.may_read.ensures.reads) (kept_read g.F.Files c.may_read.new.files second c.index_text.result c.index_text.ensures.reads) in
     answer_act g.F.Files (Group (c.args.at / 100)) c.args.config.now c.args.sender.now (is_of_index c.args.at) c.mail_lines.result on first second c.mail_lines.new.files kept (λ told. g.met.F.Files.kept_map first second told kept.kept) c.mail_lines.ensures.act
+
+pub returns-then-not-branch-clause-found : goal.returns-then-not-branch-clause-found
+returns-then-not-branch-clause-found g c told = record {
+  may = false;
+  tells = subst (TellsReader (g.F.Files.map c.args.files.now) c.args.config.now (key c.args.sender.now)) c.if-not-branch.true (c.in_ok-may_read.ensures.found told);
+  follows = record { puts = c.new.ensures; is = c.plain.ensures };
+}
+
+pub returns-clause-found : goal.returns-clause-found
+returns-clause-found g c told =
+    let old = g.F.Files.map c.args.files.now in
+    let conf = c.args.config.now in
+    let k = key c.args.sender.now in
+    let first = g.met.F.Files.kept_map c.args.files.now c.may_read.new.files told c.may_read.ensures.reads.kept in
+    let all = g.met.F.Files.kept_map c.may_read.new.files c.index_text.new.files told c.index_text.ensures.reads.kept ∙ first in
+    let may = subst (TellsReader old conf k) c.if-not-branch.false (c.in_ok-may_read.ensures.found told) in
+    let read = subst (λ (d : Dir). TellsIndex d (c.args.at / 100)) first (c.in_ok-lines.ensures.found told) in
+    found_then c.mail_lines.result old (g.F.Files.map c.index_text.new.files) (λ d. SendsMail d [] answers.archive) (FoundToRead old conf k (TellsIndex old (c.args.at / 100))) all
+    (λ done sent. record { may = true; tells = may; follows = (read, sent) }) (c.mail_lines.ensures.found told)

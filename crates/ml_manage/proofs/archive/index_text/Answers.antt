@@ -17,3 +17,6 @@ returns-clause-value g c told p is =
     let dir = g.F.Files.map c.args.files.now in
     let filed = (is.archive).filed in
     c.in_ok-entries_text.ensures ∙ ap entries_text (c.as_slice.ensures ∙ c.in_ok-entries.ensures.value told p.posts filed) ∙ index_is dir p.posts (c.args.at / 100) filed
+
+pub returns-clause-found : goal.returns-clause-found
+returns-clause-found g c told = (c.in_ok-entries.entries, c.in_ok-entries.ensures.read told)

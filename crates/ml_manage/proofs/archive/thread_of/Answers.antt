@@ -1,4 +1,4 @@
-use Rattle.std.proofs.Common.{◌≡◌, ◌∙◌, true, sym, subst, rules}
+use Rattle.std.proofs.Common.{◌≡◌, ◌∙◌, true, sym, subst, rules, false, []}
 use Rattle.std.proofs.lemmas.Result.{IfOk-weaker}
 use Rattle.ml_base.specs.Dir.{Dir}
 use Rattle.ml_config.specs.ConfigFile.{IsConfigFile, config_name}
@@ -13,6 +13,11 @@ use Rattle.ml_manage.specs.Reads.{is_of_thread}
 use Rattle.ml_manage.proofs.OfArchive.{answer_act, part_named, reader_named}
 use Rattle.ml_manage.proofs.Sending.{closed, opened}
 use Rattle.ml_base.proofs.ReadingLemmas.{kept_read, kept_then, reading_then}
+use Rattle.ml_base.specs.Address.{key}
+use Rattle.ml_plain.specs.Answers as answers
+use Rattle.ml_acts.proofs.Found.{found_then}
+use Rattle.ml_joining.specs.Found.{SendsMail}
+use Rattle.ml_manage.specs.Found.{FoundToRead, TellsReader, TellsThread}
 use Rattle.ml_manage.proofs.archive.thread_of.Goals as goal
 
 pub returns-then-not-branch-clause-value : goal.returns-then-not-branch-clause-value
@@ -64,3 +69,22 @@ returns-in_err-lines-clause-act g c =
     let kept = kept_read g.F.Files first second c.may_read.result c.may_read.ensures.reads in
     let names = part_named g.F.Files (ThreadOf c.args.config.now.prefix c.args.at) c.args.config.now c.args.sender.now is_of_thread _ (g.F.Files.map second) (g.F.Files.map first) (λ told. g.met.F.Files.kept_map first second told kept.kept) c.in_err-lines.ensures.names in
     act_err names (reading_then g.F.Files g.met.F.Files.kept_then first second c.thread_text.new.files _ kept c.in_err-lines.ensures.reads) (λ name e. e) (search rules)
+
+pub returns-then-not-branch-clause-found : goal.returns-then-not-branch-clause-found
+returns-then-not-branch-clause-found g c told = record {
+  may = false;
+  tells = subst (TellsReader (g.F.Files.map c.args.files.now) c.args.config.now (key c.args.sender.now)) c.if-not-branch.true (c.in_ok-may_read.ensures.found told);
+  follows = record { puts = c.new.ensures; is = c.plain.ensures };
+}
+
+pub returns-clause-found : goal.returns-clause-found
+returns-clause-found g c told =
+    let old = g.F.Files.map c.args.files.now in
+    let conf = c.args.config.now in
+    let k = key c.args.sender.now in
+    let first = g.met.F.Files.kept_map c.args.files.now c.may_read.new.files told c.may_read.ensures.reads.kept in
+    let all = g.met.F.Files.kept_map c.may_read.new.files c.thread_text.new.files told c.thread_text.ensures.reads.kept ∙ first in
+    let may = subst (TellsReader old conf k) c.if-not-branch.false (c.in_ok-may_read.ensures.found told) in
+    let read = subst (λ (d : Dir). TellsThread d c.args.config.now.prefix c.args.at) first (c.in_ok-lines.ensures.found told) in
+    found_then c.mail_lines.result old (g.F.Files.map c.thread_text.new.files) (λ d. SendsMail d [] answers.archive) (FoundToRead old conf k (TellsThread old c.args.config.now.prefix c.args.at)) all
+    (λ done sent. record { may = true; tells = may; follows = (read, sent) }) (c.mail_lines.ensures.found told)

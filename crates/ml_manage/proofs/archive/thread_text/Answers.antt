@@ -20,6 +20,7 @@ use Rattle.ml_filing.specs.declared.posts.Post.{Post}
 use Rattle.ml_manage.specs.Reads.{IsDamagedAmong, is_of_thread}
 use Rattle.ml_manage.specs.Texts.{posts_text}
 use Rattle.ml_manage.proofs.Posts.{posts_are, row_of_thread, row_thread_read, thread_ones, thread_read}
+use Rattle.ml_manage.proofs.Finding.{always_ok}
 use Rattle.ml_manage.proofs.archive.thread_text.Goals as goal
 
 pub returns-in_err-numbers-clause-names : goal.returns-in_err-numbers-clause-names
@@ -77,3 +78,6 @@ returns-clause-value g c told =
     value p (subst (λ (d : Dir). IsList d p) (sym same) is) conf ∙ ap (posts_text p) (c.as_slice-2.ensures ∙ found ∙ ap (λ (t : Text). numbers (cut (in_thread t n p.posts))) (sym own))
     ∙ posts_are p (cut (in_thread p.config.prefix n p.posts)) (thread_ones p.posts p.config.prefix n))
     (c.posts_text.ensures.value told)
+
+pub returns-clause-found : goal.returns-clause-found
+returns-clause-found g c told = always_ok c.posts_text.result (c.in_ok-numbers.numbers, subst (λ (p : Text). IsThreadAnswer (g.F.Files.map c.args.files.now) p c.args.at c.in_ok-numbers.numbers) c.as_slice.ensures (c.in_ok-numbers.ensures.read told))

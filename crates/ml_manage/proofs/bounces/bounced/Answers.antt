@@ -1,4 +1,4 @@
-use Rattle.std.proofs.Common.{◌||◌, true, ◌∙◌, sym, subst}
+use Rattle.std.proofs.Common.{◌||◌, ◌∙◌, sym, subst, false, true}
 use Rattle.std.proofs.lemmas.Bool.{or_right}
 use Rattle.std.specs.Prelude.{◌&&◌}
 use Rattle.ml_base.specs.Address.{key}
@@ -15,6 +15,8 @@ use Rattle.ml_acts.proofs.OfActs.{act_beside}
 use Rattle.ml_manage.specs.Reads.{is_counted_in}
 use Rattle.ml_manage.proofs.Bounced.{not_noted, noted}
 use Rattle.ml_base.proofs.ReadingLemmas.{kept_read}
+use Rattle.ml_acts.proofs.Found.{found_then}
+use Rattle.ml_manage.specs.Found.{FoundToNote, IfMember, TellsLedger, TellsUsed}
 use Rattle.ml_manage.proofs.bounces.bounced.Goals as goal
 
 pub returns-then-not-branch-clause-value : goal.returns-then-not-branch-clause-value
@@ -46,3 +48,21 @@ returns-clause-act g c =
     let kept = kept_read g.F.Files first second c.was_mailed.result c.was_mailed.ensures.reads in
     act_beside g.F.Files Count g.met.F.Files.kept_then kept (λ told. g.met.F.Files.kept_map first second told kept.kept)
     (λ name e. or_right (is_bucket_of set x name || is_counted_in set name) (is_entry_of set x name) e) (λ name e of. entry_other name set x e of) c.noted.ensures.act
+
+pub returns-then-not-branch-clause-found : goal.returns-then-not-branch-clause-found
+returns-then-not-branch-clause-found g c told =
+    let dir = g.F.Files.map c.args.files.now in
+    record {
+      counts = false;
+      tells = subst (IfMember dir c.args.set (key c.args.x.now) (TellsUsed dir c.args.set)) c.if-not-branch.true (c.in_ok-was_mailed.ensures.found told);
+      follows = record { puts = c.new.ensures; is = c.plain.ensures };
+    }
+
+pub returns-clause-found : goal.returns-clause-found
+returns-clause-found g c told =
+    let dir = g.F.Files.map c.args.files.now in
+    let set = c.args.set in
+    let k = key c.args.x.now in
+    let same = g.met.F.Files.kept_map c.args.files.now c.was_mailed.new.files told c.was_mailed.ensures.reads.kept in
+    found_then c.noted.result dir (g.F.Files.map c.was_mailed.new.files) (λ d done. TellsLedger d set k) (FoundToNote dir set k) same
+    (λ done is. record { counts = true; tells = subst (IfMember dir set k (TellsUsed dir c.args.set)) c.if-not-branch.false (c.in_ok-was_mailed.ensures.found told); follows = is }) (c.noted.ensures.found told)

@@ -2,8 +2,7 @@ use Rattle.std.proofs.Common.{◌≡◌, true, false, List, Option, sym, ◌∙�
 use Rattle.ml_base.specs.Dir.{touches_only}
 use Rattle.ml_base.specs.declared.puts.Put.{Put}
 use Rattle.ml_subs.specs.Answers.{puts_if}
-use Rattle.ml_acts.specs.Doing.{Leaves, is_beside_queue}
-use Rattle.ml_manage.proofs.Bounced.{beside_own}
+use Rattle.ml_acts.specs.Doing.{Leaves, is_left_by}
 use Rattle.ml_manage.proofs.bounces.dropped.Goals as goal
 
 pub returns-in_default-clause-value : goal.returns-in_default-clause-value
@@ -20,5 +19,11 @@ returns-clause-value g c told p is member =
 
 pub returns-clause-act : goal.returns-clause-act
 returns-clause-act g c =
-    let own = beside_own c.in-Some.txn (subst (λ (o : Option (List Put)). touches_only is_beside_queue (puts_if o) ≡ true) c.in-Some.is c.in_ok-txn.ensures.own) in
+    let own = subst (λ (o : Option (List Put)). touches_only (is_left_by c.args.set c.args.x.now) (puts_if o) ≡ true) c.in-Some.is c.in_ok-txn.ensures.left in
     search rules
+
+pub returns-in_default-clause-found : goal.returns-in_default-clause-found
+returns-in_default-clause-found g c told = record { answer = c.in_ok-txn.field-0; found = c.in_ok-txn.ensures.found told }
+
+pub returns-clause-found : goal.returns-clause-found
+returns-clause-found g c told = record { answer = c.in_ok-txn.field-0; found = c.in_ok-txn.ensures.found told }

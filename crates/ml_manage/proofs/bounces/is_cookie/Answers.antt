@@ -16,3 +16,6 @@ pub returns-clause-value : goal.returns-clause-value
 returns-clause-value g c told p is =
     let who = c.as_slice.ensures ∙ c.in_ok-who.ensures.key in
     c.is_good.ensures p (sym (c.in_ok-keys.ensures.read told p.keys is.keys)) ∙ ap (λ (k : Text). is_good p c.args.kind.now c.args.set c.args.time k c.args.letters.now c.args.now) who
+
+pub returns-clause-found : goal.returns-clause-found
+returns-clause-found g c told = (c.in_ok-keys.keys, c.in_ok-keys.ensures.value told)

@@ -14,3 +14,9 @@ returns-in_err-mark-clause-names g c =
     let names = named_as g.F.Files (λ name. same_name name mark_name ≡ true) _ dir dir (λ name. name ≡ mark_name) (λ d _. IsNoMark d) (IsDamagedOf dir Count) (λ told. refl)
     (λ name e. subst (λ (a : Name). same_name a mark_name ≡ true) (sym e) (same_self mark_name)) (λ name e no. record { damaged = mark e no; own = λ of. absurd (other_name name mark_name refl e of) }) c.in_err-mark.ensures.names in
     search rules
+
+pub returns-then-number-ge1-clause-found : goal.returns-then-number-ge1-clause-found
+returns-then-number-ge1-clause-found g c told = (c.in_ok-mark.mark, c.in_ok-mark.ensures.value told)
+
+pub returns-else-number-ge1-clause-found : goal.returns-else-number-ge1-clause-found
+returns-else-number-ge1-clause-found g c told = (c.in_ok-mark.mark, c.in_ok-mark.ensures.value told)

@@ -1,4 +1,4 @@
-use Rattle.std.proofs.Common.{◌∙◌, sym, subst}
+use Rattle.std.proofs.Common.{◌∙◌, sym, subst, true, false}
 use Rattle.std.specs.Prelude.{◌&&◌, codes}
 use Rattle.ml_base.specs.Address.{key}
 use Rattle.ml_base.specs.Dir.{Dir}
@@ -10,6 +10,9 @@ use Rattle.ml_plain.specs.Plain.{Plain, is_in, ledger_of}
 use Rattle.std.proofs.lemmas.Result.{IfOk-weaker}
 use Rattle.ml_acts.specs.Doing.{DoesList}
 use Rattle.ml_manage.proofs.Bounced.{not_noted, noted}
+use Rattle.ml_acts.proofs.Found.{found_then}
+use Rattle.ml_acts.specs.Found.{TellsKeys}
+use Rattle.ml_manage.specs.Found.{FoundToWarn, IfMember, TellsLedger}
 use Rattle.ml_manage.proofs.bounces.warning_bounced.Goals as goal
 
 pub returns-then-not-branch-clause-value : goal.returns-then-not-branch-clause-value
@@ -31,3 +34,21 @@ returns-clause-value g c told =
     (sym (c.in_ok-is_signed.ensures.value told p is) ∙ c.if-not-branch.false)
     (subst (λ (d : Dir). (q : Plain) → IsList d q → DoesList d done (if_changed q set (warn_failed (key x) c.args.time c.args.now.seconds (ledger_of q set)))) same does p is))
     (c.warning_failed.ensures.value told)
+
+pub returns-then-not-branch-clause-found : goal.returns-then-not-branch-clause-found
+returns-then-not-branch-clause-found g c told =
+    let dir = g.F.Files.map c.args.files.now in
+    record {
+      counts = false;
+      tells = subst (IfMember dir c.args.set (key c.args.x.now) (TellsKeys dir)) c.if-not-branch.true (c.in_ok-is_signed.ensures.found told);
+      follows = record { puts = c.new.ensures; is = c.plain.ensures };
+    }
+
+pub returns-clause-found : goal.returns-clause-found
+returns-clause-found g c told =
+    let dir = g.F.Files.map c.args.files.now in
+    let set = c.args.set in
+    let k = key c.args.x.now in
+    let same = g.met.F.Files.kept_map c.args.files.now c.is_signed.new.files told c.is_signed.ensures.reads.kept in
+    found_then c.warning_failed.result dir (g.F.Files.map c.is_signed.new.files) (λ d done. TellsLedger d set k) (FoundToWarn dir set k) same
+    (λ done is. record { counts = true; tells = subst (IfMember dir set k (TellsKeys dir)) c.if-not-branch.false (c.in_ok-is_signed.ensures.found told); follows = is }) (c.warning_failed.ensures.found told)

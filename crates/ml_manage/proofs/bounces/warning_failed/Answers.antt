@@ -30,3 +30,6 @@ returns-clause-act g c =
     let own = changed_own c.args.set c.args.x.now c.in_ok-answer.answer c.changed.result.0 c.requires.mailed c.in_ok-answer.ensures.others c.changed.ensures.puts in
     let reply = change_kept c.in_ok-answer.answer c.changed.result.1 c.changed.ensures.reply in
     search rules
+
+pub returns-clause-found : goal.returns-clause-found
+returns-clause-found g c told = let read = c.in_ok-answer.ensures.read told in (read.0, read.1)

@@ -1,11 +1,11 @@
-use Rattle.std.proofs.Common.{◌∷◌, [], List, refl, sym, subst, rules}
+use Rattle.std.proofs.Common.{◌∷◌, [], List, refl, sym, subst}
 use Rattle.ml_address.specs.declared.Path.{Path}
 use Rattle.ml_base.specs.Bytes.{Text}
 use Rattle.ml_base.specs.Dir.{with_puts}
 use Rattle.ml_config.specs.declared.configuration.Config.{Config}
 use Rattle.ml_plain.specs.Directory.{IsList}
 use Rattle.ml_plain.specs.Mailing.{reply_path, send}
-use Rattle.ml_manage.proofs.Sending.{queue_own}
+use Rattle.ml_queue.specs.declared.entries.Out.{Out}
 use Rattle.ml_manage.proofs.helping.to_owner.Goals as goal
 
 pub returns-clause-value : goal.returns-clause-value
@@ -22,7 +22,7 @@ returns-clause-value g c told p is same =
       list = subst (λ (k : Config). IsList now (send (reply_path k) c.args.message.now (k.owner ∷ []) p)) (sym same) three;
     }
 
-pub returns-clause-act : goal.returns-clause-act
-returns-clause-act g c =
-    let own = queue_own c.in_ok-txn.txn c.in_ok-txn.ensures.own in
-    search rules
+pub returns-clause-found : goal.returns-clause-found
+returns-clause-found g c told =
+    let out : Out = record { path = c.in_ok-way.way; body = c.in_ok-body.body; to = c.in_ok-to.to } in
+    record { queued = record { out = out; queued = c.in_ok-txn.ensures.found told }; is = c.plain.ensures }

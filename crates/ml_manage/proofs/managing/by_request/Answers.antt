@@ -1,4 +1,4 @@
-use Rattle.std.proofs.Common.{◌≡◌, ◌∙◌, true, sym, subst}
+use Rattle.std.proofs.Common.{◌≡◌, ◌∙◌, true, sym, subst, IfOk}
 use Rattle.std.proofs.lemmas.Result.{IfOk-weaker}
 use Rattle.ml_address.specs.Views.{request_view}
 use Rattle.ml_plain.specs.Managing as spec
@@ -7,9 +7,14 @@ use Rattle.ml_base.specs.Address.{address_of}
 use Rattle.ml_plain.specs.Plain.{Plain}
 use Rattle.ml_plain.specs.declared.Reply.{Reply}
 use Rattle.ml_manage.specs.Reads.{IsDamagedFor, is_read_for, is_read_for_sender}
+use Rattle.ml_manage.specs.Written.{is_written_for_sender}
+use Rattle.ml_manage.proofs.Written.{written_other}
 use Rattle.ml_manage.proofs.Others.{may_read_other, of_sender}
 use Rattle.ml_manage.proofs.ForRequests.{done_for, done_of, for_asked, for_other}
-use Rattle.ml_acts.proofs.OfActs.{act_so}
+use Rattle.ml_acts.proofs.OfActs.{act_so, act_wider}
+use Rattle.ml_address.specs.declared.Request.{Request}
+use Rattle.ml_manage.specs.Found.{FoundByRequest}
+use Rattle.ml_manage.proofs.Finding.{found_by_sender}
 use Rattle.ml_manage.proofs.managing.by_request.Goals as goal
 
 pub returns-in-Bounce-clause-value : goal.returns-in-Bounce-clause-value
@@ -36,16 +41,16 @@ returns-in_default-clause-value g c told =
     (c.by_sender.ensures.value told)
 
 pub returns-in-Bounce-clause-act : goal.returns-in-Bounce-clause-act
-returns-in-Bounce-clause-act g c = for_asked g.F.Files (λ r name. is_read_for_sender c.args.config.now c.args.sender.now r name ≡ true) c.in-Bounce.is _ (λ name own. own) c.of_bounce.ensures.act
+returns-in-Bounce-clause-act g c = for_asked g.F.Files (is_written_for_sender c.args.sender.now) (λ r name. is_read_for_sender c.args.config.now c.args.sender.now r name ≡ true) c.in-Bounce.is _ (λ name own. own) c.of_bounce.ensures.act
 
 pub returns-in-WarnBounce-clause-act : goal.returns-in-WarnBounce-clause-act
-returns-in-WarnBounce-clause-act g c = for_other g.F.Files (λ r name. is_read_for_sender c.args.config.now c.args.sender.now r name ≡ true) c.in-WarnBounce.is (λ name. tt) c.of_warning.ensures.act
+returns-in-WarnBounce-clause-act g c = for_other g.F.Files (is_written_for_sender c.args.sender.now) (λ r name. is_read_for_sender c.args.config.now c.args.sender.now r name ≡ true) c.in-WarnBounce.is (λ name. tt) c.of_warning.ensures.act
 
 pub returns-in-ProbeBounce-clause-act : goal.returns-in-ProbeBounce-clause-act
-returns-in-ProbeBounce-clause-act g c = for_other g.F.Files (λ r name. is_read_for_sender c.args.config.now c.args.sender.now r name ≡ true) c.in-ProbeBounce.is (λ name. tt) c.of_probe.ensures.act
+returns-in-ProbeBounce-clause-act g c = for_other g.F.Files (is_written_for_sender c.args.sender.now) (λ r name. is_read_for_sender c.args.config.now c.args.sender.now r name ≡ true) c.in-ProbeBounce.is (λ name. tt) c.of_probe.ensures.act
 
 pub returns-in-Owner-clause-act : goal.returns-in-Owner-clause-act
-returns-in-Owner-clause-act g c = for_other g.F.Files (λ r name. is_read_for_sender c.args.config.now c.args.sender.now r name ≡ true) c.in-Owner.is (λ name. tt) c.to_owner.ensures.act
+returns-in-Owner-clause-act g c = for_other g.F.Files (is_written_for_sender c.args.sender.now) (λ r name. is_read_for_sender c.args.config.now c.args.sender.now r name ≡ true) c.in-Owner.is (λ name. tt) c.to_owner.ensures.act
 
 pub returns-in_default-clause-act : goal.returns-in_default-clause-act
 returns-in_default-clause-act g c =
@@ -53,5 +58,33 @@ returns-in_default-clause-act g c =
     let sender = c.args.sender.now in
     let r = c.args.request.now in
     let bad = IsDamagedFor (g.F.Files.map c.args.files.now) conf (request_view r) in
-    act_so g.F.Files c.by_sender.result (λ name. is_read_for_sender conf sender (request_view r) name ≡ true) bad bad (λ name. is_read_for conf (address_of sender) (request_view r) name ≡ true) c.args.files.now c.by_sender.new.files
-    (λ name e. may_read_other conf sender name r c.in_default.not-Owner c.in_default.not-Bounce c.in_default.not-WarnBounce c.in_default.not-ProbeBounce c.in_default.not-ReplyBounce c.requires.request ∙ e) (λ name e is. is) c.by_sender.ensures.act
+    act_wider
+    (act_so g.F.Files c.by_sender.result (λ name. is_read_for_sender conf sender (request_view r) name ≡ true) bad bad (λ name. is_read_for conf (address_of sender) (request_view r) name ≡ true) c.args.files.now c.by_sender.new.files
+    (λ name e. may_read_other conf sender name r c.in_default.not-Owner c.in_default.not-Bounce c.in_default.not-WarnBounce c.in_default.not-ProbeBounce c.in_default.not-ReplyBounce c.requires.request ∙ e) (λ name e is. is) c.by_sender.ensures.act)
+    (λ name e. written_other sender name r c.in_default.not-Owner c.in_default.not-Bounce c.in_default.not-WarnBounce c.in_default.not-ProbeBounce c.in_default.not-ReplyBounce ∙ e)
+
+pub returns-in-Bounce-clause-found : goal.returns-in-Bounce-clause-found
+returns-in-Bounce-clause-found g c told =
+    subst (λ (r : Request). IfOk c.of_bounce.result (FoundByRequest (g.F.Files.map c.args.files.now) c.args.config.now c.args.sender.now c.args.message.now (request_view r))) (sym c.in-Bounce.is) (c.of_bounce.ensures.found told)
+
+pub returns-in-WarnBounce-clause-found : goal.returns-in-WarnBounce-clause-found
+returns-in-WarnBounce-clause-found g c told =
+    subst (λ (r : Request). IfOk c.of_warning.result (FoundByRequest (g.F.Files.map c.args.files.now) c.args.config.now c.args.sender.now c.args.message.now (request_view r))) (sym c.in-WarnBounce.is) (c.of_warning.ensures.found told)
+
+pub returns-in-ProbeBounce-clause-found : goal.returns-in-ProbeBounce-clause-found
+returns-in-ProbeBounce-clause-found g c told =
+    subst (λ (r : Request). IfOk c.of_probe.result (FoundByRequest (g.F.Files.map c.args.files.now) c.args.config.now c.args.sender.now c.args.message.now (request_view r))) (sym c.in-ProbeBounce.is) (c.of_probe.ensures.found told)
+
+pub returns-in-Owner-clause-found : goal.returns-in-Owner-clause-found
+returns-in-Owner-clause-found g c told =
+    subst (λ (r : Request). IfOk c.to_owner.result (FoundByRequest (g.F.Files.map c.args.files.now) c.args.config.now c.args.sender.now c.args.message.now (request_view r))) (sym c.in-Owner.is) (c.to_owner.ensures.found told)
+
+pub returns-in-ReplyBounce-clause-found : goal.returns-in-ReplyBounce-clause-found
+returns-in-ReplyBounce-clause-found g c told =
+    subst (λ (r : Request). FoundByRequest (g.F.Files.map c.args.files.now) c.args.config.now c.args.sender.now c.args.message.now (request_view r) (c.new.result, c.plain.result)) (sym c.in-ReplyBounce.is) (record { puts = c.new.ensures; is = c.plain.ensures })
+
+pub returns-in_default-clause-found : goal.returns-in_default-clause-found
+returns-in_default-clause-found g c told =
+    IfOk-weaker c.by_sender.result _ _
+    (λ done is. found_by_sender (g.F.Files.map c.args.files.now) c.args.config.now c.args.sender.now c.args.message.now done c.args.request.now c.in_default.not-Owner c.in_default.not-Bounce c.in_default.not-WarnBounce c.in_default.not-ProbeBounce c.in_default.not-ReplyBounce c.requires.request is)
+    (c.by_sender.ensures.found told)

@@ -1,11 +1,13 @@
-use Rattle.std.proofs.Common.{◌≡◌, ◌∙◌, true, Option, Some, sym, subst}
+use Rattle.std.proofs.Common.{◌≡◌, ◌∙◌, true, Option, Some, sym, subst, inl, inr, None, IfOk}
 use Rattle.std.proofs.lemmas.Result.{IfOk-weaker}
 use Rattle.ml_address.specs.Views.{request_view}
 use Rattle.ml_base.specs.Address.{address_of}
 use Rattle.ml_base.specs.Bytes.{Text}
 use Rattle.ml_manage.specs.Reads.{IsDamagedFor, is_read_for}
+use Rattle.ml_manage.specs.Written.{is_written_for}
 use Rattle.ml_manage.proofs.Senders.{of_list, of_nobody, of_somebody}
-use Rattle.ml_acts.specs.Acting.{AnswersAct}
+use Rattle.ml_acts.specs.Acting.{AnswersWithin}
+use Rattle.ml_manage.specs.Found.{FoundBySender}
 use Rattle.ml_manage.proofs.managing.by_sender.Goals as goal
 
 pub returns-in_default-clause-value : goal.returns-in_default-clause-value
@@ -30,4 +32,21 @@ returns-clause-act g c =
     let config = c.args.config.now in
     let request = request_view c.args.request.now in
     let some : Some c.in-Some.who ≡ address_of c.args.sender.now = sym (sym c.in_ok-who.ensures ∙ c.in-Some.is) in
-    subst (λ (o : Option Text). AnswersAct g.F.Files (λ name. is_read_for config o request name ≡ true) (IsDamagedFor (g.F.Files.map c.args.files.now) config request) c.args.files.now c.managed.new.files c.managed.result) some c.managed.ensures.act
+    subst (λ (o : Option Text). AnswersWithin (is_written_for o request) g.F.Files (λ name. is_read_for config o request name ≡ true) (IsDamagedFor (g.F.Files.map c.args.files.now) config request) c.args.files.now c.managed.new.files c.managed.result) some c.managed.ensures.act
+
+pub returns-in_default-clause-found : goal.returns-in_default-clause-found
+returns-in_default-clause-found g c told =
+    let none : None ≡ address_of c.args.sender.now = sym (sym c.in_ok-who.ensures ∙ c.in_default.is) in
+    subst (λ (o : Option Text). FoundBySender (g.F.Files.map c.args.files.now) c.args.config.now o c.args.message.now (request_view c.args.request.now) (c.new.result, c.plain.result)) none (record { puts = c.new.ensures; is = c.plain.ensures })
+
+pub returns-then-is_from_list-clause-found : goal.returns-then-is_from_list-clause-found
+returns-then-is_from_list-clause-found g c told =
+    let some : Some c.in-Some.who ≡ address_of c.args.sender.now = sym (sym c.in_ok-who.ensures ∙ c.in-Some.is) in
+    subst (λ (o : Option Text). FoundBySender (g.F.Files.map c.args.files.now) c.args.config.now o c.args.message.now (request_view c.args.request.now) (c.new-then-is_from_list.result, c.plain-then-is_from_list.result)) some
+    (inl (sym c.is_from_list.ensures ∙ c.if-is_from_list.true, record { puts = c.new-then-is_from_list.ensures; is = c.plain-then-is_from_list.ensures }))
+
+pub returns-clause-found : goal.returns-clause-found
+returns-clause-found g c told =
+    let some : Some c.in-Some.who ≡ address_of c.args.sender.now = sym (sym c.in_ok-who.ensures ∙ c.in-Some.is) in
+    subst (λ (o : Option Text). IfOk c.managed.result (FoundBySender (g.F.Files.map c.args.files.now) c.args.config.now o c.args.message.now (request_view c.args.request.now))) some
+    (IfOk-weaker c.managed.result _ _ (λ done is. inr is) (c.managed.ensures.found told))

@@ -1,4 +1,4 @@
-use Rattle.std.proofs.Common.{ap, sym, subst, rules}
+use Rattle.std.proofs.Common.{ap, sym, subst, rules, ap₂}
 use Rattle.ml_address.specs.Views.{request_view}
 use Rattle.ml_base.specs.Dir.{Dir}
 use Rattle.ml_config.specs.ConfigFile.{IsConfigFile, config_name}
@@ -8,6 +8,8 @@ use Rattle.ml_acts.specs.Configured.{with_config}
 use Rattle.ml_acts.specs.Doing.{HasRoom}
 use Rattle.ml_acts.proofs.UnderConfig.{config_there, done_under, named_under, room_under}
 use Rattle.ml_manage.specs.Reads.{IsDamagedFor}
+use Rattle.ml_acts.proofs.Found.{found_then}
+use Rattle.ml_manage.specs.Found.{FoundByRequest}
 use Rattle.ml_manage.proofs.managing.manage.Goals as goal
 
 pub by_request-requires-clause-room : goal.by_request-requires-clause-room
@@ -39,3 +41,12 @@ returns-clause-act g c =
       };
       reads = search rules;
     }
+
+pub returns-clause-found : goal.returns-clause-found
+returns-clause-found g c told =
+    let config = c.args.config.now in
+    let old = with_config config (g.F.Files.map c.args.files.now) in
+    let there = with_config c.new-under.result.config.now (g.F.Files.map c.new-under.result.files.now) in
+    let request = request_view c.args.request.now in
+    found_then c.by_request.result old there (λ d. FoundByRequest d config c.args.sender.now c.args.message.now request) (FoundByRequest old config c.args.sender.now c.args.message.now request)
+    (ap₂ with_config c.new-under.ensures.config (ap g.F.Files.map c.new-under.ensures.files)) (λ done is. is) (c.by_request.ensures.found told)

@@ -1,4 +1,4 @@
-use Rattle.std.proofs.Common.{◌≡◌, ◌∙◌, true, sym, subst}
+use Rattle.std.proofs.Common.{◌≡◌, ◌∙◌, true, sym, subst, IfOk, []}
 use Rattle.std.proofs.lemmas.Result.{IfOk-weaker}
 use Rattle.ml_address.specs.Views.{request_view}
 use Rattle.ml_address.specs.declared.Request.{Request}
@@ -6,16 +6,22 @@ use Rattle.ml_plain.specs.Managing as spec
 use Rattle.ml_acts.specs.Damaged.{IsDamaged}
 use Rattle.ml_acts.specs.Doing.{DoesList}
 use Rattle.std.proofs.lemmas.Bool.{and_parts}
-use Rattle.ml_base.specs.Dir.{same_name}
+use Rattle.ml_base.specs.Dir.{same_name, Dir}
 use Rattle.ml_plain.specs.Plain.{Plain}
 use Rattle.ml_plain.specs.declared.Reply.{Reply}
 use Rattle.ml_queue.specs.Answers.{ids_name}
 use Rattle.ml_acts.proofs.Asked.{ids_other}
 use Rattle.ml_manage.specs.Reads.{IsDamagedFor, is_asked_of, is_managed}
+use Rattle.ml_manage.specs.Written.{is_written_of}
+use Rattle.ml_manage.proofs.Written.{written_queue}
 use Rattle.ml_manage.proofs.Others.{is_asked_other, of_nothing}
 use Rattle.ml_manage.proofs.ForRequests.{beside_request, done_for, done_held, for_asked, for_held, for_other}
 use Rattle.ml_manage.proofs.Sending.{room_ids}
-use Rattle.ml_acts.proofs.OfActs.{act_so}
+use Rattle.ml_acts.proofs.OfActs.{act_so, act_wider}
+use Rattle.ml_address.specs.declared.Request.TheVariants as requests
+use Rattle.ml_acts.proofs.UnderConfig.{config_held}
+use Rattle.ml_manage.specs.Found.{FoundManaged}
+use Rattle.ml_manage.proofs.Finding.{found_help}
 use Rattle.ml_manage.proofs.managing.managed.Goals as goal
 
 pub members-requires : goal.members-requires
@@ -86,25 +92,25 @@ pub returns-in-Confirm-clause-value : goal.returns-in-Confirm-clause-value
 returns-in-Confirm-clause-value g c told = done_held c.confirm.result _ _ (spec.managed c.args.now.seconds c.args.sender.now) c.in-Confirm.is (c.confirm.ensures.value told)
 
 pub returns-in-Members-clause-act : goal.returns-in-Members-clause-act
-returns-in-Members-clause-act g c = for_other g.F.Files (λ r name. is_asked_of c.args.config.now c.args.sender.now r name ≡ true) c.in-Members.is (λ name. tt) c.members.ensures.act
+returns-in-Members-clause-act g c = for_other g.F.Files (is_written_of c.args.sender.now) (λ r name. is_asked_of c.args.config.now c.args.sender.now r name ≡ true) c.in-Members.is (λ name. tt) c.members.ensures.act
 
 pub returns-in-Get-clause-act : goal.returns-in-Get-clause-act
-returns-in-Get-clause-act g c = for_asked g.F.Files (λ r name. is_asked_of c.args.config.now c.args.sender.now r name ≡ true) c.in-Get.is _ (λ name own. own) c.get.ensures.act
+returns-in-Get-clause-act g c = for_asked g.F.Files (is_written_of c.args.sender.now) (λ r name. is_asked_of c.args.config.now c.args.sender.now r name ≡ true) c.in-Get.is _ (λ name own. own) c.get.ensures.act
 
 pub returns-in-Index-clause-act : goal.returns-in-Index-clause-act
-returns-in-Index-clause-act g c = for_asked g.F.Files (λ r name. is_asked_of c.args.config.now c.args.sender.now r name ≡ true) c.in-Index.is _ (λ name own. own) c.index_of.ensures.act
+returns-in-Index-clause-act g c = for_asked g.F.Files (is_written_of c.args.sender.now) (λ r name. is_asked_of c.args.config.now c.args.sender.now r name ≡ true) c.in-Index.is _ (λ name own. own) c.index_of.ensures.act
 
 pub returns-in-Thread-clause-act : goal.returns-in-Thread-clause-act
-returns-in-Thread-clause-act g c = for_asked g.F.Files (λ r name. is_asked_of c.args.config.now c.args.sender.now r name ≡ true) c.in-Thread.is _ (λ name own. own) c.thread_of.ensures.act
+returns-in-Thread-clause-act g c = for_asked g.F.Files (is_written_of c.args.sender.now) (λ r name. is_asked_of c.args.config.now c.args.sender.now r name ≡ true) c.in-Thread.is _ (λ name own. own) c.thread_of.ensures.act
 
 pub returns-in-Subscribe-clause-act : goal.returns-in-Subscribe-clause-act
-returns-in-Subscribe-clause-act g c = for_held g.F.Files (λ r name. is_asked_of c.args.config.now c.args.sender.now r name ≡ true) c.in-Subscribe.is (λ name. tt) c.requires.loaded c.subscribe.ensures.act
+returns-in-Subscribe-clause-act g c = for_held g.F.Files (is_written_of c.args.sender.now) (λ r name. is_asked_of c.args.config.now c.args.sender.now r name ≡ true) c.in-Subscribe.is (λ name. tt) c.requires.loaded c.subscribe.ensures.act
 
 pub returns-in-Unsubscribe-clause-act : goal.returns-in-Unsubscribe-clause-act
-returns-in-Unsubscribe-clause-act g c = for_held g.F.Files (λ r name. is_asked_of c.args.config.now c.args.sender.now r name ≡ true) c.in-Unsubscribe.is (λ name. tt) c.requires.loaded c.unsubscribe.ensures.act
+returns-in-Unsubscribe-clause-act g c = for_held g.F.Files (is_written_of c.args.sender.now) (λ r name. is_asked_of c.args.config.now c.args.sender.now r name ≡ true) c.in-Unsubscribe.is (λ name. tt) c.requires.loaded c.unsubscribe.ensures.act
 
 pub returns-in-Confirm-clause-act : goal.returns-in-Confirm-clause-act
-returns-in-Confirm-clause-act g c = for_held g.F.Files (λ r name. is_asked_of c.args.config.now c.args.sender.now r name ≡ true) c.in-Confirm.is (λ name. tt) c.requires.loaded c.confirm.ensures.act
+returns-in-Confirm-clause-act g c = for_held g.F.Files (is_written_of c.args.sender.now) (λ r name. is_asked_of c.args.config.now c.args.sender.now r name ≡ true) c.in-Confirm.is (λ name. tt) c.requires.loaded c.confirm.ensures.act
 
 pub returns-in_default-clause-act : goal.returns-in_default-clause-act
 returns-in_default-clause-act g c =
@@ -112,6 +118,51 @@ returns-in_default-clause-act g c =
     let sender = c.args.sender.now in
     let r = c.args.request.now in
     let dir = g.F.Files.map c.args.files.now in
-    act_so g.F.Files c.helped.result (λ name. is_asked_of conf sender (request_view r) name ≡ true) (IsDamaged dir) (IsDamagedFor dir conf (request_view r)) (λ name. same_name name ids_name ≡ true) c.args.files.now c.helped.new.files
+    act_wider
+    (act_so g.F.Files c.helped.result (λ name. is_asked_of conf sender (request_view r) name ≡ true) (IsDamaged dir) (IsDamagedFor dir conf (request_view r)) (λ name. same_name name ids_name ≡ true) c.args.files.now c.helped.new.files
     (λ name e. is_asked_other conf sender name r c.in_default.not-Subscribe c.in_default.not-Unsubscribe c.in_default.not-Members c.in_default.not-Confirm c.in_default.not-Get c.in_default.not-Index c.in_default.not-Thread c.requires.request ∙ e)
-    (λ name e bad. record { damaged = bad; own = beside_request dir conf name (λ of. ids_other name e of) (request_view r) }) c.helped.ensures.act
+    (λ name e bad. record { damaged = bad; own = beside_request dir conf name (λ of. ids_other name e of) (request_view r) }) c.helped.ensures.act)
+    (λ name e. written_queue sender name r c.in_default.not-Subscribe c.in_default.not-Unsubscribe c.in_default.not-Confirm ∙ e)
+
+pub returns-in-Members-clause-found : goal.returns-in-Members-clause-found
+returns-in-Members-clause-found g c told =
+    subst (λ (r : Request). IfOk c.members.result (FoundManaged (g.F.Files.map c.args.files.now) c.args.config.now c.args.sender.now (request_view r))) (sym c.in-Members.is) (c.members.ensures.found told)
+
+pub returns-in-Get-clause-found : goal.returns-in-Get-clause-found
+returns-in-Get-clause-found g c told =
+    subst (λ (r : Request). IfOk c.get.result (FoundManaged (g.F.Files.map c.args.files.now) c.args.config.now c.args.sender.now (request_view r))) (sym c.in-Get.is) (c.get.ensures.found told)
+
+pub returns-in-Index-clause-found : goal.returns-in-Index-clause-found
+returns-in-Index-clause-found g c told =
+    subst (λ (r : Request). IfOk c.index_of.result (FoundManaged (g.F.Files.map c.args.files.now) c.args.config.now c.args.sender.now (request_view r))) (sym c.in-Index.is) (c.index_of.ensures.found told)
+
+pub returns-in-Thread-clause-found : goal.returns-in-Thread-clause-found
+returns-in-Thread-clause-found g c told =
+    subst (λ (r : Request). IfOk c.thread_of.result (FoundManaged (g.F.Files.map c.args.files.now) c.args.config.now c.args.sender.now (request_view r))) (sym c.in-Thread.is) (c.thread_of.ensures.found told)
+
+pub returns-in-Subscribe-clause-found : goal.returns-in-Subscribe-clause-found
+returns-in-Subscribe-clause-found g c told =
+    let dir = g.F.Files.map c.args.files.now in
+    let conf = c.args.config.now in
+    subst (λ (r : Request). IfOk c.subscribe.result (FoundManaged dir conf c.args.sender.now (request_view r))) (sym c.in-Subscribe.is)
+    (subst (λ (d : Dir). IfOk c.subscribe.result (FoundManaged d conf c.args.sender.now (request_view (requests.Subscribe c.in-Subscribe.set c.in-Subscribe.who)))) (config_held conf dir (c.requires.loaded told)) (c.subscribe.ensures.found told))
+
+pub returns-in-Unsubscribe-clause-found : goal.returns-in-Unsubscribe-clause-found
+returns-in-Unsubscribe-clause-found g c told =
+    let dir = g.F.Files.map c.args.files.now in
+    let conf = c.args.config.now in
+    subst (λ (r : Request). IfOk c.unsubscribe.result (FoundManaged dir conf c.args.sender.now (request_view r))) (sym c.in-Unsubscribe.is)
+    (subst (λ (d : Dir). IfOk c.unsubscribe.result (FoundManaged d conf c.args.sender.now (request_view (requests.Unsubscribe c.in-Unsubscribe.set c.in-Unsubscribe.who)))) (config_held conf dir (c.requires.loaded told)) (c.unsubscribe.ensures.found told))
+
+pub returns-in-Confirm-clause-found : goal.returns-in-Confirm-clause-found
+returns-in-Confirm-clause-found g c told =
+    let dir = g.F.Files.map c.args.files.now in
+    let conf = c.args.config.now in
+    subst (λ (r : Request). IfOk c.confirm.result (FoundManaged dir conf c.args.sender.now (request_view r))) (sym c.in-Confirm.is)
+    (subst (λ (d : Dir). IfOk c.confirm.result (FoundManaged d conf c.args.sender.now (request_view (requests.Confirm c.in-Confirm.word c.in-Confirm.set c.in-Confirm.time c.in-Confirm.cookie c.in-Confirm.who)))) (config_held conf dir (c.requires.loaded told)) (c.confirm.ensures.found told))
+
+pub returns-in_default-clause-found : goal.returns-in_default-clause-found
+returns-in_default-clause-found g c told =
+    IfOk-weaker c.helped.result _ _
+    (λ done is. found_help (g.F.Files.map c.args.files.now) c.args.config.now c.args.sender.now [] done c.args.request.now c.in_default.not-Subscribe c.in_default.not-Unsubscribe c.in_default.not-Members c.in_default.not-Confirm c.in_default.not-Get c.in_default.not-Index c.in_default.not-Thread c.requires.request is)
+    (c.helped.ensures.found told)

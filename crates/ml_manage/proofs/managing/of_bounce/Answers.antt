@@ -4,10 +4,12 @@ use Rattle.ml_base.specs.Bytes.{Text}
 use Rattle.ml_plain.specs.Directory.{IsList}
 use Rattle.ml_plain.specs.Plain.{Plain}
 use Rattle.ml_acts.specs.Asked.{Count, IsDamagedOf}
-use Rattle.ml_acts.specs.Doing.{DoesList}
+use Rattle.ml_acts.specs.Doing.{DoesList, is_entry_of}
 use Rattle.ml_plain.specs.Bouncing.{bounced}
 use Rattle.ml_manage.specs.Reads.{is_of_bounce}
-use Rattle.ml_acts.specs.Acting.{AnswersAct}
+use Rattle.ml_acts.specs.Acting.{AnswersWithin}
+use Rattle.ml_base.specs.Address.{key}
+use Rattle.ml_manage.specs.Found.{FoundToNote}
 use Rattle.ml_manage.proofs.managing.of_bounce.Goals as goal
 
 pub named-requires : goal.named-requires
@@ -26,4 +28,7 @@ returns-clause-value g c told =
 
 pub returns-clause-act : goal.returns-clause-act
 returns-clause-act g c =
-    subst (λ (x : Text). AnswersAct g.F.Files (λ name. is_of_bounce c.args.set x name ≡ true) (IsDamagedOf (g.F.Files.map c.args.files.now) Count) c.args.files.now c.bounced.new.files c.bounced.result) c.in_ok-x.ensures c.bounced.ensures.act
+    subst (λ (x : Text). AnswersWithin (is_entry_of c.args.set x) g.F.Files (λ name. is_of_bounce c.args.set x name ≡ true) (IsDamagedOf (g.F.Files.map c.args.files.now) Count) c.args.files.now c.bounced.new.files c.bounced.result) c.in_ok-x.ensures c.bounced.ensures.act
+
+pub returns-clause-found : goal.returns-clause-found
+returns-clause-found g c told = subst (λ (x : Text). IfOk c.bounced.result (FoundToNote (g.F.Files.map c.args.files.now) c.args.set (key x))) c.in_ok-x.ensures (c.bounced.ensures.found told)

@@ -4,10 +4,12 @@ use Rattle.ml_base.specs.Bytes.{Text}
 use Rattle.ml_plain.specs.Directory.{IsList}
 use Rattle.ml_plain.specs.Plain.{Plain}
 use Rattle.ml_acts.specs.Damaged.{IsDamaged}
-use Rattle.ml_acts.specs.Doing.{DoesList}
+use Rattle.ml_acts.specs.Doing.{DoesList, is_left_by}
 use Rattle.ml_manage.specs.Leaving.{of_probe}
 use Rattle.ml_manage.specs.Reads.{is_of_probe}
-use Rattle.ml_acts.specs.Acting.{AnswersAct}
+use Rattle.ml_acts.specs.Acting.{AnswersWithin}
+use Rattle.ml_base.specs.Address.{key}
+use Rattle.ml_manage.specs.Found.{FoundToProbe}
 use Rattle.ml_manage.proofs.managing.of_probe.Goals as goal
 
 pub named-requires : goal.named-requires
@@ -23,4 +25,7 @@ returns-clause-value g c told =
 
 pub returns-clause-act : goal.returns-clause-act
 returns-clause-act g c =
-    subst (λ (x : Text). AnswersAct g.F.Files (λ name. is_of_probe c.args.set x name ≡ true) (IsDamaged (g.F.Files.map c.args.files.now)) c.args.files.now c.probe_bounced.new.files c.probe_bounced.result) c.in_ok-x.ensures c.probe_bounced.ensures.act
+    subst (λ (x : Text). AnswersWithin (is_left_by c.args.set x) g.F.Files (λ name. is_of_probe c.args.set x name ≡ true) (IsDamaged (g.F.Files.map c.args.files.now)) c.args.files.now c.probe_bounced.new.files c.probe_bounced.result) c.in_ok-x.ensures c.probe_bounced.ensures.act
+
+pub returns-clause-found : goal.returns-clause-found
+returns-clause-found g c told = subst (λ (x : Text). IfOk c.probe_bounced.result (FoundToProbe (g.F.Files.map c.args.files.now) c.args.set (key x))) c.in_ok-x.ensures (c.probe_bounced.ensures.found told)

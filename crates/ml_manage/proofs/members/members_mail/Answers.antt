@@ -7,3 +7,6 @@ pub returns-in_err-members-clause-names : goal.returns-in_err-members-clause-nam
 returns-in_err-members-clause-names g c =
     let names = members_named g.F.Files (λ name. is_bucket c.args.set name ≡ true) _ (g.F.Files.map c.args.files.now) c.args.set (λ name e. e) c.in_err-members.ensures.names in
     search rules
+
+pub returns-clause-found : goal.returns-clause-found
+returns-clause-found g c told = (c.in_ok-members.members, c.in_ok-members.ensures.union told)

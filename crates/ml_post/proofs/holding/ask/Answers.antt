@@ -13,11 +13,14 @@ use Rattle.ml_plain.specs.KeptFiles.{is_kept}
 use Rattle.ml_plain.specs.Mailing.{mail_moderators}
 use Rattle.ml_plain.specs.Plain.{Plain}
 use Rattle.ml_acts.specs.Damaged.{IsDamaged}
-use Rattle.ml_acts.specs.Doing.{DoesList, HasIds, is_mailed_by}
+use Rattle.ml_acts.specs.Doing.{DoesList, HasIds, is_mailed_by, is_of_posting}
 use Rattle.ml_acts.proofs.Damages.{keys_named, ok_then, same_self}
 use Rattle.ml_acts.proofs.OfActs.{act_behind}
+use Rattle.ml_acts.proofs.Queued.{held_own, queue_posting}
 use Rattle.ml_post.specs.Holding.{is_asked_by}
-use Rattle.ml_post.proofs.Waiting.{asks, held_beside_mail}
+use Rattle.ml_post.proofs.Waiting.{asks, held_beside_mail, held_posted}
+use Rattle.ml_base.proofs.DamagedNames.{ok_both}
+use Rattle.ml_acts.specs.Found.{AddsMailToSet, TellsKeys}
 use Rattle.ml_post.proofs.holding.ask.Goals as goal
 
 pub returns-in_err-keys-clause-act : goal.returns-in_err-keys-clause-act
@@ -53,5 +56,27 @@ returns-clause-act g c =
     let mailed = c.with_mail_to_moderators.ensures in
     let drawn : is_kept (answers.held ticket) ≡ true = (and_parts (nat_le 1 ticket) (nat_le ticket 1_000_000_000_000_000) c.requires.ticket).1 in
     let reply = ok_then c.with_mail_to_moderators.result (λ done e. ap is_kept (e ∙ c.held.ensures) ∙ drawn) mailed.reply in
-    act_behind g.F.Files IsDamaged g.met.F.Files.kept_then g.met.F.Files.kept_map c.list_keys.ensures.reads (record { own = mailed.own; files = mailed.files; reply = reply; names = mailed.names; reads = mailed.reads })
+    act_behind g.F.Files IsDamaged g.met.F.Files.kept_then g.met.F.Files.kept_map c.list_keys.ensures.reads (record { own = mailed.within is_of_posting queue_posting (held_posted c.args.txn (held_own c.args.txn c.requires.own)); files = mailed.files; reply = reply; names = mailed.names; reads = mailed.reads })
     (λ name e. or_right (same_name name key_name) (is_mailed_by sets.Moderators name) e) (λ told name e bad. bad)
+
+pub returns-clause-found : goal.returns-clause-found
+returns-clause-found g c told =
+    let dir = g.F.Files.map c.args.files.now in
+    let txn = c.args.txn in
+    let kept = g.met.F.Files.kept_map c.args.files.now c.list_keys.new.files told c.list_keys.ensures.reads.kept in
+    ok_both c.with_mail_to_moderators.result (λ done. AddsMailToSet (g.F.Files.map c.list_keys.new.files) sets.Moderators txn done.0) (λ done. done.1 ≡ c.held.result)
+    (λ done. TellsKeys dir × AddsMailToSet dir sets.Moderators txn done.0 × (done.1 ≡ answers.held c.args.ticket))
+    (λ done sent reply. ((c.in_ok-keys.keys, c.in_ok-keys.ensures.found told), subst (λ (d : Dir). AddsMailToSet d sets.Moderators txn done.0) kept sent, reply ∙ c.held.ensures))
+    (c.with_mail_to_moderators.ensures.found told) c.with_mail_to_moderators.ensures.reply
+
+pub returns-clause-apart : goal.returns-clause-apart
+returns-clause-apart g c told =
+    let config = c.args.config.now in
+    let txn = c.args.txn in
+    let mail = c.in_ok-mail.mail in
+    let kept = g.met.F.Files.kept_map c.args.files.now c.list_keys.new.files told c.list_keys.ensures.reads.kept in
+    ok_then c.with_mail_to_moderators.result (λ done does dir p alike is same.
+    asks dir p config c.in_ok-keys.keys c.args.now.seconds c.args.ticket c.args.message mail txn done same
+    (c.in_ok-keys.ensures.value told (with_puts dir txn) p (left_alone (is_of_series Tickets) dir txn key_name c.requires.own refl ∙ alike key_name (or_left (same_name key_name key_name) (is_mailed_by sets.Moderators key_name) refl)) is) c.in_ok-mail.ensures
+    (subst (λ (r : Reply). DoesList dir done (mail_moderators c.args.now.seconds mail p, r)) c.held.ensures
+    (does dir p (λ name e. alike name (or_right (same_name name key_name) (is_mailed_by sets.Moderators name) e) ∙ sym (ap (λ (d : Dir). d name) kept)) is same))) (c.with_mail_to_moderators.ensures.apart told)

@@ -1,4 +1,4 @@
-use Rattle.std.proofs.Common.{◌≡◌, true, false, Option, Some, refl, subst}
+use Rattle.std.proofs.Common.{◌≡◌, true, false, Option, Some, refl, subst, ◌∙◌, sym}
 use Rattle.std.specs.Option.{MatchOption}
 use Rattle.ml_base.specs.Address.{address_of}
 use Rattle.ml_base.specs.Bytes.{Text}
@@ -6,6 +6,7 @@ use Rattle.ml_plain.specs.Posting.{posted_now}
 use Rattle.ml_plain.specs.Verdicts.{is_usable}
 use Rattle.ml_acts.specs.Doing.{DoesList}
 use Rattle.ml_post.proofs.Outcomes.{posts, sender_is}
+use Rattle.std.proofs.lemmas.Bool.{false≢true}
 use Rattle.ml_post.proofs.posting.post_message.Goals as goal
 
 -- whether a sender is an address, by what was read of him
@@ -20,3 +21,24 @@ returns-clause-value g c told p is same usable room =
     let found = subst (IsFound sender) c.in-Some.is c.in_ok-who.ensures in
     subst (λ (s : Text). DoesList dir c.done_by.result (posted_now c.args.now.seconds s message p)) (sender_is sender c.in-Some.who usable found.1)
     (posts dir p c.args.now.seconds c.in-Some.who message c.in_ok-answer.answer c.done_by.result (c.in_ok-answer.ensures.value told dir p (λ name e. refl) is same) room c.done_by.ensures.puts c.done_by.ensures.reply)
+
+pub returns-in_default-clause-found : goal.returns-in_default-clause-found
+returns-in_default-clause-found g c told usable =
+    let found = subst (IsFound c.args.sender.now) c.in_default.is c.in_ok-who.ensures in
+    absurd (false≢true (sym found ∙ usable))
+
+pub returns-clause-found : goal.returns-clause-found
+returns-clause-found g c told usable = record { answer = c.in_ok-answer.answer; found = c.in_ok-answer.ensures.found told; puts = c.done_by.ensures.puts; reply = c.done_by.ensures.reply }
+
+pub returns-in_default-clause-apart : goal.returns-in_default-clause-apart
+returns-in_default-clause-apart g c told dir p alike is same usable room =
+    let found = subst (IsFound c.args.sender.now) c.in_default.is c.in_ok-who.ensures in
+    absurd (false≢true (sym found ∙ usable))
+
+pub returns-clause-apart : goal.returns-clause-apart
+returns-clause-apart g c told dir p alike is same usable room =
+    let sender = c.args.sender.now in
+    let message = c.args.message.now in
+    let found = subst (IsFound sender) c.in-Some.is c.in_ok-who.ensures in
+    subst (λ (s : Text). DoesList dir c.done_by.result (posted_now c.args.now.seconds s message p)) (sender_is sender c.in-Some.who usable found.1)
+    (posts dir p c.args.now.seconds c.in-Some.who message c.in_ok-answer.answer c.done_by.result (c.in_ok-answer.ensures.apart told dir p alike is same) room c.done_by.ensures.puts c.done_by.ensures.reply)

@@ -1,4 +1,4 @@
-use Rattle.std.proofs.Common.{None, ap, ◌∙◌, ◌≡◌, ◌⊎◌, inl, inr, ⊎_elim, sym, refl, subst, take, IsTrue, List, [], length}
+use Rattle.std.proofs.Common.{arith, None, ap, ◌∙◌, ◌≡◌, ◌⊎◌, inl, inr, ⊎_elim, sym, refl, subst, take, IsTrue, List, [], length}
 use Rattle.ml_base.specs.Faults.{Rose}
 use Rattle.ml_site.specs.Disk.{Disk}
 use Rattle.ml_journal.specs.Log.{directory}
@@ -6,9 +6,8 @@ use Rattle.ml_journal.specs.Stores.{site_of}
 use Rattle.ml_ending.specs.declared.lines.Why.{Why}
 use Rattle.ml_ending.specs.declared.lines.Why.TheVariants as whys
 use Rattle.ml_ending.proofs.Said.{at_site, unopened_said, untouched}
-use Rattle.ml_run.proofs.Opening.{runs_before, early_runs, opened_said, opened_then, open_why}
+use Rattle.ml_run.proofs.Opening.{runs_before, early_runs, opened_said, opened_then, open_why, begins_same, crashes_from}
 use Rattle.ml_ending.specs.Stops.{status_of_why}
-use Rattle.ml_run.proofs.Opening.{begins_same, crashes_from}
 use Rattle.ml_base.specs.Bytes.{Text}
 use Rattle.ml_plain.specs.declared.Item.{Item}
 use Rattle.ml_journal.specs.Calls.{Leaves}
@@ -106,34 +105,40 @@ returns-in-Err-clause-few g c bytes is =
     (said_failing g.S.Site c.in-Err.site c.say-in-Err.result.1 c.say-in-Err.result.0.status None c.not_opened.result c.say-in-Err.ensures.says (ap (λ (w : Why). is_failing (status_of_why w)) c.not_opened.ensures ∙ open_failing c.in-Err.error))
 
 pub returns-in_default-clause-anywhere : goal.returns-in_default-clause-anywhere
-returns-in_default-clause-anywhere g c told files here =
-    early_items g.S.Site (AtEachMoment g.S.Site c.args.site c.say.result.1) (Brings (g.F.Feed.left c.args.feed.now)) c.args.limit c.say.result.0.status c.say.result.0.answered c.args.site c.say.result.1 files c.say.ensures.answered
-    (ap directory (c.say.ensures.says.reads told) ∙ here) (said_failing g.S.Site c.args.site c.say.result.1 c.say.result.0.status None whys.Memory c.say.ensures.says refl)
-    (each_moment g.S.Site files [] c.args.site c.say.result.1 here (λ t. inl (unopened_said g.S.Site c.args.site c.args.site c.say.result.1 c.say.result.0.status whys.Memory (untouched g.S.Site g.met.S.Site.only_now c.args.site t) c.say.ensures.says t)))
+returns-in_default-clause-anywhere g c told files here = (
+  early_items g.S.Site (AtEachMoment g.S.Site c.args.site c.say.result.1) (Brings (g.F.Feed.left c.args.feed.now)) c.args.limit c.say.result.0.status c.say.result.0.answered c.args.site c.say.result.1 files c.say.ensures.answered
+      (ap directory (c.say.ensures.says.reads told) ∙ here) (said_failing g.S.Site c.args.site c.say.result.1 c.say.result.0.status None whys.Memory c.say.ensures.says refl)
+      (each_moment g.S.Site files [] c.args.site c.say.result.1 here (λ t. inl (unopened_said g.S.Site c.args.site c.args.site c.say.result.1 c.say.result.0.status whys.Memory (untouched g.S.Site g.met.S.Site.only_now c.args.site t) c.say.ensures.says t))),
+  λ some. absurd (omega (arith, some, c.say.ensures.answered)),
+)
 
 pub returns-in-Ok-open-clause-anywhere : goal.returns-in-Ok-open-clause-anywhere
 returns-in-Ok-open-clause-anywhere g c told files here =
     let now = site_of c.in-Ok-open.store in
     let same = at_site (λ s. directory (g.S.Site.disk s).reads ≡ directory (g.S.Site.disk c.args.site).reads) c.open.result _ c.in-Ok-open.is (c.open.ensures.same told) in
-    let put : IsTrue g.S.Site.tells_all → g.S.Site.output now ≡ g.S.Site.output c.args.site = λ t. at_site (λ s. g.S.Site.output s ≡ g.S.Site.output c.args.site) c.open.result _ c.in-Ok-open.is (c.open.ensures.keeps.output t) in
-    items_before g.S.Site (Leaves g.S.Site now c.opened.result.1) (AtEachMoment g.S.Site c.args.site c.opened.result.1) (Brings (g.F.Feed.left c.args.feed.now)) c.args.limit c.opened.result.0.status c.opened.result.0.answered c.args.site now c.opened.result.1 files put
-    (λ done run. each_moment g.S.Site files done c.args.site c.opened.result.1 here (λ t. opened_done g.S.Site files done c.args.site now c.opened.result.1 here (put t) (c.in-Ok-open.ensures.moments t) (run t)))
-    (c.opened.ensures.anywhere told files (same ∙ here))
+    let put : IsTrue g.S.Site.tells_all → g.S.Site.output now ≡ g.S.Site.output c.args.site = λ t. at_site (λ s. g.S.Site.output s ≡ g.S.Site.output c.args.site) c.open.result _ c.in-Ok-open.is (c.open.ensures.keeps.output t) in (
+      items_before g.S.Site (Leaves g.S.Site now c.opened.result.1) (AtEachMoment g.S.Site c.args.site c.opened.result.1) (Brings (g.F.Feed.left c.args.feed.now)) c.args.limit c.opened.result.0.status c.opened.result.0.answered c.args.site now c.opened.result.1 files put
+          (λ done run. each_moment g.S.Site files done c.args.site c.opened.result.1 here (λ t. opened_done g.S.Site files done c.args.site now c.opened.result.1 here (put t) (c.in-Ok-open.ensures.moments t) (run t)))
+          (c.opened.ensures.anywhere told files (same ∙ here)),
+      c.opened.ensures.configured told files (same ∙ here),
+    )
 
 pub returns-in-Err-clause-anywhere : goal.returns-in-Err-clause-anywhere
 returns-in-Err-clause-anywhere g c told files here =
-    let same = at_site (λ s. directory (g.S.Site.disk s).reads ≡ directory (g.S.Site.disk c.args.site).reads) c.open.result _ c.in-Err.is (c.open.ensures.same told) in
-    early_items g.S.Site (AtEachMoment g.S.Site c.args.site c.say-in-Err.result.1) (Brings (g.F.Feed.left c.args.feed.now)) c.args.limit c.say-in-Err.result.0.status c.say-in-Err.result.0.answered c.args.site c.say-in-Err.result.1 files c.say-in-Err.ensures.answered
-    (ap directory (c.say-in-Err.ensures.says.reads told) ∙ same ∙ here)
-    (said_failing g.S.Site c.in-Err.site c.say-in-Err.result.1 c.say-in-Err.result.0.status None c.not_opened.result c.say-in-Err.ensures.says (ap (λ (w : Why). is_failing (status_of_why w)) c.not_opened.ensures ∙ open_failing c.in-Err.error))
-    (each_moment g.S.Site files [] c.args.site c.say-in-Err.result.1 here (λ t. ⊎_elim
-    (λ early. inl (unopened_said g.S.Site c.args.site c.in-Err.site c.say-in-Err.result.1 c.say-in-Err.result.0.status c.not_opened.result early.1 c.say-in-Err.ensures.says t))
-    (λ late. inr (record {
-      synced = late.synced;
-      first = late.first;
-      rest = late.rest;
-      same = late.same;
-      until = late.until;
-      since = said_done g.S.Site files c.args.site late.synced c.in-Err.site c.say-in-Err.result.1 c.say-in-Err.result.0.status c.not_opened.result here (at_site (λ s. g.S.Site.output s ≡ g.S.Site.output c.args.site) c.open.result _ c.in-Err.is (c.open.ensures.keeps.output t)) late.since c.say-in-Err.ensures.says t;
-    }))
-    (c.in-Err.ensures.moments_err t)))
+    let same = at_site (λ s. directory (g.S.Site.disk s).reads ≡ directory (g.S.Site.disk c.args.site).reads) c.open.result _ c.in-Err.is (c.open.ensures.same told) in (
+      early_items g.S.Site (AtEachMoment g.S.Site c.args.site c.say-in-Err.result.1) (Brings (g.F.Feed.left c.args.feed.now)) c.args.limit c.say-in-Err.result.0.status c.say-in-Err.result.0.answered c.args.site c.say-in-Err.result.1 files c.say-in-Err.ensures.answered
+          (ap directory (c.say-in-Err.ensures.says.reads told) ∙ same ∙ here)
+          (said_failing g.S.Site c.in-Err.site c.say-in-Err.result.1 c.say-in-Err.result.0.status None c.not_opened.result c.say-in-Err.ensures.says (ap (λ (w : Why). is_failing (status_of_why w)) c.not_opened.ensures ∙ open_failing c.in-Err.error))
+          (each_moment g.S.Site files [] c.args.site c.say-in-Err.result.1 here (λ t. ⊎_elim
+          (λ early. inl (unopened_said g.S.Site c.args.site c.in-Err.site c.say-in-Err.result.1 c.say-in-Err.result.0.status c.not_opened.result early.1 c.say-in-Err.ensures.says t))
+          (λ late. inr (record {
+            synced = late.synced;
+            first = late.first;
+            rest = late.rest;
+            same = late.same;
+            until = late.until;
+            since = said_done g.S.Site files c.args.site late.synced c.in-Err.site c.say-in-Err.result.1 c.say-in-Err.result.0.status c.not_opened.result here (at_site (λ s. g.S.Site.output s ≡ g.S.Site.output c.args.site) c.open.result _ c.in-Err.is (c.open.ensures.keeps.output t)) late.since c.say-in-Err.ensures.says t;
+          }))
+          (c.in-Err.ensures.moments_err t))),
+      λ some. absurd (omega (arith, some, c.say-in-Err.ensures.answered)),
+    )

@@ -15,6 +15,8 @@ use Rattle.ml_queue.specs.Answers.{ids_name}
 use Rattle.ml_acts.specs.Damaged.{IsDamaged}
 use Rattle.ml_acts.proofs.Asked.{named_as}
 use Rattle.ml_timed.specs.Reads.{is_of_issue}
+use Rattle.ml_queue.specs.declared.entries.Out.{Out}
+use Rattle.ml_acts.specs.Found.{QueuesOut}
 use Rattle.ml_timed.proofs.digesting.mailed.Goals as goal
 
 pub returns-clause-value : goal.returns-clause-value
@@ -39,3 +41,9 @@ returns-clause-names g c =
     let dir = g.F.Files.map c.args.files.now in
     named_as g.F.Files (λ name. is_of_issue name ≡ true) _ dir (g.F.Files.map c.recipients.new.files) (λ name. same_name name ids_name ≡ true) IsDamaged (IsDamaged dir)
     (λ told. g.met.F.Files.kept_map c.args.files.now c.recipients.new.files told c.recipients.ensures.reads.kept) (λ name e. or_right (is_bucket sets.Digest name) (same_name name ids_name) e) (λ name e bad. bad) c.send.ensures.names
+
+pub returns-clause-found : goal.returns-clause-found
+returns-clause-found g c told =
+    let kept = g.met.F.Files.kept_map c.args.files.now c.recipients.new.files told c.recipients.ensures.reads.kept in
+    let out : Out = record { path = c.in_ok-way.way; body = c.args.body; to = c.in_ok-to.to } in
+    ok_then c.send.result (λ txn queued. record { out = out; to = c.in_ok-to.ensures.found told; queued = subst (λ (d : Dir). QueuesOut d out txn) kept queued }) (c.send.ensures.found told)

@@ -4,7 +4,7 @@ use Rattle.ml_base.proofs.DamagedNames.{ok_both}
 use Rattle.ml_bounce.specs.Ledger.{forget}
 use Rattle.ml_plain.specs.Plain.{ledger_of}
 use Rattle.ml_acts.specs.Doing.{is_entry_of}
-use Rattle.ml_acts.specs.Growing.{is_of_time}
+use Rattle.ml_timed.specs.Found.{is_followed_up}
 use Rattle.ml_acts.specs.Spelled.{AreSpelled}
 use Rattle.ml_acts.proofs.Damages.{entry_named, ok_then}
 use Rattle.ml_acts.proofs.Queued.{touches_weaker}
@@ -24,7 +24,7 @@ returns-clause-value g c tells =
 pub returns-clause-own : goal.returns-clause-own
 returns-clause-own g c =
     ok_then c.forget.result
-    (λ txn only. touches_weaker (is_key_file c.args.set (key c.args.who.now)) is_of_time txn (file_timed c.args.set (key c.args.who.now) c.requires.ledger) only) c.forget.ensures.others
+    (λ txn only. touches_weaker (is_key_file c.args.set (key c.args.who.now)) is_followed_up txn (file_timed c.args.set (key c.args.who.now) c.requires.ledger) only) c.forget.ensures.others
 
 pub returns-clause-drawn : goal.returns-clause-drawn
 returns-clause-drawn g c told =

@@ -16,7 +16,8 @@ use Rattle.ml_plain.specs.Plain.{Plain}
 use Rattle.ml_plain.specs.Timing.{follow_up}
 use Rattle.ml_queue.specs.Answers.{ids_name}
 use Rattle.ml_acts.specs.Damaged.{IsNoKeys}
-use Rattle.ml_acts.specs.Growing.{IsGrown, is_of_time}
+use Rattle.ml_acts.specs.Growing.{IsGrown}
+use Rattle.ml_timed.specs.Found.{is_followed_up}
 use Rattle.ml_acts.proofs.Damages.{keys_named, ok_then}
 use Rattle.ml_acts.proofs.Grown.{grown_then}
 use Rattle.ml_timed.specs.Ahead.{HasIdsFor, IsAhead, of_set}
@@ -144,8 +145,8 @@ returns-clause-harmless g c tells =
 
 pub returns-clause-grown : goal.returns-clause-grown
 returns-clause-grown g c =
-    grown_then is_of_time (puts_over c.args.files.now) (puts_over c.follow_each.new.files) (puts_over c.follow_each-2.new.files)
-    (subst (λ (puts : List Put). IsGrown is_of_time puts (puts_over c.follow_each.new.files)) (c.key.ensures.reads.kept.1 ∙ c.due-2.ensures.reads.kept.1 ∙ c.due.ensures.reads.kept.1) c.follow_each.ensures.grown) c.follow_each-2.ensures.grown
+    grown_then is_followed_up (puts_over c.args.files.now) (puts_over c.follow_each.new.files) (puts_over c.follow_each-2.new.files)
+    (subst (λ (puts : List Put). IsGrown is_followed_up puts (puts_over c.follow_each.new.files)) (c.key.ensures.reads.kept.1 ∙ c.due-2.ensures.reads.kept.1 ∙ c.due.ensures.reads.kept.1) c.follow_each.ensures.grown) c.follow_each-2.ensures.grown
 
 pub returns-clause-reads : goal.returns-clause-reads
 returns-clause-reads g c =

@@ -10,7 +10,7 @@ use Rattle.ml_plain.specs.Directory.{IsList}
 use Rattle.ml_plain.specs.Plain.{Plain, ledger_of}
 use Rattle.ml_plain.specs.Timing.{follow_up}
 use Rattle.ml_acts.specs.Doing.{HasIds}
-use Rattle.ml_acts.specs.Growing.{is_of_time}
+use Rattle.ml_timed.specs.Found.{is_followed_up}
 use Rattle.ml_acts.proofs.Grown.{grown_then}
 use Rattle.ml_timed.specs.Ahead.{HasIdsFor}
 use Rattle.ml_timed.proofs.Amid.{amid_last, amid_next, ids_first, ids_more, none_left}
@@ -45,7 +45,7 @@ loop-rest-preserved g c =
     record {
       kept = kept_then g.F.Files g.met.F.Files.kept_then (files_below c.args.files.now) (files_below c.loop-rest.files) (files_below c.follow_one.new.files) c.loop-rest.invariant.kept
           (kept_read g.F.Files (files_below c.loop-rest.files) (files_below c.follow_one.new.files) c.follow_one.result c.follow_one.ensures.reads);
-      grown = grown_then is_of_time (puts_over c.args.files.now) (puts_over c.loop-rest.files) (puts_over c.follow_one.new.files) c.loop-rest.invariant.grown c.follow_one.ensures.grown;
+      grown = grown_then is_followed_up (puts_over c.args.files.now) (puts_over c.loop-rest.files) (puts_over c.follow_one.new.files) c.loop-rest.invariant.grown c.follow_one.ensures.grown;
       harmless = λ tells.
           let same = g.met.F.Files.kept_map (files_below c.args.files.now) (files_below c.loop-rest.files) tells c.loop-rest.invariant.kept.kept in
           harmless_then below (g.F.Files.map (files_below c.loop-rest.files)) (puts_over c.args.files.now) (puts_over c.loop-rest.files) (puts_over c.follow_one.new.files) same

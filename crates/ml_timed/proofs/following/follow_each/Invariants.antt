@@ -4,7 +4,8 @@ use Rattle.ml_base.specs.Layers.{files_below, puts_over}
 use Rattle.ml_base.specs.ReadFiles.{AreKept}
 use Rattle.ml_bounce.specs.Ledger.{Ledger}
 use Rattle.ml_plain.specs.Plain.{Plain}
-use Rattle.ml_acts.specs.Growing.{IsGrown, is_of_time}
+use Rattle.ml_acts.specs.Growing.{IsGrown}
+use Rattle.ml_timed.specs.Found.{is_followed_up}
 use Rattle.ml_acts.specs.Spelled.{DamagesNothing}
 use Rattle.ml_timed.specs.Ahead.{HasIdsFor, IsAhead}
 use Rattle.ml_timed.proofs.Amid.{IsAmid}
@@ -16,7 +17,7 @@ decreases-loop-rest g l = length l.rest
 abbrev pub invariant-loop-rest : goal.invariant-loop-rest
 invariant-loop-rest g l = record {
   kept : AreKept g.F.Files (files_below l.fn.files) (files_below l.files);
-  grown : IsGrown is_of_time (puts_over l.fn.files) (puts_over l.files);
+  grown : IsGrown is_followed_up (puts_over l.fn.files) (puts_over l.files);
   harmless : IsTrue g.F.Files.tells → DamagesNothing (with_puts (g.F.Files.map (files_below l.fn.files)) (puts_over l.fn.files)) (with_puts (g.F.Files.map (files_below l.fn.files)) (puts_over l.files));
   ids : IsTrue g.F.Files.tells → (more : ℕ) → HasIdsFor (with_puts (g.F.Files.map (files_below l.fn.files)) (puts_over l.fn.files)) (length l.fn.actions + more)
       → HasIdsFor (with_puts (g.F.Files.map (files_below l.fn.files)) (puts_over l.files)) (length l.rest + more);

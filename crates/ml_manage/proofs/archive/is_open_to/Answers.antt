@@ -1,0 +1,13 @@
+use Rattle.ml_base.specs.Address.{key}
+use Rattle.ml_acts.proofs.Damages.{ok_then}
+use Rattle.std.proofs.Common.{◌≡◌, true, false, rules}
+use Rattle.ml_manage.specs.Found.{is_closed}
+use Rattle.ml_manage.proofs.Finding.{open_by}
+use Rattle.ml_manage.proofs.archive.is_open_to.Goals as goal
+
+pub returns-clause-found : goal.returns-clause-found
+returns-clause-found g c told =
+    let conf = c.args.config.now in
+    let free : is_closed conf ≡ false = search rules in
+    let only : conf.flags.g ≡ true = search rules in
+    ok_then c.is_subscriber.result (λ b tells. open_by (g.F.Files.map c.args.files.now) conf (key c.args.sender.now) b free only tells) (c.is_subscriber.ensures.found told)

@@ -1,0 +1,82 @@
+-- What is found of a post, row by row.
+use Rattle.std.proofs.Common.{◌≡◌, ◌≤◌, ℕ, Bool, true, false, List, sym, subst, arith}
+use Rattle.std.specs.Prelude.{not}
+use Rattle.ml_base.specs.Address.{key}
+use Rattle.ml_base.specs.Bytes.{Text}
+use Rattle.ml_base.specs.Dir.{Dir}
+use Rattle.ml_base.specs.declared.names.Set.TheVariants as sets
+use Rattle.ml_base.specs.declared.puts.Put.{Put}
+use Rattle.ml_config.specs.declared.configuration.Config.{Config}
+use Rattle.ml_filing.specs.Archive.{IsNumberFile, number_name}
+use Rattle.ml_plain.specs.Answers as answers
+use Rattle.ml_plain.specs.Verdicts.{is_usable}
+use Rattle.ml_plain.specs.declared.Reply.{Reply}
+use Rattle.ml_acts.specs.Found.{TellsMember}
+use Rattle.ml_post.specs.Found.{FoundByPost, FoundOfPost, FoundOfRoom, FoundOfSender, FoundOfText, FoundOfUser, FoundToFollow, TellsDenied, TellsStranger, TellsUser}
+use Rattle.ml_post.specs.Posting.{outcome_of}
+use Rattle.ml_post.specs.declared.posting.Outcome.{Outcome}
+use Rattle.ml_post.specs.declared.posting.Outcome.TheVariants as fates
+use Rattle.ml_post.specs.declared.verdicts.Verdict.{Verdict as Found}
+use Rattle.ml_post.specs.declared.verdicts.Verdict.TheVariants as found
+
+module _ (dir : Dir) (c : Config) (k : Text) where
+  -- whether a sender is denied, where there is a deny list
+  pub denied_by : (b : Bool) → c.flags.k ≡ true → TellsMember dir sets.Deny k b → TellsDenied dir c k b
+  denied_by true has tells = (has, tells)
+  denied_by false has tells = λ _. tells
+
+  -- whether he is no user, where only they may post
+  pub stranger_by : (b : Bool) → c.flags.u ≡ true → TellsUser dir k b → TellsStranger dir c k (not b)
+  stranger_by true only tells = λ _. tells
+  stranger_by false only tells = (only, tells)
+
+  -- after a row that doesn't hold
+  pub user_then : (v : Found) → TellsStranger dir c k false → FoundOfRoom dir c v → FoundOfUser dir c k v
+  user_then found.UsersOnly may room = absurd room
+  user_then v may room = (may, room)
+
+  pub text_then : (m : Text) (v : Found) → FoundOfUser dir c k v → FoundOfText dir c k m v
+  text_then m found.NoSubject user = absurd user.1
+  text_then m found.CommandSubject user = absurd user.1
+  text_then m found.NotAddressed user = absurd user.1
+  text_then m v user = user
+
+  pub sender_then : (m : Text) (v : Found) → TellsDenied dir c k false → FoundOfText dir c k m v → FoundOfSender dir c k m v
+  sender_then m found.Denied may text = absurd text.1
+  sender_then m v may text = (may, text)
+
+-- whether there is room, by the number of posts
+pub full_by : (dir : Dir) (n : ℕ) → IsNumberFile (dir number_name) n → 99_999_999 ≤ n → IsNumberFile (dir number_name) 99_999_999
+full_by dir n is least =
+    let few = is.few in
+    let same : n ≡ 99_999_999 = omega (arith, few, least) in
+    subst (λ (k : ℕ). IsNumberFile (dir number_name) k) same is
+
+module _ (dir : Dir) (c : Config) (sender m : Text) where
+  pub post_then : (v : Found) → is_usable sender ≡ true → FoundOfSender dir c (key sender) m v → FoundOfPost dir c sender m v
+  post_then found.TooBig usable from = absurd from.1.1
+  post_then found.BounceSender usable from = absurd from.1.1
+  post_then found.Looped usable from = absurd from.1.1
+  post_then v usable from = (usable, from)
+
+  -- one that is held or posted has a sender
+  pub usable_by : (v : Found) (o : Outcome) → ((reply : Reply) → o ≡ fates.Refused reply → ⊥) → outcome_of v ≡ o → FoundOfPost dir c sender m v → is_usable sender ≡ true
+  usable_by found.TooBig o none e is = absurd (none answers.toobig (sym e))
+  usable_by found.BounceSender o none e is = absurd (none answers.nosender (sym e))
+  usable_by found.Looped o none e is = absurd (none answers.looped (sym e))
+  usable_by v o none e is = is.0
+
+  -- what follows it
+  pub followed : (scanned : Text) (v : Found) (o : Outcome) (done : List Put × Reply) → scanned ≡ m → outcome_of v ≡ o → FoundOfPost dir c sender scanned v → (FoundOfPost dir c sender m v → FoundToFollow dir c o done) → FoundByPost dir c sender m done
+  followed scanned v o done same e is follows =
+      let here = subst (λ (t : Text). FoundOfPost dir c sender t v) same is in record {
+        verdict = v;
+        found = here;
+        follows = subst (λ (x : Outcome). FoundToFollow dir c x done) (sym e) (follows here);
+      }
+
+  pub held_usable : (v : Found) → outcome_of v ≡ fates.Held → FoundOfPost dir c sender m v → is_usable sender ≡ true
+  held_usable v e is = usable_by v fates.Held (λ reply no. cc) e is
+
+  pub posted_usable : (v : Found) → outcome_of v ≡ fates.Posted → FoundOfPost dir c sender m v → is_usable sender ≡ true
+  posted_usable v e is = usable_by v fates.Posted (λ reply no. cc) e is

@@ -1,0 +1,117 @@
+-- What posts find in the files that they read, whatever the other files hold: these are in their grammar, and what is answered goes by what they spell.
+use Rattle.std.specs.Prelude.{◌≡◌, ◌<◌, ◌+◌, ℕ, Bool, true, false, List, length, codes}
+use Rattle.ml_base.specs.Address.{key}
+use Rattle.ml_base.specs.Bytes.{Text, is_empty, lower}
+use Rattle.ml_base.specs.Dir.{Dir}
+use Rattle.ml_base.specs.declared.names.Set.TheVariants as sets
+use Rattle.ml_base.specs.declared.puts.Put.{Put}
+use Rattle.ml_config.specs.declared.configuration.Config.{Config}
+use Rattle.ml_drawn.specs.Answers.{IsDrawing}
+use Rattle.ml_drawn.specs.declared.series.Series.TheVariants.{Tickets}
+use Rattle.ml_filing.specs.Answers.{IsAppended, puts_of}
+use Rattle.ml_filing.specs.Archive.{IsNumberFile, number_name}
+use Rattle.ml_filing.specs.Subjects.{subject}
+use Rattle.ml_filing.specs.declared.posts.Appended.{Appended}
+use Rattle.ml_filing.specs.declared.posts.Appended.TheVariants.{At, Full}
+use Rattle.ml_filing.specs.declared.posts.Post.{Post}
+use Rattle.ml_header.specs.Fields.{has_field}
+use Rattle.ml_hold.specs.Held.{held_text}
+use Rattle.ml_hold.specs.declared.posts.Held.{Held}
+use Rattle.ml_plain.specs.Answers as answers
+use Rattle.ml_plain.specs.Verdicts.{is_usable, is_command, is_addressed}
+use Rattle.ml_plain.specs.declared.Reply.{Reply}
+use Rattle.ml_acts.specs.Found.{AddsMailToSet, EitherTells, Says, TellsKeys, TellsMember}
+use Rattle.ml_post.specs.Posting.{outcome_of, reply_of}
+use Rattle.ml_post.specs.declared.posting.Outcome.{Outcome}
+use Rattle.ml_post.specs.declared.posting.Outcome.TheVariants as fates
+use Rattle.ml_post.specs.declared.verdicts.Verdict.{Verdict as Found}
+use Rattle.ml_post.specs.declared.verdicts.Verdict.TheVariants as found
+
+-- whether a key is a user's, by its buckets of the four sets whose members are users, up to the first that has it
+abbrev pub TellsUser : Dir → Text → Bool → Type 0
+TellsUser dir k = EitherTells (EitherTells (TellsMember dir sets.List k) (TellsMember dir sets.Digest k)) (EitherTells (TellsMember dir sets.Allow k) (TellsMember dir sets.Moderators k))
+
+-- a sender is denied only where there is a deny list and his bucket of it has him; and where there is one he isn't only if that bucket, in its
+-- grammar, doesn't have him
+abbrev pub TellsDenied : Dir → Config → Text → Bool → Type 0
+TellsDenied dir c k true = (c.flags.k ≡ true) × TellsMember dir sets.Deny k true
+TellsDenied dir c k false = c.flags.k ≡ true → TellsMember dir sets.Deny k false
+
+-- the same of users, where only they may post
+abbrev pub TellsStranger : Dir → Config → Text → Bool → Type 0
+TellsStranger dir c k true = (c.flags.u ≡ true) × TellsUser dir k false
+TellsStranger dir c k false = c.flags.u ≡ true → TellsUser dir k true
+
+-- What is found of a post, by the files that tell it: of one that its sender may send, of one with a text that is taken, of one whose sender isn't
+-- denied, of one that isn't too long, has a sender and didn't come from the list, and of any.
+abbrev pub FoundOfRoom : Dir → Config → Found → Type 0
+FoundOfRoom dir c found.Held = c.flags.m ≡ true
+FoundOfRoom dir c found.Full = (c.flags.m ≡ false) × IsNumberFile (dir number_name) 99_999_999
+FoundOfRoom dir c found.Posted = (c.flags.m ≡ false) × ((n : ℕ) × (n < 99_999_999) × IsNumberFile (dir number_name) n)
+FoundOfRoom dir c _ = ⊥
+
+abbrev pub FoundOfUser : Dir → Config → Text → Found → Type 0
+FoundOfUser dir c k found.UsersOnly = TellsStranger dir c k true
+FoundOfUser dir c k v = TellsStranger dir c k false × FoundOfRoom dir c v
+
+abbrev pub FoundOfText : Dir → Config → Text → Text → Found → Type 0
+FoundOfText dir c k m found.NoSubject = is_empty (subject m) ≡ true
+FoundOfText dir c k m found.CommandSubject = is_command (lower (subject m)) ≡ true
+FoundOfText dir c k m found.NotAddressed = is_addressed c m ≡ false
+FoundOfText dir c k m v = FoundOfUser dir c k v
+
+abbrev pub FoundOfSender : Dir → Config → Text → Text → Found → Type 0
+FoundOfSender dir c k m found.Denied = TellsDenied dir c k true
+FoundOfSender dir c k m v = TellsDenied dir c k false × FoundOfText dir c k m v
+
+abbrev pub FoundOfPost : Dir → Config → Text → Text → Found → Type 0
+FoundOfPost dir c sender m found.TooBig = c.max < length m
+FoundOfPost dir c sender m found.BounceSender = is_usable sender ≡ false
+FoundOfPost dir c sender m found.Looped = has_field (codes "mailing-list") m ≡ true
+FoundOfPost dir c sender m v = (is_usable sender ≡ true) × FoundOfSender dir c (key sender) m v
+
+-- A post is held: it got the next ticket, by the counter of tickets; there are keys; and the question goes to exactly the addresses that the moderators'
+-- buckets spell.
+pub record FoundToHold (dir : Dir) (done : List Put × Reply) : Type 0 where
+  pub ticket : ℕ
+  pub held : Held
+  pub waiting : List Put
+  pub drawn : IsDrawing dir Tickets (held_text held) ticket waiting
+  pub keys : TellsKeys dir
+  pub asked : AddsMailToSet dir sets.Moderators waiting done.0
+  pub reply : done.1 ≡ answers.held ticket
+
+-- A post gets the next number, by the file of the number: it goes into the archive by the files that this reads, and to exactly the addresses that
+-- the buckets of the set list spell.
+pub record FoundToAppend (dir : Dir) (prefix : Text) (number : ℕ) (puts : List Put) : Type 0 where
+  pub count : ℕ
+  pub counted : IsNumberFile (dir number_name) count
+  pub next : number ≡ count + 1
+  pub post : Post
+  pub place : ℕ
+  pub filed : List Put
+  pub appended : IsAppended dir prefix post (At place filed)
+  pub sent : AddsMailToSet dir sets.List filed puts
+
+abbrev pub FoundToPublish : Dir → Text → Appended → Type 0
+FoundToPublish dir prefix (At number puts) = FoundToAppend dir prefix number puts
+FoundToPublish dir prefix Full = IsNumberFile (dir number_name) 99_999_999
+
+-- a post is taken, or the archive is full
+pub record FoundToTake (dir : Dir) (prefix : Text) (done : List Put × Reply) : Type 0 where
+  pub answer : Appended
+  pub found : FoundToPublish dir prefix answer
+  pub puts : done.0 ≡ puts_of answer
+  pub reply : done.1 ≡ reply_of answer
+
+-- what follows a verdict, by the files that tell it
+abbrev pub FoundToFollow : Dir → Config → Outcome → List Put × Reply → Type 0
+FoundToFollow dir c (fates.Refused reply) done = Says reply done
+FoundToFollow dir c fates.Held done = FoundToHold dir done
+FoundToFollow dir c fates.Posted done = FoundToTake dir c.prefix done
+
+-- what an answer to a post found
+pub record FoundByPost (dir : Dir) (c : Config) (sender m : Text) (done : List Put × Reply) : Type 0 where
+  pub verdict : Found
+  pub found : FoundOfPost dir c sender m verdict
+  pub follows : FoundToFollow dir c (outcome_of verdict) done
