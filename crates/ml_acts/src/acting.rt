@@ -51,7 +51,7 @@ pub fn with_mail<F: Files>(
 }
 
 /// These puts, after them a mail of this moment to all moderators, and a reply. The puts are of files that a delivery may write, other than
-/// the queue's and the moderators' set's. All puts are of these files and the queue's (`within`). It reads that set but for its count, and the
+/// the queue's and the moderators' set's. All puts are of these files and the queue's (`within`). It reads that set without its count, and the
 /// counter of ids.
 pub fn with_mail_to_moderators<F: Files>(
     alloc: Global,
