@@ -19,9 +19,6 @@ use Rattle.ml_plain.specs.Managing.{joined}
 use Rattle.ml_plain.specs.Plain.{Plain, added, is_full, ledger_of, removed, with_ledger_of, with_members}
 use Rattle.ml_plain.proofs.Changes.{members_changed}
 use Rattle.ml_acts.specs.Doing.{DoesList}
-use Rattle.ml_acts.proofs.Damages.{ok_then}
-use Rattle.ml_joining.specs.Operations.{IsSubject}
-use Rattle.ml_joining.specs.declared.subjects.Subject.{Subject}
 
 -- an answer of a call on the files as they were kept, behind no puts
 pub told_by : (old dir : Dir) (txn : List Put) (r : Result (List Put × Reply) PartError) (c : Config) (step other : Plain → Plain × Reply) → dir ≡ old → txn ≡ []
@@ -53,15 +50,3 @@ without_key_of set k p = with_ledger_of set (forget k (ledger_of p set)) (record
 
 pub same_removed : (set : Set) (a b : Text) (p : Plain) → key a ≡ key b → removed set a p ≡ removed set b p
 same_removed set a b p e = ap (λ (k : Text). without_key_of set k p) e
-
--- an answer of a call on files that were kept, about whom a request is about
-module _ {old dir : Dir} (r : Result (List Put × Reply) PartError) {c : Config} {set : Set} {s : Subject} {step other : Plain → Plain × Reply} where
-  pub found_by : dir ≡ old → ((p : Plain) → IsList old p → p.config ≡ c → IsSubject p set s → step p ≡ other p) → IfOk r (λ answer. (p : Plain) → IsList dir p → p.config ≡ c → IsSubject p set s → DoesList dir answer (step p))
-      → IfOk r (λ answer. (p : Plain) → IsList old p → p.config ≡ c → IsSubject p set s → DoesList old answer (other p))
-  found_by same f value = ok_then r (λ answer does p is e about.
-      subst (λ (t : Plain × Reply). DoesList old answer t) (f p is e about) (subst (λ (d : Dir). DoesList d answer (step p)) same (does p (subst (λ (d : Dir). IsList d p) (sym same) is) e about))) value
-
-  -- who was found by a read
-  pub asked_by : dir ≡ old → ((p : Plain) → IsList old p → IsSubject p set s) → ((p : Plain) → IsList old p → p.config ≡ c → IsSubject p set s → step p ≡ other p)
-      → IfOk r (λ answer. (p : Plain) → IsList dir p → p.config ≡ c → IsSubject p set s → DoesList dir answer (step p)) → IfOk r (λ answer. (p : Plain) → IsList old p → p.config ≡ c → DoesList old answer (other p))
-  asked_by same whom f value = ok_then r (λ answer does p is e. does p is e (whom p is)) (found_by same f value)

@@ -1,5 +1,6 @@
 pub mod Operations
 pub mod Cases
 pub mod Reads
+pub mod Damaged
 pub mod Found
 pub mod Written

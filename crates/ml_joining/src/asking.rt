@@ -1,5 +1,6 @@
 // Mails about an address that is to join or leave a set.
 ghost use Rattle.std.specs.Prelude.{◌≡◌, true, ◌||◌, IsTrue, IfOk};
+ghost use Rattle.ml_base.specs.Dir.{Dir};
 ghost use Rattle.ml_base.specs.declared.names.Set.TheVariants as sets;
 ghost use Rattle.ml_address.specs.Requests.{is_asked};
 ghost use Rattle.ml_config.specs.Configuration.{IsConfig};
@@ -9,7 +10,7 @@ ghost use Rattle.ml_plain.specs.Mailing as spec;
 ghost use Rattle.ml_plain.specs.Plain.{Plain};
 ghost use Rattle.ml_reply.specs.declared.mails.Mail.TheVariants.{AskTc};
 ghost use Rattle.ml_acts.specs.Acting.{AnswersWithin};
-ghost use Rattle.ml_acts.specs.Doing.{DoesList, HasIds, is_bucket, is_of_queue};
+ghost use Rattle.ml_acts.specs.Doing.{Alike, DoesList, HasIds, is_bucket, is_of_queue};
 ghost use Rattle.ml_acts.specs.Damaged.{IsDamaged};
 ghost use Rattle.ml_joining.specs.Found.{FoundToAsk, FoundToAskModerators};
 ghost use Rattle.ml_joining.specs.Reads.{is_for_mail};
@@ -71,7 +72,7 @@ pub(crate) fn ask<F: Files>(
     requires config { IsConfig config.now }
     requires asked { IsTrue (is_asked set) }
     requires room { IsTrue F.tells → HasIds (F.map files.now) }
-    ensures value { IsTrue F.tells → IfOk result (λ done. (p : Plain) → IsList (F.map files.old) p → p.config ≡ config.now → DoesList (F.map files.old) done (spec.ask to.now now.seconds word set x.now p, answers.asked)) }
+    ensures apart { IsTrue F.tells → IfOk result (λ done. (dir : Dir) (p : Plain) → Alike is_for_mail (F.map files.old) dir → IsList dir p → p.config ≡ config.now → DoesList dir done (spec.ask to.now now.seconds word set x.now p, answers.asked)) }
     ensures found { IsTrue F.tells → IfOk result (FoundToAsk (F.map files.old)) }
     ensures act { AnswersWithin is_of_queue ⟦<F as Files>⟧ (λ name. is_for_mail name ≡ true) (IsDamaged (F.map files.old)) files.old files.new result }
 {
@@ -114,7 +115,7 @@ pub(crate) fn ask_moderators<F: Files>(
     requires config { IsConfig config.now }
     requires asked { IsTrue (is_asked set) }
     requires room { IsTrue F.tells → HasIds (F.map files.now) }
-    ensures value { IsTrue F.tells → IfOk result (λ done. (p : Plain) → IsList (F.map files.old) p → p.config ≡ config.now → DoesList (F.map files.old) done (spec.ask_moderators now.seconds set x.now p, answers.asked)) }
+    ensures apart { IsTrue F.tells → IfOk result (λ done. (dir : Dir) (p : Plain) → Alike (λ name. is_for_mail name || is_bucket sets.Moderators name) (F.map files.old) dir → IsList dir p → p.config ≡ config.now → DoesList dir done (spec.ask_moderators now.seconds set x.now p, answers.asked)) }
     ensures found { IsTrue F.tells → IfOk result (FoundToAskModerators (F.map files.old)) }
     ensures act { AnswersWithin is_of_queue ⟦<F as Files>⟧ (λ name. (is_for_mail name || is_bucket sets.Moderators name) ≡ true) (IsDamaged (F.map files.old)) files.old files.new result }
 {

@@ -1,7 +1,7 @@
 // An address that is to join a set.
 ghost use Rattle.std.specs.Prelude.{◌≡◌, [], false, true, IsTrue, IfOk};
 ghost use Rattle.ml_base.specs.Address.{key};
-ghost use Rattle.ml_base.specs.Dir.{are_files, same_name, touches_only, with_puts};
+ghost use Rattle.ml_base.specs.Dir.{Dir, are_files, same_name, touches_only, with_puts};
 ghost use Rattle.ml_address.specs.Requests.{is_asked};
 ghost use Rattle.ml_config.specs.Configuration.{IsConfig};
 ghost use Rattle.ml_plain.specs.Answers as answers;
@@ -13,8 +13,9 @@ ghost use Rattle.ml_queue.specs.Answers.{ids_name};
 ghost use Rattle.ml_reply.specs.declared.mails.Mail.TheVariants as mails;
 ghost use Rattle.ml_subs.specs.Subscribers.{is_touched};
 ghost use Rattle.ml_acts.specs.Acting.{AnswersWithin};
-ghost use Rattle.ml_acts.specs.Doing.{DoesList, HasIds, is_of_queue};
+ghost use Rattle.ml_acts.specs.Doing.{Alike, DoesList, HasIds, is_of_queue};
 ghost use Rattle.ml_acts.specs.Damaged.{IsDamaged};
+ghost use Rattle.ml_joining.specs.Damaged.{AnswersLooking};
 ghost use Rattle.ml_joining.specs.Found.{FoundToDo, FoundToJoin, SendsMail};
 ghost use Rattle.ml_joining.specs.Operations.{IsSubject, MayJoin, joining_deed};
 ghost use Rattle.ml_joining.specs.Reads.{is_read_to_join, is_touched_with_mail};
@@ -47,9 +48,9 @@ pub(crate) fn joined<F: Files>(
     requires asked { IsTrue (is_asked set) }
     requires fresh { MayJoin x.now.member operation }
     requires room { IsTrue F.tells → HasIds (F.map files.now) }
-    ensures value { IsTrue F.tells → IfOk result (λ done. (p : Plain) → IsList (F.map files.old) p → p.config ≡ config.now → IsSubject p set x.now → DoesList (F.map files.old) done (spec.done now.seconds set sender.now x.now.who p (joining_deed operation))) }
+    ensures apart { IsTrue F.tells → IfOk result (λ done. (dir : Dir) (p : Plain) → Alike (is_read_to_join set x.now.named) (F.map files.old) dir → IsList dir p → p.config ≡ config.now → IsSubject p set x.now → DoesList dir done (spec.done now.seconds set sender.now x.now.who p (joining_deed operation))) }
     ensures found { IsTrue F.tells → IfOk result (FoundToDo (F.map files.old) set (key x.now.named) (joining_deed operation)) }
-    ensures act { AnswersWithin (is_written_to_join set x.now.named) ⟦<F as Files>⟧ (λ name. is_read_to_join set x.now.named name ≡ true) (IsDamaged (F.map files.old)) files.old files.new result }
+    ensures act { AnswersLooking (is_written_to_join set x.now.named) ⟦<F as Files>⟧ (is_read_to_join set x.now.named) files.old files.new result }
 {
     let who = &x.who;
     match operation {
@@ -73,7 +74,7 @@ fn tell_already<F: Files>(
     x: &Address,
 ) -> Result<(Txn, Reply), PartError>
     requires room { IsTrue F.tells → HasIds (F.map files.now) }
-    ensures value { IsTrue F.tells → IfOk result (λ done. (p : Plain) → IsList (F.map files.old) p → p.config ≡ config.now → DoesList (F.map files.old) done (mail_to sender.now now.seconds (mails.Already sender.now set x.now) p, answers.already)) }
+    ensures apart { IsTrue F.tells → IfOk result (λ done. (dir : Dir) (p : Plain) → dir ids_name ≡ F.map files.old ids_name → IsList dir p → p.config ≡ config.now → DoesList dir done (mail_to sender.now now.seconds (mails.Already sender.now set x.now) p, answers.already)) }
     ensures found { IsTrue F.tells → IfOk result (SendsMail (F.map files.old) [] answers.already) }
     ensures act { AnswersWithin is_of_queue ⟦<F as Files>⟧ (λ name. same_name name ids_name ≡ true) (IsDamaged (F.map files.old)) files.old files.new result }
 {
@@ -97,10 +98,12 @@ fn join<F: Files>(
     who: &Address,
 ) -> Result<(Txn, Reply), PartError>
     requires room { IsTrue F.tells → HasIds (F.map files.now) }
-    ensures value { IsTrue F.tells → IfOk result (λ done. (p : Plain) → IsList (F.map files.old) p → p.config ≡ config.now → is_in p set who.now ≡ false → DoesList (F.map files.old) done (spec.joined now.seconds set who.now (is_full p set) p)) }
+    ensures apart { IsTrue F.tells → IfOk result (λ done. (dir : Dir) (p : Plain) → Alike (is_touched_with_mail set who.now) (F.map files.old) dir → IsList dir p → p.config ≡ config.now → is_in p set who.now ≡ false → DoesList dir done (spec.joined now.seconds set who.now (is_full p set) p)) }
     ensures found { IsTrue F.tells → IfOk result (FoundToJoin (F.map files.old) set (key who.now)) }
-    ensures act { AnswersWithin (is_written_to_join set who.now) ⟦<F as Files>⟧ (λ name. is_touched_with_mail set who.now name ≡ true) (IsDamaged (F.map files.old)) files.old files.new result }
+    ensures act { AnswersLooking (is_written_to_join set who.now) ⟦<F as Files>⟧ (is_touched_with_mail set who.now) files.old files.new result }
 {
+    // That it is an address is known of its bytes.
+    let _address = who.bytes();
     match add(alloc, files, set, who, now.seconds)? {
         AddAnswer::Added(txn) => welcome(alloc, files, config, now, set, who, txn),
         AddAnswer::Already => Ok((Txn::new(alloc), Reply::plain(Reply::ALREADY))),
@@ -121,7 +124,7 @@ fn welcome<F: Files>(
     requires room { IsTrue F.tells → HasIds (F.map files.now) }
     requires touched { touches_only (is_touched set (key who.now)) txn ≡ true }
     requires names { IsTrue (are_files txn) }
-    ensures value { IsTrue F.tells → IfOk result (λ done. (p : Plain) → IsList (with_puts (F.map files.old) txn) p → p.config ≡ config.now → DoesList (F.map files.old) done (mail_to who.now now.seconds (mails.Welcome who.now set who.now) p, answers.subscribed)) }
+    ensures apart { IsTrue F.tells → IfOk result (λ done. (dir : Dir) (p : Plain) → dir ids_name ≡ F.map files.old ids_name → IsList (with_puts dir txn) p → p.config ≡ config.now → DoesList dir done (mail_to who.now now.seconds (mails.Welcome who.now set who.now) p, answers.subscribed)) }
     ensures found { IsTrue F.tells → IfOk result (SendsMail (F.map files.old) txn answers.subscribed) }
     ensures act { AnswersWithin (is_written_to_join set who.now) ⟦<F as Files>⟧ (λ name. same_name name ids_name ≡ true) (IsDamaged (F.map files.old)) files.old files.new result }
 {

@@ -1,7 +1,7 @@
 // An address that is to leave a set.
 ghost use Rattle.std.specs.Prelude.{◌≡◌, [], true, IsTrue, IfOk, Bool};
 ghost use Rattle.ml_base.specs.Address.{key};
-ghost use Rattle.ml_base.specs.Dir.{are_files, same_name, touches_only, with_puts};
+ghost use Rattle.ml_base.specs.Dir.{Dir, are_files, same_name, touches_only, with_puts};
 ghost use Rattle.ml_base.specs.declared.names.Name.{Name};
 ghost use Rattle.ml_address.specs.Requests.{is_asked};
 ghost use Rattle.ml_config.specs.Configuration.{IsConfig};
@@ -13,8 +13,9 @@ ghost use Rattle.ml_plain.specs.Plain.{Plain};
 ghost use Rattle.ml_queue.specs.Answers.{ids_name};
 ghost use Rattle.ml_reply.specs.declared.mails.Mail.TheVariants as mails;
 ghost use Rattle.ml_acts.specs.Acting.{AnswersAct, AnswersWithin};
-ghost use Rattle.ml_acts.specs.Doing.{DoesList, HasIds, is_beside_queue, is_changed_for, is_of_queue};
+ghost use Rattle.ml_acts.specs.Doing.{Alike, DoesList, HasIds, is_beside_queue, is_changed_for, is_of_queue};
 ghost use Rattle.ml_acts.specs.Damaged.{IsDamaged};
+ghost use Rattle.ml_joining.specs.Damaged.{AnswersLooking};
 ghost use Rattle.ml_joining.specs.Found.{FoundToDo, FoundToPart, SendsMail};
 ghost use Rattle.ml_joining.specs.Operations.{IsSubject, MayLeave, leaving_deed};
 ghost use Rattle.ml_joining.specs.Reads.{is_read_to_leave};
@@ -45,9 +46,9 @@ pub(crate) fn left<F: Files>(
     requires asked { IsTrue (is_asked set) }
     requires member { MayLeave x.now.member operation }
     requires room { IsTrue F.tells → HasIds (F.map files.now) }
-    ensures value { IsTrue F.tells → IfOk result (λ done. (p : Plain) → IsList (F.map files.old) p → p.config ≡ config.now → IsSubject p set x.now → DoesList (F.map files.old) done (spec.done now.seconds set sender.now x.now.who p (leaving_deed operation))) }
+    ensures apart { IsTrue F.tells → IfOk result (λ done. (dir : Dir) (p : Plain) → Alike (is_read_to_leave set x.now.named) (F.map files.old) dir → IsList dir p → p.config ≡ config.now → IsSubject p set x.now → DoesList dir done (spec.done now.seconds set sender.now x.now.who p (leaving_deed operation))) }
     ensures found { IsTrue F.tells → IfOk result (FoundToDo (F.map files.old) set (key x.now.named) (leaving_deed operation)) }
-    ensures act { AnswersWithin (is_changed_for set x.now.named) ⟦<F as Files>⟧ (λ name. is_read_to_leave set x.now.named name ≡ true) (IsDamaged (F.map files.old)) files.old files.new result }
+    ensures act { AnswersLooking (is_changed_for set x.now.named) ⟦<F as Files>⟧ (is_read_to_leave set x.now.named) files.old files.new result }
 {
     let who = &x.who;
     match operation {
@@ -70,7 +71,7 @@ fn tell_absent<F: Files>(
     x: &Address,
 ) -> Result<(Txn, Reply), PartError>
     requires room { IsTrue F.tells → HasIds (F.map files.now) }
-    ensures value { IsTrue F.tells → IfOk result (λ done. (p : Plain) → IsList (F.map files.old) p → p.config ≡ config.now → DoesList (F.map files.old) done (mail_to sender.now now.seconds (mails.Absent sender.now set x.now) p, answers.absent)) }
+    ensures apart { IsTrue F.tells → IfOk result (λ done. (dir : Dir) (p : Plain) → dir ids_name ≡ F.map files.old ids_name → IsList dir p → p.config ≡ config.now → DoesList dir done (mail_to sender.now now.seconds (mails.Absent sender.now set x.now) p, answers.absent)) }
     ensures found { IsTrue F.tells → IfOk result (SendsMail (F.map files.old) [] answers.absent) }
     ensures act { AnswersWithin is_of_queue ⟦<F as Files>⟧ (λ name. same_name name ids_name ≡ true) (IsDamaged (F.map files.old)) files.old files.new result }
 {
@@ -95,9 +96,9 @@ fn leave<F: Files>(
 ) -> Result<(Txn, Reply), PartError>
     requires member { x.now.member ≡ true }
     requires room { IsTrue F.tells → HasIds (F.map files.now) }
-    ensures value { IsTrue F.tells → IfOk result (λ done. (p : Plain) → IsList (F.map files.old) p → p.config ≡ config.now → IsSubject p set x.now → DoesList (F.map files.old) done (spec.left now.seconds set x.now.who p)) }
+    ensures apart { IsTrue F.tells → IfOk result (λ done. (dir : Dir) (p : Plain) → Alike (is_read_to_leave set x.now.named) (F.map files.old) dir → IsList dir p → p.config ≡ config.now → IsSubject p set x.now → DoesList dir done (spec.left now.seconds set x.now.who p)) }
     ensures found { IsTrue F.tells → IfOk result (FoundToPart (F.map files.old) set (key x.now.named)) }
-    ensures act { AnswersWithin (is_changed_for set x.now.named) ⟦<F as Files>⟧ (λ name. is_read_to_leave set x.now.named name ≡ true) (IsDamaged (F.map files.old)) files.old files.new result }
+    ensures act { AnswersLooking (is_changed_for set x.now.named) ⟦<F as Files>⟧ (is_read_to_leave set x.now.named) files.old files.new result }
 {
     match remove_member(alloc, files, set, &x.named)? {
         Some(txn) => goodbye(alloc, files, config, now, set, &x.who, txn),
@@ -118,7 +119,7 @@ fn goodbye<F: Files>(
     requires room { IsTrue F.tells → HasIds (F.map files.now) }
     requires others { touches_only is_beside_queue txn ≡ true }
     requires names { IsTrue (are_files txn) }
-    ensures value { IsTrue F.tells → IfOk result (λ done. (p : Plain) → IsList (with_puts (F.map files.old) txn) p → p.config ≡ config.now → DoesList (F.map files.old) done (mail_to who.now now.seconds (mails.Goodbye who.now set who.now) p, answers.unsubscribed)) }
+    ensures apart { IsTrue F.tells → IfOk result (λ done. (dir : Dir) (p : Plain) → dir ids_name ≡ F.map files.old ids_name → IsList (with_puts dir txn) p → p.config ≡ config.now → DoesList dir done (mail_to who.now now.seconds (mails.Goodbye who.now set who.now) p, answers.unsubscribed)) }
     ensures found { IsTrue F.tells → IfOk result (SendsMail (F.map files.old) txn answers.unsubscribed) }
     ensures within { (may : Name → Bool) → ((name : Name) → is_of_queue name ≡ true → may name ≡ true) → touches_only may txn ≡ true → IfOk result (λ done. touches_only may done.0 ≡ true) }
     ensures act { AnswersAct ⟦<F as Files>⟧ (λ name. same_name name ids_name ≡ true) (IsDamaged (F.map files.old)) files.old files.new result }

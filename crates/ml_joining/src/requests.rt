@@ -1,8 +1,9 @@
 // Requests to join and to leave, and confirmations.
-ghost use Rattle.std.specs.Prelude.{◌≡◌, true, IsTrue, IfOk, Some};
+ghost use Rattle.std.specs.Prelude.{◌≡◌, true, IsTrue, IfErr, IfOk, Some};
 ghost use Rattle.std.specs.Option.{option_map};
 ghost use Rattle.ml_base.specs.Address.{key};
-ghost use Rattle.ml_base.specs.Dir.{same_name};
+ghost use Rattle.ml_base.specs.Dir.{Dir, same_name};
+ghost use Rattle.ml_base.specs.PartErrors.{OnDamaged};
 ghost use Rattle.ml_base.specs.Ranges.{IsMoment};
 ghost use Rattle.ml_base.specs.ReadFiles.{IsReading, NamesDamaged};
 ghost use Rattle.ml_address.specs.Requests.{if_who, is_asked, is_who, word_text};
@@ -16,9 +17,10 @@ ghost use Rattle.ml_plain.specs.Managing as spec;
 ghost use Rattle.ml_plain.specs.Plain.{Plain};
 ghost use Rattle.ml_acts.specs.Acting.{AnswersWithin};
 ghost use Rattle.ml_acts.specs.Configured.{with_config};
-ghost use Rattle.ml_acts.specs.Doing.{DoesList, HasIds, HasRoom, is_changed_for};
+ghost use Rattle.ml_acts.specs.Doing.{Alike, DoesList, HasIds, HasRoom, is_changed_for};
 ghost use Rattle.ml_acts.specs.Damaged.{IsDamaged};
 ghost use Rattle.ml_acts.specs.Found.{TellsKeys, TellsMember};
+ghost use Rattle.ml_joining.specs.Damaged.{AnswersLooking};
 ghost use Rattle.ml_joining.specs.Found.{FoundToConfirm, FoundToDo, FoundToSubscribe, FoundToUnsubscribe, confirming};
 ghost use Rattle.ml_joining.specs.Operations.{IsSubject, asked_of};
 ghost use Rattle.ml_joining.specs.Reads as reads;
@@ -53,6 +55,8 @@ pub fn subscribe<F: Files>(
     requires range { IsTrue (if_who (option_map who_view who)) }
     requires room { IsTrue F.tells → HasRoom (F.map files.now) }
     ensures value { IsTrue F.tells → IfOk result (λ done. (p : Plain) → IsList (with_config config.now (F.map files.old)) p → DoesList (with_config config.now (F.map files.old)) done (spec.subscribe now sender.now set (spec.subject_of p set sender.now (option_map who_view who.entry)) p)) }
+    ensures apart { IsTrue F.tells → IfOk result (λ done. (dir : Dir) (p : Plain) → Alike (is_read_to_subscribe config.now sender.now set (asked_of sender.now (option_map who_view who.entry))) (F.map files.old) dir → IsList dir p → p.config ≡ config.now → DoesList dir done (spec.subscribe now sender.now set (spec.subject_of p set sender.now (option_map who_view who.entry)) p)) }
+    ensures spared { IsTrue F.tells → (dir : Dir) (p : Plain) → Alike (is_read_to_subscribe config.now sender.now set (asked_of sender.now (option_map who_view who.entry))) (F.map files.old) dir → IsList dir p → IfErr result (λ e. OnDamaged e (λ _. ⊥)) }
     ensures found { IsTrue F.tells → IfOk result (FoundToSubscribe (with_config config.now (F.map files.old)) config.now sender.now set (asked_of sender.now (option_map who_view who.entry))) }
     ensures act { AnswersWithin (is_written_to_join set (asked_of sender.now (option_map who_view who.entry))) ⟦<F as Files>⟧ (λ name. is_read_to_subscribe config.now sender.now set (asked_of sender.now (option_map who_view who.entry)) name ≡ true) (IsDamaged (with_config config.now (F.map files.old))) files.old files.new result }
 {
@@ -82,9 +86,9 @@ fn join_asked<F: Files>(
     requires asked { IsTrue (is_asked set) }
     requires range { IsTrue (if_who (option_map who_view who)) }
     requires room { IsTrue F.tells → HasIds (F.map files.now) }
-    ensures value { IsTrue F.tells → IfOk result (λ done. (p : Plain) → IsList (F.map files.old) p → p.config ≡ config.now → DoesList (F.map files.old) done (spec.subscribe now.seconds sender.now set (spec.subject_of p set sender.now (option_map who_view who.entry)) p)) }
+    ensures apart { IsTrue F.tells → IfOk result (λ done. (dir : Dir) (p : Plain) → Alike (is_read_to_subscribe config.now sender.now set (asked_of sender.now (option_map who_view who.entry))) (F.map files.old) dir → IsList dir p → p.config ≡ config.now → DoesList dir done (spec.subscribe now.seconds sender.now set (spec.subject_of p set sender.now (option_map who_view who.entry)) p)) }
     ensures found { IsTrue F.tells → IfOk result (FoundToSubscribe (F.map files.old) config.now sender.now set (asked_of sender.now (option_map who_view who.entry))) }
-    ensures act { AnswersWithin (is_written_to_join set (asked_of sender.now (option_map who_view who.entry))) ⟦<F as Files>⟧ (λ name. is_read_to_subscribe config.now sender.now set (asked_of sender.now (option_map who_view who.entry)) name ≡ true) (IsDamaged (F.map files.old)) files.old files.new result }
+    ensures act { AnswersLooking (is_written_to_join set (asked_of sender.now (option_map who_view who.entry))) ⟦<F as Files>⟧ (is_read_to_subscribe config.now sender.now set (asked_of sender.now (option_map who_view who.entry))) files.old files.new result }
 {
     let x = find_subject(alloc, files, set, sender, who)?;
     join_found(alloc, files, config, now, sender, set, &x)
@@ -110,9 +114,9 @@ fn join_found<F: Files>(
     requires config { IsConfig config.now }
     requires asked { IsTrue (is_asked set) }
     requires room { IsTrue F.tells → HasIds (F.map files.now) }
-    ensures value { IsTrue F.tells → IfOk result (λ done. (p : Plain) → IsList (F.map files.old) p → p.config ≡ config.now → IsSubject p set x.now → DoesList (F.map files.old) done (spec.subscribe now.seconds sender.now set x.now.who p)) }
+    ensures apart { IsTrue F.tells → IfOk result (λ done. (dir : Dir) (p : Plain) → Alike (is_read_to_subscribe config.now sender.now set x.now.named) (F.map files.old) dir → IsList dir p → p.config ≡ config.now → IsSubject p set x.now → DoesList dir done (spec.subscribe now.seconds sender.now set x.now.who p)) }
     ensures found { IsTrue F.tells → IfOk result (λ done. TellsMember (F.map files.old) set (key x.now.named) x.now.member → FoundToSubscribe (F.map files.old) config.now sender.now set x.now.named done) }
-    ensures act { AnswersWithin (is_written_to_join set x.now.named) ⟦<F as Files>⟧ (λ name. is_read_to_subscribe config.now sender.now set x.now.named name ≡ true) (IsDamaged (F.map files.old)) files.old files.new result }
+    ensures act { AnswersLooking (is_written_to_join set x.now.named) ⟦<F as Files>⟧ (is_read_to_subscribe config.now sender.now set x.now.named) files.old files.new result }
 {
     let moderator = moderates(alloc, files, asks_rank(config), sender)?;
     let facts = Facts {
@@ -141,6 +145,8 @@ pub fn unsubscribe<F: Files>(
     requires range { IsTrue (if_who (option_map who_view who)) }
     requires room { IsTrue F.tells → HasRoom (F.map files.now) }
     ensures value { IsTrue F.tells → IfOk result (λ done. (p : Plain) → IsList (with_config config.now (F.map files.old)) p → DoesList (with_config config.now (F.map files.old)) done (spec.unsubscribe now sender.now set (spec.subject_of p set sender.now (option_map who_view who.entry)) p)) }
+    ensures apart { IsTrue F.tells → IfOk result (λ done. (dir : Dir) (p : Plain) → Alike (is_read_to_unsubscribe config.now sender.now set (asked_of sender.now (option_map who_view who.entry))) (F.map files.old) dir → IsList dir p → p.config ≡ config.now → DoesList dir done (spec.unsubscribe now sender.now set (spec.subject_of p set sender.now (option_map who_view who.entry)) p)) }
+    ensures spared { IsTrue F.tells → (dir : Dir) (p : Plain) → Alike (is_read_to_unsubscribe config.now sender.now set (asked_of sender.now (option_map who_view who.entry))) (F.map files.old) dir → IsList dir p → IfErr result (λ e. OnDamaged e (λ _. ⊥)) }
     ensures found { IsTrue F.tells → IfOk result (FoundToUnsubscribe (with_config config.now (F.map files.old)) config.now sender.now set (asked_of sender.now (option_map who_view who.entry))) }
     ensures act { AnswersWithin (is_changed_for set (asked_of sender.now (option_map who_view who.entry))) ⟦<F as Files>⟧ (λ name. is_read_to_unsubscribe config.now sender.now set (asked_of sender.now (option_map who_view who.entry)) name ≡ true) (IsDamaged (with_config config.now (F.map files.old))) files.old files.new result }
 {
@@ -170,9 +176,9 @@ fn leave_asked<F: Files>(
     requires asked { IsTrue (is_asked set) }
     requires range { IsTrue (if_who (option_map who_view who)) }
     requires room { IsTrue F.tells → HasIds (F.map files.now) }
-    ensures value { IsTrue F.tells → IfOk result (λ done. (p : Plain) → IsList (F.map files.old) p → p.config ≡ config.now → DoesList (F.map files.old) done (spec.unsubscribe now.seconds sender.now set (spec.subject_of p set sender.now (option_map who_view who.entry)) p)) }
+    ensures apart { IsTrue F.tells → IfOk result (λ done. (dir : Dir) (p : Plain) → Alike (is_read_to_unsubscribe config.now sender.now set (asked_of sender.now (option_map who_view who.entry))) (F.map files.old) dir → IsList dir p → p.config ≡ config.now → DoesList dir done (spec.unsubscribe now.seconds sender.now set (spec.subject_of p set sender.now (option_map who_view who.entry)) p)) }
     ensures found { IsTrue F.tells → IfOk result (FoundToUnsubscribe (F.map files.old) config.now sender.now set (asked_of sender.now (option_map who_view who.entry))) }
-    ensures act { AnswersWithin (is_changed_for set (asked_of sender.now (option_map who_view who.entry))) ⟦<F as Files>⟧ (λ name. is_read_to_unsubscribe config.now sender.now set (asked_of sender.now (option_map who_view who.entry)) name ≡ true) (IsDamaged (F.map files.old)) files.old files.new result }
+    ensures act { AnswersLooking (is_changed_for set (asked_of sender.now (option_map who_view who.entry))) ⟦<F as Files>⟧ (is_read_to_unsubscribe config.now sender.now set (asked_of sender.now (option_map who_view who.entry))) files.old files.new result }
 {
     let x = find_subject(alloc, files, set, sender, who)?;
     leave_found(alloc, files, config, now, sender, set, &x)
@@ -191,9 +197,9 @@ fn leave_found<F: Files>(
     requires config { IsConfig config.now }
     requires asked { IsTrue (is_asked set) }
     requires room { IsTrue F.tells → HasIds (F.map files.now) }
-    ensures value { IsTrue F.tells → IfOk result (λ done. (p : Plain) → IsList (F.map files.old) p → p.config ≡ config.now → IsSubject p set x.now → DoesList (F.map files.old) done (spec.unsubscribe now.seconds sender.now set x.now.who p)) }
+    ensures apart { IsTrue F.tells → IfOk result (λ done. (dir : Dir) (p : Plain) → Alike (is_read_to_unsubscribe config.now sender.now set x.now.named) (F.map files.old) dir → IsList dir p → p.config ≡ config.now → IsSubject p set x.now → DoesList dir done (spec.unsubscribe now.seconds sender.now set x.now.who p)) }
     ensures found { IsTrue F.tells → IfOk result (λ done. TellsMember (F.map files.old) set (key x.now.named) x.now.member → FoundToUnsubscribe (F.map files.old) config.now sender.now set x.now.named done) }
-    ensures act { AnswersWithin (is_changed_for set x.now.named) ⟦<F as Files>⟧ (λ name. is_read_to_unsubscribe config.now sender.now set x.now.named name ≡ true) (IsDamaged (F.map files.old)) files.old files.new result }
+    ensures act { AnswersLooking (is_changed_for set x.now.named) ⟦<F as Files>⟧ (is_read_to_unsubscribe config.now sender.now set x.now.named) files.old files.new result }
 {
     let moderator = moderates(alloc, files, config.flags.r, sender)?;
     let facts = Facts {
@@ -225,6 +231,8 @@ pub fn confirm<F: Files>(
     requires range { IsTrue (is_who (who_view who)) }
     requires room { IsTrue F.tells → HasRoom (F.map files.now) }
     ensures value { IsTrue F.tells → IfOk result (λ done. (p : Plain) → IsList (with_config config.now (F.map files.old)) p → DoesList (with_config config.now (F.map files.old)) done (spec.confirm now sender.now word set (record { time = time; cookie = cookie.now; who = who_view who.entry }) (spec.subject_of p set sender.now (Some (who_view who.entry))) p)) }
+    ensures apart { IsTrue F.tells → IfOk result (λ done. (dir : Dir) (p : Plain) → Alike (is_read_to_confirm word set (address_named (who_view who.entry))) (F.map files.old) dir → IsList dir p → p.config ≡ config.now → DoesList dir done (spec.confirm now sender.now word set (record { time = time; cookie = cookie.now; who = who_view who.entry }) (spec.subject_of p set sender.now (Some (who_view who.entry))) p)) }
+    ensures spared { IsTrue F.tells → (dir : Dir) (p : Plain) → Alike (is_read_to_confirm word set (address_named (who_view who.entry))) (F.map files.old) dir → IsList dir p → IfErr result (λ e. OnDamaged e (λ _. ⊥)) }
     ensures found { IsTrue F.tells → IfOk result (FoundToConfirm (with_config config.now (F.map files.old)) config.now word set (address_named (who_view who.entry))) }
     ensures act { AnswersWithin (is_written_to_confirm word set (address_named (who_view who.entry))) ⟦<F as Files>⟧ (λ name. is_read_to_confirm word set (address_named (who_view who.entry)) name ≡ true) (IsDamaged (with_config config.now (F.map files.old))) files.old files.new result }
 {
@@ -260,9 +268,9 @@ fn confirm_asked<F: Files>(
     requires asked { IsTrue (is_asked set) }
     requires range { IsTrue (is_who (who_view who)) }
     requires room { IsTrue F.tells → HasIds (F.map files.now) }
-    ensures value { IsTrue F.tells → IfOk result (λ done. (p : Plain) → IsList (F.map files.old) p → p.config ≡ config.now → DoesList (F.map files.old) done (spec.confirm now.seconds sender.now word set (record { time = time; cookie = cookie.now; who = who_view who.entry }) (spec.subject_of p set sender.now (Some (who_view who.entry))) p)) }
+    ensures apart { IsTrue F.tells → IfOk result (λ done. (dir : Dir) (p : Plain) → Alike (is_read_to_confirm word set (address_named (who_view who.entry))) (F.map files.old) dir → IsList dir p → p.config ≡ config.now → DoesList dir done (spec.confirm now.seconds sender.now word set (record { time = time; cookie = cookie.now; who = who_view who.entry }) (spec.subject_of p set sender.now (Some (who_view who.entry))) p)) }
     ensures found { IsTrue F.tells → IfOk result (FoundToConfirm (F.map files.old) config.now word set (address_named (who_view who.entry))) }
-    ensures act { AnswersWithin (is_written_to_confirm word set (address_named (who_view who.entry))) ⟦<F as Files>⟧ (λ name. is_read_to_confirm word set (address_named (who_view who.entry)) name ≡ true) (IsDamaged (F.map files.old)) files.old files.new result }
+    ensures act { AnswersLooking (is_written_to_confirm word set (address_named (who_view who.entry))) ⟦<F as Files>⟧ (is_read_to_confirm word set (address_named (who_view who.entry))) files.old files.new result }
 {
     let x = find_subject(alloc, files, set, sender, Some(who))?;
     confirm_found(
@@ -286,9 +294,9 @@ fn confirm_found<F: Files>(
     requires config { IsConfig config.now }
     requires asked { IsTrue (is_asked set) }
     requires room { IsTrue F.tells → HasIds (F.map files.now) }
-    ensures value { IsTrue F.tells → IfOk result (λ done. (p : Plain) → IsList (F.map files.old) p → p.config ≡ config.now → IsSubject p set x.now → DoesList (F.map files.old) done (spec.done now.seconds set sender.now x.now.who p (spec.confirming p set x.now.who word (is_good p (word_text word) set time (key x.now.who) cookie.now now.seconds)))) }
+    ensures apart { IsTrue F.tells → IfOk result (λ done. (dir : Dir) (p : Plain) → Alike (is_read_to_confirm word set x.now.named) (F.map files.old) dir → IsList dir p → p.config ≡ config.now → IsSubject p set x.now → DoesList dir done (spec.done now.seconds set sender.now x.now.who p (spec.confirming p set x.now.who word (is_good p (word_text word) set time (key x.now.who) cookie.now now.seconds)))) }
     ensures found { IsTrue F.tells → IfOk result (λ done. TellsMember (F.map files.old) set (key x.now.named) x.now.member → FoundToConfirm (F.map files.old) config.now word set x.now.named done) }
-    ensures act { AnswersWithin (is_written_to_confirm word set x.now.named) ⟦<F as Files>⟧ (λ name. is_read_to_confirm word set x.now.named name ≡ true) (IsDamaged (F.map files.old)) files.old files.new result }
+    ensures act { AnswersLooking (is_written_to_confirm word set x.now.named) ⟦<F as Files>⟧ (is_read_to_confirm word set x.now.named) files.old files.new result }
 {
     let good = is_signed(alloc, files, now.seconds, word, set, time, cookie, &x.who)?;
     confirmed(alloc, files, config, now, sender, word, set, good, x)
@@ -305,7 +313,7 @@ fn is_signed<F: Files>(
     cookie: &[u8; 20],
     x: &Address,
 ) -> Result<bool, PartError>
-    ensures value { IsTrue F.tells → IfOk result (λ good. (p : Plain) → IsList (F.map files.old) p → good ≡ is_good p (word_text word) set time (key x.now) cookie.now now) }
+    ensures apart { IsTrue F.tells → IfOk result (λ good. (dir : Dir) (p : Plain) → dir key_name ≡ F.map files.old key_name → IsList dir p → good ≡ is_good p (word_text word) set time (key x.now) cookie.now now) }
     ensures found { IsTrue F.tells → IfOk result (λ _. TellsKeys (F.map files.old)) }
     ensures names { NamesDamaged ⟦<F as Files>⟧ (λ name. same_name name key_name ≡ true) (IsDamaged (F.map files.old)) result }
     ensures reads { IsReading ⟦<F as Files>⟧ files.old files.new result }
@@ -331,9 +339,9 @@ fn confirmed<F: Files>(
     requires config { IsConfig config.now }
     requires asked { IsTrue (is_asked set) }
     requires room { IsTrue F.tells → HasIds (F.map files.now) }
-    ensures value { IsTrue F.tells → IfOk result (λ done. (p : Plain) → IsList (F.map files.old) p → p.config ≡ config.now → IsSubject p set x.now → DoesList (F.map files.old) done (spec.done now.seconds set sender.now x.now.who p (spec.confirming p set x.now.who word good))) }
+    ensures apart { IsTrue F.tells → IfOk result (λ done. (dir : Dir) (p : Plain) → Alike (is_read_to_confirm word set x.now.named) (F.map files.old) dir → IsList dir p → p.config ≡ config.now → IsSubject p set x.now → DoesList dir done (spec.done now.seconds set sender.now x.now.who p (spec.confirming p set x.now.who word good))) }
     ensures found { IsTrue F.tells → IfOk result (FoundToDo (F.map files.old) set (key x.now.named) (confirming word config.now x.now.member good)) }
-    ensures act { AnswersWithin (is_written_to_confirm word set x.now.named) ⟦<F as Files>⟧ (λ name. is_read_to_confirm word set x.now.named name ≡ true) (IsDamaged (F.map files.old)) files.old files.new result }
+    ensures act { AnswersLooking (is_written_to_confirm word set x.now.named) ⟦<F as Files>⟧ (is_read_to_confirm word set x.now.named) files.old files.new result }
 {
     let member = x.member;
     match word {

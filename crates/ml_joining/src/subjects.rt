@@ -9,7 +9,8 @@ ghost use Rattle.ml_plain.specs.Bouncing.{address_named};
 ghost use Rattle.ml_plain.specs.Directory.{IsList};
 ghost use Rattle.ml_plain.specs.Plain.{Plain, is_moderator};
 ghost use Rattle.std.specs.Prelude.{◌&&◌};
-ghost use Rattle.ml_acts.specs.Doing.{is_bucket_of};
+ghost use Rattle.ml_acts.specs.Doing.{Alike, is_bucket_of};
+ghost use Rattle.ml_base.specs.Dir.{Dir};
 ghost use Rattle.ml_acts.specs.Damaged.{IsDamaged};
 ghost use Rattle.ml_acts.specs.Found.{TellsMember};
 ghost use Rattle.ml_base.specs.Address.{key};
@@ -67,7 +68,7 @@ pub(crate) fn find_subject<F: Files>(
     who: Option<Who<'_>>,
 ) -> Result<Subject, PartError>
     requires { IsTrue (if_who (option_map who_view who)) }
-    ensures value { IsTrue F.tells → IfOk result (λ x. (p : Plain) → IsList (F.map files.old) p → IsSubject p set x) }
+    ensures apart { IsTrue F.tells → IfOk result (λ x. (dir : Dir) (p : Plain) → Alike (is_bucket_of set (asked_of sender.now (option_map who_view who.entry))) (F.map files.old) dir → IsList dir p → IsSubject p set x) }
     ensures named { IfOk result (λ x. x.named ≡ asked_of sender.now (option_map who_view who.entry)) }
     ensures found { IsTrue F.tells → IfOk result (λ x. TellsMember (F.map files.old) set (key x.named) x.member) }
     ensures names { NamesDamaged ⟦<F as Files>⟧ (λ name. is_bucket_of set (asked_of sender.now (option_map who_view who.entry)) name ≡ true) (IsDamaged (F.map files.old)) result }
@@ -98,7 +99,7 @@ pub(crate) fn moderates<F: Files>(
     asked: bool,
     sender: &Address,
 ) -> Result<bool, PartError>
-    ensures value { IsTrue F.tells → IfOk result (λ is. (p : Plain) → IsList (F.map files.old) p → is ≡ (asked && is_moderator p sender.now)) }
+    ensures apart { IsTrue F.tells → IfOk result (λ is. (dir : Dir) (p : Plain) → Alike (λ name. asked && is_bucket_of sets.Moderators sender.now name) (F.map files.old) dir → IsList dir p → is ≡ (asked && is_moderator p sender.now)) }
     ensures found { IsTrue F.tells → IfOk result (λ is. asked ≡ true → TellsMember (F.map files.old) sets.Moderators (key sender.now) is) }
     ensures unasked { IfOk result (λ is. asked ≡ false → is ≡ false) }
     ensures names { NamesDamaged ⟦<F as Files>⟧ (λ name. (asked && is_bucket_of sets.Moderators sender.now name) ≡ true) (IsDamaged (F.map files.old)) result }

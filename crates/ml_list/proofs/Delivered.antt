@@ -1,5 +1,5 @@
 -- What a delivery does, from its parts.
-use Rattle.std.proofs.Common.{◌≡◌, ◌⊎◌, ⊎_elim, inl, inr, ◌∙◌, ℕ, Bool, cond, true, false, ◌||◌, List, [], Option, Some, None, is_some, refl, sym, ap, subst}
+use Rattle.std.proofs.Common.{◌≡◌, ◌⊎◌, ⊎_elim, inl, inr, ◌∙◌, ℕ, ◌-◌, Bool, cond, true, false, ◌||◌, List, [], Option, Some, None, is_some, refl, sym, ap, subst}
 use Rattle.std.specs.Prelude.{codes}
 use Rattle.ml_base.specs.Bytes.{Text}
 use Rattle.ml_base.specs.Dir.{Dir, with_puts, touches_only, same_name}
@@ -20,6 +20,7 @@ use Rattle.ml_plain.specs.Directory.{IsList}
 use Rattle.ml_plain.specs.Managing.{answer, by_recipient, by_sender, deliver, unless_looped}
 use Rattle.ml_plain.specs.Plain.{Plain, is_worn}
 use Rattle.ml_plain.specs.Steps as spec
+use Rattle.ml_plain.specs.Timing.{after_timed, timed}
 use Rattle.ml_plain.proofs.PartChanges.{queue_changed}
 use Rattle.ml_filing.specs.Threads.{is_of_archive}
 use Rattle.ml_acts.specs.Doing.{DoesList}
@@ -62,6 +63,13 @@ pub served : (now : ℕ) (sender recipient m : Text) (p : Plain) (c : Config) �
 served now sender recipient m p c same left =
     ap (λ (b : Bool). elim b [ true ↦ (p, answers.full) | false ↦ by_recipient now sender m p (request_of p.config.local p.config.host recipient) ]) left
     ∙ ap (λ (d : Config). by_recipient now sender m p (request_of d.local d.host recipient)) same
+
+-- a timed run where ids or tickets are worn out
+pub run_worn : (dir : Dir) (p : Plain) (now : ℕ) (done : List Put × Reply) → IsList dir p → is_worn p ≡ true → done.0 ≡ [] → done.1 ≡ answers.full → DoesList dir done (timed now p)
+run_worn dir p now done is worn none full =
+    does_so dir done (p, answers.full) (timed now p)
+    (ap (λ (b : Bool). elim b [ true ↦ (p, answers.full) | false ↦ (after_timed now p, answers.timed ((after_timed now p).queue.next - p.queue.next)) ]) worn)
+    (unchanged dir p done answers.full is none full)
 
 -- an entry that was sent
 pub sent_away : (dir : Dir) (p : Plain) (id : ℕ) (txn : List Put) (done : List Put × Reply) → IsList dir p → IsSent dir p.queue id (Some txn) → touches_only (is_of_series Ids) txn ≡ true → done.0 ≡ txn → done.1 ≡ answers.dequeued → DoesList dir done (spec.sent id p)

@@ -26,6 +26,7 @@ use Rattle.ml_plain.specs.Histories.{Kept, State}
 use Rattle.ml_plain.specs.KeptFiles.{IsFloorFile, IsRepliesFile, floor_name, replies_name}
 use Rattle.ml_plain.specs.declared.Item.{Item}
 use Rattle.ml_list.specs.Damage.{IsNoFloor, IsNoReplies, is_looked_up}
+use Rattle.ml_manage.specs.Reads.{is_seen_for_sender}
 use Rattle.ml_list.specs.Looked.{AlikeFor, AlikeForAct, AlikeForMail, AlikeForRequest}
 use Rattle.ml_address.specs.Reading.{request_of}
 use Rattle.ml_address.specs.Requests.{PlainRequest, Post, Help, Owner, Subscribe, Unsubscribe, Members, Confirm, Get, Index, Thread, Accept, Reject, Bounce, WarnBounce, ProbeBounce, ReplyBounce, Other}
@@ -61,7 +62,7 @@ request_self c sender m (Some Other) dir = λ name e. refl
 
 act_self : (act : Act) (dir : Dir) → AlikeForAct act dir dir
 act_self (Deliver sender recipient m) dir = record { config = refl; served = λ c is. record { counters = λ name e. refl; asked = request_self c sender m (request_of c.local c.host recipient) dir } }
-act_self Timed dir = λ name e. refl
+act_self Timed dir = record { config = refl; timed = λ c is name e. refl }
 act_self (Add set who) dir = λ name e. refl
 act_self (Remove set who) dir = λ name e. refl
 act_self (Sent id) dir = λ name e. refl
@@ -76,9 +77,9 @@ pub mail_so : (old dir : Dir) (sender recipient m from to text : Text) → from 
 mail_so old dir sender recipient m from to text a b c alike =
     subst (λ (s : Text). AlikeForMail s to text old dir) (sym a) (subst (λ (r : Text). AlikeForMail sender r text old dir) (sym b) (subst (λ (t : Text). AlikeForMail sender recipient t old dir) (sym c) alike))
 
--- a request that is neither a post nor a moderator's answer looks at the whole list
+-- a request that is neither a post nor a moderator's answer looks at what it may read, and at the posts that it asks for
 pub other_alike : (c : Config) (sender m : Text) (r : Request) (old dir : Dir) → (r ≡ requests.Post → ⊥) → ((ticket : ℕ) (cookie : List ℕ) → r ≡ requests.Accept ticket cookie → ⊥) → ((ticket : ℕ) (cookie : List ℕ) → r ≡ requests.Reject ticket cookie → ⊥)
-    → AlikeForRequest c sender m (Some (request_view r)) old dir → Alike is_of_list old dir
+    → AlikeForRequest c sender m (Some (request_view r)) old dir → Alike (is_seen_for_sender c sender (request_view r)) old dir
 other_alike c sender m requests.Post old dir n0 n1 n2 alike = absurd (n0 refl)
 other_alike c sender m requests.Help old dir n0 n1 n2 alike = alike
 other_alike c sender m requests.Owner old dir n0 n1 n2 alike = alike
@@ -96,17 +97,6 @@ other_alike c sender m (requests.WarnBounce set time cookie who) old dir n0 n1 n
 other_alike c sender m (requests.ProbeBounce set time cookie who) old dir n0 n1 n2 alike = alike
 other_alike c sender m (requests.ReplyBounce set) old dir n0 n1 n2 alike = alike
 other_alike c sender m requests.Other old dir n0 n1 n2 alike = alike
-
--- a list that one of two alike directories stands for, the other does
-pub list_there : (old dir : Dir) (p : Plain) → Alike is_of_list old dir → IsList dir p → IsList old p
-list_there old dir p alike is = own_list dir old p (λ name e. sym (alike name e)) is
-
--- and so a step
-pub does_there : (old dir : Dir) (done : List Put × Reply) (step : Plain × Reply) → Alike is_of_list old dir → DoesList old done step → DoesList dir done step
-does_there old dir done step alike does = record {
-  reply = does.reply;
-  list = own_list (with_puts old done.0) (with_puts dir done.0) step.0 (λ name e. laid_same old dir done.0 name (alike name e)) does.list;
-}
 
 -- a file under a name is the same in both
 pub file_there : (name : Name) (old dir : Dir) → Alike (λ other. same_name other name) old dir → dir name ≡ old name
@@ -129,10 +119,6 @@ pub sent_there : (old dir : Dir) (queue : Queue) (id : ℕ) (answer : Option (Li
 sent_there old dir queue id None alike is = is
 sent_there old dir queue id (Some txn) alike is =
     (is.0, queue_frame (with_puts old txn) (with_puts dir txn) (without_id id queue) (λ at. laid_same old dir txn (record { kind = 17; at = at }) (alike (record { kind = 17; at = at }) refl)) (λ at. laid_same old dir txn (record { kind = 18; at = at }) (alike (record { kind = 18; at = at }) refl)) is.1)
-
--- an act's error that names a damaged file, over a directory that stands for a list
-pub act_whole : {T : Type 0} (old dir : Dir) (p : Plain) (r : Result T PartError) → Alike is_of_list old dir → IsList dir p → IfErr r (λ e. OnDamaged e (IsDamaged old)) → IfErr r (λ e. OnDamaged e (λ _. ⊥))
-act_whole old dir p r alike is bad = sound_by old p r (list_there old dir p alike is) bad
 
 -- the floor's file and a file of kept replies are the same in both
 module _ (old dir : Dir) (n : ℕ) (alike : Alike (λ name. same_name name floor_name || same_name name (replies_name (n / 512))) old dir) where

@@ -126,7 +126,7 @@ above_floor dir q number floor found is file some high e =
     go None above k = (above, k)
     go (Some r) above k = inr (above, k)
 
--- a reply kept behind an item's puts
+-- a reply kept after an item's puts
 pub with_reply_does : (dir : Dir) (txn : List Put) (put : Put) (number : ℕ) (reply : Reply) (q : State) (done : List Put × Reply) → IsState (with_puts dir txn) q → done.0 ≡ txn ++ put ∷ [] → done.1 ≡ reply
     → put.name ≡ replies_name (number / 512) → AreReplies (with_put (with_puts dir txn) put) q.floor (keep number reply q.kept) → Does dir done (with_reply number (q, reply))
 with_reply_does dir txn put number reply q done is e f name kept = record {
@@ -155,7 +155,7 @@ unkept_does dir txn number reply q z is = record {
   state = subst (λ n. IsState (with_puts dir txn) (record q { kept = keep n reply q.kept })) (sym z) is;
 }
 
--- the floor behind an item that counts is no higher than its number
+-- the floor after an item that counts is no higher than its number
 pub effect_floor : (q : State) (item : Item) → item.number ≢ 0 → q.floor ≤ item.number → (effect q item).0.floor ≤ item.number
 effect_floor q item some le = go (floor_asked item.act)
   where
@@ -187,7 +187,7 @@ new_does dir q item done new does = subst (λ (s : State × Reply). Does dir don
 pub files_more : (f : Name → Bool) (txn more : List Put) (put : Put) → more ≡ txn ++ put ∷ [] → touches_only f txn ≡ true → f put.name ≡ true → touches_only f more ≡ true
 files_more f txn more put e all one = ap (touches_only f) e ∙ touches_both f txn (put ∷ []) all (and_from (f put.name) true one refl)
 
--- the floor behind an item that counts
+-- the floor after an item that counts
 pub counted_floor : (q : State) (item : Item) → Repeats q item.number None → item.number ≢ 0 → (effect q item).0.floor ≤ item.number
 counted_floor q item new some = effect_floor q item some (below_not q.floor item.number some new.0)
 

@@ -28,7 +28,7 @@ is_requested c sender (Accept ticket cookie) name = is_answered_by ticket true n
 is_requested c sender (Reject ticket cookie) name = is_answered_by ticket false name
 is_requested c sender request name = is_read_for_sender c sender request name
 
--- What a request asks of the archive with the message that came: a post, or one that waits under a ticket, a place behind the last one, by the key of
+-- What a request asks of the archive with the message that came: a post, or one that waits under a ticket, a place after the last one, by the key of
 -- its own subject; any other what it says. A moderator's answer reads the post of its ticket, if one waits there the keys, and only if its
 -- letters are the cookie what follows.
 abbrev pub IsForMail : Dir → Config → Text → PlainRequest → Name → Type 0

@@ -12,23 +12,25 @@ use Rattle.ml_subs.specs.Subscribers.{is_touched}
 use Rattle.ml_plain.specs.declared.Item.{Item}
 use Rattle.ml_plain.specs.declared.Act.{Act}
 use Rattle.ml_plain.specs.declared.Act.TheVariants.{Deliver, Timed, Add, Remove, Sent, Rekey, Floor}
-use Rattle.ml_plain.specs.Directory.{IsState, is_of_list}
+use Rattle.ml_plain.specs.Directory.{IsState}
 use Rattle.ml_plain.specs.Histories.{State}
 use Rattle.ml_plain.specs.KeptFiles.{floor_name, replies_name}
 use Rattle.ml_acts.specs.Doing.{Alike, is_left_by, is_of_queue}
 use Rattle.ml_post.specs.Alike.{AlikeForAnswer, AlikeForPost}
+use Rattle.ml_manage.specs.Reads.{is_seen_for_sender}
+use Rattle.ml_timed.specs.Reads.{is_seen_in_timed}
 use Rattle.ml_list.specs.Damage.{is_looked_up}
 use Rattle.ml_list.specs.Delivering.{is_of_worn}
 
 -- Two directories have the same files of those that a request looks at. A post looks at those of its verdict and of its own place in the archive,
 -- and at those that it needs to be held or sent. A moderator's answer looks at the post that waits, at what tells its cookie, and at what follows.
--- Of any other request the list's files are meant, all of them.
+-- Any other request looks at those that it may read, by its own numbers and addresses, and at the posts that it asks for.
 abbrev pub AlikeForRequest : Config → Text → Text → Option PlainRequest → Dir → Dir → Type 0
 AlikeForRequest c sender m None old dir = Unit {0}
 AlikeForRequest c sender m (Some Post) old dir = AlikeForPost c sender m old dir
 AlikeForRequest c sender m (Some (Accept ticket cookie)) old dir = AlikeForAnswer c ticket true old dir
 AlikeForRequest c sender m (Some (Reject ticket cookie)) old dir = AlikeForAnswer c ticket false old dir
-AlikeForRequest c sender m (Some request) old dir = Alike is_of_list old dir
+AlikeForRequest c sender m (Some request) old dir = Alike (is_seen_for_sender c sender request) old dir
 
 -- of those that a delivery looks at under a configuration: the counters of ids and tickets, and what its request looks at
 pub record AlikeServed (c : Config) (sender m : Text) (request : Option PlainRequest) (old dir : Dir) : Type 0 where
@@ -40,11 +42,16 @@ pub record AlikeForMail (sender recipient m : Text) (old dir : Dir) : Type 0 whe
   pub config : dir config_name ≡ old config_name
   pub served : (c : Config) → IsConfigFile (old config_name) c → AlikeServed c sender m (request_of c.local c.host recipient) old dir
 
--- Of those that an act looks at: a timed run any of the list's, a report of sent mail those of the queue, a rise of the floor the floor's file and the
--- one file of kept replies that the new floor cuts, and an act on a set or the key what it changes.
+-- of those that a timed run looks at, under the configuration that the files hold
+pub record AlikeForRun (old dir : Dir) : Type 0 where
+  pub config : dir config_name ≡ old config_name
+  pub timed : (c : Config) → IsConfigFile (old config_name) c → Alike (is_seen_in_timed c.flags.d) old dir
+
+-- Of those that an act looks at: a report of sent mail those of the queue, a rise of the floor the floor's file and the one file of kept replies
+-- that the new floor cuts, and an act on a set or the key what it changes.
 abbrev pub AlikeForAct : Act → Dir → Dir → Type 0
 AlikeForAct (Deliver sender recipient message) old dir = AlikeForMail sender recipient message old dir
-AlikeForAct Timed old dir = Alike is_of_list old dir
+AlikeForAct Timed old dir = AlikeForRun old dir
 AlikeForAct (Add set who) old dir = Alike (is_touched set (key who)) old dir
 AlikeForAct (Remove set who) old dir = Alike (is_left_by set who) old dir
 AlikeForAct (Sent id) old dir = Alike is_of_queue old dir

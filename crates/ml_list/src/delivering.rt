@@ -73,7 +73,7 @@ fn unless_worn<F: Files>(
     requires config { IsConfig config.now }
     requires loaded { IsTrue F.tells → IsConfigFile (F.map files.now config_name) config.now }
     ensures value { IsTrue F.tells → IfOk result (λ done. (dir : Dir) (p : Plain) → AlikeServed config.now sender.now message.now (request_of config.now.local config.now.host recipient.now) (F.map files.old) dir → IsList dir p → p.config ≡ config.now → DoesList dir done (spec.deliver now.seconds sender.now recipient.now message.now p)) }
-    ensures sound { IsTrue F.tells → (dir : Dir) (p : Plain) → AlikeServed config.now sender.now message.now (request_of config.now.local config.now.host recipient.now) (F.map files.old) dir → IsList dir p → IfErr result (λ e. OnDamaged e (λ _. ⊥)) }
+    ensures sound { IsTrue F.tells → (dir : Dir) (p : Plain) → AlikeServed config.now sender.now message.now (request_of config.now.local config.now.host recipient.now) (F.map files.old) dir → IsList dir p → p.config ≡ config.now → IfErr result (λ e. OnDamaged e (λ _. ⊥)) }
     ensures asked { IfOk result (λ done. touches_only (is_delivered_by sender.now (request_of config.now.local config.now.host recipient.now)) done.0 ≡ true) }
     ensures found { IsTrue F.tells → IfOk result (FoundByCounters (F.map files.old) (FoundOfRecipient (F.map files.old) config.now sender.now message.now (request_of config.now.local config.now.host recipient.now))) }
     ensures act { AnswersAct ⟦<F as Files>⟧ (λ name. is_of_acts name ≡ true) (IsDamagedServed (F.map files.old) config.now sender.now message.now (request_of config.now.local config.now.host recipient.now)) files.old files.new result }
@@ -127,7 +127,7 @@ fn by_recipient<F: Files>(
     requires loaded { IsTrue F.tells → IsConfigFile (F.map files.now config_name) config.now }
     requires room { IsTrue F.tells → HasRoom (F.map files.now) }
     ensures value { IsTrue F.tells → IfOk result (λ done. (dir : Dir) (p : Plain) → AlikeForRequest config.now sender.now message.now (request_of config.now.local config.now.host recipient.now) (F.map files.old) dir → IsList dir p → p.config ≡ config.now → DoesList dir done (spec.by_recipient now.seconds sender.now message.now p (request_of config.now.local config.now.host recipient.now))) }
-    ensures sound { IsTrue F.tells → (dir : Dir) (p : Plain) → AlikeForRequest config.now sender.now message.now (request_of config.now.local config.now.host recipient.now) (F.map files.old) dir → IsList dir p → IfErr result (λ e. OnDamaged e (λ _. ⊥)) }
+    ensures sound { IsTrue F.tells → (dir : Dir) (p : Plain) → AlikeForRequest config.now sender.now message.now (request_of config.now.local config.now.host recipient.now) (F.map files.old) dir → IsList dir p → p.config ≡ config.now → IfErr result (λ e. OnDamaged e (λ _. ⊥)) }
     ensures asked { IfOk result (λ done. touches_only (is_delivered_by sender.now (request_of config.now.local config.now.host recipient.now)) done.0 ≡ true) }
     ensures found { IsTrue F.tells → IfOk result (FoundOfRecipient (F.map files.old) config.now sender.now message.now (request_of config.now.local config.now.host recipient.now)) }
     ensures act { AnswersAct ⟦<F as Files>⟧ (λ name. is_of_acts name ≡ true) (λ name. IsDamaged (F.map files.old) name × IsRequested (F.map files.old) config.now sender.now message.now (request_of config.now.local config.now.host recipient.now) name) files.old files.new result }
@@ -158,7 +158,7 @@ fn by_request<F: Files>(
     requires room { IsTrue F.tells → HasRoom (F.map files.now) }
     requires read { request_of config.now.local config.now.host recipient.now ≡ Some (request_view request.now) }
     ensures value { IsTrue F.tells → IfOk result (λ done. (dir : Dir) (p : Plain) → AlikeForRequest config.now sender.now message.now (Some (request_view request.now)) (F.map files.old) dir → IsList dir p → p.config ≡ config.now → DoesList dir done (spec.by_request now.seconds sender.now message.now p (request_view request.now))) }
-    ensures sound { IsTrue F.tells → (dir : Dir) (p : Plain) → AlikeForRequest config.now sender.now message.now (Some (request_view request.now)) (F.map files.old) dir → IsList dir p → IfErr result (λ e. OnDamaged e (λ _. ⊥)) }
+    ensures sound { IsTrue F.tells → (dir : Dir) (p : Plain) → AlikeForRequest config.now sender.now message.now (Some (request_view request.now)) (F.map files.old) dir → IsList dir p → p.config ≡ config.now → IfErr result (λ e. OnDamaged e (λ _. ⊥)) }
     ensures asked { IfOk result (λ done. touches_only (is_delivered_by sender.now (Some (request_view request.now))) done.0 ≡ true) }
     ensures found { IsTrue F.tells → IfOk result (FoundOfRequest (F.map files.old) config.now sender.now message.now (request_view request.now)) }
     ensures act { AnswersAct ⟦<F as Files>⟧ (λ name. is_of_acts name ≡ true) (λ name. IsDamaged (F.map files.old) name × IsRequested (F.map files.old) config.now sender.now message.now (Some (request_view request.now)) name) files.old files.new result }

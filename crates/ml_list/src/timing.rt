@@ -1,7 +1,9 @@
 // Timed runs.
 ghost use Rattle.ml_list.specs.Found.{FoundByCounters, FoundToRun};
 ghost use Rattle.ml_timed.specs.Found.{FoundInRun};
-ghost use Rattle.std.specs.Prelude.{◌≡◌, [], true, IsTrue, IfOk};
+ghost use Rattle.std.specs.Prelude.{◌≡◌, [], true, IsTrue, IfErr, IfOk};
+ghost use Rattle.ml_base.specs.Dir.{Dir};
+ghost use Rattle.ml_base.specs.PartErrors.{OnDamaged};
 ghost use Rattle.ml_base.specs.Ranges.{IsMoment};
 ghost use Rattle.ml_config.specs.ConfigFile.{IsConfigFile, config_name};
 ghost use Rattle.ml_config.specs.Configuration.{IsConfig};
@@ -9,10 +11,11 @@ ghost use Rattle.ml_plain.specs.Directory.{IsList};
 ghost use Rattle.ml_plain.specs.Plain.{Plain};
 ghost use Rattle.ml_plain.specs.Timing as spec;
 ghost use Rattle.ml_acts.specs.Asked.{IsDamagedOf, Undigested};
-ghost use Rattle.ml_acts.specs.Doing.{DoesList};
-ghost use Rattle.ml_timed.specs.Reads.{is_of_timed};
+ghost use Rattle.ml_acts.specs.Doing.{Alike, DoesList};
+ghost use Rattle.ml_timed.specs.Reads.{is_of_timed, is_seen_in_timed};
 ghost use Rattle.ml_acts.specs.Acting.{AnswersTimed as AnswersAct};
 ghost use Rattle.ml_list.specs.Asked.{IsTimed};
+ghost use Rattle.ml_list.specs.Looked.{AlikeForRun};
 
 use crate::delivering::configuration;
 use ml_acts::{Moment, is_worn};
@@ -22,19 +25,20 @@ use ml_plain::Reply;
 use ml_timed::timed;
 use std::alloc::Global;
 
-// What a timed run does: the puts, and the reply. Where ids or tickets are worn out it is `full`.
+// What a timed run does: the puts, and the reply. If ids or tickets are worn out it is `full`.
 //
 // `Damaged` names a file that was read and is outside its grammar, or names what isn't there, in the files as the run found them: what it
-// writes itself is in its grammar. One of the archive is the number of posts, or is damaged for a post that is in no digest yet. On a list
-// without digests none is named that is read for a digest alone. `Fault` comes only where a read failed. The configuration is there: who asks has looked at it, and where it isn't, there is no memory. `now` is in
-// seconds since 1970. The files come back, whatever it answers.
+// writes itself is in its grammar. In the archive it is the number of posts, or is damaged for a post that is in no digest yet. On a list
+// without digests it is none that is read for a digest alone. `Fault` comes only if a read failed. The configuration is there: whoever calls
+// has looked at it, and if it isn't, there is no memory. `now` is in seconds since 1970. The files come back, whatever it answers.
 pub(crate) fn run_timed<F: Files>(
     alloc: Global,
     files: F,
     now: u64,
 ) -> (F, Result<(Txn, Reply), PartError>)
     requires { IsMoment now }
-    ensures value { IsTrue F.tells → IfOk result.1 (λ done. (p : Plain) → IsList (F.map files) p → DoesList (F.map files) done (spec.timed now p)) }
+    ensures value { IsTrue F.tells → IfOk result.1 (λ done. (dir : Dir) (p : Plain) → AlikeForRun (F.map files) dir → IsList dir p → DoesList dir done (spec.timed now p)) }
+    ensures sound { IsTrue F.tells → (dir : Dir) (p : Plain) → AlikeForRun (F.map files) dir → IsList dir p → IfErr result.1 (λ e. OnDamaged e (λ _. ⊥)) }
     ensures found { IsTrue F.tells → IfOk result.1 (FoundToRun (F.map files)) }
     ensures act { AnswersAct ⟦<F as Files>⟧ (λ name. is_of_timed true name ≡ true) (IsTimed (F.map files)) files result.0 result.1 }
 {
@@ -53,7 +57,8 @@ fn run_unless_worn<F: Files>(
     now: Moment,
 ) -> (F, Result<(Txn, Reply), PartError>)
     requires config { IsConfig config.now }
-    ensures value { IsTrue F.tells → IfOk result.1 (λ done. (p : Plain) → IsList (F.map files) p → p.config ≡ config.now → DoesList (F.map files) done (spec.timed now.seconds p)) }
+    ensures value { IsTrue F.tells → IfOk result.1 (λ done. (dir : Dir) (p : Plain) → Alike (is_seen_in_timed config.now.flags.d) (F.map files) dir → IsList dir p → p.config ≡ config.now → DoesList dir done (spec.timed now.seconds p)) }
+    ensures sound { IsTrue F.tells → (dir : Dir) (p : Plain) → Alike (is_seen_in_timed config.now.flags.d) (F.map files) dir → IsList dir p → IfErr result.1 (λ e. OnDamaged e (λ _. ⊥)) }
     ensures found { IsTrue F.tells → IfOk result.1 (FoundByCounters (F.map files) (λ d. FoundInRun (F.map files) [] d.0)) }
     ensures act { AnswersAct ⟦<F as Files>⟧ (λ name. is_of_timed config.now.flags.d name ≡ true) (IsDamagedOf (F.map files) Undigested) files result.0 result.1 }
 {

@@ -1,10 +1,11 @@
 -- What is said of a request, by what is said of the one that it is.
-use Rattle.std.proofs.Common.{◌≡◌, Bool, true, IfOk, IsTrue, List, Result, sym, subst}
+use Rattle.std.proofs.Common.{◌≡◌, Bool, true, IfErr, IfOk, IsTrue, List, Result, sym, subst}
 use Rattle.std.proofs.lemmas.Result.{IfOk-weaker}
 use Rattle.ml_address.specs.Requests.{PlainRequest, Post, Help, Other, Owner, Subscribe, Unsubscribe, Confirm, Members, Get, Index, Thread, Accept, Reject, Bounce, WarnBounce, ProbeBounce, ReplyBounce}
 use Rattle.ml_address.specs.Views.{request_view}
 use Rattle.ml_address.specs.declared.Request.{Request}
 use Rattle.ml_base.specs.Dir.{Dir}
+use Rattle.ml_base.specs.PartErrors.{OnDamaged}
 use Rattle.ml_base.specs.declared.files.Files.{Ghosts}
 use Rattle.ml_base.specs.declared.names.Name.{Name}
 use Rattle.ml_base.specs.declared.part.PartError.{PartError}
@@ -19,26 +20,29 @@ use Rattle.ml_acts.specs.Acting.{AnswersWithin}
 use Rattle.ml_acts.specs.Asked.{Asked, IsBadFor, IsDamagedOf}
 use Rattle.ml_acts.specs.Configured.{with_config}
 use Rattle.ml_acts.specs.Damaged.{IsDamaged}
-use Rattle.ml_acts.specs.Doing.{DoesList}
-use Rattle.ml_acts.proofs.HeldConfig.{listed}
+use Rattle.ml_acts.specs.Doing.{Alike, DoesList}
 use Rattle.ml_acts.proofs.OfActs.{act_held, act_so}
 use Rattle.ml_manage.specs.Reads.{IsDamagedFor, IsForRequest}
 
--- what an act does for a request
-module _ (r : Result (List Put × Reply) PartError) (dir : Dir) (c : Config) (step : Plain → PlainRequest → Plain × Reply) {q this : Request} (is : q ≡ this) where
+-- what an act does for a request, on every directory that has the files that it reads
+module _ (r : Result (List Put × Reply) PartError) (old : Dir) (c : Config) (reads : PlainRequest → Name → Bool) (step : Plain → PlainRequest → Plain × Reply) {q this : Request} (is : q ≡ this) where
   abbrev Does : Request → Type 0
-  Does s = IfOk r (λ done. (p : Plain) → IsList dir p → p.config ≡ c → DoesList dir done (step p (request_view s)))
+  Does s = IfOk r (λ done. (dir : Dir) (p : Plain) → Alike (reads (request_view s)) old dir → IsList dir p → p.config ≡ c → DoesList dir done (step p (request_view s)))
 
   pub done_for : Does this → Does q
   done_for does = subst Does (sym is) does
 
   -- one that does it whatever the configuration
-  pub done_of : IfOk r (λ done. (p : Plain) → IsList dir p → DoesList dir done (step p (request_view this))) → Does q
-  done_of does = done_for (IfOk-weaker r _ _ (λ done so p list same. so p list) does)
+  pub done_of : IfOk r (λ done. (dir : Dir) (p : Plain) → Alike (reads (request_view this)) old dir → IsList dir p → DoesList dir done (step p (request_view this))) → Does q
+  done_of does = done_for (IfOk-weaker r _ _ (λ done so dir p alike list same. so dir p alike list) does)
 
-  -- or that says so under the configuration
-  pub done_held : IfOk r (λ done. (p : Plain) → IsList (with_config c dir) p → DoesList (with_config c dir) done (step p (request_view this))) → Does q
-  done_held does = done_for (IfOk-weaker r _ _ (λ done so p list same. listed c dir p done _ list same (so p)) does)
+-- and where it names no file
+module _ {T : Type 0} (r : Result T PartError) (old : Dir) (c : Config) (reads : PlainRequest → Name → Bool) {q this : Request} (is : q ≡ this) where
+  abbrev Spares : Request → Type 0
+  Spares s = (dir : Dir) (p : Plain) → Alike (reads (request_view s)) old dir → IsList dir p → p.config ≡ c → IfErr r (λ e. OnDamaged e (λ _. ⊥))
+
+  pub spared_for : Spares this → Spares q
+  spared_for none = subst Spares (sym is) none
 
 -- an act for a request, of files that tell which are damaged for that
 module _ {F : Type 0} (told : Ghosts F) (Writes : PlainRequest → Name → Bool) (May : PlainRequest → Name → Type 0) {r : Result (List Put × Reply) PartError} {dir : Dir} {c : Config} {old new : F} {q this : Request} (is : q ≡ this) where

@@ -9,3 +9,7 @@ mod OfArchive
 mod ForRequests
 pub mod Written
 mod Finding
+mod PostsApart
+mod PostsSpared
+mod Apart
+mod Spared

@@ -36,7 +36,7 @@ module _ {A : Type 0} (size : A → ℕ) (P : A → Type 0) where
       go true more = (all.0, more)
       go false more = tt
 
-  cut_all : (count room : ℕ) (xs : List A) → AllByRecursion P xs → AllByRecursion P (one_or_within size count room xs)
+  pub cut_all : (count room : ℕ) (xs : List A) → AllByRecursion P xs → AllByRecursion P (one_or_within size count room xs)
   cut_all count room [] all = tt
   cut_all count room (x ∷ xs) all = go (nat_le (size x) room)
     where
@@ -100,10 +100,10 @@ pub index_is : (dir : Dir) (posts : List Post) (g : ℕ) → ArePosts dir posts 
 index_is dir posts g are = entries_are posts (group g posts) are.each (group_ones posts g)
 
 -- the files that are named
-of_index : (g : ℕ) (name : Name) → g < 1_000_000 → name ≡ index_name g → is_of_range name ≡ true
+pub of_index : (g : ℕ) (name : Name) → g < 1_000_000 → name ≡ index_name g → is_of_range name ≡ true
 of_index g name less e = or_left (is_index name) (same_name name number_name) (index_placed g name less e)
 
-is_number : (name : Name) → name ≡ number_name → is_of_range name ≡ true
+pub is_number : (name : Name) → name ≡ number_name → is_of_range name ≡ true
 is_number name e = subst (λ (n : Name). is_of_range n ≡ true) (sym e) refl
 
 pub range_read : (a b : ℕ) (name : Name) → IsOfRange a b name → is_of_posts a b name ≡ true

@@ -1,7 +1,7 @@
 -- What mail to the list's other addresses finds in the files that it reads, whatever the other files hold: these are in their grammar, and what is
 -- answered goes by what they spell.
 use Rattle.std.specs.Prelude.{◌≡◌, ◌⊎◌, ◌/◌, ◌||◌, ℕ, Bool, true, false, not, List, [], Option, Some, None, unwrap_or, codes}
-use Rattle.ml_address.specs.Requests.{PlainRequest, Post, Other, Owner, Subscribe, Unsubscribe, Confirm, Members, Get, Index, Thread, Accept, Reject, Bounce, WarnBounce, ProbeBounce, ReplyBounce}
+use Rattle.ml_address.specs.Requests.{PlainRequest, Owner, Subscribe, Unsubscribe, Confirm, Members, Get, Index, Thread, Bounce, WarnBounce, ProbeBounce, ReplyBounce}
 use Rattle.ml_base.specs.Address.{address_of, key}
 use Rattle.ml_base.specs.Bytes.{Text}
 use Rattle.ml_base.specs.Dir.{Dir}

@@ -1,8 +1,11 @@
 -- Which files mail to the list's other addresses may read.
-use Rattle.std.specs.Prelude.{◌≡◌, ◌/◌, ℕ, List, Bool, true, false, ◌||◌, ◌&&◌, nat_le, nat_lt, Option, Some, None, unwrap_or}
+use Rattle.std.specs.Prelude.{◌≡◌, ◌==◌, ◌/◌, ℕ, List, Bool, true, false, ◌||◌, ◌&&◌, nat_le, nat_lt, Option, Some, None, unwrap_or}
+use Rattle.std.specs.List.{IsAmong}
 use Rattle.ml_base.specs.Address.{key, address_of}
 use Rattle.ml_base.specs.Bytes.{Text}
 use Rattle.ml_base.specs.Dir.{Dir, same_name}
+use Rattle.ml_base.specs.Kinds.{post_kind}
+use Rattle.ml_base.specs.Ranges.{is_post_number}
 use Rattle.ml_base.specs.declared.names.Name.{Name}
 use Rattle.ml_base.specs.declared.names.Set.{Set}
 use Rattle.ml_base.specs.declared.names.Set.TheVariants as sets
@@ -19,7 +22,7 @@ use Rattle.ml_plain.specs.Bouncing.{address_named}
 use Rattle.ml_subs.specs.Subscribers.{is_touched}
 use Rattle.ml_acts.specs.Asked.{IsBadAmong, IsBadFor, Count, Group, Range, ThreadOf}
 use Rattle.ml_acts.specs.Damaged.{IsDamaged}
-use Rattle.ml_acts.specs.Doing.{is_bucket, is_bucket_of, is_entry_of, is_index, is_thread_file}
+use Rattle.ml_acts.specs.Doing.{Alike, is_bucket, is_bucket_of, is_entry_of, is_index, is_thread_file}
 use Rattle.ml_queue.specs.Answers.{ids_name}
 
 -- the file that tells which numbers of a set were used: the mark of the digests, or the number of posts
@@ -50,13 +53,33 @@ is_of_reader c sender name =
 abbrev pub is_of_range : Name → Bool
 is_of_range name = is_index name || same_name name number_name
 
--- the posts a to b: their number, and the indexes of their groups
+-- the file of a post
+abbrev pub is_post_file : Name → Bool
+is_post_file name = name.kind == post_kind && is_post_number name.at
+
+-- the posts a to b: how many posts there are, and the indexes of the groups of these
 abbrev pub is_of_posts : ℕ → ℕ → Name → Bool
 is_of_posts a b name = (is_index name && (nat_le (a / 100) name.at && nat_le name.at (b / 100))) || same_name name number_name
 
--- a thread: a thread file beside all of them
+-- the posts a to b themselves
+abbrev pub is_post_within : ℕ → ℕ → Name → Bool
+is_post_within a b name = is_post_file name && (nat_le a name.at && nat_le name.at b)
+
+-- what is looked at for the posts a to b: these too, which are never named
+abbrev pub is_seen_of_posts : ℕ → ℕ → Name → Bool
+is_seen_of_posts a b name = is_of_posts a b name || is_post_within a b name
+
+-- two directories have the same files of those that tell of each post of a row
+abbrev pub AlikeEach : List ℕ → Dir → Dir → Type 0
+AlikeEach ns old dir = (n : ℕ) → IsAmong ns n → Alike (is_seen_of_posts n n) old dir
+
+-- a thread: how many posts there are, the indexes and the thread files
 abbrev pub is_of_thread : Name → Bool
 is_of_thread name = is_of_range name || is_thread_file name
+
+-- what is looked at for a thread: the posts too, which are never named
+abbrev pub is_seen_of_thread : Name → Bool
+is_seen_of_thread name = is_of_thread name || is_post_file name
 
 -- the index of a post's group, where it is one that posts can have
 abbrev pub is_of_index : ℕ → Name → Bool
@@ -90,6 +113,22 @@ is_read_for_sender c sender (ProbeBounce set s) name = is_of_probe set (address_
 is_read_for_sender c sender (ReplyBounce set) name = false
 is_read_for_sender c sender Owner name = same_name name ids_name
 is_read_for_sender c sender request name = is_read_for c (address_of sender) request name
+
+-- the posts that a request asks for
+abbrev pub is_post_asked : PlainRequest → Name → Bool
+is_post_asked (Get from to) name = is_post_within from (unwrap_or to from) name
+is_post_asked (Thread at) name = is_post_file name
+is_post_asked _ name = false
+
+-- what such requests look at: the files that they may read and name, and the posts that they ask for, which are never named
+abbrev pub is_seen_of : Config → Text → PlainRequest → Name → Bool
+is_seen_of c sender request name = is_post_asked request name || is_asked_of c sender request name
+
+abbrev pub is_seen_for : Config → Option Text → PlainRequest → Name → Bool
+is_seen_for c who request name = is_post_asked request name || is_read_for c who request name
+
+abbrev pub is_seen_for_sender : Config → Text → PlainRequest → Name → Bool
+is_seen_for_sender c sender request name = is_post_asked request name || is_read_for_sender c sender request name
 
 -- what is done here is asked: neither a post nor a moderator's answer, with its parts in their ranges
 abbrev pub is_managed : PlainRequest → Bool

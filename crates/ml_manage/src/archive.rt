@@ -4,7 +4,7 @@ ghost use Rattle.ml_filing.specs.Answers.{IsPostName};
 ghost use Rattle.ml_filing.specs.Archive.{number_name};
 ghost use Rattle.ml_filing.specs.Reads.{IsOfRow};
 ghost use Rattle.std.specs.List.{flat_map};
-ghost use Rattle.ml_base.specs.Dir.{same_name};
+ghost use Rattle.ml_base.specs.Dir.{Dir, same_name};
 ghost use Rattle.ml_base.specs.ReadFiles.{IsReading, NamesDamaged};
 ghost use Rattle.ml_base.specs.declared.names.Set.TheVariants as sets;
 ghost use Rattle.ml_config.specs.ConfigFile.{IsConfigFile, config_name};
@@ -16,12 +16,12 @@ ghost use Rattle.ml_queue.specs.Answers.{ids_name};
 ghost use Rattle.ml_acts.specs.Acting.{AnswersWithin};
 ghost use Rattle.ml_acts.specs.Asked.{Group, IsDamagedOf, Range, ThreadOf};
 ghost use Rattle.ml_acts.specs.Damaged.{IsDamaged};
-ghost use Rattle.ml_acts.specs.Doing.{DoesList, HasIds, is_bucket_of, is_of_queue};
+ghost use Rattle.ml_acts.specs.Doing.{Alike, DoesList, HasIds, is_bucket_of, is_of_queue};
 ghost use Rattle.ml_base.specs.Address.{key};
 ghost use Rattle.ml_plain.specs.Answers as answers;
 ghost use Rattle.ml_joining.specs.Found.{SendsMail};
 ghost use Rattle.ml_manage.specs.Found.{FoundToRead, TellsIndex, TellsOpen, TellsRange, TellsReader, TellsSubscriber, TellsThread};
-ghost use Rattle.ml_manage.specs.Reads.{IsDamagedAmong, IsDamagedPost, is_of_index, is_of_posts, is_of_reader, is_of_thread};
+ghost use Rattle.ml_manage.specs.Reads.{AlikeEach, IsDamagedAmong, IsDamagedPost, is_of_index, is_of_posts, is_of_reader, is_of_thread, is_post_file, is_post_within, is_seen_of_posts, is_seen_of_thread};
 ghost use Rattle.ml_manage.specs.Texts as words;
 
 use crate::members::is_member;
@@ -45,7 +45,7 @@ pub(crate) fn get<F: Files>(
     to: Option<u64>,
 ) -> Result<(Txn, Reply), PartError>
     requires room { IsTrue F.tells → HasIds (F.map files.now) }
-    ensures value { IsTrue F.tells → IfOk result (λ done. (p : Plain) → IsList (F.map files.old) p → p.config ≡ config.now → DoesList (F.map files.old) done (spec.from_archive now.seconds sender.now p (spec.may_read p sender.now) (texts.get_text p from to))) }
+    ensures apart { IsTrue F.tells → IfOk result (λ done. (dir : Dir) (p : Plain) → Alike (λ name. is_post_within from (unwrap_or to from) name || (is_of_reader config.now sender.now name || is_of_posts from (unwrap_or to from) name || same_name name ids_name)) (F.map files.old) dir → IsList dir p → p.config ≡ config.now → DoesList dir done (spec.from_archive now.seconds sender.now p (spec.may_read p sender.now) (texts.get_text p from to))) }
     ensures found { IsTrue F.tells → IfOk result (FoundToRead (F.map files.old) config.now (key sender.now) (TellsRange (F.map files.old) from (unwrap_or to from))) }
     ensures act { AnswersWithin is_of_queue ⟦<F as Files>⟧ (λ name. (is_of_reader config.now sender.now name || is_of_posts from (unwrap_or to from) name || same_name name ids_name) ≡ true) (IsDamagedOf (F.map files.old) (Range from (unwrap_or to from))) files.old files.new result }
 {
@@ -67,7 +67,7 @@ pub(crate) fn thread_of<F: Files>(
 ) -> Result<(Txn, Reply), PartError>
     requires room { IsTrue F.tells → HasIds (F.map files.now) }
     requires loaded { IsTrue F.tells → IsConfigFile (F.map files.now config_name) config.now }
-    ensures value { IsTrue F.tells → IfOk result (λ done. (p : Plain) → IsList (F.map files.old) p → p.config ≡ config.now → DoesList (F.map files.old) done (spec.from_archive now.seconds sender.now p (spec.may_read p sender.now) (texts.thread_text p at))) }
+    ensures apart { IsTrue F.tells → IfOk result (λ done. (dir : Dir) (p : Plain) → Alike (λ name. is_post_file name || (is_of_reader config.now sender.now name || is_of_thread name || same_name name ids_name)) (F.map files.old) dir → IsList dir p → p.config ≡ config.now → DoesList dir done (spec.from_archive now.seconds sender.now p (spec.may_read p sender.now) (texts.thread_text p at))) }
     ensures found { IsTrue F.tells → IfOk result (FoundToRead (F.map files.old) config.now (key sender.now) (TellsThread (F.map files.old) config.now.prefix at)) }
     ensures act { AnswersWithin is_of_queue ⟦<F as Files>⟧ (λ name. (is_of_reader config.now sender.now name || is_of_thread name || same_name name ids_name) ≡ true) (IsDamagedOf (F.map files.old) (ThreadOf config.now.prefix at)) files.old files.new result }
 {
@@ -88,7 +88,7 @@ pub(crate) fn index_of<F: Files>(
     at: u64,
 ) -> Result<(Txn, Reply), PartError>
     requires room { IsTrue F.tells → HasIds (F.map files.now) }
-    ensures value { IsTrue F.tells → IfOk result (λ done. (p : Plain) → IsList (F.map files.old) p → p.config ≡ config.now → DoesList (F.map files.old) done (spec.from_archive now.seconds sender.now p (spec.may_read p sender.now) (texts.index_text p at))) }
+    ensures apart { IsTrue F.tells → IfOk result (λ done. (dir : Dir) (p : Plain) → Alike (λ name. is_of_reader config.now sender.now name || is_of_index at name || same_name name ids_name) (F.map files.old) dir → IsList dir p → p.config ≡ config.now → DoesList dir done (spec.from_archive now.seconds sender.now p (spec.may_read p sender.now) (texts.index_text p at))) }
     ensures found { IsTrue F.tells → IfOk result (FoundToRead (F.map files.old) config.now (key sender.now) (TellsIndex (F.map files.old) (at / 100))) }
     ensures act { AnswersWithin is_of_queue ⟦<F as Files>⟧ (λ name. (is_of_reader config.now sender.now name || is_of_index at name || same_name name ids_name) ≡ true) (IsDamagedOf (F.map files.old) (Group (at / 100))) files.old files.new result }
 {
@@ -106,7 +106,7 @@ fn may_read<F: Files>(
     config: &Config,
     sender: &Address,
 ) -> Result<bool, PartError>
-    ensures value { IsTrue F.tells → IfOk result (λ is. (p : Plain) → IsList (F.map files.old) p → p.config ≡ config.now → is ≡ spec.may_read p sender.now) }
+    ensures apart { IsTrue F.tells → IfOk result (λ is. (dir : Dir) (p : Plain) → Alike (is_of_reader config.now sender.now) (F.map files.old) dir → IsList dir p → p.config ≡ config.now → is ≡ spec.may_read p sender.now) }
     ensures found { IsTrue F.tells → IfOk result (TellsReader (F.map files.old) config.now (key sender.now)) }
     ensures names { NamesDamaged ⟦<F as Files>⟧ (λ name. is_of_reader config.now sender.now name ≡ true) (IsDamaged (F.map files.old)) result }
     ensures reads { IsReading ⟦<F as Files>⟧ files.old files.new result }
@@ -124,7 +124,7 @@ fn is_open_to<F: Files>(
     config: &Config,
     sender: &Address,
 ) -> Result<bool, PartError>
-    ensures value { IsTrue F.tells → IfOk result (λ is. (p : Plain) → IsList (F.map files.old) p → p.config ≡ config.now → is ≡ (not p.config.flags.b && p.config.flags.p && (not p.config.flags.g || is_in p sets.List sender.now || is_in p sets.Digest sender.now))) }
+    ensures apart { IsTrue F.tells → IfOk result (λ is. (dir : Dir) (p : Plain) → Alike (is_of_reader config.now sender.now) (F.map files.old) dir → IsList dir p → p.config ≡ config.now → is ≡ (not p.config.flags.b && p.config.flags.p && (not p.config.flags.g || is_in p sets.List sender.now || is_in p sets.Digest sender.now))) }
     ensures found { IsTrue F.tells → IfOk result (TellsOpen (F.map files.old) config.now (key sender.now)) }
     ensures names { NamesDamaged ⟦<F as Files>⟧ (λ name. is_of_reader config.now sender.now name ≡ true) (IsDamaged (F.map files.old)) result }
     ensures reads { IsReading ⟦<F as Files>⟧ files.old files.new result }
@@ -140,7 +140,7 @@ fn is_open_to<F: Files>(
 
 // Whether an address is in the list or the digest.
 fn is_subscriber<F: Files>(alloc: Global, files: &mut F, who: &Address) -> Result<bool, PartError>
-    ensures value { IsTrue F.tells → IfOk result (λ is. (p : Plain) → IsList (F.map files.old) p → is ≡ (is_in p sets.List who.now || is_in p sets.Digest who.now)) }
+    ensures apart { IsTrue F.tells → IfOk result (λ is. (dir : Dir) (p : Plain) → Alike (λ name. is_bucket_of sets.List who.now name || is_bucket_of sets.Digest who.now name) (F.map files.old) dir → IsList dir p → is ≡ (is_in p sets.List who.now || is_in p sets.Digest who.now)) }
     ensures found { IsTrue F.tells → IfOk result (TellsSubscriber (F.map files.old) (key who.now)) }
     ensures names { NamesDamaged ⟦<F as Files>⟧ (λ name. (is_bucket_of sets.List who.now name || is_bucket_of sets.Digest who.now name) ≡ true) (IsDamaged (F.map files.old)) result }
     ensures reads { IsReading ⟦<F as Files>⟧ files.old files.new result }
@@ -161,7 +161,7 @@ fn mail_lines<F: Files>(
     lines: Bytes,
 ) -> Result<(Txn, Reply), PartError>
     requires room { IsTrue F.tells → HasIds (F.map files.now) }
-    ensures value { IsTrue F.tells → IfOk result (λ done. (p : Plain) → IsList (F.map files.old) p → p.config ≡ config.now → DoesList (F.map files.old) done (spec.from_archive now.seconds sender.now p true lines)) }
+    ensures apart { IsTrue F.tells → IfOk result (λ done. (dir : Dir) (p : Plain) → dir ids_name ≡ F.map files.old ids_name → IsList dir p → p.config ≡ config.now → DoesList dir done (spec.from_archive now.seconds sender.now p true lines)) }
     ensures found { IsTrue F.tells → IfOk result (SendsMail (F.map files.old) [] answers.archive) }
     ensures act { AnswersWithin is_of_queue ⟦<F as Files>⟧ (λ name. same_name name ids_name ≡ true) (IsDamaged (F.map files.old)) files.old files.new result }
 {
@@ -190,7 +190,7 @@ fn get_text<F: Files>(
     from: u64,
     to: Option<u64>,
 ) -> Result<Bytes, PartError>
-    ensures value { IsTrue F.tells → IfOk result (λ text. (p : Plain) → IsList (F.map files.old) p → p.config ≡ config.now → text ≡ texts.get_text p from to) }
+    ensures apart { IsTrue F.tells → IfOk result (λ text. (dir : Dir) (p : Plain) → Alike (is_seen_of_posts from (unwrap_or to from)) (F.map files.old) dir → IsList dir p → p.config ≡ config.now → text ≡ texts.get_text p from to) }
     ensures found { IsTrue F.tells → IfOk result (λ _. TellsRange (F.map files.old) from (unwrap_or to from)) }
     ensures names { NamesDamaged ⟦<F as Files>⟧ (λ name. is_of_posts from (unwrap_or to from) name ≡ true) (IsDamagedOf (F.map files.old) (Range from (unwrap_or to from))) result }
     ensures reads { IsReading ⟦<F as Files>⟧ files.old files.new result }
@@ -207,7 +207,7 @@ fn thread_text<F: Files>(
     at: u64,
 ) -> Result<Bytes, PartError>
     requires { IsTrue F.tells → IsConfigFile (F.map files.now config_name) config.now }
-    ensures value { IsTrue F.tells → IfOk result (λ text. (p : Plain) → IsList (F.map files.old) p → p.config ≡ config.now → text ≡ texts.thread_text p at) }
+    ensures apart { IsTrue F.tells → IfOk result (λ text. (dir : Dir) (p : Plain) → Alike is_seen_of_thread (F.map files.old) dir → IsList dir p → p.config ≡ config.now → text ≡ texts.thread_text p at) }
     ensures found { IsTrue F.tells → IfOk result (λ _. TellsThread (F.map files.old) config.now.prefix at) }
     ensures names { NamesDamaged ⟦<F as Files>⟧ (λ name. is_of_thread name ≡ true) (IsDamagedOf (F.map files.old) (ThreadOf config.now.prefix at)) result }
     ensures reads { IsReading ⟦<F as Files>⟧ files.old files.new result }
@@ -218,7 +218,7 @@ fn thread_text<F: Files>(
 
 // The text of the index of a post's group.
 fn index_text<F: Files>(alloc: Global, files: &mut F, at: u64) -> Result<Bytes, PartError>
-    ensures value { IsTrue F.tells → IfOk result (λ text. (p : Plain) → IsList (F.map files.old) p → text ≡ texts.index_text p at) }
+    ensures apart { IsTrue F.tells → IfOk result (λ text. (dir : Dir) (p : Plain) → Alike (is_of_index at) (F.map files.old) dir → IsList dir p → text ≡ texts.index_text p at) }
     ensures found { IsTrue F.tells → IfOk result (λ _. TellsIndex (F.map files.old) (at / 100)) }
     ensures names { NamesDamaged ⟦<F as Files>⟧ (λ name. is_of_index at name ≡ true) (IsDamagedOf (F.map files.old) (Group (at / 100))) result }
     ensures reads { IsReading ⟦<F as Files>⟧ files.old files.new result }
@@ -234,7 +234,7 @@ fn posts_text<F: Files>(
     config: &Config,
     numbers: &[u64],
 ) -> Result<Bytes, PartError>
-    ensures value { IsTrue F.tells → IfOk result (λ text. (p : Plain) → IsList (F.map files.old) p → p.config ≡ config.now → text ≡ words.posts_text p numbers.now) }
+    ensures apart { IsTrue F.tells → IfOk result (λ text. (dir : Dir) (p : Plain) → AlikeEach numbers.now (F.map files.old) dir → IsList dir p → p.config ≡ config.now → text ≡ words.posts_text p numbers.now) }
     ensures names { NamesDamaged ⟦<F as Files>⟧ (IsOfRow number_name numbers.now) (IsDamagedAmong (F.map files.old) numbers.now) result }
     ensures reads { IsReading ⟦<F as Files>⟧ files.old files.new result }
 {
@@ -251,7 +251,7 @@ fn all_posts<F: Files>(
     config: &Config,
     numbers: &[u64],
 ) -> Result<Bytes, PartError>
-    ensures value { IsTrue F.tells → IfOk result (λ text. (p : Plain) → IsList (F.map files.old) p → p.config ≡ config.now → text ≡ flat_map (words.post_text p) numbers.now) }
+    ensures apart { IsTrue F.tells → IfOk result (λ text. (dir : Dir) (p : Plain) → AlikeEach numbers.now (F.map files.old) dir → IsList dir p → p.config ≡ config.now → text ≡ flat_map (words.post_text p) numbers.now) }
     ensures names { NamesDamaged ⟦<F as Files>⟧ (IsOfRow number_name numbers.now) (IsDamagedAmong (F.map files.old) numbers.now) result }
     ensures reads { IsReading ⟦<F as Files>⟧ files.old files.new result }
 {
@@ -270,7 +270,7 @@ fn add_one<F: Files>(
     number: u64,
     out: &mut Bytes,
 ) -> Result<(), PartError>
-    ensures value { IsTrue F.tells → OnOk result ((p : Plain) → IsList (F.map files.old) p → p.config ≡ config.now → out.new ≡ out.old ++ words.post_text p number) }
+    ensures apart { IsTrue F.tells → OnOk result ((dir : Dir) (p : Plain) → Alike (is_seen_of_posts number number) (F.map files.old) dir → IsList dir p → p.config ≡ config.now → out.new ≡ out.old ++ words.post_text p number) }
     ensures names { NamesDamaged ⟦<F as Files>⟧ (IsPostName number) (IsDamagedPost (F.map files.old) number) result }
     ensures reads { IsReading ⟦<F as Files>⟧ files.old files.new result }
 {

@@ -1,9 +1,10 @@
 // What bounces do: of mail to a member, of a warning and of a probe.
-ghost use Rattle.std.specs.Prelude.{◌≡◌, ◌⊎◌, ◌≤◌, ◌&&◌, ◌||◌, true, IsTrue, IfOk};
+ghost use Rattle.std.specs.Prelude.{◌≡◌, ◌⊎◌, ◌≤◌, ◌&&◌, ◌||◌, true, IsTrue, IfErr, IfOk};
 ghost use Rattle.ml_address.specs.Requests.{is_mailed};
 ghost use Rattle.ml_base.specs.Address.{key};
-ghost use Rattle.ml_base.specs.Dir.{same_name};
+ghost use Rattle.ml_base.specs.Dir.{Dir, same_name};
 ghost use Rattle.ml_base.specs.declared.names.Set.TheVariants as sets;
+ghost use Rattle.ml_base.specs.PartErrors.{OnDamaged};
 ghost use Rattle.ml_base.specs.ReadFiles.{IsReading, NamesDamaged};
 ghost use Rattle.ml_bounce.specs.Answers.{puts_of};
 ghost use Rattle.ml_bounce.specs.Changes as changes;
@@ -19,7 +20,7 @@ ghost use Rattle.ml_subs.specs.Subscribers.{is_touched};
 ghost use Rattle.ml_acts.specs.Acting.{AnswersWithin};
 ghost use Rattle.ml_acts.specs.Asked.{Count, IsDamagedOf};
 ghost use Rattle.ml_acts.specs.Damaged.{IsDamaged};
-ghost use Rattle.ml_acts.specs.Doing.{DoesList, is_bucket_of, is_entry_of, is_left_by};
+ghost use Rattle.ml_acts.specs.Doing.{Alike, DoesList, is_bucket_of, is_entry_of, is_left_by};
 ghost use Rattle.ml_acts.specs.Found.{Says, TellsKeys};
 ghost use Rattle.ml_manage.specs.Found.{FoundToDrop, FoundToNote, FoundToProbe, FoundToWarn, IfMember, TellsLedger, TellsUsed};
 ghost use Rattle.ml_manage.specs.Leaving.{change_reply, of_probe, of_warning};
@@ -46,7 +47,8 @@ pub(crate) fn bounced<F: Files>(
 ) -> Result<(Txn, Reply), PartError>
     requires mailed { is_mailed set ≡ true }
     requires number { number ≤ 99_999_999 }
-    ensures value { IsTrue F.tells → IfOk result (λ done. (p : Plain) → IsList (F.map files.old) p → DoesList (F.map files.old) done (spec.bounced now.seconds set number x.now p)) }
+    ensures apart { IsTrue F.tells → IfOk result (λ done. (dir : Dir) (p : Plain) → Alike (is_of_bounce set x.now) (F.map files.old) dir → IsList dir p → DoesList dir done (spec.bounced now.seconds set number x.now p)) }
+    ensures spared { IsTrue F.tells → (dir : Dir) (p : Plain) → Alike (is_of_bounce set x.now) (F.map files.old) dir → IsList dir p → IfErr result (λ e. OnDamaged e (λ _. ⊥)) }
     ensures found { IsTrue F.tells → IfOk result (FoundToNote (F.map files.old) set (key x.now)) }
     ensures act { AnswersWithin (is_entry_of set x.now) ⟦<F as Files>⟧ (λ name. is_of_bounce set x.now name ≡ true) (IsDamagedOf (F.map files.old) Count) files.old files.new result }
 {
@@ -64,7 +66,8 @@ fn was_mailed<F: Files>(
     number: u64,
     x: &Address,
 ) -> Result<bool, PartError>
-    ensures value { IsTrue F.tells → IfOk result (λ is. (p : Plain) → IsList (F.map files.old) p → is ≡ (is_in p set x.now && spec.is_used p set number)) }
+    ensures apart { IsTrue F.tells → IfOk result (λ is. (dir : Dir) (p : Plain) → Alike (is_of_bounce set x.now) (F.map files.old) dir → IsList dir p → is ≡ (is_in p set x.now && spec.is_used p set number)) }
+    ensures spared { IsTrue F.tells → (dir : Dir) (p : Plain) → Alike (is_of_bounce set x.now) (F.map files.old) dir → IsList dir p → IfErr result (λ e. OnDamaged e (λ _. ⊥)) }
     ensures found { IsTrue F.tells → IfOk result (IfMember (F.map files.old) set (key x.now) (TellsUsed (F.map files.old) set)) }
     ensures names { NamesDamaged ⟦<F as Files>⟧ (λ name. is_of_bounce set x.now name ≡ true) (IsDamagedOf (F.map files.old) Count) result }
     ensures reads { IsReading ⟦<F as Files>⟧ files.old files.new result }
@@ -77,7 +80,8 @@ fn was_mailed<F: Files>(
 
 // Whether a number of a set was used.
 fn is_used<F: Files>(alloc: Global, files: &mut F, set: Set, number: u64) -> Result<bool, PartError>
-    ensures value { IsTrue F.tells → IfOk result (λ is. (p : Plain) → IsList (F.map files.old) p → is ≡ spec.is_used p set number) }
+    ensures apart { IsTrue F.tells → IfOk result (λ is. (dir : Dir) (p : Plain) → Alike (is_counted_in set) (F.map files.old) dir → IsList dir p → is ≡ spec.is_used p set number) }
+    ensures spared { IsTrue F.tells → (dir : Dir) (p : Plain) → Alike (is_counted_in set) (F.map files.old) dir → IsList dir p → IfErr result (λ e. OnDamaged e (λ _. ⊥)) }
     ensures found { IsTrue F.tells → IfOk result (λ _. TellsUsed (F.map files.old) set) }
     ensures names { NamesDamaged ⟦<F as Files>⟧ (λ name. is_counted_in set name ≡ true) (IsDamagedOf (F.map files.old) Count) result }
     ensures reads { IsReading ⟦<F as Files>⟧ files.old files.new result }
@@ -90,7 +94,8 @@ fn is_used<F: Files>(alloc: Global, files: &mut F, set: Set, number: u64) -> Res
 
 // Whether a number is one of a digest that was sent.
 fn is_issue<F: Files>(alloc: Global, files: &mut F, number: u64) -> Result<bool, PartError>
-    ensures value { IsTrue F.tells → IfOk result (λ is. (p : Plain) → IsList (F.map files.old) p → is ≡ spec.is_used p sets.Digest number) }
+    ensures apart { IsTrue F.tells → IfOk result (λ is. (dir : Dir) (p : Plain) → dir mark_name ≡ F.map files.old mark_name → IsList dir p → is ≡ spec.is_used p sets.Digest number) }
+    ensures spared { IsTrue F.tells → (dir : Dir) (p : Plain) → dir mark_name ≡ F.map files.old mark_name → IsList dir p → IfErr result (λ e. OnDamaged e (λ _. ⊥)) }
     ensures found { IsTrue F.tells → IfOk result (λ _. TellsUsed (F.map files.old) sets.Digest) }
     ensures names { NamesDamaged ⟦<F as Files>⟧ (λ name. same_name name mark_name ≡ true) (IsDamagedOf (F.map files.old) Count) result }
     ensures reads { IsReading ⟦<F as Files>⟧ files.old files.new result }
@@ -101,7 +106,7 @@ fn is_issue<F: Files>(alloc: Global, files: &mut F, number: u64) -> Result<bool,
 
 // Whether a number is one of a post that was sent.
 fn is_post<F: Files>(alloc: Global, files: &mut F, number: u64) -> Result<bool, PartError>
-    ensures value { IsTrue F.tells → IfOk result (λ is. (p : Plain) → IsList (F.map files.old) p → is ≡ spec.is_used p sets.List number) }
+    ensures apart { IsTrue F.tells → IfOk result (λ is. (dir : Dir) (p : Plain) → dir number_name ≡ F.map files.old number_name → IsList dir p → is ≡ spec.is_used p sets.List number) }
     ensures found { IsTrue F.tells → IfOk result (λ _. TellsUsed (F.map files.old) sets.List) }
     ensures names { NamesDamaged ⟦<F as Files>⟧ (λ name. same_name name number_name ≡ true) (IsDamagedOf (F.map files.old) Count) result }
     ensures reads { IsReading ⟦<F as Files>⟧ files.old files.new result }
@@ -121,7 +126,7 @@ fn noted<F: Files>(
 ) -> Result<(Txn, Reply), PartError>
     requires mailed { is_mailed set ≡ true }
     requires number { number ≤ 99_999_999 }
-    ensures value { IsTrue F.tells → IfOk result (λ done. (p : Plain) → IsList (F.map files.old) p → DoesList (F.map files.old) done (spec.if_changed p set (changes.note (key x.now) number now.seconds (ledger_of p set)))) }
+    ensures apart { IsTrue F.tells → IfOk result (λ done. (dir : Dir) (p : Plain) → Alike (is_entry_of set x.now) (F.map files.old) dir → IsList dir p → DoesList dir done (spec.if_changed p set (changes.note (key x.now) number now.seconds (ledger_of p set)))) }
     ensures found { IsTrue F.tells → IfOk result (λ _. TellsLedger (F.map files.old) set (key x.now)) }
     ensures act { AnswersWithin (is_entry_of set x.now) ⟦<F as Files>⟧ (λ name. is_entry_of set x.now name ≡ true) (IsDamaged (F.map files.old)) files.old files.new result }
 {
@@ -151,7 +156,7 @@ pub(crate) fn warning_bounced<F: Files>(
     x: &Address,
 ) -> Result<(Txn, Reply), PartError>
     requires mailed { is_mailed set ≡ true }
-    ensures value { IsTrue F.tells → IfOk result (λ done. (p : Plain) → IsList (F.map files.old) p → DoesList (F.map files.old) done (of_warning now.seconds set time letters.now x.now p)) }
+    ensures apart { IsTrue F.tells → IfOk result (λ done. (dir : Dir) (p : Plain) → Alike (is_of_warning set x.now) (F.map files.old) dir → IsList dir p → DoesList dir done (of_warning now.seconds set time letters.now x.now p)) }
     ensures found { IsTrue F.tells → IfOk result (FoundToWarn (F.map files.old) set (key x.now)) }
     ensures act { AnswersWithin (is_entry_of set x.now) ⟦<F as Files>⟧ (λ name. is_of_warning set x.now name ≡ true) (IsDamaged (F.map files.old)) files.old files.new result }
 {
@@ -172,7 +177,7 @@ fn is_signed<F: Files>(
     letters: &[u8; 20],
     x: &Address,
 ) -> Result<bool, PartError>
-    ensures value { IsTrue F.tells → IfOk result (λ is. (p : Plain) → IsList (F.map files.old) p → is ≡ (is_in p set x.now && is_good_by p kind.now set time (key x.now) letters.now now)) }
+    ensures apart { IsTrue F.tells → IfOk result (λ is. (dir : Dir) (p : Plain) → Alike (is_of_signed set x.now) (F.map files.old) dir → IsList dir p → is ≡ (is_in p set x.now && is_good_by p kind.now set time (key x.now) letters.now now)) }
     ensures found { IsTrue F.tells → IfOk result (IfMember (F.map files.old) set (key x.now) (TellsKeys (F.map files.old))) }
     ensures names { NamesDamaged ⟦<F as Files>⟧ (λ name. is_of_signed set x.now name ≡ true) (IsDamaged (F.map files.old)) result }
     ensures reads { IsReading ⟦<F as Files>⟧ files.old files.new result }
@@ -194,7 +199,7 @@ fn is_cookie<F: Files>(
     letters: &[u8; 20],
     x: &Address,
 ) -> Result<bool, PartError>
-    ensures value { IsTrue F.tells → IfOk result (λ is. (p : Plain) → IsList (F.map files.old) p → is ≡ is_good_by p kind.now set time (key x.now) letters.now now) }
+    ensures apart { IsTrue F.tells → IfOk result (λ is. (dir : Dir) (p : Plain) → dir key_name ≡ F.map files.old key_name → IsList dir p → is ≡ is_good_by p kind.now set time (key x.now) letters.now now) }
     ensures found { IsTrue F.tells → IfOk result (λ _. TellsKeys (F.map files.old)) }
     ensures names { NamesDamaged ⟦<F as Files>⟧ (λ name. same_name name key_name ≡ true) (IsDamaged (F.map files.old)) result }
     ensures reads { IsReading ⟦<F as Files>⟧ files.old files.new result }
@@ -214,7 +219,7 @@ fn warning_failed<F: Files>(
     x: &Address,
 ) -> Result<(Txn, Reply), PartError>
     requires mailed { is_mailed set ≡ true }
-    ensures value { IsTrue F.tells → IfOk result (λ done. (p : Plain) → IsList (F.map files.old) p → DoesList (F.map files.old) done (spec.if_changed p set (changes.warn_failed (key x.now) time now.seconds (ledger_of p set)))) }
+    ensures apart { IsTrue F.tells → IfOk result (λ done. (dir : Dir) (p : Plain) → Alike (is_entry_of set x.now) (F.map files.old) dir → IsList dir p → DoesList dir done (spec.if_changed p set (changes.warn_failed (key x.now) time now.seconds (ledger_of p set)))) }
     ensures found { IsTrue F.tells → IfOk result (λ _. TellsLedger (F.map files.old) set (key x.now)) }
     ensures act { AnswersWithin (is_entry_of set x.now) ⟦<F as Files>⟧ (λ name. is_entry_of set x.now name ≡ true) (IsDamaged (F.map files.old)) files.old files.new result }
 {
@@ -233,7 +238,8 @@ pub(crate) fn probe_bounced<F: Files>(
     x: &Address,
 ) -> Result<(Txn, Reply), PartError>
     requires { is_mailed set ≡ true }
-    ensures value { IsTrue F.tells → IfOk result (λ done. (p : Plain) → IsList (F.map files.old) p → DoesList (F.map files.old) done (of_probe now set time letters.now x.now p)) }
+    ensures apart { IsTrue F.tells → IfOk result (λ done. (dir : Dir) (p : Plain) → Alike (is_of_probe set x.now) (F.map files.old) dir → IsList dir p → DoesList dir done (of_probe now set time letters.now x.now p)) }
+    ensures spared { IsTrue F.tells → (dir : Dir) (p : Plain) → Alike (is_of_probe set x.now) (F.map files.old) dir → IsList dir p → IfErr result (λ e. OnDamaged e (λ _. ⊥)) }
     ensures found { IsTrue F.tells → IfOk result (FoundToProbe (F.map files.old) set (key x.now)) }
     ensures act { AnswersWithin (is_left_by set x.now) ⟦<F as Files>⟧ (λ name. is_of_probe set x.now name ≡ true) (IsDamaged (F.map files.old)) files.old files.new result }
 {
@@ -252,7 +258,8 @@ fn probed<F: Files>(
     x: &Address,
 ) -> Result<(Txn, Reply), PartError>
     requires { is_mailed set ≡ true }
-    ensures value { IsTrue F.tells → IfOk result (λ done. (p : Plain) → IsList (F.map files.old) p → is_in p set x.now ≡ true → DoesList (F.map files.old) done (spec.if_probed p set x.now (changes.probe_failed (key x.now) time (ledger_of p set)))) }
+    ensures apart { IsTrue F.tells → IfOk result (λ done. (dir : Dir) (p : Plain) → Alike (is_left_by set x.now) (F.map files.old) dir → IsList dir p → is_in p set x.now ≡ true → DoesList dir done (spec.if_probed p set x.now (changes.probe_failed (key x.now) time (ledger_of p set)))) }
+    ensures spared { IsTrue F.tells → (dir : Dir) (p : Plain) → Alike (is_left_by set x.now) (F.map files.old) dir → IsList dir p → IfErr result (λ e. OnDamaged e (λ _. ⊥)) }
     ensures found { IsTrue F.tells → IfOk result (λ done. TellsLedger (F.map files.old) set (key x.now) × (Says answers.ignored done ⊎ FoundToDrop (F.map files.old) set (key x.now) done)) }
     ensures act { AnswersWithin (is_left_by set x.now) ⟦<F as Files>⟧ (λ name. (is_touched set (key x.now) name || is_entry_of set x.now name) ≡ true) (IsDamaged (F.map files.old)) files.old files.new result }
 {
@@ -269,7 +276,8 @@ fn dropped<F: Files>(
     set: Set,
     x: &Address,
 ) -> Result<(Txn, Reply), PartError>
-    ensures value { IsTrue F.tells → IfOk result (λ done. (p : Plain) → IsList (F.map files.old) p → is_in p set x.now ≡ true → DoesList (F.map files.old) done (removed set x.now p, answers.dropped)) }
+    ensures apart { IsTrue F.tells → IfOk result (λ done. (dir : Dir) (p : Plain) → Alike (is_left_by set x.now) (F.map files.old) dir → IsList dir p → is_in p set x.now ≡ true → DoesList dir done (removed set x.now p, answers.dropped)) }
+    ensures spared { IsTrue F.tells → (dir : Dir) (p : Plain) → Alike (is_left_by set x.now) (F.map files.old) dir → IsList dir p → IfErr result (λ e. OnDamaged e (λ _. ⊥)) }
     ensures found { IsTrue F.tells → IfOk result (FoundToDrop (F.map files.old) set (key x.now)) }
     ensures act { AnswersWithin (is_left_by set x.now) ⟦<F as Files>⟧ (λ name. (is_touched set (key x.now) name || is_entry_of set x.now name) ≡ true) (IsDamaged (F.map files.old)) files.old files.new result }
 {

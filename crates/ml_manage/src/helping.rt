@@ -1,7 +1,7 @@
 // Help, and mail to the owner.
 ghost use Rattle.std.specs.Prelude.{◌≡◌, ◌∷◌, [], true, IsTrue, IfOk};
 ghost use Rattle.ml_base.specs.Address.{key};
-ghost use Rattle.ml_base.specs.Dir.{same_name};
+ghost use Rattle.ml_base.specs.Dir.{Dir, same_name};
 ghost use Rattle.ml_base.specs.Sorted.{byte_cmp, is_sorted};
 ghost use Rattle.ml_plain.specs.Directory.{IsList};
 ghost use Rattle.ml_plain.specs.Managing as spec;
@@ -30,7 +30,7 @@ pub(crate) fn helped<F: Files>(
     sender: &Address,
 ) -> Result<(Txn, Reply), PartError>
     requires room { IsTrue F.tells → HasIds (F.map files.now) }
-    ensures value { IsTrue F.tells → IfOk result (λ done. (p : Plain) → IsList (F.map files.old) p → p.config ≡ config.now → DoesList (F.map files.old) done (spec.helped now.seconds sender.now p)) }
+    ensures apart { IsTrue F.tells → IfOk result (λ done. (dir : Dir) (p : Plain) → dir ids_name ≡ F.map files.old ids_name → IsList dir p → p.config ≡ config.now → DoesList dir done (spec.helped now.seconds sender.now p)) }
     ensures found { IsTrue F.tells → IfOk result (SendsMail (F.map files.old) [] answers.help) }
     ensures act { AnswersWithin is_of_queue ⟦<F as Files>⟧ (λ name. same_name name ids_name ≡ true) (IsDamaged (F.map files.old)) files.old files.new result }
 {
@@ -58,7 +58,7 @@ pub(crate) fn to_owner<F: Files>(
     message: &[u8],
 ) -> Result<(Txn, Reply), PartError>
     requires { IsTrue F.tells → HasIds (F.map files.now) }
-    ensures value { IsTrue F.tells → IfOk result (λ done. (p : Plain) → IsList (F.map files.old) p → p.config ≡ config.now → DoesList (F.map files.old) done (spec.to_owner message.now p)) }
+    ensures apart { IsTrue F.tells → IfOk result (λ done. (dir : Dir) (p : Plain) → dir ids_name ≡ F.map files.old ids_name → IsList dir p → p.config ≡ config.now → DoesList dir done (spec.to_owner message.now p)) }
     ensures found { IsTrue F.tells → IfOk result (FoundToOwner (F.map files.old)) }
     ensures act { AnswersWithin is_of_queue ⟦<F as Files>⟧ (λ name. same_name name ids_name ≡ true) (IsDamaged (F.map files.old)) files.old files.new result }
 {

@@ -1,8 +1,10 @@
 // A request: the first rule that applies decides.
-ghost use Rattle.std.specs.Prelude.{◌≡◌, true, codes, IsTrue, IfOk};
+ghost use Rattle.std.specs.Prelude.{◌≡◌, true, codes, IsTrue, IfErr, IfOk};
 ghost use Rattle.ml_address.specs.Requests.{Bounce, WarnBounce, ProbeBounce, is_in_range};
 ghost use Rattle.ml_address.specs.Views.{request_view, who_view};
 ghost use Rattle.ml_base.specs.Address.{address_of, key};
+ghost use Rattle.ml_base.specs.Dir.{Dir};
+ghost use Rattle.ml_base.specs.PartErrors.{OnDamaged};
 ghost use Rattle.ml_base.specs.Ranges.{IsMoment};
 ghost use Rattle.ml_config.specs.ConfigFile.{IsConfigFile, config_name};
 ghost use Rattle.ml_config.specs.Configuration.{IsConfig};
@@ -16,10 +18,10 @@ ghost use Rattle.ml_acts.specs.Acting.{AnswersWithin};
 ghost use Rattle.ml_acts.specs.Asked.{Count, IsDamagedOf};
 ghost use Rattle.ml_acts.specs.Configured.{with_config};
 ghost use Rattle.ml_acts.specs.Damaged.{IsDamaged};
-ghost use Rattle.ml_acts.specs.Doing.{DoesList, HasRoom, is_entry_of, is_left_by};
+ghost use Rattle.ml_acts.specs.Doing.{Alike, DoesList, HasRoom, is_entry_of, is_left_by};
 ghost use Rattle.ml_manage.specs.Found.{FoundByRequest, FoundBySender, FoundManaged, FoundToNote, FoundToProbe, FoundToWarn};
 ghost use Rattle.ml_manage.specs.Leaving.{signed};
-ghost use Rattle.ml_manage.specs.Reads.{IsDamagedFor, is_asked_of, is_managed, is_of_bounce, is_of_probe, is_of_warning, is_read_for, is_read_for_sender};
+ghost use Rattle.ml_manage.specs.Reads.{IsDamagedFor, is_asked_of, is_managed, is_of_bounce, is_of_probe, is_of_warning, is_read_for, is_read_for_sender, is_seen_for, is_seen_for_sender, is_seen_of};
 ghost use Rattle.ml_manage.specs.Written.{is_written_for, is_written_for_sender, is_written_of};
 
 use crate::archive::{get, index_of, thread_of};
@@ -42,7 +44,8 @@ use std::alloc::{AllocError, Global};
 ///
 /// Bounces are noted and mail to the owner goes on whoever sent it. Of the others a sender who is no address is answered
 /// `nosender`, and a message from a list `looped`. `Damaged` names a file that the request may read, by its own numbers, and that is outside
-/// its grammar, or names what isn't there. `Fault` comes only where a read failed.
+/// its grammar, or names what isn't there. What other files hold than those and the posts
+/// that it asks for makes no difference, nor whether they are damaged. `Fault` comes only if a read failed.
 pub fn manage<F: Files>(
     alloc: Global,
     files: &mut F,
@@ -57,6 +60,8 @@ pub fn manage<F: Files>(
     requires room { IsTrue F.tells → HasRoom (F.map files.now) }
     requires request { is_managed (request_view request.now) ≡ true }
     ensures value { IsTrue F.tells → IfOk result (λ done. (p : Plain) → IsList (with_config config.now (F.map files.old)) p → DoesList (with_config config.now (F.map files.old)) done (spec.by_request now sender.now message.now p (request_view request.now))) }
+    ensures apart { IsTrue F.tells → IfOk result (λ done. (dir : Dir) (p : Plain) → Alike (is_seen_for_sender config.now sender.now (request_view request.now)) (F.map files.old) dir → IsList dir p → p.config ≡ config.now → DoesList dir done (spec.by_request now sender.now message.now p (request_view request.now))) }
+    ensures spared { IsTrue F.tells → (dir : Dir) (p : Plain) → Alike (is_seen_for_sender config.now sender.now (request_view request.now)) (F.map files.old) dir → IsList dir p → p.config ≡ config.now → IfErr result (λ e. OnDamaged e (λ _. ⊥)) }
     ensures found { IsTrue F.tells → IfOk result (FoundByRequest (with_config config.now (F.map files.old)) config.now sender.now message.now (request_view request.now)) }
     ensures act { AnswersWithin (is_written_for_sender sender.now (request_view request.now)) ⟦<F as Files>⟧ (λ name. is_read_for_sender config.now sender.now (request_view request.now) name ≡ true) (IsDamagedFor (with_config config.now (F.map files.old)) config.now (request_view request.now)) files.old files.new result }
 {
@@ -79,7 +84,8 @@ fn by_request<F: Files>(
     requires loaded { IsTrue F.tells → IsConfigFile (F.map files.now config_name) config.now }
     requires room { IsTrue F.tells → HasRoom (F.map files.now) }
     requires request { is_managed (request_view request.now) ≡ true }
-    ensures value { IsTrue F.tells → IfOk result (λ done. (p : Plain) → IsList (F.map files.old) p → p.config ≡ config.now → DoesList (F.map files.old) done (spec.by_request now.seconds sender.now message.now p (request_view request.now))) }
+    ensures apart { IsTrue F.tells → IfOk result (λ done. (dir : Dir) (p : Plain) → Alike (is_seen_for_sender config.now sender.now (request_view request.now)) (F.map files.old) dir → IsList dir p → p.config ≡ config.now → DoesList dir done (spec.by_request now.seconds sender.now message.now p (request_view request.now))) }
+    ensures spared { IsTrue F.tells → (dir : Dir) (p : Plain) → Alike (is_seen_for_sender config.now sender.now (request_view request.now)) (F.map files.old) dir → IsList dir p → p.config ≡ config.now → IfErr result (λ e. OnDamaged e (λ _. ⊥)) }
     ensures found { IsTrue F.tells → IfOk result (FoundByRequest (F.map files.old) config.now sender.now message.now (request_view request.now)) }
     ensures act { AnswersWithin (is_written_for_sender sender.now (request_view request.now)) ⟦<F as Files>⟧ (λ name. is_read_for_sender config.now sender.now (request_view request.now) name ≡ true) (IsDamagedFor (F.map files.old) config.now (request_view request.now)) files.old files.new result }
 {
@@ -113,7 +119,8 @@ fn of_bounce<F: Files>(
     who: &Who<'_>,
 ) -> Result<(Txn, Reply), PartError>
     requires range { IsTrue (is_in_range (Bounce set number (who_view who.now))) }
-    ensures value { IsTrue F.tells → IfOk result (λ done. (p : Plain) → IsList (F.map files.old) p → DoesList (F.map files.old) done (bouncing.bounced now.seconds set number (address_named (who_view who.now)) p)) }
+    ensures apart { IsTrue F.tells → IfOk result (λ done. (dir : Dir) (p : Plain) → Alike (is_of_bounce set (address_named (who_view who.now))) (F.map files.old) dir → IsList dir p → DoesList dir done (bouncing.bounced now.seconds set number (address_named (who_view who.now)) p)) }
+    ensures spared { IsTrue F.tells → (dir : Dir) (p : Plain) → Alike (is_of_bounce set (address_named (who_view who.now))) (F.map files.old) dir → IsList dir p → IfErr result (λ e. OnDamaged e (λ _. ⊥)) }
     ensures found { IsTrue F.tells → IfOk result (FoundToNote (F.map files.old) set (key (address_named (who_view who.now)))) }
     ensures act { AnswersWithin (is_entry_of set (address_named (who_view who.now))) ⟦<F as Files>⟧ (λ name. is_of_bounce set (address_named (who_view who.now)) name ≡ true) (IsDamagedOf (F.map files.old) Count) files.old files.new result }
 {
@@ -132,7 +139,7 @@ fn of_warning<F: Files>(
     who: &Who<'_>,
 ) -> Result<(Txn, Reply), PartError>
     requires range { IsTrue (is_in_range (WarnBounce set (signed time letters.now (who_view who.now)))) }
-    ensures value { IsTrue F.tells → IfOk result (λ done. (p : Plain) → IsList (F.map files.old) p → DoesList (F.map files.old) done (bouncing.warning_bounced now.seconds set (signed time letters.now (who_view who.now)) (address_named (who_view who.now)) p)) }
+    ensures apart { IsTrue F.tells → IfOk result (λ done. (dir : Dir) (p : Plain) → Alike (is_of_warning set (address_named (who_view who.now))) (F.map files.old) dir → IsList dir p → DoesList dir done (bouncing.warning_bounced now.seconds set (signed time letters.now (who_view who.now)) (address_named (who_view who.now)) p)) }
     ensures found { IsTrue F.tells → IfOk result (FoundToWarn (F.map files.old) set (key (address_named (who_view who.now)))) }
     ensures act { AnswersWithin (is_entry_of set (address_named (who_view who.now))) ⟦<F as Files>⟧ (λ name. is_of_warning set (address_named (who_view who.now)) name ≡ true) (IsDamaged (F.map files.old)) files.old files.new result }
 {
@@ -151,7 +158,8 @@ fn of_probe<F: Files>(
     who: &Who<'_>,
 ) -> Result<(Txn, Reply), PartError>
     requires { IsTrue (is_in_range (ProbeBounce set (signed time letters.now (who_view who.now)))) }
-    ensures value { IsTrue F.tells → IfOk result (λ done. (p : Plain) → IsList (F.map files.old) p → DoesList (F.map files.old) done (bouncing.probe_bounced now set (signed time letters.now (who_view who.now)) (address_named (who_view who.now)) p)) }
+    ensures apart { IsTrue F.tells → IfOk result (λ done. (dir : Dir) (p : Plain) → Alike (is_of_probe set (address_named (who_view who.now))) (F.map files.old) dir → IsList dir p → DoesList dir done (bouncing.probe_bounced now set (signed time letters.now (who_view who.now)) (address_named (who_view who.now)) p)) }
+    ensures spared { IsTrue F.tells → (dir : Dir) (p : Plain) → Alike (is_of_probe set (address_named (who_view who.now))) (F.map files.old) dir → IsList dir p → IfErr result (λ e. OnDamaged e (λ _. ⊥)) }
     ensures found { IsTrue F.tells → IfOk result (FoundToProbe (F.map files.old) set (key (address_named (who_view who.now)))) }
     ensures act { AnswersWithin (is_left_by set (address_named (who_view who.now))) ⟦<F as Files>⟧ (λ name. is_of_probe set (address_named (who_view who.now)) name ≡ true) (IsDamaged (F.map files.old)) files.old files.new result }
 {
@@ -173,7 +181,8 @@ fn by_sender<F: Files>(
     requires loaded { IsTrue F.tells → IsConfigFile (F.map files.now config_name) config.now }
     requires room { IsTrue F.tells → HasRoom (F.map files.now) }
     requires request { is_managed (request_view request.now) ≡ true }
-    ensures value { IsTrue F.tells → IfOk result (λ done. (p : Plain) → IsList (F.map files.old) p → p.config ≡ config.now → DoesList (F.map files.old) done (spec.by_sender now.seconds message.now p (request_view request.now) (address_of sender.now))) }
+    ensures apart { IsTrue F.tells → IfOk result (λ done. (dir : Dir) (p : Plain) → Alike (is_seen_for config.now (address_of sender.now) (request_view request.now)) (F.map files.old) dir → IsList dir p → p.config ≡ config.now → DoesList dir done (spec.by_sender now.seconds message.now p (request_view request.now) (address_of sender.now))) }
+    ensures spared { IsTrue F.tells → (dir : Dir) (p : Plain) → Alike (is_seen_for config.now (address_of sender.now) (request_view request.now)) (F.map files.old) dir → IsList dir p → p.config ≡ config.now → IfErr result (λ e. OnDamaged e (λ _. ⊥)) }
     ensures found { IsTrue F.tells → IfOk result (FoundBySender (F.map files.old) config.now (address_of sender.now) message.now (request_view request.now)) }
     ensures act { AnswersWithin (is_written_for (address_of sender.now) (request_view request.now)) ⟦<F as Files>⟧ (λ name. is_read_for config.now (address_of sender.now) (request_view request.now) name ≡ true) (IsDamagedFor (F.map files.old) config.now (request_view request.now)) files.old files.new result }
 {
@@ -217,7 +226,8 @@ fn managed<F: Files>(
     requires loaded { IsTrue F.tells → IsConfigFile (F.map files.now config_name) config.now }
     requires room { IsTrue F.tells → HasRoom (F.map files.now) }
     requires request { is_managed (request_view request.now) ≡ true }
-    ensures value { IsTrue F.tells → IfOk result (λ done. (p : Plain) → IsList (F.map files.old) p → p.config ≡ config.now → DoesList (F.map files.old) done (spec.managed now.seconds sender.now p (request_view request.now))) }
+    ensures apart { IsTrue F.tells → IfOk result (λ done. (dir : Dir) (p : Plain) → Alike (is_seen_of config.now sender.now (request_view request.now)) (F.map files.old) dir → IsList dir p → p.config ≡ config.now → DoesList dir done (spec.managed now.seconds sender.now p (request_view request.now))) }
+    ensures spared { IsTrue F.tells → (dir : Dir) (p : Plain) → Alike (is_seen_of config.now sender.now (request_view request.now)) (F.map files.old) dir → IsList dir p → p.config ≡ config.now → IfErr result (λ e. OnDamaged e (λ _. ⊥)) }
     ensures found { IsTrue F.tells → IfOk result (FoundManaged (F.map files.old) config.now sender.now (request_view request.now)) }
     ensures act { AnswersWithin (is_written_of sender.now (request_view request.now)) ⟦<F as Files>⟧ (λ name. is_asked_of config.now sender.now (request_view request.now) name ≡ true) (IsDamagedFor (F.map files.old) config.now (request_view request.now)) files.old files.new result }
 {

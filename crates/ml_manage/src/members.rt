@@ -1,5 +1,6 @@
 // Who is in a set.
 ghost use Rattle.std.specs.Prelude.{◌≡◌, ◌&&◌, ◌||◌, true, IsTrue, IfOk};
+ghost use Rattle.ml_base.specs.Dir.{Dir};
 ghost use Rattle.ml_base.specs.ReadFiles.{IsReading, NamesDamaged};
 ghost use Rattle.ml_base.specs.declared.names.Set.TheVariants as sets;
 ghost use Rattle.ml_plain.specs.Directory.{IsList};
@@ -8,7 +9,7 @@ ghost use Rattle.ml_plain.specs.Plain.{Plain, addresses, is_in, is_moderator};
 ghost use Rattle.ml_reply.specs.declared.mails.Mail.TheVariants as mails;
 ghost use Rattle.ml_acts.specs.Acting.{AnswersWithin};
 ghost use Rattle.ml_acts.specs.Damaged.{IsDamaged};
-ghost use Rattle.ml_acts.specs.Doing.{DoesList, HasIds, is_bucket, is_bucket_of, is_of_queue};
+ghost use Rattle.ml_acts.specs.Doing.{Alike, DoesList, HasIds, is_bucket, is_bucket_of, is_of_queue};
 ghost use Rattle.std.specs.Prelude.{List};
 ghost use Rattle.ml_base.specs.Address.{key};
 ghost use Rattle.ml_base.specs.Bytes.{Text};
@@ -31,7 +32,7 @@ pub(crate) fn is_member<F: Files>(
     set: Set,
     who: &Address,
 ) -> Result<bool, PartError>
-    ensures value { IsTrue F.tells → IfOk result (λ is. (p : Plain) → IsList (F.map files.old) p → is ≡ (is_in p set who.now)) }
+    ensures apart { IsTrue F.tells → IfOk result (λ is. (dir : Dir) (p : Plain) → Alike (is_bucket_of set who.now) (F.map files.old) dir → IsList dir p → is ≡ (is_in p set who.now)) }
     ensures found { IsTrue F.tells → IfOk result (TellsMember (F.map files.old) set (key who.now)) }
     ensures names { NamesDamaged ⟦<F as Files>⟧ (λ name. is_bucket_of set who.now name ≡ true) (IsDamaged (F.map files.old)) result }
     ensures reads { IsReading ⟦<F as Files>⟧ files.old files.new result }
@@ -49,7 +50,7 @@ pub(crate) fn members<F: Files>(
     set: Set,
 ) -> Result<(Txn, Reply), PartError>
     requires room { IsTrue F.tells → HasIds (F.map files.now) }
-    ensures value { IsTrue F.tells → IfOk result (λ done. (p : Plain) → IsList (F.map files.old) p → p.config ≡ config.now → DoesList (F.map files.old) done (spec.list_members now.seconds sender.now set p (p.config.flags.l && is_moderator p sender.now))) }
+    ensures apart { IsTrue F.tells → IfOk result (λ done. (dir : Dir) (p : Plain) → Alike (is_of_members config.now sender.now set) (F.map files.old) dir → IsList dir p → p.config ≡ config.now → DoesList dir done (spec.list_members now.seconds sender.now set p (p.config.flags.l && is_moderator p sender.now))) }
     ensures found { IsTrue F.tells → IfOk result (FoundToList (F.map files.old) config.now set (key sender.now)) }
     ensures act { AnswersWithin is_of_queue ⟦<F as Files>⟧ (λ name. is_of_members config.now sender.now set name ≡ true) (IsDamaged (F.map files.old)) files.old files.new result }
 {
@@ -77,7 +78,7 @@ fn may_list<F: Files>(
     config: &Config,
     sender: &Address,
 ) -> Result<bool, PartError>
-    ensures value { IsTrue F.tells → IfOk result (λ is. (p : Plain) → IsList (F.map files.old) p → p.config ≡ config.now → is ≡ (p.config.flags.l && is_moderator p sender.now)) }
+    ensures apart { IsTrue F.tells → IfOk result (λ is. (dir : Dir) (p : Plain) → Alike (λ name. config.now.flags.l && is_bucket_of sets.Moderators sender.now name) (F.map files.old) dir → IsList dir p → p.config ≡ config.now → is ≡ (p.config.flags.l && is_moderator p sender.now)) }
     ensures found { IsTrue F.tells → IfOk result (TellsLister (F.map files.old) config.now (key sender.now)) }
     ensures names { NamesDamaged ⟦<F as Files>⟧ (λ name. (config.now.flags.l && is_bucket_of sets.Moderators sender.now name) ≡ true) (IsDamaged (F.map files.old)) result }
     ensures reads { IsReading ⟦<F as Files>⟧ files.old files.new result }
@@ -95,7 +96,7 @@ fn members_mail<F: Files>(
     sender: &Address,
     set: Set,
 ) -> Result<Mail, PartError>
-    ensures value { IsTrue F.tells → IfOk result (λ mail. (p : Plain) → IsList (F.map files.old) p → mail ≡ mails.Members sender.now set (addresses p set)) }
+    ensures apart { IsTrue F.tells → IfOk result (λ mail. (dir : Dir) (p : Plain) → Alike (is_bucket set) (F.map files.old) dir → IsList dir p → mail ≡ mails.Members sender.now set (addresses p set)) }
     ensures found { IsTrue F.tells → IfOk result (λ _. (to : List Text) × SpellsAddresses (F.map files.old) set to) }
     ensures names { NamesDamaged ⟦<F as Files>⟧ (λ name. is_bucket set name ≡ true) (IsDamaged (F.map files.old)) result }
     ensures reads { IsReading ⟦<F as Files>⟧ files.old files.new result }

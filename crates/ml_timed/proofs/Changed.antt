@@ -249,18 +249,11 @@ told dir c kind set who now mail p way k body to way_is k_is body_is to_is same 
     ∙ ap (λ (b : Text). send (bounce_path p kind set (key who) now) b to p) (body_is ∙ ap (λ (d : Config). mail_text d mail now) (sym same))
     ∙ ap (λ (t : List Text). send (bounce_path p kind set (key who) now) (mail_text p.config mail now) t p) to_is) is
 
--- the two ends of an act, over files that reading left as they were
-pub dropped_by : (dir old : Dir) (set : Set) (now : ℕ) (who : Text) (txn : List Put) → old ≡ dir → ((p : Plain) → IsList old p → IsList (with_puts old txn) (without_entry set who p))
-    → (p : Plain) (e : LedgerEntry) → IsList dir p → follow_up now p (set, e) ≡ without_entry set who p → IsList (with_puts dir txn) (follow_up now p (set, e))
-dropped_by dir old set now who txn same value p e is so =
-    subst (λ (q : Plain). IsList (with_puts dir txn) q) (sym so) (subst (λ (d : Dir). IsList d p → IsList (with_puts d txn) (without_entry set who p)) same (value p) is)
-
-pub changed_by : (dir old : Dir) (set : Set) (now : ℕ) (a : Action) (kind who : Text) (mail : Mail) (txn done : List Put) → old ≡ dir → has_ledger set ≡ true
-    → ((q : Plain) (e : LedgerEntry) → IsList (with_puts old txn) q → find_entry (key (action_key a)) (ledger_of q set) ≡ Some e → IsList (with_puts old done) (change_entry now set e q))
+-- the mail went, and the entry changes
+pub changed_by : (dir : Dir) (set : Set) (now : ℕ) (a : Action) (kind who : Text) (mail : Mail) (txn done : List Put) → has_ledger set ≡ true
+    → ((q : Plain) (e : LedgerEntry) → IsList (with_puts dir txn) q → find_entry (key (action_key a)) (ledger_of q set) ≡ Some e → IsList (with_puts dir done) (change_entry now set e q))
     → (p : Plain) (e : LedgerEntry) → IsList dir p → find_entry e.key (ledger_of p set) ≡ Some e → action_of e ≡ a → IsList (with_puts dir txn) (bounce_mail kind set who now mail p)
     → follow_up now p (set, e) ≡ change_entry now set e (bounce_mail kind set who now mail p) → IsList (with_puts dir done) (follow_up now p (set, e))
-changed_by dir old set now a kind who mail txn done same has value p e is found act told so =
-    let q = bounce_mail kind set who now mail p in
+changed_by dir set now a kind who mail txn done has value p e is found act told so =
     subst (λ (r : Plain). IsList (with_puts dir done) r) (sym so)
-    (subst (λ (d : Dir). IsList (with_puts d txn) q → IsList (with_puts d done) (change_entry now set e q)) same
-    (λ over. value q e over (ap (find_entry (key (action_key a))) (mail_ledger set set kind who now mail p) ∙ found_action dir p set e has is found a act)) told)
+    (value (bounce_mail kind set who now mail p) e told (ap (find_entry (key (action_key a))) (mail_ledger set set kind who now mail p) ∙ found_action dir p set e has is found a act))

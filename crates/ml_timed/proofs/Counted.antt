@@ -67,7 +67,7 @@ module _ (dir : Dir) (g count : ℕ) (es : List Entry) (low : g ≤ count / 100)
       let next = there.next in
       (es, subst (λ (k : ℕ). IsIndexFile k (dir (index_name k)) es) next index, λ same. let here = subst (λ (k : ℕ). length es + max 1 (100 * k) ≡ count + 1) (sym next) same in omega (arith, here, beyond))
 
-  no_posts : (posts : List Post) → ArePosts dir posts → ⊥
+  pub no_posts : (posts : List Post) → ArePosts dir posts → ⊥
   no_posts posts are =
       let all = counted_is dir posts are count counted in
       let fits = counted.few in

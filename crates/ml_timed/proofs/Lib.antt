@@ -2,6 +2,8 @@ mod Older
 mod Given
 mod Behind
 mod Layered
+mod Apart
+mod Spared
 mod Issued
 mod Posted
 mod Runs

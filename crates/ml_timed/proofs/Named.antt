@@ -26,7 +26,7 @@ use Rattle.ml_acts.specs.Doing.{is_bucket, is_bucket_of, is_entry_of}
 use Rattle.ml_acts.proofs.Damages.{named_so}
 use Rattle.ml_timed.specs.Reads.{is_followed_by, is_ledger, is_of_following}
 
-in_ledger : (set : Set) (name : Name) → is_ledger set name ≡ true → is_followed_by set name ≡ true
+pub in_ledger : (set : Set) (name : Name) → is_ledger set name ≡ true → is_followed_by set name ≡ true
 in_ledger set name e = or_left (is_ledger set name || is_bucket set name) (same_name name ids_name) (or_left (is_ledger set name) (is_bucket set name) e)
 
 -- the file of an address in a set's ledger

@@ -1,6 +1,8 @@
 -- Which files a timed run may read.
 use Rattle.std.specs.Prelude.{Bool, ◌&&◌, ◌||◌, ◌==◌, nat_lt}
 use Rattle.ml_base.specs.Dir.{same_name}
+use Rattle.ml_base.specs.Kinds.{post_kind}
+use Rattle.ml_base.specs.Ranges.{is_post_number}
 use Rattle.ml_base.specs.declared.names.Name.{Name}
 use Rattle.ml_base.specs.declared.names.Set.{Set}
 use Rattle.ml_base.specs.declared.names.Set.TheVariants as sets
@@ -28,6 +30,14 @@ is_of_progress name = same_name name mark_name || same_name name number_name
 abbrev pub is_of_posts_told : Name → Bool
 is_of_posts_told name = same_name name number_name || is_index name
 
+-- the posts
+abbrev pub is_post_file : Name → Bool
+is_post_file name = name.kind == post_kind && is_post_number name.at
+
+-- The number of posts, their indexes, and the posts. Where a post's file isn't as its index tells, the index is named, and never the post.
+abbrev pub is_of_posts_seen : Name → Bool
+is_of_posts_seen name = is_of_posts_told name || is_post_file name
+
 -- a mail to the digest set: its members, and the counter of ids
 abbrev pub is_of_issue : Name → Bool
 is_of_issue name = is_bucket sets.Digest name || same_name name ids_name
@@ -35,6 +45,10 @@ is_of_issue name = is_bucket sets.Digest name || same_name name ids_name
 -- what making a digest reads
 abbrev pub is_of_digesting : Name → Bool
 is_of_digesting name = is_of_progress name || is_of_posts_told name || is_of_issue name
+
+-- what making a digest looks at: what it reads, and the posts
+abbrev pub is_seen_in_digesting : Name → Bool
+is_seen_in_digesting name = is_of_digesting name || is_post_file name
 
 -- the 53 files of a set's ledger
 abbrev pub is_ledger : Set → Name → Bool
@@ -51,3 +65,7 @@ is_of_following name = same_name name key_name || is_followed_by sets.List name 
 -- what a timed run reads, of a list with digests or without: what making a digest reads only where there are digests
 abbrev pub is_of_timed : Bool → Name → Bool
 is_of_timed digests name = is_of_giving_back name || (digests && is_of_digesting name) || is_of_following name
+
+-- what a timed run looks at: the files that it may name, and of a list with digests the posts, which it never names
+abbrev pub is_seen_in_timed : Bool → Name → Bool
+is_seen_in_timed digests name = is_of_timed digests name || (digests && is_post_file name)

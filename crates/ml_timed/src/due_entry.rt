@@ -1,7 +1,7 @@
 // What follows for one due entry.
 ghost use Rattle.std.specs.Prelude.{◌≡◌, true, Some, IsTrue, IfOk};
 ghost use Rattle.ml_base.specs.Address.{key};
-ghost use Rattle.ml_base.specs.Dir.{are_files, touches_only, with_puts};
+ghost use Rattle.ml_base.specs.Dir.{Dir, are_files, touches_only, with_puts};
 ghost use Rattle.ml_base.specs.ReadFiles.{IsReading, NamesDamaged};
 ghost use Rattle.ml_bounce.specs.Answers.{action_key, has_ledger};
 ghost use Rattle.ml_bounce.specs.Changes.{action_of};
@@ -11,7 +11,7 @@ ghost use Rattle.ml_plain.specs.Directory.{IsList};
 ghost use Rattle.ml_plain.specs.Plain.{Plain, ledger_of};
 ghost use Rattle.ml_plain.specs.Timing as spec;
 ghost use Rattle.ml_acts.specs.Damaged.{IsDamaged};
-ghost use Rattle.ml_acts.specs.Doing.{DrawsId, HasIds, is_entry_of, is_of_queue, without_entry};
+ghost use Rattle.ml_acts.specs.Doing.{Alike, DrawsId, HasIds, is_entry_of, is_of_queue, without_entry};
 ghost use Rattle.ml_timed.specs.Found.{is_followed_up};
 ghost use Rattle.ml_timed.specs.Reads.{is_followed_by};
 ghost use Rattle.ml_timed.specs.Telling.{is_mailed};
@@ -36,7 +36,7 @@ pub(crate) fn follow_up<F: Files>(
 ) -> Result<Txn, PartError>
     requires ledger { IsTrue (has_ledger set) }
     requires room { IsTrue F.tells → HasIds (F.map files.now) }
-    ensures value { IsTrue F.tells → IfOk result (λ txn. (p : Plain) (e : LedgerEntry) → IsList (F.map files.old) p → p.config ≡ config.now → p.keys ≡ keys.now → find_entry e.key (ledger_of p set) ≡ Some e → action_of e ≡ action.now → IsList (with_puts (F.map files.old) txn) (spec.follow_up now.seconds p (set, e))) }
+    ensures value { IsTrue F.tells → IfOk result (λ txn. (dir : Dir) (p : Plain) (e : LedgerEntry) → Alike (is_followed_by set) (F.map files.old) dir → IsList dir p → p.config ≡ config.now → p.keys ≡ keys.now → find_entry e.key (ledger_of p set) ≡ Some e → action_of e ≡ action.now → IsList (with_puts dir txn) (spec.follow_up now.seconds p (set, e))) }
     ensures own { IfOk result (λ txn. touches_only is_followed_up txn ≡ true) }
     ensures files { IfOk result (λ txn. IsTrue (are_files txn)) }
     ensures drawn { IsTrue F.tells → IfOk result (λ txn. DrawsId (F.map files.old) txn) }
@@ -65,7 +65,7 @@ fn inform<F: Files>(
     requires mailed { is_mailed action.now ≡ true }
     requires to { action_key action.now ≡ to.now }
     requires room { IsTrue F.tells → HasIds (F.map files.now) }
-    ensures value { IsTrue F.tells → IfOk result (λ txn. (p : Plain) (e : LedgerEntry) → IsList (F.map files.old) p → p.config ≡ config.now → p.keys ≡ keys.now → find_entry e.key (ledger_of p set) ≡ Some e → action_of e ≡ action.now → IsList (with_puts (F.map files.old) txn) (spec.follow_up now.seconds p (set, e))) }
+    ensures value { IsTrue F.tells → IfOk result (λ txn. (dir : Dir) (p : Plain) (e : LedgerEntry) → Alike (is_followed_by set) (F.map files.old) dir → IsList dir p → p.config ≡ config.now → p.keys ≡ keys.now → find_entry e.key (ledger_of p set) ≡ Some e → action_of e ≡ action.now → IsList (with_puts dir txn) (spec.follow_up now.seconds p (set, e))) }
     ensures own { IfOk result (λ txn. touches_only is_followed_up txn ≡ true) }
     ensures files { IfOk result (λ txn. IsTrue (are_files txn)) }
     ensures drawn { IsTrue F.tells → IfOk result (λ txn. DrawsId (F.map files.old) txn) }
@@ -102,7 +102,7 @@ fn change<F: Files>(
     requires ledger { IsTrue (has_ledger set) }
     requires queue { touches_only is_of_queue txn ≡ true }
     requires names { IsTrue (are_files txn) }
-    ensures value { IsTrue F.tells → IfOk result (λ done. (p : Plain) (e : LedgerEntry) → IsList (with_puts (F.map files.old) txn) p → find_entry (key (action_key action.now)) (ledger_of p set) ≡ Some e → IsList (with_puts (F.map files.old) done) (spec.change_entry now.seconds set e p)) }
+    ensures value { IsTrue F.tells → IfOk result (λ done. (dir : Dir) (p : Plain) (e : LedgerEntry) → Alike (is_entry_of set (action_key action.now)) (F.map files.old) dir → IsList (with_puts dir txn) p → find_entry (key (action_key action.now)) (ledger_of p set) ≡ Some e → IsList (with_puts dir done) (spec.change_entry now.seconds set e p)) }
     ensures own { IfOk result (λ done. touches_only is_followed_up done ≡ true) }
     ensures files { IfOk result (λ done. IsTrue (are_files done)) }
     ensures drawn { IsTrue F.tells → DrawsId (F.map files.old) txn → IfOk result (λ done. DrawsId (F.map files.old) done) }
@@ -123,7 +123,7 @@ fn drop_entry<F: Files>(
     who: &Address,
 ) -> Result<Txn, PartError>
     requires ledger { IsTrue (has_ledger set) }
-    ensures value { IsTrue F.tells → IfOk result (λ txn. (p : Plain) → IsList (F.map files.old) p → IsList (with_puts (F.map files.old) txn) (without_entry set who.now p)) }
+    ensures value { IsTrue F.tells → IfOk result (λ txn. (dir : Dir) (p : Plain) → Alike (is_entry_of set who.now) (F.map files.old) dir → IsList dir p → IsList (with_puts dir txn) (without_entry set who.now p)) }
     ensures own { IfOk result (λ txn. touches_only is_followed_up txn ≡ true) }
     ensures files { IfOk result (λ txn. IsTrue (are_files txn)) }
     ensures drawn { IsTrue F.tells → IfOk result (λ txn. DrawsId (F.map files.old) txn) }

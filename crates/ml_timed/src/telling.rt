@@ -1,7 +1,7 @@
 // Members are warned and probed, each by one entry of the queue.
 ghost use Rattle.std.specs.Prelude.{◌≡◌, ◌∷◌, [], true, IsTrue, IfOk};
 ghost use Rattle.ml_base.specs.Address.{key};
-ghost use Rattle.ml_base.specs.Dir.{are_files, same_name, touches_only, with_puts};
+ghost use Rattle.ml_base.specs.Dir.{Dir, are_files, same_name, touches_only, with_puts};
 ghost use Rattle.ml_base.specs.ReadFiles.{IsReading, NamesDamaged};
 ghost use Rattle.ml_base.specs.Sorted.{byte_cmp, is_sorted};
 ghost use Rattle.ml_plain.specs.Directory.{IsList};
@@ -67,7 +67,7 @@ pub(crate) fn tell<F: Files>(
     now: Moment,
 ) -> Result<Txn, PartError>
     requires room { IsTrue F.tells → HasIds (F.map files.now) }
-    ensures value { IsTrue F.tells → IfOk result (λ txn. (p : Plain) → IsList (F.map files.old) p → p.config ≡ config.now → p.keys ≡ keys.now → IsList (with_puts (F.map files.old) txn) (spec.bounce_mail kind.now set who.now now.seconds mail p)) }
+    ensures value { IsTrue F.tells → IfOk result (λ txn. (dir : Dir) (p : Plain) → dir ids_name ≡ F.map files.old ids_name → IsList dir p → p.config ≡ config.now → p.keys ≡ keys.now → IsList (with_puts dir txn) (spec.bounce_mail kind.now set who.now now.seconds mail p)) }
     ensures own { IfOk result (λ txn. touches_only is_of_queue txn ≡ true) }
     ensures files { IfOk result (λ txn. IsTrue (are_files txn)) }
     ensures drawn { IsTrue F.tells → IfOk result (λ txn. DrawsId (F.map files.old) txn) }

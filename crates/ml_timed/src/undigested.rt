@@ -1,6 +1,7 @@
 // The posts that are in no digest yet, as the indexes tell of them.
 ghost use Rattle.std.specs.Option.{option_copied};
 ghost use Rattle.std.specs.Prelude.{◌≡◌, find, nat_lt, ◌<◌, ◌≤◌, ◌+◌, ◌/◌, ◌++◌, true, take, drop, map, length, IsTrue, IfOk, OnOk};
+ghost use Rattle.ml_base.specs.Dir.{Dir};
 ghost use Rattle.ml_base.specs.ReadFiles.{IsReading, NamesDamaged};
 ghost use Rattle.ml_filing.specs.Archive.{IsNumberFile, number_name};
 ghost use Rattle.ml_filing.specs.Posts as archive;
@@ -8,9 +9,10 @@ ghost use Rattle.ml_plain.specs.Directory.{IsList};
 ghost use Rattle.ml_plain.specs.Plain.{Plain};
 ghost use Rattle.ml_plain.specs.Timing.{moment_of_first};
 ghost use Rattle.ml_acts.specs.Asked.{IsTooSmall};
+ghost use Rattle.ml_acts.specs.Doing.{Alike};
 ghost use Rattle.ml_acts.specs.Asked as asked;
 ghost use Rattle.ml_timed.specs.Digesting.{IsDamagedBehind, IsDamagedGroup};
-ghost use Rattle.ml_timed.specs.Reads.{is_of_posts_told};
+ghost use Rattle.ml_timed.specs.Reads.{is_of_posts_seen, is_of_posts_told};
 ghost use Rattle.ml_timed.specs.Waiting.{is_short, moment_behind, sizes_behind};
 ghost use Rattle.ml_timed.specs.Waiting as waiting;
 ghost use Rattle.std.specs.List.{list_all};
@@ -38,8 +40,8 @@ pub(crate) fn posts_behind<F: Files>(
     requires some { last < count }
     requires few { count ≤ 99_999_999 }
     requires counted { IsTrue F.tells → IsNumberFile (F.map files.now number_name) count }
-    ensures sizes { IsTrue F.tells → IfOk result (λ found. (p : Plain) → IsList (F.map files.old) p → count ≡ length p.posts → take 100 found.sizes ≡ take 100 (map (λ post. length post.bytes) (drop last p.posts))) }
-    ensures oldest { IsTrue F.tells → IfOk result (λ found. (p : Plain) → IsList (F.map files.old) p → count ≡ length p.posts → found.oldest ≡ moment_of_first (drop last p.posts)) }
+    ensures sizes { IsTrue F.tells → IfOk result (λ found. (dir : Dir) (p : Plain) → Alike is_of_posts_seen (F.map files.old) dir → IsList dir p → count ≡ length p.posts → take 100 found.sizes ≡ take 100 (map (λ post. length post.bytes) (drop last p.posts))) }
+    ensures oldest { IsTrue F.tells → IfOk result (λ found. (dir : Dir) (p : Plain) → Alike is_of_posts_seen (F.map files.old) dir → IsList dir p → count ≡ length p.posts → found.oldest ≡ moment_of_first (drop last p.posts)) }
     ensures short { IfOk result (λ found. list_all is_short found.sizes ≡ true) }
     ensures agrees { IsTrue F.tells → IfOk result (λ _. count / 100 ≤ (last + 1) / 100 + 1 → ¬ IsTooSmall (F.map files.old)) }
     ensures names { NamesDamaged ⟦<F as Files>⟧ (λ name. is_of_posts_told name ≡ true) (IsDamagedBehind (F.map files.old) last count) result }
@@ -67,7 +69,7 @@ fn group_of<F: Files>(
 ) -> Result<Entries, PartError>
     requires few { count ≤ 99_999_999 }
     requires counted { IsTrue F.tells → IsNumberFile (F.map files.now number_name) count }
-    ensures value { IsTrue F.tells → IfOk result (λ entries. (p : Plain) → IsList (F.map files.old) p → count ≡ length p.posts → entries ≡ archive.index_of group p.posts) }
+    ensures value { IsTrue F.tells → IfOk result (λ entries. (dir : Dir) (p : Plain) → Alike is_of_posts_seen (F.map files.old) dir → IsList dir p → count ≡ length p.posts → entries ≡ archive.index_of group p.posts) }
     ensures short { IfOk result (λ entries. waiting.are_short entries ≡ true) }
     ensures agrees { IsTrue F.tells → IfOk result (λ _. group ≡ count / 100 → ¬ IsTooSmall (F.map files.old)) }
     ensures names { NamesDamaged ⟦<F as Files>⟧ (λ name. is_of_posts_told name ≡ true) (IsDamagedGroup (F.map files.old) group count) result }

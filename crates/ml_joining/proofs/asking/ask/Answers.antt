@@ -1,32 +1,35 @@
-use Rattle.std.proofs.Common.{rules, ap, ap₂, ◌∙◌, []}
+use Rattle.std.proofs.Common.{◌≡◌, rules, refl, ap, ap₂, ◌∙◌, []}
 use Rattle.std.proofs.lemmas.Bool.{or_right, or_left}
 use Rattle.ml_base.specs.Bytes.{Text}
-use Rattle.ml_base.specs.Dir.{touches_only}
-use Rattle.ml_config.proofs.KeyLemmas.{one_key_file}
+use Rattle.ml_base.specs.Dir.{Dir, touches_only}
 use Rattle.ml_config.specs.KeyFile.{key_name}
 use Rattle.ml_plain.specs.Answers.{asked}
 use Rattle.ml_plain.specs.Mailing as spec
 use Rattle.ml_plain.specs.declared.Reply.{Reply}
 use Rattle.ml_reply.specs.declared.mails.Mail.{Mail}
-use Rattle.ml_acts.specs.Doing.{is_of_queue}
+use Rattle.ml_acts.specs.Doing.{Alike, is_of_queue}
 use Rattle.ml_acts.proofs.OfActs.{act_kept}
-use Rattle.ml_joining.proofs.Does.{told_by}
+use Rattle.ml_queue.specs.Answers.{ids_name}
+use Rattle.ml_joining.specs.Reads.{is_for_mail}
+use Rattle.ml_joining.proofs.Apart.{keys_apart, one_kept, told_apart}
 use Rattle.ml_joining.proofs.Finding.{sends}
 use Rattle.ml_acts.proofs.Damages.{ok_then}
 use Rattle.ml_plain.specs.Answers as answers
 use Rattle.ml_joining.proofs.asking.ask.Goals as goal
 
-pub returns-clause-value : goal.returns-clause-value
-returns-clause-value g c told =
+pub returns-clause-apart : goal.returns-clause-apart
+returns-clause-apart g c told =
     let old = g.F.Files.map c.args.files.now in
+    let new = g.F.Files.map c.key.new.files in
     let to = c.args.to.now in
     let x = c.args.x.now in
     let same = g.met.F.Files.kept_map c.args.files.now c.key.new.files told c.key.ensures.reads.kept in
-    told_by old (g.F.Files.map c.key.new.files) c.new.result c.with_mail.result c.args.config.now (λ p. (spec.mail_to to c.args.now.seconds c.in_ok-mail.mail p, c.plain-reply.result)) (λ p. (spec.ask to c.args.now.seconds c.args.word c.args.set x p, asked)) same c.new.ensures
-    (λ p is e. ap₂ (λ (m : Mail) (r : Reply). (spec.mail_to to c.args.now.seconds m p, r))
-    (c.in_ok-mail.ensures ∙ ap (λ (a : Text). spec.question c.args.word to a c.args.set x) (c.in_ok-reply.ensures p e (one_key_file (old key_name) p.keys c.in_ok-keys.keys is.keys (c.in_ok-keys.ensures.value told))))
+    told_apart c.with_mail.result c.args.config.now (λ (dir : Dir). dir ids_name ≡ new ids_name) (λ (dir : Dir). Alike is_for_mail old dir) (λ dir alike. one_kept is_for_mail ids_name old new dir same refl alike)
+    (λ p. (spec.mail_to to c.args.now.seconds c.in_ok-mail.mail p, c.plain-reply.result)) (λ p. (spec.ask to c.args.now.seconds c.args.word c.args.set x p, asked)) c.new.result c.new.ensures
+    (λ dir p alike is e. ap₂ (λ (m : Mail) (r : Reply). (spec.mail_to to c.args.now.seconds m p, r))
+    (◌∙◌ {b = spec.question c.args.word to c.in_ok-reply.reply c.args.set x} c.in_ok-mail.ensures (ap (λ (a : Text). spec.question c.args.word to a c.args.set x) (c.in_ok-reply.ensures p e (keys_apart old dir c.in_ok-keys.keys p (alike key_name refl) (c.in_ok-keys.ensures.value told) is))))
     c.plain-reply.ensures)
-    (c.with_mail.ensures.value told)
+    (c.with_mail.ensures.apart told)
 
 pub returns-clause-act : goal.returns-clause-act
 returns-clause-act g c =

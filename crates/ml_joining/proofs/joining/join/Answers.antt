@@ -1,10 +1,16 @@
-use Rattle.std.proofs.Common.{◌≡◌, true, false, sym, ◌∙◌, subst, rules}
-use Rattle.std.proofs.lemmas.Bool.{or_left}
+use Rattle.std.proofs.Common.{◌≡◌, true, false, refl, sym, ◌∙◌, subst, rules}
+use Rattle.ml_base.specs.Dir.{same_name}
 use Rattle.ml_base.specs.Address.{key}
 use Rattle.ml_plain.specs.Answers as answers
 use Rattle.ml_plain.specs.Plain.{added}
 use Rattle.ml_acts.specs.Doing.{DoesList}
-use Rattle.ml_acts.proofs.Damages.{change_named, ok_then}
+use Rattle.ml_acts.proofs.Damages.{ok_then}
+use Rattle.ml_acts.proofs.SetsApart.{added_there}
+use Rattle.ml_queue.specs.Answers.{ids_name}
+use Rattle.ml_subs.specs.Answers.{IsAddition}
+use Rattle.ml_joining.proofs.Apart.{one_kept}
+use Rattle.ml_joining.proofs.Spared.{ids_alone, named_added, read_alone}
+use Rattle.ml_joining.proofs.Ways.{adding_touched, ids_to_add}
 use Rattle.ml_joining.specs.Reads.{is_touched_with_mail}
 use Rattle.ml_joining.proofs.Does.{added_list, has_none, has_room, only_reply}
 use Rattle.ml_acts.proofs.Found.{found_then}
@@ -13,37 +19,54 @@ use Rattle.ml_joining.specs.Found.{FoundToAdd, FoundToJoin, SendsMail}
 use Rattle.ml_joining.proofs.Finding.{found_to_add}
 use Rattle.ml_joining.proofs.joining.join.Goals as goal
 
-pub returns-in-Added-clause-value : goal.returns-in-Added-clause-value
-returns-in-Added-clause-value g c told =
+pub returns-in-Added-clause-apart : goal.returns-in-Added-clause-apart
+returns-in-Added-clause-apart g c told =
     let old = g.F.Files.map c.args.files.now in
     let set = c.args.set in
     let who = c.args.who.now in
     let now = c.args.now.seconds in
+    let txn = c.in-Added.txn in
     let same = g.met.F.Files.kept_map c.args.files.now c.add.new.files told c.add.ensures.reads.kept in
-    ok_then c.welcome.result
-    (λ done does p is e fresh.
-    let added_by = rw c.in-Added.is at c.in_ok-txn.ensures.value told (p.sets set) (is.sets set) in
+    let read = c.in_ok-txn.ensures.read told in
     let only = rw c.in-Added.is at c.in_ok-txn.ensures.others in
-    subst (λ s. DoesList old done s) (sym (has_room old p set who now is c.in-Added.txn added_by))
-    (rw (← same) (does (added set who now p) (rw same (added_list old p set who now is c.in-Added.txn added_by only)) e)))
-    (c.welcome.ensures.value told)
+    ok_then c.welcome.result
+    (λ done does dir p alike is e fresh.
+    let added_by = subst (IsAddition dir set (p.sets set) (record { who = who; since = now })) c.in-Added.is
+    (added_there old dir set (record { who = who; since = now }) _ read.0 (p.sets set) (adding_touched set who old dir alike) c.bytes-address.ensures.address (search rules) read.1 read.2 (is.sets set)) in
+    subst (λ s. DoesList dir done s) (sym (has_room dir p set who now is txn added_by))
+    (does dir (added set who now p) (one_kept (is_touched_with_mail set who) ids_name old (g.F.Files.map c.add.new.files) dir same (ids_to_add set who ids_name refl) alike) (added_list dir p set who now is txn added_by only) e))
+    (c.welcome.ensures.apart told)
 
-pub returns-in-Already-clause-value : goal.returns-in-Already-clause-value
-returns-in-Already-clause-value g c told p is e fresh =
-    let there = rw c.in-Already.is at c.in_ok-txn.ensures.value told (p.sets c.args.set) (is.sets c.args.set) in
+pub returns-in-Already-clause-apart : goal.returns-in-Already-clause-apart
+returns-in-Already-clause-apart g c told dir p alike is e fresh =
+    let old = g.F.Files.map c.args.files.now in
+    let set = c.args.set in
+    let who = c.args.who.now in
+    let now = c.args.now.seconds in
+    let read = c.in_ok-txn.ensures.read told in
+    let there = subst (IsAddition dir set (p.sets set) (record { who = who; since = now })) c.in-Already.is
+    (added_there old dir set (record { who = who; since = now }) _ read.0 (p.sets set) (adding_touched set who old dir alike) c.bytes-address.ensures.address (search rules) read.1 read.2 (is.sets set)) in
     absurd (let bad : true ≡ false = sym there ∙ fresh in cc)
 
-pub returns-in-Full-clause-value : goal.returns-in-Full-clause-value
-returns-in-Full-clause-value g c told p is e fresh =
+pub returns-in-Full-clause-apart : goal.returns-in-Full-clause-apart
+returns-in-Full-clause-apart g c told dir p alike is e fresh =
     let old = g.F.Files.map c.args.files.now in
-    let full = rw c.in-Full.is at c.in_ok-txn.ensures.value told (p.sets c.args.set) (is.sets c.args.set) in
-    subst (λ s. DoesList old (c.new-in-Full.result, c.plain-in-Full.result) s) (sym (has_none old p c.args.set c.args.who.now c.args.now.seconds is full)) (only_reply old p c.new-in-Full.result c.plain-in-Full.result answers.full c.new-in-Full.ensures c.plain-in-Full.ensures is)
+    let set = c.args.set in
+    let who = c.args.who.now in
+    let now = c.args.now.seconds in
+    let read = c.in_ok-txn.ensures.read told in
+    let full = subst (IsAddition dir set (p.sets set) (record { who = who; since = now })) c.in-Full.is
+    (added_there old dir set (record { who = who; since = now }) _ read.0 (p.sets set) (adding_touched set who old dir alike) c.bytes-address.ensures.address (search rules) read.1 read.2 (is.sets set)) in
+    subst (λ s. DoesList dir (c.new-in-Full.result, c.plain-in-Full.result) s) (sym (has_none dir p set who now is full)) (only_reply dir p c.new-in-Full.result c.plain-in-Full.result answers.full c.new-in-Full.ensures c.plain-in-Full.ensures is)
 
 pub returns-in_err-txn-clause-act : goal.returns-in_err-txn-clause-act
 returns-in_err-txn-clause-act g c =
-    let who = c.args.who.now in
-    let names = change_named g.F.Files (λ name. is_touched_with_mail c.args.set who name ≡ true) _ (g.F.Files.map c.args.files.now) c.args.set (key who) false (λ name e. search (rules, or_left)) c.in_err-txn.ensures.names in
+    let names = named_added g.F.Files _ (g.F.Files.map c.args.files.now) c.args.set c.args.who.now c.in_err-txn.ensures.names in
     search rules
+
+pub returns-in-Added-clause-act : goal.returns-in-Added-clause-act
+returns-in-Added-clause-act g c =
+    read_alone (λ name. same_name name ids_name) (is_touched_with_mail c.args.set c.args.who.now) g.met.F.Files.kept_then g.met.F.Files.kept_map c.add.ensures.reads ids_alone (ids_to_add c.args.set c.args.who.now) c.welcome.ensures.act
 
 pub returns-in-Added-clause-found : goal.returns-in-Added-clause-found
 returns-in-Added-clause-found g c told =

@@ -1,7 +1,14 @@
 use Rattle.ml_joining.proofs.Finding.{sends}
 use Rattle.ml_plain.specs.Answers as answers
-use Rattle.std.proofs.Common.{[], refl, ap, rules}
-use Rattle.ml_base.specs.Dir.{touches_only}
+use Rattle.std.proofs.Common.{◌≡◌, ◌∙◌, [], refl, ap, ap₂, rules}
+use Rattle.ml_base.specs.Bytes.{Text}
+use Rattle.ml_base.specs.Dir.{Dir, touches_only}
+use Rattle.ml_queue.specs.Answers.{ids_name}
+use Rattle.ml_reply.specs.declared.mails.Mail.{Mail}
+use Rattle.ml_reply.specs.declared.mails.Mail.TheVariants as mails
+use Rattle.ml_plain.specs.Mailing.{mail_to}
+use Rattle.ml_plain.specs.declared.Reply.{Reply}
+use Rattle.ml_joining.proofs.Apart.{told_apart}
 use Rattle.ml_acts.specs.Doing.{is_of_queue}
 use Rattle.ml_joining.proofs.joining.tell_already.Goals as goal
 
@@ -20,3 +27,16 @@ returns-clause-act g c =
       names = mailed.names;
       reads = mailed.reads;
     }
+
+pub returns-clause-apart : goal.returns-clause-apart
+returns-clause-apart g c told =
+    let old = g.F.Files.map c.args.files.now in
+    let sender = c.args.sender.now in
+    let now = c.args.now.seconds in
+    let set = c.args.set in
+    let to = c.in_ok-from_slice.ensures ∙ c.bytes.ensures.value in
+    let who = c.in_ok-from_slice-2.ensures ∙ c.bytes-2.ensures.value in
+    told_apart c.with_mail.result c.args.config.now (λ (dir : Dir). dir ids_name ≡ old ids_name) (λ (dir : Dir). dir ids_name ≡ old ids_name) (λ dir same. same)
+    (λ p. (mail_to sender now (mails.Already c.in_ok-from_slice.field-0 set c.in_ok-from_slice-2.field-0) p, c.plain-reply.result)) (λ p. (mail_to sender now (mails.Already sender set c.args.x.now) p, answers.already)) c.new-txn.result c.new-txn.ensures
+    (λ dir p same is e. ap₂ (λ (m : Mail) (r : Reply). (mail_to sender now m p, r)) (ap₂ (λ (t w : Text). mails.Already t set w) to who) c.plain-reply.ensures)
+    (c.with_mail.ensures.apart told)

@@ -2,7 +2,12 @@ use Rattle.std.proofs.Common.{IsTrue, ap, Some, rules, ap₂}
 use Rattle.ml_acts.proofs.UnderConfig.{bad_under, done_under}
 use Rattle.ml_address.specs.Views.{who_view}
 use Rattle.ml_plain.specs.Managing as spec
+use Rattle.ml_plain.specs.Plain.{Plain}
+use Rattle.ml_plain.specs.declared.Reply.{Reply}
 use Rattle.ml_acts.proofs.Found.{found_then}
+use Rattle.ml_joining.specs.Reads.{is_read_to_confirm}
+use Rattle.ml_joining.proofs.Apart.{apart_under, done_itself, named_itself, spared_under}
+use Rattle.ml_joining.proofs.Ways.{config_to_confirm}
 use Rattle.ml_acts.specs.Configured.{with_config}
 use Rattle.ml_joining.specs.Found.{FoundToConfirm}
 use Rattle.ml_plain.specs.Bouncing.{address_named}
@@ -10,13 +15,28 @@ use Rattle.ml_joining.proofs.requests.confirm.Goals as goal
 
 pub returns-clause-value : goal.returns-clause-value
 returns-clause-value g c told =
-    done_under _ _ _ _ c.new-under.ensures.config (ap g.F.Files.map c.new-under.ensures.files) c.confirm_asked.result
-    (λ p. spec.confirm c.args.now c.args.sender.now c.args.word c.args.set (record { time = c.args.time; cookie = c.args.cookie.now; who = who_view c.args.who }) (spec.subject_of p c.args.set c.args.sender.now (Some (who_view c.args.who))) p)
-    c.requires.config (c.confirm_asked.ensures.value told)
+    let asked = address_named (who_view c.args.who) in
+    let step : Plain → Plain × Reply = λ p. spec.confirm c.args.now c.args.sender.now c.args.word c.args.set (record { time = c.args.time; cookie = c.args.cookie.now; who = who_view c.args.who }) (spec.subject_of p c.args.set c.args.sender.now (Some (who_view c.args.who))) p in
+    done_under _ _ _ _ c.new-under.ensures.config (ap g.F.Files.map c.new-under.ensures.files) c.confirm_asked.result step c.requires.config
+    (done_itself (with_config c.new-under.result.config.now (g.F.Files.map c.new-under.result.files.now)) (is_read_to_confirm c.args.word c.args.set asked) c.args.config.now c.confirm_asked.result step (c.confirm_asked.ensures.apart told))
+
+pub returns-clause-apart : goal.returns-clause-apart
+returns-clause-apart g c told =
+    let asked = address_named (who_view c.args.who) in
+    apart_under c.args.config.now c.new-under.result.config.now (g.F.Files.map c.args.files.now) (g.F.Files.map c.new-under.result.files.now) c.new-under.ensures.config (ap g.F.Files.map c.new-under.ensures.files)
+    (is_read_to_confirm c.args.word c.args.set asked) (config_to_confirm c.args.word c.args.set asked) c.confirm_asked.result
+    (λ p. spec.confirm c.args.now c.args.sender.now c.args.word c.args.set (record { time = c.args.time; cookie = c.args.cookie.now; who = who_view c.args.who }) (spec.subject_of p c.args.set c.args.sender.now (Some (who_view c.args.who))) p) (c.confirm_asked.ensures.apart told)
+
+pub returns-clause-spared : goal.returns-clause-spared
+returns-clause-spared g c told =
+    let asked = address_named (who_view c.args.who) in
+    spared_under c.args.config.now c.new-under.result.config.now (g.F.Files.map c.args.files.now) (g.F.Files.map c.new-under.result.files.now) c.new-under.ensures.config (ap g.F.Files.map c.new-under.ensures.files)
+    (is_read_to_confirm c.args.word c.args.set asked) (config_to_confirm c.args.word c.args.set asked) c.confirm_asked.result (c.confirm_asked.ensures.act.names.damaged told)
 
 pub returns-clause-act : goal.returns-clause-act
 returns-clause-act g c =
-    let damaged = λ (told : IsTrue g.F.Files.tells). bad_under _ _ _ _ c.new-under.ensures.config (ap g.F.Files.map c.new-under.ensures.files) c.confirm_asked.result (c.confirm_asked.ensures.act.names.damaged told) in
+    let asked = address_named (who_view c.args.who) in
+    let damaged = λ (told : IsTrue g.F.Files.tells). bad_under _ _ _ _ c.new-under.ensures.config (ap g.F.Files.map c.new-under.ensures.files) c.confirm_asked.result (named_itself (with_config c.new-under.result.config.now (g.F.Files.map c.new-under.result.files.now)) (is_read_to_confirm c.args.word c.args.set asked) c.confirm_asked.result (c.confirm_asked.ensures.act.names.damaged told)) in
     search rules
 
 pub returns-clause-found : goal.returns-clause-found

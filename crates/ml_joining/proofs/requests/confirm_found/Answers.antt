@@ -1,7 +1,14 @@
-use Rattle.std.proofs.Common.{Bool, rules, ap}
+use Rattle.std.proofs.Common.{Bool, refl, rules, ap}
+use Rattle.ml_base.specs.Dir.{Dir, same_name}
+use Rattle.ml_address.specs.Requests.{word_text}
+use Rattle.ml_config.specs.KeyFile.{key_name}
+use Rattle.ml_plain.specs.Mailing.{is_good}
+use Rattle.ml_plain.specs.Plain.{Plain}
+use Rattle.ml_acts.specs.Doing.{Alike}
 use Rattle.ml_plain.specs.Managing as spec
-use Rattle.ml_acts.proofs.OfActs.{act_err, act_kept}
-use Rattle.ml_joining.proofs.Does.{found_by}
+use Rattle.ml_joining.specs.Reads.{is_read_to_confirm}
+use Rattle.ml_joining.proofs.Apart.{alike_kept, found_apart}
+use Rattle.ml_joining.proofs.Spared.{keys_alone, read_failed, read_more}
 use Rattle.ml_joining.proofs.Ways.{keys_to_confirm}
 use Rattle.ml_acts.proofs.Found.{found_then}
 use Rattle.ml_base.specs.Address.{key}
@@ -9,20 +16,30 @@ use Rattle.ml_acts.specs.Found.{TellsMember}
 use Rattle.ml_joining.specs.Found.{FoundToConfirm, FoundToDo, confirming}
 use Rattle.ml_joining.proofs.requests.confirm_found.Goals as goal
 
-pub returns-clause-value : goal.returns-clause-value
-returns-clause-value g c told =
+pub returns-clause-apart : goal.returns-clause-apart
+returns-clause-apart g c told =
+    let old = g.F.Files.map c.args.files.now in
+    let new = g.F.Files.map c.is_signed.new.files in
     let x = c.args.x.now in
-    found_by _ (g.met.F.Files.kept_map c.args.files.now c.is_signed.new.files told c.is_signed.ensures.reads.kept)
-    (λ p is e about. ap (λ (good : Bool). spec.done c.args.now.seconds c.args.set c.args.sender.now x.who p (spec.confirming p c.args.set x.who c.args.word good)) (c.in_ok-good.ensures.value told p is))
-    (c.confirmed.ensures.value told)
+    let set = c.args.set in
+    let word = c.args.word in
+    let looked = is_read_to_confirm word set x.named in
+    let done = λ (p : Plain) (good : Bool). spec.done c.args.now.seconds set c.args.sender.now x.who p (spec.confirming p set x.who word good) in
+    let same = g.met.F.Files.kept_map c.args.files.now c.is_signed.new.files told c.is_signed.ensures.reads.kept in
+    found_apart c.confirmed.result c.args.config.now (λ (dir : Dir). Alike looked new dir) (λ (dir : Dir). Alike looked old dir) (λ dir alike. alike_kept looked looked old new dir same (λ name e. e) alike)
+    (λ p. done p c.in_ok-good.good) (λ p. done p (is_good p (word_text word) set c.args.time (key x.who) c.args.cookie.now c.args.now.seconds)) set x
+    (λ dir p alike is e about. ap (done p) (c.in_ok-good.ensures.apart told dir p (alike key_name (keys_to_confirm set x.named key_name word refl)) is))
+    (c.confirmed.ensures.apart told)
 
 pub returns-in_err-good-clause-act : goal.returns-in_err-good-clause-act
 returns-in_err-good-clause-act g c =
-    act_err c.in_err-good.ensures.names c.in_err-good.ensures.reads
-    (λ name e. keys_to_confirm c.args.set c.args.x.now.named name c.args.word e) (search rules)
+    read_failed (λ name. same_name name key_name) (is_read_to_confirm c.args.word c.args.set c.args.x.now.named) keys_alone (λ name e. keys_to_confirm c.args.set c.args.x.now.named name c.args.word e)
+    c.in_err-good.ensures.names c.in_err-good.ensures.reads (search rules)
 
 pub returns-clause-act : goal.returns-clause-act
-returns-clause-act g c = act_kept g.met.F.Files.kept_then g.met.F.Files.kept_map c.is_signed.ensures.reads c.confirmed.ensures.act (λ name e. e)
+returns-clause-act g c =
+    let looked = is_read_to_confirm c.args.word c.args.set c.args.x.now.named in
+    read_more looked looked g.met.F.Files.kept_then g.met.F.Files.kept_map c.is_signed.ensures.reads (λ name e. e) c.confirmed.ensures.act
 
 pub returns-clause-found : goal.returns-clause-found
 returns-clause-found g c told =

@@ -1,44 +1,55 @@
-use Rattle.std.proofs.Common.{refl, ◌∙◌, sym, ap, IfOk, subst, ◌≡◌, true}
+use Rattle.std.proofs.Common.{◌∙◌, sym, ap, IfOk, subst}
+use Rattle.ml_base.specs.Dir.{Dir}
 use Rattle.ml_address.specs.declared.Word.{Word}
 use Rattle.ml_plain.specs.Managing as spec
-use Rattle.ml_acts.specs.Acting.{AnswersWithin}
-use Rattle.ml_acts.specs.Damaged.{IsDamaged}
-use Rattle.ml_joining.specs.Reads.{is_read_to_confirm}
+use Rattle.ml_acts.specs.Doing.{Alike}
+use Rattle.ml_joining.specs.Damaged.{AnswersLooking}
+use Rattle.ml_joining.specs.Operations.{joining_deed, leaving_deed}
+use Rattle.ml_joining.specs.Reads.{is_read_to_confirm, is_read_to_join, is_read_to_leave}
 use Rattle.ml_joining.specs.Written.{is_written_to_confirm}
+use Rattle.ml_joining.proofs.Apart.{found_apart}
 use Rattle.ml_joining.proofs.Asked.{who_there}
 use Rattle.ml_joining.proofs.Decided.{confirmed_join, confirmed_leave, moderators_join}
-use Rattle.ml_joining.proofs.Does.{found_by}
 use Rattle.ml_base.specs.Address.{key}
 use Rattle.ml_plain.specs.Managing.{Operation}
 use Rattle.ml_joining.specs.Found.{FoundToDo, confirming}
 use Rattle.ml_joining.proofs.requests.confirmed.Goals as goal
 
-pub returns-in-Uc-clause-value : goal.returns-in-Uc-clause-value
-returns-in-Uc-clause-value g c told =
+pub returns-in-Uc-clause-apart : goal.returns-in-Uc-clause-apart
+returns-in-Uc-clause-apart g c told =
     let set = c.args.set in
     let x = c.args.x.now in
-    found_by _ refl
-    (λ p is e about. ap (spec.done c.args.now.seconds set c.args.sender.now x.who p)
+    let old = g.F.Files.map c.args.files.now in
+    found_apart c.left.result c.args.config.now (λ (dir : Dir). Alike (is_read_to_leave set x.named) old dir) (λ (dir : Dir). Alike (is_read_to_confirm c.args.word set x.named) old dir)
+    (λ dir alike. subst (λ (w : Word). Alike (is_read_to_confirm w set x.named) old dir) c.in-Uc.is alike)
+    (λ p. spec.done c.args.now.seconds set c.args.sender.now x.who p (leaving_deed c.confirmed_leaving-operation.result)) (λ p. spec.done c.args.now.seconds set c.args.sender.now x.who p (spec.confirming p set x.who c.args.word c.args.good)) set x
+    (λ dir p alike is e about. ap (spec.done c.args.now.seconds set c.args.sender.now x.who p)
     (c.confirmed_leaving-operation.ensures.operation ∙ confirmed_leave p set x.who x.member c.args.good (who_there p set x about) ∙ ap (λ (w : Word). spec.confirming p set x.who w c.args.good) (sym c.in-Uc.is)))
-    (c.left.ensures.value told)
+    (c.left.ensures.apart told)
 
-pub returns-in-Sc-clause-value : goal.returns-in-Sc-clause-value
-returns-in-Sc-clause-value g c told =
+pub returns-in-Sc-clause-apart : goal.returns-in-Sc-clause-apart
+returns-in-Sc-clause-apart g c told =
     let set = c.args.set in
     let x = c.args.x.now in
-    found_by _ refl
-    (λ p is e about. ap (spec.done c.args.now.seconds set c.args.sender.now x.who p)
+    let old = g.F.Files.map c.args.files.now in
+    found_apart c.joined.result c.args.config.now (λ (dir : Dir). Alike (is_read_to_join set x.named) old dir) (λ (dir : Dir). Alike (is_read_to_confirm c.args.word set x.named) old dir)
+    (λ dir alike. subst (λ (w : Word). Alike (is_read_to_confirm w set x.named) old dir) c.in-Sc.is alike)
+    (λ p. spec.done c.args.now.seconds set c.args.sender.now x.who p (joining_deed c.confirmed_joining-operation.result)) (λ p. spec.done c.args.now.seconds set c.args.sender.now x.who p (spec.confirming p set x.who c.args.word c.args.good)) set x
+    (λ dir p alike is e about. ap (spec.done c.args.now.seconds set c.args.sender.now x.who p)
     (c.confirmed_joining-operation.ensures.operation ∙ confirmed_join p c.args.config.now set x.who x.member c.args.good e (who_there p set x about) ∙ ap (λ (w : Word). spec.confirming p set x.who w c.args.good) (sym c.in-Sc.is)))
-    (c.joined.ensures.value told)
+    (c.joined.ensures.apart told)
 
-pub returns-in-Tc-clause-value : goal.returns-in-Tc-clause-value
-returns-in-Tc-clause-value g c told =
+pub returns-in-Tc-clause-apart : goal.returns-in-Tc-clause-apart
+returns-in-Tc-clause-apart g c told =
     let set = c.args.set in
     let x = c.args.x.now in
-    found_by _ refl
-    (λ p is e about. ap (spec.done c.args.now.seconds set c.args.sender.now x.who p)
+    let old = g.F.Files.map c.args.files.now in
+    found_apart c.joined-in-Tc.result c.args.config.now (λ (dir : Dir). Alike (is_read_to_join set x.named) old dir) (λ (dir : Dir). Alike (is_read_to_confirm c.args.word set x.named) old dir)
+    (λ dir alike. subst (λ (w : Word). Alike (is_read_to_confirm w set x.named) old dir) c.in-Tc.is alike)
+    (λ p. spec.done c.args.now.seconds set c.args.sender.now x.who p (joining_deed c.confirmed_joining-operation-in-Tc.result)) (λ p. spec.done c.args.now.seconds set c.args.sender.now x.who p (spec.confirming p set x.who c.args.word c.args.good)) set x
+    (λ dir p alike is e about. ap (spec.done c.args.now.seconds set c.args.sender.now x.who p)
     (c.confirmed_joining-operation-in-Tc.ensures.operation ∙ moderators_join p set x.who x.member c.args.good (who_there p set x about) ∙ ap (λ (w : Word). spec.confirming p set x.who w c.args.good) (sym c.in-Tc.is)))
-    (c.joined-in-Tc.ensures.value told)
+    (c.joined-in-Tc.ensures.apart told)
 
 pub returns-in-Uc-clause-found : goal.returns-in-Uc-clause-found
 returns-in-Uc-clause-found g c told =
@@ -68,16 +79,16 @@ pub returns-in-Uc-clause-act : goal.returns-in-Uc-clause-act
 returns-in-Uc-clause-act g c =
     let set = c.args.set in
     let who = c.args.x.now.named in
-    subst (λ (w : Word). AnswersWithin (is_written_to_confirm w set who) g.F.Files (λ name. is_read_to_confirm w set who name ≡ true) (IsDamaged (g.F.Files.map c.args.files.now)) c.args.files.now c.left.new.files c.left.result) (sym c.in-Uc.is) c.left.ensures.act
+    subst (λ (w : Word). AnswersLooking (is_written_to_confirm w set who) g.F.Files (is_read_to_confirm w set who) c.args.files.now c.left.new.files c.left.result) (sym c.in-Uc.is) c.left.ensures.act
 
 pub returns-in-Sc-clause-act : goal.returns-in-Sc-clause-act
 returns-in-Sc-clause-act g c =
     let set = c.args.set in
     let who = c.args.x.now.named in
-    subst (λ (w : Word). AnswersWithin (is_written_to_confirm w set who) g.F.Files (λ name. is_read_to_confirm w set who name ≡ true) (IsDamaged (g.F.Files.map c.args.files.now)) c.args.files.now c.joined.new.files c.joined.result) (sym c.in-Sc.is) c.joined.ensures.act
+    subst (λ (w : Word). AnswersLooking (is_written_to_confirm w set who) g.F.Files (is_read_to_confirm w set who) c.args.files.now c.joined.new.files c.joined.result) (sym c.in-Sc.is) c.joined.ensures.act
 
 pub returns-in-Tc-clause-act : goal.returns-in-Tc-clause-act
 returns-in-Tc-clause-act g c =
     let set = c.args.set in
     let who = c.args.x.now.named in
-    subst (λ (w : Word). AnswersWithin (is_written_to_confirm w set who) g.F.Files (λ name. is_read_to_confirm w set who name ≡ true) (IsDamaged (g.F.Files.map c.args.files.now)) c.args.files.now c.joined-in-Tc.new.files c.joined-in-Tc.result) (sym c.in-Tc.is) c.joined-in-Tc.ensures.act
+    subst (λ (w : Word). AnswersLooking (is_written_to_confirm w set who) g.F.Files (is_read_to_confirm w set who) c.args.files.now c.joined-in-Tc.new.files c.joined-in-Tc.result) (sym c.in-Tc.is) c.joined-in-Tc.ensures.act

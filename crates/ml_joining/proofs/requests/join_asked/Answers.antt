@@ -1,12 +1,16 @@
-use Rattle.std.proofs.Common.{ap, rules, subst}
-use Rattle.std.proofs.lemmas.Bool.{or_left, or_right}
+use Rattle.std.proofs.Common.{◌≡◌, true, ap, rules, subst}
 use Rattle.std.specs.Option.{option_map}
 use Rattle.ml_base.specs.Bytes.{Text}
 use Rattle.ml_address.specs.Views.{who_view}
 use Rattle.ml_plain.specs.Managing as spec
-use Rattle.ml_acts.proofs.OfActs.{act_err, act_kept, act_wider}
+use Rattle.ml_base.specs.Dir.{Dir}
+use Rattle.ml_acts.specs.Doing.{Alike, is_bucket_of}
+use Rattle.ml_acts.proofs.OfActs.{act_wider}
+use Rattle.ml_joining.specs.Reads.{is_read_to_subscribe}
+use Rattle.ml_joining.proofs.Apart.{alike_kept, asked_apart}
+use Rattle.ml_joining.proofs.Spared.{bucket_alone, read_failed, read_more}
 use Rattle.ml_joining.proofs.Asked.{subject_is}
-use Rattle.ml_joining.proofs.Does.{asked_by}
+use Rattle.ml_joining.proofs.Ways.{bucket_to_join, join_to_subscribe}
 use Rattle.ml_acts.proofs.Found.{found_then}
 use Rattle.ml_base.specs.Address.{key}
 use Rattle.ml_acts.specs.Found.{TellsMember}
@@ -14,20 +18,44 @@ use Rattle.ml_joining.specs.Operations.{asked_of}
 use Rattle.ml_joining.specs.Found.{FoundToSubscribe}
 use Rattle.ml_joining.proofs.requests.join_asked.Goals as goal
 
-pub returns-clause-value : goal.returns-clause-value
-returns-clause-value g c told =
-    asked_by _ (g.met.F.Files.kept_map c.args.files.now c.find_subject.new.files told c.find_subject.ensures.reads.kept) (c.in_ok-x.ensures.value told)
-    (λ p is e about. ap (λ (t : Text). spec.subscribe c.args.now.seconds c.args.sender.now c.args.set t p) (subject_is p c.args.set c.in_ok-x.x about c.args.sender.now (option_map who_view c.args.who) c.in_ok-x.ensures.named))
-    (c.join_found.ensures.value told)
+pub returns-clause-apart : goal.returns-clause-apart
+returns-clause-apart g c told =
+    let old = g.F.Files.map c.args.files.now in
+    let new = g.F.Files.map c.find_subject.new.files in
+    let set = c.args.set in
+    let config = c.args.config.now in
+    let sender = c.args.sender.now in
+    let x = c.in_ok-x.x in
+    let asked = asked_of sender (option_map who_view c.args.who) in
+    let few = is_read_to_subscribe config sender set x.named in
+    let looked = is_read_to_subscribe config sender set asked in
+    let named = c.in_ok-x.ensures.named in
+    let same = g.met.F.Files.kept_map c.args.files.now c.find_subject.new.files told c.find_subject.ensures.reads.kept in
+    asked_apart c.join_found.result config (λ (dir : Dir). Alike few new dir) (λ (dir : Dir). Alike looked old dir)
+    (λ dir alike. alike_kept few looked old new dir same (λ name e. subst (λ (t : Text). is_read_to_subscribe config sender set t name ≡ true) named e) alike)
+    (λ p. spec.subscribe c.args.now.seconds sender set x.who p) (λ p. spec.subscribe c.args.now.seconds sender set (spec.subject_of p set sender (option_map who_view c.args.who)) p) set x
+    (λ dir p alike is. c.in_ok-x.ensures.apart told dir p (λ name b. alike name (join_to_subscribe set asked name config sender (bucket_to_join set asked name b))) is)
+    (λ dir p alike is e about. ap (λ (t : Text). spec.subscribe c.args.now.seconds sender set t p) (subject_is p set x about sender (option_map who_view c.args.who) named))
+    (c.join_found.ensures.apart told)
 
 pub returns-in_err-x-clause-act : goal.returns-in_err-x-clause-act
 returns-in_err-x-clause-act g c =
-    act_err c.in_err-x.ensures.names c.in_err-x.ensures.reads
-    (λ name e. search (rules, or_left, or_right)) (search rules)
+    let set = c.args.set in
+    let config = c.args.config.now in
+    let sender = c.args.sender.now in
+    let asked = asked_of sender (option_map who_view c.args.who) in
+    read_failed (is_bucket_of set asked) (is_read_to_subscribe config sender set asked) (bucket_alone set asked) (λ name b. join_to_subscribe set asked name config sender (bucket_to_join set asked name b))
+    c.in_err-x.ensures.names c.in_err-x.ensures.reads (search rules)
 
 pub returns-clause-act : goal.returns-clause-act
 returns-clause-act g c =
-    act_wider (act_kept g.met.F.Files.kept_then g.met.F.Files.kept_map c.find_subject.ensures.reads c.join_found.ensures.act (λ name e. search rules))
+    let set = c.args.set in
+    let config = c.args.config.now in
+    let sender = c.args.sender.now in
+    let asked = asked_of sender (option_map who_view c.args.who) in
+    act_wider
+    (read_more (is_read_to_subscribe config sender set c.in_ok-x.x.named) (is_read_to_subscribe config sender set asked) g.met.F.Files.kept_then g.met.F.Files.kept_map c.find_subject.ensures.reads
+    (λ name e. subst (λ (t : Text). is_read_to_subscribe config sender set t name ≡ true) c.in_ok-x.ensures.named e) c.join_found.ensures.act)
     (λ name e. search rules)
 
 pub returns-clause-found : goal.returns-clause-found

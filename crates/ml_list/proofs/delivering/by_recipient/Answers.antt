@@ -53,7 +53,7 @@ returns-clause-value g c told =
     (c.by_request.ensures.value told)
 
 pub returns-clause-sound : goal.returns-clause-sound
-returns-clause-sound g c told dir p alike is =
+returns-clause-sound g c told dir p alike is same =
     let config = c.args.config.now in
     let read : request_of config.local config.host c.args.recipient.now ≡ Some (request_view c.in-Some.request) = search rules in
-    c.by_request.ensures.sound told dir p (subst (λ (o : Option PlainRequest). AlikeForRequest config c.args.sender.now c.args.message.now o (g.F.Files.map c.args.files.now) dir) read alike) is
+    c.by_request.ensures.sound told dir p (subst (λ (o : Option PlainRequest). AlikeForRequest config c.args.sender.now c.args.message.now o (g.F.Files.map c.args.files.now) dir) read alike) is same

@@ -35,7 +35,7 @@ use Rattle.ml_list.specs.Found.{FoundOfRequest}
 use Rattle.ml_list.proofs.Finding.{found_other}
 use Rattle.ml_base.proofs.DamagedNames.{err_damaged}
 use Rattle.ml_list.specs.Looked.{AlikeForRequest}
-use Rattle.ml_list.proofs.Looked.{act_whole, does_there, list_there, other_alike}
+use Rattle.ml_list.proofs.Looked.{other_alike}
 use Rattle.ml_list.proofs.delivering.by_request.Goals as goal
 
 pub manage-requires : goal.manage-requires
@@ -59,7 +59,7 @@ returns-in-Post-clause-value g c told =
     (c.post_with_memo.ensures.apart told)
 
 pub returns-in-Post-clause-sound : goal.returns-in-Post-clause-sound
-returns-in-Post-clause-sound g c told dir p alike is =
+returns-in-Post-clause-sound g c told dir p alike is same =
     c.post_with_memo.ensures.spared told dir p
     (subst (λ (r : Request). AlikeForRequest c.args.config.now c.args.sender.now c.args.message.now (Some (request_view r)) (g.F.Files.map c.args.files.now) dir) c.in-Post.is alike) is
 
@@ -76,7 +76,7 @@ returns-in-Accept-clause-value g c told =
     (c.moderated.ensures.value told)
 
 pub returns-in-Accept-clause-sound : goal.returns-in-Accept-clause-sound
-returns-in-Accept-clause-sound g c told dir p alike is =
+returns-in-Accept-clause-sound g c told dir p alike is same =
     c.moderated.ensures.sound told dir p
     (subst (λ (r : Request). AlikeForRequest c.args.config.now c.args.sender.now c.args.message.now (Some (request_view r)) (g.F.Files.map c.args.files.now) dir) c.in-Accept.is alike) is
 
@@ -93,7 +93,7 @@ returns-in-Reject-clause-value g c told =
     (c.moderated-in-Reject.ensures.value told)
 
 pub returns-in-Reject-clause-sound : goal.returns-in-Reject-clause-sound
-returns-in-Reject-clause-sound g c told dir p alike is =
+returns-in-Reject-clause-sound g c told dir p alike is same =
     c.moderated-in-Reject.ensures.sound told dir p
     (subst (λ (r : Request). AlikeForRequest c.args.config.now c.args.sender.now c.args.message.now (Some (request_view r)) (g.F.Files.map c.args.files.now) dir) c.in-Reject.is alike) is
 
@@ -102,18 +102,13 @@ returns-in_default-clause-value g c told =
     let old = g.F.Files.map c.args.files.now in
     IfOk-weaker c.manage.result _ _
     (λ done does dir p alike is same.
-    let there = other_alike c.args.config.now c.args.sender.now c.args.message.now c.args.request.now old dir c.in_default.not-Post c.in_default.not-Accept c.in_default.not-Reject alike in
-    let own = list_there old dir p there is in
-    does_there old dir done _ there (listed c.args.config.now old p done _ own same (does p)))
-    (c.manage.ensures.value told)
+    does dir p (other_alike c.args.config.now c.args.sender.now c.args.message.now c.args.request.now old dir c.in_default.not-Post c.in_default.not-Accept c.in_default.not-Reject alike) is same)
+    (c.manage.ensures.apart told)
 
 pub returns-in_default-clause-sound : goal.returns-in_default-clause-sound
-returns-in_default-clause-sound g c told dir p alike is =
-    let old = g.F.Files.map c.args.files.now in
-    let config = c.args.config.now in
-    let there = other_alike config c.args.sender.now c.args.message.now c.args.request.now old dir c.in_default.not-Post c.in_default.not-Accept c.in_default.not-Reject alike in
-    let same = act_held config old g.F.Files (λ d. IsDamagedFor d config (request_view c.args.request.now)) c.requires.loaded c.manage.ensures.act in
-    act_whole old dir p c.manage.result there is (err_damaged c.manage.result _ (IsDamaged old) (λ name bad. bad.damaged) (same.names.damaged told))
+returns-in_default-clause-sound g c told dir p alike is same =
+    c.manage.ensures.spared told dir p
+    (other_alike c.args.config.now c.args.sender.now c.args.message.now c.args.request.now (g.F.Files.map c.args.files.now) dir c.in_default.not-Post c.in_default.not-Accept c.in_default.not-Reject alike) is same
 
 -- what is named of a request
 abbrev IsAsked : Dir → Config → Text → Text → Request → Name → Type 0

@@ -39,7 +39,11 @@ pub returns-clause-sound : goal.returns-clause-sound
 returns-clause-sound g c told dir p alike is =
     let config = c.in_ok-config.config in
     let same_map = g.met.F.Files.kept_map c.args.files.now c.configuration.new.files told c.configuration.ensures.reads.kept in
-    c.unless_worn.ensures.sound told dir p (subst (λ (d : Dir). AlikeServed config c.args.sender.now c.args.message.now (request_of config.local config.host c.args.recipient.now) d dir) (sym same_map) (alike.served config (c.in_ok-config.ensures.value told))) is
+    let held = c.in_ok-config.ensures.value told in
+    let file : IsConfigFile (dir config_name) config = subst (λ (f : Option Text). IsConfigFile f config) (sym alike.config) held in
+    c.unless_worn.ensures.sound told dir p
+    (subst (λ (d : Dir). AlikeServed config c.args.sender.now c.args.message.now (request_of config.local config.host c.args.recipient.now) d dir) (sym same_map) (alike.served config held)) is
+    (one_in_file (dir config_name) p.config config is.config file)
 
 pub returns-in_err-config-clause-sound : goal.returns-in_err-config-clause-sound
 returns-in_err-config-clause-sound g c told dir p alike is =

@@ -30,14 +30,14 @@ returns-clause-value g c told =
     (c.by_recipient.ensures.value told)
 
 pub returns-clause-sound : goal.returns-clause-sound
-returns-clause-sound g c told dir p alike is =
+returns-clause-sound g c told dir p alike is same =
     let config = c.args.config.now in
     let request = request_of config.local config.host c.args.recipient.now in
     let same_map = g.met.F.Files.kept_map c.args.files.now c.is_worn.new.files told c.is_worn.ensures.reads.kept in
-    c.by_recipient.ensures.sound told dir p (subst (λ (d : Dir). AlikeForRequest config c.args.sender.now c.args.message.now request d dir) (sym same_map) alike.asked) is
+    c.by_recipient.ensures.sound told dir p (subst (λ (d : Dir). AlikeForRequest config c.args.sender.now c.args.message.now request d dir) (sym same_map) alike.asked) is same
 
 pub returns-in_err-is_worn-clause-sound : goal.returns-in_err-is_worn-clause-sound
-returns-in_err-is_worn-clause-sound g c told dir p alike is =
+returns-in_err-is_worn-clause-sound g c told dir p alike is same =
     let none : OnDamaged c.in_err-is_worn.field-0.0 (λ _. ⊥) = c.in_err-is_worn.ensures.spared told dir p alike.counters is in
     search rules
 

@@ -1,12 +1,12 @@
-use Rattle.std.proofs.Common.{sym, subst, []}
+use Rattle.std.proofs.Common.{Option, sym, subst, []}
 use Rattle.std.proofs.lemmas.Result.{IfOk-weaker}
 use Rattle.ml_base.specs.Dir.{Dir}
-use Rattle.ml_config.specs.ConfigFile.{config_name}
+use Rattle.ml_base.specs.Bytes.{Text}
+use Rattle.ml_config.specs.ConfigFile.{IsConfigFile, config_name}
 use Rattle.ml_config.proofs.OneSpelling.{one_in_file}
-use Rattle.ml_plain.specs.Directory.{IsList}
-use Rattle.ml_plain.specs.Timing as spec
 use Rattle.ml_acts.specs.Asked.{IsDamagedOf, Undigested}
-use Rattle.ml_acts.specs.Doing.{DoesList}
+use Rattle.ml_acts.specs.Doing.{Alike}
+use Rattle.ml_timed.specs.Reads.{is_seen_in_timed}
 use Rattle.ml_acts.proofs.OfActs.{act_behind}
 use Rattle.ml_list.proofs.Delivered.{timed_more}
 use Rattle.ml_acts.proofs.Found.{found_then}
@@ -16,13 +16,23 @@ use Rattle.ml_list.proofs.timing.run_timed.Goals as goal
 
 pub returns-in-Ok-clause-value : goal.returns-in-Ok-clause-value
 returns-in-Ok-clause-value g c told =
-    let old = g.F.Files.map c.args.files in
+    let config = c.in-Ok.config in
     let same_map = g.met.F.Files.kept_map c.args.files c.configuration.new.files told c.configuration.ensures.reads.kept in
+    let held = c.in-Ok.ensures.value told in
     IfOk-weaker c.run_unless_worn.result.1 _ _
-    (λ done does p is.
-    subst (λ (d : Dir). DoesList d done (spec.timed c.args.now p)) same_map
-    (does p (subst (λ (d : Dir). IsList d p) (sym same_map) is) (one_in_file (old config_name) p.config c.in-Ok.config is.config (c.in-Ok.ensures.value told))))
+    (λ done does dir p alike is.
+    let file : IsConfigFile (dir config_name) config = subst (λ (f : Option Text). IsConfigFile f config) (sym alike.config) held in
+    does dir p (subst (λ (d : Dir). Alike (is_seen_in_timed config.flags.d) d dir) (sym same_map) (alike.timed config held)) is (one_in_file (dir config_name) p.config config is.config file))
     (c.run_unless_worn.ensures.value told)
+
+pub returns-in-Ok-clause-sound : goal.returns-in-Ok-clause-sound
+returns-in-Ok-clause-sound g c told dir p alike is =
+    let config = c.in-Ok.config in
+    let same_map = g.met.F.Files.kept_map c.args.files c.configuration.new.files told c.configuration.ensures.reads.kept in
+    c.run_unless_worn.ensures.sound told dir p (subst (λ (d : Dir). Alike (is_seen_in_timed config.flags.d) d dir) (sym same_map) (alike.timed config (c.in-Ok.ensures.value told))) is
+
+pub returns-in-Err-clause-sound : goal.returns-in-Err-clause-sound
+returns-in-Err-clause-sound g c told dir p alike is = c.in-Err.ensures.none
 
 pub returns-in-Ok-clause-act : goal.returns-in-Ok-clause-act
 returns-in-Ok-clause-act g c =

@@ -1,30 +1,43 @@
-use Rattle.std.proofs.Common.{◌≡◌, true, sym, subst, rules, false, []}
+use Rattle.std.proofs.Common.{◌≡◌, ◌∙◌, ◌&&◌, true, sym, subst, rules, false, []}
+use Rattle.std.proofs.lemmas.Bool.{or_left}
 use Rattle.std.proofs.lemmas.Result.{IfOk-weaker}
 use Rattle.ml_base.specs.Dir.{Dir}
 use Rattle.ml_base.proofs.ReadingLemmas.{kept_read}
-use Rattle.ml_plain.specs.Directory.{IsList}
-use Rattle.ml_plain.specs.Timing as spec
 use Rattle.ml_acts.specs.Asked.{IsDamagedOf, Undigested}
 use Rattle.ml_acts.specs.Damaged.{IsDamaged}
-use Rattle.ml_acts.specs.Doing.{DoesList}
+use Rattle.ml_acts.specs.Doing.{Alike}
 use Rattle.ml_acts.proofs.Damages.{named_so}
-use Rattle.ml_timed.specs.Reads.{is_of_timed}
+use Rattle.ml_timed.specs.Reads.{is_of_timed, is_post_file, is_seen_in_timed}
 use Rattle.ml_list.specs.Delivering.{is_of_worn}
 use Rattle.ml_acts.proofs.OfActs.{act_then}
-use Rattle.ml_list.proofs.Delivered.{worn_other, worn_timed}
+use Rattle.ml_list.proofs.Delivered.{run_worn, worn_other, worn_timed}
 use Rattle.ml_acts.proofs.Found.{found_then}
 use Rattle.ml_timed.specs.Found.{FoundInRun}
 use Rattle.ml_list.specs.Found.{FoundByCounters}
 use Rattle.ml_acts.specs.Found.{TellsWorn}
 use Rattle.ml_list.proofs.timing.run_unless_worn.Goals as goal
 
+pub returns-in-Ok-true-clause-value : goal.returns-in-Ok-true-clause-value
+returns-in-Ok-true-clause-value g c told dir p alike is same =
+    let digests = c.args.config.now.flags.d in
+    let yes : c.in-Ok-true.field-0 ≡ true = search rules in
+    let counters : Alike is_of_worn (g.F.Files.map c.args.files) dir = λ name e. alike name (or_left (is_of_timed digests name) (digests && is_post_file name) (worn_timed digests name e)) in
+    run_worn dir p c.args.now.seconds (c.new.result, c.plain.result) is (sym (c.in-Ok-true.ensures.apart told dir p counters is) ∙ yes) c.new.ensures c.plain.ensures
+
 pub returns-in-Ok-false-clause-value : goal.returns-in-Ok-false-clause-value
 returns-in-Ok-false-clause-value g c told =
     let same_map = g.met.F.Files.kept_map c.args.files c.is_worn.new.files told c.is_worn.ensures.reads.kept in
     IfOk-weaker c.timed.result.1 _ _
-    (λ done does p is same.
-    subst (λ (d : Dir). DoesList d done (spec.timed c.args.now.seconds p)) same_map (does p (subst (λ (d : Dir). IsList d p) (sym same_map) is) same))
-    (c.timed.ensures.value told)
+    (λ done does dir p alike is same. does dir p (subst (λ (d : Dir). Alike (is_seen_in_timed c.args.config.now.flags.d) d dir) (sym same_map) alike) is same)
+    (c.timed.ensures.apart told)
+
+pub returns-in-Ok-false-clause-sound : goal.returns-in-Ok-false-clause-sound
+returns-in-Ok-false-clause-sound g c told dir p alike is =
+    let same_map = g.met.F.Files.kept_map c.args.files c.is_worn.new.files told c.is_worn.ensures.reads.kept in
+    c.timed.ensures.spared told dir p (subst (λ (d : Dir). Alike (is_seen_in_timed c.args.config.now.flags.d) d dir) (sym same_map) alike) is
+
+pub returns-in-Err-clause-sound : goal.returns-in-Err-clause-sound
+returns-in-Err-clause-sound g c told dir p alike is = c.in-Err.ensures.spared told dir p (λ name e. alike name (or_left (is_of_timed c.args.config.now.flags.d name) (c.args.config.now.flags.d && is_post_file name) (worn_timed c.args.config.now.flags.d name e))) is
 
 pub returns-in-Ok-false-clause-act : goal.returns-in-Ok-false-clause-act
 returns-in-Ok-false-clause-act g c =

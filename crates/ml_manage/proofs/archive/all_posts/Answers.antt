@@ -1,4 +1,4 @@
-use Rattle.std.proofs.Common.{sym, subst, refl, arith, get_or, rules}
+use Rattle.std.proofs.Common.{subst, refl, arith, get_or, rules}
 use Rattle.ml_base.specs.Dir.{Dir}
 use Rattle.ml_base.specs.PartErrors.{OnDamaged}
 use Rattle.ml_base.proofs.DamagedNames.{on_damaged}
@@ -6,8 +6,8 @@ use Rattle.ml_base.proofs.ReadingLemmas.{kept_then, kept_read}
 use Rattle.ml_filing.specs.Answers.{IsPostName}
 use Rattle.ml_filing.specs.Archive.{number_name}
 use Rattle.ml_filing.specs.Reads.{IsOfRow}
-use Rattle.ml_plain.specs.Directory.{IsList}
-use Rattle.ml_manage.specs.Reads.{IsDamagedAmong, IsDamagedPost}
+use Rattle.ml_manage.specs.Reads.{IsDamagedAmong, IsDamagedPost, is_seen_of_posts}
+use Rattle.ml_manage.proofs.Apart.{kept_alike}
 use Rattle.ml_manage.specs.Texts.{post_text}
 use Rattle.ml_manage.proofs.Posts.{among_at, one_of_row}
 use Rattle.ml_manage.proofs.archive.all_posts.Goals as goal
@@ -18,10 +18,13 @@ loop-number-preserved g c =
     let before = c.loop-number.invariant in
     record {
       read = kept_then g.F.Files g.met.F.Files.kept_then c.args.files.now c.loop-number.files c.add_one.new.files before.read (kept_read g.F.Files c.loop-number.files c.add_one.new.files c.add_one.result c.add_one.ensures.reads);
-      text = λ told p is conf.
+      text = λ told dir p alike is conf.
+          let ns = c.args.numbers.now in
+          let i = c.loop-number.number-index in
+          let n = get_or ns i 0 in
           let same = g.met.F.Files.kept_map c.args.files.now c.loop-number.files told before.read.kept in
-          one_more (post_text p) c.args.numbers.now c.loop-number.number-index _ c.loop-number.out c.add_one.new.out (omega arith) refl (before.text told p is conf)
-          (c.in_ok-add_one.ensures.value told p (subst (λ (d : Dir). IsList d p) (sym same) is) conf);
+          let own = kept_alike (is_seen_of_posts n n) (g.F.Files.map c.args.files.now) (g.F.Files.map c.loop-number.files) dir same (alike n (among_at ns i (omega arith))) in
+          one_more (post_text p) ns i _ c.loop-number.out c.add_one.new.out (omega arith) refl (before.text told dir p alike is conf) (c.in_ok-add_one.ensures.apart told dir p own is conf);
     }
 
 pub returns-in_err-add_one-clause-names : goal.returns-in_err-add_one-clause-names

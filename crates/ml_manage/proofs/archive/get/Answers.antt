@@ -1,28 +1,25 @@
-use Rattle.std.proofs.Common.{◌≡◌, ◌∙◌, true, sym, subst, rules, false, []}
+use Rattle.std.proofs.Common.{◌∙◌, true, sym, subst, rules, false, [], Bool}
 use Rattle.std.specs.Prelude.{unwrap_or}
-use Rattle.std.proofs.lemmas.Result.{IfOk-weaker}
 use Rattle.ml_base.specs.Dir.{Dir}
 use Rattle.ml_plain.specs.ArchiveText.{get_text}
-use Rattle.ml_plain.specs.Directory.{IsList}
-use Rattle.ml_plain.specs.Managing.{from_archive, may_read}
-use Rattle.ml_plain.specs.Plain.{Plain}
+use Rattle.ml_plain.specs.Managing.{may_read}
 use Rattle.ml_acts.specs.Asked.{Range}
-use Rattle.ml_acts.specs.Doing.{DoesList, HasIds}
-use Rattle.ml_manage.specs.Reads.{is_of_posts}
-use Rattle.ml_manage.proofs.OfArchive.{answer_act, reader_named}
+use Rattle.ml_acts.specs.Doing.{HasIds}
+use Rattle.ml_manage.specs.Reads.{is_of_posts, is_post_within, is_seen_of_posts}
+use Rattle.ml_manage.proofs.OfArchive.{answer_act, reader_named, part_named}
 use Rattle.ml_manage.proofs.Sending.{closed, opened}
-use Rattle.ml_base.proofs.ReadingLemmas.{kept_read, kept_then}
+use Rattle.ml_base.proofs.ReadingLemmas.{kept_read, kept_then, reading_then}
 use Rattle.ml_base.specs.Address.{key}
 use Rattle.ml_plain.specs.Answers as answers
 use Rattle.ml_acts.proofs.Found.{found_then}
 use Rattle.ml_joining.specs.Found.{SendsMail}
 use Rattle.ml_manage.specs.Found.{FoundToRead, TellsReader, TellsRange}
+use Rattle.ml_manage.proofs.Apart.{answer_ids, answer_part, answer_reader, answer_whole, kept_alike, kept_same}
+use Rattle.ml_acts.proofs.Damages.{ok_then}
+use Rattle.ml_queue.specs.Answers.{ids_name}
+use Rattle.ml_base.specs.declared.names.Name.{Name}
+use Rattle.ml_acts.proofs.OfActs.{act_err}
 use Rattle.ml_manage.proofs.archive.get.Goals as goal
-
-pub returns-then-not-branch-clause-value : goal.returns-then-not-branch-clause-value
-returns-then-not-branch-clause-value g c told p is same =
-    closed (g.F.Files.map c.args.files.now) p c.args.now.seconds c.args.sender.now (c.new.result, c.plain.result) (may_read p c.args.sender.now) (get_text p c.args.from c.args.to) is
-    (sym (c.in_ok-may_read.ensures.value told p is same) ∙ c.if-not-branch.true) c.new.ensures c.plain.ensures
 
 pub mail_lines-requires : goal.mail_lines-requires
 mail_lines-requires g c = record {
@@ -31,17 +28,6 @@ mail_lines-requires g c = record {
       let all = g.met.F.Files.kept_map c.may_read.new.files c.get_text.new.files told c.get_text.ensures.reads.kept ∙ first in
       subst (λ (d : Dir). HasIds d) (sym all) (c.requires.room told);
 }
-
-pub returns-clause-value : goal.returns-clause-value
-returns-clause-value g c told =
-    let sender = c.args.sender.now in
-    let first = g.met.F.Files.kept_map c.args.files.now c.may_read.new.files told c.may_read.ensures.reads.kept in
-    let all = g.met.F.Files.kept_map c.may_read.new.files c.get_text.new.files told c.get_text.ensures.reads.kept ∙ first in
-    IfOk-weaker c.mail_lines.result _ _
-    (λ done does p is same. opened (g.F.Files.map c.args.files.now) p c.args.now.seconds sender done (may_read p sender) (get_text p c.args.from c.args.to) c.in_ok-lines.lines
-    (sym (c.in_ok-may_read.ensures.value told p is same) ∙ c.if-not-branch.false) (c.in_ok-lines.ensures.value told p (subst (λ (d : Dir). IsList d p) (sym first) is) same)
-    (subst (λ (d : Dir). (q : Plain) → IsList d q → q.config ≡ c.args.config.now → DoesList d done (from_archive c.args.now.seconds sender q true c.in_ok-lines.lines)) all does p is same))
-    (c.mail_lines.ensures.value told)
 
 pub returns-in_err-may_read-clause-act : goal.returns-in_err-may_read-clause-act
 returns-in_err-may_read-clause-act g c =
@@ -74,3 +60,42 @@ returns-clause-found g c told =
     let read = subst (λ (d : Dir). TellsRange d c.args.from (unwrap_or c.args.to c.args.from)) first (c.in_ok-lines.ensures.found told) in
     found_then c.mail_lines.result old (g.F.Files.map c.get_text.new.files) (λ d. SendsMail d [] answers.archive) (FoundToRead old conf k (TellsRange old c.args.from (unwrap_or c.args.to c.args.from))) all
     (λ done sent. record { may = true; tells = may; follows = (read, sent) }) (c.mail_lines.ensures.found told)
+
+pub returns-then-not-branch-clause-apart : goal.returns-then-not-branch-clause-apart
+returns-then-not-branch-clause-apart g c told dir p alike is same =
+    let old = g.F.Files.map c.args.files.now in
+    let conf = c.args.config.now in
+    let sender = c.args.sender.now in
+    let a = c.args.from in
+    let b = unwrap_or c.args.to a in
+    let whole = answer_whole old dir conf sender (is_of_posts a b) (is_post_within a b) alike in
+    closed dir p c.args.now.seconds sender (c.new.result, c.plain.result) (may_read p sender) (get_text p a c.args.to) is
+    (sym (c.in_ok-may_read.ensures.apart told dir p (answer_reader old dir conf sender (is_seen_of_posts a b) whole) is same) ∙ c.if-not-branch.true) c.new.ensures c.plain.ensures
+
+pub returns-clause-apart : goal.returns-clause-apart
+returns-clause-apart g c told =
+    let old = g.F.Files.map c.args.files.now in
+    let conf = c.args.config.now in
+    let sender = c.args.sender.now in
+    let a = c.args.from in
+    let b = unwrap_or c.args.to a in
+    let part : Name → Bool = is_seen_of_posts a b in
+    let first = g.met.F.Files.kept_map c.args.files.now c.may_read.new.files told c.may_read.ensures.reads.kept in
+    let all = g.met.F.Files.kept_map c.may_read.new.files c.get_text.new.files told c.get_text.ensures.reads.kept ∙ first in
+    ok_then c.mail_lines.result
+    (λ done does dir p alike is same.
+    let whole = answer_whole old dir conf sender (is_of_posts a b) (is_post_within a b) alike in
+    opened dir p c.args.now.seconds sender done (may_read p sender) (get_text p a c.args.to) c.in_ok-lines.lines
+    (sym (c.in_ok-may_read.ensures.apart told dir p (answer_reader old dir conf sender part whole) is same) ∙ c.if-not-branch.false)
+    (c.in_ok-lines.ensures.apart told dir p (kept_alike part old (g.F.Files.map c.may_read.new.files) dir first (answer_part old dir conf sender part whole)) is same)
+    (does dir p (kept_same ids_name old (g.F.Files.map c.get_text.new.files) dir all (answer_ids old dir conf sender part whole)) is same))
+    (c.mail_lines.ensures.apart told)
+
+pub returns-in_err-lines-clause-act : goal.returns-in_err-lines-clause-act
+returns-in_err-lines-clause-act g c =
+    let first = c.args.files.now in
+    let second = c.may_read.new.files in
+    let last = unwrap_or c.args.to c.args.from in
+    let kept = kept_read g.F.Files first second c.may_read.result c.may_read.ensures.reads in
+    let names = part_named g.F.Files (Range c.args.from last) c.args.config.now c.args.sender.now (is_of_posts c.args.from last) _ (g.F.Files.map second) (g.F.Files.map first) (λ told. g.met.F.Files.kept_map first second told kept.kept) c.in_err-lines.ensures.names in
+    act_err names (reading_then g.F.Files g.met.F.Files.kept_then first second c.get_text.new.files _ kept c.in_err-lines.ensures.reads) (λ name e. e) (search rules)

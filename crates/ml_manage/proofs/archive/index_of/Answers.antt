@@ -1,12 +1,9 @@
-use Rattle.std.proofs.Common.{◌≡◌, ◌∙◌, ◌/◌, true, sym, subst, rules, false, []}
-use Rattle.std.proofs.lemmas.Result.{IfOk-weaker}
+use Rattle.std.proofs.Common.{◌∙◌, ◌/◌, true, sym, subst, rules, false, [], Bool}
 use Rattle.ml_base.specs.Dir.{Dir}
 use Rattle.ml_plain.specs.ArchiveText.{index_text}
-use Rattle.ml_plain.specs.Directory.{IsList}
-use Rattle.ml_plain.specs.Managing.{from_archive, may_read}
-use Rattle.ml_plain.specs.Plain.{Plain}
+use Rattle.ml_plain.specs.Managing.{may_read}
 use Rattle.ml_acts.specs.Asked.{Group}
-use Rattle.ml_acts.specs.Doing.{DoesList, HasIds}
+use Rattle.ml_acts.specs.Doing.{HasIds}
 use Rattle.ml_manage.specs.Reads.{is_of_index}
 use Rattle.ml_manage.proofs.OfArchive.{answer_act, reader_named}
 use Rattle.ml_manage.proofs.Sending.{closed, opened}
@@ -16,12 +13,11 @@ use Rattle.ml_plain.specs.Answers as answers
 use Rattle.ml_acts.proofs.Found.{found_then}
 use Rattle.ml_joining.specs.Found.{SendsMail}
 use Rattle.ml_manage.specs.Found.{FoundToRead, TellsReader, TellsIndex}
+use Rattle.ml_manage.proofs.Apart.{answer_ids, answer_part, answer_reader, kept_alike, kept_same}
+use Rattle.ml_acts.proofs.Damages.{ok_then}
+use Rattle.ml_queue.specs.Answers.{ids_name}
+use Rattle.ml_base.specs.declared.names.Name.{Name}
 use Rattle.ml_manage.proofs.archive.index_of.Goals as goal
-
-pub returns-then-not-branch-clause-value : goal.returns-then-not-branch-clause-value
-returns-then-not-branch-clause-value g c told p is same =
-    closed (g.F.Files.map c.args.files.now) p c.args.now.seconds c.args.sender.now (c.new.result, c.plain.result) (may_read p c.args.sender.now) (index_text p c.args.at) is
-    (sym (c.in_ok-may_read.ensures.value told p is same) ∙ c.if-not-branch.true) c.new.ensures c.plain.ensures
 
 pub mail_lines-requires : goal.mail_lines-requires
 mail_lines-requires g c = record {
@@ -30,17 +26,6 @@ mail_lines-requires g c = record {
       let all = g.met.F.Files.kept_map c.may_read.new.files c.index_text.new.files told c.index_text.ensures.reads.kept ∙ first in
       subst (λ (d : Dir). HasIds d) (sym all) (c.requires.room told);
 }
-
-pub returns-clause-value : goal.returns-clause-value
-returns-clause-value g c told =
-    let sender = c.args.sender.now in
-    let first = g.met.F.Files.kept_map c.args.files.now c.may_read.new.files told c.may_read.ensures.reads.kept in
-    let all = g.met.F.Files.kept_map c.may_read.new.files c.index_text.new.files told c.index_text.ensures.reads.kept ∙ first in
-    IfOk-weaker c.mail_lines.result _ _
-    (λ done does p is same. opened (g.F.Files.map c.args.files.now) p c.args.now.seconds sender done (may_read p sender) (index_text p c.args.at) c.in_ok-lines.lines
-    (sym (c.in_ok-may_read.ensures.value told p is same) ∙ c.if-not-branch.false) (c.in_ok-lines.ensures.value told p (subst (λ (d : Dir). IsList d p) (sym first) is))
-    (subst (λ (d : Dir). (q : Plain) → IsList d q → q.config ≡ c.args.config.now → DoesList d done (from_archive c.args.now.seconds sender q true c.in_ok-lines.lines)) all does p is same))
-    (c.mail_lines.ensures.value told)
 
 pub returns-in_err-may_read-clause-act : goal.returns-in_err-may_read-clause-act
 returns-in_err-may_read-clause-act g c =
@@ -73,3 +58,24 @@ returns-clause-found g c told =
     let read = subst (λ (d : Dir). TellsIndex d (c.args.at / 100)) first (c.in_ok-lines.ensures.found told) in
     found_then c.mail_lines.result old (g.F.Files.map c.index_text.new.files) (λ d. SendsMail d [] answers.archive) (FoundToRead old conf k (TellsIndex old (c.args.at / 100))) all
     (λ done sent. record { may = true; tells = may; follows = (read, sent) }) (c.mail_lines.ensures.found told)
+
+pub returns-then-not-branch-clause-apart : goal.returns-then-not-branch-clause-apart
+returns-then-not-branch-clause-apart g c told dir p alike is same =
+    let sender = c.args.sender.now in
+    closed dir p c.args.now.seconds sender (c.new.result, c.plain.result) (may_read p sender) (index_text p c.args.at) is
+    (sym (c.in_ok-may_read.ensures.apart told dir p (answer_reader (g.F.Files.map c.args.files.now) dir c.args.config.now sender (is_of_index c.args.at) alike) is same) ∙ c.if-not-branch.true) c.new.ensures c.plain.ensures
+
+pub returns-clause-apart : goal.returns-clause-apart
+returns-clause-apart g c told =
+    let old = g.F.Files.map c.args.files.now in
+    let conf = c.args.config.now in
+    let sender = c.args.sender.now in
+    let part : Name → Bool = is_of_index c.args.at in
+    let first = g.met.F.Files.kept_map c.args.files.now c.may_read.new.files told c.may_read.ensures.reads.kept in
+    let all = g.met.F.Files.kept_map c.may_read.new.files c.index_text.new.files told c.index_text.ensures.reads.kept ∙ first in
+    ok_then c.mail_lines.result
+    (λ done does dir p alike is same. opened dir p c.args.now.seconds sender done (may_read p sender) (index_text p c.args.at) c.in_ok-lines.lines
+    (sym (c.in_ok-may_read.ensures.apart told dir p (answer_reader old dir conf sender part alike) is same) ∙ c.if-not-branch.false)
+    (c.in_ok-lines.ensures.apart told dir p (kept_alike part old (g.F.Files.map c.may_read.new.files) dir first (answer_part old dir conf sender part alike)) is)
+    (does dir p (kept_same ids_name old (g.F.Files.map c.index_text.new.files) dir all (answer_ids old dir conf sender part alike)) is same))
+    (c.mail_lines.ensures.apart told)

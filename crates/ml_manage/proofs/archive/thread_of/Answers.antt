@@ -1,15 +1,12 @@
-use Rattle.std.proofs.Common.{◌≡◌, ◌∙◌, true, sym, subst, rules, false, []}
-use Rattle.std.proofs.lemmas.Result.{IfOk-weaker}
+use Rattle.std.proofs.Common.{◌∙◌, true, sym, subst, rules, false, [], Bool}
 use Rattle.ml_base.specs.Dir.{Dir}
 use Rattle.ml_config.specs.ConfigFile.{IsConfigFile, config_name}
 use Rattle.ml_plain.specs.ArchiveText.{thread_text}
-use Rattle.ml_plain.specs.Directory.{IsList}
-use Rattle.ml_plain.specs.Managing.{from_archive, may_read}
-use Rattle.ml_plain.specs.Plain.{Plain}
+use Rattle.ml_plain.specs.Managing.{may_read}
 use Rattle.ml_acts.specs.Asked.{ThreadOf}
-use Rattle.ml_acts.specs.Doing.{DoesList, HasIds}
+use Rattle.ml_acts.specs.Doing.{HasIds}
 use Rattle.ml_acts.proofs.OfActs.{act_err}
-use Rattle.ml_manage.specs.Reads.{is_of_thread}
+use Rattle.ml_manage.specs.Reads.{is_of_thread, is_post_file, is_seen_of_thread}
 use Rattle.ml_manage.proofs.OfArchive.{answer_act, part_named, reader_named}
 use Rattle.ml_manage.proofs.Sending.{closed, opened}
 use Rattle.ml_base.proofs.ReadingLemmas.{kept_read, kept_then, reading_then}
@@ -18,12 +15,11 @@ use Rattle.ml_plain.specs.Answers as answers
 use Rattle.ml_acts.proofs.Found.{found_then}
 use Rattle.ml_joining.specs.Found.{SendsMail}
 use Rattle.ml_manage.specs.Found.{FoundToRead, TellsReader, TellsThread}
+use Rattle.ml_manage.proofs.Apart.{answer_ids, answer_part, answer_reader, answer_whole, kept_alike, kept_same}
+use Rattle.ml_acts.proofs.Damages.{ok_then}
+use Rattle.ml_queue.specs.Answers.{ids_name}
+use Rattle.ml_base.specs.declared.names.Name.{Name}
 use Rattle.ml_manage.proofs.archive.thread_of.Goals as goal
-
-pub returns-then-not-branch-clause-value : goal.returns-then-not-branch-clause-value
-returns-then-not-branch-clause-value g c told p is same =
-    closed (g.F.Files.map c.args.files.now) p c.args.now.seconds c.args.sender.now (c.new.result, c.plain.result) (may_read p c.args.sender.now) (thread_text p c.args.at) is
-    (sym (c.in_ok-may_read.ensures.value told p is same) ∙ c.if-not-branch.true) c.new.ensures c.plain.ensures
 
 pub thread_text-requires : goal.thread_text-requires
 thread_text-requires g c told =
@@ -37,17 +33,6 @@ mail_lines-requires g c = record {
       let all = g.met.F.Files.kept_map c.may_read.new.files c.thread_text.new.files told c.thread_text.ensures.reads.kept ∙ first in
       subst (λ (d : Dir). HasIds d) (sym all) (c.requires.room told);
 }
-
-pub returns-clause-value : goal.returns-clause-value
-returns-clause-value g c told =
-    let sender = c.args.sender.now in
-    let first = g.met.F.Files.kept_map c.args.files.now c.may_read.new.files told c.may_read.ensures.reads.kept in
-    let all = g.met.F.Files.kept_map c.may_read.new.files c.thread_text.new.files told c.thread_text.ensures.reads.kept ∙ first in
-    IfOk-weaker c.mail_lines.result _ _
-    (λ done does p is same. opened (g.F.Files.map c.args.files.now) p c.args.now.seconds sender done (may_read p sender) (thread_text p c.args.at) c.in_ok-lines.lines
-    (sym (c.in_ok-may_read.ensures.value told p is same) ∙ c.if-not-branch.false) (c.in_ok-lines.ensures.value told p (subst (λ (d : Dir). IsList d p) (sym first) is) same)
-    (subst (λ (d : Dir). (q : Plain) → IsList d q → q.config ≡ c.args.config.now → DoesList d done (from_archive c.args.now.seconds sender q true c.in_ok-lines.lines)) all does p is same))
-    (c.mail_lines.ensures.value told)
 
 pub returns-in_err-may_read-clause-act : goal.returns-in_err-may_read-clause-act
 returns-in_err-may_read-clause-act g c =
@@ -88,3 +73,29 @@ returns-clause-found g c told =
     let read = subst (λ (d : Dir). TellsThread d c.args.config.now.prefix c.args.at) first (c.in_ok-lines.ensures.found told) in
     found_then c.mail_lines.result old (g.F.Files.map c.thread_text.new.files) (λ d. SendsMail d [] answers.archive) (FoundToRead old conf k (TellsThread old c.args.config.now.prefix c.args.at)) all
     (λ done sent. record { may = true; tells = may; follows = (read, sent) }) (c.mail_lines.ensures.found told)
+
+pub returns-then-not-branch-clause-apart : goal.returns-then-not-branch-clause-apart
+returns-then-not-branch-clause-apart g c told dir p alike is same =
+    let old = g.F.Files.map c.args.files.now in
+    let conf = c.args.config.now in
+    let sender = c.args.sender.now in
+    let whole = answer_whole old dir conf sender is_of_thread is_post_file alike in
+    closed dir p c.args.now.seconds sender (c.new.result, c.plain.result) (may_read p sender) (thread_text p c.args.at) is
+    (sym (c.in_ok-may_read.ensures.apart told dir p (answer_reader old dir conf sender is_seen_of_thread whole) is same) ∙ c.if-not-branch.true) c.new.ensures c.plain.ensures
+
+pub returns-clause-apart : goal.returns-clause-apart
+returns-clause-apart g c told =
+    let old = g.F.Files.map c.args.files.now in
+    let conf = c.args.config.now in
+    let sender = c.args.sender.now in
+    let part : Name → Bool = is_seen_of_thread in
+    let first = g.met.F.Files.kept_map c.args.files.now c.may_read.new.files told c.may_read.ensures.reads.kept in
+    let all = g.met.F.Files.kept_map c.may_read.new.files c.thread_text.new.files told c.thread_text.ensures.reads.kept ∙ first in
+    ok_then c.mail_lines.result
+    (λ done does dir p alike is same.
+    let whole = answer_whole old dir conf sender is_of_thread is_post_file alike in
+    opened dir p c.args.now.seconds sender done (may_read p sender) (thread_text p c.args.at) c.in_ok-lines.lines
+    (sym (c.in_ok-may_read.ensures.apart told dir p (answer_reader old dir conf sender part whole) is same) ∙ c.if-not-branch.false)
+    (c.in_ok-lines.ensures.apart told dir p (kept_alike part old (g.F.Files.map c.may_read.new.files) dir first (answer_part old dir conf sender part whole)) is same)
+    (does dir p (kept_same ids_name old (g.F.Files.map c.thread_text.new.files) dir all (answer_ids old dir conf sender part whole)) is same))
+    (c.mail_lines.ensures.apart told)

@@ -1,26 +1,25 @@
 use Rattle.std.proofs.Common.{◌≡◌, ◌∙◌, inl, inr, ℕ, true, List, IfErr, sym, ap, subst, rules}
 use Rattle.std.specs.List.{IsAmong}
-use Rattle.std.proofs.lemmas.Result.{IfOk-weaker}
 use Rattle.ml_base.specs.Bytes.{Text}
 use Rattle.ml_base.specs.Dir.{Dir}
 use Rattle.ml_filing.specs.Answers.{IsBadForThread, IsThreadAnswer, IsThreadName}
 use Rattle.ml_filing.specs.Archive.{number_name}
 use Rattle.ml_filing.specs.Reads.{IsOfRow, IsOfSubject, IsOfThread}
-use Rattle.ml_filing.specs.Posts.{cut, in_thread, numbers}
+use Rattle.ml_filing.specs.Posts.{cut, in_thread}
 use Rattle.ml_filing.specs.Threads.{IsArchive}
 use Rattle.ml_config.specs.declared.configuration.Config.{Config}
-use Rattle.ml_plain.specs.Directory.{IsList}
 use Rattle.ml_base.specs.declared.names.Name.{Name}
 use Rattle.ml_acts.specs.Asked.{IsBadAmong, IsDamagedOf, ThreadOf}
 use Rattle.ml_acts.specs.Damaged.{thread}
-use Rattle.ml_acts.proofs.Damages.{on_all}
+use Rattle.ml_acts.proofs.Damages.{on_all, ok_then}
 use Rattle.ml_base.proofs.DamagedNames.{err_both_damaged, err_damaged, on_both, on_damaged}
 use Rattle.ml_base.specs.PartErrors.{OnDamaged}
 use Rattle.ml_filing.specs.declared.posts.Post.{Post}
-use Rattle.ml_manage.specs.Reads.{IsDamagedAmong, is_of_thread}
+use Rattle.ml_manage.specs.Reads.{IsDamagedAmong, is_of_thread, AlikeEach}
 use Rattle.ml_manage.specs.Texts.{posts_text}
 use Rattle.ml_manage.proofs.Posts.{posts_are, row_of_thread, row_thread_read, thread_ones, thread_read}
 use Rattle.ml_manage.proofs.Finding.{always_ok}
+use Rattle.ml_manage.proofs.PostsApart.{each_of_thread, thread_apart}
 use Rattle.ml_manage.proofs.archive.thread_text.Goals as goal
 
 pub returns-in_err-numbers-clause-names : goal.returns-in_err-numbers-clause-names
@@ -65,19 +64,21 @@ returns-clause-names g c =
           c.posts_text.ensures.names.named (subst (λ (d : Dir). IfErr r (λ e. OnDamaged e (IsDamagedAmong d ns))) same (c.posts_text.ensures.names.damaged told));
     }
 
-pub returns-clause-value : goal.returns-clause-value
-returns-clause-value g c told =
-    let n = c.args.at in
-    let prefix = c.as_slice.ensures in
-    let same = g.met.F.Files.kept_map c.args.files.now c.thread.new.files told c.thread.ensures.reads.kept in
-    IfOk-weaker c.posts_text.result _ _
-    (λ text value p is conf.
-    let own : p.config.prefix ≡ c.as_slice.result.now = ap (λ (k : Config). k.prefix) conf ∙ sym prefix in
-    let found : c.in_ok-numbers.numbers ≡ numbers (cut (in_thread c.as_slice.result.now n p.posts)) =
-    c.in_ok-numbers.ensures.value told p.posts (subst (λ (t : Text). IsArchive (g.F.Files.map c.args.files.now) t p.posts) own is.archive) in
-    value p (subst (λ (d : Dir). IsList d p) (sym same) is) conf ∙ ap (posts_text p) (c.as_slice-2.ensures ∙ found ∙ ap (λ (t : Text). numbers (cut (in_thread t n p.posts))) (sym own))
-    ∙ posts_are p (cut (in_thread p.config.prefix n p.posts)) (thread_ones p.posts p.config.prefix n))
-    (c.posts_text.ensures.value told)
-
 pub returns-clause-found : goal.returns-clause-found
 returns-clause-found g c told = always_ok c.posts_text.result (c.in_ok-numbers.numbers, subst (λ (p : Text). IsThreadAnswer (g.F.Files.map c.args.files.now) p c.args.at c.in_ok-numbers.numbers) c.as_slice.ensures (c.in_ok-numbers.ensures.read told))
+
+pub returns-clause-apart : goal.returns-clause-apart
+returns-clause-apart g c told =
+    let old = g.F.Files.map c.args.files.now in
+    let n = c.args.at in
+    let row = c.in_ok-numbers.numbers in
+    let read = c.in_ok-numbers.ensures.read told in
+    let prefix = c.as_slice.ensures in
+    let same = g.met.F.Files.kept_map c.args.files.now c.thread.new.files told c.thread.ensures.reads.kept in
+    ok_then c.posts_text.result
+    (λ text value dir p alike is conf.
+    let own : c.as_slice.result.now ≡ p.config.prefix = prefix ∙ sym (ap (λ (k : Config). k.prefix) conf) in
+    let each = subst (λ (ns : List ℕ). AlikeEach ns (g.F.Files.map c.thread.new.files) dir) (sym c.as_slice-2.ensures) (subst (λ (d : Dir). AlikeEach row d dir) (sym same) (each_of_thread row old dir alike)) in
+    let found = thread_apart old dir alike p.config.prefix p.posts n row is.archive (subst (λ (t : Text). IsThreadAnswer old t n row) own read) in
+    value dir p each is conf ∙ ap (posts_text p) (c.as_slice-2.ensures ∙ found) ∙ posts_are p (cut (in_thread p.config.prefix n p.posts)) (thread_ones p.posts p.config.prefix n))
+    (c.posts_text.ensures.apart told)

@@ -3,29 +3,14 @@ use Rattle.std.proofs.lemmas.Result.{IfOk-weaker}
 use Rattle.ml_address.specs.Views.{request_view}
 use Rattle.ml_base.specs.Address.{address_of}
 use Rattle.ml_base.specs.Bytes.{Text}
-use Rattle.ml_manage.specs.Reads.{IsDamagedFor, is_read_for}
+use Rattle.ml_manage.specs.Reads.{IsDamagedFor, is_read_for, is_seen_for}
 use Rattle.ml_manage.specs.Written.{is_written_for}
 use Rattle.ml_manage.proofs.Senders.{of_list, of_nobody, of_somebody}
 use Rattle.ml_acts.specs.Acting.{AnswersWithin}
 use Rattle.ml_manage.specs.Found.{FoundBySender}
+use Rattle.ml_acts.proofs.Damages.{ok_then}
+use Rattle.ml_acts.specs.Doing.{Alike}
 use Rattle.ml_manage.proofs.managing.by_sender.Goals as goal
-
-pub returns-in_default-clause-value : goal.returns-in_default-clause-value
-returns-in_default-clause-value g c told p is same =
-    of_nobody (g.F.Files.map c.args.files.now) p c.args.now.seconds c.args.message.now (request_view c.args.request.now) (c.new.result, c.plain.result) (address_of c.args.sender.now) is
-    (sym c.in_ok-who.ensures ∙ c.in_default.is) c.new.ensures c.plain.ensures
-
-pub returns-then-is_from_list-clause-value : goal.returns-then-is_from_list-clause-value
-returns-then-is_from_list-clause-value g c told p is same =
-    of_list (g.F.Files.map c.args.files.now) p c.args.now.seconds c.args.message.now (request_view c.args.request.now) (c.new-then-is_from_list.result, c.plain-then-is_from_list.result) (address_of c.args.sender.now) c.in-Some.who is
-    (sym c.in_ok-who.ensures ∙ c.in-Some.is) (sym c.is_from_list.ensures ∙ c.if-is_from_list.true) c.new-then-is_from_list.ensures c.plain-then-is_from_list.ensures
-
-pub returns-clause-value : goal.returns-clause-value
-returns-clause-value g c told =
-    IfOk-weaker c.managed.result _ _
-    (λ done does p is same. of_somebody (g.F.Files.map c.args.files.now) p c.args.now.seconds c.args.message.now (request_view c.args.request.now) done (address_of c.args.sender.now) c.in-Some.who
-    (sym c.in_ok-who.ensures ∙ c.in-Some.is) (sym c.is_from_list.ensures ∙ c.if-is_from_list.false) (does p is same))
-    (c.managed.ensures.value told)
 
 pub returns-clause-act : goal.returns-clause-act
 returns-clause-act g c =
@@ -50,3 +35,28 @@ returns-clause-found g c told =
     let some : Some c.in-Some.who ≡ address_of c.args.sender.now = sym (sym c.in_ok-who.ensures ∙ c.in-Some.is) in
     subst (λ (o : Option Text). IfOk c.managed.result (FoundBySender (g.F.Files.map c.args.files.now) c.args.config.now o c.args.message.now (request_view c.args.request.now))) some
     (IfOk-weaker c.managed.result _ _ (λ done is. inr is) (c.managed.ensures.found told))
+
+pub returns-in_default-clause-apart : goal.returns-in_default-clause-apart
+returns-in_default-clause-apart g c told dir p alike is same =
+    of_nobody dir p c.args.now.seconds c.args.message.now (request_view c.args.request.now) (c.new.result, c.plain.result) (address_of c.args.sender.now) is
+    (sym c.in_ok-who.ensures ∙ c.in_default.is) c.new.ensures c.plain.ensures
+
+pub returns-then-is_from_list-clause-apart : goal.returns-then-is_from_list-clause-apart
+returns-then-is_from_list-clause-apart g c told dir p alike is same =
+    of_list dir p c.args.now.seconds c.args.message.now (request_view c.args.request.now) (c.new-then-is_from_list.result, c.plain-then-is_from_list.result) (address_of c.args.sender.now) c.in-Some.who is
+    (sym c.in_ok-who.ensures ∙ c.in-Some.is) (sym c.is_from_list.ensures ∙ c.if-is_from_list.true) c.new-then-is_from_list.ensures c.plain-then-is_from_list.ensures
+
+pub returns-clause-apart : goal.returns-clause-apart
+returns-clause-apart g c told =
+    let some : address_of c.args.sender.now ≡ Some c.in-Some.who = sym c.in_ok-who.ensures ∙ c.in-Some.is in
+    let request = request_view c.args.request.now in
+    ok_then c.managed.result
+    (λ done does dir p alike is same. of_somebody dir p c.args.now.seconds c.args.message.now request done (address_of c.args.sender.now) c.in-Some.who some (sym c.is_from_list.ensures ∙ c.if-is_from_list.false)
+    (does dir p (subst (λ (o : Option Text). Alike (is_seen_for c.args.config.now o request) (g.F.Files.map c.args.files.now) dir) some alike) is same))
+    (c.managed.ensures.apart told)
+
+pub returns-clause-spared : goal.returns-clause-spared
+returns-clause-spared g c told dir p alike is same =
+    let some : address_of c.args.sender.now ≡ Some c.in-Some.who = sym c.in_ok-who.ensures ∙ c.in-Some.is in
+    let request = request_view c.args.request.now in
+    c.managed.ensures.spared told dir p (subst (λ (o : Option Text). Alike (is_seen_for c.args.config.now o request) (g.F.Files.map c.args.files.now) dir) some alike) is same

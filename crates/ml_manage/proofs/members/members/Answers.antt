@@ -1,17 +1,10 @@
-use Rattle.std.proofs.Common.{◌∙◌, true, ap, ap₂, sym, subst, rules, false, [], List}
+use Rattle.std.proofs.Common.{◌∙◌, true, ap, sym, subst, rules, false, [], List}
 use Rattle.std.specs.Prelude.{◌&&◌}
 use Rattle.std.proofs.lemmas.Bool.{or_left, or_right}
-use Rattle.std.proofs.lemmas.Result.{IfOk-weaker}
 use Rattle.ml_base.specs.Dir.{Dir, touches_only}
-use Rattle.ml_joining.proofs.Does.{told_by}
-use Rattle.ml_plain.specs.Directory.{IsList}
-use Rattle.ml_plain.specs.Mailing.{mail_to}
-use Rattle.ml_plain.specs.Managing.{list_members}
 use Rattle.ml_plain.specs.Plain.{is_moderator}
-use Rattle.ml_plain.specs.declared.Reply.{Reply}
-use Rattle.ml_reply.specs.declared.mails.Mail.{Mail}
 use Rattle.ml_plain.specs.KeptFiles.{is_kept}
-use Rattle.ml_acts.specs.Doing.{HasIds, is_of_queue}
+use Rattle.ml_acts.specs.Doing.{HasIds, is_of_queue, is_bucket}
 use Rattle.ml_acts.proofs.Damages.{ok_then}
 use Rattle.ml_acts.proofs.OfActs.{act_kept}
 use Rattle.ml_manage.proofs.Sending.{listed, unlisted}
@@ -21,33 +14,15 @@ use Rattle.ml_base.specs.Bytes.{Text}
 use Rattle.ml_acts.specs.Found.{SpellsAddresses}
 use Rattle.ml_joining.proofs.Finding.{sends}
 use Rattle.ml_manage.specs.Found.{TellsLister}
+use Rattle.ml_manage.proofs.Apart.{kept_alike, kept_same, members_all, members_ids, members_rank, sent_so}
+use Rattle.ml_queue.specs.Answers.{ids_name}
 use Rattle.ml_manage.proofs.members.members.Goals as goal
-
-pub returns-then-not-branch-clause-value : goal.returns-then-not-branch-clause-value
-returns-then-not-branch-clause-value g c told p is same =
-    unlisted (g.F.Files.map c.args.files.now) p c.args.now.seconds c.args.sender.now (c.new.result, c.plain.result) (p.config.flags.l && is_moderator p c.args.sender.now) c.args.set is
-    (sym (c.in_ok-may_list.ensures.value told p is same) ∙ c.if-not-branch.true) c.new.ensures c.plain.ensures
 
 pub with_mail-requires-clause-room : goal.with_mail-requires-clause-room
 with_mail-requires-clause-room g c told =
     let first = g.met.F.Files.kept_map c.args.files.now c.may_list.new.files told c.may_list.ensures.reads.kept in
     let all = g.met.F.Files.kept_map c.may_list.new.files c.members_mail.new.files told c.members_mail.ensures.reads.kept ∙ first in
     subst (λ (d : Dir). HasIds d) (sym all) (c.requires.room told)
-
-pub returns-clause-value : goal.returns-clause-value
-returns-clause-value g c told =
-    let old = g.F.Files.map c.args.files.now in
-    let sender = c.args.sender.now in
-    let now = c.args.now.seconds in
-    let set = c.args.set in
-    let first = g.met.F.Files.kept_map c.args.files.now c.may_list.new.files told c.may_list.ensures.reads.kept in
-    let all = g.met.F.Files.kept_map c.may_list.new.files c.members_mail.new.files told c.members_mail.ensures.reads.kept ∙ first in
-    let shown = told_by old (g.F.Files.map c.members_mail.new.files) c.new-2.result c.with_mail.result c.args.config.now (λ p. (mail_to sender now c.in_ok-mail.mail p, c.plain-reply.result)) (λ p. list_members now sender set p true) all c.new-2.ensures
-    (λ p is e. ap₂ (λ (m : Mail) (r : Reply). (mail_to sender now m p, r)) (c.in_ok-mail.ensures.value told p (subst (λ (d : Dir). IsList d p) (sym first) is)) c.plain-reply.ensures)
-    (c.with_mail.ensures.value told) in
-    IfOk-weaker c.with_mail.result _ _
-    (λ done does p is same. listed old p now sender done (p.config.flags.l && is_moderator p sender) set (sym (c.in_ok-may_list.ensures.value told p is same) ∙ c.if-not-branch.false) (does p is same))
-    shown
 
 pub returns-clause-act : goal.returns-clause-act
 returns-clause-act g c =
@@ -76,3 +51,27 @@ returns-clause-found g c told =
     let read = subst (λ (d : Dir). (to : List Text) × SpellsAddresses d c.args.set to) first (c.in_ok-mail.ensures.found told) in
     ok_then c.with_mail.result (λ done sent. record { may = true; tells = may; follows = (read, sent) })
     (sends c.with_mail.result old (g.F.Files.map c.members_mail.new.files) [] c.new-2.result c.plain-reply.result answers.members all c.new-2.ensures c.plain-reply.ensures (c.with_mail.ensures.found told) c.with_mail.ensures.reply)
+
+pub returns-then-not-branch-clause-apart : goal.returns-then-not-branch-clause-apart
+returns-then-not-branch-clause-apart g c told dir p alike is same =
+    let old = g.F.Files.map c.args.files.now in
+    let sender = c.args.sender.now in
+    unlisted dir p c.args.now.seconds sender (c.new.result, c.plain.result) (p.config.flags.l && is_moderator p sender) c.args.set is
+    (sym (c.in_ok-may_list.ensures.apart told dir p (members_rank old dir c.args.config.now sender c.args.set alike) is same) ∙ c.if-not-branch.true) c.new.ensures c.plain.ensures
+
+pub returns-clause-apart : goal.returns-clause-apart
+returns-clause-apart g c told =
+    let old = g.F.Files.map c.args.files.now in
+    let middle = g.F.Files.map c.may_list.new.files in
+    let sender = c.args.sender.now in
+    let conf = c.args.config.now in
+    let set = c.args.set in
+    let first = g.met.F.Files.kept_map c.args.files.now c.may_list.new.files told c.may_list.ensures.reads.kept in
+    let all = g.met.F.Files.kept_map c.may_list.new.files c.members_mail.new.files told c.members_mail.ensures.reads.kept ∙ first in
+    ok_then c.with_mail.result
+    (λ done does dir p alike is same. listed dir p c.args.now.seconds sender done (p.config.flags.l && is_moderator p sender) set
+    (sym (c.in_ok-may_list.ensures.apart told dir p (members_rank old dir conf sender set alike) is same) ∙ c.if-not-branch.false)
+    (sent_so dir p done c.new-2.result sender c.args.now.seconds c.new-2.ensures
+    (c.in_ok-mail.ensures.apart told dir p (kept_alike (is_bucket set) old middle dir first (members_all old dir conf sender set alike)) is) c.plain-reply.ensures is
+    (λ under. does dir p (kept_same ids_name old (g.F.Files.map c.members_mail.new.files) dir all (members_ids old dir conf sender set alike)) under same)))
+    (c.with_mail.ensures.apart told)

@@ -1,4 +1,4 @@
-use Rattle.std.proofs.Common.{◌≡◌, sym, subst, ap, ◌∙◌, List, true}
+use Rattle.std.proofs.Common.{◌≡◌, refl, sym, subst, ap, ◌∙◌, List, true}
 use Rattle.std.proofs.lemmas.Bool.{or_left, or_right}
 use Rattle.ml_address.specs.declared.Path.{Path}
 use Rattle.ml_base.specs.Bytes.{Text}
@@ -8,8 +8,7 @@ use Rattle.ml_base.proofs.ReadingLemmas.{kept_read, reading_then}
 use Rattle.ml_config.specs.declared.configuration.Config.{Config}
 use Rattle.ml_plain.specs.Directory.{IsList}
 use Rattle.ml_plain.specs.Mailing.{digest_path, send}
-use Rattle.ml_subs.specs.Subscribers.{is_of_set}
-use Rattle.ml_acts.specs.Doing.{is_of_queue, is_bucket}
+use Rattle.ml_acts.specs.Doing.{is_bucket}
 use Rattle.ml_acts.proofs.Damages.{ok_then}
 use Rattle.ml_queue.specs.Answers.{ids_name}
 use Rattle.ml_acts.specs.Damaged.{IsDamaged}
@@ -25,11 +24,11 @@ returns-clause-value g c told =
     ok_then c.send.result
     (λ txn value dir p alike is same.
     let way : c.in_ok-way.way ≡ digest_path p.config c.args.issue = c.in_ok-way.ensures ∙ ap (λ (d : Config). digest_path d c.args.issue) (sym same) in
-    let to = c.in_ok-to.ensures.value told dir p (λ name e. alike name (or_right (is_of_queue name) (is_of_set sets.Digest name) e)) is in
-    let sent = value dir p (λ name e. subst (λ (d : Dir). dir name ≡ d name) (sym same_map) (alike name (or_left (is_of_queue name) (is_of_set sets.Digest name) e))) is in
+    let to = c.in_ok-to.ensures.apart told dir p (λ name e. alike name (or_left (is_bucket sets.Digest name) (same_name name ids_name) e)) is in
+    let sent = value dir p (alike ids_name refl ∙ sym (ap (λ (d : Dir). d ids_name) same_map)) is in
     subst (λ (t : List Text). IsList (with_puts dir txn) (send (digest_path p.config c.args.issue) c.args.body t p)) to
     (subst (λ (w : Path). IsList (with_puts dir txn) (send w c.args.body c.in_ok-to.to p)) way sent))
-    (c.send.ensures.value told)
+    (c.send.ensures.apart told)
 
 pub returns-clause-reads : goal.returns-clause-reads
 returns-clause-reads g c =

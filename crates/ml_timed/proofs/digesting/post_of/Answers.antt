@@ -1,4 +1,4 @@
-use Rattle.std.proofs.Common.{◌≡◌, true, Option, refl, subst, arith, rules}
+use Rattle.std.proofs.Common.{◌≡◌, ◌∙◌, true, Option, refl, sym, subst, arith, rules}
 use Rattle.ml_filing.specs.Answers.{IsBadForPost, IsPostByFiles, IsPostName}
 use Rattle.ml_filing.specs.Archive.{ArePosts}
 use Rattle.ml_filing.specs.declared.posts.Post.{Post}
@@ -6,6 +6,7 @@ use Rattle.ml_acts.specs.Damaged.{post}
 use Rattle.ml_acts.proofs.Damages.{named_of}
 use Rattle.ml_timed.specs.Digesting.{IsDamagedWithin}
 use Rattle.ml_timed.specs.Reads.{is_of_posts_told}
+use Rattle.ml_timed.proofs.Apart.{posts_back}
 use Rattle.ml_timed.proofs.Posted.{not_there, post_read}
 use Rattle.ml_timed.proofs.digesting.post_of.Goals as goal
 
@@ -25,3 +26,10 @@ returns-in-None-clause-names g c =
       named = refl;
       damaged = λ told. absurd (not_there dir n (subst (λ (o : Option Post). IsPostByFiles dir n o) c.in-None.is (c.in_ok-post.ensures.read told)) c.requires.from_one (c.requires.counted told));
     }
+
+pub returns-in-Some-clause-value : goal.returns-in-Some-clause-value
+returns-in-Some-clause-value g c told dir p alike is = (
+  c.in-Some.post,
+  sym (c.in_ok-post.ensures.value told p.posts (posts_back (g.F.Files.map c.args.files.now) dir p.posts alike (is.archive).filed)) ∙ c.in-Some.is,
+  refl,
+)

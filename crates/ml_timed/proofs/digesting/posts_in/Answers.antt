@@ -4,11 +4,11 @@ use Rattle.ml_base.specs.Dir.{Dir}
 use Rattle.ml_base.proofs.ReadingLemmas.{kept_read, kept_self, kept_then}
 use Rattle.ml_filing.specs.Archive.{IsNumberFile, number_name}
 use Rattle.ml_digest.specs.declared.posts.DigestPost.{DigestPost}
-use Rattle.ml_plain.specs.Directory.{IsList}
 use Rattle.ml_plain.specs.Timing.{digest_post}
 use Rattle.ml_acts.proofs.Asked.{named_as}
 use Rattle.ml_timed.specs.Digesting.{IsDamagedWithin}
-use Rattle.ml_timed.specs.Reads.{is_of_posts_told}
+use Rattle.ml_timed.specs.Reads.{is_of_posts_seen, is_of_posts_told}
+use Rattle.ml_timed.proofs.Apart.{alike_kept}
 use Rattle.ml_timed.proofs.Posted.{one_more}
 use Rattle.ml_timed.proofs.Within.{within_more}
 use Rattle.ml_timed.proofs.digesting.posts_in.Goals as goal
@@ -23,7 +23,7 @@ loop-number-init g c =
       from = omega arith;
       up = omega (arith, some);
       size = let empty : length c.new-posts.result ≡ 0 = ap (λ (t : List DigestPost). length t) none in omega (arith, empty);
-      posts = λ told p is. none ∙ ap (λ (k : ℕ). map digest_post (take k (drop (c.args.range.first - 1) p.posts))) zero_is;
+      posts = λ told dir p alike is. none ∙ ap (λ (k : ℕ). map digest_post (take k (drop (c.args.range.first - 1) p.posts))) zero_is;
     }
 
 pub returns-in_err-push-clause-reads : goal.returns-in_err-push-clause-reads
@@ -48,18 +48,18 @@ loop-number-preserved g c =
       from = omega (arith, from);
       up = omega (arith, here);
       size = let one : length c.push.new.self ≡ length c.loop-number.posts + 1 = ap (λ (t : List DigestPost). length t) more ∙ length-append c.loop-number.posts (c.in_ok-post_of.field-0 ∷ []) in omega (arith, one, size);
-      posts = λ told p is.
+      posts = λ told dir p alike is.
           let same = g.met.F.Files.kept_map c.args.files.now c.loop-number.files told before.read.kept in
-          one_more p.posts c.args.range.first c.loop-number.number c.loop-number.posts c.push.new.self c.in_ok-post_of.field-0 low from (before.posts told p is)
-          (c.in_ok-post_of.ensures.value told p (subst (λ (d : Dir). IsList d p) (sym same) is)) more;
+          one_more p.posts c.args.range.first c.loop-number.number c.loop-number.posts c.push.new.self c.in_ok-post_of.field-0 low from (before.posts told dir p alike is)
+          (c.in_ok-post_of.ensures.value told dir p (alike_kept is_of_posts_seen (g.F.Files.map c.args.files.now) (g.F.Files.map c.loop-number.files) dir same alike) is) more;
     }
 
 pub returns-clause-value : goal.returns-clause-value
-returns-clause-value g c told p is =
+returns-clause-value g c told dir p alike is =
     let up = c.loop-number.invariant.up in
     let past = c.loop-number-test.false in
     let same : c.loop-number.number ≡ c.args.range.last + 1 = omega (arith, up, past) in
-    c.loop-number.invariant.posts told p is ∙ ap (λ (k : ℕ). map digest_post (take (k - c.args.range.first) (drop (c.args.range.first - 1) p.posts))) same
+    c.loop-number.invariant.posts told dir p alike is ∙ ap (λ (k : ℕ). map digest_post (take (k - c.args.range.first) (drop (c.args.range.first - 1) p.posts))) same
 
 pub returns-in_err-post_of-clause-names : goal.returns-in_err-post_of-clause-names
 returns-in_err-post_of-clause-names g c =

@@ -1,8 +1,9 @@
-use Rattle.std.proofs.Common.{◌≡◌, true, rules}
+use Rattle.std.proofs.Common.{◌≡◌, ◌∙◌, true, rules}
 use Rattle.ml_base.specs.Address.{key}
 use Rattle.ml_bounce.specs.Answers.{action_key}
 use Rattle.ml_acts.specs.Doing.{is_entry_of}
 use Rattle.ml_acts.proofs.Damages.{entry_named}
+use Rattle.ml_acts.proofs.SetsApart.{entry_there}
 use Rattle.ml_timed.proofs.Changed.{both_changed, both_drawn, both_timed}
 use Rattle.ml_timed.proofs.Written.{acted_spelled}
 use Rattle.ml_timed.proofs.due_entry.change.Goals as goal
@@ -14,9 +15,11 @@ returns-in_err-more-clause-names g c =
     search rules
 
 pub returns-clause-value : goal.returns-clause-value
-returns-clause-value g c tells p e is found =
-    both_changed (g.F.Files.map c.args.files.now) c.args.set (key (action_key c.args.action.now)) c.args.txn c.in_ok-more.more c.join.new.self c.requires.ledger c.requires.queue
-    c.in_ok-more.ensures.others c.in_ok-join.ensures.ok c.args.now.seconds e p is found (c.in_ok-more.ensures.value tells)
+returns-clause-value g c tells dir p e alike is found =
+    let old = g.F.Files.map c.args.files.now in
+    both_changed dir c.args.set (key (action_key c.args.action.now)) c.args.txn c.in_ok-more.more c.join.new.self c.requires.ledger c.requires.queue
+    c.in_ok-more.ensures.others c.in_ok-join.ensures.ok c.args.now.seconds e p is found
+    (λ other ledger f same. c.in_ok-more.ensures.value tells other ledger f (same ∙ entry_there c.args.set (action_key c.args.action.now) old dir c.requires.ledger alike))
 
 pub returns-clause-own : goal.returns-clause-own
 returns-clause-own g c =

@@ -1,4 +1,4 @@
-use Rattle.std.proofs.Common.{◌≡◌, true, refl}
+use Rattle.std.proofs.Common.{◌≡◌, true}
 use Rattle.ml_base.specs.Address.{key}
 use Rattle.ml_base.proofs.DamagedNames.{ok_both}
 use Rattle.ml_bounce.specs.Ledger.{forget}
@@ -8,17 +8,20 @@ use Rattle.ml_timed.specs.Found.{is_followed_up}
 use Rattle.ml_acts.specs.Spelled.{AreSpelled}
 use Rattle.ml_acts.proofs.Damages.{entry_named, ok_then}
 use Rattle.ml_acts.proofs.Queued.{touches_weaker}
+use Rattle.ml_acts.proofs.SetsApart.{entry_there}
 use Rattle.ml_timed.proofs.Changed.{draws_none, file_timed, is_key_file, ledger_changed, ledger_there}
 use Rattle.ml_timed.proofs.Written.{forgotten_spelled}
 use Rattle.ml_timed.proofs.due_entry.drop_entry.Goals as goal
 
 pub returns-clause-value : goal.returns-clause-value
 returns-clause-value g c tells =
-    let dir = g.F.Files.map c.args.files.now in
+    let old = g.F.Files.map c.args.files.now in
     let set = c.args.set in
     let k = key c.args.who.now in
     ok_both c.forget.result _ _ _
-    (λ txn value only p is. ledger_changed dir set k p txn (forget k (ledger_of p set)) c.requires.ledger is only (value dir (ledger_of p set) refl (ledger_there dir set p c.requires.ledger is)))
+    (λ txn value only dir p alike is.
+    ledger_changed dir set k p txn (forget k (ledger_of p set)) c.requires.ledger is only
+    (value dir (ledger_of p set) (entry_there set c.args.who.now old dir c.requires.ledger alike) (ledger_there dir set p c.requires.ledger is)))
     (c.forget.ensures.value tells) c.forget.ensures.others
 
 pub returns-clause-own : goal.returns-clause-own

@@ -1,4 +1,4 @@
-use Rattle.std.proofs.Common.{◌≡◌, true, sym, ap, ◌∙◌, subst, rules}
+use Rattle.std.proofs.Common.{◌≡◌, true, refl, sym, ap, ◌∙◌, subst, rules}
 use Rattle.ml_base.specs.Bytes.{Text}
 use Rattle.ml_base.specs.Dir.{Dir, with_puts, same_name}
 use Rattle.ml_base.proofs.ReadingLemmas.{kept_read, kept_then, reading_then}
@@ -7,12 +7,15 @@ use Rattle.ml_queue.specs.Answers.{ids_name}
 use Rattle.ml_reply.specs.declared.mails.Mail.{Mail}
 use Rattle.ml_plain.specs.Directory.{IsList}
 use Rattle.ml_plain.specs.Mailing.{bounce_mail}
+use Rattle.ml_plain.specs.Plain.{Plain}
 use Rattle.ml_plain.specs.Timing.{change_entry}
 use Rattle.ml_acts.specs.Doing.{DrawsId, is_entry_of}
+use Rattle.ml_acts.proofs.Apart.{alike_fewer}
 use Rattle.ml_acts.proofs.Damages.{bucket_named, ok_then}
 use Rattle.ml_timed.specs.Reads.{is_followed_by}
 use Rattle.ml_timed.specs.Telling.{cookie_kind}
-use Rattle.ml_timed.proofs.Changed.{changed_by, dropped_by, informed_none, informed_some}
+use Rattle.ml_timed.proofs.Apart.{alike_kept, member_there}
+use Rattle.ml_timed.proofs.Changed.{changed_by, informed_none, informed_some}
 use Rattle.ml_timed.proofs.Named.{bucket_followed, entry_followed, ids_followed, names_over}
 use Rattle.ml_timed.proofs.due_entry.inform.Goals as goal
 
@@ -23,12 +26,15 @@ returns-in_err-member-clause-names g c =
 
 pub returns-in_default-clause-value : goal.returns-in_default-clause-value
 returns-in_default-clause-value g c tells =
-    let dir = g.F.Files.map c.args.files.now in
+    let old = g.F.Files.map c.args.files.now in
+    let set = c.args.set in
+    let to = c.args.to.now in
     let same = g.met.F.Files.kept_map c.args.files.now c.find.new.files tells c.find.ensures.reads.kept in
     ok_then c.drop_entry.result
-    (λ txn value p e is config keys found act.
-    dropped_by dir _ c.args.set c.args.now.seconds c.args.to.now txn same value p e is
-    (informed_none dir p c.args.set e c.requires.ledger is found c.args.now.seconds c.args.action.now c.args.to.now act c.requires.mailed c.requires.to (sym c.in_default.is ∙ c.in_ok-member.ensures.value tells (p.sets c.args.set) (is.sets c.args.set))))
+    (λ txn value dir p e alike is config keys found act.
+    subst (λ (q : Plain). IsList (with_puts dir txn) q)
+    (sym (informed_none dir p set e c.requires.ledger is found c.args.now.seconds c.args.action.now to act c.requires.mailed c.requires.to (sym c.in_default.is ∙ member_there old dir set to _ p alike is (c.in_ok-member.ensures.read tells))))
+    (value dir p (alike_kept (is_entry_of set to) old (g.F.Files.map c.find.new.files) dir same (alike_fewer (is_entry_of set to) (is_followed_by set) old dir (entry_followed set to) alike)) is))
     (c.drop_entry.ensures.value tells)
 
 pub returns-in_err-txn-clause-names : goal.returns-in_err-txn-clause-names
@@ -45,7 +51,7 @@ returns-in_err-txn-clause-reads g c =
 
 pub returns-clause-value : goal.returns-clause-value
 returns-clause-value g c tells =
-    let dir = g.F.Files.map c.args.files.now in
+    let old = g.F.Files.map c.args.files.now in
     let set = c.args.set in
     let found_same = g.met.F.Files.kept_map c.args.files.now c.find.new.files tells c.find.ensures.reads.kept in
     let told_same = g.met.F.Files.kept_map c.find.new.files c.tell.new.files tells c.tell.ensures.reads.kept in
@@ -53,10 +59,13 @@ returns-clause-value g c tells =
     let action = c.args.action.now in
     let kind = cookie_kind action in
     ok_then c.change.result
-    (λ done value p e is config keys found act.
-    changed_by dir _ set c.args.now.seconds action kind who c.in_ok-mail.mail c.in_ok-txn.txn done (told_same ∙ found_same) c.requires.ledger value p e is found act
-    (subst (λ (d : Dir). IsList d p → IsList (with_puts d c.in_ok-txn.txn) (bounce_mail kind set who c.args.now.seconds c.in_ok-mail.mail p)) found_same (λ over. subst (λ (k : Text). IsList (with_puts (g.F.Files.map c.find.new.files) c.in_ok-txn.txn) (bounce_mail k set who c.args.now.seconds c.in_ok-mail.mail p)) c.cookie_kind.ensures (c.in_ok-txn.ensures.value tells p over config keys)) is)
-    (informed_some dir p set e c.requires.ledger is found c.args.now.seconds action c.args.to.now c.in-Some.member act c.requires.mailed c.requires.to (sym c.in-Some.is ∙ c.in_ok-member.ensures.value tells (p.sets set) (is.sets set))
+    (λ done value dir p e alike is config keys found act.
+    changed_by dir set c.args.now.seconds action kind who c.in_ok-mail.mail c.in_ok-txn.txn done c.requires.ledger
+    (λ q f. value dir q f (alike_kept (is_entry_of set (action_key action)) old (g.F.Files.map c.tell.new.files) dir (told_same ∙ found_same) (alike_fewer (is_entry_of set (action_key action)) (is_followed_by set) old dir (entry_followed set (action_key action)) alike)))
+    p e is found act
+    (subst (λ (k : Text). IsList (with_puts dir c.in_ok-txn.txn) (bounce_mail k set who c.args.now.seconds c.in_ok-mail.mail p)) c.cookie_kind.ensures
+    (c.in_ok-txn.ensures.value tells dir p (alike ids_name (ids_followed set ids_name refl) ∙ sym (ap (λ (d : Dir). d ids_name) found_same)) is config keys))
+    (informed_some dir p set e c.requires.ledger is found c.args.now.seconds action c.args.to.now c.in-Some.member act c.requires.mailed c.requires.to (sym c.in-Some.is ∙ member_there old dir set c.args.to.now _ p alike is (c.in_ok-member.ensures.read tells))
     ∙ ap (λ (mail : Mail). change_entry c.args.now.seconds set e (bounce_mail kind set who c.args.now.seconds mail p)) (sym c.in_ok-mail.ensures)))
     (c.change.ensures.value tells)
 

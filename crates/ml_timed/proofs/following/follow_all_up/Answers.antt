@@ -1,5 +1,6 @@
-use Rattle.std.proofs.Common.{◌≡◌, ◌≤◌, ◌-◌, ◌+◌, true, fold, List, length, refl, sym, ap, ap₂, ◌∙◌, subst, arith, rules}
+use Rattle.std.proofs.Common.{◌≡◌, ◌≤◌, ◌-◌, ◌+◌, true, List, Option, length, refl, sym, ap, ap₂, ◌∙◌, subst, arith, rules}
 use Rattle.std.proofs.lemmas.Bool.{eqb-true}
+use Rattle.ml_base.specs.Bytes.{Text}
 use Rattle.ml_base.specs.Dir.{Dir, with_puts}
 use Rattle.ml_base.specs.Drawn.{IsCounter}
 use Rattle.ml_base.specs.Layers.{files_below, puts_over}
@@ -13,17 +14,18 @@ use Rattle.ml_bounce.specs.declared.actions.Action.{Action}
 use Rattle.ml_config.specs.KeyFile.{IsKeyFile, key_name}
 use Rattle.ml_plain.specs.Directory.{IsList}
 use Rattle.ml_plain.specs.Plain.{Plain}
-use Rattle.ml_plain.specs.Timing.{follow_up}
 use Rattle.ml_queue.specs.Answers.{ids_name}
 use Rattle.ml_acts.specs.Damaged.{IsNoKeys}
 use Rattle.ml_acts.specs.Growing.{IsGrown}
 use Rattle.ml_timed.specs.Found.{is_followed_up}
+use Rattle.ml_acts.proofs.Apart.{alike_fewer}
 use Rattle.ml_acts.proofs.Damages.{keys_named, ok_then}
 use Rattle.ml_acts.proofs.Grown.{grown_then}
-use Rattle.ml_timed.specs.Ahead.{HasIdsFor, IsAhead, of_set}
-use Rattle.ml_timed.specs.Reads.{is_of_following}
+use Rattle.ml_timed.specs.Ahead.{HasIdsFor, IsAhead}
+use Rattle.ml_timed.specs.Reads.{is_followed_by, is_of_following}
+use Rattle.ml_timed.proofs.Apart.{alike_kept, alike_laid, ledger_over}
 use Rattle.ml_timed.proofs.Amid.{ids_left, ids_more, none_left}
-use Rattle.ml_timed.proofs.Named.{ledger_named, names_below, names_over}
+use Rattle.ml_timed.proofs.Named.{followed_of, ledger_named, names_below, names_over}
 use Rattle.ml_timed.proofs.Whole.{ahead_digest, ahead_list, digest_due, few_due, halfway, ids_due, in_none, in_two, list_due}
 use Rattle.ml_acts.proofs.Harmless.{harmless_same, harmless_then}
 use Rattle.ml_timed.proofs.following.follow_all_up.Goals as goal
@@ -43,14 +45,16 @@ returns-in_err-digest-clause-names g c =
     search rules
 
 pub returns-then-is_empty-2-clause-value : goal.returns-then-is_empty-2-clause-value
-returns-then-is_empty-2-clause-value g c tells p is config =
+returns-then-is_empty-2-clause-value g c tells dir p alike is config =
+    let below = g.F.Files.map (files_below c.args.files.now) in
+    let puts = puts_over c.args.files.now in
     let left : c.saturating_sub-left.result ≡ 1000 - length c.in_ok-list.list = omega (arith, c.saturating_sub-left.ensures, ap length c.as_slice.ensures) in
     let no_list = sym c.as_slice-2.ensures ∙ none_left c.as_slice-2.result.now (omega (arith, eqb-true (length c.as_slice-2.result.now) 0 (sym c.is_empty.ensures ∙ c.if-is_empty.true))) in
     let no_digest = sym c.as_slice-then-is_empty.ensures ∙ none_left c.as_slice-then-is_empty.result.now (omega (arith, eqb-true (length c.as_slice-then-is_empty.result.now) 0 (sym c.is_empty-then-is_empty.ensures ∙ c.if-is_empty-2.true))) in
-    let is_digest : IsLedger (with_puts (g.F.Files.map (files_below c.due.new.files)) (puts_over c.due.new.files)) 16 p.digest_ledger = subst (λ (d : Dir). IsLedger d 16 p.digest_ledger) (sym (ap₂ with_puts (g.met.F.Files.kept_map (files_below c.args.files.now) (files_below c.due.new.files) tells c.due.ensures.reads.kept.0) (c.due.ensures.reads.kept.1))) is.digest_ledger in
-    let none = in_none c.args.now.seconds 1000 c.saturating_sub-left.result p c.in_ok-list.list c.in_ok-digest.digest (c.in_ok-list.ensures.value tells p.list_ledger is.list_ledger) left (c.in_ok-digest.ensures.value tells p.digest_ledger is_digest)
+    let is_digest : IsLedger (with_puts (g.F.Files.map (files_below c.due.new.files)) (puts_over c.due.new.files)) 16 p.digest_ledger = subst (λ (d : Dir). IsLedger d 16 p.digest_ledger) (sym (ap₂ with_puts (g.met.F.Files.kept_map (files_below c.args.files.now) (files_below c.due.new.files) tells c.due.ensures.reads.kept.0) (c.due.ensures.reads.kept.1))) (ledger_over below dir puts sets.Digest p.digest_ledger refl alike is.digest_ledger) in
+    let none = in_none c.args.now.seconds 1000 c.saturating_sub-left.result p c.in_ok-list.list c.in_ok-digest.digest (c.in_ok-list.ensures.value tells p.list_ledger (ledger_over below dir puts sets.List p.list_ledger refl alike is.list_ledger)) left (c.in_ok-digest.ensures.value tells p.digest_ledger is_digest)
     no_list no_digest in
-    subst (λ (q : Plain). IsList (with_puts (g.F.Files.map (files_below c.args.files.now)) (puts_over c.due-2.new.files)) q) (sym none) (subst (λ (puts : List Put). IsList (with_puts (g.F.Files.map (files_below c.args.files.now)) puts) p) (sym (c.due-2.ensures.reads.kept.1 ∙ c.due.ensures.reads.kept.1)) is)
+    subst (λ (q : Plain). IsList (with_puts dir (puts_over c.due-2.new.files)) q) (sym none) (subst (λ (puts : List Put). IsList (with_puts dir puts) p) (sym (c.due-2.ensures.reads.kept.1 ∙ c.due.ensures.reads.kept.1)) is)
 
 pub returns-in_err-keys-clause-names : goal.returns-in_err-keys-clause-names
 returns-in_err-keys-clause-names g c =
@@ -111,27 +115,32 @@ follow_each-requires-2-clause-room g c tells =
 
 pub returns-clause-value : goal.returns-clause-value
 returns-clause-value g c tells =
-    ok_then c.follow_each-2.result (λ done value. λ p is config.
-    let over = ap₂ with_puts (g.met.F.Files.kept_map (files_below c.due-2.new.files) (files_below c.key.new.files) tells c.key.ensures.reads.kept.0 ∙ g.met.F.Files.kept_map (files_below c.due.new.files) (files_below c.due-2.new.files) tells c.due-2.ensures.reads.kept.0 ∙ g.met.F.Files.kept_map (files_below c.args.files.now) (files_below c.due.new.files) tells c.due.ensures.reads.kept.0) (c.key.ensures.reads.kept.1 ∙ c.due-2.ensures.reads.kept.1 ∙ c.due.ensures.reads.kept.1) in
+    ok_then c.follow_each-2.result (λ done value dir p alike is config.
+    let below = g.F.Files.map (files_below c.args.files.now) in
+    let puts = puts_over c.args.files.now in
+    let first = g.met.F.Files.kept_map (files_below c.args.files.now) (files_below c.due.new.files) tells c.due.ensures.reads.kept.0 in
+    let second = g.met.F.Files.kept_map (files_below c.due.new.files) (files_below c.due-2.new.files) tells c.due-2.ensures.reads.kept.0 ∙ first in
+    let third = g.met.F.Files.kept_map (files_below c.due-2.new.files) (files_below c.key.new.files) tells c.key.ensures.reads.kept.0 ∙ second in
+    let fourth = g.met.F.Files.kept_map (files_below c.key.new.files) (files_below c.follow_each.new.files) tells c.follow_each.ensures.reads.kept ∙ third in
     let left : c.saturating_sub-left.result ≡ 1000 - length c.as_slice-3.result.now = omega (arith, c.saturating_sub-left.ensures, ap length c.as_slice.ensures, ap length c.as_slice-3.ensures) in
-    let list_is = c.as_slice-3.ensures ∙ c.in_ok-list.ensures.value tells p.list_ledger is.list_ledger in
-    let is_digest : IsLedger (with_puts (g.F.Files.map (files_below c.due.new.files)) (puts_over c.due.new.files)) 16 p.digest_ledger = subst (λ (d : Dir). IsLedger d 16 p.digest_ledger) (sym (ap₂ with_puts (g.met.F.Files.kept_map (files_below c.args.files.now) (files_below c.due.new.files) tells c.due.ensures.reads.kept.0) (c.due.ensures.reads.kept.1))) is.digest_ledger in
+    let list_is = c.as_slice-3.ensures ∙ c.in_ok-list.ensures.value tells p.list_ledger (ledger_over below dir puts sets.List p.list_ledger refl alike is.list_ledger) in
+    let is_digest : IsLedger (with_puts (g.F.Files.map (files_below c.due.new.files)) (puts_over c.due.new.files)) 16 p.digest_ledger = subst (λ (d : Dir). IsLedger d 16 p.digest_ledger) (sym (ap₂ with_puts first (c.due.ensures.reads.kept.1))) (ledger_over below dir puts sets.Digest p.digest_ledger refl alike is.digest_ledger) in
     let digest_is = c.in_ok-digest.ensures.value tells p.digest_ledger is_digest in
-    let is_keys : IsKeyFile ((with_puts (g.F.Files.map (files_below c.due-2.new.files)) (puts_over c.due-2.new.files)) key_name) p.keys = subst (λ (d : Dir). IsKeyFile (d key_name) p.keys) (sym (ap₂ with_puts (g.met.F.Files.kept_map (files_below c.due.new.files) (files_below c.due-2.new.files) tells c.due-2.ensures.reads.kept.0 ∙ g.met.F.Files.kept_map (files_below c.args.files.now) (files_below c.due.new.files) tells c.due.ensures.reads.kept.0) (c.due-2.ensures.reads.kept.1 ∙ c.due.ensures.reads.kept.1))) is.keys in
+    let is_keys : IsKeyFile ((with_puts (g.F.Files.map (files_below c.due-2.new.files)) (puts_over c.due-2.new.files)) key_name) p.keys = subst (λ (d : Dir). IsKeyFile (d key_name) p.keys) (sym (ap₂ with_puts second (c.due-2.ensures.reads.kept.1 ∙ c.due.ensures.reads.kept.1)))
+    (subst (λ (f : Option Text). IsKeyFile f p.keys) (alike_laid is_of_following below dir puts alike key_name refl) is.keys) in
     let keys_are = sym (c.in_ok-keys.ensures.read tells p.keys is_keys) in
-    let start = subst (λ (d : Dir). IsList d p) (sym over) is in
-    let ahead = ahead_list c.args.now.seconds 1000 c.saturating_sub-left.result p c.as_slice-3.result.now c.in_ok-digest.digest list_is left digest_is (with_puts (g.F.Files.map (files_below c.key.new.files)) (puts_over c.key.new.files)) c.args.config.now c.in_ok-keys.keys start config keys_are in
+    let start = subst (λ (t : List Put). IsList (with_puts dir t) p) (sym (c.key.ensures.reads.kept.1 ∙ c.due-2.ensures.reads.kept.1 ∙ c.due.ensures.reads.kept.1)) is in
+    let ahead = ahead_list c.args.now.seconds 1000 c.saturating_sub-left.result p c.as_slice-3.result.now c.in_ok-digest.digest list_is left digest_is (with_puts dir (puts_over c.key.new.files)) c.args.config.now c.in_ok-keys.keys start config keys_are in
     let due = list_due c.args.now.seconds 1000 c.saturating_sub-left.result p c.as_slice-3.result.now c.in_ok-digest.digest list_is left digest_is in
-    let halfway_is = c.in_ok-follow_each.ensures.value tells p due ahead in
-    let below = g.met.F.Files.kept_map (files_below c.key.new.files) (files_below c.follow_each.new.files) tells c.follow_each.ensures.reads.kept in
-    let then = subst (λ (d : Dir). IsList (with_puts d (puts_over c.follow_each.new.files)) (halfway c.args.now.seconds 1000 c.saturating_sub-left.result p c.as_slice-3.result.now c.in_ok-digest.digest list_is left digest_is)) (sym below) halfway_is in
-    let next = ahead_digest c.args.now.seconds 1000 c.saturating_sub-left.result p c.as_slice-3.result.now c.in_ok-digest.digest list_is left digest_is (with_puts (g.F.Files.map (files_below c.key.new.files)) (puts_over c.key.new.files)) (with_puts (g.F.Files.map (files_below c.follow_each.new.files)) (puts_over c.follow_each.new.files)) c.args.config.now c.in_ok-keys.keys start then config keys_are in
+    let list_alike = alike_kept (is_followed_by sets.List) below (g.F.Files.map (files_below c.key.new.files)) dir third (alike_fewer (is_followed_by sets.List) is_of_following below dir (followed_of sets.List refl) alike) in
+    let then = c.in_ok-follow_each.ensures.value tells dir p due list_alike ahead in
+    let next = ahead_digest c.args.now.seconds 1000 c.saturating_sub-left.result p c.as_slice-3.result.now c.in_ok-digest.digest list_is left digest_is (with_puts dir (puts_over c.key.new.files)) (with_puts dir (puts_over c.follow_each.new.files)) c.args.config.now c.in_ok-keys.keys start then config keys_are in
     let next_due = digest_due c.args.now.seconds 1000 c.saturating_sub-left.result p c.as_slice-3.result.now c.in_ok-digest.digest list_is left digest_is in
     let middle = halfway c.args.now.seconds 1000 c.saturating_sub-left.result p c.as_slice-3.result.now c.in_ok-digest.digest list_is left digest_is in
-    let here = subst (λ (actions : List Action). IsAhead (with_puts (g.F.Files.map (files_below c.follow_each.new.files)) (puts_over c.follow_each.new.files)) c.args.config.now c.in_ok-keys.keys sets.Digest actions middle next_due) (sym c.as_slice-4.ensures) next in
+    let here = subst (λ (actions : List Action). IsAhead (with_puts dir (puts_over c.follow_each.new.files)) c.args.config.now c.in_ok-keys.keys sets.Digest actions middle next_due) (sym c.as_slice-4.ensures) next in
     let whole = in_two c.args.now.seconds 1000 c.saturating_sub-left.result p c.as_slice-3.result.now c.in_ok-digest.digest list_is left digest_is in
-    subst (λ (q : Plain). IsList (with_puts (g.F.Files.map (files_below c.args.files.now)) (puts_over c.follow_each-2.new.files)) q) (sym whole)
-    (subst (λ (d : Dir). IsList (with_puts d (puts_over c.follow_each-2.new.files)) (fold (follow_up c.args.now.seconds) middle (of_set sets.Digest next_due))) (below ∙ g.met.F.Files.kept_map (files_below c.due-2.new.files) (files_below c.key.new.files) tells c.key.ensures.reads.kept.0 ∙ g.met.F.Files.kept_map (files_below c.due.new.files) (files_below c.due-2.new.files) tells c.due-2.ensures.reads.kept.0 ∙ g.met.F.Files.kept_map (files_below c.args.files.now) (files_below c.due.new.files) tells c.due.ensures.reads.kept.0) (value middle next_due here)))
+    let digest_alike = alike_kept (is_followed_by sets.Digest) below (g.F.Files.map (files_below c.follow_each.new.files)) dir fourth (alike_fewer (is_followed_by sets.Digest) is_of_following below dir (followed_of sets.Digest refl) alike) in
+    subst (λ (q : Plain). IsList (with_puts dir (puts_over c.follow_each-2.new.files)) q) (sym whole) (value dir middle next_due digest_alike here))
     (c.follow_each-2.ensures.value tells)
 
 pub returns-clause-harmless : goal.returns-clause-harmless

@@ -1,18 +1,14 @@
-use Rattle.std.proofs.Common.{◌≡◌, ◌+◌, ◌-◌, ℕ, Some, length, take, drop, sym, ap, subst, arith, rules}
+use Rattle.std.proofs.Common.{◌+◌, ◌-◌, ℕ, length, take, drop, sym, ap, subst, arith, rules}
 use Rattle.ml_base.specs.Dir.{Dir, with_puts}
 use Rattle.ml_base.specs.Layers.{files_below, puts_over}
 use Rattle.ml_base.proofs.ReadingLemmas.{kept_read, kept_then, reading_then}
-use Rattle.ml_bounce.specs.Changes.{action_of}
-use Rattle.ml_bounce.specs.Ledger.{find_entry}
 use Rattle.ml_rows.proofs.RowLaws.{first_of}
-use Rattle.ml_bounce.specs.declared.entries.LedgerEntry.{LedgerEntry}
-use Rattle.ml_plain.specs.Directory.{IsList}
-use Rattle.ml_plain.specs.Plain.{Plain, ledger_of}
-use Rattle.ml_plain.specs.Timing.{follow_up}
 use Rattle.ml_acts.specs.Doing.{HasIds}
 use Rattle.ml_timed.specs.Found.{is_followed_up}
 use Rattle.ml_acts.proofs.Grown.{grown_then}
 use Rattle.ml_timed.specs.Ahead.{HasIdsFor}
+use Rattle.ml_timed.specs.Reads.{is_followed_by}
+use Rattle.ml_timed.proofs.Apart.{alike_kept}
 use Rattle.ml_timed.proofs.Amid.{amid_last, amid_next, ids_first, ids_more, none_left}
 use Rattle.ml_acts.proofs.Harmless.{harmless_then}
 use Rattle.ml_timed.proofs.following.follow_each.Goals as goal
@@ -55,15 +51,13 @@ loop-rest-preserved g c =
           let there = subst (λ (k : ℕ). HasIdsFor (with_puts below (puts_over c.loop-rest.files)) (k + n)) (ap length split) (c.loop-rest.invariant.ids tells n has) in
           subst (λ (d : Dir). HasIdsFor (with_puts d (puts_over c.loop-rest.files)) (length more + n + 1) → HasIdsFor (with_puts d (puts_over c.follow_one.new.files)) (length more + n)) same
           (c.in_ok-follow_one.ensures.drawn tells (length more + n)) (subst (λ (k : ℕ). HasIdsFor (with_puts below (puts_over c.loop-rest.files)) k) (omega arith) there);
-      amid = λ tells p es ahead.
+      amid = λ tells dir p es alike ahead.
           let same = g.met.F.Files.kept_map (files_below c.args.files.now) (files_below c.loop-rest.files) tells c.loop-rest.invariant.kept.kept in
-          amid_next c.args.now.seconds c.args.config.now c.args.keys.now c.args.set p es (with_puts below (puts_over c.loop-rest.files)) (with_puts below (puts_over c.follow_one.new.files)) rest more c.action-item.result c.requires.ledger split
-          (subst (λ (d : Dir). (q : Plain) (e : LedgerEntry) → IsList (with_puts d (puts_over c.loop-rest.files)) q → q.config ≡ c.args.config.now → q.keys ≡ c.args.keys.now → find_entry e.key (ledger_of q c.args.set) ≡ Some e → action_of e ≡ c.action-item.result
-          → IsList (with_puts d (puts_over c.follow_one.new.files)) (follow_up c.args.now.seconds q (c.args.set, e))) same (c.in_ok-follow_one.ensures.value tells))
-          (c.loop-rest.invariant.amid tells p es ahead);
+          amid_next c.args.now.seconds c.args.config.now c.args.keys.now c.args.set p es (with_puts dir (puts_over c.loop-rest.files)) (with_puts dir (puts_over c.follow_one.new.files)) rest more c.action-item.result c.requires.ledger split
+          (λ q e. c.in_ok-follow_one.ensures.value tells dir q e (alike_kept (is_followed_by c.args.set) below (g.F.Files.map (files_below c.loop-rest.files)) dir same alike))
+          (c.loop-rest.invariant.amid tells dir p es alike ahead);
     }
 
 pub returns-clause-value : goal.returns-clause-value
-returns-clause-value g c tells p es ahead =
-    let dir = with_puts (g.F.Files.map (files_below c.args.files.now)) (puts_over c.loop-rest.files) in
-    amid_last c.args.now.seconds c.args.config.now c.args.keys.now c.args.set p es dir c.loop-rest.rest.now (none_left c.loop-rest.rest.now (omega (arith, c.in_default.len_below))) (c.loop-rest.invariant.amid tells p es ahead)
+returns-clause-value g c tells dir p es alike ahead =
+    amid_last c.args.now.seconds c.args.config.now c.args.keys.now c.args.set p es (with_puts dir (puts_over c.loop-rest.files)) c.loop-rest.rest.now (none_left c.loop-rest.rest.now (omega (arith, c.in_default.len_below))) (c.loop-rest.invariant.amid tells dir p es alike ahead)

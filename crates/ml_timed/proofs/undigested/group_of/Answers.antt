@@ -11,13 +11,17 @@ use Rattle.ml_acts.proofs.Placed.{index_placed}
 use Rattle.ml_timed.specs.Digesting.{IsDamagedGroup}
 use Rattle.ml_timed.specs.Reads.{is_of_posts_told}
 use Rattle.ml_timed.specs.Waiting.{are_short}
+use Rattle.ml_timed.proofs.Apart.{posts_back}
 use Rattle.ml_timed.proofs.Behind.{no_group}
 use Rattle.ml_timed.proofs.Counted.{index_there, none_small, small_damaged, too_small}
 use Rattle.ml_timed.proofs.Short.{index_short}
 use Rattle.ml_timed.proofs.undigested.group_of.Goals as goal
 
 pub returns-then-group-count-clause-value : goal.returns-then-group-count-clause-value
-returns-then-group-count-clause-value g c told p is size = c.new.ensures ∙ no_group c.args.group c.args.count p.posts size c.if-group-count.true
+returns-then-group-count-clause-value g c told dir p alike is size = c.new.ensures ∙ no_group c.args.group c.args.count p.posts size c.if-group-count.true
+
+pub returns-clause-value : goal.returns-clause-value
+returns-clause-value g c told dir p alike is size = c.in_ok-entries.ensures.value told p.posts (posts_back (g.F.Files.map c.args.files.now) dir p.posts alike (is.archive).filed)
 
 pub returns-in_err-entries-clause-names : goal.returns-in_err-entries-clause-names
 returns-in_err-entries-clause-names g c =
