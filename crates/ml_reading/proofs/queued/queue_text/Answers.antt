@@ -1,4 +1,4 @@
-use Rattle.std.proofs.Common.{◌≡◌, ◌≤◌, ◌<◌, ◌+◌, ℕ, IsTrue, sym, subst, arith}
+use Rattle.std.proofs.Common.{◌≡◌, ◌+◌, ℕ, sym, subst, arith}
 use Rattle.ml_base.specs.Dir.{Dir}
 use Rattle.ml_drawn.specs.Answers.{NoneThere}
 use Rattle.ml_drawn.specs.declared.series.Series.TheVariants.{Ids}
