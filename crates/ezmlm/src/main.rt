@@ -1,4 +1,4 @@
-//! ezmlm: a mailing list manager.
+//! ezmlm, a mailing list manager: its words are run over the real input, clock and disk.
 #![tactic(auto)]
 
 use ml_command::ezmlm_main;
@@ -13,12 +13,12 @@ fn main(rt: HostRuntime) -> ExitCode {
     match words(&rt) {
         Ok(words) => run_words(&rt, &words),
         Err(error) if error.kind() == ErrorKind::OutOfMemory => stop_for_memory(&rt),
-        // A word that isn't UTF-8 is a word of no command.
+        // A word that isn't UTF-8 belongs to no command.
         Err(_) => run_words(&rt, &[]),
     }
 }
 
-// The words behind the program's name.
+// The words after the program's name.
 fn words(rt: &HostRuntime) -> io::Result<Vec<String>> {
     let mut words = Vec::new(rt.alloc());
     for word in env::args(rt)?.skip(1) {
@@ -27,7 +27,7 @@ fn words(rt: &HostRuntime) -> io::Result<Vec<String>> {
     Ok(words)
 }
 
-// Does what the words behind the folder's say. Without a folder there are no words, and no call on the disk is made.
+// Does what the words after the folder's say. Without a folder there are no words, and no call on the disk is made.
 fn run_words(rt: &HostRuntime, words: &[String]) -> ExitCode {
     let mut source = StdSource::new(rt);
     let mut clock = RealClock::new(rt);
@@ -43,7 +43,7 @@ fn run_words(rt: &HostRuntime, words: &[String]) -> ExitCode {
     ExitCode::from(status)
 }
 
-// Tells that memory was wanting before anything was done.
+// Says that memory ran out before anything was done.
 fn stop_for_memory(rt: &HostRuntime) -> ExitCode {
     let (status, _) = stop(RealSite::new(rt, ""), Why::Memory);
     ExitCode::from(status)

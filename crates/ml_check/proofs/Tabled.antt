@@ -1,4 +1,4 @@
--- The files that a check may read stand in the table of files.
+-- The files that a check may read are in the table of files.
 use Rattle.std.proofs.Common.{◌≡◌, ◌<◌, ◌&&◌, inl, inr, ℕ, true, false, IsTrue, eqb, nat_le, nat_lt, refl, sym, ap, subst, arith}
 use Rattle.std.proofs.lemmas.Bool.{and_parts, eqb-true, leb-true, ltb-true, or_cases}
 use Rattle.std.proofs.Math.Logic.{⊎_elim}

@@ -1,4 +1,4 @@
--- What is printed where words ask for a stream.
+-- What is printed if words ask for a stream.
 use Rattle.std.proofs.Common.{◌≡◌, ⊎_elim, ℕ, ◌≤◌, Bool, true, false, cond, IsTrue, List, [], ◌∷◌, ◌++◌, length, map, filter, Option, Some, None, Result, Ok, Err, option_map, refl, sym, ap, ◌∙◌, subst, arith}
 use Rattle.std.proofs.lemmas.List.{length-map}
 use Rattle.std.specs.List.{AllByRecursion, find}
@@ -149,7 +149,7 @@ each_address : (ms : List Member) → AllByRecursion (λ m. IsAddress m.who × I
 each_address [] all = tt
 each_address (m ∷ ms) all = (all.0.0, each_address ms all.1)
 
--- the stream of a part's moves is read again
+-- reading the stream of a part's moves gives the moves again
 read_again : (dir : Dir) (rules : List Rule) (ms : List Member) (words : PlainMove) (moment : ℕ) (text : Text) → AreSubscribers dir words.set ms → IsMoment moment → words.first ≤ 999_999_900_000 → (of : IsTextOf rules ms words moment text)
     → IsStream 0 text (numbered words.first moment (moves of.part words.set words.into)) End
 read_again dir rules ms words moment text is time low of =

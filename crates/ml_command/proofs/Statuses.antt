@@ -6,7 +6,7 @@ use Rattle.ml_ending.specs.Endings.{MissesList}
 use Rattle.ml_run.specs.Stops.{is_run_status}
 use Rattle.ml_command.specs.Spooling.{spool_status, is_spool_status}
 
--- but for 100 it is the run's
+-- except for 100 it is the run's
 pub keeps : (run status n : ℕ) → status ≡ spool_status run → eqb n 100 ≡ false → run ≡ n → status ≡ n
 keeps run status n is other e = is ∙ ap spool_status e ∙ ap (λ b. if b then 0 else n) other
 

@@ -1,4 +1,4 @@
--- What the words say that give one item.
+-- What the words that give one item say.
 use Rattle.std.specs.Prelude.{◌≡◌, ℕ, Result, Ok, Err}
 use Rattle.ml_plain.specs.declared.Act.{Act}
 use Rattle.ml_ending.specs.declared.lines.Why.{Why}

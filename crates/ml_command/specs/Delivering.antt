@@ -16,8 +16,8 @@ use Rattle.ml_command.specs.Single.{AnswersItem, AnswersNow}
 abbrev pub longest_message : ℕ
 longest_message = 33_554_432
 
--- The clock was read, then the input, and the delivery of it answered. Or the clock failed, and the input wasn't read; or the
--- input failed, or is too long. A stop line says so then.
+-- The clock was read, then the input, and the delivery of it answered. Or the clock failed, and the input wasn't read; or the input failed, or
+-- is too long. Then a stop line says so.
 abbrev pub Delivers : {I S K : Type 0} → SourceGhosts I → Ghosts S → ClockGhosts K → ℕ → Text → Text → I → I → S → S → K → K → ℕ → Type 0
 Delivers source told clocks number sender recipient input next old new clock after status =
     ((message : Text) × IsInput source longest_message input next message × AnswersNow clocks told number (acts.Deliver sender recipient message) clock old new status)

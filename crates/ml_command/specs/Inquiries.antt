@@ -1,4 +1,4 @@
--- What the words ask for of the commands that give a text, and what each asks of a list.
+-- What the words of the commands that give a text ask for, and what each command asks of a list.
 use Rattle.std.specs.Prelude.{ℕ, Bool, true, false, List, [], ◌∷◌, codes, if◌then◌else◌, Option, Some, None}
 use Rattle.std.specs.Option.{option_map, option_and_then}
 use Rattle.std.specs.Str.{bytes_eq}
@@ -83,7 +83,7 @@ asking_of (inquiries.Split set) = ByInput (division_asked set)
 asking_of (inquiries.Move words) = ByInput (moving_asked words)
 asking_of (inquiries.Import first) = ByInput (importing_asked first)
 
--- a query is asked, where a word gives it
+-- a query is asked, if a word gives it
 abbrev pub queried : Option Query → Asked
 queried None = askeds.BadWord
 queried (Some query) = askeds.Inquiry (inquiries.Query query)
@@ -92,33 +92,33 @@ queried (Some query) = askeds.Inquiry (inquiries.Query query)
 abbrev pub members_of : Bool → Text → Option Query
 members_of moments word = option_map (λ set. queries.Members set moments) (set_of word)
 
--- what the words behind `list` ask for: a set's members, and behind `-t` with their moments
+-- what the words after `list` ask for: a set's members, and after `-t` with their moments
 abbrev pub list_of : List Text → Asked
 list_of (set ∷ []) = queried (members_of false set)
 list_of (option ∷ set ∷ []) = if bytes_eq option (codes "-t") then queried (members_of true set) else askeds.NoCommand
 list_of _ = askeds.NoCommand
 
--- what the words behind `queue` ask for: there are none
+-- what the words after `queue` ask for: the outgoing queue, if there are none
 abbrev pub queue_of : List Text → Asked
 queue_of [] = askeds.Inquiry (inquiries.Query queries.Queue)
 queue_of _ = askeds.NoCommand
 
--- what the words behind `out` ask for: the entry of an id, which is any number
+-- what the words after `out` ask for: the entry of an id, which is any number
 abbrev pub out_of : List Text → Asked
 out_of (id ∷ []) = queried (option_map (λ n. queries.Entry n) (number_of id))
 out_of _ = askeds.NoCommand
 
--- what the words behind `show` ask for: the post of any number
+-- what the words after `show` ask for: the post of any number
 abbrev pub show_of : List Text → Asked
 show_of (post ∷ []) = queried (option_map (λ n. queries.Post n) (number_of post))
 show_of _ = askeds.NoCommand
 
--- what the words behind `check` ask for: there are none
+-- what the words after `check` ask for: a check of the list, if there are none
 abbrev pub check_of : List Text → Asked
 check_of [] = askeds.Inquiry inquiries.Check
 check_of _ = askeds.NoCommand
 
--- a page is asked for, where words name one
+-- a page is asked for, if words name one
 abbrev pub paged : Option PageQuery → Asked
 paged None = askeds.BadWord
 paged (Some query) = askeds.Inquiry (inquiries.Pages query)
@@ -129,33 +129,33 @@ page_of kind which page =
     if bytes_eq kind (codes "month") then paged (month_query which page)
     else (if bytes_eq kind (codes "thread") then paged (thread_query which page) else askeds.NoCommand)
 
--- what the words behind `pages` ask for: the list of them, behind `month` a page of a month, and behind `thread` one of a thread
+-- what the words after `pages` ask for: the list of them, after `month` a page of a month, and after `thread` a page of a thread
 abbrev pub pages_of : List Text → Asked
 pages_of (kind ∷ []) = if bytes_eq kind (codes "list") then askeds.Inquiry (inquiries.Pages pages.List) else askeds.NoCommand
 pages_of (kind ∷ which ∷ page ∷ []) = page_of kind which page
 pages_of _ = askeds.NoCommand
 
--- the mailbox of a range is asked for, where words give one
+-- the mailbox of a range is asked for, if words give one
 abbrev pub ranged : Option MboxQuery → Asked
 ranged None = askeds.BadWord
 ranged (Some query) = askeds.Inquiry (inquiries.Mailbox query)
 
--- what the words behind `mbox` ask for: the mailbox of the posts from one number to another
+-- what the words after `mbox` ask for: the mailbox of the posts from one number to another
 abbrev pub mbox_of : List Text → Asked
 mbox_of (first ∷ last ∷ []) = ranged (mbox_query first last)
 mbox_of _ = askeds.NoCommand
 
--- the stream of a mailbox is asked for, where a word gives the number of its first item
+-- the stream of a mailbox is asked for, if a word gives the number of its first item
 abbrev pub imported : Option ℕ → Asked
 imported None = askeds.BadWord
 imported (Some first) = askeds.Inquiry (inquiries.Import first)
 
--- what the words behind `import` ask for: the stream of a mailbox
+-- what the words after `import` ask for: the stream of a mailbox
 abbrev pub import_of : List Text → Asked
 import_of (first ∷ []) = imported (import_words first)
 import_of _ = askeds.NoCommand
 
--- the parts of a set are asked for, where a word names one
+-- the parts of a set are asked for, if a word names one
 abbrev pub divided : Option Set → Asked
 divided None = askeds.BadWord
 divided (Some set) = askeds.Inquiry (inquiries.Split set)
@@ -168,23 +168,23 @@ into_of option = if bytes_eq option (codes "-a") then Some true else (if bytes_e
 abbrev pub move_of : Bool → Text → Text → Text → Option PlainMove
 move_of into first set name = option_and_then (λ n. option_and_then (λ s. move_words into n s name) (set_of set)) (number_of first)
 
--- a move is asked for, where words give one
+-- a move is asked for, if words give one
 abbrev pub moved : Option PlainMove → Asked
 moved None = askeds.BadWord
 moved (Some words) = askeds.Inquiry (inquiries.Move words)
 
--- the same in one of two directions, where an option is one
+-- the same in one of two directions, if an option gives one
 abbrev pub moved_by : Option Bool → Text → Text → Text → Asked
 moved_by None first set name = askeds.NoCommand
 moved_by (Some into) first set name = moved (move_of into first set name)
 
--- what the words behind `split` ask for: a set's parts, and behind `-a` and `-r` the stream of one of them
+-- what the words after `split` ask for: a set's parts, and after `-a` and `-r` the stream of one of them
 abbrev pub split_of : List Text → Asked
 split_of (set ∷ []) = divided (set_of set)
 split_of (option ∷ first ∷ set ∷ name ∷ []) = moved_by (into_of option) first set name
 split_of _ = askeds.NoCommand
 
--- what words ask for that begin with this one, where it is that of a command that gives a text, but for `split`
+-- what words that begin with this one ask for, if it is that of a command that gives a text, except `split`
 abbrev pub asked_of_list : Text → List Text → Option Asked
 asked_of_list name rest =
     if bytes_eq name (codes "list") then Some (list_of rest)
@@ -196,6 +196,6 @@ asked_of_list name rest =
     else (if bytes_eq name (codes "mbox") then Some (mbox_of rest)
     else (if bytes_eq name (codes "import") then Some (import_of rest) else None)))))))
 
--- what words ask for that begin with this one, where it is that of a command that gives a text
+-- what words that begin with this one ask for, if it is that of a command that gives a text
 abbrev pub asked_of : Text → List Text → Option Asked
 asked_of name rest = if bytes_eq name (codes "split") then Some (split_of rest) else asked_of_list name rest

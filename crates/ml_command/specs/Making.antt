@@ -19,7 +19,7 @@ use Rattle.ml_ending.specs.Endings.{Opens, Says}
 use Rattle.ml_run.specs.Leaving.{HasState}
 use Rattle.ml_run.specs.Making.{IsMaking, Makes, made_text, is_make_status}
 
--- What `make` does.
+-- What making a list of this configuration and key does.
 pub record MakesList {S : Type 0} (told : Ghosts S) (config : Config) (key : Text) (old new : S) (status : ℕ) : Type 0 where
   pub known : IsTrue (is_make_status status)
   pub makes : IsTrue told.tells_reads → Makes (IsTrue told.tells_all) status (directory (told.disk old).reads) (first_puts config key) (made_text config) (told.output old) (told.disk new).reads (told.output new)
@@ -32,7 +32,7 @@ pub record MakesList {S : Type 0} (told : Ghosts S) (config : Config) (key : Tex
   pub of_disk : status ≡ 111 → Rose (told.disk_faults old) (told.disk_faults new)
   pub of_output : status ≡ 73 → Rose (told.output_faults old) (told.output_faults new)
 
--- A list is made, or the words give none, or memory was wanting before anything was done.
+-- A list is made, or the words give none, or memory ran out before anything was done.
 abbrev pub MakesAsked : {S : Type 0} → Ghosts S → Option (Config × Text) → S → S → ℕ → Type 0
 MakesAsked told None old new status = Says told old new status None whys.Usage ⊎ Says told old new status None whys.Memory
 MakesAsked told (Some made) old new status = MakesList told made.0 made.1 old new status ⊎ Says told old new status None whys.Memory

@@ -19,9 +19,9 @@ enum Change {
     Remove,
 }
 
-/// The number and the act of the item that words give which begin with this one: `sub` and `unsub` have a number, a set and an
-/// address, `rekey` a number and a key of 64 hexadecimal digits, `floor` a number and a floor, `timed` a number, `sent` a number and
-/// the id of an entry of the queue. Else it answers why they give none: `Usage`, `Words` or `Memory`.
+/// The number and the act of the item that words beginning with this one give: `sub` and `unsub` have a number, a set and an address, `rekey` a
+/// number and a key of 64 hexadecimal digits, `floor` a number and a floor, `timed` a number, `sent` a number and the id of an entry of the
+/// queue. Otherwise it answers why they give none: `Usage`, `Words` or `Memory`.
 pub(crate) fn item_of_words(alloc: Global, name: &str, rest: &[String]) -> Result<(u64, Act), Why>
     ensures { Asks (single_of name.now (texts rest.now)) result }
 {
@@ -138,7 +138,7 @@ fn floor(number: &str, at: &str) -> Result<(u64, Act), Why>
     }
 }
 
-// A floor is from 1 on.
+// The floor that a word spells, from 1 on.
 fn floor_number(word: &str) -> Option<u64>
     ensures { result ≡ floor_of word.now }
 {
@@ -189,7 +189,7 @@ fn sent_item(number: &str, id: &str) -> Result<(u64, Act), Why>
     }
 }
 
-// An id is from 1 on.
+// The id that a word spells, from 1 on.
 fn entry_id(word: &str) -> Option<u64>
     ensures { result ≡ id_of word.now }
 {

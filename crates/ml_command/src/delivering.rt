@@ -19,7 +19,7 @@ use ml_run::{Why, stop};
 use ml_site::{Clock, Site, Source};
 use std::alloc::{AllocError, Global};
 
-/// Delivers the input from the sender to the recipient that the words behind `deliver` give, under their number.
+/// Delivers the input from the sender to the recipient that the words after `deliver` give, under their number.
 pub(crate) fn deliver_words<I: Source, S: Site, K: Clock>(
     alloc: Global,
     words: &[String],

@@ -11,7 +11,7 @@ use std::alloc::Global;
 
 const MOST_ITEMS: u64 = 999_999;
 
-/// Exercises a list by as many items as the words behind `exercise` say.
+/// Exercises a list with as many items as the words after `exercise` say.
 pub(crate) fn exercise_words<S: Site>(alloc: Global, words: &[String], site: S) -> (u8, S)
     ensures { ExercisesAsked ⟦<S as Site>⟧ (exercise_of (texts words.now)) site result.1 result.0 }
 {

@@ -8,7 +8,7 @@ use ml_run::{Why, make, stop};
 use ml_site::Site;
 use std::alloc::Global;
 
-/// Makes the list that the words behind `make` give.
+/// Makes the list that the words after `make` give.
 pub(crate) fn make_words<S: Site>(alloc: Global, words: &[String], site: S) -> (u8, S)
     ensures { MakesAsked ⟦<S as Site>⟧ (make_of (texts words.now)) site result.1 result.0 }
 {

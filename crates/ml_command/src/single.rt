@@ -14,7 +14,7 @@ use ml_run::{Why, run_item, stop};
 use ml_site::{Clock, Site};
 use std::alloc::Global;
 
-/// Does what words ask for that begin with this one and give one item.
+/// Does what words that begin with this one and give one item ask for.
 pub(crate) fn single_words<S: Site, K: Clock>(
     alloc: Global,
     name: &str,

@@ -11,8 +11,7 @@ use std::alloc::Global;
 
 const MOST_ITEMS: u64 = 1_000_000;
 
-// What the words behind `spool` say: how many items a stream may have, or that a word holds no such number, or that they are
-// no words of it.
+// What the words after `spool` say: how many items a stream may have, that a word holds no such number, or that they are no words of `spool`.
 #[derive(Clone, Copy)]
 enum Limit {
     Items(u64),
@@ -20,7 +19,7 @@ enum Limit {
     NoCommand,
 }
 
-/// Does what the words behind `spool` ask for.
+/// Does what the words after `spool` ask for.
 pub(crate) fn spool_words<I: Source, S: Site>(
     alloc: Global,
     words: &[String],
@@ -46,7 +45,7 @@ fn read_limit(words: &[String]) -> Limit
     }
 }
 
-// What `-m` and the word behind it say.
+// What `-m` and the word after it say.
 fn counted(option: &str, count: &str) -> Limit
     ensures { asked_by result ≡ spool_of (option.now ∷ count.now ∷ []) }
 {
@@ -59,7 +58,7 @@ fn counted(option: &str, count: &str) -> Limit
     }
 }
 
-// Answers the items of the input, at most so many.
+// Answers the items of the input, at most this many.
 fn spool<I: Source, S: Site>(alloc: Global, limit: u64, input: &mut I, site: S) -> (u8, S)
     ensures { Spools ⟦<I as Source>⟧ ⟦<S as Site>⟧ limit input.old input.new site result.1 result.0 }
 {
@@ -67,7 +66,7 @@ fn spool<I: Source, S: Site>(alloc: Global, limit: u64, input: &mut I, site: S) 
     (exit_status(ending.status), site)
 }
 
-// The status of `spool`: whether an item was refused stands on its line alone.
+// The status of `spool`: only the line of an item says that it was refused.
 fn exit_status(status: u8) -> u8
     ensures { result ≡ spool_status status }
 {

@@ -14,7 +14,8 @@ use Rattle.ml_dividing.specs.Texts.{IsMoved, division_text, moving_text}
 use Rattle.ml_dividing.specs.declared.dividing.Division.{Division}
 use Rattle.ml_dividing.specs.declared.streaming.Moving.{Moving}
 
--- what answers a question about a set: by the members that its 53 files have together, whatever its count says, and of a list by the set's members
+-- what answers a question about a set: by files, of the members that its 53 files have together, whatever its count says; of a list, of the
+-- set's members
 abbrev pub set_meaning : Set → Bool → (List Member → Answer → Type 0) → (List Member → Answer) → Meaning
 set_meaning set may_miss IsAnswer answer_of = record {
   by_files = λ config dir answer. (ms : List Member) × AreJoined dir set ms × IsAnswer ms answer;
@@ -33,12 +34,12 @@ division_meaning set rules = set_meaning set false (λ ms answer. answer ≡ ans
 abbrev pub IsMovedBy : PlainMove → List Rule → ℕ → List Member → Answer → Type 0
 IsMovedBy words rules moment ms answer = (text : Option Text) × IsMoved rules ms words.name words.set words.into words.first moment text × (answer ≡ text_or_absent text)
 
--- the stream that moves a part, where there is one of the name
+-- the stream that moves a part, if there is one of the name
 abbrev pub moving_meaning : PlainMove → List Rule → ℕ → Meaning
 moving_meaning words rules moment =
     set_meaning words.set true (IsMovedBy words rules moment) (λ ms. text_or_absent (moving_text rules ms words.name words.set words.into words.first moment))
 
--- the questions by rules that were read, or the place of the first line that is none
+-- the question of rules that were read, or the place of the first line that is no rule
 abbrev pub division_of : Set → Result (List Rule) ℕ → Result Division ℕ
 division_of set (Ok rules) = Ok (record { set = set; rules = rules })
 division_of set (Err at) = Err at
@@ -47,6 +48,6 @@ abbrev pub moving_of : PlainMove → ℕ → Result (List Rule) ℕ → Result M
 moving_of words moment (Ok rules) = Ok (record { words = words; rules = rules; moment = moment })
 moving_of words moment (Err at) = Err at
 
--- words whose first number has room behind it for 100,000 items
+-- the words, if their first number is at least 1 and leaves room for 100,000 items after it
 abbrev pub move_words : Bool → ℕ → Set → Text → Option PlainMove
 move_words into first set name = if nat_le 1 first && nat_le first 999_999_900_000 then Some (record { into = into; first = first; set = set; name = name }) else None

@@ -12,7 +12,7 @@ use ml_reading::{Answer, Question};
 use ml_split::{Rules, RulesError, read_rules};
 use std::alloc::Global;
 
-/// The most bytes that rules have.
+/// The most bytes that rules may have.
 pub const MOST_RULES: u32 = 1_048_576;
 
 /// The parts into which rules divide a set, and their members.
@@ -60,7 +60,7 @@ impl FromInput for Division {
     }
 }
 
-// The rules of an input, or the place of the first line that is none.
+// The rules of an input, or the place of the first line that is no rule.
 pub(crate) fn rules_of(alloc: Global, input: &Bytes) -> Result<Rules, InputError>
     ensures { IsMade (rules_in input.now) result }
 {

@@ -1,4 +1,4 @@
--- An exercise of a list, behind the look at its configuration.
+-- An exercise of a list, after the look at its configuration.
 use Rattle.std.proofs.Common.{◌≡◌, inl, inr, ⊎_elim, ℕ, IsTrue, List, [], ◌++◌, take, drop, Option, Some, None, ap, sym, refl, subst, ◌∙◌}
 use Rattle.std.specs.Prelude.{IsSome}
 use Rattle.std.proofs.lemmas.List.{append-nil, take-append-drop}
@@ -66,7 +66,7 @@ ends_before told status answered held output q count old new same (inr early) = 
       put = λ t. let p = c.put t in (p.0, p.1, p.2 ∙ ap (λ (b : Text). (b ++ text q c.done) ++ p.0) (same t), p.3);
     }
 
--- no item is done, and some front of one stop line is out at most
+-- no item is done, and at most some first bytes of one stop line are out
 none_done : (q : State) (items : List Item) (dir : Option Dir) (before out : Text) (left : Contents) → HasState dir q → directory left ≡ dir → SaysAtMost before out → IsAfterSome q items before left out
 none_done q items dir before out left state same said =
     let here : HasState (directory left) (fold q []) = other_list (directory left) q (fold q []) (sym (fold-nil q)) (same_state dir (directory left) q same state) in
@@ -111,7 +111,7 @@ module _ {S : Type 0} (told : Ghosts S) (reads_told : IsTrue told.tells_all → 
         (λ left out p. subst (λ (b : Text). IsExercising q count b left out) (finds.output t) p))
         (λ left out p. inl (none_done q (items_of q count) (directory (told.disk old).reads) (told.output old) out left state p.0 (inl p.1)))
 
-    -- of a directory, whatever it holds
+    -- on a directory, whatever it holds
     exercising_at : IsTrue told.tells_reads → (files : Dir) → directory (told.disk old).reads ≡ Some files → ExercisesItems told (AtEachMoment told old new) count status list.answered old new files
     exercising_at r files here =
         let d = list.anywhere r files (finds.same r ∙ here) in

@@ -1,4 +1,4 @@
--- A run of the items of an exercise, and the reading behind it, as one.
+-- A run of the items of an exercise, and the reading after it, as one.
 use Rattle.std.proofs.Common.{◌≡◌, inl, inr, ℕ, true, false, IsTrue, List, [], ◌∷◌, ◌++◌, length, ◌≤◌, Option, Some, None, ap, sym, refl, subst, ◌∙◌, arith}
 use Rattle.std.specs.Prelude.{IsSome}
 use Rattle.ml_base.specs.Bytes.{Text}
@@ -83,7 +83,7 @@ item_named dir config count n files who name found range few is =
 module _ {S : Type 0} (told : Ghosts S) (reads_told : IsTrue told.tells_all → IsTrue told.tells_reads) (config : Config) (count : ℕ) (old mid : S) (run : ℕ)
     (found : IsTrue told.tells_reads → HasConfig (directory (told.disk old).reads) config) (range : IsConfig config) (few : count ≤ 999_999) (rest : IsTrue told.tells_all → IsAtRest (told.disk old))
     (runs : RunsItems told (items_for config count) count old mid run) where
-  -- the run by the items of the list
+  -- what the run does, told by the items of the list
   runs_list : IsTrue told.tells_reads → (q : State) → HasState (directory (told.disk old).reads) q
       → Runs (IsTrue told.tells_all) ⊥ run count runs.answered (told.disk mid).reads (told.output mid) (items_of q count) End q (told.output old)
   runs_list r q state = subst (λ (items : List Item). Runs (IsTrue told.tells_all) ⊥ run count runs.answered (told.disk mid).reads (told.output mid) items End q (told.output old))
@@ -129,7 +129,7 @@ module _ {S : Type 0} (told : Ghosts S) (reads_told : IsTrue told.tells_all → 
     nolist = λ r files dir none. absurd (has_one (directory (told.disk old).reads) config files (found r) dir none);
   }
 
-  -- all is answered, and the list is looked over
+  -- all items are answered, and the list is looked over
   module _ (new : S) (status : ℕ) (sums : SumsUp told count mid new status) (is : is_status run ≡ true) where
     ended : IsTrue told.tells_reads → (q : State) → HasState (directory (told.disk old).reads) q
         → Ended (IsTrue told.tells_all) run count runs.answered (told.disk mid).reads (told.output mid) (items_of q count) End q (told.output old)

@@ -36,7 +36,7 @@ use Rattle.ml_exercise.proofs.Statuses.{early}
 none_some : (d : Dir) → ◌≡◌ {A = Option Dir} None (Some d) → ⊥
 none_some d e = cc
 
--- over a list memory was wanting, or the disk failed
+-- over a list memory ran out, or the disk failed
 over_list : (why : Why) (dir : Option Dir) (q : State) → HasState dir q → IsUnfound why dir → (why ≡ whys.Memory) ⊎ (why ≡ whys.Disk)
 over_list whys.Memory dir q state is = inl refl
 over_list whys.Disk dir q state is = inr refl
@@ -60,7 +60,7 @@ over_list whys.Input dir q state is = absurd is
 over_list whys.There dir q state is = absurd is
 over_list whys.Absent dir q state is = absurd is
 
--- what the statuses are of the reasons that there are
+-- the statuses of the reasons that there are
 record KnownStatus (status : ℕ) (why : Why) : Type 0 where
   reading : is_reading_status status ≡ true
   items : is_items_status status ≡ true
@@ -101,7 +101,7 @@ refusal whys.Input dir is = absurd is
 refusal whys.There dir is = absurd is
 refusal whys.Absent dir is = absurd is
 
--- without a configuration none is damaged
+-- if there is no configuration, none is damaged
 without : (why : Why) (dir : Option Dir) (files : Dir) → dir ≡ Some files → files config_name ≡ None → IsUnfound why dir → (why ≡ whys.NoList) ⊎ ((why ≡ whys.Memory) ⊎ (why ≡ whys.Disk))
 without whys.NoList dir files is none r = inl refl
 without whys.Memory dir files is none r = inr (inl refl)
@@ -147,7 +147,7 @@ module _ {S : Type 0} (told : Ghosts S) (reads_told : IsTrue told.tells_all → 
       → Runs (IsTrue told.tells_all) ⊥ status count 0 (told.disk new).reads (told.output new) (items_of q count) End q (told.output old)
   runs r q state = early_runs told old mid new q (items_of q count) End ⊥ count 0 status why r state miss.same miss.output refl (over_list why (directory (told.disk old).reads) q state (miss.reason r)) says
 
-  -- nothing is done of a directory, whatever it holds
+  -- nothing is done on a directory, whatever it holds
   nothing_opens : IsTrue told.tells_all → (files : Dir) → directory (told.disk old).reads ≡ Some files → Opens told old new (IsAfterFirst files [] (told.output old))
   nothing_opens t files here = ⊎_elim
       (λ early. inl (unopened_said told old mid new status why early says t))

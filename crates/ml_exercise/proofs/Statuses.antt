@@ -32,7 +32,7 @@ kind_status (k ∷ ks) n all = let parts = both (is_kind k) (list_all is_kind ks
 reply_status : (code : ℕ) → is_status (status_of code) ≡ true
 reply_status code = kind_status kinds (code - 1) refl
 
--- the last item's status is one of a reply
+-- the last item's status is that of a reply
 pub last_status : (status : ℕ) (q : State) (items : List Item) → is_status status ≡ true → is_status (last_from status q items) ≡ true
 last_status status q [] is = is
 last_status status q (item ∷ more) is = last_status (status_of (step q item).1.code) (step q item).0 more (reply_status (step q item).1.code)
@@ -40,7 +40,7 @@ last_status status q (item ∷ more) is = last_status (status_of (step q item).1
 fails : (status : ℕ) → is_status status ≡ true → (status ≡ 71) ⊎ ((status ≡ 73) ⊎ ((status ≡ 74) ⊎ (status ≡ 111))) → ⊥
 fails status is f = grind (arith, nat_tests)
 
--- a run whose status is one of a reply has answered all
+-- a run whose status is that of a reply has answered all items
 pub all_ended : (told input : Type 0) (status limit answered : ℕ) (held : Contents) (output : Text) (all : List Item) (q : State) (before : Text) → length all ≡ limit → is_status status ≡ true
     → Runs told input status limit answered held output all End q before → Ended told status limit answered held output all End q before
 all_ended told input status limit answered held output all q before few is r =
@@ -71,7 +71,7 @@ items_known status known one two three = grind (arith, nat_tests)
 pub early_known : (status : ℕ) → is_items_status status ≡ true → is_status status ≡ false → is_reading_status status ≡ true
 early_known status known is = grind (arith, nat_tests)
 
--- what never comes of a source that never fails, and of a stream that ends where its items do
+-- what never comes from a source that never fails, and from a stream that ends where its items do
 pub none_rose : Rose 0 0 → ⊥
 none_rose rose = omega (arith, rose)
 

@@ -1,4 +1,4 @@
--- What is told behind all answers of an exercise.
+-- What is said after all answers of an exercise.
 use Rattle.std.proofs.Common.{◌≡◌, inl, inr, ⊎_elim, ℕ, Bool, true, false, IsTrue, ◌+◌, ◌++◌, length, ◌≤◌, take, min, Option, None, ap, ap₂, sym, refl, subst, ◌∙◌, ◌||◌, ◌&&◌, arith}
 use Rattle.std.specs.Prelude.{IsSome}
 use Rattle.std.proofs.Math.Seq.{take-append-add}
@@ -46,7 +46,7 @@ front_longer line more before out front =
     let few : n ≤ length line = omega arith in
     (n, front.1 ∙ ap (λ (o : Text). before ++ o) (sym (take-append-le n line more few ∙ take_min front.0 line)))
 
--- some first bytes behind a text are some of both
+-- some first bytes after a text are, with the text, some first bytes of both
 front_behind : (line more before out : Text) → TellsAtMost more (before ++ line) out → TellsAtMost (line ++ more) before out
 front_behind line more before out front =
     (length line + front.0, front.1 ∙ append_assoc before line (take front.0 more) ∙ ap (λ (o : Text). before ++ o) (sym (take-append-add line more front.0)))
@@ -54,7 +54,7 @@ front_behind line more before out front =
 nothing_out : (lines before out : Text) → out ≡ before → TellsAtMost lines before out
 nothing_out lines before out is = (0, is ∙ sym (append-nil before))
 
--- what is out of a check, behind the line of how many items there were
+-- what is out of a check, after the line of how many items there were
 front_is : (dir : Option Dir) (q : State) (count : ℕ) (before now out : Text) → HasState dir q → now ≡ before ++ exercised_line count → IsFront check_meaning dir now out → IsSummingUp count q.plain before out
 front_is dir q count before now out state is front = ⊎_elim
     (λ said. inr (subst (λ (b : Text). SaysAtMost b out) is said))
@@ -62,7 +62,7 @@ front_is dir q count before now out state is front = ⊎_elim
     (subst (λ (t : Text). TellsAtMost t (before ++ exercised_line count) out) (text_is dir q given.0 state given.1) (subst (λ (b : Text). TellsAtMost given.0 b out) is given.2))))
     front
 
--- what a check gives behind that line
+-- what a check gives after that line
 tells_of : (told : Type 0) (status : ℕ) (dir : Option Dir) (q : State) (count : ℕ) (before now output : Text) → HasState dir q → (told → now ≡ before ++ exercised_line count)
     → GivesText told status (whole_line (sizes_of q.plain)) now output → Reads told status check_meaning dir now output → TellsOf told status count q.plain before output
 tells_of told status dir q count before now output state is gives (inl whole) = inl (
@@ -77,7 +77,7 @@ tells_of told status dir q count before now output state is gives (inr (inl refu
 ))
 tells_of told status dir q count before now output state is gives (inr (inr cut)) = inr (inr (cut.status_is, λ t. front_is dir q count before now output state (is t) (cut.put t)))
 
--- the same behind what was put out before
+-- the same over an output that was the same before
 pub tells_before : (told : Type 0) (status count : ℕ) (list : Plain) (old new output : Text) → (told → old ≡ new) → TellsOf told status count list old output → TellsOf told status count list new output
 tells_before told status count list old new output same (inl whole) = inl (whole.0, λ t. whole.1 t ∙ ap (λ (b : Text). b ++ two_lines count list) (same t))
 tells_before told status count list old new output same (inr (inl line)) =

@@ -28,42 +28,42 @@ use Rattle.ml_exercise.specs.Summing.{IsSummingUp, IsToldOf, NamesWhole, TellsOf
 abbrev pub items_of : State → ℕ → List Item
 items_of q count = generated q.plain.config.local q.plain.config.host count
 
--- the list behind them
+-- the list after the items
 abbrev pub behind : State → ℕ → State
 behind q count = fold q (items_of q count)
 
--- what is out behind all answers, and what was before
+-- what is out after all answers, with what was out before
 abbrev pub answered_all : State → ℕ → Text → Text
 answered_all q count before = before ++ text q (items_of q count)
 
--- All items are done and answered, and some first bytes of the two lines are out; or the first of them, and some first bytes of one stop line in
--- place of the second.
+-- All items are done and answered, and some first bytes of the two lines are out; or the first line is out, and some first bytes of one stop
+-- line instead of the second.
 pub record IsTelling (q : State) (count : ℕ) (before : Text) (left : Contents) (out : Text) : Type 0 where
   pub state : HasState (directory left) (behind q count)
   pub put : IsSummingUp count (behind q count).plain (answered_all q count before) out
 
--- At each moment: as in a run of the items, or behind them all.
+-- At every moment: as in a run of the items, or after all of them.
 abbrev pub IsExercising : State → ℕ → Text → Contents → Text → Type 0
 IsExercising q count before left out = IsAfterSome q (items_of q count) before left out ⊎ IsTelling q count before left out
 
--- All items are done and answered. Behind the answers are the two lines, with status 0; or the first of them, and one stop line in place of
--- the second; or the output failed.
+-- All items are done and answered. After the answers come the two lines, with status 0; or the first of them, and one stop line instead of the
+-- second; or the output failed.
 pub record IsDone (told : Type 0) (status answered : ℕ) (held : Contents) (output : Text) (q : State) (count : ℕ) (before : Text) : Type 0 where
   pub all : answered ≡ count
   pub state : HasState (directory held) (behind q count)
   pub put : TellsOf told status count (behind q count).plain (answered_all q count before) output
 
--- the run of the items ended early, behind so many answers
+-- the run of the items ended early, after this many answers
 pub record EndsEarly (told : Type 0) (status answered : ℕ) (held : Contents) (output : Text) (q : State) (count : ℕ) (before : Text) : Type 0 where
   pub end : Stopped told ⊥ status count answered held output (items_of q count) End q before ⊎ CutOff told status count answered held output (items_of q count) q before
   pub hindered : IsHindered status
 
--- how an exercise of a list ends that answered so many items
+-- how an exercise of a list ends after it answered this many items
 abbrev pub Ends : Type 0 → ℕ → ℕ → Contents → Text → State → ℕ → Text → Type 0
 Ends told status answered held output q count before = IsDone told status answered held output q count before ⊎ EndsEarly told status answered held output q count before
 
--- The item of an exercise of a list of this configuration that is behind so many: a stop line begins with its number, and it may read this file
--- of a directory, by the configuration that is there and the numbers of what it asks.
+-- The item that comes after this many in an exercise of a list of this configuration: a stop line begins with its number, and it may read this
+-- file of a directory, by the configuration that is there and the numbers of what it asks.
 pub record IsOfItem (dir : Option Dir) (count answered : ℕ) (files : Dir) (who : Option ℕ) (name : Name) : Type 0 where
   pub config : Config
   pub has : HasConfig dir config
@@ -80,24 +80,24 @@ pub record IsOfItem (dir : Option Dir) (count answered : ℕ) (files : Dir) (who
 abbrev pub IsExercised : Dir → ℕ → List Item → StreamEnd → Type 0
 IsExercised files count all ending = (config : Config) × HasConfig (Some files) config × (all ≡ generated config.local config.host count) × (ending ≡ End)
 
--- so many items are done and answered, and what is told behind them may be out
+-- this many items are done and answered, and what is said after them may be out
 pub record IsToldAfter (files : Dir) (done : List Done) (count : ℕ) (before : Text) (left : Contents) (out : Text) : Type 0 where
   pub all : count ≡ length done
   pub dir : directory left ≡ Some (after files done)
   pub put : IsToldOf (Some (after files done)) count (before ++ answers_of done) out
 
--- At each moment, whatever the directory holds: as in a run of the items, or behind them all.
+-- At every moment, whatever the directory holds: as in a run of the items, or after all of them.
 abbrev pub IsExercisingAt : Dir → List Done → List Done → ℕ → Text → Contents → Text → Type 0
 IsExercisingAt files first group count before left out = IsAfterFirst files (first ++ group) before left out ⊎ IsToldAfter files first count before left out
 
--- What an exercise does of a directory, whatever it holds: there is a row of its items as of a run, and at each moment (M) it is so.
+-- What an exercise does on a directory, whatever it holds: there is a row of its items as in a run, and this holds at every moment (M).
 pub record ExercisesItems {S : Type 0} (told : Ghosts S) (M : (Contents → Text → Type 0) → Type 0) (count status answered : ℕ) (old new : S) (files : Dir) : Type 0 where
   pub first : List Done
   pub group : List Done
   pub row : IsRow told (IsExercised files count) count status answered new files first group
   pub moments : M (IsExercisingAt files first group count (told.output old))
 
--- What an exercise of so many items does that answers these first ones of them, but for the moments of its opening.
+-- What an exercise of so many items does, and how many of them it answers, except for the moments of its opening.
 pub record ExercisesList {S : Type 0} (told : Ghosts S) (count : ℕ) (old new : S) (status : ℕ) : Type 0 where
   pub answered : ℕ
   pub known : IsTrue (is_reading_status status)
@@ -116,8 +116,8 @@ pub record ExercisesList {S : Type 0} (told : Ghosts S) (count : ℕ) (old new :
       ⊎ NamesWhole (IsTrue told.tells_all) (directory (told.disk new).reads) (told.output new)
   pub nolist : IsTrue told.tells_reads → (files : Dir) → directory (told.disk old).reads ≡ Some files → files config_name ≡ None → MissesList (IsTrue told.tells_all) status (told.output old) (told.output new)
 
--- What an exercise of so many items does. At each moment it is as `IsExercising` says, where something is pending at the start from the
--- first sync that succeeds.
+-- What an exercise of so many items does. Every moment is as `IsExercising` says; if something is pending at the start, from the first sync that
+-- succeeds on.
 pub record Exercises {S : Type 0} (told : Ghosts S) (count : ℕ) (old new : S) (status : ℕ) : Type 0 where
   pub does : ExercisesList told count old new status
   pub moments : IsTrue told.tells_all → (q : State) → HasState (directory (told.disk old).reads) q → Opens told old new (IsExercising q count (told.output old))

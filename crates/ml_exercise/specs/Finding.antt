@@ -1,4 +1,4 @@
--- What is found of a list's configuration.
+-- Finding a list's configuration, and why none is found.
 use Rattle.std.specs.Prelude.{◌≡◌, ◌⊎◌, ◌≤◌, IsTrue, IsSome, [], ◌∷◌, Option, Some, None}
 use Rattle.ml_base.specs.Bytes.{Text, nul}
 use Rattle.ml_base.specs.Dir.{Dir}
@@ -27,7 +27,7 @@ pub record HasConfig (dir : Option Dir) (config : Config) : Type 0 where
   pub is : dir ≡ Some files
   pub config_is : IsOnlyConfig (files config_name) config
 
--- why no configuration is read: its file is absent or damaged, memory was wanting, or the disk failed
+-- why no configuration is read: its file is absent or damaged, memory ran out, or the disk failed
 abbrev pub IsUnread : Why → Option Text → Type 0
 IsUnread whys.NoList file = file ≡ None
 IsUnread (whys.At name) file = (name ≡ config_name) × IsDamagedConfig file

@@ -25,7 +25,7 @@ items_for config count = generated config.local config.host count
 abbrev pub is_items_status : ℕ → Bool
 is_items_status status = status == 0 || status == 71 || status == 73 || status == 75 || status == 100 || status == 111
 
--- What a run does of whose stream these are the items: that of `run`, of a source that never fails.
+-- What a run of these items does: what `run` does with a source that never fails.
 pub record RunsItems {S : Type 0} (told : Ghosts S) (items : List Item) (count : ℕ) (old new : S) (status : ℕ) : Type 0 where
   pub answered : ℕ
   pub known : IsTrue (is_items_status status)

@@ -1,4 +1,4 @@
--- What is told behind the answers of an exercise: how many items there were, and what a check of the list tells.
+-- What is said after the answers of an exercise: how many items there were, and what a check of the list says.
 use Rattle.std.specs.Prelude.{◌≡◌, ◌⊎◌, ℕ, IsTrue, IsSome, [], ◌∷◌, ◌++◌, Option, None, codes}
 use Rattle.std.specs.Fmt.{decimal}
 use Rattle.ml_base.specs.Bytes.{Text, line_feed, nul}
@@ -23,16 +23,16 @@ use Rattle.ml_run.specs.Leaving.{HasState}
 abbrev pub exercised_line : ℕ → Text
 exercised_line count = codes "exercised " ++ decimal count ++ line_feed ∷ []
 
--- the two lines behind the answers: that one, and that of a check of this list
+-- the two lines after the answers: that one, and that of a check of this list
 abbrev pub two_lines : ℕ → Plain → Text
 two_lines count list = exercised_line count ++ whole_line (sizes_of list)
 
--- Some first bytes of the two lines are out; or the first of them, and some first bytes of one stop line in place of the second.
+-- Some first bytes of the two lines are out; or the first line, and some first bytes of one stop line instead of the second.
 abbrev pub IsSummingUp : ℕ → Plain → Text → Text → Type 0
 IsSummingUp count list before out = TellsAtMost (two_lines count list) before out ⊎ SaysAtMost (before ++ exercised_line count) out
 
--- What is told of a list: the two lines; or the first of them, and one stop line in place of the second, where memory was wanting or the disk
--- failed; or the output failed.
+-- What is said of a list: the two lines; or the first of them, and one stop line instead of the second, if memory ran out or the disk failed; or
+-- the output failed.
 abbrev pub TellsOf : Type 0 → ℕ → ℕ → Plain → Text → Text → Type 0
 TellsOf told status count list before output =
     ((status ≡ 0) × (told → output ≡ before ++ two_lines count list))
@@ -52,14 +52,14 @@ IsToldOf dir count before out = TellsAtMost (exercised_line count) before out �
 abbrev pub IsLookingAt : Option Dir → ℕ → Text → Contents → Text → Type 0
 IsLookingAt dir count before left out = (directory left ≡ dir) × IsToldOf dir count before out
 
--- a stop line of status 75 is one that a look at the whole list gives, and the output ends in it
+-- a stop line of status 75 is one that a look at the whole list gives, and the output ends with it
 pub record NamesWhole (told : Type 0) (dir : Option Dir) (output : Text) : Type 0 where
   pub why : Why
   pub before : Text
   pub put : told → output ≡ before ++ stop_text None 75 why
   pub refusal : IsRefusal why check_meaning dir
 
--- How many items there were was told, and the list looked over; its directory stays.
+-- The number of items was said, and the list looked over; its directory stays.
 pub record SumsUp {S : Type 0} (told : Ghosts S) (count : ℕ) (old new : S) (status : ℕ) : Type 0 where
   pub known : IsTrue (is_reading_status status)
   pub same : IsTrue told.tells_reads → directory (told.disk new).reads ≡ directory (told.disk old).reads

@@ -1,4 +1,4 @@
-// An exercise of a list.
+// Exercising a list.
 ghost use Rattle.std.specs.Prelude.{◌≡◌, ◌≤◌, IsTrue};
 ghost use Rattle.ml_config.specs.Configuration.{IsConfig};
 ghost use Rattle.ml_site.specs.Disk.{IsAtRest};
@@ -17,9 +17,9 @@ use std::alloc::Global;
 
 /// Runs the items 1 to `count` of an exercise on the list that lies on a site, and looks the list over. `count` is at most 999,999.
 ///
-/// The answers of all items are given, then the line `exercised` with the count, and the line of a list that is whole: the status is 0.
-/// Else one stop line tells why not all is given, in place of what is missing: 71 (out of memory), 75 (there is no list, or a file is
-/// damaged) or 111 (the disk failed). Where the list can't be looked over it stands in place of the last line. It is 73 where the output failed.
+/// The answers of all items are given, then the line `exercised` with the count, and the line of a list that is whole: the status is 0. If not
+/// all is given, one stop line says why, instead of what is missing: 71 (out of memory), 75 (there is no list, or a file is damaged) or 111 (the
+/// disk failed). If the list can't be looked over, it takes the place of the last line. The status is 73 if the output failed.
 pub fn exercise<S: Site>(alloc: Global, count: u64, site: S) -> (u8, S)
     requires { count ≤ 999_999 }
     ensures { Exercises ⟦<S as Site>⟧ count site result.1 result.0 }
@@ -48,7 +48,7 @@ fn exercise_list<S: Site>(alloc: Global, config: &Config, count: u64, site: S) -
     }
 }
 
-// Whether a status is one of a reply: all items were answered.
+// Whether a status is that of a reply: then all items were answered.
 fn is_reply_status(status: u8) -> bool
     ensures { result ≡ is_status status }
 {

@@ -1,4 +1,4 @@
-// The configuration of the list that lies on a site.
+// Finding the configuration of the list that lies on a site.
 ghost use Rattle.std.specs.Prelude.{◌≡◌, ◌≤◌, IsTrue, IsSome, IfOk, IfErr};
 ghost use Rattle.ml_base.specs.Faults.{Rose};
 ghost use Rattle.ml_base.specs.ReadFiles.{AreKept};
@@ -19,9 +19,9 @@ use ml_journal::Store;
 use ml_site::Site;
 use std::alloc::Global;
 
-/// The configuration of the list that lies on a site, or why it isn't found: there is none, its file or the log is damaged, memory is
-/// wanting or the disk failed. It opens what lies there, which ends what an earlier run began, changes nothing else, and hands the site
-/// back with a log of one closed gate.
+/// The configuration of the list that lies on a site, or why it isn't found: there is none, its file or the log is damaged, memory ran out or
+/// the disk failed. It opens what lies there, which ends what an earlier run began, changes nothing else, and hands the site back with a log of
+/// one closed gate.
 pub(crate) fn find<S: Site>(alloc: Global, site: S) -> (Result<Config, Why>, S)
     ensures found { IfOk result.0 (λ config. Finds ⟦<S as Site>⟧ site result.1 config) }
     ensures missed { IfErr result.0 (λ why. Misses ⟦<S as Site>⟧ site result.1 why) }
@@ -32,7 +32,7 @@ pub(crate) fn find<S: Site>(alloc: Global, site: S) -> (Result<Config, Why>, S)
     }
 }
 
-// The same, over a store that was opened. No call on the disk is made but the read.
+// The same, over a store that was opened. The read is its only call on the disk.
 fn look<S: Site>(alloc: Global, store: Store<S>) -> (Result<Config, Why>, S)
     requires { IsTrue S.tells_reads → IsSome (directory (S.disk (site_of store)).reads) }
     ensures range { IfOk result.0 IsConfig }

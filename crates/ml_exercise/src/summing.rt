@@ -1,4 +1,4 @@
-// What is told behind the answers of an exercise.
+// Saying how many items an exercise had, and what a check of the list says.
 ghost use Rattle.std.specs.Prelude.{◌≡◌, ◌≤◌, ◌++◌, [], ◌∷◌, take};
 ghost use Rattle.ml_ending.specs.Endings.{Tells};
 ghost use Rattle.ml_exercise.specs.Summing.{exercised_line, SumsUp};
@@ -9,7 +9,7 @@ use ml_reading::read_list;
 use ml_site::Site;
 use std::alloc::Global;
 
-/// Gives the line `exercised` with the count, and behind it what a check of the list on a site tells. It changes nothing.
+/// Gives the line `exercised` with the count, and after it what a check of the list on a site says. It changes nothing.
 pub(crate) fn sum_up<S: Site>(alloc: Global, count: u64, site: S) -> (u8, S)
     ensures { SumsUp ⟦<S as Site>⟧ count site result.1 result.0 }
 {
@@ -21,7 +21,7 @@ pub(crate) fn sum_up<S: Site>(alloc: Global, count: u64, site: S) -> (u8, S)
     }
 }
 
-// Gives the line `exercised` with the count, and answers the status 0, or 73 where the output failed. It takes no memory.
+// Gives the line `exercised` with the count, and answers the status 0, or 73 if the output failed. It takes no memory.
 fn tell_count<S: Site>(count: u64, site: S) -> (u8, S)
     ensures { Tells ⟦<S as Site>⟧ site result.1 result.0 (exercised_line count) }
 {

@@ -1,4 +1,4 @@
--- Bytes that go on with what was read.
+-- Reading a piece of the input after what was read before.
 use Rattle.std.proofs.Common.{[], arith, refl, ◌≡◌, ℕ, ◌+◌, ◌≤◌, ◌<◌, ◌++◌, length, take, Option, Some, None, IfSome, ap, sym, subst, ◌∙◌, append_assoc}
 use Rattle.std.proofs.lemmas.List.{length-take-le, take-append-le, take-take}
 use Rattle.std.proofs.Math.Seq.{take-append-add, take-append_seam}
@@ -7,7 +7,7 @@ use Rattle.ml_site.specs.Source.{Takes}
 use Rattle.ml_site.specs.declared.source.Source.{Ghosts as SourceGhosts}
 use Rattle.ml_input.specs.Input.{Continues, ReadsAtMost, TakesFront}
 
--- bytes to which zeros were added, and some first bytes of a piece written over these
+-- zeros were added to bytes, and the first bytes of a piece written over the zeros: this adds those bytes of the piece
 written : (old zeros piece behind rest : Text) (room count : ℕ) → length old + count ≤ room → count ≤ length piece
     → take (length old + count) (take room ((take (length old) (old ++ zeros) ++ (piece ++ behind)) ++ rest)) ≡ old ++ take count piece
 written old zeros piece behind rest room count fits low =
@@ -18,7 +18,7 @@ written old zeros piece behind rest room count fits low =
     ∙ ap (λ t. old ++ take count t) (append_assoc piece behind rest)
     ∙ ap (λ t. old ++ t) (take-append-le count piece (behind ++ rest) low)
 
--- one more read
+-- one more read adds the piece that it took
 pub continues : (before after : Option Text) (old new grown zeros piece behind rest : Text) (len room count : ℕ) → len ≡ length old → len + count ≤ room → count ≤ length piece → 0 < length piece
     → grown ≡ old ++ zeros → new ≡ take (len + count) (take room ((take len grown ++ (piece ++ behind)) ++ rest))
     → IfSome before (λ left. Takes left after piece count) → IfSome before (λ left. Continues left after old new count)
@@ -35,7 +35,7 @@ continues (Some left) after old new grown zeros piece behind rest len room count
   end = λ none. t.3 none some;
 }
 
--- where nothing is read
+-- nothing was read of an input that is left as it is
 pub nothing_read : {I : Type 0} (source : SourceGhosts I) (limit : ℕ) (input : I) → ReadsAtMost source limit input input
 nothing_read source limit input = of (source.left input) refl
   where

@@ -13,9 +13,9 @@ use ml_reading::{Question, read_list};
 use ml_site::{Clock, Site, Source};
 use std::alloc::Global;
 
-/// A question that is made of words, of the whole input, and of the clock's moment where it wants one.
+/// A question that is made of words, of the whole input, and of the clock's moment if it wants one.
 ///
-/// `ask` does all that a command does whose question is of this kind: clock and input are read first, and only then the list.
+/// `ask` does all that a command with such a question does: it reads the clock and the input first, and only then the list.
 pub trait FromInput: Question + Drop {
     /// What the words of its command say.
     type Words: Drop;
@@ -33,7 +33,7 @@ pub trait FromInput: Question + Drop {
     /// Which question it is by the words, a moment and an input, or at which place the input is bad.
     ghost made: { Self.Words → ℕ → Text → Result Self ℕ };
 
-    /// The question of these words, of a moment, in seconds since 1970, and of the whole input. The moment is 0 where no clock is read.
+    /// The question of these words, of a moment, in seconds since 1970, and of the whole input. The moment is 0 if no clock is read.
     fn from_input(
         alloc: Global,
         words: Self::Words,
@@ -45,11 +45,10 @@ pub trait FromInput: Question + Drop {
         ensures value { IsMade (made words moment input) result };
 }
 
-/// Asks the question of these words: the clock is read where it is wanted, then the input, and then the list.
+/// Asks the question of these words: reads the clock if it is wanted, then the input, and then the list.
 ///
-/// A stop line tells why nothing is asked: 69 where the clock can't be read, 74 where the input can't, 65 `long` where it has more
-/// bytes than it may have, 65 `bad` with a place where it isn't as it must be, and 71. No call on the disk is made then. Else it ends as
-/// `read_list` does.
+/// If nothing is asked, a stop line says why: 69 if the clock can't be read, 74 if the input can't, 65 `long` if it has more bytes than it may
+/// have, 65 `bad` with a place if it isn't as it must be, and 71. Then no call on the disk is made. Otherwise it ends as `read_list` does.
 pub fn ask<Q: FromInput, I: Source, S: Site, K: Clock>(
     alloc: Global,
     words: Q::Words,

@@ -1,4 +1,4 @@
-// Why an input makes no question.
+// The error of an input that makes no question.
 use std::alloc::AllocError;
 use thiserror::Error;
 

@@ -1,4 +1,4 @@
-// The whole input.
+// Reading the whole input.
 ghost use Rattle.std.specs.Prelude.{◌≡◌, ◌≤◌, ◌<◌, ◌^◌, ◌+◌, IfOk, IfErr, IfSome, OnErr, length};
 ghost use Rattle.ml_input.specs.Input.{Continues, HasNoInput, IsInput, IsPieceFault};
 
@@ -10,8 +10,7 @@ use std::alloc::Global;
 // The most bytes that are read at once.
 const PIECE: usize = 65_536;
 
-/// The whole input, which has at most `limit` bytes, or why it isn't had: `Long`, where one byte more than that was read, `Input`
-/// or `Memory`.
+/// The whole input, which has at most `limit` bytes, or why there is none: `Long` if one byte more than that was read, `Input` or `Memory`.
 pub fn read_input<I: Source>(alloc: Global, limit: u32, input: &mut I) -> Result<Bytes, Why>
     ensures whole { IfOk result (IsInput ⟦<I as Source>⟧ limit input.old input.new) }
     ensures none { IfErr result (HasNoInput ⟦<I as Source>⟧ limit input.old input.new) }
@@ -26,7 +25,7 @@ pub fn read_input<I: Source>(alloc: Global, limit: u32, input: &mut I) -> Result
     Err(Why::Long)
 }
 
-// Reads a piece of the input behind bytes that aren't too many, and answers how many bytes it has: none at the end.
+// Reads a piece of the input, adds it to bytes that aren't too many, and answers how many bytes the piece has: none only at the end.
 fn read_piece<I: Source>(most: usize, input: &mut I, bytes: &mut Vec<u8>) -> Result<usize, Why>
     requires room { most < 2 ^ 32 }
     requires fits { length bytes.old.items ≤ most }

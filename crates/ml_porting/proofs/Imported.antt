@@ -1,4 +1,4 @@
--- The answer of an import, and the stream that it is.
+-- The answer of an import, and the items of the stream that it is.
 use Rattle.std.proofs.Common.{◌≡◌, ℕ, Bool, true, false, cond, ◌||◌, List, [], ◌∷◌, Option, Some, None, Result, Ok, Err, refl, sym, ap, ◌∙◌, subst}
 use Rattle.std.specs.Prelude.{All, Any, unwrap_or}
 use Rattle.std.specs.List.{AllByRecursion, list_any}

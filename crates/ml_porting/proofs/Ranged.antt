@@ -1,4 +1,4 @@
--- The mailbox of a range by the files is that of the list for which they stand, and none of these files is damaged.
+-- The mailbox of a range, by the files, is that of the list for which they stand, and then none of these files is damaged.
 use Rattle.std.proofs.Common.{◌≡◌, ◌≤◌, ◌+◌, ◌-◌, ◌/◌, min, max, ℕ, ◌&&◌, List, [], ◌∷◌, length, map, slice_get, Some, refl, sym, ap, ap₂, ◌∙◌, subst, arith, inl, inr}
 use Rattle.std.specs.Prelude.{nat_le}
 use Rattle.std.specs.List.{AllByRecursion, AllZip, range_with_len}

@@ -1,4 +1,4 @@
--- One post more in a mailbox, by the files.
+-- Adding one post to a mailbox, by the files.
 use Rattle.std.proofs.Common.{◌≡◌, ◌≤◌, ◌+◌, ◌/◌, min, ℕ, Bool, true, false, cond, ◌==◌, ◌&&◌, List, [], ◌∷◌, ◌++◌, map, Some, None, sym, ap, ap₂, ◌∙◌, subst, arith, inl, inr}
 use Rattle.std.specs.List.{AllByRecursion, AllZip, flat_map, range_with_len}
 use Rattle.std.proofs.lemmas.Bool.{le-leb, ltb-true}
@@ -24,7 +24,7 @@ one_entry e f is = cc
 no_entry : (e : Entry) → None ≡ Some e → ⊥
 no_entry e is = cc
 
--- an entry that is found has what each has
+-- an entry that is found has what every entry has
 found_has : (P : Entry → Type 0) (n : ℕ) (es : List Entry) (e : Entry) → AllByRecursion P es → entry_at n es ≡ Some e → P e
 found_has P n [] e all found = absurd (no_entry e found)
 found_has P n (f ∷ fs) e all found = go (f.number == n) found (λ is. found_has P n fs e all.1 is)

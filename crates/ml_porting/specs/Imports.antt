@@ -1,4 +1,4 @@
--- What a mailbox makes that is imported.
+-- What an imported mailbox gives.
 use Rattle.std.specs.Prelude.{ℕ, List, [], unwrap_or, if◌then◌else◌}
 use Rattle.std.specs.List.{list_any}
 use Rattle.ml_base.specs.Bytes.{Text}
@@ -12,11 +12,11 @@ use Rattle.ml_reading.specs.declared.question.Answer.{Answer}
 use Rattle.ml_reading.specs.declared.question.Answer.TheVariants as answers
 use Rattle.ml_stream.specs.Writing.{stream_text}
 
--- the mails of a text, none of one that is no mailbox
+-- the mails of a text, or none if it is no mailbox
 abbrev pub mails_of : Text → List Boxed
 mails_of text = unwrap_or (read text) []
 
--- the stream of the mails' deliveries, numbered from a first number on, or `Long` where a message of one is too long
+-- the stream of the mails' deliveries, numbered from a first number on, or `Long` if the message of one is too long
 abbrev pub import_answer : Config → ℕ → ℕ → List Boxed → Answer
 import_answer c first moment mails =
     if list_any is_long (acts_of c mails) then answers.Long else answers.Text (stream_text (numbered first moment (acts_of c mails)))

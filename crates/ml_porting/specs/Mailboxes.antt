@@ -24,7 +24,7 @@ mailbox posts = mbox_text (map mail_of posts)
 abbrev pub range_mailbox : ℕ → ℕ → List Post → Text
 range_mailbox a b posts = mailbox (map (λ e. e.1) (in_range a b posts))
 
--- the numbers a to b of so many posts
+-- the numbers from a to b among those of so many posts
 abbrev pub numbers_of : ℕ → ℕ → ℕ → List ℕ
 numbers_of a b count = range_with_len (max a 1) (min b count + 1 - max a 1)
 
@@ -34,7 +34,7 @@ pub record IsMailbox (dir : Dir) (numbers : List ℕ) (text : Text) : Type 0 whe
   pub each : AllZip (λ n p. IsPostByFiles dir n (Some p)) numbers posts
   pub text_is : text ≡ mailbox posts
 
--- the mailbox of the posts a to b, as the files have them, of as many as their number says
+-- the mailbox of the posts a to b, as the files have them, up to the number of posts
 pub record IsRangeMailbox (dir : Dir) (a b : ℕ) (text : Text) : Type 0 where
   pub count : ℕ
   pub counted : IsNumberFile (dir number_name) count

@@ -1,4 +1,4 @@
--- What the questions of a mailbox out and of one in mean.
+-- The meaning of the questions for a mailbox out and for a mailbox in.
 use Rattle.std.specs.Prelude.{◌≡◌, ◌&&◌, nat_le, ℕ, true, false, List, Option, Some, None, Result, Ok, Err, if◌then◌else◌}
 use Rattle.ml_base.specs.Bytes.{Text}
 use Rattle.ml_mbox.specs.Reading.{read}
@@ -21,7 +21,7 @@ mbox_meaning query = record {
   is_bad = λ config dir name. IsBadForMailbox dir query.first query.last name;
 }
 
--- the mails of a text as a stream: by the configuration alone, and no other file is read
+-- the mails of a text as a stream: it goes by the configuration alone, and no other file is read
 abbrev pub importing_meaning : ℕ → ℕ → Text → Meaning
 importing_meaning first moment text = record {
   by_files = λ config dir answer. answer ≡ import_answer config first moment (mails_of text);
@@ -32,7 +32,7 @@ importing_meaning first moment text = record {
   is_bad = λ config dir name. ⊥;
 }
 
--- the question of a mailbox, and of another text that it is bad at its front
+-- the question of a mailbox; any other text is bad at its front
 abbrev pub importing_by : ℕ → ℕ → Text → Option (List Boxed) → Result Importing ℕ
 importing_by first moment text None = Err 0
 importing_by first moment text (Some mails) = Ok (record { words = first; moment = moment; text = text })
@@ -40,6 +40,6 @@ importing_by first moment text (Some mails) = Ok (record { words = first; moment
 abbrev pub importing_of : ℕ → ℕ → Text → Result Importing ℕ
 importing_of first moment text = importing_by first moment text (read text)
 
--- a first number behind which there is room
+-- a first number that is at least 1 and leaves room after it
 abbrev pub import_first : ℕ → Option ℕ
 import_first first = if nat_le 1 first && nat_le first 999_900_000_000 then Some first else None

@@ -1,4 +1,4 @@
--- One post more in a mailbox.
+-- Adding one post to a mailbox.
 use Rattle.std.specs.Prelude.{◌≡◌, ◌⊎◌, ◌/◌, ℕ, List, ◌++◌, length, min, Some, None}
 use Rattle.ml_base.specs.Bytes.{Text}
 use Rattle.ml_base.specs.Dir.{Dir}

@@ -7,7 +7,7 @@ use Rattle.ml_base.specs.Ranges.{is_post_number}
 use Rattle.ml_porting.specs.Questions.{import_first}
 use Rattle.ml_porting.specs.declared.query.MboxQuery.{MboxQuery}
 
--- the second step, where the first gave a value
+-- the second step, if the first gave a value
 infixl 10 ◌>>=◌
 abbrev pub ◌>>=◌ : {A B : Type 0} → Option A → (A → Option B) → Option B
 o >>= f = option_and_then f o

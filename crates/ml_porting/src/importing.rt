@@ -13,10 +13,10 @@ use ml_reading::{Answer, Question};
 use std::alloc::{AllocError, Global};
 use std::marker::Model;
 
-/// The most bytes that a mailbox has that is imported.
+/// The most bytes that a mailbox may have that is imported.
 pub const MOST_MAILBOX: u32 = 268_435_456;
 
-/// The highest number that the first item of an import may have: behind it there is room for the mails of any mailbox.
+/// The highest number that the first item of an import may have: it leaves room after it for the mails of any mailbox.
 pub const LAST_FIRST: u64 = 999_900_000_000;
 
 /// What words say of an import: the number of its first item, from 1 to `LAST_FIRST`.
@@ -37,7 +37,7 @@ impl Model for ImportWords {
 }
 
 impl ImportWords {
-    /// An import whose items are numbered from `first` on, or None where that is 0 or above `LAST_FIRST`.
+    /// An import whose items are numbered from `first` on, or None if `first` is 0 or above `LAST_FIRST`.
     pub fn new(first: u64) -> Option<ImportWords>
         ensures { result ≡ import_first first }
     {
@@ -125,7 +125,7 @@ impl FromInput for Importing {
     }
 }
 
-// Whether a text is a mailbox. It takes no memory, and looks at the front of the text alone.
+// Whether a text is a mailbox. It takes no memory, and looks only at the front of the text.
 fn is_mailbox(text: &[u8]) -> bool
     ensures { result ≡ is_some (read text.now) }
 {

@@ -1,4 +1,4 @@
-// What holds of every stream that an import gives.
+// Laws of every stream that an import gives.
 ghost use Rattle.std.specs.Prelude.{◌≡◌, ◌≤◌, ℕ, List, Some, Ok, length};
 ghost use Rattle.ml_base.specs.Bytes.{Text};
 ghost use Rattle.ml_base.specs.Dir.{Dir};
@@ -17,8 +17,8 @@ ghost use Rattle.ml_porting.specs.declared.importing.Importing.{Importing as The
 
 use ml_import::law_import;
 
-/// The input that a question of an import was made of is a mailbox, and a text that answers it, of whatever files, is by the
-/// grammar of streams exactly the deliveries of its mails, in order, numbered from the first number on, and then ends.
+/// The input that a question of an import was made of is a mailbox. A text that answers the question, whatever the files hold, is by the grammar
+/// of streams exactly the deliveries of the mailbox's mails, in order, numbered from the first number on, and then ends.
 pub fn law_importing()
     ensures { (first moment : ℕ) (text stream : Text) (question : TheImporting) (c : Config) (dir : Dir) → IsFirst first → IsMoment moment → length text ≤ 268_435_456 → IsConfig c
         → importing_of first moment text ≡ Ok question → (importing_meaning question.words question.moment question.text).by_files c dir (answers.Text stream)

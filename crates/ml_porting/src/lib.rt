@@ -1,4 +1,4 @@
-//! The archive out as a mailbox, and a mailbox in as a stream of posts, as questions of a list.
+//! Questions of a list: its archive as a mailbox, and a mailbox as a stream of posts.
 #![tactic(auto)]
 
 mod importing;

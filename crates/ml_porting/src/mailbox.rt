@@ -20,7 +20,7 @@ struct Index {
     entries: Entries,
 }
 
-// The index of a group, which is read unless it is the one that was read last.
+// The index of a group. It is read unless it is the one that was read last.
 fn read_index<F: Files>(
     alloc: Global,
     files: &mut F,
@@ -76,8 +76,8 @@ fn push_post<F: Files>(
     Ok(())
 }
 
-// The mailbox of the posts from a first to a last one that are there, in order. It reads the number of posts, the indexes of their
-// groups, each once, and their texts, one of which it holds at a time.
+// The mailbox of the posts from a first to a last one that are there, in order. It reads the number of posts, the index of every group of theirs
+// once, and their texts, holding one at a time.
 pub(crate) fn mailbox<F: Files>(
     alloc: Global,
     files: &mut F,

@@ -7,7 +7,7 @@ use ml_config::Config;
 use ml_reading::{Answer, Question};
 use std::alloc::Global;
 
-/// The posts n of an archive with `first <= n <= last`, in order, as a mailbox in the form mboxrd. Where there are none it is empty.
+/// The posts n of an archive with `first <= n <= last`, in order, as a mailbox in the form mboxrd. If there are none, it is empty.
 #[derive(Clone, Copy, Debug, PartialEq, Eq)]
 pub struct MboxQuery {
     pub first: u64,

@@ -5,8 +5,8 @@ ghost use Rattle.ml_porting.specs.Words as spec;
 use crate::{ImportWords, MboxQuery};
 use ml_base::{is_post_number, read_number};
 
-/// The mailbox that two words name: the numbers of its first post and of its last, each from 1 to 99,999,999 and spelled as
-/// `read_number` takes numbers. None where one of them is no such word.
+/// The mailbox that two words name: the numbers of its first post and of its last, each from 1 to 99,999,999 and spelled as `read_number` takes
+/// numbers. None if one of them is no such word.
 pub fn mbox_query(a: &[u8], b: &[u8]) -> Option<MboxQuery>
     ensures { result ≡ spec.mbox_query a.now b.now }
 {
@@ -15,15 +15,15 @@ pub fn mbox_query(a: &[u8], b: &[u8]) -> Option<MboxQuery>
     Some(MboxQuery { first, last })
 }
 
-/// What the word of an import says: the number of its first item, from 1 to `LAST_FIRST` and spelled as `read_number` takes
-/// numbers. None where it is no such word.
+/// What the word of an import says: the number of its first item, from 1 to `LAST_FIRST` and spelled as `read_number` takes numbers. None if it
+/// is no such word.
 pub fn import_words(first: &[u8]) -> Option<ImportWords>
     ensures { result ≡ spec.import_words first.now }
 {
     ImportWords::new(read_number(first)?)
 }
 
-// The number that a post may have.
+// The post number that a text spells.
 fn read_post_number(text: &[u8]) -> Option<u64>
     ensures { result ≡ spec.post_number_in text.now }
 {

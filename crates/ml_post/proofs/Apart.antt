@@ -1,4 +1,4 @@
--- The files that each step of a post looks at, of those that a post does.
+-- The files that each step of a post looks at, among those that the post looks at.
 use Rattle.std.proofs.Common.{◌≡◌, ◌⊎◌, inl, inr, ◌+◌, ◌/◌, Bool, true, false, ◌&&◌, ◌||◌, Some, cond, refl, sym, ap, ◌∙◌, subst, arith}
 use Rattle.std.specs.Prelude.{not}
 use Rattle.std.proofs.lemmas.Bool.{and_parts, false≢true, or_cases, or_left}
@@ -48,7 +48,7 @@ module _ (who : Text) (name : Name) where
       four (inl a) = three (or_cases (own sets.List || own sets.Digest) (own sets.Allow) a)
       four (inr b) = moderators b
 
-  -- what tells a verdict: a bucket of the deny list, those of the users, or the number of posts
+  -- what tells a verdict: a bucket of the deny list, those of the users' sets, or the number of posts
   pub judged_cases : {A : Type 0} (c : Config) → (own sets.Deny ≡ true → A) → (is_of_user who name ≡ true → A) → (same_name name number_name ≡ true → A) → is_judged_by c who name ≡ true → A
   judged_cases {A = A} c deny user number e = go (or_cases ((c.flags.k && own sets.Deny) || (c.flags.u && is_of_user who name)) (not c.flags.m && same_name name number_name) e)
     where
@@ -60,14 +60,14 @@ module _ (who : Text) (name : Name) where
       go (inl a) = sets_of (or_cases (c.flags.k && own sets.Deny) (c.flags.u && is_of_user who name) a)
       go (inr b) = number (and_parts (not c.flags.m) (same_name name number_name) b).1
 
--- of the archive it is the number of posts
+-- the only one of the archive is the number of posts
 judged_next : (c : Config) (who key : Text) (old : Dir) (name : Name) → is_judged_by c who name ≡ true → is_of_archive name ≡ true → IsOfNext old key name
 judged_next c who key old name e of =
     judged_cases who name c (λ a. absurd (bucket_other name sets.Deny who a of))
     (λ a. user_cases who name (λ b. absurd (bucket_other name sets.List who b of)) (λ b. absurd (bucket_other name sets.Digest who b of)) (λ b. absurd (bucket_other name sets.Allow who b of)) (λ b. absurd (bucket_other name sets.Moderators who b of)) a)
     (λ a. inl (one_name name number_name a)) e
 
--- the place of the next post is read where a post is taken
+-- taking a post reads the place of the next post
 pub next_append : (old : Dir) (key : Text) (name : Name) → IsOfNext old key name → IsAppendName name
 next_append old key name (inl e) = inl e
 next_append old key name (inr (inl at)) = let less = at.2 in inr (inl ((at.0 + 1) / 100, div_below (at.0 + 1) 100 1_000_000 (omega arith) (omega (arith, less)), at.3))
@@ -96,7 +96,7 @@ module _ (c : Config) (sender m : Text) (old dir : Dir) (alike : AlikeForPost c 
 pub publish_kept : (c : Config) (m : Text) (old new dir : Dir) → new ≡ old → AlikeToPublish c m old dir → AlikeToPublish c m new dir
 publish_kept c m old new dir kept alike = subst (λ (d : Dir). AlikeToPublish c m d dir) (sym kept) alike
 
--- the configuration is none of these files, so they are the same with another in its place
+-- the configuration is none of these files, so they are the same with another configuration
 judged_not : (c : Config) (sender : Text) → is_judged_by c sender config_name ≡ false
 judged_not c sender = go c.flags.k c.flags.u c.flags.m
   where

@@ -1,4 +1,4 @@
--- What is read of held posts is none of the archive's.
+-- None of what is read of held posts belongs to the archive.
 use Rattle.std.proofs.Common.{◌≡◌, ⊎_elim, ℕ, true, ◌&&◌, refl}
 use Rattle.std.proofs.lemmas.Bool.{and_parts, or_cases}
 use Rattle.ml_base.specs.Dir.{same_name}

@@ -36,7 +36,7 @@ use Rattle.ml_post.proofs.Moderated.{own_read, taken_read}
 use Rattle.ml_post.proofs.Posts.{append_read, needs_none_held}
 use Rattle.ml_post.proofs.Waiting.{beside_held}
 
--- a file that is there exactly where another is
+-- a file that is there exactly if another is
 none_so : (f g : Option Text) → is_some f ≡ is_some g → g ≡ None → f ≡ None
 none_so None g e none = refl
 none_so (Some t) g e none = absurd (let bad : true ≡ false = e ∙ ap is_some none in cc)
@@ -85,13 +85,13 @@ look_apart old dir ticket answer pending same by is = looking IsHeld held_text T
     go None none = λ drawn. same drawn ∙ none drawn
     go (Some h) there = (there.0, subst (λ (f : Option Text). IsHeldFile f h) (sym (same there.0)) there.1)
 
--- the place of a post is none of the held posts
+-- the place of a post is none of the held posts' files
 next_beside : (old : Dir) (key : Text) (name : Name) → IsOfNext old key name → is_beside_held name ≡ true
 next_beside old key name (inl e) = ap is_beside_held e
 next_beside old key name (inr (inl at)) = ap is_beside_held at.3
 next_beside old key name (inr (inr e)) = ap is_beside_held e
 
--- puts of held posts leave what is read where a post is taken
+-- puts of held posts leave what taking a post reads
 pub publish_behind : (c : Config) (m : Text) (old dir : Dir) (txn : List Put) → touches_only (λ name. held_kinds name.kind) txn ≡ true → AlikeToPublish c m old dir → AlikeToPublish c m old (with_puts dir txn)
 publish_behind c m old dir txn own alike = record {
   mailed = λ name e. beside_held dir txn own name (needs_none_held sets.List name (mailed_with sets.List name e)) ∙ alike.mailed name e;
@@ -110,7 +110,7 @@ module _ (c : Config) (ticket : ℕ) (accept : Bool) (old dir : Dir) (alike : Al
   pub post_alike : IsTrue (is_drawn ticket) → dir (post_name ticket) ≡ old (post_name ticket)
   post_alike drawn = alike.same (post_name ticket) (own_read ticket accept (post_name ticket) (drawn, refl)) (λ of. absurd (false≢true of))
 
-  -- one that is read by what is decided
+  -- a file that is read because of what is decided
   followed_alike : (name : Name) → is_followed_by ticket accept name ≡ true → (is_of_archive name ≡ true → IsNextOfTicket old c ticket name) → dir name ≡ old name
   followed_alike name e next = alike.same name (or_right (same_name name key_name) (is_followed_by ticket accept name) e) next
 

@@ -1,4 +1,4 @@
--- What is found of a post, row by row.
+-- The verdict on a post, row by row.
 use Rattle.std.proofs.Common.{◌≡◌, ◌≤◌, ℕ, Bool, true, false, List, sym, subst, arith}
 use Rattle.std.specs.Prelude.{not}
 use Rattle.ml_base.specs.Address.{key}
@@ -20,12 +20,12 @@ use Rattle.ml_post.specs.declared.verdicts.Verdict.{Verdict as Found}
 use Rattle.ml_post.specs.declared.verdicts.Verdict.TheVariants as found
 
 module _ (dir : Dir) (c : Config) (k : Text) where
-  -- whether a sender is denied, where there is a deny list
+  -- whether a sender is denied, if there is a deny list
   pub denied_by : (b : Bool) → c.flags.k ≡ true → TellsMember dir sets.Deny k b → TellsDenied dir c k b
   denied_by true has tells = (has, tells)
   denied_by false has tells = λ _. tells
 
-  -- whether he is no user, where only they may post
+  -- whether he is no user, if only users may post
   pub stranger_by : (b : Bool) → c.flags.u ≡ true → TellsUser dir k b → TellsStranger dir c k (not b)
   stranger_by true only tells = λ _. tells
   stranger_by false only tells = (only, tells)

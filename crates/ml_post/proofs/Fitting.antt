@@ -1,4 +1,4 @@
--- A post that isn't too big, by its verdict.
+-- A post that is held isn't too big, by its verdict.
 use Rattle.std.proofs.Common.{◌≡◌, ◌≢◌, ◌≤◌, ◌∙◌, ℕ, IsTrue, IfOk, Result, Ok, Err, sym, ap, arith}
 use Rattle.std.proofs.lemmas.Bool.{and_parts, leb-true}
 use Rattle.ml_base.specs.declared.part.PartError.{PartError}
@@ -9,12 +9,12 @@ use Rattle.ml_post.specs.declared.posting.Outcome.TheVariants as fates
 use Rattle.ml_post.specs.declared.verdicts.Verdict.{Verdict as Found}
 use Rattle.ml_post.specs.declared.verdicts.Verdict.TheVariants as found
 
--- what holds of each value holds of an answer
+-- what holds of every value holds of an answer
 pub each_ok : {T : Type 0} {P : T → Type 0} (r : Result T PartError) → ((x : T) → P x) → IfOk r P
 each_ok (Ok x) f = f x
 each_ok (Err e) f = tt
 
--- one that is held isn't too big
+-- a post that is held isn't too big
 pub held_fits : (f : Found) → outcome_of f ≡ fates.Held → f ≢ found.TooBig
 held_fits f held big = absurd (let bad : fates.Refused answers.toobig ≡ fates.Held = sym (ap outcome_of big) ∙ held in cc)
 

@@ -1,4 +1,4 @@
--- What is found of a post, on every directory that has the files that tell it.
+-- The verdict on a post, on every directory that has the files that tell it.
 use Rattle.std.proofs.Common.{◌≡◌, ◌<◌, ℕ, Bool, true, false, ◌&&◌, ◌||◌, [], ◌∷◌, length, inl, inr, Option, refl, sym, ap, ap₂, ◌∙◌, subst, arith}
 use Rattle.std.specs.Prelude.{not}
 use Rattle.std.proofs.lemmas.Bool.{and_from, le-leb, lt-leb, or_left, or_right}
@@ -25,7 +25,7 @@ use Rattle.ml_post.specs.Judging.{is_judged_by, is_of_user, of_room, of_sender, 
 use Rattle.ml_post.specs.declared.verdicts.Verdict.{Verdict as Found}
 use Rattle.ml_post.specs.declared.verdicts.Verdict.TheVariants as found
 
--- one of two things is so, each of which was told right
+-- whether one of two things holds, if each of them was told rightly
 either_is : (One Other : Bool → Type 0) (a b : Bool) → ((t : Bool) → One t → t ≡ a) → ((t : Bool) → Other t → t ≡ b) → (t : Bool) → EitherTells One Other t → t ≡ (a || b)
 either_is One Other a b f g true (inl one) = ap (λ (x : Bool). x || b) (f true one)
 either_is One Other a b f g true (inr two) = ap₂ (λ (x y : Bool). x || y) (f false two.0) (g true two.1)

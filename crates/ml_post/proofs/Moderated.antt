@@ -22,7 +22,7 @@ use Rattle.ml_acts.proofs.Damages.{same_self}
 use Rattle.ml_post.specs.Answering.{is_answered_by, is_followed_by, is_taken_by}
 use Rattle.ml_post.specs.Publishing.{Publishes, is_published_by}
 
--- a post is accepted where the archive has room
+-- a post is accepted if the archive has room
 pub accepts : (dir : Dir) (p : Plain) (now ticket : ℕ) (h : Held) (n : ℕ) (taken more : List Put) (done : List Put × Reply)
     → Publishes (with_puts dir taken) now h.sender h.message (record p { held = without_ticket ticket p.held }) (At n more) → done.0 ≡ taken ++ more → done.1 ≡ answers.posted n
     → DoesList dir done (accepted now ticket h p (is_archive_full p))
@@ -35,14 +35,14 @@ accepts dir p now ticket h n taken more done is e f =
           (subst (λ (k : ℕ). IsList (with_puts (with_puts dir taken) more) (with_text now h.sender (sent_text p.config h.message) k after)) is.1 is.2);
     })
 
--- the files that are read where a post is taken out
+-- the files that taking out a post reads
 pub taken_read : (ticket : ℕ) (name : Name) → (IsPostName ticket name ⊎ (name ≡ tickets_name)) → is_taken_by ticket name ≡ true
 taken_read ticket name (inl is) =
     or_left (is_drawn ticket && same_name name (post_name ticket)) (same_name name tickets_name)
     (and_from (is_drawn ticket) (same_name name (post_name ticket)) is.0 (subst (λ (n : Name). same_name n (post_name ticket) ≡ true) (sym is.1) (same_self (post_name ticket))))
 taken_read ticket name (inr e) = or_right (is_drawn ticket && same_name name (post_name ticket)) (same_name name tickets_name) (subst (λ (n : Name). same_name n tickets_name ≡ true) (sym e) (same_self tickets_name))
 
--- the post's own file may be read, whatever he answers
+-- the post's own file may be read, whatever the moderator answers
 pub own_read : (ticket : ℕ) (accept : Bool) (name : Name) → IsPostName ticket name → is_answered_by ticket accept name ≡ true
 own_read ticket accept name is = or_right (same_name name key_name) (is_followed_by ticket accept name) (go accept)
   where

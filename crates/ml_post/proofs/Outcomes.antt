@@ -35,7 +35,7 @@ not_not : (b : Bool) → not b ≡ false → b ≡ true
 not_not true e = refl
 not_not false e = absurd (let bad : true ≡ false = e in cc)
 
--- where it is found that a message is held or posted, its sender is an address
+-- if it is found that a message is held or posted, its sender is an address
 usable_by : (p : Plain) (sender m : Text) (v : verdicts.Verdict) → (verdicts.TooBig ≡ v → ⊥) → (verdicts.BounceSender ≡ v → ⊥) → verdict p sender m ≡ v → is_usable sender ≡ true
 unfolding verdict
 usable_by p sender m v apart apart2 e =
@@ -49,7 +49,7 @@ held_usable p sender m e = usable_by p sender m verdicts.Held (λ bad. cc) (λ b
 pub posted_usable : (p : Plain) (sender m : Text) → verdict p sender m ≡ verdicts.Posted → is_usable sender ≡ true
 posted_usable p sender m e = usable_by p sender m verdicts.Posted (λ bad. cc) (λ bad. cc) e
 
--- where it is found that it is posted, the archive has room
+-- if it is found that it is posted, the archive has room
 room_by : (p : Plain) → rows.of_room p ≡ verdicts.Posted → is_archive_full p ≡ false
 room_by p e =
     let first = past p.config.flags.m verdicts.Held (cond (is_archive_full p) verdicts.Full verdicts.Posted) verdicts.Posted e (λ bad. cc) in
@@ -104,7 +104,7 @@ posted_is found.Full e = absurd (cc)
 posted_is found.Held e = absurd (cc)
 posted_is found.Posted e = refl
 
--- a message is held only where posts wait for the moderators, and posted only where they don't
+-- a message is held only if posts wait for the moderators, and posted only if they don't
 pub held_waits : (m : Bool) (v : Found) → outcome_of v ≡ fates.Held → rows.may_be_found m v ≡ true → m ≡ true
 held_waits m found.TooBig e may = absurd (cc)
 held_waits m found.BounceSender e may = absurd (cc)

@@ -30,7 +30,7 @@ use Rattle.ml_acts.proofs.Apart.{mailed_with}
 use Rattle.ml_acts.proofs.Placed.{index_placed, threads_placed}
 use Rattle.ml_post.specs.Publishing.{Publishes, is_beside_held, is_published_by, sent_key}
 
--- a name of a kind is of no file that a mail to a set needs, where no name of that kind is
+-- a name of a kind is of no file that a mail to a set needs, if no name of that kind is
 of_kind : (set : Set) (name : Name) (k : ℕ) → eqb name.kind k ≡ true → is_with_queue set (record { kind = k; at = name.at }) ≡ false → is_with_queue set name ≡ false
 of_kind set name k e none = ap (λ kind. is_with_queue set (record { kind = kind; at = name.at })) (eqb-true name.kind k e) ∙ none
 
@@ -82,7 +82,7 @@ needs_no_post name e = both_ways (is_of_archive name) (is_with_queue sets.List n
 pub needs_none_held : (set : Set) (name : Name) → is_with_queue set name ≡ true → is_beside_held name ≡ true
 needs_none_held set name e = ap not (both_ways (held_kinds name.kind) (is_with_queue set name) (held_apart set name) e)
 
--- appending reads the same where all files but the held posts are the same
+-- appending reads the same if all files except the held posts are the same
 pub reads_beside : (old dir : Dir) (p : Plain) (c : Config) (now : ℕ) (sender text : Text) → Alike is_beside_held old dir → ReadsAlike old dir c.prefix (new_post sender now text) p.posts
 reads_beside old dir p c now sender text alike = record {
   number = alike number_name refl;
@@ -90,7 +90,7 @@ reads_beside old dir p c now sender text alike = record {
   thread = alike (post_thread c.prefix (new_post sender now text)) refl;
 }
 
--- and where the files of the post's own place are
+-- and if the files of the post's own place are
 pub reads_placed : (old dir : Dir) (p : Plain) (c : Config) (now : ℕ) (sender text m : Text) (count : ℕ) → ((name : Name) → IsOfNext old (sent_key c m) name → dir name ≡ old name) → text ≡ sent_text c m
     → IsNumberFile (old number_name) count → count < 99_999_999 → IsList dir p → ReadsAlike old dir c.prefix (new_post sender now text) p.posts
 reads_placed old dir p c now sender text m count placed same file less is = record {
@@ -106,11 +106,11 @@ reads_placed old dir p c now sender text m count placed same file less is = reco
     counted = counted_is dir p.posts (is.archive).filed count (subst (λ (f : Option Text). IsNumberFile f count) (sym number) file)
 
 module _ (old dir : Dir) (p : Plain) (c : Config) (now : ℕ) (sender text : Text) (reads : ReadsAlike old dir c.prefix (new_post sender now text) p.posts) (is : IsList dir p) (same : p.config ≡ c) where
-  -- the number of posts, where the same file has it
+  -- the number of posts, by its file, which is the same
   count_here : (count : ℕ) → IsNumberFile (old number_name) count → count ≡ length p.posts
   count_here count file = counted_is dir p.posts (is.archive).filed count (subst (λ (f : Option Text). IsNumberFile f count) (sym reads.number) file)
 
-  -- what the archive's call says of each directory that reads alike, it says of this one
+  -- what the archive's call says of every directory that reads alike, it says of this one
   pub appended_here : (answer : Appended)
       → ((dir : Dir) (posts : List Post) → IsArchive dir c.prefix posts → ReadsAlike old dir c.prefix (new_post sender now text) posts → AppendsTo dir c.prefix posts (new_post sender now text) answer)
       → AppendsTo dir c.prefix p.posts (new_post sender now text) answer
@@ -127,7 +127,7 @@ module _ (old dir : Dir) (p : Plain) (c : Config) (now : ℕ) (sender text : Tex
   abbrev after : Plain
   after = record p { posts = p.posts ++ new_post sender now text ∷ [] }
 
-  -- the post in the archive, and the mail behind it
+  -- the post in the archive, and the mail after it
   pub publishes : (m : Text) (count n : ℕ) (txn done : List Put) → IsNumberFile (old number_name) count → text ≡ sent_text c m → touches_only is_of_archive txn ≡ true
       → ((dir : Dir) (posts : List Post) → IsArchive dir c.prefix posts → ReadsAlike old dir c.prefix (new_post sender now text) posts → AppendsTo dir c.prefix posts (new_post sender now text) (At n txn))
       → ((q : Plain) → IsList (with_puts dir txn) q → q.config ≡ c → IsList (with_puts dir done) (send (post_path q.config (count + 1)) text (addresses q sets.List) q))
@@ -156,7 +156,7 @@ append_read name (inr (inl g)) =
     or_left (mailed || is_index name) (is_thread_file name) (or_right mailed (is_index name) (index_placed g.0 name g.1 g.2))
 append_read name (inr (inr n)) = or_right (is_mailed_by sets.List name || same_name name number_name || is_index name) (is_thread_file name) (threads_placed n.0 name n.1 n.2)
 
--- a file that is damaged for the next post, where there is room for one, is so whatever list the files stand for
+-- a file that is damaged for the next post, if there is room for one, is damaged whatever list the files stand for
 pub no_archive : (dir : Dir) (name : Name) (count : ℕ) → IsNumberFile (dir number_name) count → count < 99_999_999 → IsBadForAppend dir name → (prefix : Text) (posts : List Post) → IsArchive dir prefix posts → ⊥
 no_archive dir name count file less (inl (e, inl none)) prefix posts is = none (length posts) is.filed.counted
 no_archive dir name count file less (inl (e, inr (k, counted, other))) prefix posts is =
@@ -167,7 +167,7 @@ no_archive dir name count file less (inl (e, inr (k, counted, other))) prefix po
 no_archive dir name count file less (inr (inl bad)) prefix posts is = no_bad_index dir posts is.filed bad.0 bad.1 bad.3
 no_archive dir name count file less (inr (inr bad)) prefix posts is = bad.3 (is.threaded.threads bad.0) (is.threaded.files bad.0 bad.1)
 
--- a mail to the set list behind the puts of the archive
+-- a mail to the set list after the puts of the archive
 pub mailed_behind : (old dir : Dir) (p : Plain) (c : Config) (number : ℕ) (text : Text) (txn mail done : List Put) → Alike (is_with_queue sets.List) old dir → touches_only is_of_archive txn ≡ true → p.config ≡ c
     → done ≡ txn ++ mail → ((dir : Dir) (p : Plain) → Alike (is_with_queue sets.List) old dir → IsList dir p → p.config ≡ c → IsList (with_puts dir mail) (send (post_path c number) text (addresses p sets.List) p))
     → IsList (with_puts dir txn) p → IsList (with_puts dir done) (send (post_path p.config number) text (addresses p sets.List) p)
@@ -176,7 +176,7 @@ mailed_behind old dir p c number text txn mail done alike only same e mails is =
     (subst (λ (d : Dir). IsList d (send (post_path c number) text (addresses p sets.List) p)) (sym (ap (λ (t : List Put). with_puts dir t) e ∙ laid_joined dir txn mail))
     (mails (with_puts dir txn) p (λ name needs. left_alone is_of_archive dir txn name only (needs_no_post name needs) ∙ alike name needs) is same))
 
--- the same, where the files that the mail looks at are the same
+-- the same, if the files that the mail looks at are the same
 pub mailed_apart : (old dir : Dir) (p : Plain) (c : Config) (number : ℕ) (text : Text) (txn mail done : List Put) → Alike (is_mailed_by sets.List) old dir → touches_only is_of_archive txn ≡ true → p.config ≡ c
     → done ≡ txn ++ mail → ((dir : Dir) (p : Plain) → Alike (is_mailed_by sets.List) old dir → IsList dir p → p.config ≡ c → IsList (with_puts dir mail) (send (post_path c number) text (addresses p sets.List) p))
     → IsList (with_puts dir txn) p → IsList (with_puts dir done) (send (post_path p.config number) text (addresses p sets.List) p)
@@ -185,7 +185,7 @@ mailed_apart old dir p c number text txn mail done alike only same e mails is =
     (subst (λ (d : Dir). IsList d (send (post_path c number) text (addresses p sets.List) p)) (sym (ap (λ (t : List Put). with_puts dir t) e ∙ laid_joined dir txn mail))
     (mails (with_puts dir txn) p (λ name needs. left_alone is_of_archive dir txn name only (needs_no_post name (mailed_with sets.List name needs)) ∙ alike name needs) is same))
 
--- what appending says, of the same files, prefix, text and answer in other words
+-- what appending says, in terms of the files, the prefix, the text and the answer
 module _ (now : ℕ) (sender : Text) where
   abbrev pub Appends : Dir → Text → Text → Appended → Type 0
   Appends old prefix text answer =

@@ -17,13 +17,13 @@ module _ (c : Config) (sender : Text) (name : Name) where
       or_left (is_judged_by c sender name || (c.flags.m && is_held_by name)) (not c.flags.m && is_published_by name)
       (or_left (is_judged_by c sender name) (c.flags.m && is_held_by name) e)
 
-  -- what holding it reads, where posts wait for the moderators
+  -- what holding it reads, if posts wait for the moderators
   pub of_held : c.flags.m ≡ true → is_held_by name ≡ true → is_posted_by c sender name ≡ true
   of_held waits e =
       or_left (is_judged_by c sender name || (c.flags.m && is_held_by name)) (not c.flags.m && is_published_by name)
       (or_right (is_judged_by c sender name) (c.flags.m && is_held_by name) (and_from c.flags.m (is_held_by name) waits e))
 
-  -- what taking it reads, where they don't
+  -- what taking it reads, if they don't
   pub of_published : not c.flags.m ≡ true → is_published_by name ≡ true → is_posted_by c sender name ≡ true
   of_published free e =
       or_right (is_judged_by c sender name || (c.flags.m && is_held_by name)) (not c.flags.m && is_published_by name)

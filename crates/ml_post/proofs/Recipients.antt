@@ -3,7 +3,7 @@ use Rattle.std.proofs.Common.{◌≡◌, Bool, true, false, ◌||◌, ◌&&◌, 
 use Rattle.std.specs.List.{list_any}
 use Rattle.std.proofs.lemmas.List.Folds.{list_any-append}
 
--- what is found with one element more, where it is among those that are looked at
+-- what is found with one element more, which counts if it is among those that are looked at
 abbrev found_with : Bool → Bool → Bool → Bool
 found_with is t f = cond is (t || f) f
 
@@ -23,7 +23,7 @@ module _ {X : Type 0} (a b test : X → Bool) where
   any_with true x xs = refl
   any_with false x xs = refl
 
-  -- some element among those of one filter or of another passes a test: some one of both does
+  -- an element of one filter or the other passes a test exactly if an element that either filter takes passes it
   pub any_either : (xs : List X) → list_any test (filter a xs ++ filter b xs) ≡ list_any (λ x. (a x || b x) && test x) xs
   any_either [] = refl
   any_either (x ∷ xs) =

@@ -39,7 +39,7 @@ module _ {A : Type 0} (a b c : Bool) (x y z rest : A) where
 pub filled : (text found : Text) (test : Bool) → found ≡ text → test ≡ (length found == 0) → test ≡ false → is_empty text ≡ false
 filled text found test same is none = sym (ap is_empty same) ∙ no_bytes found ∙ sym is ∙ none
 
--- what is found behind the first rows goes by the sender's key
+-- what is found after the first rows goes by the sender's key
 abbrev by_key : Plain → Text → Text → Verdict
 by_key p k m =
     first_row ((p.config.flags.k && has_key k (p.sets sets.Deny), Denied) ∷ [])
@@ -49,7 +49,7 @@ by_key p k m =
 pub same_sender : (p : Plain) (who sender m : Text) → key who ≡ key sender → of_sender p who m ≡ of_sender p sender m
 same_sender p who sender m e = ap (λ (k : Text). by_key p k m) e
 
--- and so do the files that are read
+-- and the files that are read go by it too
 abbrev read_by_key : Config → Text → Name → Bool
 read_by_key c k name =
     (c.flags.k && same_name name (bucket_name sets.Deny (bucket_of k)))

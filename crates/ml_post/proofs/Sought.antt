@@ -1,4 +1,4 @@
--- Addresses in a text, sought by their first places.
+-- Finding addresses in a text, by the first place where they occur.
 use Rattle.std.proofs.Common.{◌≡◌, ℕ, zero, suc, ◌+◌, ◌-◌, take, ◌<◌, ◌≤◌, Bool, true, false, ◌&&◌, ◌||◌, [], ◌∷◌, length, drop, get_or, length-drop, drop-cons, Option, Some, refl, sym, ap, subst, ◌∙◌, arith}
 use Rattle.std.specs.Prelude.{slice_get}
 use Rattle.std.proofs.lemmas.Bool.{and_from, and_parts, eqb-true, eq-eqb, false≢true}
@@ -11,20 +11,20 @@ use Rattle.ml_header.specs.Lines.{begins_with}
 use Rattle.ml_plain.specs.Verdicts.{has_address, is_free, goes_on_left, goes_on_right}
 use Rattle.ml_post.specs.Places.{byte_before}
 
--- the byte before a place behind the front is the last one up to there
+-- the byte before a place after the front is the last byte before it in the text
 pub byte_before-suc : (before : Option ℕ) (text : Text) (at : ℕ) → at < length text → byte_before before text (suc at) ≡ Some (get_or text at 0)
 byte_before-suc before [] at h = absurd (omega arith)
 byte_before-suc before (b ∷ bs) zero h = refl
 byte_before-suc before (b ∷ bs) (suc at) h = byte_before-suc (Some b) bs at (omega arith)
 
--- what occurs at a place occurs one further on with a byte in front
+-- what occurs at a place occurs one place later once a byte stands in front
 occurs_later : (b : ℕ) (bs needle : Text) (k : ℕ) → OccursAt bs needle k → OccursAt (b ∷ bs) needle (suc k)
 occurs_later b bs needle k o = record {
   fits = omega (arith, o.fits);
   reads = λ j h. let e : suc k + j ≡ suc (k + j) = omega arith in ap (λ i. get_or (b ∷ bs) i 0) e ∙ o.reads j h;
 }
 
--- a text begins with another where that one occurs at its front, and the other way round
+-- a text begins with another exactly if that one occurs at its front
 occurs_front : (needle text : Text) → begins_with needle text ≡ true → OccursAt text needle 0
 occurs_front [] text b = record { fits = omega arith; reads = λ j h. absurd (omega arith) }
 occurs_front (a ∷ rest) [] b = absurd (false≢true b)
@@ -55,7 +55,7 @@ never : (x : Bool) → (x ≡ true → ⊥) → x ≡ false
 never true h = absurd (h refl)
 never false h = refl
 
--- where an address doesn't stand at the front it is one of what is behind the first byte
+-- if an address doesn't stand at the front, it is one of what comes after the first byte
 or_later : (f b r h : Bool) → b ≡ false → ((f && (b && r)) || h) ≡ h
 or_later true true r h e = absurd (false≢true (sym e))
 or_later true false r h e = refl
@@ -65,7 +65,7 @@ or_here : (f b r h : Bool) → b ≡ true → ((f && (b && r)) || h) ≡ ((f && 
 or_here f true r h e = refl
 or_here f false r h e = absurd (false≢true e)
 
--- an address that stands at no place up to one may be one of what is behind there
+-- an address that stands at no place before this one may be one of what comes from there on
 pub skipped : (address : Text) (before : Option ℕ) (text : Text) (at : ℕ) → at ≤ length text → ((k : ℕ) → k < at → OccursAt text address k → ⊥)
     → has_address address before text ≡ has_address address (byte_before before text at) (drop at text)
 skipped address before text zero h none = refl
@@ -84,20 +84,20 @@ nowhere address before text none =
     skipped address before text (length text) (omega arith) (λ k less o. none k (omega arith) o)
     ∙ ap (has_address address (byte_before before text (length text))) (drop_all text)
 
--- what occurs at a place occurs at the front of what is behind there
+-- what occurs at a place occurs at the front of what comes from there on
 occurs_behind : (text needle : Text) (k : ℕ) → OccursAt text needle k → OccursAt (drop k text) needle 0
 occurs_behind text needle k o = record {
   fits = omega (arith, length-drop k text, o.fits);
   reads = λ j h. get_or-drop k text (0 + j) 0 ∙ (let e : k + (0 + j) ≡ k + j = omega arith in ap (λ i. get_or text i 0) e ∙ o.reads j h);
 }
 
--- what is got of what is behind a place
+-- the byte at a place of what comes from a place on
 got_behind : (text : Text) (k i : ℕ) → slice_get (drop k text) i ≡ slice_get text (k + i)
 got_behind text zero i = let e : i ≡ zero + i = omega arith in ap (slice_get text) e
 got_behind [] (suc k) i = slice_get_past [] i (omega arith) ∙ sym (slice_get_past [] (suc k + i) (omega arith))
 got_behind (b ∷ bs) (suc k) i = got_behind bs k i ∙ (let e : suc (k + i) ≡ suc k + i = omega arith in ap (slice_get (b ∷ bs)) e)
 
--- The first place at which an address stands decides, or what is behind its first byte.
+-- The first place at which the address occurs decides, or what comes after its first byte.
 pub placed : (address : Text) (before : Option ℕ) (text : Text) (at : ℕ) → at < length text → ((k : ℕ) → k < at → OccursAt text address k → ⊥) → OccursAt text address at
     → has_address address before text
     ≡ ((is_free goes_on_left (byte_before before text at) && is_free goes_on_right (slice_get text (at + length address))) || has_address address (Some (get_or text at 0)) (drop (at + 1) text))
@@ -117,7 +117,7 @@ placed address before text at h none o =
     ∙ (ap (λ r. (left && r) || has_address address (Some first) more) behind
     ∙ ap (λ n. (left && is_free goes_on_right (slice_get text (at + length address))) || has_address address (Some first) (drop n text)) one)))
 
--- what holds of the byte at a place and of what is behind it holds of them as they are cut from the text
+-- what holds of the byte at a place and of what comes after it also holds of them as they are cut from the text
 pub cut_behind : (P : ℕ → Text → Type 0) (text : Text) (at : ℕ) → at < length text → P (get_or text at 0) (drop (at + 1) text)
     → let found = take (length text - at) (drop at text) in P (get_or found 0 0) (take (length found - 1) (drop 1 found))
 cut_behind P text at h holds =

@@ -1,4 +1,4 @@
--- No file is damaged that a post looks at, on a directory that has the files that a list has there.
+-- A post looks at no damaged file, if every file that it looks at is the same in a directory that stands for a list.
 use Rattle.std.proofs.Common.{◌≡◌, ◌⊎◌, inl, inr, ◌+◌, ◌/◌, ◌<◌, ℕ, true, length, Option, refl, sym, ap, ◌∙◌, subst, arith}
 use Rattle.std.proofs.lemmas.Bool.{or_cases}
 use Rattle.ml_base.specs.Bytes.{Text}
@@ -55,7 +55,7 @@ module _ (old dir : Dir) (p : Plain) (is : IsList dir p) where
   pub no_keys_spared : dir key_name ≡ old key_name → IsNoKeys old → ⊥
   no_keys_spared same none = none p.keys (subst (λ (f : Option Text). IsKeyFile f p.keys) same is.keys)
 
-  -- those that are read where a post is held
+  -- the files that holding a post reads
   pub held_spared : Alike is_held_by old dir → (name : Name) → is_held_by name ≡ true → IsDamaged old name → ⊥
   held_spared alike name e = go (or_cases (same_name name tickets_name) (is_asked_by name) e) (alike name e)
     where
@@ -67,7 +67,7 @@ module _ (old dir : Dir) (p : Plain) (is : IsList dir p) where
       go (inl a) = tickets_spared old dir p is name a
       go (inr b) = asked (or_cases (same_name name key_name) (is_mailed_by sets.Moderators name) b)
 
-  -- those of the place of a new post, where there is room for one
+  -- those of the place of a new post, if there is room for one
   module _ (key : Text) (count : ℕ) (placed : (name : Name) → IsOfNext old key name → dir name ≡ old name) (file : IsNumberFile (old number_name) count) (less : count < 99_999_999) where
     counted : count ≡ length p.posts
     counted = counted_is dir p.posts (is.archive).filed count (subst (λ (f : Option Text). IsNumberFile f count) (sym (placed number_name (inl refl))) file)

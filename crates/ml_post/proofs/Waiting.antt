@@ -35,7 +35,7 @@ not_then : (b : Bool) → not b ≡ true → b ≡ false
 not_then true e = absurd (let bad : false ≡ true = e in cc)
 not_then false e = refl
 
--- they leave all other files
+-- these puts leave all other files
 pub beside_held : (dir : Dir) (puts : List Put) → touches_only (λ name. held_kinds name.kind) puts ≡ true → Alike is_beside_held dir (with_puts dir puts)
 beside_held dir puts only name e = left_alone (λ name. held_kinds name.kind) dir puts name only (not_then (held_kinds name.kind) e)
 
@@ -79,11 +79,11 @@ pub asks : (dir : Dir) (p : Plain) (c : Config) (keys : Keys) (now ticket : ℕ)
     → DoesList dir done (mail_moderators now (moderate_mail p ticket now m) p, answers.held ticket)
 asks dir p c keys now ticket m mail txn done same own asked does = subst (λ (t : Mail). DoesList dir done (mail_moderators now t p, answers.held ticket)) (asked p same own) does
 
--- there are ids where an item can draw what it may
+-- there are ids left if an item can draw what it may
 pub has_ids : (dir : Dir) → HasRoom dir → HasIds dir
 has_ids dir room low next counted = let top = room.ids low next counted in omega (arith, top)
 
--- a post that is held by the next ticket, on every directory that has the same one
+-- a post that is held under the next ticket, on every directory that has the same next ticket
 pub waiting_apart : (old dir : Dir) (held : Held) (ticket : ℕ) (txn : List Put) → IsHeld held → dir tickets_name ≡ old tickets_name → IsDrawing old Tickets (held_text held) ticket txn
     → (pending : Pending) → IsPending dir pending → (ticket ≡ pending.next) × IsPending (with_puts dir txn) (hold held pending)
 waiting_apart old dir held ticket txn is same drawn pending stands =

@@ -28,11 +28,11 @@ abbrev pub accepts : Decision → Bool
 accepts decisions.Accept = true
 accepts decisions.Reject = false
 
--- the files that are read where a post is taken out: its own, where its ticket can be drawn, and the next ticket
+-- the files that taking out a post reads: its own, if its ticket can be drawn, and the next ticket
 abbrev pub is_taken_by : ℕ → Name → Bool
 is_taken_by ticket name = (is_drawn ticket && same_name name (post_name ticket)) || same_name name tickets_name
 
--- the files that are read where a post is accepted, and where it is rejected
+-- the files that are read if a post is accepted, and if it is rejected
 abbrev pub is_accepted_by : ℕ → Name → Bool
 is_accepted_by ticket name = is_published_by name || is_taken_by ticket name
 
@@ -47,11 +47,11 @@ is_followed_by ticket false name = is_rejected_by ticket name
 abbrev pub is_answered_by : ℕ → Bool → Name → Bool
 is_answered_by ticket accept name = same_name name key_name || is_followed_by ticket accept name
 
--- damaged for the post that waits under a ticket, which is to be put last
+-- damaged for putting the post that waits under a ticket last into the archive
 abbrev pub IsBadForTicket : Dir → Config → ℕ → Name → Type 0
 IsBadForTicket dir c ticket name = (held : Held) × IsHeldFile (dir (post_name ticket)) held × IsBadFor dir (Next (sent_key c held.message)) name
 
--- whether letters are the cookie of a post that is held under a ticket since a moment, by these keys
+-- whether letters are, by these keys, the cookie of a post that has been held under a ticket since a moment
 abbrev pub is_ticket_cookie : Keys → ℕ → ℕ → Text → Bool
 is_ticket_cookie keys ticket moment letters =
     is_cookie_of keys.key (option_map (λ f. f.key) keys.former) (option_map_or (λ f. f.changed) keys.former 0) (codes "hold")
@@ -63,12 +63,12 @@ pub record IsSigned (dir : Dir) (ticket moment : ℕ) (letters : Text) : Type 0 
   pub kept : IsKeyFile (dir key_name) keys
   pub right : is_ticket_cookie keys ticket moment letters ≡ true
 
--- what an answer reads once the post is found: the keys, and only if the letters are its cookie what follows
+-- what an answer reads once the post is found: the keys, and what follows only if the letters are its cookie
 abbrev pub IsReadOfHeld : Dir → ℕ → ℕ → Text → Bool → Name → Type 0
 IsReadOfHeld dir ticket moment letters accept name =
     (name ≡ key_name) ⊎ (IsSigned dir ticket moment letters × (is_followed_by ticket accept name ≡ true))
 
--- what an answer reads, step by step: the post of the ticket, and only if one waits there the rest
+-- what an answer reads, step by step: the post of the ticket, and the rest only if one waits there
 abbrev pub IsReadOfTicket : Dir → ℕ → Text → Bool → Name → Type 0
 IsReadOfTicket dir ticket letters accept name =
     IsPostName ticket name ⊎ ((held : Held) × IsHeldFile (dir (post_name ticket)) held × IsReadOfHeld dir ticket held.moment letters accept name)

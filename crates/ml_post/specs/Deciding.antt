@@ -1,5 +1,5 @@
--- What moderators' answers find in the files that they read, whatever the other files hold: these are in their grammar, and what is answered goes by
--- what they spell.
+-- What moderators' answers find in the files that they read, whatever the other files hold: the files that are read are in their grammar, and
+-- the answer goes by what they spell.
 use Rattle.std.specs.Prelude.{◌≡◌, ◌⊎◌, ℕ, Bool, true, false, List, ◌++◌, Option, Some, None}
 use Rattle.ml_base.specs.Dir.{Dir}
 use Rattle.ml_base.specs.declared.puts.Put.{Put}
@@ -36,7 +36,7 @@ abbrev pub FoundToDecide : Dir → Config → ℕ → Bool → List Put × Reply
 FoundToDecide dir c ticket true done = FoundToAccept dir c ticket done
 FoundToDecide dir c ticket false done = FoundToReject dir ticket done
 
--- what is answered of a post that waits, by the keys: the cookie is none of its, or the answer counts
+-- what is answered about a post that waits, by the keys: the letters aren't its cookie, or the answer counts
 pub record FoundOfHeld (dir : Dir) (c : Config) (ticket : ℕ) (accept : Bool) (done : List Put × Reply) : Type 0 where
   pub keys : TellsKeys dir
   pub answered : Says answers.badcookie done ⊎ FoundToDecide dir c ticket accept done

@@ -1,4 +1,5 @@
--- What posts find in the files that they read, whatever the other files hold: these are in their grammar, and what is answered goes by what they spell.
+-- What posts find in the files that they read, whatever the other files hold: the files that are read are in their grammar, and the answer goes
+-- by what they spell.
 use Rattle.std.specs.Prelude.{◌≡◌, ◌<◌, ◌+◌, ℕ, Bool, true, false, List, length, codes}
 use Rattle.ml_base.specs.Address.{key}
 use Rattle.ml_base.specs.Bytes.{Text, is_empty, lower}
@@ -31,19 +32,19 @@ use Rattle.ml_post.specs.declared.verdicts.Verdict.TheVariants as found
 abbrev pub TellsUser : Dir → Text → Bool → Type 0
 TellsUser dir k = EitherTells (EitherTells (TellsMember dir sets.List k) (TellsMember dir sets.Digest k)) (EitherTells (TellsMember dir sets.Allow k) (TellsMember dir sets.Moderators k))
 
--- a sender is denied only where there is a deny list and his bucket of it has him; and where there is one he isn't only if that bucket, in its
+-- a sender is denied only if there is a deny list and his bucket of it has him; and if there is one and he isn't denied, that bucket, in its
 -- grammar, doesn't have him
 abbrev pub TellsDenied : Dir → Config → Text → Bool → Type 0
 TellsDenied dir c k true = (c.flags.k ≡ true) × TellsMember dir sets.Deny k true
 TellsDenied dir c k false = c.flags.k ≡ true → TellsMember dir sets.Deny k false
 
--- the same of users, where only they may post
+-- the same for users, if only they may post
 abbrev pub TellsStranger : Dir → Config → Text → Bool → Type 0
 TellsStranger dir c k true = (c.flags.u ≡ true) × TellsUser dir k false
 TellsStranger dir c k false = c.flags.u ≡ true → TellsUser dir k true
 
--- What is found of a post, by the files that tell it: of one that its sender may send, of one with a text that is taken, of one whose sender isn't
--- denied, of one that isn't too long, has a sender and didn't come from the list, and of any.
+-- The verdict on a post, by the files that tell it: on one that its sender may send, on one whose text is taken, on one whose sender isn't
+-- denied, on one that isn't too long, has a sender and didn't come from the list, and on any.
 abbrev pub FoundOfRoom : Dir → Config → Found → Type 0
 FoundOfRoom dir c found.Held = c.flags.m ≡ true
 FoundOfRoom dir c found.Full = (c.flags.m ≡ false) × IsNumberFile (dir number_name) 99_999_999

@@ -7,10 +7,10 @@ use Rattle.ml_config.specs.KeyFile.{key_name}
 use Rattle.ml_hold.specs.Answers.{tickets_name}
 use Rattle.ml_acts.specs.Doing.{is_mailed_by}
 
--- the files that are read where the moderators are asked: the keys, and those of a mail to the moderators
+-- the files that asking the moderators reads: the keys, and those of a mail to the moderators
 abbrev pub is_asked_by : Name → Bool
 is_asked_by name = same_name name key_name || is_mailed_by sets.Moderators name
 
--- the files that are read where a post is held: the next ticket, and these
+-- the files that holding a post reads: the next ticket, and these
 abbrev pub is_held_by : Name → Bool
 is_held_by name = same_name name tickets_name || is_asked_by name

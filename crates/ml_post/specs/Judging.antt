@@ -1,4 +1,4 @@
--- What is found of a post, and the files that tell it.
+-- The verdict on a post, and the files that tell it.
 use Rattle.std.specs.Prelude.{Bool, true, not, ◌&&◌, ◌||◌, [], ◌∷◌}
 use Rattle.ml_base.specs.Bytes.{Text, lower, is_empty}
 use Rattle.ml_base.specs.Dir.{same_name}
@@ -27,8 +27,8 @@ row_of found.Held = Held
 row_of found.Full = Full
 row_of found.Posted = Posted
 
--- what is found of a post that no row before holds of: first of the archive and of moderation, then of the sender as a user, of the
--- text, and of the sender in the deny list
+-- the verdict on a post for which no earlier row holds: first by the archive and moderation, then by the sender as a user, by the text, and by
+-- the sender in the deny list
 abbrev pub of_room : Plain → Verdict
 of_room p = first_row ((p.config.flags.m, Held) ∷ (is_archive_full p, Full) ∷ []) Posted
 
@@ -46,15 +46,15 @@ of_sender p who m = first_row ((p.config.flags.k && is_in p sets.Deny who, Denie
 abbrev pub is_of_user : Text → Name → Bool
 is_of_user who name = is_bucket_of sets.List who name || is_bucket_of sets.Digest who name || is_bucket_of sets.Allow who name || is_bucket_of sets.Moderators who name
 
--- whether this can be found of a post, by whether posts wait for the moderators: it is held only where they do, and full or posted only
--- where they don't
+-- whether this can be the verdict on a post, by whether posts wait for the moderators: it is held only if they do, and full or posted only if
+-- they don't
 abbrev pub may_be_found : Bool → Found → Bool
 may_be_found moderated found.Held = moderated
 may_be_found moderated found.Full = not moderated
 may_be_found moderated found.Posted = not moderated
 may_be_found moderated _ = true
 
--- the files that a verdict may read: the sender's in the deny list where there is one, his in the users' sets where only users
--- may post, and the number of posts where they don't wait for the moderators
+-- the files that a verdict may read: the sender's in the deny list if there is one, his in the users' sets if only users may post, and the
+-- number of posts if posts don't wait for the moderators
 abbrev pub is_judged_by : Config → Text → Name → Bool
 is_judged_by c sender name = (c.flags.k && is_bucket_of sets.Deny sender name) || (c.flags.u && is_of_user sender name) || (not c.flags.m && same_name name number_name)

@@ -34,7 +34,7 @@ abbrev pub reply_of : Appended → Reply
 reply_of (At number txn) = answers.posted number
 reply_of Full = answers.full
 
--- the files that a post may read: those of its verdict, and where posts wait for the moderators those that are read where it is held, and
--- else those that are read where it is taken
+-- the files that a post may read: those of its verdict, and if posts wait for the moderators those that holding it reads,
+-- otherwise those that taking it reads
 abbrev pub is_posted_by : Config → Text → Name → Bool
 is_posted_by c sender name = is_judged_by c sender name || (c.flags.m && is_held_by name) || (not c.flags.m && is_published_by name)

@@ -14,7 +14,7 @@ use Rattle.ml_plain.specs.Plain.{Plain, is_archive_full}
 use Rattle.ml_plain.specs.Posting.{sent_text, with_text}
 use Rattle.ml_acts.specs.Doing.{is_index, is_mailed_by, is_thread_file}
 
--- a post that is taken: where the archive has room, it gets the next number, and with these puts laid over the files they stand for the
+-- a post that is taken: if the archive has room, it gets the next number, and with these puts laid over the files they stand for the
 -- list with it
 abbrev pub Publishes : Dir → ℕ → Text → Text → Plain → Appended → Type 0
 Publishes dir now sender m p (At number txn) =
@@ -26,11 +26,11 @@ abbrev pub number_of : Appended → ℕ
 number_of (At number txn) = number
 number_of Full = 0
 
--- all files but the held posts
+-- all files except the held posts
 abbrev pub is_beside_held : Name → Bool
 is_beside_held name = not (held_kinds name.kind)
 
--- the files that are read where a post is taken: those of the set list, the next id, the number of posts, an index and a file of threads
+-- the files that taking a post reads: those of the set list, the next id, the number of posts, an index and a file of threads
 abbrev pub is_published_by : Name → Bool
 is_published_by name = is_mailed_by sets.List name || same_name name number_name || is_index name || is_thread_file name
 

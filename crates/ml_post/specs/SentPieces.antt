@@ -16,6 +16,6 @@ list_field local host words rest = words ++ list_address local host rest ++ code
 abbrev pub delivered_line : Text → Text → Text
 delivered_line local host = codes "Delivered-To: mailing list " ++ post_address local host ++ lf
 
--- a line with one of the list's addresses behind these words
+-- a line with one of the list's addresses after these words
 abbrev pub pointer_line : Text → Text → Text → Text → Text
 pointer_line local host words rest = words ++ list_address local host rest ++ lf

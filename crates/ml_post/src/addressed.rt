@@ -49,7 +49,7 @@ fn is_recipient(field: &Field<'_>) -> bool
     field.name.eq_ignore_ascii_case(b"to") || field.name.eq_ignore_ascii_case(b"cc")
 }
 
-// Whether a value has an address, which is in lower case, at some place where it goes on to neither side.
+// Whether a value, put in lower case, has an address, given in lower case, at some place where neither byte beside it continues it.
 fn has_lowered(alloc: Global, address: &[u8], value: &[u8]) -> Result<bool, AllocError>
     requires { 0 < length address.now }
     ensures { IfOk result (λ has. has ≡ spec.has_address address.now None (lower value.now)) }
@@ -58,7 +58,7 @@ fn has_lowered(alloc: Global, address: &[u8], value: &[u8]) -> Result<bool, Allo
     Ok(has_address(address, &text))
 }
 
-// Whether a text has an address at some place where it goes on to neither side.
+// Whether a text has an address at some place where neither byte beside it continues it.
 fn has_address(address: &[u8], text: &[u8]) -> bool
     requires { 0 < length address.now }
     ensures { result ≡ spec.has_address address.now None text.now }
@@ -76,7 +76,7 @@ fn has_address(address: &[u8], text: &[u8]) -> bool
     false
 }
 
-// Whether an address that stands at a place of a text goes on to neither side. `before` stands in front of the text.
+// Whether neither byte beside an address at a place of a text continues it. `before` is the byte in front of the text.
 fn stands_alone(address: &[u8], before: Option<u8>, text: &[u8], at: usize) -> bool
     requires { at + length address.now ≤ length text.now }
     ensures { result ≡ (spec.is_free spec.goes_on_left (places.byte_before before text.now at) && spec.is_free spec.goes_on_right (slice_get text.now (at + length address.now))) }
@@ -85,7 +85,7 @@ fn stands_alone(address: &[u8], before: Option<u8>, text: &[u8], at: usize) -> b
         && is_free_right(text.get(at + address.len()).copied())
 }
 
-// The byte before a place of a text, of which `before` stands in front.
+// The byte before a place of a text. `before` is the byte in front of the text.
 fn byte_before(before: Option<u8>, text: &[u8], at: usize) -> Option<u8>
     requires { at ≤ length text.now }
     ensures { result ≡ places.byte_before before text.now at }
@@ -93,7 +93,7 @@ fn byte_before(before: Option<u8>, text: &[u8], at: usize) -> Option<u8>
     if at == 0 { before } else { Some(text[at - 1]) }
 }
 
-// Whether an address may begin behind a byte, or behind none.
+// Whether an address may begin after a byte, or after none.
 fn is_free_left(before: Option<u8>) -> bool
     ensures { result ≡ spec.is_free spec.goes_on_left before }
 {
@@ -103,7 +103,7 @@ fn is_free_left(before: Option<u8>) -> bool
     }
 }
 
-// Whether a byte goes on an address to its right.
+// Whether a byte continues an address on its right.
 fn goes_on_right(byte: u8) -> bool
     ensures { result ≡ spec.goes_on_right byte }
 {

@@ -48,7 +48,7 @@ pub enum Decision {
 }
 
 impl Decision {
-    // The decision of a moderator who accepts the post, or not.
+    // The decision of a moderator who accepts the post, or doesn't.
     fn of(accept: bool) -> Self
         ensures { accepts result ≡ accept }
     {
@@ -60,7 +60,7 @@ impl Decision {
     }
 }
 
-/// What `decide` does: with `Accept` where the moderator accepts the post, else with `Reject`.
+/// What `decide` does with `Accept` if the moderator accepts the post, and with `Reject` otherwise.
 pub fn answer<F: Files>(
     alloc: Global,
     files: &mut F,
@@ -91,11 +91,11 @@ pub fn answer<F: Files>(
 
 /// What a moderator decides about the post of a ticket, with the letters of its cookie, whatever its age. `now` is in seconds since 1970.
 ///
-/// `gone` where no post waits under the ticket, and `badcookie` where the letters aren't its cookie. A post that is accepted is posted
-/// and waits no longer; `full` where the archive is full, and then it still waits. One that is rejected goes back to its sender. All
-/// this is said of the files with the configuration in the place of theirs. Of the archive `Damaged` names the number of posts, the index of
-/// the next number's group, or the thread file of the subject key of the post that waits. The keys are looked at only where a post waits
-/// under the ticket, and what its acceptance or rejection reads only where the letters are its cookie.
+/// The reply is `gone` if no post waits under the ticket, and `badcookie` if the letters aren't its cookie. A post that is accepted is posted
+/// and waits no longer. If the archive is full, the reply is `full` and it still waits. A post that is rejected goes back to its sender. All
+/// this is said of the files with the configuration instead of their own. Of the archive `Damaged` names the number of posts, the index of the
+/// next number's group, or the thread file of the subject key of the post that waits. The keys are looked at only if a post waits under the
+/// ticket, and what its acceptance or rejection reads only if the letters are its cookie.
 pub fn decide<F: Files>(
     alloc: Global,
     files: &mut F,
@@ -148,7 +148,7 @@ fn answer_ticket<F: Files>(
     answer_held(alloc, files, config, now, ticket, &held, letters, decision)
 }
 
-// The answer about a post that waits under a ticket: it counts where its letters are the cookie.
+// The answer about a post that waits under a ticket: it counts if its letters are the cookie.
 fn answer_held<F: Files>(
     alloc: Global,
     files: &mut F,
@@ -174,7 +174,7 @@ fn answer_held<F: Files>(
     follow(alloc, files, config, now, ticket, held, decision)
 }
 
-// Whether letters are the cookie of a post that is held under a ticket since a moment.
+// Whether letters are the cookie of a post that has been held under a ticket since a moment.
 fn is_signed(keys: &Keys, ticket: u64, moment: u64, letters: &[u8; 20]) -> bool
     ensures value { (p : Plain) → p.keys ≡ keys.now → result ≡ mailing.is_cookie p (codes "hold") sets.Moderators moment (decimal ticket) letters.now }
     ensures letters { result ≡ is_ticket_cookie keys.now ticket moment letters.now }
@@ -191,7 +191,7 @@ fn is_signed(keys: &Keys, ticket: u64, moment: u64, letters: &[u8; 20]) -> bool
     )
 }
 
-// Does what a moderator answers, of a post that waits under a ticket.
+// Does what a moderator answers about a post that waits under a ticket.
 fn follow<F: Files>(
     alloc: Global,
     files: &mut F,
@@ -285,7 +285,7 @@ fn rejection(alloc: Global, held: &Held) -> Result<Mail, AllocError>
     Ok(Mail::Rejected { to, message })
 }
 
-// The puts by which the post of a ticket waits no longer.
+// The puts after which the post of a ticket waits no longer.
 fn taken<F: Files>(alloc: Global, files: &mut F, ticket: u64) -> Result<Txn, PartError>
     requires { IsTrue (is_drawn ticket) }
     ensures value { IsTrue F.tells → IfOk result (λ txn. (p : Plain) (held : TheHeld) → IsList (F.map files.old) p → held_post ticket p.held ≡ Some held → IsList (with_puts (F.map files.old) txn) (record p { held = without_ticket ticket p.held })) }

@@ -1,4 +1,4 @@
-// A post waits for the moderators, who are asked.
+// Holding a post for the moderators, and asking them.
 ghost use Rattle.std.specs.Prelude.{◌≡◌, ◌≤◌, true, IsTrue, IfOk, length};
 ghost use Rattle.ml_address.specs.Requests.{Accept, Reject, is_cookie, is_in_range};
 ghost use Rattle.ml_address.specs.Views.{request_view};
@@ -62,7 +62,7 @@ pub(crate) fn hold_post<F: Files>(
     ask(alloc, files, config, now, ticket, held.message, txn)
 }
 
-// These puts, by which a post is held now under a ticket, and behind them the mail that asks the moderators.
+// These puts, by which a post is held now under a ticket, and after them the mail that asks the moderators.
 fn ask<F: Files>(
     alloc: Global,
     files: &mut F,
@@ -113,7 +113,7 @@ fn moderate_mail(
     })
 }
 
-// The address to which a moderator writes who accepts a post.
+// The address that a moderator writes to if he accepts a post.
 fn accept_address(
     alloc: Global,
     config: &Config,
@@ -132,7 +132,7 @@ fn accept_address(
     own_request(alloc, config, &request)
 }
 
-// The address to which a moderator writes who rejects it.
+// The address that a moderator writes to if he rejects it.
 fn reject_address(
     alloc: Global,
     config: &Config,
@@ -165,7 +165,7 @@ fn own_request(alloc: Global, config: &Config, request: &Request<'_>) -> Result<
     )
 }
 
-// The cookie of a post that is held under a ticket since a moment.
+// The cookie of a post that has been held under a ticket since a moment.
 fn ticket_cookie(keys: &Keys, ticket: u64, moment: u64) -> [u8; 20]
     ensures letters { IsTrue (is_cookie result) }
     ensures value { (p : Plain) → p.keys ≡ keys.now → result ≡ mailing.ticket_cookie p ticket moment }

@@ -1,4 +1,4 @@
-// What is found of a post: the first row of the table that holds.
+// The verdict on a post: the first row of the table that holds.
 ghost use Rattle.std.specs.Prelude.{◌≡◌, ◌≢◌, ◌≤◌, ◌&&◌, ◌||◌, true, false, not, length, IsTrue, IfOk, IfErr, MatchOption, is_ok, Some, None};
 ghost use Rattle.ml_base.specs.Address.{address_check, address_of, key};
 ghost use Rattle.ml_base.specs.Bytes.{lower};
@@ -30,11 +30,11 @@ use ml_header::Message;
 use ml_subs::member;
 use std::alloc::{AllocError, Global};
 
-/// What is found of a post of an envelope sender: the first row of the table that holds.
+/// The verdict on a post of an envelope sender: the first row of the table that holds.
 ///
-/// Of the files it reads the sender's bucket of the deny list, where the list has one; his buckets of the sets list, digest,
-/// allow and mod, where only users may post; and the number of posts, where posts don't wait for the moderators. `Damaged`
-/// names one of these that is outside its grammar. `Fault` comes only where a read failed. All this is said of the files with the configuration in the place of theirs.
+/// Of the files it reads the sender's bucket of the deny list, if the list has one; his buckets of the sets list, digest, allow and mod, if only
+/// users may post; and the number of posts, if posts don't wait for the moderators. `Damaged` names one of these that is outside its grammar.
+/// `Fault` comes only if a read failed. All this is said of the files with the configuration instead of their own.
 pub fn verdict<F: Files>(
     alloc: Global,
     files: &mut F,
@@ -84,7 +84,7 @@ pub(crate) fn judged<F: Files>(
     of_sender(alloc, files, config, &who, message)
 }
 
-// The address of an envelope sender, or None where it is none.
+// The address of an envelope sender, or None if it is no address.
 pub(crate) fn usable(alloc: Global, sender: &[u8]) -> Result<Option<Address>, AllocError>
     ensures { IfOk result (λ found. MatchOption found (spec.is_usable sender.now ≡ false) (λ who. (spec.is_usable sender.now ≡ true) × (address_of sender.now ≡ Some who))) }
 {
@@ -95,7 +95,7 @@ pub(crate) fn usable(alloc: Global, sender: &[u8]) -> Result<Option<Address>, Al
     }
 }
 
-// What is found of a post that isn't too long, has a sender and didn't come from the list.
+// The verdict on a post that isn't too long, has a sender and didn't come from the list.
 fn of_sender<F: Files>(
     alloc: Global,
     files: &mut F,
@@ -134,7 +134,7 @@ fn is_denied<F: Files>(
     is_member(alloc, files, Set::Deny, who)
 }
 
-// What is found of a post whose sender isn't denied.
+// The verdict on a post whose sender isn't denied.
 fn of_text<F: Files>(
     alloc: Global,
     files: &mut F,
@@ -173,7 +173,7 @@ fn is_command(subject: &[u8]) -> bool
         || subject.eq_ignore_ascii_case(b"signoff")
 }
 
-// What is found of a post with a text that is taken.
+// The verdict on a post whose text is taken.
 fn of_user<F: Files>(
     alloc: Global,
     files: &mut F,
@@ -192,7 +192,7 @@ fn of_user<F: Files>(
     of_room(alloc, files, config)
 }
 
-// Whether only users may post, and an address is none of them.
+// Whether only users may post, and an address is no user's.
 fn is_stranger<F: Files>(
     alloc: Global,
     files: &mut F,
@@ -258,7 +258,7 @@ fn is_member<F: Files>(
     member(alloc, files, set, who)
 }
 
-// What is found of a post that its sender may send: whether it waits, and whether there is room for it.
+// The verdict on a post that its sender may send: whether it waits, and whether there is room for it.
 fn of_room<F: Files>(alloc: Global, files: &mut F, config: &Config) -> Result<Verdict, PartError>
     ensures value { IsTrue F.tells → IfOk result (λ found. (p : Plain) → IsList (F.map files.old) p → p.config ≡ config.now → row_of found ≡ rows.of_room p) }
     ensures moderated { IfOk result (λ found. may_be_found config.now.flags.m found ≡ true) }

@@ -1,4 +1,4 @@
-//! Posts: what is found of one, and what follows; and what a moderator answers about one that waits.
+//! Posts: the verdict on a post, what follows, and what a moderator answers about a post that waits.
 #![tactic(auto)]
 
 mod addressed;

@@ -33,12 +33,12 @@ use ml_header::Message;
 use ml_plain::Reply;
 use std::alloc::Global;
 
-/// What a message does that comes to the list's own address: it is posted, or held for the moderators, who are asked, or refused, by its verdict.
+/// What a message that comes to the list's own address does. By its verdict it is posted, or held while the moderators are asked, or refused.
 ///
-/// A post goes last into the archive, and the queue gets it for the members of the set list as they are. `now` is in seconds since 1970. What
-/// it does is said of the files with the configuration in the place of theirs. Of the archive `Damaged` names the number of posts, the index
-/// of the next number's group, or the thread file of the post's own subject key.
-/// `Memory` comes also where no memory could hold the text that is sent, of 2^32 bytes or more.
+/// A post goes last into the archive, and the queue gets it for the members that the set list has. `now` is in seconds since 1970. What it does
+/// is said of the files with the configuration instead of their own. Of the archive `Damaged` names the number of posts, the index of the next
+/// number's group, or the thread file of the post's own subject key. `Memory` comes also if no memory could hold the text that is sent, of 2^32
+/// bytes or more.
 pub fn post<F: Files>(
     alloc: Global,
     files: &mut F,
@@ -60,7 +60,7 @@ pub fn post<F: Files>(
     post_with_memo(alloc, files, &mut memo, config, now, sender, message)
 }
 
-/// What `post` does, for one of many posts: the memo is what an earlier one left, or nothing.
+/// What `post` does for one of many posts. The memo is what an earlier one left, or empty.
 pub fn post_with_memo<F: Files>(
     alloc: Global,
     files: &mut F,
@@ -144,7 +144,7 @@ fn follows(found: Verdict) -> Outcome
     }
 }
 
-// Holds a message, whose sender is an address.
+// Holds a message whose sender is an address.
 fn hold_message<F: Files>(
     alloc: Global,
     files: &mut F,
@@ -167,7 +167,7 @@ fn hold_message<F: Files>(
     }
 }
 
-// Posts a message, whose sender is an address.
+// Posts a message whose sender is an address.
 fn post_message<F: Files>(
     alloc: Global,
     files: &mut F,

@@ -1,4 +1,4 @@
-// A post goes last into the archive, and last into the queue to the set list.
+// Publishing a post: it goes last into the archive, and last into the queue to the set list.
 ghost use Rattle.std.specs.Prelude.{◌≡◌, ◌<◌, ◌≤◌, true, IsTrue, IfOk, IfErr, length};
 ghost use Rattle.ml_base.specs.Dir.{Dir, are_files, touches_only, with_puts};
 ghost use Rattle.ml_base.specs.PartErrors.{OnDamaged};
@@ -26,7 +26,7 @@ use ml_filing::{Appended, append, count};
 use ml_header::Message;
 use std::alloc::{AllocError, Global};
 
-// Puts a message of a sender into the archive under the next number, and into the queue to the set list as it stands.
+// Puts a sender's message into the archive under the next number, and into the queue to the set list as it stands.
 pub(crate) fn publish<F: Files>(
     alloc: Global,
     files: &mut F,
@@ -62,7 +62,7 @@ pub(crate) fn publish<F: Files>(
     }
 }
 
-// The puts of a post that gets a number, and behind them those by which its text goes to the set list.
+// The puts of a post that gets a number, and after them those by which its text goes to the set list.
 fn with_mail<F: Files>(
     alloc: Global,
     files: &mut F,
@@ -89,7 +89,7 @@ fn with_mail<F: Files>(
     Ok(txn)
 }
 
-// The text that the list sends of a message, for which there is no memory where it is too long for a post.
+// The text that the list sends of a message. If it is too long for a post, the answer is lack of memory.
 fn text_to_send(alloc: Global, config: &Config, message: &[u8]) -> Result<Bytes, AllocError>
     ensures text { IfOk result (λ text. text ≡ spec.sent_text config.now message.now) }
     ensures size { IfOk result (λ text. length text < 4_294_967_296) }

@@ -31,7 +31,7 @@ pub(crate) fn sent_text(
     with_lines(alloc, config, message, Some(trailer.as_slice()))
 }
 
-// The text, with this trailer where it is due.
+// The text, with this trailer if it is due.
 fn with_lines(
     alloc: Global,
     config: &Config,
@@ -44,7 +44,7 @@ fn with_lines(
     message.rewritten(alloc, LEFT_OUT, lines.as_slice(), prefix(config), trailer)
 }
 
-// The prefix of subjects, where they are marked with one.
+// The prefix of subjects, if they are marked with one.
 fn prefix(config: &Config) -> Option<&[u8]>
     ensures { option_map (λ p. p.now) result ≡ spec.prefix_of config.now }
 {
@@ -71,7 +71,7 @@ fn list_trailer(alloc: Global, config: &Config) -> Result<Bytes, AllocError>
     Ok(out)
 }
 
-// The seven lines that stand in front.
+// The seven lines at the front.
 fn list_lines(alloc: Global, config: &Config) -> Result<Bytes, AllocError>
     ensures { IfOk result (λ text. text ≡ words.list_lines config.now.local config.now.host) }
 {

@@ -1,11 +1,11 @@
-// What is found of a post.
+// The verdicts on a post.
 
-/// What is found of a post: the first of these that holds.
+/// The verdict on a post: the first of these that holds.
 #[derive(Clone, Copy, Debug, PartialEq, Eq)]
 pub enum Verdict {
     /// The message is longer than the list allows.
     TooBig,
-    /// The envelope sender is no address, as the empty one and `#@[]`.
+    /// The envelope sender is no address, such as the empty one and `#@[]`.
     BounceSender,
     /// The message has a Mailing-List field.
     Looped,

@@ -1,4 +1,4 @@
--- What a run does of any directory, step by step.
+-- What a run does on any directory, step by step.
 use Rattle.std.proofs.Common.{◌≡◌, ◌⊎◌, inl, inr, ⊎_elim, ℕ, ◌+◌, ◌-◌, IsTrue, List, [], ◌∷◌, ◌++◌, length, take, drop, Option, Some, None, ap, sym, refl, subst, ◌∙◌, arith, append_assoc, length-append}
 use Rattle.std.specs.Prelude.{IsSome}
 use Rattle.std.proofs.lemmas.List.{append-nil, take-append-drop}
@@ -27,7 +27,7 @@ use Rattle.ml_run.specs.Leaving.{IsSettling}
 use Rattle.ml_run.specs.Anywhere.{Done, items_of, answers_of, after, IsDone, AreDone, Adds, HoldsDone, IsAfterFirst, HasDone, AtEachMoment}
 use Rattle.ml_run.proofs.LaidPuts.{laid_over}
 
--- two rows, one behind the other
+-- two rows, one after the other
 pub after_joined : (files : Dir) (xs ys : List Done) → after files (xs ++ ys) ≡ after (after files xs) ys
 after_joined files [] ys = refl
 after_joined files (x ∷ xs) ys = after_joined (with_puts files x.puts) xs ys
@@ -78,7 +78,7 @@ all_answered files done behind before out left dir put = record {
   put = inl (answers_of done, [], sym (append-nil (answers_of done)), put);
 }
 
--- some more are done, and of their answers some first bytes are out
+-- some more are done, and some first bytes of their answers are out
 pub some_answering : (files : Dir) (done more : List Done) (before out : Text) (left : Contents) (n : ℕ) → directory left ≡ Some (after files (done ++ more)) → out ≡ (before ++ answers_of done) ++ take n (answers_of more)
     → IsAfterFirst files (done ++ more) before left out
 some_answering files done more before out left n dir put = record {
@@ -127,7 +127,7 @@ nothing_done files done before out left dir put = ⊎_elim
 pub with_group : (files : Dir) (done more : List Done) (g : Group) (dir : Option Dir) → dir ≡ Some (after files done) → HoldsDone (after files done) g more → with_txn g.txn dir ≡ Some (after files (done ++ more))
 with_group files done more g dir here h = ap (with_txn g.txn) here ∙ ap (λ (f : Dir). Some f) (h.laid ∙ sym (after_joined files done more))
 
--- in the course of a commit and its answers
+-- during a commit and its answers
 pub settling_done : (files : Dir) (done more : List Done) (g : Group) (before output lines : Text) (dir : Option Dir) (left : Contents) (out : Text)
     → dir ≡ Some (after files done) → HoldsDone (after files done) g more → lines ≡ g.lines → output ≡ before ++ answers_of done
     → IsSettling dir g.txn lines output left out → IsAfterFirst files (done ++ more) before left out
@@ -274,12 +274,12 @@ module _ {S : Type 0} (told : Ghosts S) where
       (λ left out n image e. nothing_done files [] (told.output start) out left ((l.now left image).0 ∙ here) (inr (why, n, e ∙ ap (λ (o : Text). o ++ take n (stop_text None (status_of_why why) why)) same)))
       s t
 
-  -- what follows from P is left too
+  -- if what is left has P, it also has what follows from P
   pub opens_weaker : (old new : S) (P Q : Contents → Text → Type 0) → Opens told old new P → ((left : Contents) (out : Text) → P left out → Q left out) → Opens told old new Q
   opens_weaker old new P Q opens f = ⊎_elim (λ early. inl early)
       (λ late. inr (first_weaker told.moment told.left_since told.disk told.output told.syncs old new (Now (told.disk old) (told.output old)) P (Now (told.disk old) (told.output old)) Q late (λ left out p. p) f)) opens
 
-  -- where nothing is pending at the start, what a run leaves is known from there on
+  -- if nothing is pending at the start, what a run leaves is known from there on
   pub each_moment : (files : Dir) (done : List Done) (start new : S) → directory (told.disk start).reads ≡ Some files → (IsTrue told.tells_all → Opens told start new (IsAfterFirst files done (told.output start)))
       → AtEachMoment told start new (IsAfterFirst files done (told.output start))
   each_moment files done start new here opens = (

@@ -79,7 +79,7 @@ module _ {S : Type 0} (told : Ghosts S) where
       (λ cut. subst P (sym cut.0) (cut_causes input (Rose d0 (told.disk_faults new)) (Rose o0 (told.output_faults new)) (rose_earlier o0 (told.output_faults mid) (told.output_faults new) le cut.1)))
       s.line
 
-  -- a refused group has one of these statuses
+  -- a refused group has one of the statuses 71, 73 and 111
   pub refused_status : (mid new : S) (status : ℕ) (first : Option ℕ) (why : Option Why) (disk output : Type 0) → IsRefused why disk output → Refuses told mid new first why status
       → (status ≡ 71 → ⊥) → (status ≡ 73 → ⊥) → (status ≡ 111 → ⊥) → ⊥
   refused_status mid new status first None disk output refused f one two three = two (f.quiet refl).0
@@ -133,7 +133,7 @@ module _ {S : Type 0} (told : Ghosts S) where
   refused_syncs mid new status first None f t = (ap told.syncs (f.quiet refl).1, ap told.log_bytes (f.quiet refl).1)
   refused_syncs mid new status first (Some reason) f t = ((f.said reason refl).syncs t, (f.said reason refl).log_bytes t)
 
-  -- what is pending after a refused group is a fault's, or memory was wanting, or the output failed
+  -- something is pending after a refused group only because of a fault, or because memory ran out, or because the output failed
   pub refused_rest : (mid new : S) (d0 d1 status : ℕ) (first : Option ℕ) (why : Option Why) (output : Type 0) → d0 ≤ d1 → IsRefused why (Rose d1 (told.disk_faults mid)) output → Refuses told mid new first why status
       → (Rose d0 (told.disk_faults new) → ⊥) → (status ≡ 71 → ⊥) → (status ≡ 73 → ⊥) → ⊥
   refused_rest mid new d0 d1 status first None output dle refused f none one two = two (f.quiet refl).0

@@ -128,7 +128,7 @@ added_next (Ok u) dir g mid new item more reply same next gives = λ last q item
     holds_more dir last g new q items item more reply h (subst (λ (m : Group). HasNext m new item.number more reply) same next) (gives (fold q items) h.state)
 added_next (Err e) dir g mid new item more reply same next gives = tt
 
--- the same of the group alone
+-- the same for the group alone
 pub next_over : (r : Result (Unit {0}) Why) (g mid new : Group) (number : ℕ) (more : List Put) (reply : Reply) → mid ≡ g → OnOk r (HasNext mid new number more reply)
     → OnOk r ((puts : List Put) × (answer : Reply) × HasNext g new number puts answer)
 next_over (Ok u) g mid new number more reply same next = (more, reply, subst (λ (m : Group). HasNext m new number more reply) same next)
@@ -138,11 +138,11 @@ next_over (Err e) g mid new number more reply same next = tt
 pub few_bytes : (g : Group) → IsGroup g → g.size < 4_194_304 → content_size g.txn < 4_194_304
 few_bytes g is low = omega (arith, is.size, low)
 
--- no items have few bytes
+-- a group without items has few bytes
 pub none_low : (g : Group) → IsGroup g → IsEmptyGroup g → g.size < 4_194_304
 none_low g is none = let zero : content_size g.txn ≡ 0 = ap content_size none.txn in omega (arith, is.size, zero)
 
--- a group that ends for another reason than that it is full
+-- a group that ends for another reason than being full
 pub ended_in_time : (end : GroupEnd) (g : Group) → end ≢ ends.Full → HasRoom g → EndsInTime end g
 ended_in_time ends.Full g other room = absurd (other refl)
 ended_in_time ends.Last g other room = room
@@ -156,7 +156,7 @@ just_full g new number is few low h = record { before = g; number = number; more
 pub content_next : (puts : List Put) (i : ℕ) (put : Put) → i < length puts → put ≡ get_or puts i put → content_size (drop i puts) ≡ content_size (put ∷ []) + content_size (drop (i + 1) puts)
 content_next puts i put lt is = ap content_size (drop_more puts i put lt ∙ ap (λ (p : Put). p ∷ drop (i + 1) puts) (sym is)) ∙ content_joined (put ∷ []) (drop (i + 1) puts)
 
--- a fact of a value, at the value
+-- what holds of a result's value, at that value
 pub at_ok : {T E : Type 0} (P : T → Type 0) (r : Result T E) (x : T) → IfOk r P → r ≡ Ok x → P x
 at_ok {T} {E} P r x h is = subst (λ (q : Result T E). IfOk q P) is h
 

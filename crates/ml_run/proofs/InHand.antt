@@ -24,7 +24,7 @@ use Rattle.ml_run.specs.Leaving.{HasState}
 use Rattle.ml_run.specs.Single.{IsAlone, is_item_status}
 use Rattle.ml_run.specs.Stops.{is_run_status}
 
--- what is handed over is what its own bytes give
+-- what is handed over is what the item's own bytes give
 pub given_held : (item : Item) (held : Option Item) (bs : Text) → IsHeld item held → HasLeft (reader_held item held) (Some (bytes_held item held)) bs
     → NextRead (Ok held) (reader_held item None) (Some (bytes_held item None)) (item_at (place_of (reader_held item held)) bs)
 given_held item (Some x) bs h has =

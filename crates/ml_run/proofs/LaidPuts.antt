@@ -1,4 +1,4 @@
--- Puts laid over others.
+-- What laying puts over others makes of them.
 use Rattle.std.proofs.Common.{◌≡◌, ⊎_elim, ℕ, ◌+◌, ◌<◌, ◌≤◌, Bool, true, false, not, ◌&&◌, cond, List, [], ◌∷◌, ◌++◌, length, take, drop, set, get_or, Option, Some, None, refl, ap, ap₂, sym, ◌∙◌, subst, arith, append_assoc, length-take, length-set}
 use Rattle.std.specs.Prelude.{slice_get, MatchOption}
 use Rattle.std.specs.List.{swap}
@@ -16,7 +16,7 @@ use Rattle.ml_base.proofs.Laid.{laid_joined}
 use Rattle.ml_base.proofs.LayLemmas.{laid_there, laid_last, laid_as_pushed, laid_distinct}
 use Rattle.ml_run.specs.Groups.{laid_all}
 
--- laid over any directory they make the same as behind the others
+-- laid over any directory they make the same as if they came after the others
 pub laid_as_joined : (puts more : List Put) (dir : Dir) (name : Name) → with_puts dir (laid_all puts more) name ≡ with_puts dir (puts ++ more) name
 laid_as_joined puts [] dir name = ap (λ (ps : List Put). with_puts dir ps name) (sym (append-nil puts))
   where
@@ -52,7 +52,7 @@ pub all_distinct : (puts more : List Put) → are_distinct puts ≡ true → are
 all_distinct puts [] e = e
 all_distinct puts (put ∷ more) e = all_distinct (laid_in put puts) more (laid_distinct put puts e)
 
--- the put at a place is laid in the place of another, or behind the first ones
+-- the put at a place takes the place of another, or goes after the first ones
 pub laid_swapped : (puts new : List Put) (kept at place : ℕ) (put : Put) → kept ≤ at → at < length puts → slice_get puts at ≡ Some put → IsNewestAt (take kept puts) put.name place → new ≡ swap puts place at → take kept new ≡ laid_in put (take kept puts)
 laid_swapped puts new kept at place put le lt here is e =
     let low : place < kept = omega (arith, is.within, length-take kept puts) in
@@ -98,7 +98,7 @@ laid_step (p ∷ ps) slice new now kept result at same is lt laid rest =
     ∙ ap₂ laid_all (laid put here ∙ ap (λ (l : List Put). laid_in put (take kept l)) same) (rest ∙ ap (drop (at + 1)) same)
     ∙ ap (laid_all (take kept items)) (sym (drop_more items at p lt))
 
--- the newest put of the file among the first ones, where it was looked for
+-- the newest put of the file among the first ones, if it was looked for
 pub newest_there : (puts : List Put) (kept : ℕ) (put : Put) (place : ℕ) (found : Option ℕ) → found ≡ Some place → MatchOption found (touches (take kept puts) put.name ≡ false) (IsNewestAt (take kept puts) put.name) → IsNewestAt (take kept puts) put.name place
 newest_there puts kept put place found is m = subst (λ (o : Option ℕ). MatchOption o (touches (take kept puts) put.name ≡ false) (IsNewestAt (take kept puts) put.name)) is m
 

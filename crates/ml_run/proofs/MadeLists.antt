@@ -31,7 +31,7 @@ use Rattle.ml_run.specs.Leaving.{HasState}
 use Rattle.ml_run.specs.Making.{IsOneOf, IsMaking, IsUnmade, Makes}
 use Rattle.ml_ending.proofs.Said.{says_front, tells_front, final_why, opening_then}
 
--- where no list is made, the directory is the one before or the whole new one
+-- if no list is made, the directory is the one before or the whole new one
 pub one_of : (why : Why) (dir held : Option Dir) (txn : List Put) → IsUnmade why dir txn held → IsOneOf dir txn held
 one_of whys.There dir held txn u = inl u.0
 one_of (whys.At name) dir held txn u = inl u.0
@@ -48,7 +48,7 @@ one_of whys.Long dir held txn u = absurd u
 one_of whys.Clock dir held txn u = absurd u
 one_of whys.Absent dir held txn u = absurd u
 
--- memory was wanting, or the disk failed
+-- memory ran out, or the disk failed
 pub either_unmade : (why : Why) (dir held : Option Dir) (txn : List Put) → (why ≡ whys.Memory) ⊎ (why ≡ whys.Disk) → IsOneOf dir txn held → IsUnmade why dir txn held
 either_unmade why dir held txn is one = ⊎_elim (λ e. subst (λ (w : Why). IsUnmade w dir txn held) (sym e) one) (λ e. subst (λ (w : Why). IsUnmade w dir txn held) (sym e) one) is
 
@@ -92,7 +92,7 @@ module _ {S : Type 0} (told : Ghosts S) where
       (λ left out g. inl (images left g.0, inr (why, g.1.0, g.1.1 ∙ ap (λ (o : Text). o ++ take g.1.0 text) put)))
       (λ left image. (subst (λ (d : Disk). IsImage d left) (s.disk_is t) image, says_front told mid new status None why s t))
 
-  -- a list was committed, its store closed, and told of
+  -- a list was committed, its store was closed, and its line was given
   pub told_makes : (start old new : S) (dir : Option Dir) (txn : List Put) (line : Text) (status : ℕ) → IsTrue told.tells_reads → (IsTrue told.tells_all → told.output old ≡ told.output start)
       → IsSome dir → directory (told.disk old).reads ≡ with_txn txn dir → TellsClosed told old new status line → Makes (IsTrue told.tells_all) status dir txn line (told.output start) (told.disk new).reads (told.output new)
   told_makes start old new dir txn line status r put there is f =
@@ -188,7 +188,7 @@ module _ {S : Type 0} (told : Ghosts S) where
       (λ left out p. subst (λ (x : Option Dir × List Put × Text × Text). IsMaking x.0 x.1 x.2 x.3 left out) (λ i. (same i, e i, f i, put i)) p))
       (λ left out p. inl (inl p.0, inl p.1))
 
-  -- an opening was refused behind its first sync
+  -- an opening was refused after its first sync
   pub refused_making : (start mid new : S) (txn : List Put) (line : Text) (status : ℕ) (why : Why) → FromFirstSync told.moment told.left_since told.disk told.output told.syncs start mid (Now (told.disk start) (told.output start)) (IsOld (directory (told.disk start).reads) (told.output start))
       → told.output mid ≡ told.output start → Says told mid new status None why → IsTrue told.tells_all → Opens told start new (IsMaking (directory (told.disk start).reads) txn line (told.output start))
   refused_making start mid new txn line status why first put s t = inr (record {
@@ -239,7 +239,7 @@ some_status whys.There e = omega (arith, e)
 some_status whys.Absent e = omega (arith, e)
 some_status whys.Disk e = omega (arith, e)
 
--- where there was no file, what was made stands for the new list
+-- if there was no file, what was made stands for the new list
 pub made_state : (told : Type 0) (status : ℕ) (dir : Option Dir) (files : Dir) (config : Config) (key line before : Text) (held : Contents) (output : Text) → IsConfig config → length key ≡ 32 → dir ≡ Some files
     → ((name : Name) → IsTrue (is_file name) → files name ≡ None) → status ≡ 0 → Makes told status dir (first_puts config key) line before held output → HasState (directory held) (fresh (new_list config key))
 made_state told status dir files config key line before held output sound long found none zero m = ⊎_elim

@@ -1,4 +1,4 @@
--- One group of a run: what was gathered, and how the run goes on or ends behind it.
+-- One group of a run: what was gathered, and how the run goes on or ends after it.
 use Rattle.std.proofs.Common.{◌≡◌, ◌≢◌, ◌⊎◌, inl, inr, ⊎_elim, ℕ, true, false, ◌+◌, ◌-◌, ◌<◌, ◌≤◌, IsTrue, List, [], ◌∷◌, ◌++◌, length, take, drop, Option, Some, None, ap, sym, refl, subst, ◌∙◌, arith, append_assoc, length-append}
 use Rattle.std.specs.Prelude.{IsSome}
 use Rattle.std.proofs.lemmas.List.{append-nil, take-append-drop}
@@ -46,7 +46,7 @@ after_wider q items done behind before out left split p = record {
   put = ⊎_elim (λ a. inl a) (λ l. inr (record { answered = l.answered; waiting = l.waiting; split = l.split; front = l.front; more = l.more; line = line_wider l.waiting p.rest behind (l.front ++ l.more) l.line; put = l.put })) p.put;
 }
 
--- a stream cut behind so many items
+-- a stream cut after this many items
 pub cut_split : (limit answered count : ℕ) (all done ahead items rest : List Item) → all ≡ done ++ ahead → answered ≡ length done → answered ≤ limit → ahead ≡ items ++ rest → count ≡ length items → count ≤ limit - answered
     → take limit all ≡ done ++ (items ++ take (limit - (answered + count)) rest)
 cut_split limit answered count all done ahead items rest split count_is few next is le =
@@ -111,7 +111,7 @@ pub first_next : (first : Option ℕ) (items rest : List Item) → IsFirst first
 first_next first [] rest is some = subst (λ (o : Option ℕ). IsNumberOf o rest) (sym is) tt
 first_next first (x ∷ xs) rest is some = subst (λ (o : Option ℕ). IsNumberOf o (x ∷ xs ++ rest)) (sym is) refl
 
--- what a refused group leaves, that is told of the site
+-- the stop line of a refused group says why the run ends early
 pub refused_line : (reason : Why) (first : Option ℕ) (disk output input : Type 0) (limit : ℕ) (held : Contents) (all : List Item) (ending : StreamEnd) (q : State) (done behind : List Item) → IsRefused (Some reason) disk output → IsNumberOf first behind → IsSome first
     → IsLine (Some (first, reason)) input limit held all ending q done behind
 refused_line whys.Memory first disk output input limit held all ending q done behind r number some = number

@@ -63,7 +63,7 @@ module _ {S : Type 0} (told : Ghosts S) where
     moments = settling_moments start old read new q items done more rest txn lines reads s same put still stands is time;
   }
 
-  -- how a directory may be whose commit was refused
+  -- what the directory may be after its commit was refused
   pub reached_any : (old : Option Dir) (left : Contents) (q : State) (done more rest : List Item) (txn : List Put) → HasState old (fold q done) → IsState (with_puts (the_dir old) txn) (fold (fold q done) more)
       → (directory left ≡ old) ⊎ (directory left ≡ with_txn txn old) → Reached q done (more ++ rest) left
   reached_any old left q done more rest txn state stands any = ⊎_elim
@@ -71,7 +71,7 @@ module _ {S : Type 0} (told : Ghosts S) where
       (λ e. reached_some q done more rest left (other_list (directory left) (fold (fold q done) more) (fold q (done ++ more)) (sym (fold-append q done more)) (txn_state old (directory left) txn (fold q done) (fold (fold q done) more) e state stands)))
       any
 
-  -- which of the two an image is in the course of a commit
+  -- which of the two an image is during a commit
   pub any_of : (old : Option Dir) (txn : List Put) (lines output : Text) (left : Contents) (out : Text) → IsSettling old txn lines output left out → (directory left ≡ old) ⊎ (directory left ≡ with_txn txn old)
   any_of old txn lines output left out s = ⊎_elim (λ e. inl e.0) (λ e. inr e.0) s
 
@@ -119,7 +119,7 @@ module _ {S : Type 0} (told : Ghosts S) where
             (λ left out p. p) (λ left out p. some_answered q items done behind (told.output start) out left s.split (same_state dir (directory left) (fold q done) p.0 s.state) (p.1 ∙ s.put t));
       }
 
--- a line begins with the number of what is behind, or `-`
+-- a line begins with the number of the next item, or with `-`
 pub line_number : (line : StopLine) (input : Type 0) (limit : ℕ) (held : Contents) (all : List Item) (ending : StreamEnd) (q : State) (done behind : List Item) → IsLine line input limit held all ending q done behind → IsNumberOf (who_of line) behind
 line_number None input limit held all ending q done behind l = tt
 line_number (Some (who, whys.Bad at)) input limit held all ending q done behind l = subst (λ (o : Option ℕ). IsNumberOf o behind) (sym l.0) tt
@@ -151,7 +151,7 @@ all_done limit all done behind split is = empty behind (omega (arith, ap length 
     empty [] e = refl
     empty (x ∷ l) e = absurd (omega (arith, e))
 
--- a line without a number, which says nothing of memory, stands behind all items, or the source failed
+-- a line that has no number and isn't about memory comes before any item is done or after all of them, or the source failed
 pub line_dash : (line : StopLine) (input : Type 0) (limit : ℕ) (held : Contents) (all : List Item) (ending : StreamEnd) (q : State) (done behind : List Item) → take limit all ≡ done ++ behind → (IsMemory line → ⊥)
     → IsLine line input limit held all ending q done behind → who_of line ≡ None → (done ≡ []) ⊎ ((behind ≡ []) ⊎ input)
 line_dash None input limit held all ending q done behind split other l who = inr (inl (all_done limit all done behind split l.1))

@@ -62,7 +62,7 @@ gathers_one_done files g new start reader next left now later d s a read = recor
       (one.0, old.1 ∙ ap (λ (l : List Item). items_of s.done ++ l) one.1 ∙ sym (append_assoc (items_of s.done) (d.item ∷ []) one.0) ∙ ap (λ (l : List Item). l ++ one.0) (sym (items_joined s.done (d ∷ []))), one.2);
 }
 
--- it ended for another reason than that it is full
+-- it ended for another reason than being full
 pub gathers_ended_done : (files : Dir) (g : Group) (start reader next : Items) (left now later : Option Text) (end : GroupEnd) → ((rest : List Item) (ending : StreamEnd) → GoesOn end next later rest ending)
     → GathersDone files g ends.Full start reader left now → GathersDone files g end start next left later
 gathers_ended_done files g start reader next left now later end goes s = record {
@@ -71,13 +71,13 @@ gathers_ended_done files g start reader next left now later end goes s = record 
   ahead = λ ahead ending is. let old = s.ahead ahead ending is in (old.0, old.1, goes old.0 ending);
 }
 
--- an end that is not that of a full group says nothing of what is ahead
+-- an end other than that of a full group says nothing of what is ahead
 pub other_goes : (end : GroupEnd) (reader : Items) (left : Option Text) (rest : List Item) (ending : StreamEnd) → end ≢ ends.Full → GoesOn end reader left rest ending
 other_goes ends.Full reader left rest ending other = absurd (other refl)
 other_goes ends.Last reader left rest ending other = tt
 other_goes (ends.Stopped who why) reader left rest ending other = tt
 
--- an item was added to a group, with what was done of it
+-- an item was added to a group, with what was done for it
 pub added_done : (r : Result (Unit {0}) Why) (files : Dir) (g mid new : Group) (item : Item) (more : List Put) (reply : Reply) → mid ≡ g → OnOk r (HasNext mid new item.number more reply) → IsTrue (are_files more) → IsTrue (is_code reply.code)
     → touches_only (is_written_by item) more ≡ true → WritesAsAsked (with_puts files g.txn) item more → CountsOnce (with_puts files g.txn) item.number (more, reply) → FoundWhole (with_puts files g.txn) item (more, reply)
     → ((dir : Dir) (q : State) → AlikeFor item (with_puts files g.txn) dir → IsState dir q → Does dir (more, reply) (step q item)) → OnOk r ((d : Done) × (d.item ≡ item) × Adds files g new d)
@@ -85,7 +85,7 @@ added_done (Ok u) files g mid new item more reply same next table code own asked
     (record { item = item; puts = more; reply = reply }, refl, record { next = subst (λ (m : Group). HasNext m new item.number more reply) same next; is = record { table = table; own = own; asked = asked; code = code; once = once; found = found; steps = gives } })
 added_done (Err e) files g mid new item more reply same next table code own asked once found gives = tt
 
--- a stop that is told of with a reason is no answer
+-- the status of a stop that has a reason is never that of an answer
 reason_unanswered : (why : Why) (input disk : Type 0) (damaged : Name → Type 0) → HasReason why input disk damaged → is_status (status_of_why why) ≡ false
 reason_unanswered (whys.Bad at) input disk damaged r = refl
 reason_unanswered (whys.Short at) input disk damaged r = refl
@@ -106,7 +106,7 @@ pub not_answered : (why : Why) (status : ℕ) (input disk : Type 0) (damaged : N
 not_answered why status input disk damaged reason same ok = let bad : true ≡ false = sym ok ∙ ap is_status same ∙ reason_unanswered why input disk damaged reason in cc
 
 module _ {S : Type 0} (told : Ghosts S) where
-  -- the run goes on behind a full group
+  -- the run goes on after a full group
   pub served_next : (files : Dir) (start old read new : S) (answered : ℕ) (reader next : Items) (left left' before : Option Text) (g : Group) (lines : Text) → (IsTrue told.tells_all → IsTrue told.tells_reads) → IsTrue told.tells_reads
       → HasServed told files start old answered reader left before → GathersDone (the_dir (directory (told.disk old).reads)) g ends.Full reader next left left' → lines ≡ g.lines
       → (IsTrue told.tells_reads → (told.disk read).reads ≡ (told.disk old).reads) → (IsTrue told.tells_all → told.output read ≡ told.output old) → Leaves told old read (IsStill told old)
@@ -123,7 +123,7 @@ module _ {S : Type 0} (told : Ghosts S) where
             (n.0, i.1 ∙ ap (λ (l : List Item). items_of a.done ++ l) n.1 ∙ sym (append_assoc (items_of a.done) (items_of s.done) n.0) ∙ ap (λ (l : List Item). l ++ n.0) (sym (items_joined a.done s.done)), n.2);
       }
 
-  -- the run ends behind a group
+  -- the run ends after a group
   pub served_last : (files : Dir) (start old read new end : S) (limit answered status total last : ℕ) (reader next : Items) (left left' before : Option Text) (g : Group) (stop : GroupEnd) (lines : Text) (line : StopLine) → (IsTrue told.tells_all → IsTrue told.tells_reads)
       → IsTrue told.tells_reads → HasServed told files start old answered reader left before → GathersDone (the_dir (directory (told.disk old).reads)) g stop reader next left left' → lines ≡ g.lines
       → (IsTrue told.tells_reads → (told.disk read).reads ≡ (told.disk old).reads) → (IsTrue told.tells_all → told.output read ≡ told.output old) → Leaves told old read (IsStill told old)
@@ -198,7 +198,7 @@ module _ {S : Type 0} (told : Ghosts S) where
     answers = λ ok t. absurd (failing_whole status failing ok);
   }
 
-  -- a run's items, told of from an earlier site on
+  -- a run's items, told from an earlier site on
   pub items_before : (M N : (Contents → Text → Type 0) → Type 0) (brings : List Item → StreamEnd → Type 0) (limit status answered : ℕ) (start now new : S) (files : Dir) → (IsTrue told.tells_all → told.output now ≡ told.output start)
       → ((done : List Done) → M (IsAfterFirst files done (told.output now)) → N (IsAfterFirst files done (told.output start)))
       → DoesItems told M brings limit status answered now new files → DoesItems told N brings limit status answered start new files
@@ -210,24 +210,24 @@ module _ {S : Type 0} (told : Ghosts S) where
     answers = λ ok t. d.answers ok t ∙ ap (λ (o : Text). o ++ answers_of d.first) (same t);
   }
 
-  -- a row, of which other words say what is brought
+  -- a row, with what is brought said in other words
   pub row_brought : (B C : List Item → StreamEnd → Type 0) (limit status answered : ℕ) (new : S) (files : Dir) (first group : List Done) → ((all : List Item) (ending : StreamEnd) → C all ending → B all ending)
       → IsRow told B limit status answered new files first group → IsRow told C limit status answered new files first group
   row_brought B C limit status answered new files first group brings r = record { are = r.are; count = r.count; few = r.few; brought = λ all ending c. r.brought all ending (brings all ending c); end = r.end; whole = r.whole }
 
-  -- what a run does, of which other words say what is brought
+  -- what a run does, with what is brought said in other words
   pub items_at : (M : (Contents → Text → Type 0) → Type 0) (B C : List Item → StreamEnd → Type 0) (limit status answered : ℕ) (start new : S) (files : Dir) → ((all : List Item) (ending : StreamEnd) → C all ending → B all ending)
       → DoesItems told M B limit status answered start new files → DoesItems told M C limit status answered start new files
   items_at M B C limit status answered start new files brings d =
       record { first = d.first; group = d.group; row = row_brought B C limit status answered new files d.first d.group brings d.row; moments = d.moments; answers = d.answers }
 
-  -- the one item in hand
+  -- the items of a run over one item in hand
   pub items_of_one : (M : (Contents → Text → Type 0) → Type 0) (item : Item) (status answered : ℕ) (start new : S) (files : Dir) → Brings (Some (spelled_item item)) (item ∷ []) End
       → DoesItems told M (Brings (Some (spelled_item item))) 1 status answered start new files → DoesItems told M (IsAlone item) 1 status answered start new files
   items_of_one M item status answered start new files b d = items_at M (Brings (Some (spelled_item item))) (IsAlone item) 1 status answered start new files
       (λ all ending alone. subst (λ (e : StreamEnd). Brings (Some (spelled_item item)) all e) (sym alone.1) (subst (λ (items : List Item). Brings (Some (spelled_item item)) items End) (sym alone.0) b)) d
 
-  -- where all are answered, the directory is that after them
+  -- if all are answered, the directory is the one after them
   pub row_end : (B : List Item → StreamEnd → Type 0) (limit status answered : ℕ) (new : S) (files : Dir) (first group : List Done) → group ≡ [] → IsRow told B limit status answered new files first group → directory (told.disk new).reads ≡ Some (after files first)
   row_end B limit status answered new files first group none r =
       ⊎_elim (λ is. is) (λ is. is ∙ ap (λ (l : List Done). Some (after files (first ++ l))) none ∙ ap (λ (l : List Done). Some (after files l)) (append-nil first)) r.end

@@ -22,7 +22,7 @@ spent_none syncs bytes log le = record {
   few = omega arith;
 }
 
--- one group more, that counts as so many full and so many heavy ones
+-- one group more, which counts as this many full and this many heavy ones
 spent_group : (s0 s1 s2 b0 b1 b2 l1 l2 answered count others extra full heavy : ℕ) (txn : List Put) → HasSpent s0 s1 b0 b1 l1 answered others → Costs s1 s2 b1 b2 l1 l2 txn
     → 16 * full ≤ count → 4_194_304 * heavy ≤ content_size txn → 2 ≤ extra + 2 * full + 2 * heavy → HasSpent s0 s2 b0 b2 l2 (answered + count) (others + extra)
 spent_group s0 s1 s2 b0 b1 b2 l1 l2 answered count others extra full heavy txn h spends enough size two = ⊎_elim
@@ -50,12 +50,12 @@ spent_group s0 s1 s2 b0 b1 b2 l1 l2 answered count others extra full heavy txn h
 pub spent_full : (s0 s1 s2 b0 b1 b2 l1 l2 answered count others : ℕ) (txn : List Put) → HasSpent s0 s1 b0 b1 l1 answered others → Costs s1 s2 b1 b2 l1 l2 txn → count ≡ 16 → HasSpent s0 s2 b0 b2 l2 (answered + count) (others + 0)
 spent_full s0 s1 s2 b0 b1 b2 l1 l2 answered count others txn h spends is = spent_group s0 s1 s2 b0 b1 b2 l1 l2 answered count others 0 1 0 txn h spends (omega (arith, is)) (omega arith) (omega arith)
 
--- a group of so many bytes
+-- a group of at least 4,194,304 bytes
 pub spent_heavy : (s0 s1 s2 b0 b1 b2 l1 l2 answered count others size : ℕ) (txn : List Put) → HasSpent s0 s1 b0 b1 l1 answered others → Costs s1 s2 b1 b2 l1 l2 txn
     → 4_194_304 ≤ size → size ≡ min (content_size txn) (2 ^ 64 - 1) → HasSpent s0 s2 b0 b2 l2 (answered + count) (others + 0)
 spent_heavy s0 s1 s2 b0 b1 b2 l1 l2 answered count others size txn h spends le is = spent_group s0 s1 s2 b0 b1 b2 l1 l2 answered count others 0 0 1 txn h spends (omega arith) (omega (arith, le, is)) (omega arith)
 
--- another
+-- another group
 pub spent_other : (s0 s1 s2 b0 b1 b2 l1 l2 answered count others : ℕ) (txn : List Put) → HasSpent s0 s1 b0 b1 l1 answered others → Costs s1 s2 b1 b2 l1 l2 txn → HasSpent s0 s2 b0 b2 l2 (answered + count) (others + 2)
 spent_other s0 s1 s2 b0 b1 b2 l1 l2 answered count others txn h spends = spent_group s0 s1 s2 b0 b1 b2 l1 l2 answered count others 2 0 0 txn h spends (omega arith) (omega arith) (omega arith)
 
@@ -72,7 +72,7 @@ spent_bound s0 s1 s2 b0 b1 b2 log answered others more h last =
     heavy_groups : (heavy laid bytes : ℕ) → 4_194_304 * heavy ≤ bytes → 8_388_608 * laid ≤ bytes + 1 → 2 * heavy + 3 * laid ≤ bytes / 1_048_576 + 1
     heavy_groups heavy laid bytes one two = omega (arith, one, two)
 
--- what a group cost whose store was read from before
+-- what a group cost if its store was only read before
 pub costs_of : {S : Type 0} (told : Ghosts S) (old read new : S) (txn : List Put) → (told.disk read).reads ≡ (told.disk old).reads → told.syncs read ≡ told.syncs old → told.log_bytes read ≡ told.log_bytes old
     → Spends told (grown (length (told.disk read).reads.log) txn) (content_size txn) read new
     → Costs (told.syncs old) (told.syncs new) (told.log_bytes old) (told.log_bytes new) (length (told.disk old).reads.log) (length (told.disk new).reads.log) txn
@@ -84,7 +84,7 @@ costs_of {S} told old read new txn same syncs bytes s =
       many = λ lt. ⊎_elim (λ a. absurd (omega (arith, lt, a.0, size))) (λ b. (omega (arith, b.1.syncs, syncs), b.1.short, omega (arith, b.1.paid, bytes, log))) s.cost;
     }
 
--- a group that the run goes on behind: it is full, or heavy, or the last that is to be read
+-- a group after which the run goes on: it is full, or heavy, or the last that is to be read
 pub spent_next : (s0 s1 s2 b0 b1 b2 l1 l2 answered count limit others size : ℕ) (txn : List Put) → HasSpent s0 s1 b0 b1 l1 answered others → (answered < limit → others ≡ 0) → Costs s1 s2 b1 b2 l1 l2 txn → size ≡ min (content_size txn) (2 ^ 64 - 1)
     → 0 < count → count ≤ limit - answered → (count ≡ 16) ⊎ ((4_194_304 ≤ size) ⊎ (count ≡ limit - answered))
     → (more : ℕ) × (more ≤ 2) × (answered + count < limit → more ≡ 0) × HasSpent s0 s2 b0 b2 l2 (answered + count) more

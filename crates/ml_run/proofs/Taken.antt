@@ -45,7 +45,7 @@ stream_wider place front more (x ∷ xs) behind all ending other s t =
 prefix_same : (xs ys xs' ys' : List Item) → xs ++ ys ≡ xs' ++ ys' → length xs ≡ length xs' → xs ≡ xs'
 prefix_same xs ys xs' ys' is long = sym (take-append_seam xs ys) ∙ ap (λ (n : ℕ). take n (xs ++ ys)) long ∙ ap (take (length xs')) is ∙ take-append_seam xs' ys'
 
--- what the end of a group tells of the items behind it that the bytes hold
+-- what the end of a group tells of the items after it that the bytes hold
 abbrev pub EndsTo : GroupEnd → ℕ → List Item → Type 0
 EndsTo ends.Full more behind = behind ≡ []
 EndsTo ends.Last more behind = behind ≡ []
@@ -57,13 +57,13 @@ takes_whole ends.Full place front rest items more reader left t =
 takes_whole ends.Last place front rest items more reader left t = record { behind = t.behind; ending = t.ending; stream = t.stream; holds = t.holds }
 takes_whole (ends.Stopped who why) place front rest items more reader left t = record { behind = t.0.behind; ending = t.0.ending; stream = t.0.stream; holds = t.0.holds }
 
--- no more of them than were to be read
+-- they are no more than were to be read
 ends_few : (end : GroupEnd) (more : ℕ) (behind : List Item) → EndsTo end more behind → length behind ≤ more
 ends_few ends.Full more behind e = omega (arith, ap length e)
 ends_few ends.Last more behind e = omega (arith, ap length e)
 ends_few (ends.Stopped who why) more behind e = e.2
 
--- a group that was read behind others
+-- a group that was read after others
 pub takes_joined : (bytes : Text) (answered count m0 m1 m2 : ℕ) (reader next : Items) (left left' : Option Text) (t : TakesSome ends.Full 0 bytes answered m0 reader left) → TakesSome ends.Full (place_of reader) t.2.rest count m1 next left'
     → TakesSome ends.Full 0 bytes (answered + count) m2 next left'
 takes_joined bytes answered count m0 m1 m2 reader next left left' t u = (
@@ -139,7 +139,7 @@ few_none before bytes status limit is failing =
 pub nothing_taken : (before : Option Text) (bytes : Text) (P : List Item → Type 0) → before ≡ Some bytes → P [] → FromTaken before before P
 nothing_taken before bytes P is p = record { taken = []; rest = bytes; before_is = is; after_is = is; items = []; ending = End; stream = refl; holds = p }
 
--- the same of equal bytes
+-- the same for equal bytes
 pub taken_same : (before before' after after' : Option Text) (P : List Item → Type 0) → before' ≡ before → after' ≡ after → FromTaken before' after' P → FromTaken before after P
 taken_same before before' after after' P one two t = subst (λ (o : Option Text). FromTaken before o P) two (subst (λ (o : Option Text). FromTaken o after' P) one t)
 
@@ -169,7 +169,7 @@ input_only (whys.At name) is = absurd (omega (arith, is))
 input_only whys.There is = absurd (omega (arith, is))
 input_only whys.Absent is = absurd (omega (arith, is))
 
--- and so has status 72
+-- and status 72 has one reason
 pub more_only : (why : Why) → status_of_why why ≡ 72 → why ≡ whys.More
 more_only whys.More is = refl
 more_only whys.Input is = absurd (omega (arith, is))
@@ -190,7 +190,7 @@ abbrev why_in : StopLine → Why
 why_in None = whys.Usage
 why_in (Some line) = line.1
 
--- that of a line which another stands in place of
+-- a line of status 74 that is said at the close is the line from before the close
 line_input : (line final : StopLine) (rest disk : Type 0) (who : Option ℕ) (why : Why) → ClosesTo line final rest disk → final ≡ Some (who, why) → status_of_why why ≡ 74 → line ≡ Some (who, whys.Input)
 line_input line final rest disk who why c is status =
     let input = input_only why status in

@@ -29,7 +29,7 @@ spells_joined place mid end one two [] ys s t =
 spells_joined place mid end one two (x ∷ xs) ys s t =
     (s.0, s.1 ++ two, s.2, ap (λ (front : Text). front ++ two) s.3 ∙ append_assoc s.0 s.1 two, s.4, spells_joined s.2 mid end s.1 two xs ys s.5 t)
 
--- what is behind a row of items is the rest of the stream
+-- what comes after a row of items is the rest of the stream
 pub spells_stream : (place mid : ℕ) (one more : Text) (xs later : List Item) (ending : StreamEnd) → Spells place one xs mid → IsStream mid more later ending → IsStream place (one ++ more) (xs ++ later) ending
 spells_stream place mid one more [] later ending s h =
     subst (λ (front : Text). IsStream place (front ++ more) later ending) (sym s.0) (subst (λ (n : ℕ). IsStream n more later ending) s.1 h)
@@ -44,7 +44,7 @@ spells_stream place mid one more (x ∷ xs) later ending s h = (
 pub spells_one : (place next : ℕ) (own : Text) (item : Item) → ((more : Text) → item_at place (own ++ more) ≡ got (Some item) next more) → Spells place own (item ∷ []) next
 spells_one place next own item all = (own, [], next, sym (append-nil own), all, (refl, refl))
 
--- a group has taken its items, and some bytes more
+-- a group has taken its items, and some more bytes
 takes_more : (end : GroupEnd) (place mid : ℕ) (bs front rest own rest' : Text) (items : List Item) (more : ℕ) (reader : Items) (left : Option Text) (behind : List Item) (ending : StreamEnd) → bs ≡ front ++ rest → Spells place front items mid
     → rest ≡ own ++ rest' → left ≡ Some rest' → IsStream mid own behind ending → ((front : Text) → IsStream place front (items ++ behind) ending → TakesTo end place front rest' items more reader left) → Takes end place bs items more reader left
 takes_more end place mid bs front rest own rest' items more reader left behind ending split spells next left_is stream f = record {
@@ -58,7 +58,7 @@ takes_more end place mid bs front rest own rest' items more reader left behind e
 err_item : (e : StreamError) (item : Item) (place : ℕ) (rest : Text) → ◌≡◌ {A = Read (Option Item)} (Err e) (got (Some item) place rest) → ⊥
 err_item e item place rest is = cc
 
--- what is no item is none in part
+-- the front of what is no item holds no item
 none_front : (place : ℕ) (front rest bs : Text) (e : StreamError) → bs ≡ front ++ rest → item_at place bs ≡ Err e → IsNoItem place front
 none_front place front rest bs e split is = let some = streams place front in go some.0 some.1 some.2
   where
@@ -69,7 +69,7 @@ none_front place front rest bs e split is = let some = streams place front in go
         let wide : item_at place bs ≡ got (Some item) s.0 (s.1 ++ rest) = ap (item_at place) (split ∙ ap (λ (b : Text). b ++ rest) one.split ∙ append_assoc one.one s.1 rest) ∙ one.all (s.1 ++ rest) in
         absurd (err_item e item s.0 (s.1 ++ rest) (sym is ∙ wide))
 
--- where an error was answered, what was taken holds no item
+-- if an error was answered, what was taken holds no item
 none_taken : (e : StreamError) (place : ℕ) (bs : Text) (left' : Option Text) → Tells e (item_at place bs) → (b : EndsEarly e left' bs (IsNoItem place)) → IsNoItem place b.front
 none_taken (Bad at) place bs left' tells b = none_front place b.front b.rest bs (Bad at) b.split tells
 none_taken (Short at) place bs left' tells b = none_front place b.front b.rest bs (Short at) b.split tells
@@ -82,7 +82,7 @@ stream_more (Short at) is = let bad : whys.Short at ≡ whys.More = is in cc
 stream_more Fault is = let bad : whys.Input ≡ whys.More = is in cc
 stream_more Memory is = let bad : whys.Memory ≡ whys.More = is in cc
 
--- an error was answered in place of an item
+-- an error was answered instead of an item
 pub takes_error : (e : StreamError) (place : ℕ) (bs : Text) (items : List Item) (more more' : ℕ) (reader new : Items) (left left' : Option Text) (t : Takes ends.Full place bs items more reader left)
     → Tells e (item_at (place_of reader) t.rest) → EndsEarly e left' t.rest (IsNoItem (place_of reader)) → Takes (ends.Stopped None (why_of_stream e)) place bs items more' new left'
 takes_error e place bs items more more' reader new left left' t tells b =

@@ -9,7 +9,7 @@ use Rattle.ml_ending.specs.declared.lines.Why.TheVariants as whys
 use Rattle.ml_run.specs.Endings.{EndsEarly, Runs, Stopped}
 use Rattle.ml_stream.specs.Stream.{StreamEnd}
 
--- what holds where a source fails, where it never does
+-- what holds if a source fails, for a source that never does
 early : (why : Why) (who : Option ℕ) (input : Type 0) (limit : ℕ) (held : Contents) (all : List Item) (ending : StreamEnd) (q : State) (done behind : List Item) → (input → ⊥)
     → EndsEarly why who input limit held all ending q done behind → EndsEarly why who ⊥ limit held all ending q done behind
 early (whys.Bad at) who input limit held all ending q done behind never e = e

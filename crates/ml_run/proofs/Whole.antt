@@ -32,7 +32,7 @@ use Rattle.std.proofs.lemmas.List.{append-nil}
 use Rattle.ml_run.proofs.Served.{settling_moments, settled, left_after, finished_runs, finished_moments, line_number}
 use Rattle.ml_run.proofs.Rounds.{served_wider, cut_split, last_line, stop_line, first_next, refused_runs, refused_moments}
 
--- a round is done: so many items are answered, and these are behind them
+-- a round is done: this many items are answered, and these come after them
 pub record Round {S : Type 0} (told : Ghosts S) (start new : S) (limit answered last : ℕ) (all : List Item) (q : State) (rest : List Item) : Type 0 where
   pub done : List Item
   pub split : all ≡ done ++ rest
@@ -42,7 +42,7 @@ pub record Round {S : Type 0} (told : Ghosts S) (start new : S) (limit answered 
   pub served : IsServed told start new q done done []
 
 module _ {S : Type 0} (told : Ghosts S) where
-  -- of any items that begin with the done ones
+  -- for any items that begin with the done ones
   pub round_others : (start old read new : S) (limit answered last : ℕ) (reader next : Items) (left left' : Option Text) (all : List Item) (ending : StreamEnd) (q : State) (i : IsServing told start old limit answered last reader left all ending q)
       (g : Group) (end : GroupEnd) (s : Gathers (the_dir (directory (told.disk old).reads)) last g end (limit - answered) next left' i.ahead ending (fold q i.done)) (lines : Text) → lines ≡ g.lines → g.count ≤ limit - answered → answered ≤ limit
       → (IsTrue told.tells_all → IsTrue told.tells_reads) → IsTrue told.tells_reads → (IsTrue told.tells_reads → (told.disk read).reads ≡ (told.disk old).reads) → (IsTrue told.tells_all → told.output read ≡ told.output old) → Leaves told old read (IsStill told old)
@@ -58,7 +58,7 @@ module _ {S : Type 0} (told : Ghosts S) where
         served = settled told start old read new q (i.done ++ s.items) i.done s.items [] g.txn lines reads r served same put still s.holds.state (is ∙ s.holds.lines) committed answers time;
       }
 
-  -- of those that were ahead
+  -- for those that were ahead
   pub round : (start old read new : S) (limit answered last : ℕ) (reader next : Items) (left left' : Option Text) (all : List Item) (ending : StreamEnd) (q : State) (i : IsServing told start old limit answered last reader left all ending q)
       (g : Group) (end : GroupEnd) (s : Gathers (the_dir (directory (told.disk old).reads)) last g end (limit - answered) next left' i.ahead ending (fold q i.done)) (lines : Text) → lines ≡ g.lines → g.count ≤ limit - answered → answered ≤ limit
       → (IsTrue told.tells_all → IsTrue told.tells_reads) → IsTrue told.tells_reads → (IsTrue told.tells_reads → (told.disk read).reads ≡ (told.disk old).reads) → (IsTrue told.tells_all → told.output read ≡ told.output old) → Leaves told old read (IsStill told old)
@@ -89,7 +89,7 @@ module _ {S : Type 0} (told : Ghosts S) where
         };
       }
 
-  -- the items that were to be read, cut behind a round
+  -- the items that were to be read, cut after a round
   round_split : (start new : S) (limit answered last : ℕ) (all rest : List Item) (q : State) (r : Round told start new limit answered last all q rest) → take limit all ≡ r.done ++ take (limit - answered) rest
   round_split start new limit answered last all rest q r = ap (take limit) r.split ∙ take_split limit r.done rest (omega (arith, r.count, r.few)) ∙ ap (λ (n : ℕ). r.done ++ take n rest) (let e : limit - length r.done ≡ limit - answered = omega (arith, r.count) in e)
 
@@ -101,7 +101,7 @@ module _ {S : Type 0} (told : Ghosts S) where
       → IsServing told start new limit answered last reader left all ending q
   round_next start new limit answered last reader left all rest ending q r ahead = record { done = r.done; ahead = rest; split = r.split; count = r.count; last_is = r.last_is; stream = ahead; served = r.served }
 
-  -- what it says where it ends
+  -- what the run says if it ends
   round_line : (start new : S) (limit answered last : ℕ) (all rest : List Item) (ending : StreamEnd) (q : State) (input disk : Type 0) (damaged : Name → Type 0) (r : Round told start new limit answered last all q rest) (who : Option ℕ) (why : Why)
       → IsStop why who (limit - answered) rest ending → HasReason why input disk damaged → IsLine (Some (who, why)) input limit (told.disk new).reads all ending q r.done (take (limit - answered) rest)
   round_line start new limit answered last all rest ending q input disk damaged r who why stop reason =
@@ -131,13 +131,13 @@ module _ {S : Type 0} (told : Ghosts S) where
       finished_moments told start new end q (take limit all) r.done (take (limit - answered) rest) (Some (who, why)) status last reads (round_served start new limit answered last all rest q r)
       (line_number (Some (who, why)) input limit (told.disk new).reads all ending q r.done (take (limit - answered) rest) (round_line start new limit answered last all rest ending q input disk damaged r who why stop reason)) f
 
-  -- the moments of a run that ends behind a round, of any items that begin with its own
+  -- the moments of a run that ends after a round, for any items that begin with its own
   pub round_moments : (start new end : S) (limit answered last status : ℕ) (all rest : List Item) (q : State) (line : StopLine) → (IsTrue told.tells_all → IsTrue told.tells_reads) → Round told start new limit answered last all q rest
       → IsNumberOf (who_of line) (take (limit - answered) rest) → Finishes told new end line status last → Leaves told start end (IsAfterSome q (take limit all) (told.output start))
   round_moments start new end limit answered last status all rest q line reads r number f =
       finished_moments told start new end q (take limit all) r.done (take (limit - answered) rest) line status last reads (round_served start new limit answered last all rest q r) number f
 
-  -- a group was refused behind these items: how the run ends
+  -- a group was refused after these items: how the run ends
   pub group_refused : (start old read mid new : S) (limit last status count : ℕ) (all : List Item) (ending : StreamEnd) (q : State) (input disk output : Type 0) (done items rest : List Item) → take limit all ≡ done ++ (items ++ rest) → IsServed told start old q done done []
       → (g : Group) → Holds (the_dir (directory (told.disk old).reads)) last g (fold q done) items → (lines : Text) (why : Option Why) → lines ≡ g.lines
       → (0 < g.count → IsSome g.first) → (IsSome why → 0 < g.count)

@@ -1,4 +1,4 @@
--- What a run does of any directory: the items that it did, one over the other, and what a crash may leave of them.
+-- What a run does on any directory: the items that it did, each over the ones before it, and what a crash may leave of them.
 use Rattle.std.specs.Prelude.{◌≡◌, ◌⊎◌, ◌<◌, ◌≤◌, ℕ, true, IsTrue, List, [], ◌∷◌, ◌++◌, length, take, Option, Some}
 use Rattle.ml_base.specs.Bytes.{Text}
 use Rattle.ml_base.specs.Dir.{Dir, are_files, touches_only, with_puts}
@@ -30,7 +30,7 @@ use Rattle.ml_run.specs.declared.groups.GroupEnd.TheVariants as ends
 use Rattle.ml_run.specs.Groups.{HasNext, IsAhead}
 use Rattle.ml_run.specs.Endings.{Brings}
 
--- what was done of an item: its puts, and its reply
+-- what was done for an item: its puts, and its reply
 pub record Done : Type 0 where
   pub item : Item
   pub puts : List Put
@@ -51,10 +51,10 @@ abbrev pub after : Dir → List Done → Dir
 after files [] = files
 after files (d ∷ more) = after (with_puts files d.puts) more
 
--- What may be done of an item over a directory: its puts are of files of the table that the item may write, and those of a delivery of the files that
--- what its recipient asks may write. Its reply is one of the table, under its number it counts once, and the files that tell what is done were in
--- their grammar. If a directory stands for a list and has the same files of those that the item looks at, puts and reply are those of the list's
--- step, whatever the other files hold.
+-- What may be done for an item over a directory. Its puts are of files of the table that the item may write; if it is a delivery, of files that
+-- what its recipient asks for may write. Its reply is one of the table, it counts once under its number, and the files that tell what is done
+-- were in their grammar. If a directory stands for a list, and the files that the item looks at are the same there, the puts and the reply are
+-- those of the list's step, whatever the other files hold.
 pub record IsDone (files : Dir) (d : Done) : Type 0 where
   pub table : IsTrue (are_files d.puts)
   pub own : touches_only (is_written_by d.item) d.puts ≡ true
@@ -64,24 +64,24 @@ pub record IsDone (files : Dir) (d : Done) : Type 0 where
   pub found : FoundWhole files d.item (d.puts, d.reply)
   pub steps : (dir : Dir) (q : State) → AlikeFor d.item files dir → IsState dir q → Does dir (d.puts, d.reply) (step q d.item)
 
--- each of these was done over the directory that those before it left
+-- each of these was done over the directory that the ones before it left
 abbrev pub AreDone : Dir → List Done → Type 0
 AreDone files [] = Unit {0}
 AreDone files (d ∷ more) = IsDone files d × AreDone (with_puts files d.puts) more
 
--- an item was added to a group, and this was done of it over the directory with the group's puts
+-- an item was added to a group, and this was done for it over the directory with the group's puts
 pub record Adds (files : Dir) (old new : Group) (d : Done) : Type 0 where
   pub next : HasNext old new d.item.number d.puts d.reply
   pub is : IsDone (with_puts files old.txn) d
 
--- a group holds what was done of these items, and their answers
+-- a group holds what was done for these items, and their answers
 pub record HoldsDone (files : Dir) (g : Group) (done : List Done) : Type 0 where
   pub laid : with_puts files g.txn ≡ after files done
   pub lines : g.lines ≡ answers_of done
   pub count : g.count ≡ length done
   pub are : AreDone files done
 
--- the items behind a group that is full are ahead of the reader
+-- the items after a full group are ahead of the reader
 abbrev pub GoesOn : GroupEnd → Items → Option Text → List Item → StreamEnd → Type 0
 GoesOn ends.Full reader left rest ending = IsAhead reader left rest ending
 GoesOn _ reader left rest ending = Unit {0}
@@ -92,17 +92,17 @@ pub record GathersDone (files : Dir) (g : Group) (end : GroupEnd) (reader next :
   pub holds : HoldsDone files g done
   pub ahead : (ahead : List Item) (ending : StreamEnd) → IsAhead reader left ahead ending → (rest : List Item) × (ahead ≡ items_of done ++ rest) × GoesOn end next left' rest ending
 
--- of the answers of these items some first bytes are out
+-- some first bytes of the answers of these items are out
 abbrev pub AnswersDone : List Done → Text → Text → Type 0
 AnswersDone done before out = (front more : Text) × (answers_of done ≡ front ++ more) × (out ≡ before ++ front)
 
--- the answers of some first of these items are out, and some first bytes of one stop line
+-- the answers of some first items of these are out, and some first bytes of one stop line
 abbrev pub LineDone : List Done → Text → Text → Type 0
 LineDone done before out =
     (answered waiting : List Done) × (who : Option ℕ) × (why : Why) × (n : ℕ) × (done ≡ answered ++ waiting) × (out ≡ (before ++ answers_of answered) ++ take n (stop_text who (status_of_why why) why))
 
--- The directory has the puts of some first of these items over it, each of them whole. What was put out is some first bytes of the answers of
--- those, or the answers of some first of them and some first bytes of one stop line.
+-- The puts of some first items of these are laid over the directory, for each item all of its puts. What was put out is some first bytes of the
+-- answers of those items, or the answers of some first ones of them and some first bytes of one stop line.
 pub record IsAfterFirst (files : Dir) (done : List Done) (before : Text) (left : Contents) (out : Text) : Type 0 where
   pub first : List Done
   pub rest : List Done
@@ -110,27 +110,27 @@ pub record IsAfterFirst (files : Dir) (done : List Done) (before : Text) (left :
   pub dir : directory left ≡ Some (after files first)
   pub put : AnswersDone first before out ⊎ LineDone first before out
 
--- these were done and answered since a site was the old one, whose directory was this
+-- these were done and answered since the start, when the site had this directory
 pub record HasDone {S : Type 0} (told : Ghosts S) (files : Dir) (start now : S) (done : List Done) : Type 0 where
   pub are : AreDone files done
   pub dir : directory (told.disk now).reads ≡ Some (after files done)
   pub put : IsTrue told.tells_all → told.output now ≡ told.output start ++ answers_of done
   pub moments : Leaves told start now (IsAfterFirst files done (told.output start))
 
--- so many were done and answered, the first ones that are brought, and the reader stands behind them
+-- this many were done and answered, the first ones that are brought, and the reader stands after them
 pub record HasServed {S : Type 0} (told : Ghosts S) (files : Dir) (start now : S) (answered : ℕ) (reader : Items) (left before : Option Text) : Type 0 where
   pub done : List Done
   pub has : HasDone told files start now done
   pub count : answered ≡ length done
   pub items : (all : List Item) (ending : StreamEnd) → Brings before all ending → (ahead : List Item) × (all ≡ items_of done ++ ahead) × IsAhead reader left ahead ending
 
--- a crash at any moment since the old site left what has P: where something is pending there, from the first sync that succeeds on
+-- P holds of what a crash leaves at any moment since the old site; if something was pending there, from the first sync that succeeds on
 abbrev pub AtEachMoment : {S : Type 0} → Ghosts S → S → S → (Contents → Text → Type 0) → Type 0
 AtEachMoment told old new P = (IsTrue told.tells_all → Opens told old new P) × (IsAtRest (told.disk old) → Leaves told old new P)
 
--- A row of items with what was done of each: so many were answered, first, in the order in which they were brought, and at most one group's
--- more were done. At the end the directory has the answered ones or all, and all are answered but after want of memory and faults of the output
--- and the disk.
+-- A row of items with what was done for each. This many were answered, the first ones in the order in which they were brought, and at most one
+-- more group was done. At the end the directory has the answered ones or all, and all are answered except after lack of memory and faults of the
+-- output and the disk.
 pub record IsRow {S : Type 0} (told : Ghosts S) (brings : List Item → StreamEnd → Type 0) (limit status answered : ℕ) (new : S) (files : Dir) (first group : List Done) : Type 0 where
   pub are : AreDone files (first ++ group)
   pub count : answered ≡ length first
@@ -139,8 +139,8 @@ pub record IsRow {S : Type 0} (told : Ghosts S) (brings : List Item → StreamEn
   pub end : (directory (told.disk new).reads ≡ Some (after files first)) ⊎ (directory (told.disk new).reads ≡ Some (after files (first ++ group)))
   pub whole : (status ≡ 71 → ⊥) → (status ≡ 73 → ⊥) → (status ≡ 111 → ⊥) → group ≡ []
 
--- What a run does of a directory, whatever it holds: there is such a row, and at each moment (M) the directory has the puts of some first of its
--- items, of all whose answers have a byte out. Where all that was brought is answered, the answers are out, and nothing else.
+-- What a run does on a directory, whatever it holds: there is such a row, and at every moment (M) the directory has the puts of some first items
+-- of the row, among them all items whose answers have a byte out. If all that was brought is answered, the answers are out, and nothing else.
 pub record DoesItems {S : Type 0} (told : Ghosts S) (M : (Contents → Text → Type 0) → Type 0) (brings : List Item → StreamEnd → Type 0) (limit status answered : ℕ) (old new : S) (files : Dir) : Type 0 where
   pub first : List Done
   pub group : List Done
@@ -148,8 +148,8 @@ pub record DoesItems {S : Type 0} (told : Ghosts S) (M : (Contents → Text → 
   pub moments : M (IsAfterFirst files (first ++ group) (told.output old))
   pub answers : IsTrue (is_status status) → IsTrue told.tells_all → told.output new ≡ told.output old ++ answers_of first
 
--- The same of a run that begins with what lies on a site, where reads are told and there is a directory. If an item is answered, the configuration's
--- file is in its grammar.
+-- The same for a run that begins with what lies on a site, if reads are told and there is a directory. If an item is answered, the
+-- configuration's file is in its grammar.
 abbrev pub RunsAnywhere : {S : Type 0} → Ghosts S → (List Item → StreamEnd → Type 0) → ℕ → ℕ → ℕ → S → S → Type 0
 RunsAnywhere told brings limit status answered old new =
     IsTrue told.tells_reads → (files : Dir) → directory (told.disk old).reads ≡ Some files

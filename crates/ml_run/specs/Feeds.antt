@@ -16,7 +16,7 @@ pub record IsFresh (reader : Items) : Type 0 where
 abbrev pub reader_at : ℕ → Items
 reader_at place = record { reader = record { place = place; ahead = None }; failed = None }
 
--- the reader of an item's own bytes: before it, and behind it once it was given
+-- the reader of an item's own bytes: before the item, and after it once it was given
 abbrev pub reader_held : Item → Option Item → Items
 reader_held item (Some held) = reader_at 0
 reader_held item None = reader_at (length (spelled_item item))
@@ -26,7 +26,7 @@ abbrev pub bytes_held : Item → Option Item → Text
 bytes_held item (Some held) = spelled_item item
 bytes_held item None = []
 
--- an item that a stream can have, which is in hand, or was
+-- an item that a stream can have, which is in hand or was
 pub record IsHeld (item : Item) (held : Option Item) : Type 0 where
   pub ranges : IsItem item
   pub typed : IsTyped item.act

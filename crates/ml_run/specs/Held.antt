@@ -1,4 +1,4 @@
--- An item in hand is short.
+-- An item in hand is short: a place can count its bytes.
 use Rattle.std.proofs.Common.{◌≡◌, ℕ, ◌+◌, ◌<◌, ◌≤◌, ◌^◌, [], ◌∷◌, ◌++◌, length, Option, Some, None, ap, arith, length-append}
 use Rattle.std.specs.Fmt.{decimal}
 use Rattle.std.proofs.lemmas.Fmt.{length-decimal-le}
@@ -17,7 +17,7 @@ use Rattle.ml_plain.specs.declared.Act.TheVariants.{Deliver, Timed, Add, Remove,
 use Rattle.ml_stream.specs.Writing.{IsTyped, spelled_act, spelled_item}
 use Rattle.ml_run.specs.Feeds.{IsHeld, bytes_held}
 
--- the netstring of a content that is no longer than a message may be
+-- a netstring is at most 10 bytes longer than its content, if that is no longer than a message may be
 ns_short : (x : Text) → length x ≤ 33_554_432 → length (ns x) ≤ length x + 10
 ns_short x fits =
     let digits : length (decimal (length x)) ≤ 8 = length-decimal-le 8 (length x) (omega arith) (omega (arith, fits)) (omega (arith, fits)) in
@@ -59,7 +59,7 @@ act_short (Rekey key) fits typed =
     let size : length (encode_lower key) ≤ 64 = omega (arith, length-encode_with lower_digits key, typed.0) in omega (arith, size, ns_short (encode_lower key) (omega (arith, size)))
 act_short (Floor at) fits typed = omega (arith, number_short at (omega (arith, fits.1)))
 
--- an item's own bytes fit a place
+-- a place can count an item's own bytes
 item_short : (item : Item) → IsItem item → IsTyped item.act → length (spelled_item item) < 2 ^ 64
 item_short item ranges typed =
     let number = ns (decimal item.number) in

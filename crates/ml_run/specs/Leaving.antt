@@ -52,8 +52,8 @@ pub record LineOut (q : State) (items rest : List Item) (before out : Text) : Ty
   pub line : IsStopLine (waiting ++ rest) (front ++ more)
   pub put : out ≡ (before ++ text q answered) ++ front
 
--- The directory stands for the list after some first items, and what was put out is some first bytes of their answers,
--- or the answers of some first of them and some first bytes of one stop line.
+-- The directory stands for the list after some first items, and what was put out is some first bytes of their answers, or the answers of some
+-- first ones of them and some first bytes of one stop line.
 pub record IsAfterSome (q : State) (items : List Item) (before : Text) (left : Contents) (out : Text) : Type 0 where
   pub first : List Item
   pub rest : List Item
@@ -61,14 +61,14 @@ pub record IsAfterSome (q : State) (items : List Item) (before : Text) (left : C
   pub state : HasState (directory left) (fold q first)
   pub put : AnswersOut q first before out ⊎ LineOut q first rest before out
 
--- behind the answered items some more are done
+-- some more items are done after the answered ones
 pub record Reached (q : State) (done behind : List Item) (left : Contents) : Type 0 where
   pub waiting : List Item
   pub next : List Item
   pub split : behind ≡ waiting ++ next
   pub state : HasState (directory left) (fold q (done ++ waiting))
 
--- in the course of a commit and its answers
+-- during a commit and its answers: the old directory and no more output, or the new one and some first bytes of the answers
 abbrev pub IsSettling : Option Dir → List Put → Text → Text → Contents → Text → Type 0
 IsSettling dir txn lines before left out =
     ((directory left ≡ dir) × (out ≡ before)) ⊎ ((directory left ≡ with_txn txn dir) × ((n : ℕ) × (out ≡ before ++ take n lines)))

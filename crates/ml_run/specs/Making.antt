@@ -26,14 +26,14 @@ IsOneOf before txn dir = (dir ≡ before) ⊎ (dir ≡ with_txn txn before)
 abbrev pub IsNew : Option Dir → List Put → Option Dir → Type 0
 IsNew before txn dir = IsSome before × (dir ≡ with_txn txn before)
 
--- The directory is the one before or the whole new one, and some first bytes of one stop line are out at most; or the new one is
+-- The directory is the one before or the whole new one, and at most some first bytes of one stop line are out; or the new one is
 -- there, and some first bytes of the line that tells of it are out.
 abbrev pub IsMaking : Option Dir → List Put → Text → Text → Contents → Text → Type 0
 IsMaking dir txn line before left out =
     (IsOneOf dir txn (directory left) × SaysAtMost before out) ⊎ (IsNew dir txn (directory left) × TellsAtMost line before out)
 
 -- Why a list is not made: there is a configuration in the directory, which stays as it is; the log has no directory; or the disk
--- failed, or memory was wanting.
+-- failed, or memory ran out.
 abbrev pub IsUnmade : Why → Option Dir → List Put → Option Dir → Type 0
 IsUnmade whys.There dir txn held = (held ≡ dir) × (files : Dir) × (dir ≡ Some files) × (files config_name ≢ None)
 IsUnmade (whys.At name) dir txn held = (held ≡ dir) × (name ≡ log_name) × (dir ≡ None)
@@ -47,14 +47,14 @@ pub record IsMade (told : Type 0) (status : ℕ) (dir : Option Dir) (txn : List 
   pub made : IsNew dir txn (directory held)
   pub put : told → output ≡ before ++ line
 
--- it was not, and a whole stop line tells why
+-- the list was not made, and a whole stop line tells why
 pub record IsRefusedList (told : Type 0) (status : ℕ) (dir : Option Dir) (txn : List Put) (before : Text) (held : Contents) (output : Text) : Type 0 where
   pub why : Why
   pub status_is : status ≡ status_of_why why
   pub unmade : IsUnmade why dir txn (directory held)
   pub put : told → output ≡ before ++ stop_text None status why
 
--- of a line only some first bytes are out
+-- only some first bytes of a line are out
 pub record IsCutOff (told : Type 0) (status : ℕ) (dir : Option Dir) (txn : List Put) (line before : Text) (held : Contents) (output : Text) : Type 0 where
   pub status_is : status ≡ 73
   pub held_is : IsOneOf dir txn (directory held)

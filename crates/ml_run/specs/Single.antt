@@ -1,4 +1,4 @@
--- What a run does whose stream is one item.
+-- What a run does if its stream is one item.
 use Rattle.std.specs.Prelude.{◌≡◌, ◌≤◌, ◌+◌, ◌-◌, ◌/◌, ℕ, Bool, ◌==◌, ◌||◌, IsTrue, List, [], ◌∷◌}
 use Rattle.ml_site.specs.Disk.{IsAtRest}
 use Rattle.ml_site.specs.declared.site.Site.{Ghosts}
@@ -24,7 +24,7 @@ IsAlone item all ending = (all ≡ item ∷ []) × (ending ≡ End)
 abbrev pub is_item_status : ℕ → Bool
 is_item_status status = status == 0 || status == 71 || status == 73 || status == 75 || status == 100 || status == 111
 
--- What is done of one item: what a run does whose stream is this item, which is read whole whatever fails.
+-- What one item does: the same as a run whose stream is this item, except that the item is read whole whatever fails.
 pub record RunsItem {S : Type 0} (told : Ghosts S) (item : Item) (old new : S) (ending : Ending) : Type 0 where
   pub known : IsTrue (is_item_status ending.status)
   pub few : ending.answered ≤ 1

@@ -24,7 +24,7 @@ pub(crate) trait Feed {
     // The reader of the stream whose items these are.
     ghost reader: { Self → TheItems };
 
-    // The bytes left of that stream, where that is told.
+    // The bytes left of that stream, if that is told.
     ghost left: { Self → Option Text };
 
     // How often it has failed.
@@ -33,10 +33,10 @@ pub(crate) trait Feed {
     // It may be asked for an item.
     ghost sound: { Self → Type 0 };
 
-    // The reference that it reads through, where it does.
+    // The reference that it reads through, if there is one.
     ghost through: { Self → Option GName };
 
-    // The next item, which is in its ranges, or None at the end. No byte behind the item is taken.
+    // The next item, which is in its ranges, or None at the end. No byte after the item is taken.
     fn next(&mut self, alloc: Global) -> Result<Option<Item>, StreamError>
         requires { sound self.old }
         ensures read { (bs : Text) → HasLeft (reader self.old) (left self.old) bs →
@@ -50,7 +50,7 @@ pub(crate) trait Feed {
         ensures later { faults self.old ≤ faults self.new }
         ensures cause { IsErrOf result StreamError.Fault → Rose (faults self.old) (faults self.new) };
 
-    // Whether anything is behind the items that were given.
+    // Whether anything comes after the items that were given.
     fn more(&mut self) -> Result<bool, Failed>
         requires { sound self.old }
         ensures more { (bs : Text) → HasLeft (reader self.old) (left self.old) bs → IfOk result (λ more. more ≡ not (is_empty bs)) }
@@ -109,7 +109,7 @@ impl<I: Source> Feed for StreamFeed<'_, I> {
     ghost room = { λ f bytes sound is. I.room f.input.now bytes is };
 }
 
-// The item that a feed has in hand. Proofs name it so when it was handed over, too.
+// The item that a feed has in hand. Proofs still call it so when it has been handed over.
 pub(crate) trait InHand {
     ghost item: { TheItem };
 }
@@ -118,7 +118,7 @@ impl InHand for Brand {
     ghost item = { record { number = 0; moment = 0; act = Timed } };
 }
 
-// One item in hand, which is handed over as it is: the bytes that it would be spelled as are never made.
+// One item in hand, which is handed over as it is: its bytes are never spelled.
 #[derive(Drop)]
 pub(crate) struct ItemFeed<K: InHand> {
     pub item: Option<Item>,

@@ -1,4 +1,4 @@
-// A whole run over what gives its items.
+// A whole run over a feed of items.
 ghost use Rattle.std.specs.Prelude.{◌≡◌, ◌≤◌, ◌<◌, ◌+◌, ◌-◌, ◌*◌, ◌/◌, List, [], ◌∷◌, take, length, IsTrue, Some, None};
 ghost use Rattle.ml_base.specs.Bytes.{Text};
 ghost use Rattle.ml_base.specs.Dir.{Dir};
@@ -29,7 +29,7 @@ use ml_list::load;
 use ml_site::Site;
 use std::alloc::{AllocError, Global};
 
-// The answers of a group have so many bytes at most.
+// The most bytes that the answers of a group have.
 const BUFFER_SIZE: usize = 1024;
 
 // Opens what lies on a site, answers the items of a feed, closes the site and hands it back.
@@ -74,7 +74,7 @@ fn take_buffer(alloc: Global) -> Result<Bytes, AllocError> {
     Ok(Bytes::from_vec(Vec::with_capacity(alloc, BUFFER_SIZE)?))
 }
 
-// A run over a store that was opened: where its configuration is there, the items are answered.
+// A run over a store that was opened: if its configuration is there, the items are answered.
 fn opened<F: Feed, S: Site>(
     alloc: Global,
     limit: u64,

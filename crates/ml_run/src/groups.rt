@@ -15,7 +15,7 @@ use std::alloc::{AllocError, Global};
 // The most items of a group.
 pub(crate) const MAX_ITEMS: u64 = 16;
 
-// A group ends as soon as it gives so many bytes to files.
+// A group ends as soon as it gives this many bytes to files.
 pub(crate) const MAX_SIZE: u64 = 4_194_304;
 
 // The items of a group: their puts, the lines that answer them, how many they are, how many bytes the puts give to files,
@@ -57,8 +57,7 @@ pub(crate) fn empty_group(alloc: Global, buffer: Bytes, last: u8) -> Group
     }
 }
 
-// Lays an item's puts over those of a group of fewer than 16, and adds its answer. Where memory is wanting the group is as it
-// was.
+// Lays an item's puts over those of a group of fewer than 16, and adds its answer. If memory runs out, the group is as it was.
 pub(crate) fn with_answer(
     group: Group,
     number: u64,
@@ -106,7 +105,7 @@ pub(crate) fn with_answer(
     }
 }
 
-// Adds an item's puts and its answer line. Where memory is wanting both are as they were.
+// Adds an item's puts and its answer line. If memory runs out, both are as they were.
 fn add_both(
     txn: &mut Txn,
     lines: &mut Bytes,
@@ -151,7 +150,7 @@ fn grouped(txn: Txn, lines: Bytes, count: u64, first: Option<u64>, last: u8) -> 
     }
 }
 
-// The number of a group's first item, with one item more.
+// The number of a group's first item, once the group has one item more.
 fn first_of(first: Option<u64>, number: u64) -> Option<u64>
     ensures { result ≡ first_number first number }
 {

@@ -1,4 +1,4 @@
-// Puts laid over others, one put of a file.
+// Laying puts over others: a put replaces the newest one of its file.
 ghost use Rattle.std.specs.Prelude.{◌≡◌, ◌≤◌, ◌<◌, ◌+◌, false, Some, MatchOption, length, take, drop, slice_get};
 ghost use Rattle.ml_base.specs.Dir.{touches};
 ghost use Rattle.ml_base.specs.Laying.{laid_in, IsNewestAt};
@@ -7,8 +7,8 @@ ghost use Rattle.ml_run.specs.Groups.{laid_all};
 
 use ml_base::{Name, Put, Txn};
 
-// Lays the puts of a row from a place on over those before them: each in the place of the newest one of its file, or behind
-// them where there is none. It takes no memory.
+// Lays the puts of a row from a place on over those before them: each replaces the newest one of its file, or goes after them if there is none.
+// It takes no memory.
 pub(crate) fn laid(txn: Txn, front: usize) -> Txn
     requires { front ≤ length txn }
     ensures { result ≡ laid_all (take front txn) (drop front txn) }
@@ -23,8 +23,8 @@ pub(crate) fn laid(txn: Txn, front: usize) -> Txn
     Txn::from_vec(puts)
 }
 
-// Lays the put at a place over the first `kept`, in the place of the newest one of its file or behind them, and answers how
-// many these are then. What is between them is left in any order.
+// Lays the put at a place over the first `kept`: it replaces the newest one of its file, or goes after them. Answers how many these are then.
+// What is between them and the place is left in any order.
 fn lay_one(puts: &mut [Put], kept: usize, at: usize, place: Option<usize>) -> usize
     requires kept { kept ≤ at }
     requires at { at < length puts.old }

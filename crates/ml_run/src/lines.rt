@@ -21,7 +21,7 @@ pub fn answer_line(number: u64, reply: Reply, out: &mut [u8; 64]) -> usize
     put_piece(out, sixth, b"\n")
 }
 
-// A space and the reply's number, where its code has one.
+// A space and the reply's number, if its code has one.
 fn put_reply_number(out: &mut [u8; 64], at: usize, reply: Reply) -> usize
     requires at { at ≤ 42 }
     requires code { IsTrue (is_code reply.code) }

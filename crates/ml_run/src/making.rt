@@ -1,4 +1,4 @@
-// A new list.
+// Making a new list.
 ghost use Rattle.std.specs.Prelude.{◌≡◌, ◌≢◌, ◌⊎◌, IsTrue, IfOk, Some, None};
 ghost use Rattle.ml_base.specs.Dir.{Dir, are_files};
 ghost use Rattle.ml_base.specs.Faults.{Rose};
@@ -26,13 +26,12 @@ use ml_journal::Store;
 use ml_site::Site;
 use std::alloc::{AllocError, Global};
 
-// The file of the configuration.
 /// Makes a list with this configuration and this key on a site, and hands the site back. The list's files are written in one
 /// commit, the store is closed, and `made LOCAL@HOST` is given.
 ///
-/// The status is 0 then. A stop line tells why no list is made: 100 where there is a configuration, whatever its bytes, and
-/// nothing is changed; 71 (out of memory), 75 (the log is damaged) or 111 (the disk failed), after which the list is whole or
-/// not there. It is 73 where the output failed.
+/// The status is 0 then. Otherwise a stop line tells why no list is made: 100 if there is a configuration, whatever its bytes, and nothing is
+/// changed; 71 (out of memory), 75 (the log is damaged) or 111 (the disk failed), after which the list is whole or not there. The status is 73
+/// if the output failed.
 pub fn make<S: Site>(alloc: Global, config: &Config, key: &[u8; 32], site: S) -> (u8, S)
     // What it leaves.
     ensures makes { IsTrue S.tells_reads → Makes (IsTrue S.tells_all) result.0 (directory (S.disk site).reads) (first_puts config.now key.now)
@@ -42,17 +41,17 @@ pub fn make<S: Site>(alloc: Global, config: &Config, key: &[u8; 32], site: S) ->
     ensures there { IsTrue S.tells_reads → (files : Dir) → directory (S.disk site).reads ≡ Some files → files config_name ≢ None →
         (result.0 ≡ 100) ⊎ ((result.0 ≡ 71) ⊎ ((result.0 ≡ 73) ⊎ (result.0 ≡ 111))) }
 
-    // At every moment, and where something is pending at the start from the first sync that succeeds.
+    // What a crash leaves at every moment; if something is pending at the start, from the first sync that succeeds on.
     ensures moments { IsTrue S.tells_all → Opens ⟦<S as Site>⟧ site result.1
         (IsMaking (directory (S.disk site).reads) (first_puts config.now key.now) (made_text config.now) (S.output site)) }
     ensures at_rest { IsAtRest (S.disk site) → Leaves ⟦<S as Site>⟧ site result.1
         (IsMaking (directory (S.disk site).reads) (first_puts config.now key.now) (made_text config.now) (S.output site)) }
 
-    // Nothing is pending then, but after a fault or want of memory.
+    // Nothing is pending then, except after a fault or lack of memory.
     ensures rest { (Rose (S.disk_faults site) (S.disk_faults result.1) → ⊥) → (result.0 ≡ 71 → ⊥) → (result.0 ≡ 73 → ⊥)
         → IsTrue S.tells_all → IsAtRest (S.disk result.1) }
 
-    // Which statuses there are, and where the counts rose.
+    // Which statuses there are, and which counts rose.
     ensures statuses { IsTrue (is_make_status result.0) }
     ensures counts { CountsSite ⟦<S as Site>⟧ result.0 site result.1 }
 {
@@ -90,7 +89,7 @@ fn made_line(alloc: Global, config: &Config) -> Result<Bytes, AllocError>
     Ok(line)
 }
 
-// Makes a list over a store that was opened, where there is no configuration.
+// Makes a list over a store that was opened, if there is no configuration.
 fn made<S: Site>(alloc: Global, store: Store<S>, txn: &Txn, line: &[u8]) -> (u8, S)
     requires files { IsTrue (are_files txn.now) }
     ensures makes { IsTrue S.tells_reads → Makes (IsTrue S.tells_all) result.0 (directory (S.disk (site_of store)).reads) txn.now line.now (S.output (site_of store)) (S.disk result.1).reads (S.output result.1) }
@@ -111,7 +110,7 @@ fn made<S: Site>(alloc: Global, store: Store<S>, txn: &Txn, line: &[u8]) -> (u8,
     }
 }
 
-// Commits the files of a new list, closes the store, and tells of it.
+// Commits the files of a new list, closes the store, and gives the line that tells of the list.
 fn committed<S: Site>(alloc: Global, store: Store<S>, txn: &Txn, line: &[u8]) -> (u8, S)
     requires files { IsTrue (are_files txn.now) }
     ensures makes { IsTrue S.tells_reads → Makes (IsTrue S.tells_all) result.0 (directory (S.disk (site_of store)).reads) txn.now line.now (S.output (site_of store)) (S.disk result.1).reads (S.output result.1) }

@@ -1,4 +1,4 @@
-// A group, committed and answered.
+// Committing and answering a group.
 ghost use Rattle.std.specs.Prelude.{◌≡◌, ◌≢◌, ◌⊎◌, ◌≤◌, ◌<◌, ◌+◌, ◌++◌, [], ℕ, take, length, IsTrue, IsSome, Some, None, IfOk, IfErr};
 ghost use Rattle.ml_base.specs.Dir.{are_files, with_puts};
 ghost use Rattle.ml_base.specs.Faults.{Rose};
@@ -18,8 +18,8 @@ use ml_journal::Store;
 use ml_site::Site;
 use std::alloc::Global;
 
-// Commits a txn, and puts the lines out that answer it. An error hands the site back, with why the commit was refused, or
-// None where the output was.
+// Commits a txn, and puts out the lines that answer it. An error hands the site back, with the reason why the commit was refused, or with None
+// if the output was.
 pub(crate) fn settle<S: Site>(
     alloc: Global,
     store: Store<S>,

@@ -1,4 +1,4 @@
--- What is asked of an archive for the web: its pages, and the list of them.
+-- The questions about an archive for the web: its pages, and the list of them.
 use Rattle.std.specs.Prelude.{◌≡◌, ◌⊎◌, Bool, true, false, List, Option, None}
 use Rattle.ml_filing.specs.Answers.{IsBadForThread, IsThreadName, IsWholeAnswer}
 use Rattle.ml_filing.specs.Threads.{IsArchive}
@@ -25,8 +25,8 @@ answer_of queries.List c posts = answers.Text (list_text (months_of posts) (thre
 answer_of (queries.Month year month page) c posts = text_or_absent (month_page c year month page posts)
 answer_of (queries.Thread first page) c posts = text_or_absent (thread_page c first page posts)
 
--- How files are read, whatever they hold. The list of pages is given only where all its files are in their grammar; a month's page is absent only where
--- the number of posts and the indexes are; and a thread's exactly by the thread that the files have of the post.
+-- How files are read, whatever they hold. The list of pages is given only if all its files are in their grammar. A month's page is absent only
+-- if the number of posts and the indexes are, and a thread's page is absent or there by the thread that the files have of the post.
 abbrev pub IsRead : PageQuery → Config → Dir → Answer → Type 0
 IsRead queries.List c dir answer = AreIndexesRead dir × AreThreadsRead dir
 IsRead (queries.Month year month page) c dir answer =
@@ -34,7 +34,7 @@ IsRead (queries.Month year month page) c dir answer =
 IsRead (queries.Thread first page) c dir answer =
     (text : Option Text) × (answer ≡ text_or_absent text) × (found : Option Thread) × IsWholeAnswer dir c.prefix first found × IsPageFound first page found text
 
--- what answers a page query of files: that of the posts for which they stand, read so
+-- what answers a page query of files: what the posts answer for which the files stand, and the files are read as above
 abbrev pub IsAnswer : PageQuery → Config → Dir → Answer → Type 0
 IsAnswer query c dir answer = ((posts : List Post) → IsArchive dir c.prefix posts → answer ≡ answer_of query c posts) × IsRead query c dir answer
 
@@ -51,7 +51,7 @@ MayRead queries.List name = IsListName name
 MayRead (queries.Month year month page) name = IsIndexesName name
 MayRead (queries.Thread first page) name = IsThreadName name
 
--- one of them that is outside its grammar, or names what isn't there
+-- a file of these that is outside its grammar, or names what isn't there
 abbrev pub IsBadFile : PageQuery → Config → Dir → Name → Type 0
 IsBadFile queries.List c dir name = IsBadForList dir name
 IsBadFile (queries.Month year month page) c dir name = IsBadIndexes dir name

@@ -7,7 +7,7 @@ use Rattle.ml_base.specs.Numbers.{number_of}
 use Rattle.ml_web.specs.declared.pages.PageQuery.{PageQuery}
 use Rattle.ml_web.specs.declared.pages.PageQuery.TheVariants as queries
 
--- the second step, where the first gave a value
+-- the second step, if the first gave a value
 infixl 10 ◌>>=◌
 abbrev pub ◌>>=◌ : {A B : Type 0} → Option A → (A → Option B) → Option B
 o >>= f = option_and_then f o
@@ -38,7 +38,7 @@ month_query month page = do
   k ← page_in page
   Some (queries.Month m.0 m.1 k)
 
--- a page of the thread whose first post has this number, which may be any
+-- a page of the thread whose first post has this number, whatever the number
 abbrev pub thread_query : Text → Text → Option PageQuery
 thread_query first page = do
   n ← number_of first

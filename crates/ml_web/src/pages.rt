@@ -1,4 +1,4 @@
-// The pages of a list's archive, as what is asked of it.
+// The pages of a list's archive, as questions of a list.
 ghost use Rattle.std.specs.Prelude.{◌≡◌, List, IsTrue, IfOk, IfErr};
 ghost use Rattle.ml_filing.specs.Threads.{IsArchive};
 ghost use Rattle.ml_filing.specs.declared.posts.Post.{Post as ThePost};
@@ -41,7 +41,7 @@ impl Question for PageQuery {
     }
 }
 
-// What answers a page query of files.
+// What answers a page query, by the files.
 fn page_of<F: Files>(
     alloc: Global,
     query: PageQuery,

@@ -1,12 +1,12 @@
-// Pages that words name.
+// The pages that words name.
 ghost use Rattle.std.specs.Prelude.{◌≡◌};
 ghost use Rattle.ml_web.specs.Words as spec;
 
 use crate::PageQuery;
 use ml_base::read_number;
 
-/// The page of a month that two words name: `YYYY-MM`, of four digits, a hyphen and `01` to `12`, and the page's number, from 1 on.
-/// None where one of them is no such word.
+/// The page of a month that two words name: `YYYY-MM`, of four digits, a hyphen and `01` to `12`, and the page's number, from 1 on. None if one
+/// of them is no such word.
 pub fn month_query(month: &[u8], page: &[u8]) -> Option<PageQuery>
     ensures { result ≡ spec.month_query month.now page.now }
 {
@@ -15,8 +15,8 @@ pub fn month_query(month: &[u8], page: &[u8]) -> Option<PageQuery>
     Some(PageQuery::Month { year, month, page })
 }
 
-/// The page of a thread that two words name: the number of its first post, which may be any, and the page's number, from 1 on. None
-/// where one of them is no such word.
+/// The page of a thread that two words name: the number of its first post, whatever the number, and the page's number, from 1 on. None if one of
+/// them is no such word.
 pub fn thread_query(first: &[u8], page: &[u8]) -> Option<PageQuery>
     ensures { result ≡ spec.thread_query first.now page.now }
 {
@@ -25,7 +25,7 @@ pub fn thread_query(first: &[u8], page: &[u8]) -> Option<PageQuery>
     Some(PageQuery::Thread { first, page })
 }
 
-// A page's number.
+// The page number that a text spells.
 fn read_page(text: &[u8]) -> Option<u64>
     ensures { result ≡ spec.page_in text.now }
 {

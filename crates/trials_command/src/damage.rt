@@ -1,5 +1,5 @@
-// A damaged file of each kind, and what an item of each letter is answered: the file is named under the item's number, and the list stays
-// as it was; an item that doesn't read it is done.
+// A damaged file of each kind, and the answer to an item of each letter: the file is named under the item's number, and the list stays as it
+// was; an item that doesn't read it is done.
 use crate::program::Whole;
 use std::test::Fail;
 use trials_scripts::hold;
@@ -24,7 +24,7 @@ let sent S2:30,10:1000000200,1:1,
 let rekey K2:30,10:1000000200,64:{key},
 let floor F2:30,10:1000000200,2:20,
 list run make -d --key {key} list ex.org o@own.org => {made} | input {three}{post} | run spool => 0 {added}20 0 posted 1\n
-# What each of them is answered where nothing is damaged.
+# The answer to each of them if nothing is damaged.
 input {add} | run spool => 0 30 0 subscribed\n
 input {remove} | run spool => 0 30 0 unsubscribed\n
 input {deliver} | run spool => 0 30 0 posted 2\n
@@ -119,7 +119,7 @@ list run make -u --key {key} list ex.org o@own.org => {made} | put allow/subscri
 input {deliver} | run spool => 75 30 75 allow/subscribers/]\n | same
 list run make -m --key {key} list ex.org o@own.org => {made} | put mod/subscribers/] Ta@b
 input {deliver} | run spool => 75 30 75 mod/subscribers/]\n | same
-# Who may read the archive: members alone are looked up, and only with the option g.
+# Who may read the archive: only members are looked up, and only with the option g.
 let own D2:30,10:1000000200,3:a@b,17:list-get.1@ex.org,{message}
 list run make --key {key} list ex.org o@own.org => {made} | input {three}{post} | run spool => 0 {added}20 0 posted 1\n
 put subscribers/] Ta@b | input {own} | run spool => 0 30 0 archive\n
@@ -146,7 +146,7 @@ cut key | input {deliver} | run spool => 75 30 75 key\n | same
 put mod/subscribers/L x | input {deliver} | run spool => 75 30 75 mod/subscribers/L\n | same
 list run make --key {key} list ex.org o@own.org => {made}
 cut key | put mod/subscribers/L x | input {deliver} | run spool => 0 30 0 posted 1\n
-# A moderator's answer looks at the held post, then at the key, and with the right cookie alone at what follows.
+# A moderator's answer looks at the held post, then at the key, and only with the right cookie at what follows.
 let right fnidiagkjnjiioefided
 let wrong fnidiagkjnjiioefidee
 let accept D2:30,10:1000000200,3:m@o,41:list-accept-1.{right}@ex.org,{message}
@@ -167,7 +167,7 @@ put num x | input {reject} | run spool => 0 30 0 rejected\n
 put num x | input {forged} | run spool => 0 30 100 badcookie\n
 put subscribers/] x | input {accept} | run spool => 75 30 75 subscribers/]\n | same
 put subscribers/] x | input {forged} | run spool => 0 30 100 badcookie\n
-# What is at odds with posts that are not asked for is no damage to what is: their number, indexes, threads, and what is in no digest.
+# What only conflicts with posts that aren't asked for is no damage to what is: their number, indexes, threads, and what is in no digest.
 let some D2:30,10:1000000200,3:g@h,19:list-get.5_7@ex.org,{message}
 let past D2:30,10:1000000200,3:g@h,23:list-get.115_125@ex.org,{message}
 let index D2:30,10:1000000200,3:g@h,19:list-index.5@ex.org,{message}

@@ -19,7 +19,7 @@ run split -a 999999900000 list one => 0 A12:999999900000,10:1000000600,4:list,3:
 input :0:28:x\n | run split -r 9 list x => 0 R1:9,10:1000000600,4:list,3:c@d,R2:10,10:1000000600,4:list,3:e@f,
 at 0 | run split -a 1 list one => 0 A1:1,1:0,4:list,3:a@b,
 at 253402300799 | run split -a 1 list one => 0 A1:1,12:253402300799,4:list,3:a@b,
-# A part of which nobody is, a set of which nobody is, and no part.
+# A part without members, a set without members, and no part.
 run split mod => 0 one 0\ntwo 0\n- 0\n
 run split -a 1 mod one => 0
 input d:0:52:one\nd:0:52:two\n | run split -r 1 list two => 0
@@ -37,11 +37,11 @@ input b:0:53:one\n | run split list => 65 - 65 bad 0\n | unread 0 | same
 input b:0:52:one | run split list => 65 - 65 bad 0\n
 input {rules}x\n | run split list => 65 - 65 bad 21\n
 input {rules}x\n | run split -a 1 list nobody => 65 - 65 bad 21\n
-# Too many bytes, also where the first line is bad: one more is read.
+# Too many bytes, even if the first line is bad: one more is read.
 input {1..1048577:x} | run split list => 65 - 65 long\n | unread 0 | same
 input {1..1048579:x} | run split -a 1 list nobody => 65 - 65 long\n | unread 2 | same
 input {1..1048576:x} | run split list => 65 - 65 bad 0\n
-# The two that print a stream ask the clock before all but the words.
+# The two that print a stream ask the clock before everything except the words.
 at never | run split list => {divided}
 at never | run split -a 0 list two => 65 - 65 words\n | unread 21
 at never | run split -a 1 list two => 69 - 69 clock\n | unread 21 | same
@@ -49,7 +49,7 @@ at never | input x | run split -r 1 list two => 69 - 69 clock\n | unread 1
 at never | fail 1 | run split -r 1 list two => 73 | unread 21 | same
 read 1 | run split list => 74 - 74 input\n | same
 read 1 | run split -r 1 list two => 74 - 74 input\n | same
-# Files that are damaged come behind the rules, and no part behind the files.
+# Damaged files come after the rules, and a missing part after the files.
 put config x | input x | run split list => 65 - 65 bad 0\n
 put config x | run split list => 75 - 75 config\n | same
 put subscribers/] Ta@b | run split list => 75 - 75 subscribers/]\n | same
@@ -70,7 +70,7 @@ fn a_set_is_divided_by_the_input_s_rules(rt: HostRuntime) -> Result<(), Fail> {
     hold::<Whole>(rt.alloc(), "sets divided", PARTS)
 }
 
-// Each call failing: the store is opened by two, the configuration is read by one and the set by 53, and the last gives the text.
+// Each call fails in turn: the store is opened by two, the configuration is read by one and the set by 53, and the last gives the text.
 const FAILING: &str = r"
 let key 000102030405060708090a0b0c0d0e0f101112131415161718191a1b1c1d1e1f
 let three A1:1,10:1000000000,4:list,3:a@b,A1:2,10:1000000000,4:list,3:c@d,A1:3,10:1000000000,4:list,3:e@f,

@@ -1,9 +1,9 @@
-// An exercise: items that are made from a count, and a look at the list behind them.
+// An exercise: items that are made from a count, and a look at the list after them.
 use crate::program::Whole;
 use std::test::Fail;
 use trials_scripts::hold;
 
-// The answers to the items 1 to 30 of a new list, and the sizes behind more of them, were counted by hand from their table. The clock fails
+// The answers to the items 1 to 30 of a new list, and the sizes after more of them, were counted by hand from their table. The clock fails
 // throughout: it isn't read.
 const TABLE: &str = r"
 let key 000102030405060708090a0b0c0d0e0f101112131415161718191a1b1c1d1e1f
@@ -27,11 +27,11 @@ then run exercise 300 => 0 {first}
 like exercise 300 => 0 {thirty}*\n300 0 timed 0\nexercised 300\nok 30 78 30 0 0 0 0 30\n
 # Items that are refused leave the status 0.
 at 1000000000 | run floor 99 50 => 0 99 0 floored 50\n | at never | run exercise 10 => 0 {1..10:% 100 stale\n}exercised 10\nok 0 0 0 0 0 0 0 0\n
-# The output has room for the answers of the first group alone, or a call of the first items fails.
+# The output has room only for the answers of the first group, or a call of the first items fails.
 room 221 | run exercise 999999 => 73 {ten}11 0 subscribed\n12 0 subscribed\n13 0 subscribed\n14 0 ignored\n15 0 subscribed\n16 0 absent\n
 turns 1 60 | fail | may exercise 999999 => 0 {thirty}
 turns 61 120 | fail | may exercise 999999 => 0 {thirty}
-# Files that aren't in their grammar: of an item, with its number, and of the list behind the items.
+# Files that aren't in their grammar: of an item, with its number, and of the list after the items.
 put config x | run exercise 10 => 75 - 75 config\n | same
 put log \x01a | run exercise 10 => 75 - 75 log\n | same
 put counts/list x | run exercise 10 => 75 1 75 counts/list\n
@@ -46,7 +46,7 @@ let part 0123456789abcdefghijklmnopqrstuvwxyz0123456789abcdefghijklmnop
 let host {part}.{part}.{part}.{part}.org
 list at never | run make --key {key} {local} {host} o@own.org => 0 made {local}@{host}\n
 run exercise 30 => 0 {thirty}exercised 30\nok 3 9 3 0 0 0 0 3\n
-# Words, where there is no list.
+# Words, when there is no list.
 let usage 64 - 64 usage\n
 let words 65 - 65 words\n
 let nolist 75 - 75 nolist\n
@@ -83,9 +83,9 @@ fn a_long_exercise_ends_with_a_whole_list(rt: HostRuntime) -> Result<(), Fail> {
     hold::<Whole>(rt.alloc(), "long exercises", LONG)
 }
 
-// Each call of the last reading failing, on a new list. Before it 24 calls find the configuration, run the item, and close the store; the 25th
-// gives the line of the items. The list is opened again by 2, and the configuration and the key are read by 2. Each set has 53 buckets and a
-// count: 270. The archive is its number, 256 thread files, and the number again: 258. Then the mark, twice the tickets, 106 files of ledgers,
+// Each call of the last reading fails in turn, on a new list. Before it 24 calls find the configuration, run the item, and close the store; the
+// 25th gives the line of the items. The list is opened again by 2, and the configuration and the key are read by 2. Each set has 53 buckets and
+// a count: 270. The archive is its number, 256 thread files, and the number again: 258. Then the mark, twice the tickets, 106 files of ledgers,
 // twice the next id, and the floor: 112. The 265 buckets are read again for their sizes, and the last call gives the line.
 const FAILING: &str = r"
 let key 000102030405060708090a0b0c0d0e0f101112131415161718191a1b1c1d1e1f

@@ -1,4 +1,4 @@
-// Each kind of file of a list removed, emptied, cut by a byte, a byte longer, and replaced by its neighbour's: what `check` tells.
+// Each kind of file of a list removed, emptied, cut by a byte, a byte longer, and replaced by its neighbour's: what `check` says.
 use crate::program::Whole;
 use std::test::Fail;
 use trials_scripts::hold;
@@ -87,7 +87,7 @@ let entry 14:list-return-1-,6:ex.org,1:v,3:hi\n,3:a@b,
 let noted 28:3:a@b,10:1000010000,1:n,1:1,,
 let warned 28:3:c@d,1:0,11:w1001010000,0:,,
 list run make --key 000102030405060708090a0b0c0d0e0f101112131415161718191a1b1c1d1e1f list ex.org o@own.org => 0 made list@ex.org\n | put subscribers/] Ta@b\0 | put subscribers/L layout 2\nTc@d\01000000000\0 | put subscribers/W Te@f\0 | put counts/list 3\n | put digest/subscribers/] Ta@b\0 | put counts/digest 1\n | put allow/subscribers/] Ta@b\0 | put allow/subscribers/L Tc@d\0 | put counts/allow 2\n | put deny/subscribers/W Te@f\0 | put counts/deny 1\n | put mod/subscribers/d Tm@o\0 | put counts/mod 1\n | put archive/0/01 one\n | put archive/0/02 two\n | put archive/0/03 three\n | put archive/0/index 10:1000000001,3:a@b,1:4,5:hello,\n10:1000000002,3:a@b,1:4,5:other,\n10:1000000003,3:c@d,1:6,5:hello,\n | put num 3\n | put dig 2:1\n | put pending/2 {hold} | put pending/3 {hold} | put tickets 2:4\n | put bounce/] {noted} | put bounce/L {warned} | put digest/bounce/] {noted} | put digest/bounce/L {warned} | put queue/2 {entry} | put queue/5 {entry} | put ids 1:7\n | put archive/threads/231 5:hello,3:1,3, | put archive/threads/161 5:other,1:2, | put floor 9\n | put done/0 {1..4608:\0}
-# A post has no other trace of its bytes than how many they are.
+# A post's bytes leave no other trace than how many they are.
 drop archive/0/01 | run check => 75 - 75 archive/0/index\n | same
 put archive/0/01  | run check => 75 - 75 archive/0/index\n | same
 cut archive/0/01 | run check => 75 - 75 archive/0/index\n | same
@@ -112,7 +112,7 @@ put dig  | run check => 75 - 75 dig\n | same
 cut dig | run check => 75 - 75 dig\n | same
 grow dig x | run check => 75 - 75 dig\n | same
 take dig num | run check => 75 - 75 dig\n | same
-# Held posts. Where one is gone, none counts it.
+# Held posts. If one is gone, nothing counts it.
 drop pending/2 | run check => 0 ok 3 3 1 2 1 1 1 2\n | same
 put pending/2  | run check => 75 - 75 pending/2\n | same
 cut pending/2 | run check => 75 - 75 pending/2\n | same
@@ -144,7 +144,7 @@ drop ids | run check => 75 - 75 ids\n | same
 put ids  | run check => 75 - 75 ids\n | same
 cut ids | run check => 75 - 75 ids\n | same
 grow ids x | run check => 75 - 75 ids\n | same
-# Of the entries 2 and 5 the first alone is below 4.
+# Of the entries 2 and 5 only the first is below 4.
 take ids tickets | run check => 0 ok 3 3 1 2 1 1 2 1\n | same
 # Kept replies are not read.
 drop done/0 | run check => {ok} | same

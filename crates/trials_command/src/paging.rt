@@ -3,8 +3,8 @@ use crate::program::Whole;
 use std::test::Fail;
 use trials_scripts::hold;
 
-// Four posts: the last second of a month, the first one of the next, an earlier moment behind a later one, and a subject with each byte that is
-// written otherwise, with a reference of its own, a tab, a CR, a NUL and bytes past ASCII that are no UTF-8.
+// Four posts: the last second of a month, the first one of the next, an earlier moment after a later one, and a subject with every byte that
+// HTML escapes, with a reference of its own, a tab, a CR, a NUL and bytes past ASCII that are no UTF-8.
 const PAGES: &str = r#"
 let key 000102030405060708090a0b0c0d0e0f101112131415161718191a1b1c1d1e1f
 let hello D1:1,10:1001894399,3:a@b,11:list@ex.org,45:From: a@b\nTo: list@ex.org\nSubject: hello\n\nhi\n,
@@ -34,7 +34,7 @@ run pages month 9999-12 1 => 0 {head} 9999-12{body} 9999-12{rows}{fourth}{foot}
 run pages thread 1 1 => 0 {head} thread 1{body} thread 1{rows}{first}{second}{foot} | unread 1 | same
 run pages thread 3 1 => 0 {head} thread 3{body} thread 3{rows}{third}{foot}
 run pages thread 4 1 => 0 {head} thread 4{body} thread 4{rows}{fourth}{foot}
-# Pages that there are none of: a month between two with posts, one before all and one behind, a thread by its second post, and the page behind the last.
+# Pages that don't exist: a month between two with posts, one before all and one after, a thread by its second post, and the page after the last.
 run pages month 2001-08 1 => {absent}
 run pages month 1969-12 1 => {absent}
 run pages month 0000-01 1 => {absent}
@@ -61,8 +61,8 @@ fn pages_are_given(rt: HostRuntime) -> Result<(), Fail> {
     hold::<Whole>(rt.alloc(), "pages", PAGES)
 }
 
-// Each call failing: the store is opened by two and the configuration read by one; then come the number of posts and the index, with the 256
-// thread files for the list, and for a thread's page its thread file and the index again; and the last call gives the text.
+// Each call fails in turn: the store is opened by two and the configuration read by one; then come the number of posts and the index, with the
+// 256 thread files for the list, and for a thread's page its thread file and the index again; and the last call gives the text.
 const FAILING: &str = r#"
 let key 000102030405060708090a0b0c0d0e0f101112131415161718191a1b1c1d1e1f
 let hello D1:1,10:1000000100,3:a@b,11:list@ex.org,45:From: a@b\nTo: list@ex.org\nSubject: hello\n\nhi\n,
@@ -83,7 +83,7 @@ fn pages_tell_of_each_call_that_fails(rt: HostRuntime) -> Result<(), Fail> {
     hold::<Whole>(rt.alloc(), "failing calls of pages", FAILING)
 }
 
-// Where there is neither a list nor a time.
+// Words, when there is neither a list nor a time.
 const WORDS: &str = r"
 let usage 64 - 64 usage\n
 let words 65 - 65 words\n

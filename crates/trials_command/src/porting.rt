@@ -67,7 +67,7 @@ fn posts_go_out_as_a_mailbox(rt: HostRuntime) -> Result<(), Fail> {
     hold::<Whole>(rt.alloc(), "mailboxes out", OUT)
 }
 
-// A mailbox of one post, 356 bytes, and its delivery, whose message has 229. What is read first is told of first.
+// A mailbox of one post, 356 bytes, and its delivery, whose message has 229. What is read first is reported first.
 const IN: &str = r"
 let disk 111 - 111 disk\n
 let clock 69 - 69 clock\n
@@ -106,7 +106,7 @@ turns 1 3 | fail | run import 900 => {disk} | same | has log \0
 fail 4 | run import 900 => 73 | same
 fail 5 | run import 900 => 0 {stream} | same
 fail 1 | input hello\n | run import 900 => 73 | same
-# A message that is one byte too long, behind one that isn't.
+# A message that is one byte too long, after one that isn't.
 input {box}From a@b\n\n{1..33554432:x} | run import 900 => {long} | same
 # No file is read but the configuration.
 put num x | run import 900 => 0 {stream} | same

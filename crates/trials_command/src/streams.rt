@@ -1,4 +1,4 @@
-// What streams are answered, with limits and over inputs that fail, and the making of a list.
+// How streams are answered, with limits and over inputs that fail, and the making of a list.
 use crate::program::Whole;
 use std::test::Fail;
 use trials_scripts::hold;

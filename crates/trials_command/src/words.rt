@@ -1,4 +1,4 @@
-// Command lines that are told what is wrong with them, where there is neither a list nor a time.
+// Wrong command lines, and what is said of them, when there is neither a list nor a time.
 use crate::program::Whole;
 use std::test::Fail;
 use trials_scripts::hold;
@@ -84,7 +84,7 @@ run out 01 => {words}
 run out '' => {words}
 run show -1 => {words}
 run show 1000000000000000000 => {words}
-# Right words, but no time. Neither the list is looked at, nor is there a line where the output fails.
+# Right words, but no time. The list isn't looked at, and there is no line if the output fails.
 run sub 7 list a@b => {clock}
 run rekey 7 {key} => {clock}
 fail 1 | run floor 7 1 => 73

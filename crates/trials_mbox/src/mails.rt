@@ -1,4 +1,4 @@
-// Mails written into mailboxes, read from them and delivered. What is read or delivered is told as netstrings.
+// Mails written into mailboxes, read from them and delivered. What is read or delivered is reported as netstrings.
 ghost use Rattle.std.specs.Prelude.{◌<◌};
 
 use ml_base::{Bytes, push_netstring};
@@ -73,7 +73,7 @@ fn deliveries(alloc: Global, acts: &[Act]) -> Result<Bytes, AllocError> {
     Ok(out)
 }
 
-// What a text is delivered as to a list with digests: a message from `a@b`, each mail of a mailbox, or a mailbox as a stream from 900 on.
+// How a text is delivered to a list with digests: a message from `a@b`, each mail of a mailbox, or a mailbox as a stream from 900 on.
 fn delivered(alloc: Global, verb: &[u8], text: &[u8], moment: u64) -> Result<Bytes, Fail> {
     let config = config(alloc, b"d", b"", 1_048_576)?;
     if verb == b"delivery".as_slice() {

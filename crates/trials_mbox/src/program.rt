@@ -34,7 +34,7 @@ fn told(alloc: Global, answer: Result<Answer, PartError>) -> Result<Bytes, Alloc
     }
 }
 
-// The answer of an import, or at which place its input is bad.
+// The answer of an import, or the place at which its input is bad.
 fn imported(alloc: Global, moment: u64, text: Bytes, files: &mut OnSite) -> Result<Bytes, Fail>
     requires { moment < 253_402_300_800 }
 {

@@ -6,9 +6,9 @@ use ml_porting::law_importing;
 use std::test::Fail;
 use trials_scripts::hold;
 
-// Texts, and the mails that are read of them.
+// Texts, and the mails that are read from them.
 const READING: &str = r"
-# Nothing, and empty lines alone.
+# Nothing, and only empty lines.
 run read => 0
 input \n | run read => 0
 input \n\n\n | run read => 0
@@ -172,7 +172,7 @@ fail 2 | run out 1 3 => 0 a read failed
 fail 1 | run out 1 3 => 0 a read failed
 fail 2 | run out 3 1 => 0
 fail 2 | run out 4 9 => 0
-# Damaged files, and such as aren't read.
+# Damaged files, and some that aren't read.
 put num 3 | run out 1 1 => 0 damaged 11 0
 put num 3 | run out 5 4 => 0 damaged 11 0
 put num 4\n | run out 1 3 => 0 {first}{second}{third}
@@ -191,7 +191,7 @@ fail 5 | run out 100 101 => 0 {y}{z}
 fail 7 | run out 99 200 => 0 {x}{y}{z}
 fail 6 | run out 99 200 => 0 a read failed
 fail 4 | run out 99 200 => 0 a read failed
-# Damaged files, and such as aren't read.
+# Damaged files, and some that aren't read.
 put archive/1/index x | run out 99 99 => 0 {x}
 put archive/1/index x | run out 99 100 => 0 damaged 10 1
 put archive/1/01  | run out 100 101 => 0 damaged 10 1

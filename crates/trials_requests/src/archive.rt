@@ -1,4 +1,4 @@
-// Answers from the archive: to whom it is open, and what they are.
+// Answers from the archive: what they are, and to whom the archive is open.
 pub(crate) const TABLE: &str = r"
 let m From: g@h\n\nhi\n
 let none No such posts.\n
@@ -69,7 +69,7 @@ then input {m} | run mail g@h list-thread.1@ex.org g => 0 9 0
 put mod/subscribers/N Tg@h\0 | run mail g@h list-get.1@ex.org gbP => 0 9 0
 then input {m} | run mail g@h list-index.1@ex.org gbP => 0 9 0
 then input {m} | run mail g@h list-thread.1@ex.org gbP => 0 9 0
-# A damaged file is named where it is read, and each read may fail.
+# A damaged file is named if it is read, and each read may fail.
 put num 03\n | put archive/0/index x | run mail g@h list-get.1@ex.org => 0 damaged 11 0 | same
 put num 03\n | put archive/0/index x | run mail g@h list-index.1@ex.org => 0 damaged 10 0 | same
 put num 03\n | put archive/0/index x | run mail g@h list-index.1@ex.org b => 0 31 0 | same

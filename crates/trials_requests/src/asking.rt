@@ -1,4 +1,4 @@
-// What is asked of a list in memory, and the text of what it answers.
+// What a list in memory is asked, and the text of what it answers.
 ghost use Rattle.ml_config.specs.Configuration.{IsConfig};
 
 use ml_address::read_request;
@@ -118,7 +118,7 @@ pub(crate) fn mailed(
     )
 }
 
-/// A timed run, which answers the files too.
+/// A timed run, which also answers the files.
 pub(crate) fn timed_run(
     alloc: Global,
     files: OnSite,
@@ -134,7 +134,7 @@ pub(crate) fn timed_run(
     Ok((files, told(alloc, answer)?))
 }
 
-/// The first thing that is due of the bounces of the set list is done.
+/// Does the first thing that is due for the bounces of the set list.
 pub(crate) fn served(alloc: Global, files: &mut OnSite, now: u64) -> Result<Told, Fail> {
     if !is_moment(now) {
         return Err(Fail::new("no moment"));

@@ -1,5 +1,5 @@
-// Bounces: an address's course from its first one to the end, those that change nothing, and those of the digest. The letters
-// of the cookies are those that the key of the bytes 0 to 31 makes.
+// Bounces: an address from its first bounce to the end, bounces that change nothing, and those of the digest. The letters of the cookies are
+// those that the key of the bytes 0 to 31 makes.
 pub(crate) const TABLE: &str = r"
 let m Mailing-List: x\n\n
 let noted 28:3:a@b,10:1000010000,1:n,1:1,,
@@ -41,7 +41,7 @@ run mail '' list-digest-return-probe-1002020000.icnhfndpgjhaehjofjgf-a=b@ex.org 
 run mail '' list-return-warn-1002020000.jflpmhknppbmgpelkpgm-a=b@ex.org => 0 14 0 | same
 run mail '' list-return-@ex.org => 0 14 0 | same
 run mail '' list-digest-return-@ex.org => 0 14 0 | same
-# Numbers of the digest are issues, of which two were sent.
+# The numbers of the digest are issues; two were sent.
 list run new => 0 | put digest/subscribers/] Ta@b\0 | put counts/digest 1\n | put dig 40:2\n | put num 50\n | at 1000010000 | input {m}
 run mail '' list-digest-return-1-a=b@ex.org => 0 13 0 | gets digest/bounce/] {noted} | same
 run mail '' list-digest-return-2-A=B@ex.org => 0 13 0 | gets digest/bounce/] 28:3:a@b,10:1000010000,1:n,1:2,, | same

@@ -1,4 +1,4 @@
-// Confirmations of who joins and who leaves.
+// Confirmations of joining and of leaving.
 pub(crate) const TABLE: &str = r"
 # What the entry of each mail begins with.
 let mail 12:list-return-,6:ex.org,1:p,
@@ -26,7 +26,7 @@ run mail g@h list-sc.1000000200.gejckjgcpngcagofoonm-G=H@ex.org P 1000 => 0 4 0 
 at 1001000200 | run mail g@h list-sc.1000000200.gejckjgcpngcagofoonm-g=h@ex.org P 1000 => 0 4 0 | gets queue/1 {mail}195:{head}g@h{later-date}welcome\n\ng@h was added to list of list@ex.org.\n,3:g@h, | gets ids 1:2\n | gets subscribers/N layout 2\nTg@h\01001000200\0 | gets counts/list 2\n | same
 at 1001000201 | run mail g@h list-sc.1000000200.gejckjgcpngcagofoonm-g=h@ex.org P 1000 => 0 30 0 | same
 at 1000000199 | run mail g@h list-sc.1000000200.gejckjgcpngcagofoonm-g=h@ex.org P 1000 => 0 30 0 | same
-# A letter, the set, the word, the address or the moment is another one.
+# A letter, the set, the word, the address or the moment is changed.
 run mail g@h list-sc.1000000200.hejckjgcpngcagofoonm-g=h@ex.org P 1000 => 0 30 0 | same
 run mail g@h list-digest-sc.1000000200.gejckjgcpngcagofoonm-g=h@ex.org P 1000 => 0 30 0 | same
 run mail g@h list-tc.1000000200.gejckjgcpngcagofoonm-g=h@ex.org P 1000 => 0 30 0 | same
@@ -35,7 +35,7 @@ run mail g@h list-sc.1000000199.gejckjgcpngcagofoonm-g=h@ex.org P 1000 => 0 30 0
 # Under a former key, as long as it was in force.
 put key {rekeyed} | run mail g@h list-sc.1000000200.gejckjgcpngcagofoonm-g=h@ex.org P 1000 => 0 4 0 | gets queue/1 {welcome} | gets ids 1:2\n | gets subscribers/N layout 2\nTg@h\01000000200\0 | gets counts/list 2\n | same
 put key {earlier} | run mail g@h list-sc.1000000200.gejckjgcpngcagofoonm-g=h@ex.org P 1000 => 0 30 0 | same
-# Who is a member already, or none.
+# Somebody who is a member already, or isn't one.
 run mail g@h list-sc.1000000200.iklmpbaancokijchkeoe-a=b@ex.org Ps 1000 => 0 5 0 | same
 run mail m@o list-tc.1000000200.fkbhmgbbbnhkjeccdocm-a=b@ex.org P 1000 => 0 5 0 | same
 run mail g@h list-uc.1000000200.ailnmacikclfbfkikbic-g=h@ex.org P 1000 => 0 7 0 | same
@@ -46,7 +46,7 @@ run mail g@h list-tc.1000000200.obpncccggeoacmogfpkd-g=h@ex.org Ps 1000 => 0 4 0
 run mail g@h list-tc.1000000200.obpncccggeoacmogfpkd-g=h@ex.org P 1000 => 0 4 0 | gets queue/1 {welcome} | gets ids 1:2\n | gets subscribers/N layout 2\nTg@h\01000000200\0 | gets counts/list 2\n | same
 run mail m@o list-allow-tc.1000000200.iandhegkbllegagjfoli-c=d@ex.org P 1000 => 0 4 0 | gets queue/1 {mail}196:{head}c@d{date}welcome\n\nc@d was added to allow of list@ex.org.\n,3:c@d, | gets ids 1:2\n | gets allow/subscribers/L layout 2\nTc@d\01000000200\0 | gets counts/allow 1\n | same
 put counts/list 100000\n | run mail g@h list-sc.1000000200.gejckjgcpngcagofoonm-g=h@ex.org P 1000 => 0 20 0 | same
-# Who leaves.
+# Leaving.
 run mail x@y list-uc.1000000200.jgphlibgpcgbahbolpci-a=B@ex.org P 1000 => 0 6 0 | gets queue/1 {goodbye} | gets ids 1:2\n | loses subscribers/] | gets counts/list 0\n | same
 put bounce/] 28:3:a@b,10:1000000000,1:n,1:1,, | run mail x@y list-uc.1000000200.jgphlibgpcgbahbolpci-a=b@ex.org P 1000 => 0 6 0 | gets queue/1 {goodbye} | gets ids 1:2\n | loses subscribers/] | gets counts/list 0\n | loses bounce/] | same
 ";

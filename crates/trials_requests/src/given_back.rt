@@ -25,7 +25,7 @@ const SMALL: &[u8] = b"10:1000000000,3:g@h,1:x,";
 
 const X: [u8; 64] = [b'x'; 64];
 
-// Messages of 33,554,432 bytes together: one of a byte less, and one of a byte. And one more of a byte.
+// Messages that have 33,554,432 bytes together: one of 33,554,431 bytes, and one of one byte. Then one more of one byte.
 const LARGE: &[Made] = &[
     Made::Text(2, 0, &KEY),
     Made::Text(11, 0, b"0\n"),
@@ -57,8 +57,8 @@ fn after(alloc: Global, texts: &Texts) -> Result<(Texts, Bytes), Fail> {
     Ok((after, reply_text(alloc, reply.code, reply.number)?))
 }
 
-// They stand in no table: each command of one copies its files several times. Each run has its answer, the second and the third held post, and
-// the tickets.
+// These runs are in no table: each command of a table copies its files several times. Each run has its answer, the second and the third held
+// post, and the tickets.
 #[test]
 fn messages_of_33_554_432_bytes_go_back_at_once(rt: HostRuntime) -> Result<(), Fail> {
     let alloc = rt.alloc();

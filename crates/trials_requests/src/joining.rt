@@ -1,4 +1,4 @@
-// Who joins a set and who leaves it, by mail: each case of the rules. Expected mails and cookies were made by hand of their grammar.
+// Joining a set and leaving it, by mail: every case of the rules. Expected mails and cookies were made by hand from their grammar.
 pub(crate) const TABLE: &str = r"
 # What the entry of each mail begins with.
 let mail 12:list-return-,6:ex.org,1:p,
@@ -40,7 +40,7 @@ run mail m@o list-subscribe-a=b@ex.org r 1000 => 0 5 0 | gets queue/1 {mail}207:
 run mail m@o list-subscribe-c=d@ex.org r 1000 => 0 8 0 | gets queue/1 {mail}323:{head}m@o\nReply-To: list-tc.1000000200.mfdeoenpifehkkihkcgm-c=d@ex.org{date}confirm subscribe\n\nTo add c@d to list of list@ex.org, write to\nlist-tc.1000000200.mfdeoenpifehkkihkcgm-c=d@ex.org\n,3:m@o, | gets ids 1:2\n | same
 run mail m@o list-subscribe-c=d@ex.org '' 1000 => 0 8 0 | gets queue/1 {asked-c-d} | gets ids 1:2\n | same
 run mail m@o list-subscribe@ex.org hr 1000 => 0 8 0 | gets queue/1 {mail}323:{head}m@o\nReply-To: list-tc.1000000200.pkohbanabecldcgmponm-m=o@ex.org{date}confirm subscribe\n\nTo add m@o to list of list@ex.org, write to\nlist-tc.1000000200.pkohbanabecldcgmponm-m=o@ex.org\n,3:m@o, | gets ids 1:2\n | same
-# Whoever joins himself where he need not confirm it.
+# Joining without having to confirm it.
 run mail g@h list-subscribe@ex.org h 1000 => 0 4 0 | gets queue/1 {welcome} | gets ids 1:2\n | gets subscribers/N layout 2\nTg@h\01000000200\0 | gets counts/list 2\n | same
 run mail g@h list-subscribe-G=H@ex.org h 1000 => 0 4 0 | gets queue/1 {welcome-upper} | gets ids 1:2\n | gets subscribers/N layout 2\nTG@h\01000000200\0 | gets counts/list 2\n | same
 put counts/list 100000\n | run mail g@h list-subscribe@ex.org h 1000 => 0 20 0 | same
@@ -52,7 +52,7 @@ run mail g@h list-digest-subscribe@ex.org '' 1000 => 0 8 0 | gets queue/1 {mail}
 # Requests to leave.
 run mail g@h list-allow-unsubscribe@ex.org r 1000 => 0 31 0 | same
 run mail m@o list-deny-unsubscribe@ex.org '' 1000 => 0 31 0 | same
-# Who is no member.
+# Somebody who is no member.
 run mail g@h list-unsubscribe@ex.org P 1000 => 0 7 0 | gets queue/1 {mail}199:{head}g@h{date}not subscribed\n\ng@h is not in list of list@ex.org.\n,3:g@h, | gets ids 1:2\n | same
 run mail m@o list-unsubscribe-C=D@ex.org Pr 1000 => 0 7 0 | gets queue/1 {mail}199:{head}m@o{date}not subscribed\n\nC@d is not in list of list@ex.org.\n,3:m@o, | gets ids 1:2\n | same
 run mail m@o list-allow-unsubscribe-a=b@ex.org Pr 1000 => 0 7 0 | gets queue/1 {mail}200:{head}m@o{date}not subscribed\n\na@b is not in allow of list@ex.org.\n,3:m@o, | gets ids 1:2\n | same
@@ -60,7 +60,7 @@ run mail a@b list-digest-unsubscribe@ex.org jP 1000 => 0 7 0 | gets queue/1 {mai
 # A moderator with the right, and without it.
 run mail m@o list-unsubscribe-a=b@ex.org jPr 1000 => 0 8 0 | gets queue/1 {mail}330:{head}m@o\nReply-To: list-uc.1000000200.jgphlibgpcgbahbolpci-A=b@ex.org{date}confirm unsubscribe\n\nTo remove A@b from list of list@ex.org, write to\nlist-uc.1000000200.jgphlibgpcgbahbolpci-A=b@ex.org\n,3:m@o, | gets ids 1:2\n | same
 run mail m@o list-unsubscribe-a=b@ex.org jP 1000 => 0 8 0 | gets queue/1 {asked-a-b} | gets ids 1:2\n | same
-# Whoever leaves himself where he need not confirm it, also behind bounces.
+# Leaving without having to confirm it, also after bounces.
 run mail a@b list-unsubscribe@ex.org jP 1000 => 0 6 0 | gets queue/1 {goodbye} | gets ids 1:2\n | loses subscribers/] | gets counts/list 0\n | same
 put bounce/] 28:3:a@b,10:1000000000,1:n,1:1,, | run mail a@b list-unsubscribe-A=B@ex.org jP 1000 => 0 6 0 | gets queue/1 {goodbye} | gets ids 1:2\n | loses subscribers/] | gets counts/list 0\n | loses bounce/] | same
 run mail a@b list-unsubscribe@ex.org P 1000 => 0 8 0 | gets queue/1 {asked-a-b} | gets ids 1:2\n | same

@@ -1,4 +1,4 @@
-// Each mail in full. The texts were made by hand of their grammar.
+// Every mail in full. The texts were made by hand from their grammar.
 pub(crate) const TABLE: &str = r"
 # What the entry of each mail begins with.
 let mail 12:list-return-,6:ex.org,1:p,

@@ -1,6 +1,6 @@
-// Posts that wait for the moderators, and what these answer.
+// Posts that wait for the moderators, and what the moderators answer.
 pub(crate) const TABLE: &str = r"
-# The cookie of ticket 1 that is held at 1,000,000,000, under the key of the bytes 0 to 31.
+# The cookie of ticket 1, held at 1,000,000,000, under the key of the bytes 0 to 31.
 let c dlchffgkeobljkocbhcg
 # The cookie of the same post under the key of 32 `f`.
 let under-new nlogecmakajephaoiloe

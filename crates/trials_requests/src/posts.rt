@@ -6,7 +6,7 @@ let c-d Tc@d\0
 let e-f Te@f\0
 let unsubscribe To: list@ex.org\nSubject: unsubscribe\n\n
 let marked-once To: list@ex.org\nSubject: Re: [LIST] hello\n\n
-# A message of 45 bytes, and what the list sends of it: 321 bytes, of which the first 276 stand in front of each message.
+# A message of 45 bytes, and what the list sends of it: 321 bytes. The first 276 of them stand in front of every message.
 let m From: a@b\nTo: list@ex.org\nSubject: hello\n\nhi\n
 let nul-first a\0b: x\n{m}
 let marked From: a@b\nTo: list@ex.org\nSubject: [list] hello\n\nhi\n
@@ -16,7 +16,7 @@ let usual-sent Received: from x\n\x09by y\nDKIM-Signature: v=1;\n b=abc\nFrom: "
 let usual Return-Path: <a@b>\n{usual-sent}
 let front Mailing-List: contact list-help@ex.org; run by ezmlm\nPrecedence: bulk\nList-Post: <mailto:list@ex.org>\nList-Help: <mailto:list-help@ex.org>\nList-Unsubscribe: <mailto:list-unsubscribe@ex.org>\nList-Subscribe: <mailto:list-subscribe@ex.org>\nDelivered-To: mailing list list@ex.org\n
 let sent {front}{m}
-# The entry of it, to nobody and to three members.
+# Its entry, to nobody and to three members.
 let to-nobody 14:list-return-1-,6:ex.org,1:v,321:{sent},
 let mailed {to-nobody}3:a@b,3:c@d,3:e@f,
 # A post goes to the archive and to the members.

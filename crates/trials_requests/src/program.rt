@@ -1,6 +1,6 @@
-// What is asked of a list in memory, as words. `new` makes a list. The calls are `verdict SENDER`, `post SENDER`, `mail SENDER RECIPIENT`, `due`,
-// `answer TICKET LETTERS` with `accept` or `reject`, and `timed`. After a call may stand letters of options, and the most bytes of a post.
-// `bounced` gives the list 1,002 members, to each of whom mail bounced.
+// What a list in memory is asked, as words. `new` makes a list. The calls are `verdict SENDER`, `post SENDER`, `mail SENDER RECIPIENT`, `due`,
+// `answer TICKET LETTERS` with `accept` or `reject`, and `timed`. Letters of options may follow a call, and the most bytes of a post. `bounced`
+// gives the list 1,002 members, for each of whom mail bounced.
 ghost use Rattle.std.specs.Prelude.{IfOk};
 ghost use Rattle.ml_config.specs.Configuration.{IsConfig};
 
@@ -19,7 +19,7 @@ use trials_scripts::{OnSite, Program, ended_with, hold, read_whole};
 
 pub(crate) struct Requests;
 
-// The most bytes of a post where no word says it.
+// The most bytes of a post if no word says it.
 const MAX: u64 = 1_048_576;
 
 // A closed gate.
@@ -51,7 +51,7 @@ fn word(words: &[String], at: usize) -> &str {
     }
 }
 
-// The configuration of these letters of options and this number of bytes. Subjects are marked with `[list]` where they are marked.
+// The configuration of these letters of options and this number of bytes. Subjects are marked with `[list]` if they are marked.
 fn configured(alloc: Global, letters: &str, max: &str) -> Result<Config, Fail>
     ensures { IfOk result IsConfig }
 {

@@ -47,7 +47,7 @@ list run new => 0 | input {m}
 run mail g@h list-OWNER@ex.org bP => 0 11 0 | gets queue/1 {mail}14:{m},9:o@own.org, | gets ids 1:2\n | same
 input {looped} | run mail '' list-OWNER@ex.org bP => 0 11 0 | gets queue/1 {mail}17:{looped},9:o@own.org, | gets ids 1:2\n | same
 input | run mail x list-OWNER@ex.org bP => 0 11 0 | gets queue/1 {mail}0:,9:o@own.org, | gets ids 1:2\n | same
-# Moderators are told who is in a set, where the list says so.
+# Moderators are told who is in a set, if the list says so.
 list run new => 0 | put mod/subscribers/N Tg@h\0 | input {m}
 run mail g@h list-list@ex.org l => 0 12 0 | gets queue/1 {mail}165:{head}g@h{date}members of list\n\n,3:g@h, | gets ids 1:2\n | same
 put subscribers/] Ta@b\0 | put subscribers/L layout 2\nTC@d\01000000000\0 | put subscribers/W Te@f\0 | run mail g@h list-list@ex.org l => 0 12 0 | gets queue/1 {mail}177:{head}g@h{date}members of list\n\na@b\nC@d\ne@f\n,3:g@h, | gets ids 1:2\n | same

@@ -1,4 +1,4 @@
-// What follows mail that bounced.
+// Following up mail that bounced.
 pub(crate) const TABLE: &str = r"
 # The ledger.
 let noted 28:3:a@b,10:1000010000,1:n,1:1,,

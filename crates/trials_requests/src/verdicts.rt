@@ -1,4 +1,4 @@
-// What is found of posts.
+// Verdicts on posts.
 pub(crate) const TABLE: &str = r#"
 # A message of 45 bytes.
 let m From: a@b\nTo: list@ex.org\nSubject: hello\n\nhi\n
@@ -64,7 +64,7 @@ input Subject: x\nTo: a=list@ex.org\n\n | run verdict a@b '' 1000 => 0 NotAddres
 input Subject: x\nTo: list@ex.orgs\n\n | run verdict a@b '' 1000 => 0 NotAddressed | same
 input Subject: x\nTo: list@ex.org.uk\n\n | run verdict a@b '' 1000 => 0 NotAddressed | same
 input Subject: x\nTo: list@ex.org_\n\n | run verdict a@b '' 1000 => 0 Posted | same
-# A damaged file is named where it is read.
+# A damaged file is named if it is read.
 list run new => 0 | input {m}
 put deny/subscribers/] Ta@b | run verdict a@b k 1000 => 0 damaged 6 29 | same
 put allow/subscribers/] Ta@b | run verdict a@b u 1000 => 0 damaged 5 29 | same

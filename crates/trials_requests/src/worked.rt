@@ -9,7 +9,7 @@ let bytes \0\x01\x02\x03\x04\x05\x06\x07\x08\x09\n\x0B\x0C\x0D\x0E\x0F\x10\x11\x
 let message From: a@b\nTo: list@ex.org\nSubject: x\n\nhi\n
 let date \nDate: Sun, 09 Sep 2001 01:46:40 -0000\nSubject:\x20
 let confirmed list-sc.1000000200.gejckjgcpngcagofoonm-g=h@ex.org
-# One letter of the cookie is another one.
+# One letter of the cookie is changed.
 let misspelled list-sc.1000000200.gejckjgcpngcagofoonp-g=h@ex.org
 let of-a-list From: a@b\nTo: list@ex.org\nSubject: x\nMailing-List: y\n\nhi\n
 # A key of 32 bytes 255 from 1,000,000,300 on, and the one before it.
@@ -22,7 +22,7 @@ let sends Mailing-List: contact list-help@ex.org; run by ezmlm\nPrecedence: bulk
 let post {sends}From: a@b\nTo: list@ex.org\nSubject: hello\n\nhi\n
 # The entry with the question that `g@h` gets.
 let asked {mail}323:{head}g@h\nReply-To: {confirmed}\nDate: Sun, 09 Sep 2001 01:50:00 -0000\nSubject: confirm subscribe\n\nTo add g@h to list of list@ex.org, write to\n{confirmed}\n,3:g@h,
-# The entry with the question that `a@b` gets, who is to leave.
+# The entry with the question whether `a@b`, who gets it, is to leave.
 let leaving {mail}330:{head}a@b\nReply-To: list-uc.1000000000.kadenkneofgbjlhnomng-a=b@ex.org{date}confirm unsubscribe\n\nTo remove a@b from list of list@ex.org, write to\nlist-uc.1000000000.kadenkneofgbjlhnomng-a=b@ex.org\n,3:a@b,
 # A question is answered as long as its cookie is good.
 list run new => 0 | put counts/list 0\n | at 1000000200 | input {message}

@@ -1,4 +1,4 @@
-// Items over the files of a list: what they are answered, and what is found then.
+// Items over the files of a list: how they are answered, and what is found afterwards.
 ghost use Rattle.ml_plain.specs.Items.{IsItem};
 
 use ml_base::{Bytes, Layer, Name, PartError, Txn, read_number};
@@ -79,7 +79,7 @@ fn load_text(alloc: Global, list: &mut List) -> Result<Bytes, AllocError> {
     }
 }
 
-// The nine bytes of each number in the file of the kept replies of 512 numbers, or `-` where that isn't as long as it is to be.
+// The nine bytes of each number in the file of the kept replies of 512 numbers, or `-` if the file isn't as long as it should be.
 fn kept(alloc: Global, image: &Image, words: &[String]) -> Result<Bytes, AllocError> {
     let mut out = Bytes::new(alloc);
     for word in words {
@@ -96,7 +96,7 @@ fn kept(alloc: Global, image: &Image, words: &[String]) -> Result<Bytes, AllocEr
     Ok(out)
 }
 
-// Of the files of the kept replies, how many of so many first ones are there.
+// How many of the first files of the kept replies are there. A word says how many files are the first.
 fn groups(alloc: Global, image: &Image, words: &[String]) -> Result<Bytes, AllocError> {
     let count = match words.first() {
         Some(word) => read_number(word.as_bytes()).unwrap_or(0),

@@ -77,7 +77,7 @@ input S1:7,10:1000000000,16 | run ends => 0 0 short 19
 input S1:7,10:1000000000, | run ends => 0 0 short 19
 ";
 
-// A delivery of 42 bytes, cut after so many. Its elements begin at 0, 1, 5, 19, 25 and 34.
+// A delivery of 42 bytes, cut after every number of bytes. Its elements begin at 0, 1, 5, 19, 25 and 34.
 const CUTS: &str = r"
 let delivery D1:7,10:1000000000,3:a@b,6:l@list,5:hello,
 turns 0 0 | input {delivery} | run ends {turn} => 0 0 end

@@ -81,7 +81,7 @@ D4:1234,10:1001234000,0:,33:list-return-123-u68=ex.com@ex.org,1:\n,",
     },
 ];
 
-// All bytes of a source, read in pieces of so many.
+// All bytes of a source, read in pieces of this size.
 fn read_all(alloc: Global, source: &mut Generated, piece: usize) -> Result<Bytes, Fail> {
     let mut out = Bytes::new(alloc);
     let mut buffer = [0u8; 64];

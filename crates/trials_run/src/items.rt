@@ -1,11 +1,11 @@
-// What items are answered over the files of a list, which files they leave, and how many reads they take.
+// How items are answered over the files of a list, which files they leave, and how many reads they take.
 use crate::program::Calls;
 use std::test::Fail;
 use trials_scripts::hold;
 
-// The files of a new list that items read are its configuration, its key, and the counts of its five sets. Of the kept replies `bad` has
-// some outside the grammar: of the numbers from 2 on a number without a code, the codes 37 and 35, a number where none belongs; and then one
-// of a post. `two_keys` are the keys after two changes: the one that is in force, the one before, and when that was replaced, at 1,001,000,301.
+// The files of a new list that items read are its configuration, its key, and the counts of its five sets. The kept replies of `bad` are partly
+// outside the grammar: from the number 2 on a number without a code, the codes 37 and 35, and a number where none belongs; and then one reply of
+// a post. `two_keys` are the keys after two changes: the one that is in force, the one before, and when that was replaced, at 1,001,000,301.
 const TABLE: &str = r"
 let bad {1..26:\0}\x01%\0\0\0\0\0\0\0\0#\0\0\0\0\0\0\0\0\x04\x01\0\0\0\0\0\0\0\x01\0\0\0\0\0\0\0\x09{0..4544:\0}
 let two_keys {1..32:\xFE}{1..32:\xFF}\0\0\0\0;\xAA\x0Dm
@@ -22,9 +22,9 @@ put counts/list 100000\n | input A1:1,10:1000000000,4:list,3:a@b, | run apply =>
 put subscribers/] layout 2\nTa@b\01000000000\0 | put counts/list 1\n | put bounce/]  | input R1:9,10:1000000000,4:list,3:A@B, | run apply => 0 6 0\n | lacks subscribers/] | has counts/list 0\n | has bounce/] 
 # An empty ledger: leaving another set.
 put subscribers/] layout 2\nTa@b\01000000000\0 | put counts/list 1\n | put bounce/]  | input R1:9,10:1000000000,6:digest,3:a@b, | run apply => 0 7 0\n | has subscribers/] layout 2\nTa@b\01000000000\0 | has counts/list 1\n | has bounce/] 
-# The ledger of who leaves: leaving.
+# The ledger of somebody who leaves: leaving.
 put subscribers/] layout 2\nTa@b\01000000000\0 | put counts/list 1\n | put bounce/] 28:3:a@b,10:1000000000,1:n,1:1,, | input R1:9,10:1000000000,4:list,3:A@B, | run apply => 0 6 0\n | lacks subscribers/] | has counts/list 0\n | lacks bounce/]
-# The ledger of who leaves: leaving another set.
+# The ledger of somebody who leaves: leaving another set.
 put subscribers/] layout 2\nTa@b\01000000000\0 | put counts/list 1\n | put bounce/] 28:3:a@b,10:1000000000,1:n,1:1,, | input R1:9,10:1000000000,6:digest,3:a@b, | run apply => 0 7 0\n | has subscribers/] layout 2\nTa@b\01000000000\0 | has counts/list 1\n | has bounce/] 28:3:a@b,10:1000000000,1:n,1:1,,
 # The ledger of another: leaving.
 put subscribers/] layout 2\nTa@b\01000000000\0 | put counts/list 1\n | put bounce/] 28:3:a@5,10:1000000000,1:n,1:1,, | input R1:9,10:1000000000,4:list,3:A@B, | run apply => 0 6 0\n | lacks subscribers/] | has counts/list 0\n | has bounce/] 28:3:a@5,10:1000000000,1:n,1:1,,
@@ -34,13 +34,13 @@ put subscribers/] layout 2\nTa@b\01000000000\0 | put counts/list 1\n | put bounc
 put subscribers/] layout 2\nTa@b\01000000000\0 | put counts/list 1\n | put bounce/] 28:3:a@5,10:1000000000,1:n,1:1,,28:3:a@b,10:1000000000,1:n,1:1,, | input R1:9,10:1000000000,4:list,3:A@B, | run apply => 0 6 0\n | lacks subscribers/] | has counts/list 0\n | has bounce/] 28:3:a@5,10:1000000000,1:n,1:1,,
 # A ledger of two: leaving another set.
 put subscribers/] layout 2\nTa@b\01000000000\0 | put counts/list 1\n | put bounce/] 28:3:a@5,10:1000000000,1:n,1:1,,28:3:a@b,10:1000000000,1:n,1:1,, | input R1:9,10:1000000000,6:digest,3:a@b, | run apply => 0 7 0\n | has subscribers/] layout 2\nTa@b\01000000000\0 | has counts/list 1\n | has bounce/] 28:3:a@5,10:1000000000,1:n,1:1,,28:3:a@b,10:1000000000,1:n,1:1,,
-# Floors, behind items of the numbers 7 and 8.
+# Floors, after items of the numbers 7 and 8.
 input A1:7,10:1000000000,4:list,3:a@b,A1:8,10:1000000001,4:list,3:A@B,F2:90,10:1000000500,2:50,A1:7,10:1000000000,4:list,3:a@b,F2:90,10:1000000500,2:50,F2:91,10:1000000501,2:20,F2:92,10:1000000502,3:100,F1:0,10:1000000503,6:600000,F2:92,10:1000000504,2:60,A2:49,10:1000000505,4:list,3:a@b,A2:50,10:1000000506,4:list,3:a@b, | run apply => 0 4 0\n5 0\n34 50\n35 0\n34 50\n34 50\n36 0\n36 0\n36 0\n35 0\n5 0\n | has floor 50\n | run floor => 0 50 | run kept 7 8 49 50 90 91 92 93 => 0 \0\0\0\0\0\0\0\0\0\0\0\0\0\0\0\0\0\0\0\0\0\0\0\0\0\0\0\x05\0\0\0\0\0\0\0\0\x22\0\0\0\0\0\0\02\x22\0\0\0\0\0\0\02$\0\0\0\0\0\0\0\0\0\0\0\0\0\0\0\0\0
 # The ends of the files of kept replies.
 input R3:511,10:1000000000,4:list,3:c@d,R3:512,10:1000000000,4:list,3:c@d,R4:1023,10:1000000000,4:list,3:c@d,R4:1024,10:1000000000,4:list,3:c@d,R12:999999999999,10:1000000000,4:list,3:c@d, | run apply => 0 7 0\n7 0\n7 0\n7 0\n7 0\n | run kept 511 512 1023 1024 999999999999 => 0 \x07\0\0\0\0\0\0\0\0\x07\0\0\0\0\0\0\0\0\x07\0\0\0\0\0\0\0\0\x07\0\0\0\0\0\0\0\0\x07\0\0\0\0\0\0\0\0 | input A12:999999999999,10:1000000000,4:list,3:a@b, | run apply => 0 7 0\n
 # A floor within the second file of kept replies.
 input R3:511,10:1000000000,4:list,3:c@d,R3:512,10:1000000000,4:list,3:c@d,R4:1023,10:1000000000,4:list,3:c@d,R4:1024,10:1000000000,4:list,3:c@d,R12:999999999999,10:1000000000,4:list,3:c@d,F1:0,10:1000000000,4:1023, | run apply => 0 7 0\n7 0\n7 0\n7 0\n7 0\n34 1023\n | lacks done/0 | run kept 512 1023 1024 => 0 \0\0\0\0\0\0\0\0\0\x07\0\0\0\0\0\0\0\0\x07\0\0\0\0\0\0\0\0
-# A floor behind the second file.
+# A floor after the second file.
 input R3:511,10:1000000000,4:list,3:c@d,R3:512,10:1000000000,4:list,3:c@d,R4:1023,10:1000000000,4:list,3:c@d,R4:1024,10:1000000000,4:list,3:c@d,R12:999999999999,10:1000000000,4:list,3:c@d,F1:0,10:1000000000,4:1024, | run apply => 0 7 0\n7 0\n7 0\n7 0\n7 0\n34 1024\n | lacks done/0 | lacks done/1 | run kept 1024 => 0 \x07\0\0\0\0\0\0\0\0
 # A floor within the third file.
 input R3:511,10:1000000000,4:list,3:c@d,R3:512,10:1000000000,4:list,3:c@d,R4:1023,10:1000000000,4:list,3:c@d,R4:1024,10:1000000000,4:list,3:c@d,R12:999999999999,10:1000000000,4:list,3:c@d,F1:0,10:1000000000,4:1025, | run apply => 0 7 0\n7 0\n7 0\n7 0\n7 0\n34 1025\n | lacks done/0 | lacks done/1 | lacks done/2 | run kept 999999999999 => 0 \x07\0\0\0\0\0\0\0\0

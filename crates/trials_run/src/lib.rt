@@ -1,5 +1,5 @@
-//! Tests of the public calls on items and streams: what a stream is answered over a list, what a run leaves wherever it is
-//! stopped, how items are read and written, what an item does to the files of a list, and the items of an exercise.
+//! Tests of the public calls on items and streams: how a stream is answered over a list, what a run leaves wherever it is stopped, how items are
+//! read and written, what an item does to the files of a list, and the items of an exercise.
 #![tactic(auto)]
 
 #[cfg(test)]

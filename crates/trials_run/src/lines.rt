@@ -9,7 +9,7 @@ use trials_lists::same;
 
 #[derive(Clone, Copy)]
 enum Line {
-    // The items of these numbers are answered so: a post was taken, with its own number; the set is full; a member left.
+    // The answers to the items of these numbers: a post was taken, with its own number; the set is full; a member left.
     Posted(u64, u64),
     Full(u64),
     Unsubscribed(u64),
@@ -44,7 +44,7 @@ const LINES: [(Line, &[u8]); 18] = [
     (Line::Stop(Some(12), 111, Why::Disk), b"12 111 disk\n"),
 ];
 
-// Writes a line that ends a run, or nothing where it names no file of the table.
+// Writes a line that ends a run, or nothing if it names a file outside the table.
 fn put_stop(number: Option<u64>, status: u8, why: Why, out: &mut [u8; 64]) -> usize {
     match why {
         Why::At(name) if !name.is_in_table() => 0,

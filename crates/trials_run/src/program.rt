@@ -31,7 +31,7 @@ fn text_of(
     }
 }
 
-// How such a call ends, which leaves the files as they are.
+// How such a call ends. It leaves the files as they are.
 fn told(
     alloc: Global,
     site: MemSite,

@@ -12,7 +12,7 @@ use std::test::Fail;
 use trials_scripts::{hold, read_whole};
 
 // An error is answered again, and nothing more is read. A failed look ahead takes nothing. Then an item of each letter, and a delivery whose
-// sender, recipient and message are each every byte once.
+// sender, recipient and message each have every byte once.
 const TABLE: &str = r"
 let every D1:7,10:1000000000,{0..2:256:\0\x01\x02\x03\x04\x05\x06\x07\x08\x09\n\x0B\x0C\x0D\x0E\x0F\x10\x11\x12\x13\x14\x15\x16\x17\x18\x19\x1A\x1B\x1C\x1D\x1E\x1F !\x22#$%&'()*+,-./0123456789:;<=>?@ABCDEFGHIJKLMNOPQRSTUVWXYZ[\x5C]^_`abcdefghijklmnopqrstuvwxyz\x7B|\x7D~\x7F\x80\x81\x82\x83\x84\x85\x86\x87\x88\x89\x8A\x8B\x8C\x8D\x8E\x8F\x90\x91\x92\x93\x94\x95\x96\x97\x98\x99\x9A\x9B\x9C\x9D\x9E\x9F\xA0\xA1\xA2\xA3\xA4\xA5\xA6\xA7\xA8\xA9\xAA\xAB\xAC\xAD\xAE\xAF\xB0\xB1\xB2\xB3\xB4\xB5\xB6\xB7\xB8\xB9\xBA\xBB\xBC\xBD\xBE\xBF\xC0\xC1\xC2\xC3\xC4\xC5\xC6\xC7\xC8\xC9\xCA\xCB\xCC\xCD\xCE\xCF\xD0\xD1\xD2\xD3\xD4\xD5\xD6\xD7\xD8\xD9\xDA\xDB\xDC\xDD\xDE\xDF\xE0\xE1\xE2\xE3\xE4\xE5\xE6\xE7\xE8\xE9\xEA\xEB\xEC\xED\xEE\xEF\xF0\xF1\xF2\xF3\xF4\xF5\xF6\xF7\xF8\xF9\xFA\xFB\xFC\xFD\xFE\xFF,}
 input A1:7,10:1000000000,4:list,3:a@b,A1:8,1:0,5:allow,3:C@D, | run read more next more next more next next => 0 more\n7 1000000000 add list a@b: A1:7,10:1000000000,4:list,3:a@b,\nmore\n8 0 add allow C@d: A1:8,1:0,5:allow,3:C@d,\nend\nend\nend\n
@@ -55,7 +55,7 @@ fn push_words(
     out.extend(third)
 }
 
-// Adds the act of an item, but for a key's bytes.
+// Adds the act of an item, except a key's bytes.
 fn push_act(alloc: Global, out: &mut Bytes, act: &Act) -> Result<(), AllocError> {
     match act {
         Act::Deliver {
@@ -76,7 +76,7 @@ fn push_act(alloc: Global, out: &mut Bytes, act: &Act) -> Result<(), AllocError>
     }
 }
 
-// Adds an item: its parts and its bytes, as they are added to a text, if these are asked for, or else its bytes, as they are written.
+// Adds an item: for `next` its parts, and its bytes as they are added to a text; otherwise only its bytes, as they are written.
 fn push_found(alloc: Global, out: &mut Bytes, ask: &str, item: &Item) -> Result<(), AllocError> {
     if ask != "next" {
         return out.extend(write_item(alloc, item)?.as_slice());
@@ -166,9 +166,8 @@ fn asked(
     }
 }
 
-// What is answered, a line each, where these are asked: `more`, whether there is a further byte; `next`, the next item with its number, its
-// moment, its act and its bytes as they are written; `written`, these bytes alone; and `read`, two bytes of the source itself, with how many
-// it gives.
+// The answers, a line each, to these questions: `more`, whether there is a further byte; `next`, the next item with its number, its moment, its
+// act and its bytes as they are written; `written`, these bytes alone; and `read`, two bytes of the source itself, with how many it gives.
 pub(crate) fn answers(
     alloc: Global,
     asks: &[String],
@@ -185,7 +184,7 @@ pub(crate) fn answers(
     Ok(out)
 }
 
-// How many items a stream has, cut to so many bytes if there is a number, and what is behind them. No stream here has more than ten.
+// How many items a stream has, cut to so many bytes if there is a number, and what comes after them. No stream here has more than ten.
 pub(crate) fn ending(
     alloc: Global,
     size: Option<u64>,

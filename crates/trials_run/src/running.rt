@@ -13,7 +13,7 @@ pub(crate) fn made(alloc: Global, site: MemSite) -> Result<(u8, MemSite), Fail> 
     Ok(make(alloc, &config, &KEY, site))
 }
 
-// A run of at most so many items. After its output the site has put out how many were answered.
+// A run of at most this many items. After its output the site has put out how many were answered.
 pub(crate) fn spool(
     alloc: Global,
     site: MemSite,
@@ -27,7 +27,7 @@ pub(crate) fn spool(
     Ok((ending.status, site))
 }
 
-// The same of a stream that ends after so many bytes.
+// The same for a stream that ends after this many bytes.
 pub(crate) fn cut(
     alloc: Global,
     site: MemSite,
@@ -40,7 +40,7 @@ pub(crate) fn cut(
     spool(alloc, site, 1_000_000, &mut input)
 }
 
-// The set list gets so many members, from `100000@b` on, and their count.
+// Gives the set list this many members, from `100000@b` on, and their count.
 pub(crate) fn with_members(
     alloc: Global,
     site: MemSite,
@@ -58,7 +58,7 @@ pub(crate) fn with_members(
     ended_with(alloc, 0, image, b"")
 }
 
-// The gate of a log that has a record behind it, or `-`.
+// The gate of a log that has a record after it, or `-`.
 pub(crate) fn gate(alloc: Global, site: &MemSite) -> Result<Bytes, AllocError> {
     let image = site.crash(alloc, 0, Fill::Old)?;
     match image.log.as_slice() {
@@ -67,7 +67,7 @@ pub(crate) fn gate(alloc: Global, site: &MemSite) -> Result<Bytes, AllocError> {
     }
 }
 
-// Whether the longest log that a run has at some moment is longer than the first of these numbers and shorter than the second, or else how
+// Whether the longest log that a run has at some moment is longer than the first of these numbers and shorter than the second; otherwise how
 // long it is.
 pub(crate) fn longest(
     alloc: Global,

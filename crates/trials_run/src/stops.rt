@@ -3,8 +3,8 @@ use crate::program::Calls;
 use std::test::Fail;
 use trials_scripts::hold;
 
-// An item of each letter, cut after so many bytes, and what is answered. They end before 32, 64, 87 and 175. The elements of the items begin
-// at 0, 1, 5, 19 and 26; at 32, 33, 37, 51 and 58; at 64, 65, 69 and 83; at 87, 88, 93 and 107. There is no byte after the 175.
+// An item of each letter, cut after so many bytes, and the answers. They end before 32, 64, 87 and 175. The elements of the items begin at 0, 1,
+// 5, 19 and 26; at 32, 33, 37, 51 and 58; at 64, 65, 69 and 83; at 87, 88, 93 and 107. There is no byte after the 175.
 const CUTS: &str = r"
 let each A1:7,10:1000000000,4:list,3:a@b,R1:8,10:1000000001,4:list,3:A@B,F1:9,10:1000000002,1:5,K2:10,10:1000000003,64:{1..64:f},
 list run make => 0 made list@ex.org\n
@@ -52,7 +52,7 @@ turns 0 20 | stop | input {one} | run spool => 0 7 0 subscribed\n1 answered | in
 turns 0 20 | stop | fill new | input {one} | run spool => 0 7 0 subscribed\n1 answered | input {one} | run spool => 0 7 0 subscribed\n1 answered | has subscribers/] layout 2\nTa@b\01000000000\0 | has counts/list 1\n | has log \0
 turns 0 20 | stop | fill 1 | input {one} | run spool => 0 7 0 subscribed\n1 answered | input {one} | run spool => 0 7 0 subscribed\n1 answered | has subscribers/] layout 2\nTa@b\01000000000\0 | has counts/list 1\n | has log \0
 turns 0 20 | stop | fill 7 | input {one} | run spool => 0 7 0 subscribed\n1 answered | input {one} | run spool => 0 7 0 subscribed\n1 answered | has subscribers/] layout 2\nTa@b\01000000000\0 | has counts/list 1\n | has log \0
-# An item is deferred where the sync of its gate fails, and counted once.
+# An item is deferred if the sync of its gate fails, and counted once.
 fail 11 | input {five} | run spool => 111 5 111 disk\n0 answered | input {five} | run spool => 0 5 0 subscribed\n1 answered | has subscribers/] layout 2\nTa@b\01000000000\0 | has counts/list 1\n | has log \0
 fail 11 | fill new | input {five} | run spool => 111 5 111 disk\n0 answered | input {five} | run spool => 0 5 0 subscribed\n1 answered | has subscribers/] layout 2\nTa@b\01000000000\0 | has counts/list 1\n | has log \0
 # Two items: the opening fails.
@@ -79,7 +79,7 @@ fail 24 | fill new | input {two} | run spool => 0 7 0 subscribed\n8 0 subscribed
 # A group is deferred as a whole.
 fail 16 | input {four} | run spool => 111 1 111 disk\n0 answered | input {four} | run spool => 0 1 0 subscribed\n2 0 subscribed\n3 0 subscribed\n4 0 subscribed\n4 answered | has subscribers/] layout 2\nTa@5\01000000000\0Ta@b\01000000000\0 | has subscribers/L layout 2\nTc@d\01000000000\0 | has subscribers/W layout 2\nTe@f\01000000000\0 | has counts/list 4\n | has log \0
 fail 16 | fill new | input {four} | run spool => 111 1 111 disk\n0 answered | input {four} | run spool => 0 1 0 subscribed\n2 0 subscribed\n3 0 subscribed\n4 0 subscribed\n4 answered | has subscribers/] layout 2\nTa@5\01000000000\0Ta@b\01000000000\0 | has subscribers/L layout 2\nTc@d\01000000000\0 | has subscribers/W layout 2\nTe@f\01000000000\0 | has counts/list 4\n | has log \0
-# A group stays whose answers are not given.
+# A group whose answers are not given stays.
 fail 17 | input {four} | run spool => 73 0 answered | input  | run spool => 0 0 answered | has subscribers/] layout 2\nTa@5\01000000000\0Ta@b\01000000000\0 | has subscribers/L layout 2\nTc@d\01000000000\0 | has subscribers/W layout 2\nTe@f\01000000000\0 | has counts/list 4\n | has log \0
 # A group is answered.
 input {four} | run spool => 0 1 0 subscribed\n2 0 subscribed\n3 0 subscribed\n4 0 subscribed\n4 answered

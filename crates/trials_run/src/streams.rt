@@ -1,9 +1,9 @@
-// What streams are answered over a new list, up to their limit too.
+// How streams are answered over a new list, also up to their limit.
 use crate::program::Calls;
 use std::test::Fail;
 use trials_scripts::hold;
 
-// Runs of at most so many items, or a million.
+// Runs of at most so many items, or of at most a million.
 const TABLE: &str = r"
 list run make => 0 made list@ex.org\n
 # Whole streams.

@@ -1,6 +1,6 @@
-// The calls of the tables, as words, with rules in the input. Addresses stand in one word, with a comma between two: `rules`, `assign A`,
-// `split A,..`, `join A,.. A,..` and `move NAME SET WAY A,..`; and over the files of the set list `division` and `moving NAME WAY`, where WAY is
-// `in` or another word.
+// The calls of the tables, as words, with rules in the input. Addresses are in one word, with a comma between two. The calls are `rules`,
+// `assign A`, `split A,..`, `join A,.. A,..` and `move NAME SET WAY A,..`; and over the files of the set list `division` and
+// `moving NAME WAY`, where WAY is `in` or another word.
 use ml_base::{Address, AddressList, Bytes, PartError, Set};
 use ml_dividing::{division, moving, write_moves};
 use ml_site::{Fill, MemClock, MemSite, MemSource};
@@ -36,7 +36,7 @@ fn people(alloc: Global, word: &[u8]) -> Result<AddressList, Fail> {
     Ok(list)
 }
 
-// How many rules there are, or the place of the first line that is none.
+// How many rules there are, or the place of the first line that is no rule.
 fn spelled(alloc: Global, rules: Result<Rules, RulesError>) -> Result<String, Fail> {
     match rules {
         Ok(rules) => Ok(format!(in alloc; "{}", rules.as_slice().len())?),

@@ -7,7 +7,7 @@ use trials_scripts::hold;
 
 // Rules in every form that is taken or refused, and the first one that takes an address.
 const RULES: &str = r"
-# How many rules a text spells, or the place of the first line that is none.
+# How many rules a text spells, or the place of the first line that is no rule.
 run rules => 0 0
 input b:0:52:one\n | run rules => 0 1
 input b:0:52:one\n:0:20:two\n | run rules => 0 2
@@ -87,7 +87,7 @@ run move none list in a@b,c@d,e@f => 0 -
 run move One list in a@b,c@d,e@f => 0 -
 run move '' list in a@b,c@d,e@f => 0 -
 input :0:28:x\n | run move x deny in a@b,c@d,e@f => 0 2 A3:500,10:1000000600,4:deny,3:c@d,A3:501,10:1000000600,4:deny,3:e@f,
-# One act for each member.
+# One act for every member.
 input :0:52:x\n | run move x allow in a@b,c@d,e@f => 0 3 A3:500,10:1000000600,5:allow,3:a@b,A3:501,10:1000000600,5:allow,3:c@d,A3:502,10:1000000600,5:allow,3:e@f,
 ";
 

@@ -1,4 +1,4 @@
-//! Tests of the whole program over memory, stopped after each of its calls and with each of them failing.
+//! Tests of the whole program over memory, stopped after each of its calls, and with each call failing in turn.
 #![tactic(auto)]
 
 #[cfg(test)]

@@ -1,6 +1,6 @@
 // Scripts: items, each with its answer, and the words that make the list that they are run on.
 
-// Items, each with its answer on a new list behind the items before it: the first thirty of an exercise, and a floor under their numbers.
+// Items, each with its answer on a new list after the items before it: the first thirty of an exercise, and a floor under their numbers.
 pub(crate) const EXERCISE: &str = r"
 A1:1,10:1000001000,4:list,10:u37@ex.com, => 1 0 subscribed
 A1:2,10:1000002000,4:list,10:u74@ex.com, => 2 0 subscribed
@@ -57,8 +57,8 @@ A2:11,10:1000000061,3:mod,3:m@o, => 11 0 unsubscribed
 K2:14,10:1000000070,64:2e2e2e2e2e2e2e2e2e2e2e2e2e2e2e2e2e2e2e2e2e2e2e2e2e2e2e2e2e2e2e2e, => 14 0 unsubscribed
 ";
 
-// On a moderated list: a post is held and accepted, somebody joins by mail, and the archive is asked. Some items come again under
-// their numbers, with other acts. The cookies were made by hand of their grammar, under the key.
+// On a moderated list: a post is held and accepted, somebody joins by mail, and the archive is asked. Some items come again under their numbers,
+// with other acts. The cookies were made by hand from their grammar, under the key.
 pub(crate) const REQUESTS: &str = r"
 A1:1,10:1000000001,3:mod,3:m@o, => 1 0 subscribed
 A1:2,10:1000000002,4:list,3:a@b, => 2 0 subscribed
@@ -82,7 +82,7 @@ D1:5,10:1000000019,3:m@o,41:list-accept-1.cjclnlicifckhechdfbd@ex.org,1:\n, => 5
 D2:11,10:1000000020,3:g@h,17:list-get.1@ex.org,1:\n, => 11 0 archive
 ";
 
-// A post goes out and bounces, somebody leaves by mail, entries leave the queue, and a timed run warns whom the post didn't reach.
+// A post goes out and bounces, somebody leaves by mail, entries leave the queue, and a timed run warns those whom the post didn't reach.
 pub(crate) const BOUNCES: &str = r"
 A1:1,10:1000000001,4:list,3:a@b, => 1 0 subscribed
 A1:2,10:1000000002,4:list,3:c@d, => 2 0 subscribed

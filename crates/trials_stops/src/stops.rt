@@ -1,4 +1,4 @@
-// The program stopped after each of its calls, and with each of them failing: the next run over the same items makes it good.
+// The program stopped after each of its calls, and with each call failing in turn: the next run over the same items makes it good.
 use crate::scripts::{BOUNCES, EXERCISE, MAKE, MAKE_MODERATED, REQUESTS, SETTINGS};
 use ml_base::{Bytes, Name, Numbers, read_number, split_first};
 use ml_command::ezmlm_main;
@@ -24,7 +24,7 @@ fn site(alloc: Global, image: Image) -> Result<MemSite, AllocError> {
     MemSite::new(alloc, image, CALLS as usize, OUTPUT)
 }
 
-// What a site holds as it reads.
+// What reads find on a site.
 fn held(alloc: Global, site: &MemSite) -> Result<Image, AllocError> {
     site.crash(alloc, CALLS, Fill::New)
 }
@@ -56,7 +56,7 @@ fn run_words(
     Ok(ezmlm_main(alloc, &words, &mut input, site, &mut clock))
 }
 
-// What is behind the answer to an item in an output, where it is this one; for a number below the floor it is another one.
+// What comes after the answer to an item in an output, if the output has it; for a number below the floor the answer is `stale`.
 fn behind_answer<'a>(output: &'a [u8], answer: &[u8], floor: u64) -> Option<&'a [u8]> {
     let (number, _) = split_first(b' ', answer)?;
     if read_number(number)? < floor {
@@ -80,7 +80,7 @@ fn answers_all(answers: &Answers, output: &[u8], floor: u64) -> bool {
     rest.is_empty()
 }
 
-// Whether what is left of an output is some front of an answer, or a stop line in its place.
+// Whether what is left of an output is some first bytes of an answer, or a stop line instead of it.
 fn is_cut_off(rest: &[u8], answer: &[u8]) -> bool {
     let deferral = match split_first(b' ', answer) {
         Some((number, _)) => rest.strip_prefix(number),
@@ -91,7 +91,7 @@ fn is_cut_off(rest: &[u8], answer: &[u8]) -> bool {
         || deferral == Some(b" 111 disk\n".as_slice())
 }
 
-// Whether an output is some first answers, and behind them some front of the next one or of a stop line.
+// Whether an output is some first answers, and after them some first bytes of the next one or a stop line.
 fn is_front(answers: &Answers, output: &[u8]) -> bool {
     let mut rest = output;
     for answer in answers.iter() {
@@ -103,7 +103,7 @@ fn is_front(answers: &Answers, output: &[u8]) -> bool {
     rest.is_empty() || rest == b"- 111 disk\n".as_slice()
 }
 
-// The floor that stands in the files of an image, or 0.
+// The floor in the files of an image, or 0.
 fn floor_in(image: &Image) -> u64 {
     match image.files.get(&Name { kind: 21, at: 0 }) {
         Some(bytes) => split_first(b'\n', bytes.as_slice())
@@ -138,7 +138,7 @@ fn is_same(image: &Image, other: &Image) -> bool {
     same && image.log.as_slice() == other.log.as_slice()
 }
 
-// A stream with its answers, the list on which it is run, and what a run leaves that nothing stops.
+// A stream with its answers, the list on which it is run, and what a run leaves if nothing stops it.
 #[derive(Drop)]
 struct Trial {
     stream: Bytes,
@@ -180,7 +180,7 @@ fn read_script(
     Ok(())
 }
 
-// A run over a list that stops after so many calls.
+// A run over a list that stops after this many calls.
 fn stopped_run(
     alloc: Global,
     stream: &[u8],
@@ -202,7 +202,7 @@ fn made_by(alloc: Global, make: &str) -> Result<MemSite, AllocError> {
     Ok(start)
 }
 
-// What a run leaves that nothing stops. It has to give all answers.
+// What a run leaves if nothing stops it. It has to give all answers.
 fn end_of(alloc: Global, stream: &[u8], answers: &Answers, start: &MemSite) -> Result<Image, Fail> {
     let (_, plain) = stopped_run(alloc, stream, start, u64::MAX)?;
     if !answers_all(answers, plain.output(), 0) {
@@ -248,9 +248,9 @@ fn leaves_all(alloc: Global, trial: &Trial, again: &MemSite) -> Result<bool, All
     Ok(is_same(&left, &trial.end) && left.log.as_slice() == CLOSED)
 }
 
-// Whether the next run over a site, after a first one that put this out, answers all and leaves the files of the plain run. Numbers below
-// a floor are refused exactly where it stands then, and it does where its answer is out. What the site had put out before that run is in
-// front of its answers.
+// Whether the next run over a site, after a first one that put this out, answers all and leaves the files of the plain run. Numbers below a
+// floor are refused exactly if the floor stands then, and it does if its answer is out. What the site had put out before that run is in front of
+// its answers.
 fn is_made_good(
     alloc: Global,
     trial: &Trial,
@@ -269,7 +269,7 @@ fn is_made_good(
     leaves_all(alloc, trial, &again)
 }
 
-// What no sync has settled when the program stops: what was there before, or what was written, or these bytes.
+// What becomes of what no sync has settled when the program stops: it is what was there before, or what was written, or these bytes.
 const FILLS: [Fill; 5] = [
     Fill::Old,
     Fill::New,
@@ -301,7 +301,7 @@ fn is_again(before: Option<&Left>, left: &Left) -> bool {
     }
 }
 
-// Whether the stopped run put out a front of the answers, and the next run over what it left with a fill makes it good.
+// Whether the stopped run put out the first of the answers, and the next run over what it left with a fill makes it good.
 fn is_good_stop(
     alloc: Global,
     trial: &Trial,
@@ -317,8 +317,8 @@ fn is_good_stop(
     is_made_good(alloc, trial, first, b"", next)
 }
 
-// Fails where the next run doesn't make good a stop after so many calls with a fill, and says so. If the stop before it left the same, it
-// isn't tried.
+// Fails if the next run doesn't make good a stop after so many calls with a fill, and says so. If the stop before it left the same, it isn't
+// tried.
 fn hold_fill(
     alloc: Global,
     trial: &Trial,
@@ -334,8 +334,8 @@ fn hold_fill(
     Ok(left)
 }
 
-// Fails where the next run doesn't make good a stop after so many calls. Answers whether the run was at its end by then. What a fill left
-// after the call before, in BEFORE, isn't tried again.
+// Fails if the next run doesn't make good a stop after so many calls. Answers whether the run was at its end by then. What a fill left after the
+// call before, in BEFORE, isn't tried again.
 fn hold_stop(
     alloc: Global,
     trial: &Trial,
@@ -352,14 +352,14 @@ fn hold_stop(
     Ok(status == 0)
 }
 
-// A run of which a call fails alone.
+// A run in which only this call fails.
 fn failed_run(alloc: Global, trial: &Trial, call: u64) -> Result<(u8, MemSite), AllocError> {
     let mut failing = copy_of(alloc, &trial.start)?;
     failing.fail(alloc, &[call])?;
     run_words(alloc, "spool", trial.stream.as_slice(), failing)
 }
 
-// Whether a run put out a front of the answers, and the next one over the same site makes it good.
+// Whether a run put out the first of the answers, and the next one over the same site makes it good.
 fn is_recovered(alloc: Global, trial: &Trial, found: MemSite) -> Result<bool, AllocError> {
     let first = Bytes::from_slice(alloc, found.output())?;
     let first = first.as_slice();
@@ -369,7 +369,7 @@ fn is_recovered(alloc: Global, trial: &Trial, found: MemSite) -> Result<bool, Al
     is_made_good(alloc, trial, first, first, found)
 }
 
-// Fails where a call that fails alone doesn't end the run, or the next one over the same site doesn't make it good, and names the call.
+// Fails if one failing call doesn't end the run, or the next run over the same site doesn't make it good, and names the call.
 fn hold_failure(alloc: Global, trial: &Trial, call: u64) -> Result<(), Fail> {
     let (status, found) = failed_run(alloc, trial, call)?;
     if status == 0 || !is_recovered(alloc, trial, found)? {
@@ -378,8 +378,8 @@ fn hold_failure(alloc: Global, trial: &Trial, call: u64) -> Result<(), Fail> {
     Ok(())
 }
 
-// Fails where the next run doesn't make good a stop after so many calls, from FIRST on and before LAST or the end of the run, or a failure of
-// the call after it. It is an error that the run has no end before the room for calls is taken.
+// Fails if the next run doesn't make good a stop after so many calls, from FIRST on and before LAST or the end of the run, or a failure of the
+// call after it. It is an error if the run has no end before the room for calls is used up.
 fn hold_calls(alloc: Global, trial: Trial, first: u64, last: u64) -> Result<(), Fail> {
     let mut left = Vec::new(alloc);
     for calls in first..last {
@@ -394,13 +394,13 @@ fn hold_calls(alloc: Global, trial: Trial, first: u64, last: u64) -> Result<(), 
     Ok(())
 }
 
-// The same of so many first items of an exercise and the floor after it.
+// The same for the first items of an exercise and the floor after it.
 fn hold_exercise(alloc: Global, most: usize, first: u64, last: u64) -> Result<(), Fail> {
     let trial = trial_of(alloc, made_by(alloc, MAKE)?, EXERCISE, most)?;
     hold_calls(alloc, trial, first, last)
 }
 
-// The same of all items of a script, on a list that these words make.
+// The same for all items of a script, on a list that these words make.
 fn hold_script(alloc: Global, make: &str, script: &str) -> Result<(), Fail> {
     let trial = trial_of(alloc, made_by(alloc, make)?, script, 100)?;
     hold_calls(alloc, trial, 0, CALLS)
@@ -419,7 +419,7 @@ const UNREAD: [Name; 8] = [
     Name { kind: 20, at: 161 },
 ];
 
-// What these files have on a damaged list: no such file is spelled so.
+// What these files hold on a damaged list: no such file is spelled so.
 const DAMAGE: &[u8] = b"x";
 
 // The list with these files damaged.

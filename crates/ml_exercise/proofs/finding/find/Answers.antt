@@ -16,7 +16,7 @@ use Rattle.ml_ending.proofs.Said.{at_site}
 use Rattle.ml_exercise.specs.Finding.{Finds, HasConfig}
 use Rattle.ml_exercise.proofs.finding.find.Goals as goal
 
--- what is found is so whatever else is known
+-- what is found holds whatever else is known
 found_of : {S : Type 0} (told : Ghosts S) (old new : S) (r : Result Config Why) → IfOk r IsConfig → (IsTrue told.tells_reads → IfOk r (HasConfig (directory (told.disk old).reads)))
     → (IsTrue told.tells_reads → directory (told.disk new).reads ≡ directory (told.disk old).reads) → (IsTrue told.tells_all → told.output new ≡ told.output old)
     → (IsTrue told.tells_all → FromFirstSync told.moment told.left_since told.disk told.output told.syncs old new (Now (told.disk old) (told.output old)) (IsOld (directory (told.disk old).reads) (told.output old)))

@@ -4,7 +4,7 @@ use Rattle.ml_config.specs.declared.configuration.Flags.{Flags}
 use Rattle.ml_plain.specs.Plain.{Plain, new_list}
 use Rattle.ml_post.proofs.answering.is_signed.Goals as goal
 
--- what is said of every list with these keys, of one with nothing else in it
+-- what is said of every list with these keys, for one with nothing else in it
 pub returns-clause-letters : goal.returns-clause-letters
 returns-clause-letters c =
     let none : Flags = record { b = false; d = false; f = false; g = false; h = false; j = false; k = false; l = false; m = false; p = false; r = false; s = false; t = false; u = false } in
