@@ -109,7 +109,7 @@ def case_accept_and_reject(world):
 
 
 def case_queue(world):
-    """queue tells id, age, kind, recipients, bytes and subject, and where there is nothing it prints nothing."""
+    """queue tells id, age, kind, recipients, bytes and subject, and if there is nothing it prints nothing."""
     folder = world.list('cats', '-d')
     same(world.admin('cats', 'queue'), '', 'nothing')
     world.spool('cats', (b'A', 0, BEGIN, b'list', b'a@b'), (b'A', 0, BEGIN, b'list', b'c@d'),

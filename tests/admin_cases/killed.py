@@ -4,23 +4,26 @@ import os
 import shutil
 import signal
 import sys
+import tempfile
 
 from ezmlm_admin.__main__ import main
 
 from .archives import archive, tree, turned
-from .world import KEY, check, post, same
+from .world import KEY, check, post, same, some
 
 WRITES = os.O_WRONLY | os.O_RDWR | os.O_CREAT
 STEPS = 'os.mkdir', 'os.rename', 'os.link', 'os.remove', 'os.rmdir', 'os.truncate', 'os.utime', 'os.chmod', 'subprocess.Popen'
+STEPS_IN_TURN = range(1, 99)  # more than there are
 
 
 def stopped(world, step, *words):
-    """Whether ezmlm-admin was killed before this step. Else it ended well. It is run in a fork of this process."""
+    """Whether ezmlm-admin was killed before this step. Otherwise it ended well. It is run in a fork of this process."""
     child = os.fork()
     if not child:
         try:
             os.chdir(world.place)
             sys.stdout = open(os.devnull, 'w', encoding='utf-8')
+            sys.dont_write_bytecode, tempfile.tempdir = True, str(world.place)
             count(step)
             os._exit(main(['--program', str(world.program), *words]))
         finally:
@@ -57,13 +60,13 @@ def left_well(world, good, hurt, step):
     return 'new' if found == good else 'old' if found == hurt else 'between'
 
 
-def killed(world, posts, damage, steps):
-    """Kills a rebuild before each of these steps, and lets the next one end it. What was met."""
+def killed(world, posts, damage):
+    """Kills a rebuild before each step in turn, and lets the next one end it. What was met."""
     folder = archive(world, 'cats', posts, '-f')
     good = tree(folder)
     damage(folder)
     hurt, met = tree(folder), {}
-    for step in steps:
+    for step in some(STEPS_IN_TURN, 3):
         shutil.copytree(folder, world.place / 'hurt')
         is_stopped = stopped(world, step, 'hurt', 'rebuild')
         how = left_well(world, good, hurt, step)
@@ -89,21 +92,21 @@ def complete(world, met):
 
 def case_killed_with_an_index_gone(world):
     """Killed before each step, a rebuild leaves the old archive, the new one, or no num; and the next one ends it."""
-    complete(world, killed(world, 4, lambda folder: (folder / 'archive/0/index').unlink(), range(1, 99)))
+    complete(world, killed(world, 4, lambda folder: (folder / 'archive/0/index').unlink()))
 
 
 def case_killed_with_all_damaged(world):
-    """So too with an index, a thread file and num damaged at once."""
+    """The same with an index, a thread file and num damaged at once."""
     def damage(folder):
         turned(folder / 'archive/0/index', 20)
         shutil.rmtree(folder / 'archive/threads')
         (folder / 'num').write_bytes(b'9\n')
-    complete(world, killed(world, 3, damage, range(1, 99)))
+    complete(world, killed(world, 3, damage))
 
 
 def case_killed_without_num(world):
-    """So too with num gone from the start."""
-    met = killed(world, 3, lambda folder: (folder / 'num').unlink(), range(1, 99))
+    """The same with num gone from the start."""
+    met = killed(world, 3, lambda folder: (folder / 'num').unlink())
     check({'new', 'old'} <= met.keys(), f'met {met}')
     world.note = str(met)
 
@@ -116,7 +119,7 @@ def case_killed_twice(world):
     hurt = tree(folder)
     first = next(step for step in range(10, 99) if between(world, folder, step))
     for more, steps in ((0, 9), (1, 9), (2, 5)):
-        for step in range(2, steps):
+        for step in some(range(2, steps), 3):
             check(between(world, folder, first + more), 'there is a num')
             stopped(world, step, 'hurt', 'rebuild')
             left_well(world, good, hurt, f'{first + more} and {step}')
@@ -133,19 +136,28 @@ def between(world, folder, step):
     return not (world.place / 'hurt/num').exists()
 
 
+def every_file(folder):
+    """The bytes of all files in a list's folder."""
+    return {str(path.relative_to(folder)): path.is_file() and path.read_bytes() for path in folder.rglob('*')}
+
+
 def case_killed_options(world):
     """Killed before each step, a change of options leaves the former configuration or the new one, and a list that is whole."""
     folder = archive(world, 'cats', 2)
     world.answers('new', 'make', '-dt', '--max=4096', '--key', KEY, 'cats', 'ex.org', 'o@own.org')
     texts = [(each / 'config').read_bytes() for each in (folder, world.place / 'new')]
-    met = set()
-    for step in range(1, 99):
+    met, before = set(), None
+    for step in some(STEPS_IN_TURN, 3):
         shutil.copytree(folder, world.place / 'hurt')
         is_stopped = stopped(world, step, 'hurt', 'options', '-dt', '--max', '4096')
         met.add(texts.index((world.place / 'hurt/config').read_bytes()))
-        world.whole('hurt')
-        check(not stopped(world, 0, 'hurt', 'options', '-dt', '--max', '4096'), 'it was stopped')
-        same((world.place / 'hurt/config').read_bytes(), texts[1], 'the configuration')
+        left = every_file(world.place / 'hurt')
+        # Most steps are of its scratch files. Where the list's are as the stop before left them, what follows is the same too.
+        if left != before:
+            world.whole('hurt')
+            check(not stopped(world, 0, 'hurt', 'options', '-dt', '--max', '4096'), 'it was stopped')
+            same((world.place / 'hurt/config').read_bytes(), texts[1], 'the configuration')
+        before = left
         shutil.rmtree(world.place / 'hurt')
         if not is_stopped:
             break

@@ -15,6 +15,7 @@ TOP = pathlib.Path(__file__).resolve().parent.parent.parent
 TOOL = TOP / 'admin/ezmlm-admin'
 KEY = '07' * 32
 BEGIN = 1_700_000_000  # 2023-11-14 22:13:20 UTC
+IS_UNPROVED = bool(os.environ.get('UNPROVED'))  # tests/quick says so: then a run of the program takes much longer
 
 
 class Wrong(Exception):
@@ -36,6 +37,11 @@ def same(found, wanted, what):
 
 def holds(text, part, what):
     check(part in text, f'{what}: {text[:600]!r} has no {part!r}')
+
+
+def some(places, seldom):
+    """All of these places, or over a program that was built without proof one of so many."""
+    return places[::seldom] if IS_UNPROVED else places
 
 
 class World:

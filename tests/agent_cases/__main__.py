@@ -8,11 +8,18 @@ import pathlib
 import sys
 import traceback
 
-from . import (backscatter, beside, checking, given, histories, hosts, killed, looks, mail_in, mail_out, numbers, receivers, records, set_up,
-               shared, shared_by_hand, signatures, together, trouble, weeding)
-from .world import TOP, World, Wrong
+import compiled
+
+from . import (backscatter, beside, checking, given, histories, hosts, killed, looks, mail_in, mail_out, numbers, receivers, records, servers,
+               set_up, shared, shared_by_hand, signatures, together, trouble, weeding)
+from .world import IS_UNPROVED, TOP, World, Wrong
 
 AT_ONCE = 4
+# What the cases leave out over a program that was built without proof.
+LEFT_OUT = 'two of three steps at which the agent is killed, three of four streams that operators give, two of three mails to a busy list, mails ' \
+    'of 16 MB and more, nine of ten items that a copy is behind, a long exercise, and all cases of several hosts but two'
+# The cases of several hosts that run there too: lists that two hosts share, and a host that takes over.
+OF_HOSTS = 'shared', 'shared_takes_over'
 
 
 def cases():
@@ -49,6 +56,11 @@ def tell(name, wrong, said):
         print(f'FAILED  {name}: {about} {wrong}\n{said}', flush=True)
 
 
+def is_wanted(name):
+    """Whether the case of this name runs, if none is asked for: over a program that was built without proof not each of several hosts."""
+    return not IS_UNPROVED or name in OF_HOSTS or not name.startswith('shared')
+
+
 def main():
     parser = argparse.ArgumentParser(prog='tests/agent')
     parser.add_argument('program', nargs='?', default=os.environ.get('EZMLM', TOP / 'crates/ezmlm/out/ezmlm'))
@@ -60,13 +72,15 @@ def main():
         sys.exit(f'agent: there is no program {program}: tools/install and .ci/run prove and build it, tests/quick without proof')
     if words.long:
         killed.STRIDE[0], trouble.HELD[0], beside.MANY[0] = 1, 60, 3000
-    failed, names = 0, [name for name in cases() if words.k in name]
-    with concurrent.futures.ProcessPoolExecutor(AT_ONCE) as pool:
+    failed, names = 0, [name for name in cases() if words.k in name and (words.k or is_wanted(name))]
+    with compiled.kept(), servers.made_once(), concurrent.futures.ProcessPoolExecutor(AT_ONCE) as pool:
         runs = {pool.submit(run, name, program): name for name in names}
         for done in concurrent.futures.as_completed(runs):
             wrong, said = done.result()
             failed += wrong is not None
             tell(runs[done], wrong, said)
+    if IS_UNPROVED:
+        print(f'skipped {LEFT_OUT}: over a program that was built without proof they take minutes')
     print(f'{len(names) - failed} passed, {failed} failed')
     sys.exit(failed > 0)
 

@@ -119,7 +119,7 @@ def case_policy(world):
 
 
 def case_policy_cant_tell(world):
-    """Where the policy service can't tell what a list would refuse it says DUNNO, and mail goes on."""
+    """If the policy service can't tell what a list would refuse it says DUNNO, and mail goes on."""
     world.rows['policy'] = world.place / 'policy'
     with_sets(world, 'cats', 'uk')
     world.begin()

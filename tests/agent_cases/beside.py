@@ -11,12 +11,12 @@ import threading
 import time
 
 from .sink import never
-from .world import HASTY, HOST, TOP, Client, begins, check, held, post, same, until
+from .world import HASTY, HOST, IS_UNPROVED, LONG, TOP, Client, begins, check, held, post, same, until
 
 sys.path.insert(0, str(TOP / 'agent'))
 from ezmlm_agent import mailing, retrying  # noqa: E402
 
-MANY = [600]  # mails that come for one list
+MANY = [200 if IS_UNPROVED else 600]  # mails that come for one list
 # The agent that waits for a look at a folder for a second alone, and for which the folder `dogs` is of a disk that is gone.
 GONE = ('/usr/bin/python3', '-c', '''
 import sys, time
@@ -91,6 +91,7 @@ def case_beside_large_mails(world):
 
 def case_beside_a_busy_list(world):
     """Beside many mails to one list, one to another waits for none of them."""
+    world.rows['patience'] = LONG
     world.list(members=[])
     world.list('dogs', members=[])
     world.begin()
@@ -246,7 +247,7 @@ def case_broken_list(world):
         (folder / 'num').rename(folder / 'aside')
     for n in range(10):
         begins(world.post(n), '451 4.3.0 75 num', 'a mail')
-    # A timed run reads no `num`, so the list works again where one comes in between.
+    # A timed run reads no `num`, so the list works again if one comes in between.
     log = world.log()
     told, mended = log.count(f'cats: 75 num: this file is damaged ({folder}/num): put a backup'), log.count('cats: it works again')
     check(1 <= told <= 1 + mended, f'{told} lines tell it, and {mended} that it works again')
@@ -256,7 +257,7 @@ def case_broken_list(world):
 
 
 def case_beside_refused_requests(world):
-    """Answers to requests in the names of addresses that are refused leave the queue at once, with a bounce where the list learns from it."""
+    """Answers to requests in the names of addresses that are refused leave the queue at once, with a bounce if the list learns from it."""
     world.list(members=['a@m.net'])
     strangers = {f's{n}@m.net' for n in range(100)}
     world.sink.refuse = strangers | {'a@m.net'}

@@ -103,7 +103,7 @@ def case_types(world):
     if shutil.which('mypy') is None:
         world.note = 'types were not checked, as there is no mypy'
         return
-    # psycopg is wanted by lists on several hosts alone, and may be missing.
+    # psycopg is needed only by lists on several hosts, and may be missing.
     more = [] if importlib.util.find_spec('psycopg') else ['--ignore-missing-imports', '--no-warn-return-any']
     done = subprocess.run(['mypy', '--strict', *more, '--cache-dir', str(world.place / 'mypy'), '-p', 'ezmlm_agent'], capture_output=True,
                           text=True, cwd=TOP / 'agent', check=False)

@@ -32,7 +32,7 @@ def flufl(folder):
 
 
 def bounceparser(folder):
-    """The mails of Mail::DeliveryStatus::BounceParser. Where apt knows no sources it is asked for Debian's in a folder of its own."""
+    """The mails of Mail::DeliveryStatus::BounceParser. If apt knows no sources it is asked for Debian's in a folder of its own."""
     release = dict(line.split('=', 1) for line in pathlib.Path('/etc/os-release').read_text().splitlines() if '=' in line)
     keys = pathlib.Path('/usr/share/keyrings/debian-archive-keyring.gpg')
     if 'VERSION_CODENAME' not in release or not keys.exists():

@@ -7,7 +7,7 @@ import sys
 import time
 
 from . import servers
-from .world import TOP, check, same
+from .world import IS_UNPROVED, TOP, check, post, same
 
 sys.path.insert(0, str(TOP / 'agent'))
 DAY = 86400
@@ -21,7 +21,7 @@ def spell(word):
 
 @contextlib.contextmanager
 def histories(world, hosts=('one', 'two'), many=1, standby='none', takeover=5):
-    """A history for each host over servers of their own, or nothing where PostgreSQL isn't there."""
+    """A history for each host over servers of their own, or nothing if PostgreSQL isn't there."""
     if (lacking := servers.lacking()) is not None:
         world.note = f'not tried, as {lacking} is not there'
         yield None, None
@@ -257,10 +257,13 @@ def case_history_others(world):
 
 
 def case_history_digest(world):
-    """Any change of a list's files changes its hash; but for the lock, the log, and posts that a look doesn't go back to."""
-    from ezmlm_agent import comparing
+    """Any change of a list's files changes its hash, except for the lock, the log, and posts that a look doesn't go back to."""
+    from ezmlm_agent import comparing, program
     folder = world.list()
-    world.run('cats', 'exercise', '3000')
+    # It makes files of each kind. Over a program that was built without proof a short one and some posts do.
+    world.run('cats', 'exercise', '100' if IS_UNPROVED else '3000')
+    if IS_UNPROVED:
+        world.run('cats', 'spool', given=b''.join(program.item(b'D', 0, 10**9, b'w@m.net', b'cats@ex.org', post(n)) for n in range(200)))
     posts = int((folder / 'num').read_text())
     check(posts > 200, f'{posts} posts')
 

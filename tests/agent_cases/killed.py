@@ -3,9 +3,9 @@
 import collections
 import signal
 
-from .world import HOST, MEMBERS, TOP, World, check, post, until
+from .world import HOST, IS_UNPROVED, MEMBERS, TOP, World, check, post, until
 
-STRIDE = [7]
+STRIDE = [21 if IS_UNPROVED else 7]
 PARTS = 4  # which are run beside one another
 
 # The agent as it is killed at the N-th step: each callback of its loop, each side of a transaction and of a run of the program.

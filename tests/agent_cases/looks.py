@@ -91,6 +91,29 @@ def case_check_of_many_hosts(world):
     same(asyncio.run(receivers.look(chosen, {})), [], 'without lists')
 
 
+def answers(asks, names):
+    """Asks a resolver each kind of question."""
+    rows = [(HOST, 'TXT', [b'one', b'twohalves']), ('EX.org.', 'TXT', [b'one', b'twohalves']), (HOST, 'A', ['192.0.2.1']),
+            (HOST, 'AAAA', ['2001:db8::1']), (HOST, 'MX', [(10, 'mx.ex.org')]), ('1.2.0.192.in-addr.arpa', 'PTR', ['mx.ex.org']),
+            ('none.ex.org', 'A', []), (HOST, 'PTR', [])]
+    for name, kind, wanted in rows:
+        found = asks.ask(name, kind)
+        same(sorted(found), sorted(wanted), f'{name} {kind}')
+    same(len(names.asked), len(rows) - 1, 'questions')
+    same((asks.left, asks.seconds < LONG), (resolver.MOST - len(names.asked), True), 'what is left')
+
+
+def refuses(asks):
+    """Asks a resolver for what is no name, and more than it may be asked for."""
+    wrong = [('x' * 64 + '.org', 'A', 'LabelTooLong'), ('a..b', 'A', 'EmptyLabel')]
+    asks.left = len(wrong)
+    for name, kind, why in [*wrong, ('more.ex.org', 'A', 'more.ex.org wasn\'t asked for: 100 questions in 900 seconds are all')]:
+        try:
+            check(False, f'{name}: {asks.ask(name, kind)}')
+        except Untold as error:
+            check(why in str(error), f'{name}: {error}')
+
+
 def case_resolver(world):
     """--check's resolver answers each kind of question, none twice, and no more than a few."""
     if (dnspython := library(world, 'dns.resolver')) is None:
@@ -105,21 +128,8 @@ def case_resolver(world):
     resolver.EACH = resolver.SECONDS = LONG
     try:
         asks = resolver.Resolver(names.where)
-        rows = [(HOST, 'TXT', [b'one', b'twohalves']), ('EX.org.', 'TXT', [b'one', b'twohalves']), (HOST, 'A', ['192.0.2.1']),
-                (HOST, 'AAAA', ['2001:db8::1']), (HOST, 'MX', [(10, 'mx.ex.org')]), ('1.2.0.192.in-addr.arpa', 'PTR', ['mx.ex.org']),
-                ('none.ex.org', 'A', []), (HOST, 'PTR', [])]
-        for name, kind, wanted in rows:
-            found = asks.ask(name, kind)
-            same(sorted(found), sorted(wanted), f'{name} {kind}')
-        same(len(names.asked), len(rows) - 1, 'questions')
-        same((asks.left, asks.seconds < LONG), (resolver.MOST - len(names.asked), True), 'what is left')
-        wrong = [('x' * 64 + '.org', 'A', 'LabelTooLong'), ('a..b', 'A', 'EmptyLabel')]
-        asks.left = len(wrong)
-        for name, kind, why in [*wrong, ('more.ex.org', 'A', 'more.ex.org wasn\'t asked for: 100 questions in 900 seconds are all')]:
-            try:
-                check(False, f'{name}: {asks.ask(name, kind)}')
-            except Untold as error:
-                check(why in str(error), f'{name}: {error}')
+        answers(asks, names)
+        refuses(asks)
         same(asks.ask(HOST, 'A'), ['192.0.2.1'], 'what was asked before')
         given, asks.left, resolver.EACH = [], 3, 2
         asks.asks.resolve = lambda name, kind, lifetime, search: given.append((lifetime, search)) or []
@@ -135,6 +145,50 @@ def case_resolver(world):
     finally:
         (resolver.EACH, resolver.SECONDS), dnspython.Resolver.read_resolv_conf = seconds, read
         names.stop()
+
+
+def all_is_well(world, relay):
+    """What --check tells of mail that passes, and goes through the transfer agent and back."""
+    status, said = patiently(world)
+    same(status, 0, said)
+    for line in (f'{HOST} (cats, dogs): SPF passes for mail from 192.0.2.1 (sends_from)', f'{HOST} (cats, dogs): its DMARC policy is none',
+                 f'{HOST} (cats, dogs): the DKIM signature of a post of cats (d={HOST}, s=s) holds'):
+        check(f'\n{line}' in said, f'no line {line!r} in {said}')
+    check('warning' not in said, said)
+    same(relay.replies, ['250 2.0.0 weeded check'], 'the mail that came back')
+    mail, = [content for _, _, content in relay.copies]
+    check(b'\r\nList-Post: <mailto:cats@ex.org>\r\n' in mail and b'\r\nFrom: writer@writer.invalid\r\n' in mail, mail)
+    check(until(lambda: ' <> cats-return-1-ezmlm-agent-check.' in world.log()), world.log())
+    same([path.name for path in (world.place / 'state').glob('check-*')], [], 'files that are left')
+    same([line for line in world.log().splitlines() if line.startswith('cats ')
+          and not line.endswith('weeded check') and 'posted' in line], [], 'what the list was given')
+
+
+def comes_too_late(world):
+    """A mail of --check for which nobody waits any more is weeded, and not kept."""
+    number = '0' * 16
+    late_one = world.mail('', [f'cats-return-1-ezmlm-agent-check.{number}=ex.org@{HOST}'], b'Received: x\n\nhi\n')
+    same(late_one, ['250 2.0.0 weeded check'], 'one that comes too late')
+    check(not (world.place / f'state/check-{number}').exists(), 'a mail that nobody waits for is kept')
+
+
+def receivers_warn(world, zone, relay):
+    """What it tells of SPF that fails, no DMARC record and no signature."""
+    zone[(HOST, 'TXT')], zone[(f'_dmarc.{HOST}', 'TXT')] = ['v=spf1 -all'], []
+    relay.sign = bytes
+    status, said = patiently(world)
+    for line in ('SPF says fail for mail from 192.0.2.1 (sends_from)', 'it has no DMARC record', 'a post of cats has no DKIM'):
+        check(f'\nwarning: {HOST} (cats, dogs): {line}' in said, f'no line {line!r} in {said}')
+    same(status, 0, f'the status of what receivers find: {said}')
+
+
+def nobody_answers(world):
+    """What it tells if neither the resolver nor the transfer agent answers."""
+    status, said = checked(world)
+    for line in ('its SPF record can\'t be told: no answer for ex.org TXT: LifetimeTimeout', 'its DMARC policy can\'t be told: ',
+                 'whether a post of cats is DKIM-signed can\'t be told: a mail to cats-return-1-ezmlm-agent-check.'):
+        check(f'\n{HOST} (cats, dogs): {line}' in said, f'no line {line!r} in {said}')
+    same(status, 0, said)
 
 
 def case_check_asks(world):
@@ -158,38 +212,11 @@ def case_check_asks(world):
         world.list()
         world.list('dogs')
         world.begin()
-        status, said = patiently(world)
-        same(status, 0, said)
-        for line in (f'{HOST} (cats, dogs): SPF passes for mail from 192.0.2.1 (sends_from)', f'{HOST} (cats, dogs): its DMARC policy is none',
-                     f'{HOST} (cats, dogs): the DKIM signature of a post of cats (d={HOST}, s=s) holds'):
-            check(f'\n{line}' in said, f'no line {line!r} in {said}')
-        check('warning' not in said, said)
-        same(relay.replies, ['250 2.0.0 weeded check'], 'the mail that came back')
-        mail, = [content for _, _, content in relay.copies]
-        check(b'\r\nList-Post: <mailto:cats@ex.org>\r\n' in mail and b'\r\nFrom: writer@writer.invalid\r\n' in mail, mail)
-        check(until(lambda: ' <> cats-return-1-ezmlm-agent-check.' in world.log()), world.log())
-        same([path.name for path in (world.place / 'state').glob('check-*')], [], 'files that are left')
-        same([line for line in world.log().splitlines() if line.startswith('cats ')
-              and not line.endswith('weeded check') and 'posted' in line], [], 'what the list was given')
-        number = '0' * 16
-        late_one = world.mail('', [f'cats-return-1-ezmlm-agent-check.{number}=ex.org@{HOST}'], b'Received: x\n\nhi\n')
-        same(late_one, ['250 2.0.0 weeded check'], 'one that comes too late')
-        check(not (world.place / f'state/check-{number}').exists(), 'a mail that nobody waits for is kept')
-
-        zone[(HOST, 'TXT')], zone[(f'_dmarc.{HOST}', 'TXT')] = ['v=spf1 -all'], []
-        relay.sign = bytes
-        status, said = patiently(world)
-        for line in ('SPF says fail for mail from 192.0.2.1 (sends_from)', 'it has no DMARC record', 'a post of cats has no DKIM'):
-            check(f'\nwarning: {HOST} (cats, dogs): {line}' in said, f'no line {line!r} in {said}')
-        same(status, 0, f'the status of what receivers find: {said}')
-
-        # Neither the resolver nor the transfer agent answers.
+        all_is_well(world, relay)
+        comes_too_late(world)
+        receivers_warn(world, zone, relay)
         world.rows['resolver'], relay.sign = late.where, lambda mail: b''
-        status, said = checked(world)
-        for line in ('its SPF record can\'t be told: no answer for ex.org TXT: LifetimeTimeout', 'its DMARC policy can\'t be told: ',
-                     'whether a post of cats is DKIM-signed can\'t be told: a mail to cats-return-1-ezmlm-agent-check.'):
-            check(f'\n{HOST} (cats, dogs): {line}' in said, f'no line {line!r} in {said}')
-        same(status, 0, said)
+        nobody_answers(world)
         check(0 < len(late.asked) < 20, f'{len(late.asked)} questions')  # Those of a few seconds, each given several times.
     finally:
         for server in (names, late, relay):

@@ -75,7 +75,7 @@ class Machine:
 
 @contextlib.contextmanager
 def machines(world, many=3, kept=1, standby='none', names=NAMES):
-    """Hosts with a copy of the list cats each, over so many servers. Nothing where PostgreSQL isn't there."""
+    """Hosts with a copy of the list cats each, over so many servers. Nothing if PostgreSQL isn't there."""
     if (lacking := servers.lacking()) is not None:
         world.note = f'not tried, as {lacking} is not there'
         yield None, None
@@ -94,7 +94,7 @@ def machines(world, many=3, kept=1, standby='none', names=NAMES):
 
 
 def files(folder):
-    """A list's files but its lock and its log."""
+    """A list's files except its lock and its log."""
     return {str(path.relative_to(folder)): path.read_bytes() for path in sorted(folder.rglob('*'))
             if path.is_file() and path.relative_to(folder).parts[0] not in ('lock', 'log')}
 

@@ -50,7 +50,7 @@ def case_odd_members(world):
 
 
 def case_no_xverp(world):
-    """Where the transfer agent takes no XVERP each copy is a transaction."""
+    """If the transfer agent takes no XVERP each copy is a transaction."""
     world.sink.takes_verp = False
     world.list()
     world.begin()
@@ -73,7 +73,7 @@ def case_refused_recipient(world):
 
 
 def case_many_refused(world):
-    """A transfer agent that hangs up behind so many refusals gets the others all the same, and each refusal is a bounce."""
+    """A transfer agent that hangs up after so many refusals gets the others all the same, and each refusal is a bounce."""
     world.list(members=HUNDRED)
     world.sink.refuse, world.sink.most_errors = set(HUNDRED[::2]), 20
     world.begin()
@@ -85,7 +85,7 @@ def case_many_refused(world):
 
 
 def case_all_refused(world):
-    """Where every copy is refused the entry stays for a day, and nobody bounces; behind it each is a bounce. Few are tried meanwhile."""
+    """If every copy is refused the entry stays for a day, and nobody bounces; after it each is a bounce. Few are tried meanwhile."""
     world.rows['batch'] = 10
     world.list(members=HUNDRED + [f'n{n}@m.net' for n in range(300)])
     world.sink.refuses_all = True
@@ -94,7 +94,7 @@ def case_all_refused(world):
     check(world.tells(AGAIN), 'it was not tried')
     world.end()
     same((world.queue(), bounces(world)), (1, 0), 'entries and bounces')
-    # Behind the first hundred, what its six connections had in hand.
+    # After the first hundred, what its six connections had in hand.
     check(len(world.sink.asked) <= 160 * world.log().count(AGAIN), f'{len(world.sink.asked)} were tried')
     is_older(world, 82_800)
     world.begin()
@@ -218,7 +218,7 @@ def case_killed_in_the_middle(world):
 
 
 def case_little_memory_out(world):
-    """Where not all entries have room in memory at once they go out one after the other, also one that is larger than all of it."""
+    """If not all entries have room in memory at once they go out one after the other, also one that is larger than all of it."""
     world.list(words=['--max', '16777216'])
     world.sink.stop()
     world.rows['memory'] = 8

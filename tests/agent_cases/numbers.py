@@ -10,7 +10,7 @@ from .world import HASTY, HOST, MEMBERS, Client, begins, check, post, same, unti
 
 
 def case_given_again(world):
-    """A mail that is given again counts once: in one go by two spellings, at once over many connections, and behind a new start."""
+    """A mail that is given again counts once: in one go by two spellings, at once over many connections, and after a new start."""
     world.list()
     world.begin()
     for _ in range(3):
@@ -32,7 +32,7 @@ def case_given_again(world):
 
 
 def case_client_hangs_up(world):
-    """A client that hangs up in the middle of a mail has given none; behind its end it has, and the mail counts once."""
+    """A client that hangs up in the middle of a mail has given none; after its end it has, and the mail counts once."""
     world.list()
     world.begin()
     with Client(world.place / 'lmtp') as client:
@@ -49,7 +49,7 @@ def case_client_hangs_up(world):
 
 
 def case_lost_answers(world):
-    """A run of the program that is killed, or of which the answers are lost or none, puts the mail off, and given again it counts once."""
+    """A run of the program that is killed, or whose answers are lost or missing, puts the mail off, and given again it counts once."""
     world.list()
     world.stands_in()
     world.begin()
@@ -65,7 +65,7 @@ def case_lost_answers(world):
 
 
 def case_lost_notes(world):
-    """Where the notes are lost, or an old copy stands in their place, no mail is lost: the next number is behind all that was answered."""
+    """If the notes are lost, or an old copy stands in their place, no mail is lost: the next number is after all that was answered."""
     world.list()
     world.begin()
     same(world.post(1), '250 2.0.0 posted 1', 'a post')
@@ -90,7 +90,7 @@ def case_lost_notes(world):
 
 
 def case_old_list(world):
-    """Where an old copy of the list stands in its place, new posts go to all, also under the id of an entry that was handed on before."""
+    """If an old copy of the list stands in its place, new posts go to all, also under the id of an entry that was handed on before."""
     world.list()
     world.begin()
     world.end()
@@ -147,7 +147,7 @@ def case_forgotten(world):
 
 
 def case_forgotten_in_order(world):
-    """Where the agent is killed between the notes and the list, or the list refuses the floor, no mail is lost."""
+    """When the agent is killed between the notes and the list, or the list refuses the floor, no mail is lost."""
     world.list()
     world.begin()
     world.post(1)

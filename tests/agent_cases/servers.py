@@ -1,10 +1,11 @@
 """PostgreSQL servers with all their files in a folder of their own: one takes changes, and the others follow it.
 
-None of them is the machine's own server. Where root starts them they run as the user postgres, since PostgreSQL doesn't run as root. A
+None of them is the machine's own server. If root starts them they run as the user postgres, since PostgreSQL doesn't run as root. A
 change is there for a client when it is on the disks of two of them (`synchronous_standby_names`), unless there is one server alone.
 """
 
 import contextlib
+import fcntl
 import os
 import pathlib
 import shutil
@@ -38,7 +39,7 @@ ACCESS = 'host all all samenet trust\nhost replication all samenet trust\n'
 
 
 def binaries() -> pathlib.Path | None:
-    """The folder of the newest PostgreSQL's programs, as Debian has it, or None where there is none."""
+    """The folder of the newest PostgreSQL's programs, as Debian has it, or None if there is none."""
     found = {int(path.parts[-3]): path.parent for path in pathlib.Path('/usr/lib/postgresql').glob('[0-9]*/bin/initdb')}
     return found[max(found)] if found else None
 
@@ -153,6 +154,35 @@ class Server:
         self.is_stopped = False
 
 
+KEPT: list[pathlib.Path] = []  # a folder for the files that initdb makes, if servers are copies of it
+
+
+@contextlib.contextmanager
+def made_once() -> Iterator[None]:
+    """Lets the servers that are begun meanwhile have copies of one server's new files, as making them takes longer."""
+    with tempfile.TemporaryDirectory(prefix='ezmlm-servers.', dir='/dev/shm' if os.access('/dev/shm', os.W_OK) else None) as place:
+        if binaries() and os.geteuid() == 0:
+            shutil.chown(place, USER, USER)
+        KEPT.append(pathlib.Path(place))
+        yield
+        KEPT.pop()
+
+
+def new_files(server: Server) -> None:
+    """Gives a server the files of an empty database."""
+    words = '-A', 'trust', '-U', USER, '-E', 'UTF8', '--locale=C', '--no-sync'
+    if not KEPT:
+        server.run('initdb', '-D', str(server.place), *words)
+        return
+    made = KEPT[0] / 'made'
+    with open(KEPT[0] / 'lock', 'a', encoding='ascii') as lock:
+        fcntl.flock(lock, fcntl.LOCK_EX)
+        if not (KEPT[0] / 'is_made').exists():
+            server.run('initdb', '-D', str(made), *words)
+            (KEPT[0] / 'is_made').touch()
+    subprocess.run(['cp', '-a', made, server.place], check=True)
+
+
 class Servers:
     """Servers that are numbered from 0 on. The first one takes changes at first."""
 
@@ -191,7 +221,7 @@ class Servers:
     def begin(self) -> None:
         """Makes the servers and starts them. The database is empty then, and the others follow the first one."""
         first, *others = self.all
-        first.run('initdb', '-D', str(first.place), '-A', 'trust', '-U', USER, '-E', 'UTF8', '--locale=C', '--no-sync')
+        new_files(first)
         names = ', '.join(server.name for server in self.all)
         values = {'standbys': f'ANY 1 ({names})' if others else '', 'servers': self.hosts()}
         with open(first.place / 'postgresql.conf', 'a', encoding='ascii') as file:
@@ -247,7 +277,7 @@ class Servers:
         return self.first
 
     def places(self) -> dict[int, int]:
-        """How many bytes of changes each server has but the first one."""
+        """How many bytes of changes each server except the first one has."""
         text = "SELECT pg_wal_lsn_diff(greatest(pg_last_wal_receive_lsn(), pg_last_wal_replay_lsn()), '0/0')::bigint"
         return {number: server.sql(text)[0][0] for number, server in enumerate(self.all) if number != self.first}
 

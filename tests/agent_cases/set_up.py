@@ -9,7 +9,7 @@ from .sink import Sink
 from .world import HASTY, HOST, TOP, Client, check, post, same
 
 def case_by_itself(world):
-    """Each hour there is a timed run of each list, and what somebody else gave the list to send goes out within a minute."""
+    """Every hour there is a timed run of every list, and what somebody else gave the list to send goes out within a minute."""
     for name in ('cats', 'dogs'):
         world.list(name)
     world.begin(words=HASTY)

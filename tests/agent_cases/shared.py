@@ -6,7 +6,7 @@ import threading
 import time
 
 from .machines import are_at_rest, are_the_same, copied, leader, machines
-from .world import HASTY, MEMBERS, begins, check, same, until
+from .world import HASTY, IS_UNPROVED, MEMBERS, begins, check, same, until
 
 
 def case_shared(world):
@@ -69,7 +69,8 @@ def case_shared_behind(world):
         same(one.post(1), '250 2.0.0 posted 1', 'a post')
         check(until(lambda: all(list(each.folder().glob('queue/1')) for each in hosts)), 'the entry is not there')
         two.end(signal.SIGKILL)
-        same(one.command('--give', 'cats', given=b'A1:0,1:1,4:list,5:a@b.c,R1:0,1:1,4:list,5:a@b.c,' * 2000)[0], 0, 'many items')
+        times = 200 if IS_UNPROVED else 2000
+        same(one.command('--give', 'cats', given=b'A1:0,1:1,4:list,5:a@b.c,R1:0,1:1,4:list,5:a@b.c,' * times)[0], 0, 'many items')
         world.sink.defer = set()
         same(one.post(2), '250 2.0.0 posted 2', 'a post')
         check(until(lambda: len(world.sink.copies) == 6) and are_at_rest([one]), 'it did not go out')
@@ -151,7 +152,7 @@ def case_shared_from_alone(world):
 
 
 def case_shared_compared(world):
-    """Behind each timed run the copies are compared. A host whose copy is another one than the others' isn't served, and says so."""
+    """After each timed run the copies are compared. A host whose copy is another one than the others' isn't served, and says so."""
     with machines(world) as (those, hosts):
         if hosts is None:
             return

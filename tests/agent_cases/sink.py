@@ -31,7 +31,7 @@ class Sink:
         self.asked = []             # recipients that were proposed
         self.refuse, self.defer = set(), set()
         self.refuses_all, self.refusal = False, '550 5.1.1 No such user'
-        self.most_errors = 1000     # behind which it hangs up
+        self.most_errors = 1000     # after which it hangs up
         self.hang_up = 0            # how many transactions end in the middle
         self.holds = never          # whether a transaction of these recipients, whose copies were kept, has no reply yet
         self.waiting = 0            # how many have none

@@ -1,4 +1,4 @@
-"""Does what the program does, but where files of a folder tell it to it loses what it says, is killed, says nothing, or says something
+"""Does what the program does, but if files of a folder tell it to, it loses what it says, is killed, says nothing, or says something
 else.
 
     stand_in.py FOLDER PROGRAM WORD ..
@@ -36,7 +36,7 @@ def killed(holds, **more):
 
 
 def says(file):
-    """Runs the program, and says what is in a file of each post, as long as it is there. A line that has no other behind it ends it."""
+    """Runs the program, and says what is in a file of each post, as long as it is there. A line that has no other after it ends it."""
     with subprocess.Popen([PROGRAM, *WORDS], stdout=subprocess.PIPE) as run:
         for line in run.stdout:
             if file.exists():

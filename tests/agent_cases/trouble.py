@@ -35,7 +35,7 @@ def case_held_list(world):
 
 
 def case_held_at_start(world):
-    """Mail waits also where another run has the list when the agent starts."""
+    """Mail waits even if another run has the list when the agent starts."""
     world.list()
     answers = []
     with held(world.folder()):
@@ -49,7 +49,7 @@ def case_held_at_start(world):
 
 
 def case_held_for_long(world):
-    """Where another run has a list for too long mail is put off, and given again it counts once. SIGTERM doesn't wait for it."""
+    """If another run has a list for too long mail is put off, and given again it counts once. SIGTERM doesn't wait for it."""
     world.rows['patience'] = 2
     world.list()
     world.begin()
@@ -94,7 +94,7 @@ def configured(folder, config):
 
 
 def case_damaged_configuration(world):
-    """A list whose configuration can't be read puts its mail off, also where it never was served, and the others go on."""
+    """A list whose configuration can't be read puts its mail off, even if it never was served, and the others go on."""
     folder = world.list()
     world.list('dogs')
     config = (folder / 'config').read_bytes()
@@ -116,7 +116,7 @@ def case_damaged_configuration(world):
 
 
 def case_missing_list(world):
-    """Where a list is gone, as where a disk is missing, its mail is put off, and nothing is made in its place; a new list is taken up."""
+    """If a list is gone, as when a disk is missing, its mail is put off, and nothing is made in its place; a new list is taken up."""
     folder = world.list()
     world.list('dogs')
     world.begin()
@@ -180,7 +180,7 @@ def case_copied_list(world):
 
 
 def case_stopped_program(world):
-    """Where a run of the program was stopped and left its log, the queue's entries go out behind the next run all the same."""
+    """If a run of the program was stopped and left its log, the queue's entries go out after the next run all the same."""
     folder = world.list()
     now = str(int(time.time()))
     fields = ['0', now, 'w@m.net', f'cats@{HOST}', post(1).decode()]
@@ -198,7 +198,7 @@ def case_stopped_program(world):
 
 
 def case_full_disk(world):
-    """Where the notes can't be written mail is put off and nothing is handed on twice, and it goes on when they can."""
+    """If the notes can't be written mail is put off and nothing is handed on twice, and it goes on when they can."""
     world.list()
     world.begin()
     world.post(1)
@@ -206,7 +206,7 @@ def case_full_disk(world):
     limit(world, '1')
     begins(world.post(2), '451', 'a mail')
     same(world.run('cats', 'deliver', '0', 'w@m.net', f'cats@{HOST}', given=post(3)), '0 0 posted 2\n', 'a post by hand')
-    # What comes to the list lets the agent look at the queue. The entry's copies go out, which can't be noted, but in memory.
+    # What comes to the list lets the agent look at the queue. The entry's copies go out, which can be noted only in memory.
     begins(world.post(2), '451', 'the mail again')
     check(world.tells('entry 2 stays', 'cats: -25 no answer'), 'the copies could be noted, or reported')
     same(len(world.sink.copies), 6, 'copies')
@@ -222,7 +222,7 @@ def limit(world, size):
 
 
 def case_full_while_handing_on(world):
-    """Where the notes can't be written while copies go out, each member has at most one copy, and the entry leaves when they can."""
+    """If the notes can't be written while copies go out, each member has at most one copy, and the entry leaves when they can."""
     members = [f'm{n}@m.net' for n in range(200)]
     world.rows['batch'] = 10
     world.list(members=members)
@@ -264,7 +264,7 @@ def case_terminated_at_once(world):
         thread.start()
     check(until(lambda: len(said) >= 5), 'nothing is answered')
     same(world.end(), 0, 'the status')
-    # Who comes behind the end finds nobody who listens.
+    # Whoever comes after the end finds nobody who listens.
     world.begin()
     for thread in threads:
         thread.join()

@@ -132,7 +132,7 @@ def case_weed_rows(world):
 
 
 def case_weed_corpora(world):
-    """Of the bounces in Debian's corpora none is weeded, and of their delays and automatic answers all but some that are told."""
+    """Of the bounces in Debian's corpora none is weeded, and of their delays and automatic answers all except some that are named."""
     for name, fetch in (('flufl.bounce', corpora.flufl), ('BounceParser', corpora.bounceparser)):
         try:
             mails = corpora.mails(name, fetch)

@@ -28,20 +28,25 @@ HASTY = ('/usr/bin/python3', '-c', '''
 import sys
 sys.path.insert(0, sys.argv[1])
 from ezmlm_agent import __main__, mailing, retrying
-__main__.LOOKS, mailing.HOUR, retrying.SHORTEST = 0.05, 1, 1
+__main__.LOOKS, mailing.HOUR, retrying.SHORTEST = 0.5, 1, 1
 __main__.main(sys.argv[2:])
 ''', TOP / 'agent')
-LONG = 900  # seconds behind which what has to come is given up. Nothing else depends on time, as a machine may be slow
+IS_UNPROVED = bool(os.environ.get('UNPROVED'))  # tests/quick says so: then a run of the program takes much longer
+LONG = 900  # seconds after which what has to come is given up. Nothing else depends on time, as a machine may be slow
 
 
 def until(holds):
-    """Whether something comes to hold."""
+    """Whether something comes to hold. A look that takes long is followed by a longer pause, since it keeps the machine from what is waited
+    for."""
     end = time.monotonic() + LONG
-    while not holds():
-        if time.monotonic() > end:
+    while True:
+        begun = time.monotonic()
+        if holds():
+            return True
+        now = time.monotonic()
+        if now > end:
             return False
-        time.sleep(0.02)
-    return True
+        time.sleep(min(1, max(0.02, 2 * (now - begun))))
 
 
 @contextlib.contextmanager
@@ -63,7 +68,7 @@ class Client:
     def __init__(self, address):
         self.socket = socket.socket(socket.AF_INET if isinstance(address, tuple) else socket.AF_UNIX)
         self.socket.settimeout(LONG)
-        # Where others come at once it is asked again.
+        # If others come at once it is asked again.
         while error := self.socket.connect_ex(address if isinstance(address, tuple) else str(address)):
             if error != errno.EAGAIN:
                 raise OSError(error, os.strerror(error))
@@ -166,7 +171,7 @@ class World:
         return self.folder(name)
 
     def run(self, name, *words, given=b''):
-        """What the program says. Where a run of the agent's has the list it is asked again."""
+        """What the program says. If a run of the agent's has the list it is asked again."""
         status = 111
         while status == 111:
             done = subprocess.run([self.program, self.folder(name), *words], input=given, stdout=subprocess.PIPE, check=False)
@@ -174,7 +179,7 @@ class World:
         return done.stdout.decode()
 
     def settled(self, name, call):
-        """What a call makes of a list's folder when no run of the program has it, or None where one was stopped and left its log."""
+        """What a call makes of a list's folder when no run of the program has it, or None if one was stopped and left its log."""
         folder = self.folder(name)
         with held(folder):
             return call(folder) if (folder / 'log').stat().st_size <= 1 else None
@@ -229,7 +234,7 @@ class World:
         return until(lambda: all(self.log().count(word) >= times for word in words))
 
     def mail(self, sender, recipients, message):
-        """The replies for the recipients, or None where the agent hung up."""
+        """The replies for the recipients, or None if the agent hung up."""
         try:
             with Client(self.place / 'lmtp') as client:
                 return client.mail(sender, recipients, message)

@@ -1,4 +1,4 @@
-"""An archive written as docs/FORMATS.md has its files: in seconds, where a stream of large posts or of many takes minutes."""
+"""An archive written as docs/FORMATS.md has its files: in seconds, while a stream of large posts or of many takes minutes."""
 
 from __future__ import annotations
 

@@ -100,7 +100,7 @@ def case_threads(world: World) -> None:
 
 
 def case_bytes(world: World) -> None:
-    """A post's source is its bytes, also where they end without a line end; attachments are theirs."""
+    """A post's source is its bytes, even if they end without a line end; attachments are theirs."""
     world.make_list()
     raw = b'From: a@b\nTo: cats@ex.org\nSubject: x\nContent-Type: multipart/mixed; boundary=b\n\nFrom me\n--b\n\nhi\n--b\n' \
           b'Content-Type: application/x-y; name="../../a b.bin"\nContent-Transfer-Encoding: base64\n\nAAEC/w==\n--b--'

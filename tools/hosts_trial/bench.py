@@ -189,6 +189,16 @@ def told(name: str, *values: object) -> None:
     print(f'| {name} | ' + ' | '.join(map(str, values)) + ' |', flush=True)
 
 
+def add_rates(bench: Bench, way: str, rates: dict[str, list[object]]) -> None:
+    """Measures how many posts a second the hosts take, and adds that to the rows of the table."""
+    for members, posts in POSTS.items():
+        for lists in (1, LISTS):
+            name = f'posts a second to {members:,} members, {lists} list{"s" * (lists > 1)}'
+            found = [bench.rate(members, lists, posts) for _ in range(TIMES)]
+            rates.setdefault(name, []).append(shown(found, 0 if members < 100 else 1))
+            print(f'    {way}: {name}: {rates[name][-1]}, load {os.getloadavg()[0]:.0f}', flush=True)
+
+
 def measured(program: pathlib.Path, place: pathlib.Path) -> int:
     """Prints the table. The answer is 0."""
     subprocess.run(['ip', 'link', 'set', 'lo', 'up'], check=True)
@@ -199,12 +209,7 @@ def measured(program: pathlib.Path, place: pathlib.Path) -> int:
     try:
         for way, many, has_history in ways:
             bench.begin(many, has_history)
-            for members, posts in POSTS.items():
-                for lists in (1, LISTS):
-                    name = f'posts a second to {members:,} members, {lists} list{"s" * (lists > 1)}'
-                    many_rates = [bench.rate(members, lists, posts) for _ in range(TIMES)]
-                    rates.setdefault(name, []).append(shown(many_rates, 0 if members < 100 else 1))
-                    print(f'    {way}: {name}: {rates[name][-1]}, load {os.getloadavg()[0]:.0f}', flush=True)
+            add_rates(bench, way, rates)
             found = bench.latencies()
             rates.setdefault('milliseconds until a post is taken: median, 99th of 100', []).append(
                 f'{1000 * statistics.median(found):.0f}, {1000 * found[len(found) * 99 // 100]:.0f}')

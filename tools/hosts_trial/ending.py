@@ -33,7 +33,7 @@ def netstrings(text: bytes) -> list[bytes]:
 
 
 def files(folder: pathlib.Path) -> dict[str, pathlib.Path]:
-    """The files of a list by their names in its folder, but for those that aren't the list's."""
+    """The files of a list by their names in its folder, except those that aren't the list's."""
     found = {}
     for at, _, names in os.walk(folder):
         for name in names:

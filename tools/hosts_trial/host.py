@@ -136,7 +136,7 @@ class Host:
             shutil.copytree(self.lists / name, to)
 
     def replace(self, name: str, by: pathlib.Path) -> None:
-        """Puts an old copy into the place of a list's folder. The agent has to be ended."""
+        """Puts an old copy in place of a list's folder. The agent has to be ended."""
         assert self.agent is None
         shutil.rmtree(self.lists / name)
         shutil.copytree(by, self.lists / name)

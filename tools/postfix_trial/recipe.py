@@ -18,7 +18,7 @@ FIRST = 512  # the first number of a mail
 
 
 class Recipe:
-    """Measures the scripts as they were at a revision, where one is named, and as they are."""
+    """Measures the scripts as they were at a revision, if one is named, and as they are."""
 
     def __init__(self, setting, posts, before):
         self.setting, self.posts, self.before = setting, posts, before

@@ -185,7 +185,7 @@ class Setting:
         return (self.place / 'agent.log').read_text()
 
     def entries(self, name):
-        """How many entries a list's queue has when no run has it, or None where a run was stopped and left its log."""
+        """How many entries a list's queue has when no run has it, or None if a run was stopped and left its log."""
         folder = self.place / 'lists' / name
         with open(folder / 'lock', encoding='ascii') as lock:
             fcntl.flock(lock, fcntl.LOCK_EX)
