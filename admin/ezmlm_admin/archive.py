@@ -101,7 +101,7 @@ def facts(path: pathlib.Path) -> entries.Facts:
 
 
 def link(old: pathlib.Path, new: pathlib.Path) -> None:
-    """Gives a post its place in the new archive too: posts are never changed, so both have the same file where the disk can do that."""
+    """Gives a post its place in the new archive too: posts are never changed, so both have the same file if the disk can do that."""
     try:
         os.link(old, new)
     except OSError:

@@ -51,7 +51,7 @@ def index(text: bytes) -> list[Entry]:
 
 
 def pieces(text: bytes) -> list[Entry | None]:
-    """The entries of an index that may be damaged, and None for each line that is none. No entry has an LF but at its end."""
+    """The entries of an index that may be damaged, and None for each line that is none. No entry has an LF except at its end."""
     found: list[Entry | None] = []
     for line in text.removesuffix(b'\n').split(b'\n') if text else []:
         try:

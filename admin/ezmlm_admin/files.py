@@ -68,7 +68,7 @@ def pair(text: bytes) -> tuple[int, int]:
 
 
 def members(text: bytes) -> list[tuple[bytes, int]]:
-    """The addresses of a bucket with the moments at which they were added, 0 where that isn't known."""
+    """The addresses of a bucket with the moments at which they were added, 0 if that isn't known."""
     layout = 2 if text.startswith(b'layout 2\n') else 1
     at, found = (9 if layout == 2 else 0), []
     while at < len(text):

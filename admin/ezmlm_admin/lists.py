@@ -126,7 +126,7 @@ class MailingList:
 
     def wait_until_free(self, end: float) -> None:
         """Waits until no other process holds the list. If one does up to this moment of the monotonic clock, that is Busy. It sleeps in the
-        kernel, which wakes it at once: between two runs of the agent there may be but milliseconds."""
+        kernel, which wakes it at once: between two runs of the agent there may be only milliseconds."""
         try:
             lock = os.open(self.folder / 'lock', os.O_RDONLY | os.O_NONBLOCK | os.O_CLOEXEC)
         except FileNotFoundError:
@@ -161,7 +161,7 @@ class MailingList:
                 self.wait_until_free(end)
 
     def read(self, call: Callable[[pathlib.Path], T]) -> T:
-        """As `settled`, where what is damaged is refused with what `check` says."""
+        """As `settled`, except that what is damaged is refused with what `check` says."""
         try:
             return self.settled(call)
         except Damaged as error:
@@ -173,7 +173,7 @@ class MailingList:
 
 @contextlib.contextmanager
 def alarm(seconds: float, error: Exception) -> Iterator[None]:
-    """Raises the error in what is done meanwhile, when so many seconds have passed. The main thread alone can have one."""
+    """Raises the error in what is done meanwhile, when so many seconds have passed. Only the main thread can have one."""
     def late(*_: object) -> None:
         raise error
 

@@ -36,7 +36,7 @@ PARTS = 'key', 'subscribers', 'digest', 'allow', 'deny', 'mod', 'counts', 'archi
 
 @dataclass(frozen=True)
 class Asked:
-    """What the words ask for: words for `make`, an owner in the place of the list's, and whether that nobody moderates is all right."""
+    """What the words ask for: words for `make`, an owner instead of the list's, and whether that nobody moderates is all right."""
     words: list[str]
     owner: str | None
     anyway: bool
@@ -153,7 +153,7 @@ def reason(old: Configuration, new: Configuration, line: str) -> str:
 
 
 def write(path: pathlib.Path, text: bytes) -> None:
-    """Puts a file in the place of another, or none, at once, and on the disk."""
+    """Replaces a file, or makes a new one, in one step, and on the disk."""
     new = path.with_name(path.name + '.new')
     with open(os.open(new, os.O_WRONLY | os.O_CREAT | os.O_TRUNC, 0o600), 'wb') as file:
         file.write(text)
@@ -164,7 +164,7 @@ def write(path: pathlib.Path, text: bytes) -> None:
 
 
 def sync(folder: pathlib.Path) -> None:
-    """Has the names in a folder on the disk."""
+    """Brings the names in a folder to the disk."""
     opened = os.open(folder, os.O_RDONLY | os.O_DIRECTORY)
     try:
         os.fsync(opened)

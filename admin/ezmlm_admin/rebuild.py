@@ -88,14 +88,14 @@ def put_in(folder: pathlib.Path) -> str:
 
 
 def move(path: pathlib.Path, to: pathlib.Path) -> None:
-    """Renames a file or a folder, and has that on the disk."""
+    """Renames a file or a folder, and brings that to the disk."""
     os.rename(path, to)
     sync(to.parent)
     sync(path.parent)
 
 
 def recover(folder: pathlib.Path) -> None:
-    """Ends what a `rebuild` began that was stopped: the old archive comes back, unless the new one was in its place already."""
+    """Ends what a stopped `rebuild` began: the old archive comes back, unless the new one was in its place already."""
     old = folder / OLD
     if old.exists() and (folder / 'archive').exists() and not (folder / NEW).exists():
         put_in(folder)

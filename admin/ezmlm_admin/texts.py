@@ -129,7 +129,7 @@ def many(number: int, word: str) -> str:
 
 
 def table(heads: Sequence[str], rows: Sequence[Sequence[object]]) -> list[str]:
-    """Lines of columns with their names above them, and nothing where there are no rows."""
+    """Lines of columns with their names above them, and nothing if there are no rows."""
     texts = [list(heads), *[[str(value) for value in row] for row in rows]]
     widths = [max(len(text[column]) for text in texts) for column in range(len(heads))]
     lines = ['  '.join(value.ljust(width) for value, width in zip(text, widths)).rstrip() for text in texts]

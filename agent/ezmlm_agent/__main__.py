@@ -77,7 +77,7 @@ class Agent:
         await self.stop()
 
     async def tend(self) -> None:
-        """What is done each minute."""
+        """What is done every minute."""
         while True:
             try:
                 await self.lists.look(again=True)
@@ -107,7 +107,7 @@ class Agent:
 
 
 def hosts_of(chosen: settings.Settings, lists: Callable[[], Iterable[mailing.MailingList]]) -> 'hosts.Hosts | None':
-    """What belongs to other hosts that have the same lists, if any have. psycopg is wanted for these alone."""
+    """What belongs to other hosts that have the same lists, if any have. psycopg is needed for these alone."""
     if not chosen.history:
         return None
     try:

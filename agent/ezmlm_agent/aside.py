@@ -73,7 +73,7 @@ def run(future: asyncio.Future[Any], call: Callable[..., Any], words: tuple[Any,
         result = call(*words)
     except BaseException as why:
         error = why
-    with contextlib.suppress(RuntimeError):  # The loop is closed where the agent has ended meanwhile.
+    with contextlib.suppress(RuntimeError):  # The loop is closed if the agent has ended meanwhile.
         future.get_loop().call_soon_threadsafe(settle, future, result, error)
 
 
@@ -104,7 +104,7 @@ async def within(turns: asyncio.Semaphore, seconds: float) -> AsyncIterator[None
 
 @contextlib.asynccontextmanager
 async def lent(turns: asyncio.Semaphore, seconds: float) -> AsyncIterator[None]:
-    """Waits for a turn, and gives it back after so many seconds also where what has it goes on. So what hangs with a turn keeps it for that
+    """Waits for a turn, and gives it back after so many seconds even if what has it goes on. So what hangs with a turn keeps it for that
     long alone."""
     await turns.acquire()
     timer = asyncio.get_running_loop().call_later(seconds, turns.release)

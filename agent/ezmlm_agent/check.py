@@ -69,7 +69,7 @@ async def whole(runs: program.Program, path: pathlib.Path) -> tuple[int, str]:
 
 
 def found(chosen: settings.Settings) -> tuple[Addresses, list[str]]:
-    """The lists by their folders, and what is wrong where there are none of their own."""
+    """The lists by their folders, and what is wrong if there are none of their own."""
     addresses: Addresses = {}
     wrong = []
     try:
@@ -170,7 +170,7 @@ async def transfer_agent(chosen: settings.Settings, addresses: Addresses) -> lis
 
 
 async def hosts(chosen: settings.Settings, addresses: Addresses) -> list[str]:
-    """What is wrong with the history, where other hosts have the same lists."""
+    """What is wrong with the history, if other hosts have the same lists."""
     if not chosen.history:
         return []
     try:
@@ -220,7 +220,7 @@ def place(chosen: settings.Settings) -> list[str]:
 
 
 async def check(chosen: settings.Settings) -> int:
-    """Tells all that is wrong. The status is 0 where nothing is."""
+    """Tells all that is wrong. The status is 0 if nothing is."""
     wrong = []
     owner = chosen.lists.stat().st_uid if chosen.lists.exists() else os.geteuid()
     is_other = owner != os.geteuid()

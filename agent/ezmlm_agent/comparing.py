@@ -11,7 +11,7 @@ from typing import NamedTuple
 from . import folder
 
 GROUP = 100  # posts in one folder of the archive
-# The files of a list by docs/FORMATS.md, but the log and the lock. `archive` is taken by groups of posts.
+# The files of a list by docs/FORMATS.md, except the log and the lock. `archive` is taken by groups of posts.
 PARTS = ('config', 'key', 'subscribers', 'digest', 'allow', 'deny', 'mod', 'counts', 'num', 'dig', 'pending', 'tickets', 'bounce', 'queue', 'ids',
          'done', 'floor', 'archive/threads')
 PIECE = 1 << 20
@@ -73,7 +73,7 @@ def whole(path: pathlib.Path, part: Part) -> bytes:
 
 def others(seen: Iterable[Seen], host: str, now: float) -> list[str]:
     """The hosts whose copies were another list at the last place at which this host's was looked at, unless more hosts agree with this one than
-    with any of those. Where as many do nobody can tell which is right; further hosts have a while to look before that counts."""
+    with any of those. If as many do nobody can tell which is right; further hosts have a while to look before that counts."""
     rows = list(seen)
     own = max((row for row in rows if row.host == host), default=None)
     if own is None:

@@ -20,7 +20,7 @@ def bucket(key: bytes) -> int:
 
 
 def addresses(text: bytes) -> set[bytes]:
-    """The addresses in a file of members, in lower case. It is a ValueError where the file is none."""
+    """The addresses in a file of members, in lower case. It is a ValueError if the file is none."""
     is_dated = text.startswith(b'layout 2\n')
     words = text.removeprefix(b'layout 2\n').split(b'\0')
     members = words[:-1:2] if is_dated else words[:-1]

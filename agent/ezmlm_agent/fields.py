@@ -1,5 +1,5 @@
 """The fields that receivers look for in a list's mail, put before what the program wrote: RFC 2369 and 2919 for a list, RFC 3834 and 2045 for
-what answers by itself; and the writer's `From`, replaced by the list's where his signature wouldn't hold."""
+what answers by itself; and the writer's `From`, replaced by the list's if his signature wouldn't hold."""
 
 import email.errors
 import email.header
@@ -23,7 +23,7 @@ FIELD = re.compile(rb'^(From|Reply-To|List-Id|List-Archive|List-Owner):([^\n]*(?
 TURNS = '\u200e\u200f\u202a\u202b\u202c\u202d\u202e\u2066\u2067\u2068\u2069'  # they change the direction in which a line is read
 PLAIN = r"[^\s\x00-\x1f\x7f-\x9f<>()\[\]:;@\\,\"]+"
 ADDRESS = re.compile(rf'(?:{PLAIN}|"(?:[^"\\\x00-\x1f\x7f-\x9f]|\\[ -~])*")@(?:{PLAIN}|\[[!-Z^-~]*\])')
-LINE = 75                 # letters of a line, where it can be folded
+LINE = 75                 # letters of a line, if it can be folded
 JOINED = ',\n '           # between two addresses
 ATOMS = re.compile(r"[A-Za-z0-9!#$%&'*+/=?^_`{|}~ -]+")
 ESCAPE = b'\x1b'  # by which the charsets of ISO 2022 change what 7-bit bytes mean (RFC 1468)
@@ -39,7 +39,7 @@ class Unreadable(ValueError):
 def as_handed_on(entry: Sequence[bytes], section: sections.Section | None, flags: bytes) -> bytes:
     """The mail of an entry of the outgoing queue with its list's fields in front, LF at its lines' ends. The flags are the list's option
     letters. Without a section it is the same mail, and so is one that a list only passes on, as one for its owner. Of a post the header alone
-    is read. Where that can't be read it is Unreadable."""
+    is read. If that can't be read it is Unreadable."""
     mail = entry[3]
     front = FRONT.match(mail) if section is not None else None
     if section is None or front is None:
@@ -79,7 +79,7 @@ def of_list(section: sections.Section, local: str, host: str, fields: Fields) ->
 
 
 def field(name: str, text: str, value: str) -> bytes:
-    """A field of a text, which may be empty, and of a value in angle brackets, folded before that where the line gets long."""
+    """A field of a text, which may be empty, and of a value in angle brackets, folded before that if the line gets long."""
     words = phrase(text, name) if text else ''
     is_long = len(f'{name}: {words}'.rpartition('\n')[2]) + len(value) > LINE
     return f'{name}: {words}{chr(10) * (is_long and bool(words))}{" " * bool(words)}<{value}>\n'.encode()

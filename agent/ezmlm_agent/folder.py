@@ -37,7 +37,7 @@ def settled(folder: pathlib.Path, call: Callable[[pathlib.Path], Result]) -> Res
 
 
 def opened(path: pathlib.Path | str, flags: int) -> int:
-    """A descriptor of a regular file. Whatever else stands in its place is an OSError: a pipe would keep who reads it waiting."""
+    """A descriptor of a regular file. Whatever else stands in its place is an OSError: a pipe would keep whoever reads it waiting."""
     file = os.open(path, flags | os.O_NONBLOCK | os.O_CLOEXEC, 0o600)
     if not stat.S_ISREG(os.fstat(file).st_mode):
         os.close(file)
@@ -61,7 +61,7 @@ def bytes_or_none(path: pathlib.Path) -> bytes | None:
 
 
 def names(folder: pathlib.Path) -> list[str]:
-    """The names of the files in a folder, and none where it isn't there."""
+    """The names of the files in a folder, and none if it isn't there."""
     try:
         return os.listdir(folder)
     except FileNotFoundError:
@@ -69,7 +69,7 @@ def names(folder: pathlib.Path) -> list[str]:
 
 
 def configuration(folder: pathlib.Path) -> dict[bytes, bytes] | None:
-    """The lines of the configuration by their names, or None where there is no list."""
+    """The lines of the configuration by their names, or None if there is no list."""
     try:
         lines = bytes_or_none(folder / 'config')
     except NotADirectoryError:
@@ -81,12 +81,12 @@ def configuration(folder: pathlib.Path) -> dict[bytes, bytes] | None:
 
 
 def flags(folder: pathlib.Path) -> bytes:
-    """The option letters of the list in a folder, in lower case where they are set, and none where there is no list."""
+    """The option letters of the list in a folder, in lower case if they are set, and none if there is no list."""
     return (configuration(folder) or {}).get(b'flags', b'')
 
 
 def address(folder: pathlib.Path) -> tuple[bytes, bytes] | None:
-    """LOCAL and HOST of the list in a folder, in lower case, or None where there is no list."""
+    """LOCAL and HOST of the list in a folder, in lower case, or None if there is no list."""
     lines = configuration(folder)
     if lines is None:
         return None
@@ -96,7 +96,7 @@ def address(folder: pathlib.Path) -> tuple[bytes, bytes] | None:
 
 
 def free(folder: pathlib.Path) -> tuple[bytes, bytes] | None:
-    """The address of the list in a folder, or None where there is no list. It is Held where another run has the list now."""
+    """The address of the list in a folder, or None if there is no list. It is Held if another run has the list now."""
     found = address(folder)
     if found is None or not (folder / 'lock').exists():
         return found
@@ -121,7 +121,7 @@ def has_work(folder: pathlib.Path) -> bool:
 
 
 def entries(folder: pathlib.Path, ids: Iterable[int]) -> dict[int, bytes | None]:
-    """These entries of the outgoing queue, each as its file spells it, or None where there is none."""
+    """These entries of the outgoing queue, each as its file spells it, or None if there is none."""
     return {entry: bytes_or_none(folder / 'queue' / str(entry)) for entry in ids}
 
 
@@ -148,7 +148,7 @@ def floor(folder: pathlib.Path) -> int:
 
 
 def behind_answers(folder: pathlib.Path) -> int:
-    """The first number after all that the list has answered, but for those that are no mail's, and not below its floor."""
+    """The first number after all that the list has answered, except those that are no mail's, and not below its floor."""
     groups = [int(name) for name in names(folder / 'done') if name.isdecimal() and int(name) < NO_MAIL // SLOTS]
     if not groups:
         return floor(folder)
@@ -170,7 +170,7 @@ def answered(folder: pathlib.Path, numbers: Iterable[int]) -> set[int]:
 
 
 def replace(path: pathlib.Path, text: bytes) -> None:
-    """Puts a file in the place of another, or none, at once, and on the disk."""
+    """Replaces a file, or makes a new one, in one step, and on the disk."""
     new = path.with_name(path.name + '.new')
     with open(os.open(new, os.O_WRONLY | os.O_CREAT | os.O_TRUNC | os.O_CLOEXEC, 0o600), 'wb') as file:
         file.write(text)

@@ -26,12 +26,12 @@ class SharedList(mailing.MailingList):
         self.soon: asyncio.TimerHandle | None = None  # when the history is asked though no mail comes
         self.waits: dict[int, list[tuple[mails.Mail, bytes]]] = {}  # mails that wait for the answers of items, with their keys
         self.configured_at, self.config = -1, b''  # the configuration that holds here, and from which item on
-        self.key: bytes | None = None  # the hash of the keys after the last run, where it is known
+        self.key: bytes | None = None  # the hash of the keys after the last run, if it is known
         self.kept: handed.Handed | None = None  # in this term, or the last
         self.hands_from = 0  # the place from which on it hands on in this term
         self.reporting: set[int] = set()  # entries of which the history has the report since this term began
         self.answers: list[tuple[int, str]] = []  # of operators' items, until they are noted
-        self.others: list[str] = []  # hosts of which the copy is another list than this one
+        self.others: list[str] = []  # hosts whose copy is another list than this one
         self.is_judging = True       # whether what the hosts saw may have changed
         self.looks_after: puts.Row | None = None  # a timed run after which this copy is looked at
         self.looking: asyncio.Task[None] | None = None
@@ -137,7 +137,7 @@ class SharedList(mailing.MailingList):
     # This host's copy.
 
     async def take_up(self, opened: notes.Notes, state: states.State) -> None:
-        """Takes the list up, with the mails and copies that this host alone knew where it has no history yet."""
+        """Takes the list up, with the mails and copies that this host alone knew if it has no history yet."""
         address = await self.aside(folder.address, self.folder)
         assert address
         known = await opened.known()
@@ -297,7 +297,7 @@ class SharedList(mailing.MailingList):
             return []
 
     async def joining(self, opened: notes.Notes) -> list[program.Item]:
-        """What waits for the next run where another run has the list."""
+        """What waits for the next run if another run has the list."""
         return []
 
     async def note_answers(self) -> None:

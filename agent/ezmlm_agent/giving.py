@@ -30,7 +30,7 @@ class Refused(Exception):
 
 
 def opened(chosen: settings.Settings) -> history.History:
-    """The history that the settings name. It is Refused where they name none."""
+    """The history that the settings name. It is Refused if they name none."""
     if not chosen.history:
         raise Refused('the settings name no history: by hand use the program itself', settings.WRONG)
     return history.History(lines.Lines(servers.Servers(chosen.history, chosen.host, chosen.standby, chosen.takeover)))

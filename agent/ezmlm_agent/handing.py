@@ -17,8 +17,8 @@ if TYPE_CHECKING:
     from . import outgoing
 
 log = logging.getLogger('ezmlm-agent')
-DAY = 86400  # for which an entry stays of which all copies are refused
-HOPELESS = 100  # copies that were refused and none taken, behind which no more are tried for now
+DAY = 86400  # for which an entry stays if all its copies are refused
+HOPELESS = 100  # copies that were refused and none taken, after which no more are tried for now
 
 
 @dataclasses.dataclass
@@ -45,7 +45,7 @@ def attempt_of(kept: notes.Copies, text: bytes, mark: bytes, entry: int, age: fl
     """What is to be done for an entry that a file spells so, and the transactions. `mail_of` makes of its elements the mail that goes out."""
     elements = program.netstrings(text)
     rows = copies.batches(elements, size, verp, before)
-    random.shuffle(rows)  # Where an attempt ends early the next one begins with others.
+    random.shuffle(rows)  # If an attempt ends early the next one begins with others.
     mail = wire.as_sent(mail_of(elements))
     return Attempt(kept, entry, mark, mail, age, copies.is_named(elements), len(elements) - 4, bool(before)), rows
 
@@ -76,7 +76,7 @@ class Handing:
         return is_told and not attempt.put_off
 
     def mail_of(self, entry: int, elements: Sequence[bytes]) -> bytes:
-        """What goes out for an entry's mail: with the fields of its list's section, or as the list wrote it where they can't be put in."""
+        """What goes out for an entry's mail: with the fields of its list's section, or as the list wrote it if they can't be put in."""
         try:
             return fields.as_handed_on(elements, self.queue.section, self.queue.flags)
         except Exception as error:  # Whatever it is, no mail is kept back for the sake of a field.
@@ -122,7 +122,7 @@ class Handing:
         await attempt.kept.hand(attempt.entry, attempt.mark, taken)
 
     async def tell_refused(self, attempt: Attempt) -> bool:
-        """Whether the list knows of all copies that were refused for good. Where none was ever taken it isn't told for a day: by a
+        """Whether the list knows of all copies that were refused for good. If none was ever taken it isn't told for a day: by a
         transfer agent that refuses all, each member of each post would bounce. A single recipient that is refused by itself is no such case.
         """
         if attempt.refused and not attempt.is_taken and attempt.age < DAY and not self.is_refused_alone(attempt):

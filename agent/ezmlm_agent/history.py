@@ -19,7 +19,7 @@ class History(rows.Rows):
     many servers as these are told to keep it on."""
 
     def prepare(self, connection: servers.Connection) -> None:
-        """Makes the tables where they are missing. It is Unfit if they are of a newer version, or can't be written."""
+        """Makes the tables if they are missing. It is Unfit if they are of a newer version, or can't be written."""
         try:
             with connection.transaction():
                 self.make_tables(lines.Cursor(connection))
@@ -45,7 +45,7 @@ class History(rows.Rows):
                                 + ('install the newer agent' if found > VERSION else 'it can\'t be read'))
 
     async def try_tables(self) -> bool:
-        """Whether the tables are there. It is Unfit or Lost where they can't be written, or where no standby confirms what is."""
+        """Whether the tables are there. It is Unfit or Lost if they can't be written, or if no standby confirms what is."""
         def look(cursor: lines.Cursor) -> bool:
             if is_there := self.has_tables(cursor):
                 self.write_tables(cursor)
@@ -94,7 +94,7 @@ class History(rows.Rows):
         return await self.lines.call(read)
 
     async def forget_host(self, host: str) -> int | None:
-        """Forgets a host that is gone for good. The answer is how many lists it had, or None where an agent of it runs."""
+        """Forgets a host that is gone for good. The answer is how many lists it had, or None if an agent of it runs."""
         def forget(cursor: lines.Cursor) -> int | None:
             cursor.execute('SELECT pg_try_advisory_xact_lock(%s)', (key_of(f'host {host}'),))
             if not one(cursor):

@@ -1,4 +1,4 @@
-"""What an agent has beside its lists where other hosts have the same."""
+"""What an agent has beside its lists if other hosts have the same."""
 
 import asyncio
 import logging
@@ -31,7 +31,7 @@ class Hosts:
             log.warning('%s', why)
 
     async def begin(self) -> str:
-        """Begins when the servers were asked for the first time. The answer is why they can't keep the history, or nothing; where they aren't
+        """Begins when the servers were asked for the first time. The answer is why they can't keep the history, or nothing; if they aren't
         there yet mail waits."""
         self.lead.start()
         try:

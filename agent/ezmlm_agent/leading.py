@@ -16,7 +16,7 @@ LONGEST = 1.0  # seconds between two of them
 
 
 def clock() -> float:
-    """Seconds that go on also while the machine sleeps."""
+    """Seconds that go on even while the machine sleeps."""
     return time.clock_gettime(time.CLOCK_BOOTTIME)
 
 
@@ -59,7 +59,7 @@ class Leading:
         self.watch()
 
     def watch(self) -> None:
-        """Ends the connection where a server doesn't answer any more, as on a machine that stands still."""
+        """Ends the connection if a server doesn't answer any more, as on a machine that stands still."""
         if self.connection is not None and clock() > self.limit:
             self.servers.turn()
             servers.cut(self.connection)
@@ -67,7 +67,7 @@ class Leading:
             self.loop.call_later(self.pause, self.watch)
 
     def moved(self) -> None:
-        """Calls go to another server than before, where another host may have the locks: those of this connection are worth nothing."""
+        """Calls go to another server than before, if another host may have the locks: those of this connection are worth nothing."""
         self.until = 0.0
         if self.connection is not None:
             servers.cut(self.connection)
@@ -90,7 +90,7 @@ class Leading:
     # In the thread.
 
     def tell(self, name: str | None, number: int = 0) -> None:
-        with contextlib.suppress(RuntimeError):  # The loop is closed where the agent has ended meanwhile.
+        with contextlib.suppress(RuntimeError):  # The loop is closed if the agent has ended meanwhile.
             self.loop.call_soon_threadsafe(self.told, name, number)
 
     def settle(self, error: Exception | None) -> None:

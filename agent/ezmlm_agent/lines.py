@@ -87,7 +87,7 @@ class Transaction:
         return True
 
     def make(self, connection: servers.Connection) -> None:
-        """Makes the calls. Their statements go out together where none wants the answer of another. No disk is waited for."""
+        """Makes the calls. Their statements go out together if none wants the answer of another. No disk is waited for."""
         with connection.pipeline():
             cursor = Cursor(connection)
             cursor.execute('BEGIN')
@@ -159,7 +159,7 @@ class Batch:
         self.jobs, self.left = ended, self.left + [job for transaction in waiting for job in transaction.jobs]
 
     def make(self, connection: servers.Connection, transaction: Transaction) -> bool:
-        """Makes a transaction. Where it fails nothing is left of it, and if it has one call, that one fails. The answer is whether it has ended; else
+        """Makes a transaction. If it fails nothing is left of it, and if it has one call, that one fails. The answer is whether it has ended; else
         each of its calls is to be made alone, or waits for a lock."""
         try:
             transaction.make(connection)

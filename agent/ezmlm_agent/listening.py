@@ -52,7 +52,7 @@ class Listener:
         self.locks: list[TextIO] = []
 
     async def listen(self, address: str, serve: Serve) -> None:
-        """Serves who comes to an address. It is an OSError if nobody can listen there, and Taken if somebody does."""
+        """Serves whoever comes to an address. It is an OSError if nobody can listen there, and Taken if somebody does."""
         for found in self.sockets:
             if is_at(found, address):
                 self.sockets.remove(found)

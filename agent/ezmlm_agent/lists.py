@@ -45,7 +45,7 @@ Times = tuple[int, ...]
 @dataclasses.dataclass(frozen=True)
 class Seen:
     """What a folder was when it was read: the list of an address, or none, or why that can't be told. `times` are those of the folder and of
-    its configuration, by which it is seen whether it became another, and None where even these couldn't be had."""
+    its configuration, by which it is seen whether it became another, and None if even these couldn't be had."""
     times: Times | None
     address: notes.Address | None = None
     wrong: str | None = None
@@ -73,7 +73,7 @@ def seen(path: pathlib.Path) -> Seen:
 
 
 class Lists:
-    """The lists in a folder. Those that are there are served; of the others that were the addresses are known by their notes."""
+    """The lists in a folder. Those that are there are served; the addresses of those that were there before are known by their notes."""
 
     def __init__(self, chosen: settings.Settings, take_up: Callable[[pathlib.Path], mailing.MailingList]) -> None:
         self.settings, self.take_up = chosen, take_up
@@ -148,7 +148,7 @@ class Lists:
         return (state.st_mtime_ns, state.st_nlink, state.st_ino, state.st_dev), {path: times_of(path) for path in paths}
 
     async def look(self, again: bool = False) -> None:
-        """Looks which lists are there. One that is served, and a folder that has none, are only read again where that is asked for."""
+        """Looks which lists are there. One that is served, and a folder that has none, are only read again if that is asked for."""
         trouble: dict[str, str] = {}
         try:
             stamp, _ = await self.threads.call('lists', self.stamps, [])
@@ -204,7 +204,7 @@ class Lists:
         return {name: self.addresses[name] for name in names if name in self.addresses}, names - self.addresses.keys()
 
     def one_of(self, paths: list[pathlib.Path], address: notes.Address, trouble: dict[str, str]) -> mailing.MailingList | str:
-        """The list of an address, or why there is none. Of several folders the one is it that was served before: the others are copies."""
+        """The list of an address, or why there is none. Of several folders the list is the one that was served before: the others are copies."""
         known = [path for path in paths if path in self.served or (self.settings.state / f'{path.name}.sqlite').exists()]
         if len(paths) > 1:
             trouble[paths[-1].name] = f'{" and ".join(path.name for path in paths)} have the same address'

@@ -9,12 +9,12 @@ from . import lists, program, refusals, replies, signing, wire
 
 log = logging.getLogger('ezmlm-agent')
 LONGEST_MAIL = 33_554_432  # of a message, with LF at its lines' ends
-LONGEST_SENT = 2 * LONGEST_MAIL  # as it is sent, where an end of line is two bytes
+LONGEST_SENT = 2 * LONGEST_MAIL  # as it is sent, with two bytes for each end of a line
 LONGEST_PATH = 1000
 MOST_RECIPIENTS = 1000
 MOST_SESSIONS = 1000
 PER_RECIPIENT = 500  # bytes of memory for each, beside its address
-LEAVING = 10  # seconds for who is told the last replies, when the agent stops
+LEAVING = 10  # seconds for telling the last replies, when the agent stops
 OFTEN = '450 4.7.1 This sender has asked the lists here for too many answers in the last hour; later.'
 SIZE = re.compile(rb'(?:^| )SIZE=(\d{1,20})(?: |$)', re.IGNORECASE)  # RFC 1870
 
@@ -180,7 +180,7 @@ class Session:
         await self.say(*replies)
 
     async def answers(self, message: bytes) -> list[str]:
-        """The replies by the lists' answers, which are waited for also when the agent stops."""
+        """The replies by the lists' answers, which are waited for even when the agent stops."""
         sender, task = self.sender or b'', asyncio.current_task()
         assert task
         given = asyncio.gather(*(given_to(named, sender, recipient, message) for named, recipient in self.recipients))
@@ -210,7 +210,7 @@ def is_mailed(answer: program.Answer) -> bool:
 
 
 def path_of(line: bytes) -> bytes | None:
-    """The address of MAIL or RCPT as the list has it, or None where it is none or too long."""
+    """The address of MAIL or RCPT as the list has it, or None if it is none or too long."""
     path = wire.PATH.fullmatch(line)
     if path is None:
         return None
@@ -219,7 +219,7 @@ def path_of(line: bytes) -> bytes | None:
 
 
 def declared_size(line: bytes) -> int:
-    """The bytes that MAIL says the message has, or 0 where it says none."""
+    """The bytes that MAIL says the message has, or 0 if it says none."""
     path = wire.PATH.fullmatch(line)
     found = SIZE.search(path[2] or b'') if path else None
     return int(found[1]) if found else 0

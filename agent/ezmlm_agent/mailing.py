@@ -60,7 +60,7 @@ class MailingList:
         self.wait_for_hour()
 
     def hurry(self) -> None:
-        """No more is handed on but what is in hand, and a list that another run has isn't waited for."""
+        """No more is handed on than what is in hand, and a list that another run has isn't waited for."""
         self.stopping = True
         self.queue.changed.set()
 
@@ -126,7 +126,7 @@ class MailingList:
             del self.unanswered.mails[mail]
 
     def give_up(self, mail: mails.Mail) -> None:
-        """Nobody waits for a mail any more. Where a run has it in hand its bytes count, so that runs which hang don't fill the memory."""
+        """Nobody waits for a mail any more. If a run has it in hand its bytes count, so that runs which hang don't fill the memory."""
         mail.settle(self.health.ending())
         if mail in self.waiting:
             self.waiting.remove(mail)

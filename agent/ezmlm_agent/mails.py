@@ -23,7 +23,7 @@ class Mail:
     number: int = 0
 
     def key(self) -> bytes:
-        """What a mail is known by where it comes again. A recipient is the same in any case of letters."""
+        """What a mail is known by if it comes again. A recipient is the same in any case of letters."""
         return hashlib.sha256(program.item(b'', self.sender, self.recipient.lower(), hashlib.sha256(self.message).digest())).digest()
 
     def settle(self, answer: program.Answer) -> None:

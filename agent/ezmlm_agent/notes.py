@@ -1,6 +1,6 @@
 """What the agent remembers of one list: the numbers of mails, and the copies that were handed on.
 
-It is one SQLite file, and each change is on the disk before the call returns. Where the file is lost, or an old copy stands in its
+It is one SQLite file, and each change is on the disk before the call returns. If the file is lost, or an old copy stands in its
 place, a mail that comes again may count twice, and a copy may go out twice; none is lost.
 """
 
@@ -25,7 +25,7 @@ TABLES = '''
     CREATE INDEX IF NOT EXISTS entries ON handed (entry);
     CREATE TABLE IF NOT EXISTS list (local BLOB, host BLOB);
 '''
-FIRST = 512  # the smaller numbers are free for who gives items by hand
+FIRST = 512  # the smaller numbers are free for whoever gives items by hand
 
 COLUMNS = 'key, number, first FROM mail', 'number FROM next', 'entry, mark, recipients FROM handed', 'local, host FROM list'
 DAMAGE = sqlite3.SQLITE_CORRUPT, sqlite3.SQLITE_NOTADB
@@ -35,7 +35,7 @@ Execute = Callable[..., sqlite3.Cursor]
 
 
 def address(path: pathlib.Path) -> Address | None:
-    """The address of the list that a file of notes is of, or None where it can't be told."""
+    """The address of the list that a file of notes is of, or None if it can't be told."""
     try:
         with contextlib.closing(sqlite3.connect(f'{path.absolute().as_uri()}?mode=ro', uri=True)) as database:
             row: Address | None = database.execute('SELECT local, host FROM list').fetchone()
@@ -55,7 +55,7 @@ class Copies(Protocol):
         """To whom this entry was handed on. `mark` is the hash of what the entry is."""
 
     async def hand(self, entry: int, mark: bytes, recipients: Sequence[bytes]) -> None:
-        """Keeps that an entry was handed on to these. In memory it holds at once, also where it can't be kept for good."""
+        """Keeps that an entry was handed on to these. In memory it holds at once, even if it can't be kept for good."""
 
     async def write(self) -> None:
         """Keeps what couldn't be kept before. It comes before each transaction."""
@@ -81,7 +81,7 @@ def is_damage(error: BaseException) -> bool:
 
 
 def opened(path: pathlib.Path) -> tuple['Notes', str]:
-    """Notes that are opened, and what was done with them where they were damaged: they are set aside then, and begun anew."""
+    """Notes that are opened, and what was done with them if they were damaged: they are set aside then, and begun anew."""
     try:
         return Notes(path), ''
     except sqlite3.DatabaseError as error:
@@ -186,7 +186,7 @@ class Notes:
         return {key: (number, first) for key, number, first in await self.change(lambda run: run('SELECT key, number, first FROM mail').fetchall())}
 
     async def forget(self, keys: Sequence[bytes], behind: int) -> None:
-        """The mails of these keys get new numbers where they come again, and none below `behind`."""
+        """The mails of these keys get new numbers if they come again, and none below `behind`."""
         def forget(run: Execute) -> None:
             for key in keys:
                 run('DELETE FROM mail WHERE key = ?', (key,))
@@ -208,7 +208,7 @@ class Notes:
         return self.handed.get((entry, mark), frozenset())
 
     async def hand(self, entry: int, mark: bytes, recipients: Sequence[bytes]) -> None:
-        """Notes that an entry was handed on to these. In memory it holds at once, also where it can't be written."""
+        """Notes that an entry was handed on to these. In memory it holds at once, even if it can't be written."""
         if recipients:
             self.handed.setdefault((entry, mark), set()).update(recipients)
             self.unwritten.append((entry, mark, b'\0'.join(recipients)))

@@ -71,7 +71,7 @@ class Queue:
             await asyncio.wait(self.in_hand.values())
 
     async def wait(self, seconds: float) -> None:
-        """Waits, but not where the agent stops."""
+        """Waits, but not if the agent stops."""
         end = time.monotonic() + seconds
         while not self.list.stopping and (left := end - time.monotonic()) > 0:
             self.changed.clear()
@@ -149,7 +149,7 @@ class Queue:
         log.info('%s: entry %d is tried again in %d s', self.list.name, entry, pause)
 
     async def hand_on(self, entry: int, text: bytes, written: float, verp: bool, size: int) -> None:
-        """Hands an entry's copies on, but those that were before, and has it reported when all are."""
+        """Hands an entry's copies on, except those that were before, and has it reported when all are."""
         try:
             async with self.at_once:
                 done = await self.handing.hand_on(entry, text, written, verp, entry in self.later)

@@ -17,7 +17,7 @@ JUDGING = 2  # seconds in which it must be told what a list refuses
 
 
 class Policy:
-    """Answers each request with an action: a refusal, or DUNNO for all else and where it can't be told."""
+    """Answers each request with an action: a refusal, or DUNNO for all else and if it can't be told."""
 
     def __init__(self, find: lmtp.Find) -> None:
         self.find = find
@@ -63,7 +63,7 @@ class Policy:
 
 
 async def judge(named: lists.Named, sender: bytes) -> str | None:
-    """The word by which a list refuses mail of this sender by the envelope alone. It is None if it doesn't, and where that can't be told
+    """The word by which a list refuses mail of this sender by the envelope alone. It is None if it doesn't, and if that can't be told
     soon: the list's files are read under its lock, between two runs."""
     read = functools.partial(envelope.refusal, rest=named.rest, sender=sender)
     try:
@@ -74,7 +74,7 @@ async def judge(named: lists.Named, sender: bytes) -> str | None:
 
 
 async def attributes(connection: wire.Wire) -> dict[bytes, bytes] | None:
-    """The attributes of the next request, or None where one is too long to be any."""
+    """The attributes of the next request, or None if one is too long to be any."""
     asked: dict[bytes, bytes] = {}
     for _ in range(MOST_LINES):
         line = await connection.line(IDLE)

@@ -37,7 +37,7 @@ def netstrings(text: bytes) -> list[bytes]:
 LONGEST_RUN = 600  # seconds; a run that is ended loses nothing that was answered
 WAITS = 0.25       # seconds for which a list waits for one of the runs that all share, before it gets one of its own
 HELD = 111         # another run has the list, or its disk failed
-FILLING = 15       # items behind the last one, by which it is committed and answered
+FILLING = 15       # items after the last one, by which it is committed and answered
 FILL = item(b'S', 0, 0, 10**15)  # an item that does nothing: the report of an entry that was never there
 SETTLES = 'out', '0'  # a command that does no more than to read the list: what its log has stands in its files then
 
@@ -74,7 +74,7 @@ def answer_of(line: bytes) -> Answer:
 
 class Program:
     """The program. Its runs share `runs` turns; a list that has waited for one gets a run of its own, so that runs which hang hold up no
-    other list. Each run goes in the list's folder: where that is gone there is no run, and none makes another one in its place."""
+    other list. Each run goes in the list's folder: if that is gone there is no run, and none makes another one in its place."""
 
     def __init__(self, path: str, runs: int) -> None:
         self.path = os.path.abspath(path) if '/' in path else path
@@ -165,7 +165,7 @@ class Run:
                 self.answered.set()
 
     async def feed(self, items: list[Item], more: More) -> None:
-        """Gives items, and more when they are answered. The program answers sixteen at once, so the last ones need others behind them."""
+        """Gives items, and more when they are answered. The program answers sixteen at once, so the last ones need others after them."""
         while items:
             self.answered.clear()
             self.left = len(items)

@@ -7,7 +7,7 @@ from typing import Any
 
 from . import program, servers
 
-WHOLE = 100_000_000  # posts back from the newest that are compared where all of a list is
+WHOLE = 100_000_000  # posts back from the newest that are compared if all of a list is
 
 Spell = Callable[[int, int], bytes]  # an item's bytes by its number and its moment
 
@@ -41,8 +41,8 @@ class Adds:
 
 @dataclasses.dataclass(frozen=True)
 class Wish:
-    """What a host asks of a list's history: what it puts in, and the items from its place on, so many at most, and of so many bytes, but one where
-    there is one. `key` is the hash of the list's keys, if it is known."""
+    """What a host asks of a list's history: what it puts in, and the items from its place on, so many at most, and of so many bytes, but at
+    least one if there is one. `key` is the hash of the list's keys, if it is known."""
     name: str
     place: int
     key: bytes | None
@@ -61,7 +61,7 @@ class Put:
     timed: tuple[int, int] | None = None  # the number of a timed run, and how many of the newest posts are compared after it
     mails: list[tuple[bytes, int]] = dataclasses.field(default_factory=list)  # keys of those that are new, and their numbers
     given: list[tuple[int, int]] = dataclasses.field(default_factory=list)    # an operator's numbers of those that are new, and theirs
-    numbers: list[int] = dataclasses.field(default_factory=list)  # of mails, and of operators' items: those that they had, where these came before
+    numbers: list[int] = dataclasses.field(default_factory=list)  # of mails, and of operators' items: those that they had, if these came before
 
     def add(self, adds: Adds, mails: Mapping[Any, int], given: Mapping[Any, int]) -> None:
         """Puts in what isn't there yet. The numbers of what is are given."""
@@ -159,7 +159,7 @@ def look_at_place(name: str, place: int, following: int) -> None:
 
 
 def first_of(rows: Sequence[Row], bound: int, size: int) -> list[Row]:
-    """The first of these items, below a number: of so many bytes, but one where there is one."""
+    """The first of these items, below a number: of so many bytes, but at least one if there is one."""
     kept: list[Row] = []
     for row in rows:
         size -= len(row.text)

@@ -1,4 +1,4 @@
-"""How many mails each sender has had the lists send. Who forges a sender has the lists write to somebody who never asked."""
+"""How many mails each sender has had the lists send. Whoever forges a sender has the lists write to somebody who never asked."""
 
 import collections
 import time

@@ -74,5 +74,5 @@ def read(rest: bytes | None) -> Request:
 
 
 def is_of_bounces(rest: bytes | None) -> bool:
-    """Whether an address is one to which bounces come, also where it has no good form."""
+    """Whether an address is one to which bounces come, even if it has no good form."""
     return rest is not None and rest.lower().startswith((b'return-', b'digest-return-'))

@@ -1,4 +1,4 @@
-"""When a list is tried again of which something is wrong, and how that is said."""
+"""When a list that has something wrong is tried again, and how that is said."""
 
 import asyncio
 import logging
@@ -13,7 +13,7 @@ if TYPE_CHECKING:
     from . import mailing
 
 log = logging.getLogger('ezmlm-agent')
-SHORTEST, LONGEST = 60, 900  # seconds until a list is tried again of which nothing could be read or written
+SHORTEST, LONGEST = 60, 900  # seconds until a list of which nothing could be read or written is tried again
 HOUR = 3600
 
 
@@ -53,7 +53,7 @@ class Said:
             self.last, self.next = why, now + HOUR
 
     def worked(self) -> None:
-        """All is well again, which is said too: who reads the log needn't guess."""
+        """All is well again, which is said too: whoever reads the log needn't guess."""
         if self.last:
             log.info('%s: %s', self.name, self.good)
             self.last = ''
@@ -112,7 +112,7 @@ class Health:
 
 
 class Patience:
-    """How long a list is tried again that another run has: while mail waits for it, and `patience` seconds for what else there is."""
+    """How long a list that another run has is tried again: while mail waits for it, and `patience` seconds for what else there is."""
 
     def __init__(self, mailing_list: 'mailing.MailingList') -> None:
         self.list, self.until, self.pause = mailing_list, time.monotonic() + mailing_list.settings.patience, 0.05

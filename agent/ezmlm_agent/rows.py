@@ -69,7 +69,7 @@ class Rows:
 
     async def take_up(self, name: str, address: notes.Address, place: int, floor: int, config: bytes, key: bytes,
                       known: Mapping[bytes, tuple[int, int]], handed: Handed) -> None:
-        """A list of this host. Where it has no history yet that begins at its place, with the mails by their keys (numbers and moments) and the
+        """A list of this host. If it has no history yet that begins at its place, with the mails by their keys (numbers and moments) and the
         copies that were handed on that its host knows. It is Unfit if the copy can't be one of the history's list."""
         await self.lines.call(self.taken_up, name, address, place, floor, config, key, known, handed)
 
@@ -182,7 +182,7 @@ class Rows:
             step.again = [puts.Row(*row) for row in answer.fetchall()]
 
     def put(self, cursor: lines.Cursor, name: str, adds: puts.Adds) -> tuple[list[int], int]:
-        """Puts items into a list's row. The answer is their numbers, those that they had where they came before, and the number that was the next
+        """Puts items into a list's row. The answer is their numbers, those that they had if they came before, and the number that was the next
         one."""
         asked = self.ask(cursor, {name: adds})
         assert asked.next
@@ -218,7 +218,7 @@ class Rows:
         cursor.execute('DELETE FROM ezmlm.digest WHERE list = %s AND place < (SELECT min(place) FROM ezmlm.host WHERE list = %s)', (name, name))
 
     async def forget(self, name: str, keys: Sequence[bytes]) -> None:
-        """The mails of these keys get new numbers where they come again."""
+        """The mails of these keys get new numbers if they come again."""
         await self.lines.call(make_each, 'DELETE FROM ezmlm.mail WHERE list = %s AND key = ANY(%s)', [(name, list(keys))])
 
     async def answer(self, name: str, answers: Sequence[tuple[int, str]]) -> None:
@@ -270,7 +270,7 @@ def make_each(cursor: lines.Cursor, statement: LiteralString, rows: Sequence[Seq
 
 
 def row_of(cursor: 'lines.Cursor | servers.Answer') -> tuple[Any, ...]:
-    """The one row of an answer. Where there is none the list has no history."""
+    """The one row of an answer. If there is none the list has no history."""
     row = cursor.fetchone()
     if row is None:
         raise servers.Unfit('the list has no history')

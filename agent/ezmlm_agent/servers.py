@@ -52,7 +52,7 @@ def words_of(error: BaseException) -> str:
 
 
 def warning_of(notice: Notice) -> str:
-    """What a server warns of, or nothing. It answers a commit also when it gave up to wait for a standby, and warns of that."""
+    """What a server warns of, or nothing. It answers a commit also when it gave up waiting for a standby, and warns of that."""
     return wire.printable(notice.message_primary or 'a warning') if notice.severity_nonlocalized == 'WARNING' else ''
 
 

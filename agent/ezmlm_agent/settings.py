@@ -57,7 +57,7 @@ def standbys(text: str) -> str:
 
 
 def setting(read: Callable[[str], Any], default: Any = dataclasses.MISSING) -> Any:
-    """A setting: what reads its text, and its value where there is no line of it."""
+    """A setting: what reads its text, and its value if there is no line of it."""
     return dataclasses.field(default=default, metadata={'read': read})
 
 
@@ -84,7 +84,7 @@ class Settings:
     history: str = setting(str, '')             # PostgreSQL's servers, as libpq has them, if other hosts have the same lists
     host: str = setting(named, '')              # how this host is called among them
     standby: str = setting(standbys, 'quorum')  # none: the history is on one server alone
-    takeover: int = setting(int, 10)            # seconds until another host hands on in the place of one that is gone
+    takeover: int = setting(int, 10)            # seconds until another host hands on instead of one that is gone
     by_list: Mapping[str, sections.Section] = dataclasses.field(default_factory=dict)  # settings of single lists, by their folders' names
 
 
@@ -117,7 +117,7 @@ def read(path: str) -> Settings:
 
 
 def check(chosen: Settings) -> None:
-    """A ValueError where a setting is out of its range."""
+    """A ValueError if a setting is out of its range."""
     for name in ('batch', 'connections', 'runs', 'memory', 'keep_days', 'patience'):
         if getattr(chosen, name) < 1:
             raise ValueError(f'{name} is below 1')

@@ -119,7 +119,7 @@ async def hand_on(chosen: settings.Settings, recipient: bytes, mail: bytes) -> N
 # What it is worth.
 
 def signatures(mail: bytes) -> list[tuple[str, str]]:
-    """The domain and the selector of each DKIM signature of a mail, from above, and empty texts where one has none."""
+    """The domain and the selector of each DKIM signature of a mail, from above, and empty texts if one has none."""
     header = mail.replace(b'\r\n', b'\n').partition(b'\n\n')[0] + b'\n'
     found = []
     for text in SIGNATURE.findall(header):

@@ -76,7 +76,7 @@ class Connection:
         self.extensions = {wire.printable(line.split(' ')[0].upper()) for line in reply.lines[1:]}
 
     async def ask(self, commands: Sequence[bytes]) -> AsyncIterator[Reply]:
-        """The replies to these commands, one by one. They go out together where the other side reads them so."""
+        """The replies to these commands, one by one. They go out together if the other side reads them so."""
         if 'PIPELINING' in self.extensions:
             await self.wire.say(b''.join(commands))
         for command in commands:
@@ -93,7 +93,7 @@ class Connection:
         return [b' '.join(words) + b'\r\n', *(b'RCPT TO:<%b>\r\n' % wire.quoted(recipient) for recipient in recipients)]
 
     async def propose(self, commands: Sequence[bytes]) -> tuple[list[Reply], Reply | None]:
-        """The replies for the recipients, and the one to DATA, or None where nobody is to have the mail."""
+        """The replies for the recipients, and the one to DATA, or None if nobody is to have the mail."""
         replies: list[Reply] = []
         is_first = True
         async for reply in self.ask(commands):
@@ -172,7 +172,7 @@ class Exchange:
         return 'XVERP' in self.extensions
 
     async def hand_on(self, sender: bytes, named: bool, recipients: Sequence[bytes], mail: bytes) -> list[Reply]:
-        """Hands one transaction on, for who has one of the connections that are free."""
+        """Hands one transaction on, for whoever has one of the connections that are free."""
         if (kept := self.used()) is not None:
             try:
                 return await self.over(kept, sender, named, recipients, mail)

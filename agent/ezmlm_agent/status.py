@@ -45,7 +45,7 @@ class Queue:
 class Standing:
     """How a list stands. Without a history there are no hosts."""
     name: str
-    queue: Queue | None = None  # None where this host has no copy
+    queue: Queue | None = None  # None if this host has no copy
     leader: str | None = None   # the host that hands on
     hosts: Sequence[Host] = ()
 
@@ -135,7 +135,7 @@ def is_running(chosen: settings.Settings) -> bool:
 
 
 async def status(chosen: settings.Settings, past: 'history.History | None', name: str | None) -> int:
-    """Prints how the lists stand, or one of them. The answer is 0, or 1 where something wants looking at, or 2 where it must be."""
+    """Prints how the lists stand, or one of them. The answer is 0, or 1 if something should be looked at, or 2 if it must be."""
     queues, wrong = here(chosen)
     every = [Standing(each, queue) for each, queue in queues.items()]
     if past is not None:

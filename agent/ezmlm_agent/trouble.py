@@ -40,7 +40,7 @@ def of_ending(folder: pathlib.Path, status: int, words: str) -> Cause:
 
 
 def of_error(folder: pathlib.Path, error: BaseException) -> Cause | None:
-    """The cause of an error by which a list's files couldn't be read or its notes not be written, where one is found."""
+    """The cause of an error by which a list's files couldn't be read or its notes not be written, if one is found."""
     if isinstance(error, sqlite3.Error):
         if (name := getattr(error, 'sqlite_errorname', '')).startswith(('SQLITE_CORRUPT', 'SQLITE_NOTADB')):
             return Cause('the notes are damaged', folder, 'they are set aside, and begun anew')

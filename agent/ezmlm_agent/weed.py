@@ -21,7 +21,7 @@ import sys
 
 LOOKED_AT = 1 << 18  # bytes of a mail, from its first on: a report stands before the copy of the mail that it tells of
 COMMENT = re.compile(r'\(([^()]*)\)')
-ARRIVES = {'delayed', 'delivered', 'relayed', 'expanded'}  # RFC 3464 2.3.3: all that `Action` may be but `failed`
+ARRIVES = {'delayed', 'delivered', 'relayed', 'expanded'}  # RFC 3464 2.3.3: all that `Action` may be except `failed`
 REPORTS = {'message/delivery-status', 'message/global-delivery-status'}  # RFC 3464, RFC 6533
 ACTION = re.compile(r'^Action[ \t]*:[ \t]*([a-z]*)', re.IGNORECASE | re.MULTILINE)
 SYSTEM = re.compile(r'\b(?:mailer-daemon|postmaster)\b', re.IGNORECASE)
@@ -46,7 +46,7 @@ WEEDED = Place.BOUNCES, Place.OTHER  # where not all mail is given to the list
 
 
 def verdict(mail: bytes, place: Place) -> str | None:
-    """Why a mail to this address isn't given to the list, as a word, or None where it is. What can't be read is given.
+    """Why a mail to this address isn't given to the list, as a word, or None if it is. What can't be read is given.
 
     To the list's own address and its owner's everything is given: the list's rules decide of the one, and a person reads the other."""
     if place not in WEEDED:
@@ -96,14 +96,14 @@ def is_of_a_system(mail: email.message.Message) -> bool:
 
 
 def parts(mail: email.message.Message) -> list[email.message.Message]:
-    """A mail and its parts, but none of a mail that stands in it: a copy tells nothing of its own delivery."""
+    """A mail and its parts, without those of a mail that stands in it: a copy tells nothing of its own delivery."""
     if mail.get_content_maintype() != 'multipart' or not mail.is_multipart():
         return [mail]
     return [mail, *(inner for part in mail.get_payload() for inner in parts(part))]
 
 
 def text(part: email.message.Message) -> str:
-    """The text of a part, also where the parser took it apart."""
+    """The text of a part, even if the parser took it apart."""
     payload = part.get_payload()
     return '\n'.join(map(str, payload)) if isinstance(payload, list) else str(payload)
 

@@ -38,7 +38,7 @@ def unquoted(address: bytes) -> bytes:
 
 
 def quoted(address: bytes) -> bytes:
-    """An address as a transfer agent reads it: with quotes where the part before the @ has more than plain bytes."""
+    """An address as a transfer agent reads it: with quotes if the part before the @ has more than plain bytes."""
     local, at, host = address.rpartition(b'@')
     if at and not ATOM.fullmatch(local):
         local = b'"' + re.sub(rb'(["\\])', rb'\\\1', local) + b'"'
@@ -63,7 +63,7 @@ class Room:
         self.size, self.taken = size, 0
 
     def take(self, size: int) -> bool:
-        """Whether there was room for so many more bytes, which is taken then. Where there is nothing else there always is."""
+        """Whether there was room for so many more bytes, which is taken then. If there is nothing else there always is."""
         if self.taken and self.taken + size > self.size:
             return False
         self.taken += size

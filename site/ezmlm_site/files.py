@@ -70,7 +70,7 @@ def settle(folder: pathlib.Path) -> None:
 
 
 def safe_names(attachments: list[message.Attachment]) -> list[str]:
-    """Names of files for attachments: K-NAME, where NAME is made of an alphabet of letters, digits, dots, hyphens and underscores."""
+    """Names of files for attachments: K-NAME. NAME is made of an alphabet of letters, digits, dots, hyphens and underscores."""
     return [safe_name(k, attachment.name) for k, attachment in enumerate(attachments, 1)]
 
 

@@ -135,7 +135,7 @@ class Store:
         self.put(dataclasses.replace(post, thread=thread, place=place))
 
     def put(self, post: Post) -> None:
-        """Writes a post's row and its words, in place of what they were."""
+        """Writes a post's row and its words, instead of what they were."""
         change = self.database.execute
         before = self.post(post.n)
         if before and not before.is_out:

@@ -10,7 +10,7 @@ from collections.abc import Callable
 
 LONGEST_FIELD = 20_000   # characters of a field that are looked at
 REPLACED = '\ufffd'
-# What HTML and XML forbid (C0 and C1 controls but tab and line feed, lone surrogates, noncharacters), and what turns the direction of the text
+# What HTML and XML forbid (C0 and C1 controls except tab and line feed, lone surrogates, noncharacters), and what turns the direction of the text
 # around it (embeddings, overrides and isolates).
 UNSHOWN = re.compile('[\0-\x08\x0b-\x1f\x7f-\x9f\u202a-\u202e\u2066-\u2069\ud800-\udfff\ufdd0-\ufdef\ufffe\uffff'
                      + ''.join(chr(plane + 0xfffe) + chr(plane + 0xffff) for plane in range(0x10000, 0x110000, 0x10000)) + ']')
