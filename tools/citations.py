@@ -13,6 +13,7 @@ USE = re.compile(r'\s*(pub )?(?:ghost )?use (Rattle(?:\.\w+)+)(?:\.\{(.*)\}| as 
 SIGNATURE = re.compile(r"(?:(?:abbrev|pub) )*([\w'-]+) : *(.*)")
 RECORD = re.compile(r"(?:pub )?(?:record|data) ([\w'-]+)")
 NAME = re.compile(r"[\w'-]+(?:\.[\w'-]+)*")  # with its qualifiers
+PATH = re.compile(r"(\w+)((?:::[\w'-]+)+)")  # as attributes of code have it: crate::proofs::Module::name
 
 
 @dataclass(frozen=True)
@@ -56,8 +57,16 @@ def read(module: str, text: str, suffix: str) -> File:
                 file.definitions.append(Definition(module, name, number, is_answer))
             elif not line.strip().startswith(f'{name} '):
                 name = name if line.split()[0] == 'unfolding' else ''
-        file.cited.setdefault(name, set()).update(NAME.findall(line))
+        words = file.cited.setdefault(name, set())
+        words.update(NAME.findall(line))
+        if suffix == '.rt':
+            words.update(f'Rattle.{crate_of(module, first)}{rest}'.replace('::', '.') for first, rest in PATH.findall(line))
     return file
+
+
+def crate_of(module: str, first: str) -> str:
+    """The crate that the first word of a path means in a module."""
+    return module.split('.')[1] if first == 'crate' else first
 
 
 class Depths:

@@ -1,4 +1,4 @@
--- A file in its grammar that agrees with the files of lower kind is not damaged, whatever the other files are.
+-- A file in its grammar that agrees with the files of lower kind isn't damaged, whatever the other files are.
 use Rattle.std.proofs.Common.{arith, ◌≡◌, ◌⊎◌, inl, inr, ℕ, Bool, true, false, cond, ◌==◌, ◌+◌, ◌/◌, ◌≤◌, ◌<◌, List, [], ◌∷◌, length, Option, Some, None, IsTrue, refl, sym, ap, ◌∙◌, subst}
 use Rattle.std.specs.Prelude.{if◌then◌else◌}
 use Rattle.std.specs.List.{AllByRecursion, IsAmong}
@@ -187,7 +187,7 @@ module _ (dir : Dir) (name : Name) where
   cause_of (damage.thread c n file bad empty) = of_thread c n file bad
   cause_of (damage.append bad empty) = of_append bad
 
--- the entry that is found has what each has
+-- what every entry has, the one that is found has
 all_found : (P : Entry → Type 0) (n : ℕ) (es : List Entry) (e : Entry) → AllByRecursion P es → entry_at n es ≡ Some e → P e
 all_found P n [] e all found = absurd (none_some e found)
 all_found P n (f ∷ fs) e all found = go (f.number == n) found (all_found P n fs e all.1)

@@ -1,4 +1,4 @@
--- What acts do on every directory that has the files that they look at.
+-- What acts do is the same on every directory that has the files that they look at.
 use Rattle.std.proofs.Common.{◌≡◌, ◌⊎◌, inl, inr, ◌<◌, ℕ, Bool, true, List, map, Option, refl, sym, ap, ◌∙◌, subst}
 use Rattle.std.proofs.lemmas.Bool.{and_from, eq-eqb, lt-ltb, or_cases, or_left, or_right}
 use Rattle.ml_address.specs.declared.Path.{Path}

@@ -1,4 +1,4 @@
--- Which damaged files are the archive's, and for what they are.
+-- Which damaged files are the archive's, and for what they are damaged.
 use Rattle.std.proofs.Common.{◌≡◌, ◌/◌, ◌∙◌, ⊎_elim, inl, inr, ℕ, true, false, ◌==◌, ◌<◌, nat_lt, List, IsTrue, IfErr, Result, refl, sym, ap, subst}
 use Rattle.std.proofs.lemmas.Bool.{and_parts, eqb-true, false≢true, or_cases}
 use Rattle.ml_base.specs.Address.{key}
@@ -57,7 +57,7 @@ ledger_is sets.Deny k = refl
 ledger_is sets.Moderators k = refl
 
 module _ (name : Name) where
-  -- a name that is not the archive's
+  -- a name that isn't the archive's
   pub other_name : (other : Name) → is_of_archive other ≡ false → name ≡ other → is_of_archive name ≡ true → ⊥
   other_name other none e of = false≢true (sym none ∙ ap is_of_archive (sym e) ∙ of)
 
@@ -85,14 +85,14 @@ module _ (name : Name) where
   pub mailed_other : (set : Set) → is_mailed_by set name ≡ true → is_of_archive name ≡ true → ⊥
   mailed_other set e of = ⊎_elim (λ a. buckets_other set a of) (λ b. ids_other b of) (or_cases (is_bucket set name) (same_name name ids_name) e)
 
--- the number of posts outside its grammar, whoever asks for how many there are
+-- the number of posts outside its grammar, whatever asks how many there are
 pub count_next : (dir : Dir) (k : Text) (name : Name) → IsBadFor dir Count name → IsBadFor dir (Next k) name
 count_next dir k name bad = (inl bad.0, inl (bad.0, inl bad.1))
 
 pub asked_as : (dir : Dir) (few more : Asked) (name : Name) → (IsBadFor dir few name → IsBadFor dir more name) → IsDamagedOf dir few name → IsDamagedOf dir more name
 asked_as dir few more name f bad = record { damaged = bad.damaged; own = λ of. f (bad.own of) }
 
--- the posts behind the mark, where the mark and the archive are what they were
+-- the posts after the mark, if the mark and the archive are what they were
 pub undigested_before : (later dir : Dir) → ((name : Name) → is_of_time name ≡ false → later name ≡ dir name) → later mark_name ≡ dir mark_name → (name : Name) → IsBadFor later Undigested name → IsBadFor dir Undigested name
 undigested_before later dir same marked name (inl (e, inl none)) = inl (e, inl (no_number later dir same none))
 undigested_before later dir same marked name (inl (e, inr (count, counted, entries, index, above))) =
@@ -101,7 +101,7 @@ undigested_before later dir same marked name (inr (mark, is, count, counted, pos
     inr (mark, record { last = is.last; issue = is.issue; text = sym marked ∙ is.text }, count, counted_so later dir same count counted, (post.0, post.1, post.2, for_post later dir same post.0 name post.3))
 
 module _ {F T : Type 0} (told : Ghosts F) (May : Name → Type 0) (r : Result T PartError) (dir : Dir) where
-  -- what a call names, in other words, and of files that are what they were
+  -- what a call names, said in other terms, and of files that are what they were
   pub named_as : (later : Dir) (Few : Name → Type 0) (Bad : Dir → Name → Type 0) (Worse : Name → Type 0) → (IsTrue told.tells → later ≡ dir) → ((name : Name) → Few name → May name) → ((name : Name) → Few name → Bad dir name → Worse name)
       → NamesDamaged told Few (Bad later) r → NamesDamaged told May Worse r
   named_as later Few Bad Worse same may worse is = record {
@@ -109,7 +109,7 @@ module _ {F T : Type 0} (told : Ghosts F) (May : Name → Type 0) (r : Result T 
     damaged = λ t. err_both_damaged r Few (Bad dir) Worse worse is.named (subst (λ (d : Dir). IfErr r (λ e. OnDamaged e (Bad d))) (same t) (is.damaged t));
   }
 
-  -- what names no file of the archive, whatever is asked
+  -- a call that names no file of the archive, whatever is asked
   pub named_beside : (later : Dir) (asked : Asked) (Few : Name → Type 0) → (IsTrue told.tells → later ≡ dir) → ((name : Name) → Few name → May name) → ((name : Name) → Few name → is_of_archive name ≡ true → ⊥)
       → NamesDamaged told Few (IsDamaged later) r → NamesDamaged told May (IsDamagedOf dir asked) r
   named_beside later asked Few same may beside is = named_as later Few IsDamaged (IsDamagedOf dir asked) same may (λ name few bad. record { damaged = bad; own = λ of. absurd (beside name few of) }) is
@@ -128,7 +128,3 @@ module _ {F T : Type 0} (told : Ghosts F) (May : Name → Type 0) (r : Result T 
         err_both_damaged r (λ name. name ≡ index_name group) (λ _. IsNoIndex dir group × AreNoPosts dir) (IsDamagedOf dir (Group group)) (λ name e no. record { damaged = damage.index group e no.0 no.1; own = λ of. (e, no.0) }) is.named
         (err_both_damaged r (λ _. IsNoIndex dir group) (λ _. AreNoPosts dir) (λ _. IsNoIndex dir group × AreNoPosts dir) (λ name no none. (no, none)) (is.damaged t) (err_all r (ArePosts dir) (sound t)));
   }
-
--- no file of a list is damaged for anything that is asked
-pub sound_of : {T : Type 0} (dir : Dir) (p : Plain) (asked : Asked) (r : Result T PartError) → IsList dir p → IfErr r (λ e. OnDamaged e (IsDamagedOf dir asked)) → IfErr r (λ e. OnDamaged e (λ _. ⊥))
-sound_of dir p asked r is bad = err_damaged r (IsDamagedOf dir asked) (λ _. ⊥) (λ name no. none_damaged dir p name is no.damaged) bad

@@ -1,4 +1,4 @@
--- The counters of ids and of tickets, on every directory that has their files.
+-- The counters of ids and of tickets are the same on every directory that has their files.
 use Rattle.std.proofs.Common.{◌≡◌, inl, inr, ◌||◌, ℕ, Option, refl, sym, ap, ◌∙◌, subst, arith}
 use Rattle.ml_base.specs.Bytes.{Text}
 use Rattle.ml_base.specs.Dir.{Dir, same_name}

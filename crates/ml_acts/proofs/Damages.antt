@@ -71,14 +71,14 @@ none_damaged dir p name is (damage.thread c n file bad empty) =
     empty p.posts (subst (λ (d : Config). IsArchive dir d.prefix p.posts) (one_in_file (dir config_name) p.config c is.config file) is.archive)
 none_damaged dir p name is (damage.append bad empty) = empty p.config.prefix p.posts is.archive
 
--- so there a call that names only damaged files names none
+-- so a call that names only damaged files names none there
 pub sound_by : {T : Type 0} (dir : Dir) (p : Plain) (r : Result T PartError) → IsList dir p → IfErr r (λ e. OnDamaged e (IsDamaged dir)) → IfErr r (λ e. OnDamaged e (λ _. ⊥))
 sound_by dir p r is bad = err_damaged r (IsDamaged dir) (λ _. ⊥) (λ name no. none_damaged dir p name is no) bad
 
 pub same_self : (name : Name) → same_name name name ≡ true
 same_self name = and_from _ _ (eq-eqb name.kind name.kind refl) (eq-eqb name.at name.at refl)
 
--- nothing is said to be damaged, whatever is there
+-- a call that names nothing as damaged, whatever is there
 pub on_all : {A : Type 0} (e : PartError) (P : A → Type 0) → ((a : A) → P a → OnDamaged e (λ _. ⊥)) → OnDamaged e (λ _. (a : A) → P a → ⊥)
 on_all Fault P h = tt
 on_all Memory P h = tt
@@ -93,14 +93,14 @@ module _ {F T : Type 0} (told : Ghosts F) (May : Name → Type 0) (r : Result T 
   pub fewer_named : (Few Worse : Name → Type 0) → ((name : Name) → Few name → May name) → NamesDamaged told Few Worse r → NamesDamaged told May Worse r
   fewer_named Few Worse may is = record { named = err_damaged r Few May may is.named; damaged = is.damaged }
 
-  -- the same in other words
+  -- the same in other terms
   pub named_so : (Few Bad Worse : Name → Type 0) → ((name : Name) → Few name → May name) → ((name : Name) → Few name → Bad name → Worse name) → NamesDamaged told Few Bad r → NamesDamaged told May Worse r
   named_so Few Bad Worse may worse is = record {
     named = err_damaged r Few May may is.named;
     damaged = λ t. err_both_damaged r Few Bad Worse worse is.named (is.damaged t);
   }
 
-  -- a call that names none where there is a value of its part
+  -- a call that names none if there is a value of its part
   pub named_of : {A : Type 0} (P : A → Type 0) (Few Bad Worse : Name → Type 0) → ((name : Name) → Few name → May name) → ((name : Name) → Bad name → ((a : A) → P a → ⊥) → Worse name)
       → (IsTrue told.tells → (a : A) → P a → IfErr r (λ e. OnDamaged e (λ _. ⊥))) → NamesDamaged told Few Bad r → NamesDamaged told May Worse r
   named_of {A = A} P Few Bad Worse may worse sound is = record {
@@ -141,29 +141,6 @@ module _ {F T : Type 0} (told : Ghosts F) (May : Name → Type 0) (r : Result T 
         named_so (λ name. name ≡ key_file set (key who)) (λ _. IsNoFile dir set (ledger_place (key who))) (IsDamaged dir)
         (λ name e. may name (and_from _ _ has (subst (λ (a : Name). same_name a (key_file set (key who)) ≡ true) (sym e) (same_self (key_file set (key who))))))
         (λ name e no. damage.ledger set has (ledger_place (key who), mod_below (hash_of (key who)) 53 (omega arith), e, no)) is
-
-    -- the counter of ids
-    pub queue_named : ((name : Name) → same_name name ids_name ≡ true → May name) → NamesDamaged told (λ name. name ≡ ids_name) (Breaks dir) r → NamesDamaged told May (IsDamaged dir) r
-    queue_named may is =
-        named_so (λ name. name ≡ ids_name) (Breaks dir) (IsDamaged dir)
-        (λ name e. may name (subst (λ (a : Name). same_name a ids_name ≡ true) (sym e) (same_self ids_name))) (λ name e bad. damage.queued bad) is
-
-    -- the index of a group
-    pub index_named : (group : ℕ) → ((name : Name) → group < 1_000_000 → name ≡ index_name group → May name) → (IsTrue told.tells → (posts : List Post) → ArePosts dir posts → IfErr r (λ e. OnDamaged e (λ _. ⊥)))
-        → IfErr r (λ e. OnDamaged e (λ _. group < 1_000_000)) → NamesDamaged told (λ name. name ≡ index_name group) (λ _. IsNoIndex dir group) r → NamesDamaged told May (IsDamaged dir) r
-    index_named group may sound table is = record {
-      named = err_both_damaged r (λ _. group < 1_000_000) (λ name. name ≡ index_name group) May may table is.named;
-      damaged = λ t.
-          err_both_damaged r (λ name. name ≡ index_name group) (λ _. IsNoIndex dir group × AreNoPosts dir) (IsDamaged dir) (λ name e no. damage.index group e no.0 no.1) is.named
-          (err_both_damaged r (λ _. IsNoIndex dir group) (λ _. AreNoPosts dir) (λ _. IsNoIndex dir group × AreNoPosts dir) (λ name no none. (no, none)) (is.damaged t) (err_all r (ArePosts dir) (sound t)));
-    }
-
-    -- a call that names none
-    pub none_named : IfErr r (λ e. OnDamaged e (λ _. ⊥)) → NamesDamaged told May (IsDamaged dir) r
-    none_named none = record {
-      named = err_damaged r (λ _. ⊥) May (λ name bad. absurd bad) none;
-      damaged = λ t. err_damaged r (λ _. ⊥) (IsDamaged dir) (λ name bad. absurd bad) none;
-    }
 
 -- an answer with one property has another
 pub ok_then : {T : Type 0} {P Q : T → Type 0} (r : Result T PartError) → ((x : T) → P x → Q x) → IfOk r P → IfOk r Q

@@ -1,4 +1,4 @@
--- Puts grow by those of one act behind the other.
+-- Puts grow by those of one act after another.
 use Rattle.std.proofs.Common.{◌≡◌, Bool, true, List, [], ◌++◌, refl, ap, sym, ◌∙◌, IsTrue}
 use Rattle.std.proofs.lemmas.List.{append_assoc, append-nil}
 use Rattle.ml_base.specs.Dir.{are_files, touches_only}

@@ -14,13 +14,9 @@ use Rattle.ml_plain.specs.Plain.{Plain}
 use Rattle.ml_plain.specs.declared.Reply.{Reply}
 use Rattle.ml_acts.specs.Configured.{with_config}
 use Rattle.ml_acts.specs.Doing.{DoesList}
-use Rattle.ml_acts.proofs.UnderConfig.{config_held, config_listed}
+use Rattle.ml_acts.proofs.UnderConfig.{config_held}
 
 module _ (c : Config) (dir : Dir) where
-  pub listed : (p : Plain) (done : List Put × Reply) (step : Plain × Reply) → IsList dir p → p.config ≡ c → (IsList (with_config c dir) p → DoesList (with_config c dir) done step) → DoesList dir done step
-  listed p done step is same does =
-      let held = config_listed c dir p is same in
-      subst (λ (d : Dir). DoesList d done step) held (does (subst (λ (d : Dir). IsList d p) (sym held) is))
 
   -- and what is named
   pub named_held : {F T : Type 0} (told : Ghosts F) (May : Name → Type 0) (Bad : Dir → Name → Type 0) (r : Result T PartError) → (IsTrue told.tells → IsConfigFile (dir config_name) c)

@@ -31,7 +31,7 @@ beside_kind k least most apart =
     (and_from _ _ (ap (λ (b : Bool). b || eqb k 20) (and_from (leb 3 k) (leb k 18) (le-leb 3 k least) (le-leb k 18 (omega (arith, most))))) (ap not (ne_eqb k 12 apart)))
     (ap₂ (λ (a b : Bool). not (a || b)) (ne_eqb k 17 (λ e. omega (arith, e, most))) (ne_eqb k 18 (λ e. omega (arith, e, most))))
 
--- a set's files that are touched
+-- the files of a set that are touched
 touched_kind : (set : Set) (k : Text) (name : Name) → is_touched set k name ≡ true → (3 ≤ name.kind) × (name.kind ≤ 8)
 touched_kind set k name e = go (or_cases (same_name name (bucket_name set (bucket_of k))) (same_name name (count_name set)) e)
   where
@@ -62,7 +62,7 @@ removed_is sets.Allow who p = refl
 removed_is sets.Deny who p = refl
 removed_is sets.Moderators who p = refl
 
--- the puts that leave the set without an address, and those behind them
+-- the puts that leave the set without an address, and those after them
 pub removed_list : (dir : Dir) (p : Plain) (set : Set) (who : Text) (txn done : List Put) → IsList dir p → AreSubscribers (with_puts dir txn) set (without_member (key who) (p.sets set))
     → touches_only (is_touched set (key who)) txn ≡ true → ((r : Plain) → IsList (with_puts dir txn) r → IsList (with_puts dir done) (without_entry set who r)) → IsList (with_puts dir done) (removed set who p)
 removed_list dir p set who txn done is now only behind =
@@ -108,15 +108,6 @@ queue_changed_for set who name e = or_right (is_left_by set who name) (is_of_que
 pub left_changed_for : (set : Set) (who : Text) (puts : List Put) → touches_only (is_left_by set who) puts ≡ true → touches_only (is_changed_for set who) puts ≡ true
 left_changed_for set who puts only = touches_weaker (is_left_by set who) (is_changed_for set who) puts (λ name e. or_left (is_left_by set who name) (is_of_queue name) e) only
 
-pub touched_changed_for : (set : Set) (who : Text) (puts : List Put) → touches_only (is_touched set (key who)) puts ≡ true → touches_only (is_changed_for set who) puts ≡ true
-touched_changed_for set who puts only = left_changed_for set who puts (touched_left set who puts only)
-
-pub entry_changed_for : (set : Set) (who : Text) (puts : List Put) → has_ledger set ≡ true → touches_only (λ name. same_name name (key_file set (key who))) puts ≡ true → touches_only (is_changed_for set who) puts ≡ true
-entry_changed_for set who puts has only =
-    left_changed_for set who puts
-    (touches_weaker (λ name. same_name name (key_file set (key who))) (is_left_by set who) puts
-    (λ name same. or_right (is_touched set (key who) name) (is_entry_of set who name) (and_from (has_ledger set) (same_name name (key_file set (key who))) has same)) only)
-
 -- a set without a ledger
 pub nothing_forgotten : (dir : Dir) (set : Set) (who : Text) (p : Plain) → has_ledger set ≡ false → IsList dir p → IsList dir (without_entry set who p)
 nothing_forgotten dir sets.List who p none is = absurd (let bad : true ≡ false = none in cc)
@@ -125,7 +116,7 @@ nothing_forgotten dir sets.Allow who p none is = is
 nothing_forgotten dir sets.Deny who p none is = is
 nothing_forgotten dir sets.Moderators who p none is = is
 
--- what the puts by which a ledger forgets a key make of it, wherever its file is as it was
+-- what the puts by which a ledger forgets a key make of it, in every directory that has its file as it was
 abbrev Forgets : Dir → Set → Text → List Put → Type 0
 Forgets dir set k more = (now : Dir) (ledger : Ledger) → now (key_file set k) ≡ dir (key_file set k) → IsLedger now (ledger_kind set) ledger → IsLedger (with_puts now more) (ledger_kind set) (forget k ledger)
 

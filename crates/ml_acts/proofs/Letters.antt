@@ -63,7 +63,7 @@ lettered (b ∷ bs) e =
     let parts = and_parts (is_byte b) (list_all is_byte bs) e in
     and_from _ _ (high b parts.0) (and_from _ _ (low b) (lettered bs parts.1))
 
--- a cookie that has 20 bytes has the letters of one
+-- 20 bytes that are a cookie are its letters
 pub cookie_is : (found key kind set : Text) (moment : ℕ) (what : Text) → length found ≡ 20 → found ≡ cookie key kind set moment what → is_cookie found ≡ true
 unfolding cookie
 cookie_is found key kind set moment what size e =

@@ -1,4 +1,4 @@
--- An act on the list, behind other calls and in other words.
+-- What is promised of an act on the list holds after other calls too, and in other terms.
 use Rattle.std.proofs.Common.{◌≡◌, Bool, true, List, [], Result, Ok, Err, IfErr, IsTrue, refl, sym, subst}
 use Rattle.ml_base.specs.Dir.{Dir}
 use Rattle.ml_base.specs.PartErrors.{OnDamaged}
@@ -23,12 +23,12 @@ use Rattle.ml_acts.specs.Asked.{Asked, IsDamagedOf}
 use Rattle.ml_acts.specs.Configured.{with_config}
 use Rattle.ml_acts.specs.Damaged.{IsDamaged}
 
--- files that were kept tell the same of themselves: in a function it is `g.met.F.Files.kept_map`
+-- files that were kept have the same directory: in a function this is `g.met.F.Files.kept_map`
 abbrev pub KeepsMap : {F : Type 0} → Ghosts F → Type 0
 KeepsMap {F} told = (old new : F) → IsTrue told.tells → told.kept old new → told.map new ≡ told.map old
 
 module _ {F : Type 0} (told : Ghosts F) (r : Result (List Put × Reply) PartError) (May Bad Worse : Name → Type 0) where
-  -- behind a call that only read
+  -- after a call that only read
   pub act_then : {may_write : Name → Bool} → KeepsOn told → (first second third : F) → AreKept told first second → (IsTrue told.tells → (name : Name) → Bad name → Worse name) → AnswersWithin may_write told May Bad second third r
       → AnswersWithin may_write told May Worse first third r
   act_then on first second third kept worse is = record {
@@ -39,7 +39,7 @@ module _ {F : Type 0} (told : Ghosts F) (r : Result (List Put × Reply) PartErro
     reads = reading_then told on first second third r kept is.reads;
   }
 
-  -- more may be read, and what is named is damaged in other words
+  -- more may be read, and what is named is damaged in other terms
   pub act_so : {may_write : Name → Bool} (Few : Name → Type 0) (old new : F) → ((name : Name) → Few name → May name) → ((name : Name) → Few name → Bad name → Worse name) → AnswersWithin may_write told Few Bad old new r → AnswersWithin may_write told May Worse old new r
   act_so Few old new may worse is = record {
     own = is.own;
@@ -68,7 +68,7 @@ pub act_kept : {F T : Type 0} {may_write : Name → Bool} {told : Ghosts F} {fir
     → AnswersWithin may_write told Few (IsDamaged (told.map second)) second third r → ((name : Name) → Few name → May name) → AnswersWithin may_write told May (IsDamaged (told.map first)) first third r
 act_kept {told = told} on maps read act may = act_behind told IsDamaged on maps read act may (λ t name few bad. bad)
 
--- an act that names none of the archive's files, behind a call that only read
+-- an act that names none of the archive's files, after a call that only read
 pub act_beside : {F : Type 0} {may_write : Name → Bool} {first second third : F} {May Few : Name → Type 0} {r : Result (List Put × Reply) PartError} (told : Ghosts F) (asked : Asked) → KeepsOn told → AreKept told first second → (IsTrue told.tells → told.map second ≡ told.map first)
     → ((name : Name) → Few name → May name) → ((name : Name) → Few name → is_of_archive name ≡ true → ⊥) → AnswersWithin may_write told Few (IsDamaged (told.map second)) second third r → AnswersWithin may_write told May (IsDamagedOf (told.map first) asked) first third r
 act_beside {first = first} {second = second} {third = third} {May = May} {Few = Few} {r = r} told asked on kept same may beside act = record {
@@ -79,14 +79,10 @@ act_beside {first = first} {second = second} {third = third} {May = May} {Few = 
   reads = reading_then told on first second third r kept act.reads;
 }
 
--- an act that was said under a configuration which the files hold
+-- an act under a configuration which the files hold
 pub act_held : {F : Type 0} {may_write : Name → Bool} {May : Name → Type 0} {old new : F} {r : Result (List Put × Reply) PartError} (c : Config) (dir : Dir) (told : Ghosts F) (Bad : Dir → Name → Type 0) → (IsTrue told.tells → IsConfigFile (dir config_name) c) → AnswersWithin may_write told May (Bad (with_config c dir)) old new r
     → AnswersWithin may_write told May (Bad dir) old new r
 act_held {May = May} {r = r} c dir told Bad held is = record { own = is.own; files = is.files; reply = is.reply; names = named_held c dir told May Bad r held is.names; reads = is.reads }
-
--- an act that may read more
-pub act_fewer : {F : Type 0} {may_write : Name → Bool} {told : Ghosts F} {old new : F} {May Few Bad : Name → Type 0} {r : Result (List Put × Reply) PartError} → AnswersWithin may_write told Few Bad old new r → ((name : Name) → Few name → May name) → AnswersWithin may_write told May Bad old new r
-act_fewer {told = told} {old = old} {new = new} {May = May} {Few = Few} {Bad = Bad} {r = r} act may = act_so told r May Bad Bad Few old new may (λ name few bad. bad) act
 
 -- a read that failed, whose file may be read
 pub act_err : {F T : Type 0} {may_write : Name → Bool} {told : Ghosts F} {old new : F} {May Few Bad : Name → Type 0} {r : Result (List Put × Reply) PartError} {e : PartError} → NamesDamaged {T = T} told Few Bad (Err e) → IsReading {T = T} told old new (Err e) → ((name : Name) → Few name → May name) → r ≡ Err e → AnswersWithin may_write told May Bad old new r

@@ -1,4 +1,4 @@
--- Files of the archive and held posts, in their places.
+-- Files of the archive and held posts have names of the table.
 use Rattle.std.proofs.Common.{◌≡◌, ◌<◌, ℕ, true, ap, ◌∙◌}
 use Rattle.std.proofs.lemmas.Bool.{lt-ltb}
 use Rattle.ml_base.specs.declared.names.Name.{Name}
@@ -12,6 +12,3 @@ index_placed g name less e = ap is_index e ∙ lt-ltb g 1_000_000 less
 
 pub threads_placed : (n : ℕ) (name : Name) → n < 256 → name ≡ thread_name n → is_thread_file name ≡ true
 threads_placed n name less e = ap is_thread_file e ∙ lt-ltb n 256 less
-
-pub held_placed : (ticket : ℕ) (name : Name) → IsPostName ticket name → is_held_post name ≡ true
-held_placed ticket name is = ap is_held_post is.1 ∙ is.0

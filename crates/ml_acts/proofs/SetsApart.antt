@@ -1,4 +1,4 @@
--- What a call does on a set or a ledger, on every directory that has the files that it reads.
+-- What a call does on a set or a ledger is the same on every directory that has the files that it reads.
 use Rattle.std.proofs.Common.{◌≡◌, ◌∙◌, inl, inr, Bool, true, false, ◌<◌, List, Option, Some, None, sym, subst, arith}
 use Rattle.std.proofs.lemmas.Bool.{and_from, or_left, or_right}
 use Rattle.std.proofs.lemmas.Nat.{mod_below}
@@ -75,7 +75,7 @@ left_entry set who old dir alike name e = alike name (or_right (is_touched set (
 pub entry_there : (set : Set) (who : Text) (old dir : Dir) → has_ledger set ≡ true → Alike (is_entry_of set who) old dir → dir (key_file set (key who)) ≡ old (key_file set (key who))
 entry_there set who old dir has alike = alike (key_file set (key who)) (and_from (has_ledger set) (same_name (key_file set (key who)) (key_file set (key who))) has (same_self (key_file set (key who))))
 
--- and of a list it is no damaged one
+-- and in a list it isn't damaged
 pub entry_spared : (set : Set) (who : Text) (old dir : Dir) (p : Plain) → has_ledger set ≡ true → Alike (is_entry_of set who) old dir → IsList dir p → IsNoFile old set (ledger_place (key who)) → ⊥
 entry_spared set who old dir p has alike is none = go set has (entry_there set who old dir has alike) none
   where

@@ -1,4 +1,4 @@
--- A file that a list has too, on a directory that has the same one, is not damaged.
+-- A file that a list has too isn't damaged.
 use Rattle.std.proofs.Common.{◌≡◌, ◌⊎◌, inl, inr, ◌==◌, ◌<◌, ℕ, true, Option, arith, ap, sym, subst}
 use Rattle.std.specs.Prelude.{nat_lt}
 use Rattle.std.proofs.lemmas.Bool.{and_parts, eqb-true, ltb-true, or_cases}

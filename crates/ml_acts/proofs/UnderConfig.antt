@@ -35,9 +35,6 @@ module _ (c : Config) (dir : Dir) where
       go name true e = sym held.text ∙ ap dir (sym (one_name name config_name e))
       go name false e = refl
 
-  pub config_listed : (p : Plain) → IsList dir p → p.config ≡ c → with_config c dir ≡ dir
-  config_listed p list same = config_held (subst (λ (d : Config). IsConfigFile (dir config_name) d) same list.config)
-
   -- the counters are what they were
   pub room_under : HasRoom dir → HasRoom (with_config c dir)
   room_under room = record { ids = room.ids; tickets = room.tickets }

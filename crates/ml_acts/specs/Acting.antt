@@ -1,4 +1,4 @@
--- What each function says that does an act on the list.
+-- What every function promises that does an act on the list.
 use Rattle.std.specs.Prelude.{◌≡◌, Bool, true, List, IsTrue, Result, IfOk}
 use Rattle.ml_base.specs.Dir.{are_files, touches_only}
 use Rattle.ml_base.specs.ReadFiles.{IsReading, NamesDamaged}
@@ -11,7 +11,8 @@ use Rattle.ml_plain.specs.KeptFiles.{is_kept}
 use Rattle.ml_acts.specs.Doing.{is_beside_mark, is_of_posting}
 use Rattle.ml_acts.specs.Growing.{is_of_time}
 
--- The puts are of files that the act may write, which the log may name, and the reply can be kept. A damaged file is named as these say, and files are only read.
+-- The puts are of files that the act may write and that the log may name, and the reply can be kept. A file named as damaged passes MayRead
+-- and IsBad, and files are only read.
 pub record AnswersWithin {F : Type 0} (may_write : Name → Bool) (told : Ghosts F) (MayRead IsBad : Name → Type 0) (old new : F) (result : Result (List Put × Reply) PartError) : Type 0 where
   pub own : IfOk result (λ done. touches_only may_write done.0 ≡ true)
   pub files : IfOk result (λ done. IsTrue (are_files done.0))
@@ -23,7 +24,7 @@ pub record AnswersWithin {F : Type 0} (may_write : Name → Bool) (told : Ghosts
 abbrev pub AnswersAct : {F : Type 0} → Ghosts F → (Name → Type 0) → (Name → Type 0) → F → F → Result (List Put × Reply) PartError → Type 0
 AnswersAct told MayRead IsBad old new result = AnswersWithin is_beside_mark told MayRead IsBad old new result
 
--- one that posts, or answers for a moderator
+-- one that posts, or does what a moderator answers
 abbrev pub AnswersPost : {F : Type 0} → Ghosts F → (Name → Type 0) → (Name → Type 0) → F → F → Result (List Put × Reply) PartError → Type 0
 AnswersPost told MayRead IsBad old new result = AnswersWithin is_of_posting told MayRead IsBad old new result
 

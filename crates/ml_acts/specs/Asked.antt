@@ -13,7 +13,7 @@ use Rattle.ml_digest.specs.Due.{IsMark}
 use Rattle.ml_digest.specs.declared.posts.Mark.{Mark}
 use Rattle.ml_acts.specs.Damaged.{IsDamaged}
 
--- what is asked of the archive, by the numbers of who asks
+-- what is asked of the archive, with the numbers that it is asked for
 pub data Asked : Type 0 where
   -- how many posts there are
   Count : Asked
@@ -23,12 +23,12 @@ pub data Asked : Type 0 where
   Group : ℕ → Asked
   -- the thread of a post, on a list with a prefix
   ThreadOf : Text → ℕ → Asked
-  -- a place behind the last post, for one of a subject key
+  -- the place after the last post, for a new post with a subject key
   Next : Text → Asked
   -- the posts that are in no digest yet
   Undigested : Asked
 
--- damaged for a post of a row, for one of the posts a to b, and for one behind the mark of the digests
+-- damaged for a post of a row, for one of the posts a to b, and for one after the mark of the digests
 abbrev pub IsBadAmong : Dir → List ℕ → Name → Type 0
 IsBadAmong dir row name = (n : ℕ) × IsAmong row n × IsBadForPost dir n name
 
@@ -46,9 +46,9 @@ has_above n entries = list_any (λ e. nat_lt n e.number) entries
 abbrev pub IsTooSmall : Dir → Type 0
 IsTooSmall dir = (count : ℕ) × IsNumberFile (dir number_name) count × (entries : List Entry) × IsIndexFile (count / 100) (dir (index_name (count / 100))) entries × (has_above count entries ≡ true)
 
--- A file of the archive that is damaged for what is asked: the number of posts, outside its grammar; a range, or one of the posts that it
--- answers; the one index; the thread, or one of the posts that it answers; what a new post of the key is put behind or into; and the number of
--- posts, outside its grammar or too small, or one of those behind the mark.
+-- A file of the archive that is damaged for what is asked. In the order of Asked: the number of posts, outside its grammar; a file of the
+-- range, or of a post that it answers; the one index; a file of the thread, or of a post that it answers; a file that a new post of the key
+-- is put after or into; and the number of posts, outside its grammar or too small, or a file of a post after the mark.
 abbrev pub IsBadFor : Dir → Asked → Name → Type 0
 IsBadFor dir Count name = (name ≡ number_name) × IsNoNumber dir
 IsBadFor dir (Range a b) name = IsBadForRange dir a b name ⊎ ((row : List ℕ) × IsRangeByFiles dir a b row × IsBadAmong dir row name)
@@ -57,7 +57,7 @@ IsBadFor dir (ThreadOf prefix n) name = IsOfThread dir prefix n name × (IsBadFo
 IsBadFor dir (Next key) name = IsOfNext dir key name × IsBadForAppend dir name
 IsBadFor dir Undigested name = ((name ≡ number_name) × (IsNoNumber dir ⊎ IsTooSmall dir)) ⊎ IsBadBehind dir name
 
--- a damaged file: one of the archive is damaged for what is asked of it, and no other
+-- a damaged file; if it is one of the archive, it is damaged for what is asked
 pub record IsDamagedOf (dir : Dir) (asked : Asked) (name : Name) : Type 0 where
   pub damaged : IsDamaged dir name
   pub own : is_of_archive name ≡ true → IsBadFor dir asked name

@@ -1,4 +1,4 @@
--- Which files that acts read are outside their grammar, or name what isn't there.
+-- Which files that acts read are damaged: outside their grammar, or naming what isn't there.
 use Rattle.std.specs.Prelude.{◌≡◌, ◌<◌, ◌⊎◌, ℕ, Bool, IsTrue, List}
 use Rattle.ml_base.specs.Bytes.{Text}
 use Rattle.ml_base.specs.Dir.{Dir}
@@ -23,16 +23,16 @@ use Rattle.ml_subs.specs.Subscribers.{IsBadBucket, IsNoCount, IsUnread, count_na
 abbrev pub IsNoKeys : Dir → Type 0
 IsNoKeys dir = (keys : Keys) → ¬ IsKeyFile (dir key_name) keys
 
--- files that are no archive's, whatever its threads
+-- files that hold no posts, whatever the threads are
 abbrev pub AreNoPosts : Dir → Type 0
 AreNoPosts dir = (posts : List Post) → ¬ ArePosts dir posts
 
--- files that are no archive's, whose subjects may be marked with this prefix
+-- files that hold no archive whose subjects may be marked with this prefix
 abbrev pub IsNoArchive : Dir → Text → Type 0
 IsNoArchive dir prefix = (posts : List Post) → ¬ IsArchive dir prefix posts
 
 -- A file that is outside its grammar, or names what isn't there. Those of the archive are such that no list of posts can have them; which
--- threads they have goes by the configuration that the files hold.
+-- threads there are depends on the configuration that the files hold.
 pub data IsDamaged (dir : Dir) (name : Name) : Type 0 where
   keys : name ≡ key_name → IsNoKeys dir → IsDamaged dir name
   -- one of a set's 53 files; its count; or what a change of a key can't read
@@ -43,7 +43,7 @@ pub data IsDamaged (dir : Dir) (name : Name) : Type 0 where
   queued : queue.Breaks dir name → IsDamaged dir name
   waiting : held.Breaks dir name → IsDamaged dir name
   mark : name ≡ mark_name → IsNoMark dir → IsDamaged dir name
-  -- a mark behind the last post, or of more digests than posts in them
+  -- a mark after the last post, or of more digests than posts in them
   ahead : (mark : Mark) (count : ℕ) → name ≡ mark_name → IsMark dir mark → IsNumberFile (dir number_name) count → (count < mark.last) ⊎ (mark.last < mark.issue) → IsDamaged dir name
   -- the files of the archive, by what was asked of it
   number : name ≡ number_name → IsNoNumber dir → IsDamaged dir name

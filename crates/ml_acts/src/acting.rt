@@ -19,8 +19,8 @@ use ml_plain::Reply;
 use ml_reply::Mail;
 use std::alloc::Global;
 
-/// These puts, after them a mail of this moment to one address, and a reply. The puts are of files that a delivery may write, other than
-/// the queue's. All puts are of these files and the queue's (`within`). It reads the counter of ids.
+/// Answers these puts, then those of a mail of this moment to one address, and this reply. The given puts are of files that a delivery may
+/// write, other than the queue's; all puts are of these files and the queue's (`within`). It reads the counter of ids.
 pub fn with_mail<F: Files>(
     alloc: Global,
     files: &mut F,
@@ -50,9 +50,9 @@ pub fn with_mail<F: Files>(
     Ok((txn, reply))
 }
 
-/// These puts, after them a mail of this moment to all moderators, and a reply. The puts are of files that a delivery may write, other than
-/// the queue's and the moderators' set's. All puts are of these files and the queue's (`within`). It reads that set without its count, and the
-/// counter of ids.
+/// Answers these puts, then those of a mail of this moment to all moderators, and this reply. The given puts are of files that a delivery
+/// may write, other than those of the queue and of the moderators' set; all puts are of these files and the queue's (`within`). It reads
+/// that set without its count, and the counter of ids.
 pub fn with_mail_to_moderators<F: Files>(
     alloc: Global,
     files: &mut F,

@@ -1,4 +1,4 @@
-// Files as they read under a configuration.
+// Files as they read under a configuration: with this configuration in place of the one that they have.
 ghost use Rattle.std.specs.Prelude.{◌≡◌, ◌≤◌, IsTrue, IfOk, IsErrOf, is_some};
 ghost use Rattle.ml_base.specs.Absent.{NoneOf};
 ghost use Rattle.ml_base.specs.Faults.{Rose};
@@ -11,8 +11,7 @@ use ml_base::{Bytes, Files, FilesError, Name};
 use ml_config::{Config, write_config};
 use std::alloc::Global;
 
-// The file of the configuration.
-/// Files with a configuration in the place of theirs, whatever that is: what an act does under it is said over these.
+/// Files with a configuration in place of theirs, whatever that is. What an act does under a configuration is said of these files.
 #[derive(Drop)]
 pub struct Configured<'a, F: Files> {
     pub files: &'a mut F,
@@ -39,7 +38,7 @@ impl<F: Files> Files for Configured<'_, F> {
 
     ghost kept = { λ a b. F.kept a.files.now b.files.now × (b.config.now ≡ a.config.now) × (b.files.ghost_name ≡ a.files.ghost_name) };
 
-    /// The bytes of a file, or None where it is absent. The configuration is at hand and not read: its file is what it is spelled as.
+    /// The bytes of a file, or None if it is absent. The configuration isn't read: its file has the bytes that spell the one at hand.
     fn get(&mut self, alloc: Global, name: Name) -> Result<Option<Bytes>, FilesError>
         requires { IsTrue (is_file name) }
         ensures value { IsTrue F.tells → IfOk result (λ found. found ≡ with_config self.old.config.now (F.map self.old.files.now) name) }
@@ -53,7 +52,7 @@ impl<F: Files> Files for Configured<'_, F> {
         self.files.get(alloc, name)
     }
 
-    /// Whether a file is there. The configuration is.
+    /// Whether a file is there. The configuration's always is.
     fn has(&mut self, alloc: Global, name: Name) -> Result<bool, FilesError>
         requires { IsTrue (is_file name) }
         ensures value { IsTrue F.tells → IfOk result (λ there. there ≡ is_some (with_config self.old.config.now (F.map self.old.files.now) name)) }
@@ -67,7 +66,7 @@ impl<F: Files> Files for Configured<'_, F> {
         self.files.has(alloc, name)
     }
 
-    /// A place that a walk over the files of a kind may go on at. Of the configuration's kind nothing is left out.
+    /// A place at which a walk over the files of a kind may go on. Nothing of the configuration's kind is skipped.
     fn skip_absent(
         &mut self,
         alloc: Global,

@@ -9,7 +9,7 @@ use ml_address::{cookie, cookie_good};
 use ml_base::Set;
 use ml_config::{Former, Keys};
 
-/// The cookie under the key, for a kind of change of a set at a moment, and what is changed: 20 letters `a` to `p`.
+/// The cookie under the key, for a kind of change of a set, a moment, and what is changed: 20 letters `a` to `p`.
 pub fn new_cookie(keys: &Keys, kind: &[u8], set: Set, moment: u64, what: &[u8]) -> [u8; 20]
     ensures cookie { result ≡ cookie_of keys.now kind.now set moment what.now }
     ensures letters { IsTrue (is_letters result) }
@@ -18,8 +18,8 @@ pub fn new_cookie(keys: &Keys, kind: &[u8], set: Set, moment: u64, what: &[u8]) 
     cookie(&keys.key, kind, set.word(), moment, what)
 }
 
-/// Whether letters are a cookie under the key, or under the former key up to its change, of now or at most 1,000,000 seconds
-/// old.
+/// Whether letters are a cookie under the key, or under the former key up to its change, and the cookie is of this moment or at most
+/// 1,000,000 seconds older.
 pub fn is_good(
     keys: &Keys,
     kind: &[u8],

@@ -1,4 +1,4 @@
-// Whether ids and tickets are left.
+// Whether enough ids and tickets are left for a delivery or a timed run.
 ghost use Rattle.std.specs.Prelude.{◌≡◌, ◌||◌, false, true, IsTrue, IfOk, IfErr};
 ghost use Rattle.ml_base.specs.Dir.{Dir, same_name};
 ghost use Rattle.ml_base.specs.PartErrors.{OnDamaged};
@@ -20,8 +20,8 @@ use std::alloc::Global;
 // The last id that may be the next one: a delivery or a timed run draws fewer than 3,000.
 const LAST_ID: u64 = 999_999_999_997_000;
 
-/// Whether ids or tickets are worn out, so that a delivery or a timed run could draw more than there are. It reads both counters,
-/// or the ids' alone.
+/// Whether ids or tickets are worn out, so that a delivery or a timed run could draw more than there are. It reads the counter of ids, and
+/// that of tickets unless ids are worn out.
 pub fn is_worn<F: Files>(alloc: Global, files: &mut F) -> Result<bool, PartError>
     ensures value { IsTrue F.tells → IfOk result (λ is. (p : Plain) → IsList (F.map files.old) p → is ≡ spec.is_worn p) }
     ensures apart { IsTrue F.tells → IfOk result (λ is. (dir : Dir) (p : Plain) → Alike (λ name. same_name name ids_name || same_name name tickets_name) (F.map files.old) dir → IsList dir p → is ≡ spec.is_worn p) }

@@ -1,4 +1,4 @@
-// An address leaves a set.
+// An address leaves a set: the puts that remove it.
 ghost use Rattle.std.specs.Prelude.{◌≡◌, ◌||◌, true, IsTrue, IfOk, IfErr};
 ghost use Rattle.ml_base.specs.Address.{key};
 ghost use Rattle.ml_base.specs.Dir.{Dir, are_files, touches_only, with_puts};
@@ -18,8 +18,8 @@ use ml_bounce::forget;
 use ml_subs::{Checked, remove_with_memo};
 use std::alloc::Global;
 
-/// Removes an address, in any case of letters, from a set, and its entry from the set's ledger, where the set has one: the puts that
-/// do it, or None where the set doesn't have it. It reads the bucket of the address, and where that has it the set's count and the
+/// Removes an address, in any case of letters, from a set, and its entry from the set's ledger, if the set has one: the puts that
+/// do it, or None if the set doesn't have it. It reads the bucket of the address and, if that has it, the set's count and the
 /// file of the ledger.
 pub fn remove_member<F: Files>(
     alloc: Global,
@@ -40,7 +40,7 @@ pub fn remove_member<F: Files>(
     remove_member_with_memo(alloc, files, &mut Checked::new(alloc), set, who)
 }
 
-/// What `remove_member` does, for one of many changes: the memo is what an earlier one left, or nothing.
+/// What `remove_member` does, for one of many changes. The memo is the one that an earlier change left, or an empty one.
 pub fn remove_member_with_memo<F: Files>(
     alloc: Global,
     files: &mut F,
@@ -64,7 +64,7 @@ pub fn remove_member_with_memo<F: Files>(
     Ok(Some(forgotten(alloc, files, set, who, txn)?))
 }
 
-// The puts that remove an address from a set, and behind them those by which the set's ledger forgets it, where it has one.
+// The puts that remove an address from a set, and after them those by which the set's ledger forgets it, if it has one.
 fn forgotten<F: Files>(
     alloc: Global,
     files: &mut F,

@@ -1,4 +1,4 @@
-// Mails: each is one entry of the queue.
+// Mails that the list sends: each is one entry of the queue.
 ghost use Rattle.std.specs.Prelude.{◌≡◌, ◌∷◌, [], true, IsTrue, IfOk};
 ghost use Rattle.ml_base.specs.Address.{key};
 ghost use Rattle.ml_base.specs.Dir.{Dir, are_files, same_name, touches_only, with_puts};
@@ -22,8 +22,8 @@ use ml_queue::{Out, put};
 use ml_reply::{Mail, text};
 use std::alloc::{AllocError, Global};
 
-/// Puts a body into the queue, to recipients under a path: the puts that do it. The recipients are in ascending order of key, none
-/// twice; they may be nobody. It reads the counter of ids.
+/// Puts a body into the queue, for recipients and under a path: the puts that do it. The recipients are in ascending order of key, none
+/// twice; there may be none. It reads the counter of ids.
 pub fn send<F: Files>(
     alloc: Global,
     files: &mut F,
@@ -77,7 +77,7 @@ fn one(alloc: Global, who: &Address) -> Result<AddressList, AllocError>
     Ok(to)
 }
 
-/// A mail as it is sent at this moment, in seconds since 1970. It takes the mail, so that no call that sends one lets it go.
+/// The text of a mail as it is sent at this moment, in seconds since 1970. It takes the mail, so that its callers needn't drop it.
 pub fn mail_body(
     alloc: Global,
     config: &Config,
@@ -114,7 +114,7 @@ pub fn mail_to<F: Files>(
     send(alloc, files, way, body, to)
 }
 
-/// A mail of this moment to all moderators, who may be nobody: the puts that queue it. It reads the moderators' set but for its
+/// A mail of this moment to all moderators, of whom there may be none: the puts that queue it. It reads the moderators' set without its
 /// count, and the counter of ids.
 pub fn mail_moderators<F: Files>(
     alloc: Global,

@@ -16,7 +16,7 @@ use ml_subs::all;
 use std::alloc::Global;
 
 /// The addresses of a set's members as the recipients of a mail: in ascending order of key, none twice. It reads the set's files
-/// but for its count.
+/// without its count.
 pub fn recipients<F: Files>(
     alloc: Global,
     files: &mut F,

@@ -1,4 +1,4 @@
-// Mail to the members of the set list, who are seldom others than they were at the mail before.
+// Mail to the members of the set list, who seldom change between mails: what a run remembers of them.
 ghost use Rattle.std.specs.Prelude.{◌≡◌, true, IsTrue, IfOk, IfSome};
 ghost use Rattle.ml_base.specs.Address.{key};
 ghost use Rattle.ml_base.specs.Dir.{Dir, are_files, touches_only, with_puts};
@@ -21,8 +21,8 @@ use ml_subs::{Spelling, all_again};
 use std::alloc::Global;
 use std::marker::Model;
 
-/// The files of the set list as they read when a mail last went to its members, and the addresses that they spell: while they read so, these
-/// are neither checked nor sorted again. No answer shows what it holds.
+/// The files of the set list as they read when a mail last went to its members, and the addresses that they spell. As long as the files read
+/// the same, the addresses aren't checked or sorted again. No answer depends on it.
 #[derive(Drop)]
 pub struct MailMemo {
     last: Option<Spelling>,
@@ -47,7 +47,7 @@ impl MailMemo {
     }
 }
 
-// The members of the set list, as they are or as they were before, where the files read the same.
+// The members of the set list: read now, or those of before if the files read the same.
 fn members_again<F: Files>(
     alloc: Global,
     files: &mut F,
@@ -65,8 +65,8 @@ fn members_again<F: Files>(
     all_again(alloc, files, Set::List, before)
 }
 
-/// Puts a body into the queue, to the members of the set list under a path: the puts that do it. It reads the set's files but for its count,
-/// and the counter of ids.
+/// Puts a body into the queue, for the members of the set list and under a path: the puts that do it. It reads the set's files without its
+/// count, and the counter of ids.
 pub fn send_to_list<F: Files>(
     alloc: Global,
     files: &mut F,

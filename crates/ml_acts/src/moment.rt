@@ -1,8 +1,8 @@
-// When an act is done.
+// The time of an act, which is in its range by its type.
 ghost use Rattle.ml_base.specs.Ranges.{IsMoment};
 
-/// Seconds since 1970, before the year 10000. Functions that act take it, so that none says its range; the calls of the parts and those that the
-/// list's owner sees take the seconds.
+/// Seconds since 1970, before the year 10000. Functions that act take this type, so that none of them has to state the range. The calls of
+/// the parts, and those that users of the list call, take the plain seconds.
 #[derive(Clone, Copy)]
 pub struct Moment {
     pub seconds: u64,

@@ -52,7 +52,7 @@ fn numbered(alloc: Global, front: &[u8], number: u64) -> Result<Bytes, AllocErro
     Ok(text)
 }
 
-/// The path of replies.
+/// The path of the list's replies.
 pub fn reply_path(alloc: Global, config: &Config) -> Result<Path, AllocError>
     ensures { IfOk result (λ path. path ≡ spec.reply_path config.now) }
 {
@@ -92,7 +92,7 @@ pub fn bounce_path(
     path(alloc, config, base.as_slice(), true)
 }
 
-// What stands behind LOCAL and a hyphen in the path of a warning or of a probe with this cookie.
+// What follows LOCAL and a hyphen in the path of a warning or of a probe with this cookie.
 fn bounced_base(
     alloc: Global,
     kind: &[u8],
@@ -115,7 +115,7 @@ fn bounced_base(
     Ok(base)
 }
 
-// What stands before the words of requests for a set.
+// What comes before the words of requests for a set.
 fn set_front(set: Set) -> &'static [u8]
     ensures { result.now ≡ front_of set }
 {
@@ -128,7 +128,7 @@ fn set_front(set: Set) -> &'static [u8]
     }
 }
 
-/// What stands behind `To:` in mails to the moderators.
+/// What follows `To:` in mails to the moderators.
 pub fn owner_address(alloc: Global, config: &Config) -> Result<Bytes, AllocError>
     ensures { IfOk result (λ address. address ≡ spec.owner_address config.now) }
 {
@@ -138,7 +138,7 @@ pub fn owner_address(alloc: Global, config: &Config) -> Result<Bytes, AllocError
     Ok(out)
 }
 
-// The word of a confirmation, which is the kind of its cookie too.
+// The word of a confirmation, which is also the kind of its cookie.
 pub fn word_kind(word: Word) -> &'static [u8]
     ensures { result.now ≡ word_text word }
 {
@@ -149,7 +149,7 @@ pub fn word_kind(word: Word) -> &'static [u8]
     }
 }
 
-/// The address that confirms this of an address, made now. The set is one that requests name: any but the moderators'.
+/// The address that confirms this of an address, made now. The set is one that requests name: any except the moderators'.
 pub fn confirm_address(
     alloc: Global,
     config: &Config,

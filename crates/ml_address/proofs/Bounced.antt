@@ -1,4 +1,4 @@
--- The envelope senders that are written of copies are read as the bounces of their recipients.
+-- The envelope sender of a copy, as it is written, is read as a bounce of that copy's recipient.
 use Rattle.std.proofs.Common.{◌≡◌, ℕ, true, false, ◌&&◌, [], ◌∷◌, ◌++◌, Some, refl, ap, ap₂, sym, ◌∙◌, is_ok, append_assoc, append-nil, codes}
 use Rattle.std.specs.Fmt.{decimal}
 use Rattle.ml_base.specs.Bytes.{Text}
@@ -23,7 +23,7 @@ signed time cookie address = record { time = time; cookie = cookie; who = who_at
 signed_is : (address cookie : Text) (time : ℕ) → IsAddress address → is_moment time ≡ true → is_cookie cookie ≡ true → is_signed (signed time cookie address) ≡ true
 signed_is address cookie time a t c = ap₂ (λ p q. p && q) (ap₂ (λ p q. p && q) t c) (parts_are address a)
 
--- LOCAL, a hyphen, words, an address and HOST, joined one way or another
+-- LOCAL, a hyphen, words, an address and HOST, joined in two ways
 regrouped : (local front word value named host : Text) → (((local ++ 45 ∷ (((front ++ word) ++ value) ++ 45 ∷ [])) ++ named) ++ 64 ∷ host) ≡ ((local ++ ((((45 ∷ front) ++ word) ++ value) ++ 45 ∷ named)) ++ 64 ∷ host)
 regrouped local front word value named host = simp append_assoc
 

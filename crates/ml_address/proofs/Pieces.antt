@@ -1,4 +1,4 @@
--- What is spelled of the pieces of a request is read as it.
+-- Each piece of a request (number, letters, address, word) is read back from its spelling.
 use Rattle.std.proofs.Common.{◌≡◌, ℕ, ◌<◌, ◌≤◌, ◌^◌, Bool, true, false, cond, ◌==◌, nat_lt, nat_le, ◌||◌, [], ◌∷◌, ◌++◌, length, take, drop, Option, Some, None, refl, ap, ap₂, sym, ◌∙◌, arith, length-append, append_assoc, append-nil}
 use Rattle.std.specs.Option.{option_map, option_and_then}
 use Rattle.std.specs.List.{list_all}
@@ -22,7 +22,7 @@ use Rattle.ml_address.specs.Writing.{who_text, ticket_text, signed_text, behind_
 use Rattle.ml_address.proofs.Tables.{length-lower}
 use Rattle.ml_base.proofs.AddressParts.{who_parts}
 
--- a word in any case of letters, with anything behind it
+-- a word in any case of letters, with anything after it
 pub word_alike : (word spelled rest : Text) → lower spelled ≡ lower word → after_word word (spelled ++ rest) ≡ Some rest
 word_alike word spelled rest e =
     let same : length spelled ≡ length word = sym (length-lower spelled) ∙ ap length e ∙ length-lower word in
@@ -31,9 +31,6 @@ word_alike word spelled rest e =
     let alike : str_eq_ignore_ascii_case spelled word ≡ true = (bytes_decides _ _).1 e in
     let behind : drop (length word) (spelled ++ rest) ≡ rest = drop_at spelled rest (length word) same in
     rw (long, front, alike, behind)
-
-pub word_there : (word rest : Text) → after_word word (word ++ rest) ≡ Some rest
-word_there word rest = word_alike word word rest refl
 
 passes : {A : Type 0} (test : A → Bool) (a : A) → test a ≡ true → only_if test a ≡ Some a
 passes test a e = ap (λ t. cond t (Some a) None) e
@@ -51,7 +48,7 @@ ticket_read n e =
 pub moment_read : (n : ℕ) → is_moment n ≡ true → moment_number (decimal n) ≡ Some n
 moment_read n e = let low = ltb-true n 253_402_300_800 e in number_read 253_402_300_799 n (omega arith) (omega arith)
 
--- a byte that is no digit isn't in a number
+-- a byte that isn't a digit isn't in a number
 not_digit : (b x : ℕ) → is_ascii_digit b ≡ true → is_ascii_digit x ≡ false → (b == x) ≡ false
 not_digit b x digit other = go (b == x) refl
   where

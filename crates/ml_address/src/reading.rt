@@ -1,4 +1,4 @@
-// The grammar of requests: what a recipient asks. Words match in any case of ASCII letters.
+// The grammar of requests: reads what a recipient asks. Words match in any case of ASCII letters.
 ghost use Rattle.std.specs.Prelude.{◌≡◌, ◌≢◌, nat_lt, ◌==◌, ◌<◌, ◌+◌, ◌^◌, ℕ, Some, None, IfSome, Bool, length, unwrap_or};
 ghost use Rattle.std.specs.Option.{option_map, option_copied, option_and_then};
 ghost use Rattle.std.specs.List.{list_all};
@@ -25,9 +25,9 @@ pub(crate) struct Signed<'a> {
     pub(crate) who: Who<'a>,
 }
 
-/// What a recipient asks of the list LOCAL@HOST: None where it is not the list's, and Other where it is the list's and
-/// no row of the grammar has it. The parts of an address are the recipient's own bytes, at the place where the request
-/// has them: behind LOCAL, its words and what stands before the address, and in front of the `@`. It takes no memory.
+/// What a recipient asks of the list LOCAL@HOST: None if it isn't the list's, and Other if it is the list's but no row
+/// of the grammar has it. The parts of an address that it names are the recipient's own bytes, between the words of the
+/// request and the `@`. It takes no memory.
 pub fn read_request<'a>(local: &[u8], host: &[u8], recipient: &'a [u8]) -> Option<Request<'a>>
     ensures value { option_map request_view result ≡ request_of local.now host.now recipient.now }
     ensures places { IfSome result (λ r. request_view r ≢ Other → IsSpelling local.now host.now (request_view r) recipient.now) }
@@ -45,7 +45,7 @@ fn found_request<'a>(local: &[u8], host: &[u8], recipient: &'a [u8]) -> Option<R
     rest_request(rest)
 }
 
-// What stands behind LOCAL before the `@`, where HOST stands behind it.
+// What comes between LOCAL and the `@`, if HOST comes after that.
 fn local_rest<'a>(local: &[u8], host: &[u8], before: &'a [u8], behind: &[u8]) -> Option<&'a [u8]>
     ensures { option_copied result ≡ spec.local_rest local.now host.now (before.now, behind.now) }
 {
@@ -56,7 +56,7 @@ fn local_rest<'a>(local: &[u8], host: &[u8], before: &'a [u8], behind: &[u8]) ->
     }
 }
 
-// What stands behind a word, in any case of letters, at the front of a text.
+// What comes after a word, in any case of letters, at the beginning of a text.
 fn after_word<'a>(word: &[u8], text: &'a [u8]) -> Option<&'a [u8]>
     ensures { option_copied result ≡ spec.after_word word.now text.now }
 {
@@ -71,7 +71,7 @@ fn after_word<'a>(word: &[u8], text: &'a [u8]) -> Option<&'a [u8]>
     }
 }
 
-// What stands behind LOCAL: nothing, or a hyphen and a request.
+// What comes after LOCAL: nothing, or a hyphen and a request.
 fn rest_request(text: &[u8]) -> Option<Request<'_>>
     ensures { option_map request_view result ≡ spec.rest_request text.now }
 {
@@ -154,14 +154,14 @@ fn set_request(set: Set, text: &[u8]) -> Option<Request<'_>>
     None
 }
 
-// This request, where nothing follows.
+// This request, if nothing follows.
 fn ends<'a>(request: Request<'a>, text: &[u8]) -> Option<Request<'a>>
     ensures { option_map request_view result ≡ spec.ends (request_view request.entry) text.now }
 {
     if text.is_empty() { Some(request) } else { None }
 }
 
-// Behind `subscribe`: nothing, or a hyphen and an address.
+// After `subscribe`: nothing, or a hyphen and an address.
 fn subscribe(set: Set, text: &[u8]) -> Option<Request<'_>>
     ensures { option_map request_view result ≡ spec.may_name (requests.Subscribe set) text.now }
 {
@@ -175,7 +175,7 @@ fn subscribe(set: Set, text: &[u8]) -> Option<Request<'_>>
     })
 }
 
-// Behind `unsubscribe`: nothing, or a hyphen and an address.
+// After `unsubscribe`: nothing, or a hyphen and an address.
 fn unsubscribe(set: Set, text: &[u8]) -> Option<Request<'_>>
     ensures { option_map request_view result ≡ spec.may_name (requests.Unsubscribe set) text.now }
 {
@@ -251,7 +251,7 @@ fn reject(text: &[u8]) -> Option<Request<'_>>
     Some(Request::Reject { ticket, cookie })
 }
 
-// Behind `return-`: nothing, a warning's or a probe's bounce, or a number, a hyphen and an address.
+// After `return-`: nothing, a warning's or a probe's bounce, or a number, a hyphen and an address.
 fn bounce(set: Set, text: &[u8]) -> Option<Request<'_>>
     ensures { option_map request_view result ≡ spec.bounce_of set text.now }
 {
@@ -360,7 +360,7 @@ fn cookie_letters(text: &[u8]) -> Option<[u8; 20]>
     Some(cookie)
 }
 
-// An address whose `@` is written as `=`, read at the last `=`.
+// An address with `=` for its `@`, read at the last `=`.
 pub(crate) fn who_of(text: &[u8]) -> Option<Who<'_>>
     ensures { option_map who_view result ≡ spec.who_of text.now }
 {
@@ -372,7 +372,7 @@ pub(crate) fn who_of(text: &[u8]) -> Option<Who<'_>>
     }
 }
 
-// A hyphen and an address behind it.
+// A hyphen and then an address.
 fn who_behind(text: &[u8]) -> Option<Who<'_>>
     ensures { option_map who_view result ≡ spec.who_behind text.now }
 {

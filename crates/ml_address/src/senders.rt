@@ -1,4 +1,4 @@
-// Envelope senders that name their recipients (Bernstein's VERP).
+// Envelope senders that name their recipients (Bernstein's VERP): written for a copy, and read from a bounce.
 ghost use Rattle.std.specs.Prelude.{◌≡◌, ◌++◌, IfOk, OnOk};
 ghost use Rattle.ml_address.specs.Paths as spec;
 
@@ -7,8 +7,8 @@ use crate::reading::who_of;
 use ml_base::{Address, Bytes};
 use std::alloc::{AllocError, Global};
 
-/// The envelope sender of a copy to this recipient: `base`, where `each` is set the recipient with its `@` written as
-/// `=`, then `@` and `host` (Bernstein's note on VERP). The one error is want of memory.
+/// The envelope sender of a copy to this recipient: `base`, then the recipient with `=` for its `@` if `each` is set,
+/// then `@` and `host` (Bernstein's note on VERP). The only error is lack of memory.
 pub fn verp(alloc: Global, path: &Path, to: &Address) -> Result<Bytes, AllocError>
     ensures { IfOk result (λ sender. sender ≡ spec.verp path.now to.now) }
 {
@@ -31,7 +31,7 @@ fn sender_len(path: &Path, to: &Address) -> usize {
         .saturating_add(1)
 }
 
-// Adds an address with its `@` written as `=`.
+// Adds an address with `=` for its `@`.
 fn add_with_equals(out: &mut Bytes, address: &Address) -> Result<(), AllocError>
     ensures { OnOk result (out.new ≡ out.old ++ spec.with_equals address.now) }
 {
@@ -40,7 +40,7 @@ fn add_with_equals(out: &mut Bytes, address: &Address) -> Result<(), AllocError>
     out.extend(address.host())
 }
 
-/// The place of the last `=`, or None where the text with that byte as `@` is no address. It takes no memory.
+/// The place of the last `=`, or None if the text with `@` for that `=` is no address. It takes no memory.
 pub fn unverp(text: &[u8]) -> Option<usize>
     ensures { result ≡ spec.unverp text.now }
 {

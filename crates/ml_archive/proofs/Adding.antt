@@ -1,4 +1,4 @@
--- Numbers that are added under keys.
+-- How the numbers of posts are collected under the keys of their subjects, group after group.
 use Rattle.std.proofs.Common.{◌≡◌, ◌≤◌, ◌+◌, ℕ, Bool, true, false, cond, List, [], ◌∷◌, ◌++◌, length, Option, Some, None, refl, sym, ap, ap₂, ◌∙◌, subst, arith, append-nil}
 use Rattle.std.specs.Prelude.{unwrap_or, Vec}
 use Rattle.std.specs.BTreeMap.{insert_entry}
@@ -41,7 +41,7 @@ tested a b false e = is_eq-slice_cmp b a ∙ other (bytes_eq b a) refl
     other false is = is
     other true is = absurd (let bad : true ≡ false = sym ((bytes_eq-Decides a b).1 (sym ((bytes_eq-Decides b a).0 is))) ∙ e in cc)
 
--- a key that was taken out leaves the others
+-- taking a key out leaves the others as they are
 left_at : (a k : Text) (ps : Pairs) → bytes_eq a k ≡ false → at k (without a ps) ≡ at k ps
 left_at a k [] apart = refl
 left_at a k (p ∷ ps) apart = go (is_eq (byte_cmp a p.0.items)) refl (left_at a k ps apart)
@@ -55,7 +55,7 @@ left_at a k (p ∷ ps) apart = go (is_eq (byte_cmp a p.0.items)) refl (left_at a
     go true e later = sym (ap (λ t. cond t (Some p.1) (at k ps)) (here e))
     go false e later = ap (λ (o : Option (List ℕ)). cond (is_eq (byte_cmp k p.0.items)) (Some p.1) o) later
 
--- one that was put in is found, and so are the others
+-- a key that was put in is found, and so are the others
 put_at : (k : Text) (q : Vec ℕ Global) (v : List ℕ) (ps : Pairs) → at k (insert_entry order ps q v) ≡ cond (is_eq (byte_cmp k q.items)) (Some v) (at k ps)
 put_at k q v [] = refl
 put_at k q v (p ∷ ps) = go (byte_cmp q.items p.0.items) refl (put_at k q v ps)
@@ -107,7 +107,7 @@ took_some o ns found is same = same ∙ sym (ap (λ (o : Option (List ℕ)). unw
 pub took_none : (o : Option (List ℕ)) (ns new : List ℕ) → o ≡ None → ns ≡ new → new ≡ [] → ns ≡ unwrap_or o []
 took_none o ns new is same none = same ∙ none ∙ sym (ap (λ (o : Option (List ℕ)). unwrap_or o []) is)
 
--- the entries of one group more
+-- the numbers with the entries of one more group
 numbers_on : (prefix k : Text) (n m : ℕ) (xs ys : List Entry) → m ≡ n + length xs → key_numbers prefix k n (xs ++ ys) ≡ key_numbers prefix k n xs ++ key_numbers prefix k m ys
 numbers_on prefix k n m [] ys e = let same : n ≡ m = omega (arith, e) in ap (λ (j : ℕ). key_numbers prefix k j ys) same
 numbers_on prefix k n m (x ∷ xs) ys e = go (bytes_eq (subject_key prefix x.subject) k) (numbers_on prefix k (n + 1) m xs ys (omega (arith, e)))
@@ -122,7 +122,7 @@ joined_twice [] ys = refl
 joined_twice (x ∷ xs) [] = ap (λ (t : List ℕ). Some (x ∷ t)) (sym (append-nil xs))
 joined_twice (x ∷ xs) (y ∷ ys) = refl
 
--- a key whose file is none of these is none of theirs
+-- if one key's file is among these and another's isn't, the keys differ
 pub apart : (places : Places) (key k : Text) → ¬ HasPlace places key → HasPlace places k → bytes_eq key k ≡ false
 apart places key k out inside = go (bytes_eq key k) refl
   where

@@ -1,4 +1,5 @@
--- Where the archive stands up to its number of posts, no file breaks it; and where an audit finds none, it stands.
+-- If the archive stands for posts up to their number, no file breaks it; and if an audit finds nothing, the archive
+-- stands for posts.
 use Rattle.std.proofs.Common.{◌≡◌, ◌<◌, ◌≤◌, ◌+◌, ◌/◌, ◌==◌, ℕ, zero, suc, List, [], ◌∷◌, length, map, slice_get, Option, Some, None, refl, sym, ap, ◌∙◌, subst, arith, ◌⊎◌, inl, inr}
 use Rattle.std.specs.Prelude.{unwrap_or, IsTrue}
 use Rattle.std.specs.List.{AllByRecursion, IsAmong}
@@ -27,7 +28,7 @@ use Rattle.ml_archive.proofs.Keyed.{no_other, thread_file, under_keys}
 use Rattle.ml_archive.proofs.Sized.{all_entries}
 use Rattle.ml_archive.proofs.Posted.{group_there, index_full, index_none, keys_made, kept_index, kept_post, no_index, past_index, past_post, post_past, posts_filed, posts_long, posts_of, total}
 
--- an archive that stands whole stands up to its number
+-- an archive that stands for posts also does so up to their number
 pub whole_counted : (dir : Dir) (prefix : Text) (posts : List Post) → IsArchive dir prefix posts → IsCountedArchive dir prefix posts
 whole_counted dir prefix posts is = record {
   filed = record {
@@ -61,7 +62,7 @@ whole_counted dir prefix posts is = record {
         go (inl less) = subst (λ (o : Option Text). IsIndexFile g o (index_of g posts)) (sym (past_index (length posts) g dir less)) (no_index g (index_of g posts) (index_none g posts less))
         go (inr le) = subst (λ (o : Option Text). IsIndexFile g o (index_of g posts)) (sym (kept_index (length posts) g dir le)) ((is.filed).indexes g there)
 
--- an entry of a group is of one of the posts
+-- an entry of a group is the entry of one of the posts
 entry_one : (posts : List Post) (xs : List Numbered) (e : Entry) → AllByRecursion (IsOne posts) xs → IsAmong (map entry xs) e → (x : Numbered) × IsOne posts x × (e ≡ entry x)
 entry_one posts [] e all (i, (less, at)) = absurd (omega (arith, less))
 entry_one posts (x ∷ xs) e all (zero, (less, at)) = (x, all.0, at)
@@ -141,7 +142,7 @@ module _ (dir : Dir) (prefix : Text) (count : ℕ) (places : Places) (keys : Key
     (posts_of dir 1 below.0, posts_filed dir count below.0 counted below.1, no_other prefix below.0 places keys (below.1).numbered few_entries below.2 ordered dir n (dir (thread_name n)) inside other),
   ))
 
--- posts whose groups are whole and whose thread files are right are an archive
+-- if the groups of posts are whole and their thread files are right, they are an archive
 module _ (dir : Dir) (prefix : Text) (count : ℕ) (are : ArePosted dir count) (right : (n : ℕ) → n < 256 → HasThreads dir prefix n) where
   abbrev entries : (es : List Entry) × AreEntries dir count (groups_of count) es
   entries = all_entries dir count (groups_of count) (λ g less. group_there count g (groups_of count) refl less) are.groups

@@ -1,4 +1,4 @@
--- The threads that keys with numbers make.
+-- The threads that the collected keys and numbers make.
 use Rattle.std.proofs.Common.{◌≡◌, ◌≢◌, ◌<◌, ◌≤◌, ◌+◌, ◌^◌, ℕ, Bool, true, false, cond, ◌==◌, ◌&&◌, List, [], ◌∷◌, length, map, filter, Option, Some, None, refl, sym, ap, ◌∙◌, subst, arith}
 use Rattle.std.specs.Prelude.{unwrap_or, Vec}
 use Rattle.std.specs.List.{AllByRecursion, flat_map, list_all}
@@ -36,7 +36,7 @@ numbers_rise prefix k n high (e ∷ es) le = go (bytes_eq (subject_key prefix e.
     go true more = (omega arith, omega (arith, le), more)
     go false more = rising_lower (n + 1) n high (key_numbers prefix k (n + 1) es) (omega arith) more
 
--- a key that has numbers is that of a subject, so it is short
+-- a key that has numbers is the key of a subject, so it is short
 key_is_short : (prefix k : Text) (n : ℕ) (es : List Entry) → AreNumbered n es → 0 < length (key_numbers prefix k n es) → length k < 10 ^ 18
 key_is_short prefix k n [] is some = absurd (omega (arith, some))
 key_is_short prefix k n (e ∷ es) is some = go (bytes_eq (subject_key prefix e.subject) k) refl some (key_is_short prefix k (n + 1) es is.2)
@@ -50,7 +50,7 @@ key_is_short prefix k n (e ∷ es) is some = go (bytes_eq (subject_key prefix e.
         omega (arith, short, entry, size)
     go false other more later = later more
 
--- what stands under a key is found among the threads
+-- the numbers under a key are found among the threads
 abbrev Pairs : Type 0
 Pairs = List (Vec ℕ Global × List ℕ)
 
@@ -64,7 +64,7 @@ found k (p ∷ ps) = go (is_eq (byte_cmp k p.0.items)) (found k ps)
     go true e = refl
     go false e = e
 
--- and among those of its file
+-- and among those of the key's file
 found_at : (n : ℕ) (k : Text) (ts : List Thread) → thread_place k ≡ n → entry_of byte_cmp (λ (t : Thread). t.key) k (filter (λ (t : Thread). thread_place t.key == n) ts) ≡ entry_of byte_cmp (λ (t : Thread). t.key) k ts
 found_at n k [] place = refl
 found_at n k (t ∷ ts) place = go (byte_cmp k t.key) refl (thread_place t.key == n) refl (found_at n k ts place)
@@ -118,7 +118,7 @@ unfolding IsStrictlySortedBy
 in_order [] is = refl
 in_order (p ∷ ps) is = and_from _ _ (key_above p ps is.0) (in_order ps is.1)
 
--- threads of one file that have the same numbers under each of its keys are the same
+-- threads of one file are the same if they have the same numbers under every key of the file
 same_threads : (n : ℕ) (ts us : List Thread) → InOrder ts → InOrder us → AllByRecursion (IsThread n) ts → AllByRecursion (IsThread n) us → ((k : Text) → thread_place k ≡ n → numbers_under k ts ≡ numbers_under k us) → ts ≡ us
 same_threads n ts us one two all each same = same_lists byte_cmp (λ (t : Thread). t.key) same_bytes bytes_total ts us one two (λ k. go k (find k ts) (find k us) refl refl)
   where

@@ -1,4 +1,4 @@
--- The posts that entries and files make.
+-- The posts that the entries of all groups and the posts' files make.
 use Rattle.std.proofs.Common.{◌≡◌, ◌<◌, ◌≤◌, ◌+◌, ◌*◌, ◌/◌, max, min, ℕ, zero, suc, Bool, true, false, cond, ◌==◌, ◌||◌, List, [], ◌∷◌, length, map, filter, slice_get, Option, Some, None, refl, sym, ap, ◌∙◌, subst, arith, ◌⊎◌, inl, inr}
 use Rattle.std.specs.Prelude.{unwrap_or, IsTrue}
 use Rattle.std.specs.List.{AllByRecursion, enumerate_from}
@@ -33,7 +33,7 @@ there_with : (o : Option Text) (size : ℕ) → option_map length o ≡ Some siz
 there_with None size is = absurd (cc)
 there_with (Some text) size is = (refl, (cc))
 
--- what the index says of them is the entries
+-- the entries of these posts are the entries that they were made of
 entries_made : (dir : Dir) (k : ℕ) (es : List Entry) → AreNumbered k es → HaveSizes dir k es → map entry (enumerate_from k (posts_of dir k es)) ≡ es
 entries_made dir k [] is have = refl
 entries_made dir k (e ∷ es) is have = λ i. one i ∷ entries_made dir (k + 1) es is.2 have.1 i
@@ -57,7 +57,7 @@ filter_entries g (x ∷ xs) = go ((x.0 / 100) == g) (filter_entries g xs)
 index_made : (dir : Dir) (g : ℕ) (es : List Entry) → AreNumbered 1 es → HaveSizes dir 1 es → index_of g (posts_of dir 1 es) ≡ filter (λ (e : Entry). (e.number / 100) == g) es
 index_made dir g es is have = filter_entries g (numbered (posts_of dir 1 es)) ∙ ap (filter (λ (e : Entry). (e.number / 100) == g)) (entries_made dir 1 es is have)
 
--- the numbers of the entries of a key are those of its posts
+-- the entries with a key have the same numbers as the posts with this key
 pub keys_made : (dir : Dir) (prefix k : Text) (n : ℕ) (es : List Entry) → key_numbers prefix k n es ≡ numbers (filter (λ (x : Numbered). bytes_eq (key_of prefix x.1) k) (enumerate_from n (posts_of dir n es)))
 keys_made dir prefix k n [] = refl
 keys_made dir prefix k n (e ∷ es) = go (bytes_eq (subject_key prefix e.subject) k) (keys_made dir prefix k (n + 1) es)
@@ -69,7 +69,7 @@ keys_made dir prefix k n (e ∷ es) = go (bytes_eq (subject_key prefix e.subject
     go true e = ap (λ (t : List ℕ). n ∷ t) e
     go false e = e
 
--- the posts are in their ranges, and the files have them
+-- the posts are in their ranges, and the files have their bytes
 all_posts : (dir : Dir) (k : ℕ) (es : List Entry) → AreNumbered k es → HaveSizes dir k es → AllByRecursion IsPost (posts_of dir k es)
 all_posts dir k [] is have = tt
 all_posts dir k (e ∷ es) is have =
@@ -88,7 +88,7 @@ post_past [] i le = refl
 post_past (p ∷ ps) zero le = absurd (omega (arith, le))
 post_past (p ∷ ps) (suc i) le = post_past ps i (omega (arith, le))
 
--- a file up to a number, and past it
+-- a file up to a number of posts, and beyond it
 pub past_post : (count n : ℕ) (dir : Dir) → count < n → up_to count dir (post_name n) ≡ None
 past_post count n dir less = ap (λ t. cond (t || false) None (dir (post_name n))) (lt-ltb count n less)
 
@@ -101,7 +101,7 @@ past_index count g dir less = ap (λ t. cond t None (dir (index_name g))) (lt-lt
 pub kept_index : (count g : ℕ) (dir : Dir) → first_of g ≤ count → up_to count dir (index_name g) ≡ dir (index_name g)
 kept_index count g dir le = ap (λ t. cond t None (dir (index_name g))) (le-ltb count (first_of g) le)
 
--- an index that has no entry is absent
+-- an index without entries may be absent
 pub no_index : (g : ℕ) (es : List Entry) → es ≡ [] → IsIndexFile g None es
 no_index g es none = subst (λ (t : List Entry). IsIndexFile g None t) (sym none) (record { each = tt; numbered = refl; few = omega arith; spelled = refl })
 
@@ -152,7 +152,7 @@ pub group_there : (count g end : ℕ) → end ≡ groups_of count → g < end �
 group_there zero g end is less = absurd (omega (arith, is, less))
 group_there (suc n) g end is less = let some = some_groups n in omega (arith, is, some, less)
 
--- the entries of all groups make the posts that the files stand for, but for the thread files
+-- the entries of all groups make the posts that the files stand for, except for the thread files
 module _ (dir : Dir) (count : ℕ) (es : List Entry) (counted : IsNumberFile (dir number_name) count) (are : AreEntries dir count (groups_of count) es) where
   abbrev posts : List Post
   posts = posts_of dir 1 es

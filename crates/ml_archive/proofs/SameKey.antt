@@ -1,4 +1,4 @@
--- The key of a key is the key.
+-- Taking the key of a key gives the same key.
 use Rattle.std.proofs.Common.{◌≡◌, ◌<◌, ◌≤◌, ℕ, zero, suc, Bool, true, false, cond, ◌&&◌, ◌==◌, [], ◌∷◌, ◌++◌, length, take, drop, Option, Some, None, refl, sym, ap, ap₂, ◌∙◌, subst, arith, codes, length-append, append_assoc, ◌⊎◌, inl, inr}
 use Rattle.std.specs.Char.{is_ascii_digit, to_ascii_lowercase}
 use Rattle.std.specs.Option.{option_and_then, option_or}
@@ -12,7 +12,7 @@ use Rattle.ml_filing.proofs.KeyTurns.{turns_enough, strip_none, front_within, tu
 abbrev space_first : Text → Bool
 space_first text = begins_with (32 ∷ []) text
 
--- Every space, tab, CR or LF is a space, and none stands before another.
+-- Every space, tab, CR or LF is a space, and none comes before another.
 abbrev IsSpaced : Text → Type 0
 IsSpaced [] = Unit {0}
 IsSpaced (b ∷ bs) = ((is_space b ≡ false) ⊎ ((b ≡ 32) × (space_first bs ≡ false))) × IsSpaced bs
@@ -71,7 +71,7 @@ lower_spaced [] is = tt
 lower_spaced (b ∷ bs) (inl other, is) = (inl (low_is b ∙ other), lower_spaced bs is)
 lower_spaced (b ∷ bs) (inr (same, alone), is) = (inr (ap to_ascii_lowercase same, low_first bs alone), lower_spaced bs is)
 
--- what a squeezed text in lower case with no space at its end is, and each end of it
+-- a squeezed text in lower case with no space at its end, and texts cut from it
 abbrev IsTidy : Text → Type 0
 IsTidy text = IsSpaced text × (without_end text ≡ text) × (lower text ≡ text)
 
@@ -95,7 +95,7 @@ tidy_behind : (front rest : Text) → IsTidy (front ++ rest) → IsTidy rest
 tidy_behind [] rest is = is
 tidy_behind (b ∷ bs) rest is = tidy_behind bs rest (is.0.1, end_rest b (bs ++ rest) is.1, lower_rest b (bs ++ rest) is.2)
 
--- what stands behind a mark is the text without some bytes at its front
+-- what comes after a mark is the text without some bytes at its beginning
 abbrev IsBehind : Text → Option Text → Type 0
 IsBehind text None = Unit {0}
 IsBehind text (Some rest) = (front : Text) × (0 < length front) × (text ≡ front ++ rest)
@@ -158,7 +158,7 @@ front_tidy (b ∷ bs) is = go (b == 32) (front_tidy bs (tidy_behind (b ∷ []) b
     go true more = more
     go false more = is
 
--- a text whose key it is
+-- a text that is its own key
 abbrev IsKey : Text → Text → Type 0
 IsKey prefix text = IsTidy text × (without_front text ≡ text) × (stripped (length text) prefix text ≡ text)
 
@@ -178,7 +178,7 @@ stripped_key (suc turns) prefix text le is front =
         let whole : length text ≡ length (mark ++ rest) = ap length cut in
         later (without_front rest) (omega (arith, long, short, whole, le, some)) (front_tidy rest (tidy_behind mark rest (subst (λ (t : Text). IsTidy t) cut is))) (front_twice rest)
 
--- the text that marks are taken off of
+-- the text that marks are taken off from
 end_twice : (text : Text) → without_end (without_end text) ≡ without_end text
 end_twice [] = refl
 end_twice (b ∷ bs) = go (b == 32 && is_empty (without_end bs)) refl (end_twice bs)

@@ -1,4 +1,4 @@
--- The entries of groups, one after the other, each with its post.
+-- The entries of all groups, one after another, each with a post of its size.
 use Rattle.std.proofs.Common.{◌≡◌, ◌≢◌, ◌<◌, ◌≤◌, ◌+◌, ◌/◌, ℕ, zero, suc, cond, ◌==◌, List, [], ◌∷◌, ◌++◌, length, map, filter, refl, sym, ap, ◌∙◌, subst, arith, append-nil, length-append, ◌⊎◌, inl, inr}
 use Rattle.std.specs.List.{AllByRecursion, IsAmong, range_with_len}
 use Rattle.std.proofs.lemmas.Bool.{cases_lt, eq-eqb, ne_eqb}
@@ -13,7 +13,7 @@ use Rattle.ml_archive.specs.Counted.{first_of}
 use Rattle.ml_filing.proofs.Exact.{index_one}
 use Rattle.ml_archive.specs.Found.{AreEntries, AreNumbered, AreWhole, HasWhole, HaveSizes, IsWhole, LacksSize}
 
--- an index has its group's numbers
+-- the entries of an index have the numbers of its group
 pub index_numbered : (k : ℕ) (es : List Entry) → AllByRecursion IsEntry es → map (λ (e : Entry). e.number) es ≡ range_with_len k (length es) → AreNumbered k es
 index_numbered k [] all is = tt
 index_numbered k (e ∷ es) all is = (ap first is, all.0, index_numbered (k + 1) es all.1 (ap rest is))
@@ -45,7 +45,7 @@ sizes_on dir k m (x ∷ xs) new e one two = (one.0, sizes_on dir (k + 1) m xs ne
 abbrev in_group : ℕ → List Entry → List Entry
 in_group g es = filter (λ (e : Entry). (e.number / 100) == g) es
 
--- entries below a group, in it, or behind another
+-- which entries of a row are of a group, by their numbers
 none_of : (g k : ℕ) (es : List Entry) → AreNumbered k es → ((n : ℕ) → k ≤ n → n < k + length es → n / 100 ≢ g) → in_group g es ≡ []
 none_of g k [] is out = refl
 none_of g k (e ∷ es) is out =
@@ -98,7 +98,7 @@ module _ (dir : Dir) (count g : ℕ) (es new : List Entry) (there : first_of g �
           (subst (λ (t : List Entry). IsIndexFile h (dir (index_name h)) t) (sym (all_of h (first_of g) new numbers (λ n low high. in_new n low high ∙ sym same)))
           (subst (λ (j : ℕ). IsIndexFile j (dir (index_name j)) new) (sym same) whole.index))
 
--- the entries of all groups below one
+-- the entries of all groups below a given one
 pub all_entries : (dir : Dir) (count g : ℕ) → ((h : ℕ) → h < g → first_of h ≤ count) → AreWhole dir count g → (es : List Entry) × AreEntries dir count g es
 all_entries dir count zero there whole = ([], no_entries dir count)
 all_entries dir count (suc g) there whole =
@@ -111,12 +111,7 @@ all_entries dir count (suc g) there whole =
 pub whole_read : (dir : Dir) (count g : ℕ) (es : List Entry) → HasWhole dir count g → IsIndexFile g (dir (index_name g)) es → IsWhole dir count g es
 whole_read dir count g es (entries, whole) index = subst (λ (t : List Entry). IsWhole dir count g t) (index_one g (dir (index_name g)) entries es whole.index index) whole
 
--- an index that has been read
-pub index_read : (dir : Dir) (count g : ℕ) (es : List Entry) → first_of g ≤ count → count ≤ 99_999_999 → IsIndexByFiles dir g es → IsIndexFile g (dir (index_name g)) es
-index_read dir count g es there few (inl (less, is)) = is
-index_read dir count g es there few (inr (past, none)) = absurd (omega (arith, past, there, few))
-
--- and it has an entry of another size
+-- and if an entry gives another size than its post has, that index is damaged
 pub sizes_bad : (dir : Dir) (count g : ℕ) (name : Name) (es entries : List Entry) → name ≡ index_name g → IsIndexFile g (dir (index_name g)) es → entries ≡ es → LacksSize dir (first_of g) entries → IsBadGroup dir count g name
 sizes_bad dir count g name es entries named index same lacks =
     inr (named, inr (es, index, lacks_among dir (first_of g) es (index_numbered (first_of g) es index.each index.numbered) (subst (λ (t : List Entry). LacksSize dir (first_of g) t) same lacks)))

@@ -1,4 +1,4 @@
-// Whether the files of the archive agree.
+// Checks whether the files of the archive agree.
 ghost use Rattle.std.specs.Prelude.{List, IsTrue, IfErr, OnOk};
 ghost use Rattle.ml_base.specs.PartErrors.{OnDamaged};
 ghost use Rattle.ml_base.specs.ReadFiles.{IsReading, NamesDamaged};
@@ -13,9 +13,9 @@ use ml_base::{Files, PartError};
 use ml_filing::count;
 use std::alloc::Global;
 
-/// Whether the files of the archive of a list with this prefix stand for posts, but for those that are past their number: the posts
-/// behind it, and the indexes of groups whose first post is. It reads the number, the indexes of all groups that have a post, each
-/// post and all thread files, and names the first file that breaks this.
+/// Whether the files of the archive of a list with this prefix stand for posts. Files beyond the number of posts are
+/// left out: posts with a higher number, and indexes of groups whose first post has one. It reads the number, the
+/// indexes of all groups that have a post, every post and all thread files, and names the first file that is wrong.
 pub fn audit<F: Files>(alloc: Global, files: &mut F, prefix: &[u8]) -> Result<(), PartError>
     ensures ok { IsTrue F.tells → OnOk result ((posts : List Post) × IsCountedArchive (F.map files.old) prefix.now posts) }
     ensures names { NamesDamaged ⟦<F as Files>⟧ IsAuditName (Breaks (F.map files.old) prefix.now) result }

@@ -1,4 +1,4 @@
-// The groups of posts, one after the other.
+// Checks the groups of posts, one after another.
 ghost use Rattle.std.specs.Prelude.{◌≡◌, ◌<◌, ◌≤◌, ◌+◌, ◌*◌, ◌/◌, max, min, ℕ, length, IsTrue, IfOk, OnOk, true, false};
 ghost use Rattle.ml_base.specs.ReadFiles.{IsReading, NamesDamaged};
 ghost use Rattle.ml_filing.specs.Answers.{IsOtherSize};
@@ -21,7 +21,7 @@ pub(crate) fn first_number(group: u64) -> u64
     (100 * group).max(1)
 }
 
-// How many of so many posts a group has, which has its first.
+// How many posts a group has if there are `count` posts; its first post is there.
 fn group_len(group: u64, count: u64) -> u64
     requires group { first_of group ≤ count }
     requires count { count ≤ 99_999_999 }
@@ -30,7 +30,7 @@ fn group_len(group: u64, count: u64) -> u64
     (count + 1).min(100 * group + 100) - first_number(group)
 }
 
-// Whether the post of this number, which is in a group, is there with this many bytes.
+// Whether the post with this number, of this group, is there with this many bytes.
 fn audit_size<F: Files>(
     alloc: Global,
     files: &mut F,
@@ -50,7 +50,7 @@ fn audit_size<F: Files>(
     }
 }
 
-// Whether each post of a group has the size that its entry says.
+// Whether every post of a group has the size that its entry says.
 fn audit_sizes<F: Files>(
     alloc: Global,
     files: &mut F,
@@ -95,7 +95,7 @@ pub(crate) fn full_index<F: Files>(
     }
 }
 
-// Whether a group has an entry for each of its posts, with that post's size.
+// Whether a group has an entry for every one of its posts, with that post's size.
 fn audit_group<F: Files>(
     alloc: Global,
     files: &mut F,
@@ -112,7 +112,7 @@ fn audit_group<F: Files>(
     audit_sizes(alloc, files, group, entries.as_slice())
 }
 
-// How many groups so many posts are in.
+// How many groups a number of posts is in.
 pub(crate) fn groups_of(count: u64) -> u64
     requires { count ≤ 99_999_999 }
     ensures { result ≡ found.groups_of count }
@@ -120,7 +120,7 @@ pub(crate) fn groups_of(count: u64) -> u64
     if count == 0 { 0 } else { count / 100 + 1 }
 }
 
-// Whether each group that has a post has an entry for each of its posts, with that post's size.
+// Whether every group that has a post has an entry for every one of its posts, with that post's size.
 pub(crate) fn audit_groups<F: Files>(
     alloc: Global,
     files: &mut F,

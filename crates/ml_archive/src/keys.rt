@@ -1,4 +1,4 @@
-// The numbers of posts under the keys of their subjects.
+// Collects the numbers of posts under the keys of their subjects.
 ghost use Rattle.std.specs.Prelude.{◌≡◌, ◌<◌, ◌≤◌, ◌+◌, ◌%◌, ℕ, [], ◌∷◌, ◌++◌, length, true, IsTrue, OnOk, IfOk, ◌↔◌, if◌then◌else◌};
 ghost use Rattle.std.specs.Str.{bytes_eq};
 ghost use Rattle.ml_base.specs.Bytes.{Text};
@@ -15,7 +15,7 @@ use ml_filing::{Entry, subject_key};
 use std::alloc::{AllocError, Global};
 use std::collections::BTreeMap;
 
-// Thread files: those whose numbers are from one on and below another.
+// Some thread files: those with numbers from `from` on and below `to`.
 #[derive(Clone, Copy)]
 pub(crate) struct Places {
     pub(crate) from: usize,
@@ -39,10 +39,10 @@ pub(crate) fn place_of(key: &[u8]) -> u8
     (hash(key) % 256) as u8
 }
 
-// Keys of subjects, and the numbers that stand under each.
+// Keys of subjects, with the numbers under each.
 pub(crate) type Keys = BTreeMap<Vec<u8>, Numbers>;
 
-// Adds a number under a key, behind those that are there.
+// Adds a number under a key, after those that are there.
 fn add_number(alloc: Global, keys: &mut Keys, key: &[u8], number: u64) -> Result<(), AllocError>
     ensures ordered { OnOk result (AreOrdered keys.new) }
     ensures value { OnOk result ((k : Text) → numbers_at k keys.new ≡ (if bytes_eq key.now k then with_numbers (numbers_at k keys.old) (number ∷ []) else numbers_at k keys.old)) }
@@ -56,7 +56,7 @@ fn add_number(alloc: Global, keys: &mut Keys, key: &[u8], number: u64) -> Result
     Ok(())
 }
 
-// Adds a number under a key, where the key's file is one of these.
+// Adds a number under a key, if the key's file is one of these.
 fn add_placed(
     alloc: Global,
     keys: &mut Keys,
@@ -73,7 +73,8 @@ fn add_placed(
     add_number(alloc, keys, key, number)
 }
 
-// Adds the numbers of a group's posts, from its first on, each under the key of its subject, where the key's file is one of these.
+// Adds the numbers of a group's posts, from its first on, each under the key of its subject, if the key's file is one
+// of these.
 fn add_entries(
     alloc: Global,
     keys: &mut Keys,
@@ -97,7 +98,7 @@ fn add_entries(
     Ok(())
 }
 
-// The numbers of the posts under the keys of their subjects, of the keys whose files are these.
+// The numbers of all posts under the keys of their subjects, for the keys whose files are these.
 pub(crate) fn keys_of<F: Files>(
     alloc: Global,
     files: &mut F,

@@ -12,9 +12,6 @@ use Rattle.ml_base.proofs.SplitLaws.{last_written, last_read}
 no_sign : (b : ℕ) → is_host_byte b ≡ true → (b == 64) ≡ false
 no_sign b h = grind (arith, nat_tests)
 
-no_sign_before : (b : ℕ) → is_local_byte b ≡ true → (b == 64) ≡ false
-no_sign_before b h = grind (arith, nat_tests)
-
 -- a host has no `@`
 pub no_at : (host : Text) → list_all is_host_byte host ≡ true → has_byte 64 host ≡ false
 no_at [] e = refl
@@ -38,7 +35,7 @@ same_cut (x ∷ a) (y ∷ l) b h locals hosts e =
     let rest : a ++ 64 ∷ b ≡ l ++ 64 ∷ h = cc in
     same_cut a l b h (both (is_local_byte x) (list_all is_local_byte a) locals).1 hosts rest
 
--- what is split so is an address where its parts are
+-- a text that is split so is an address if its parts are
 tested : (text l h : Text) → split_last 64 text ≡ Some (l, h) → length text ≡ length l + length h + 1 → is_ok (address_check text) ≡ are_parts l h
 tested text l h cut len = go (nat_lt 400 (length text)) refl (is_empty l || is_empty h) refl (list_all is_local_byte l) refl (list_all is_host_byte h) refl
   where
@@ -57,7 +54,7 @@ tested text l h cut len = go (nat_lt 400 (length text)) refl (is_empty l || is_e
 len_of : (l h : Text) → length (l ++ 64 ∷ h) ≡ length l + length h + 1
 len_of l h = omega (arith, length-append l (64 ∷ h))
 
--- parts of which the test holds are allowed
+-- parts that pass the test are allowed
 allowed : (l h : Text) → are_parts l h ≡ true → (list_all is_local_byte l ≡ true) × (list_all is_host_byte h ≡ true)
 allowed l h e =
     let last = both _ (list_all is_host_byte h) e in
@@ -68,7 +65,7 @@ and_false : (a : Bool) → (a && false) ≡ false
 and_false true = refl
 and_false false = refl
 
--- they are tested apart
+-- the two tests agree
 pub who_parts : (l h : Text) → make_address l h ≡ are_parts l h
 who_parts l h = go (list_all is_host_byte h) refl
   where

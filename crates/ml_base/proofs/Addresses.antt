@@ -11,7 +11,7 @@ use Rattle.ml_base.specs.declared.address.AddressFault.TheVariants.{TooLong, NoA
 use Rattle.ml_base.specs.Address.{is_local_byte, is_host_byte, address_check, address_of, as_address, local_of, host_of, before_at, behind_at, IsAddress, IsAddressAt, key}
 use Rattle.ml_base.proofs.Bools.{both, neither}
 
--- lower case keeps each byte that a host has
+-- lower case keeps every byte that a host may have
 lower_host : (b : ℕ) → is_host_byte b ≡ true → is_host_byte (to_ascii_lowercase b) ≡ true
 lower_host b h = grind (arith, nat_tests)
 
@@ -22,7 +22,7 @@ lower_again : (bs : Text) → lower (lower bs) ≡ lower bs
 lower_again [] = refl
 lower_again (b ∷ bs) = ap₂ (λ c cs. c ∷ cs) (lower_twice b) (lower_again bs)
 
--- and each that a local part has
+-- and every byte that a local part may have
 lower_local : (b : ℕ) → is_local_byte b ≡ true → is_local_byte (to_ascii_lowercase b) ≡ true
 lower_local b h = grind (arith, nat_tests)
 
@@ -57,7 +57,7 @@ cut local host = Some (local, host)
 abbrev uncut : Option (Text × Text)
 uncut = None
 
--- what is split was put together of its parts
+-- what is split was put together from its parts
 cut_whole : (text local host : Text) → split_last 64 text ≡ Some (local, host) → text ≡ local ++ 64 ∷ host
 cut_whole [] local host e = let bad : uncut ≡ cut local host = e in cc
 cut_whole (b ∷ bs) local host e = go (cut_whole bs) (split_last 64 bs) refl (b == 64) refl
@@ -122,7 +122,7 @@ kept_parts text local host p =
       hosts = lower_all is_host_byte lower_host host p.hosts;
     }
 
--- they make an address, with its `@` behind the local part
+-- they make an address, with its `@` after the local part
 kept_is : (text local host : Text) → Parted text local host → IsAddressAt (local ++ 64 ∷ lower host) (length local)
 kept_is text local host p =
     let kept = kept_parts text local host p in
@@ -203,7 +203,7 @@ none_of p h (b ∷ bs) e =
     let parts = both (p b) (list_all p bs) e in
     ap (λ t. t || list_any is_nul bs) (h b parts.0) ∙ none_of p h bs parts.1
 
--- an address that is kept has its `@` behind its local part
+-- an address that is kept has its `@` after its local part
 pub kept_at : (text local host : Text) → IsAddress text → Some (local, host) ≡ split_last 64 text → IsAddressAt text (length local)
 kept_at text local host is cut =
     let both = kept_text text local host (take (length local + 1) text) (take (length local + 1) text ++ lower host) is.checks cut refl refl in

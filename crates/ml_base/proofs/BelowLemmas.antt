@@ -19,7 +19,7 @@ less Greater e = cc
 pub below_then : (a b c : Text) → is_below a b ≡ true → is_below b c ≡ true → is_below a c ≡ true
 below_then a b c e f = ap is_lt (bytes_total.trans (key a) (key b) (key c) (less _ e) (less _ f))
 
--- an address that isn't below another, and whose key is another one, is above it
+-- an address that isn't below another, and has another key, is above it
 pub above_else : (a b : Text) → is_below a b ≡ false → (key a ≡ key b → ⊥) → is_below b a ≡ true
 above_else a b e apart = go (byte_cmp (key a) (key b)) refl
   where
@@ -27,10 +27,6 @@ above_else a b e apart = go (byte_cmp (key a) (key b)) refl
     go Less is = let bad : false ≡ true = sym e ∙ ap is_lt is in cc
     go Equal is = absurd (apart (same_bytes (key a) (key b) is))
     go Greater is = ap is_lt (bytes_total.antisymm (key b) (key a) ∙ ap ordering_reverse is)
-
--- an address is not below one of its own key
-pub not_below : (a b : Text) → key a ≡ key b → is_below a b ≡ false
-not_below a b e = ap (λ k. is_lt (byte_cmp (key a) k)) (sym e) ∙ ap is_lt (tied_itself bytes_total (key a))
 
 pub not_equal : (a b : Text) → is_below a b ≡ true → eq_by_cmp byte_cmp (key a) (key b) ≡ false
 not_equal a b e = ap is_eq (less _ e)
@@ -41,6 +37,6 @@ not_equal_back a b e = ap is_eq (bytes_total.antisymm (key b) (key a) ∙ ap ord
 pub greater : (a b : Text) → is_below a b ≡ true → byte_cmp (key b) (key a) ≡ Greater
 greater a b e = bytes_total.antisymm (key b) (key a) ∙ ap ordering_reverse (less _ e)
 
--- neither of two addresses comes first exactly where their keys are equal
+-- two addresses compare as equal exactly if their keys are equal
 pub keys_agree : (a b : Text) → (byte_cmp (key a) (key b) ≡ Equal) ↔ (key a ≡ key b)
 keys_agree a b = (same_bytes (key a) (key b), λ same. ap (byte_cmp (key a)) (sym same) ∙ tied_itself bytes_total (key a))

@@ -1,4 +1,4 @@
--- Tests that are joined.
+-- Facts about tests joined by and or or.
 use Rattle.std.proofs.Common.{◌≡◌, Bool, true, false, ◌&&◌, ◌||◌, ◌==◌, refl, ap₂}
 use Rattle.std.proofs.lemmas.Bool.{eqb-true}
 use Rattle.ml_base.specs.declared.names.Name.{Name}

@@ -1,4 +1,4 @@
--- The parts round the first place of a byte, and the first line, as the code finds them.
+-- The parts round the first place of a byte, and the first line, in the way that the code finds them.
 use Rattle.std.proofs.Common.{◌≡◌, ℕ, zero, suc, ◌+◌, ◌-◌, ◌<◌, true, false, List, [], ◌∷◌, length, take, drop, get_or, Some, None, refl, sym, arith, eqb, add-one}
 use Rattle.std.proofs.Math.Seq.{take-length, drop-length}
 use Rattle.ml_base.specs.Splits.{split_first, lines}

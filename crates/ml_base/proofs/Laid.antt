@@ -9,7 +9,7 @@ use Rattle.ml_base.specs.declared.puts.Put.{Put}
 use Rattle.ml_base.specs.Dir.{Dir, same_name, with_put, with_puts, touches, touches_only, newest_put, laid_by}
 use Rattle.ml_base.proofs.Bools.{both, neither, not_true, one_name}
 
--- laying one row and then another is laying them joined
+-- laying one row and then another is the same as laying both joined
 pub laid_joined : (dir : Dir) (first second : List Put) → with_puts dir (first ++ second) ≡ with_puts (with_puts dir first) second
 laid_joined dir [] second = refl
 laid_joined dir (put ∷ first) second = laid_joined (with_put dir put) first second
@@ -21,11 +21,11 @@ untouched dir (put ∷ puts) name e =
     let parts = neither (same_name name put.name) (touches puts name) e in
     untouched (with_put dir put) puts name parts.1 ∙ ap (λ (b : Bool). cond b put.bytes (dir name)) parts.0
 
--- two names of which one passes a test and the other doesn't are not one
+-- two names are different if one passes a test and the other doesn't
 told_apart : (test : Name → Bool) (a b : Name) → test a ≡ false → test b ≡ true → same_name a b ≡ false
 told_apart test a b out in_it = not_true (same_name a b) (λ e. let bad : false ≡ true = sym out ∙ ap test (one_name a b e) ∙ in_it in cc)
 
--- a row that touches only the files that pass a test leaves the others
+-- a row that touches only files that pass a test leaves the others alone
 pub left_alone : (test : Name → Bool) (dir : Dir) (puts : List Put) (name : Name) → touches_only test puts ≡ true → test name ≡ false → with_puts dir puts name ≡ dir name
 left_alone test dir [] name all out = refl
 left_alone test dir (put ∷ puts) name all out =

@@ -1,4 +1,4 @@
--- A put in the place of the newest one of its file.
+-- Laying a put in the place of the newest one of its file makes of the files what adding it at the end would make.
 use Rattle.std.proofs.Common.{◌≡◌, ℕ, zero, suc, Bool, true, false, not, ◌&&◌, ◌||◌, cond, List, [], ◌∷◌, ◌++◌, Some, None, drop, set, refl, ap, ap₂, sym, ◌∙◌, subst, arith, add-one}
 use Rattle.std.proofs.lemmas.Bool.Decides.{nat_tests}
 use Rattle.std.specs.Prelude.{slice_get}
@@ -33,18 +33,18 @@ there put (p ∷ ps) (suc at) old is named last =
     ap (λ rest. p ∷ rest) (there put ps at old is named last)
     ∙ sym (ap (λ a. cond a (put ∷ ps) (p ∷ laid_in put ps)) (and_off (same_name put.name p.name) (touches ps put.name) (touched_at ps put.name at old is named)))
 
--- the row whose newest put of the file stands at a place, with the put there
+-- if the row's newest put of the file stands at a place, it is replaced there
 pub laid_there : (put : Put) (puts : List Put) (at : ℕ) → IsNewestAt puts put.name at → set puts at put ≡ laid_in put puts
 laid_there put puts at is = there put puts at is.put is.is is.named (subst (λ n. touches (drop n puts) put.name ≡ false) (add-one at) is.last)
 
--- where the row has no put of the file, it stands last
+-- if the row has no put of the file, it comes last
 pub laid_last : (put : Put) (puts : List Put) → touches puts put.name ≡ false → puts ++ put ∷ [] ≡ laid_in put puts
 laid_last put [] e = refl
 laid_last put (p ∷ ps) e =
     let parts = neither (same_name put.name p.name) (touches ps put.name) e in
     ap (λ rest. p ∷ rest) (laid_last put ps parts.1) ∙ sym (ap (λ a. cond (a && not (touches ps put.name)) (put ∷ ps) (p ∷ laid_in put ps)) parts.0)
 
--- what a row makes of a file depends on that file alone
+-- what a row makes of a file depends only on that file
 same_below : (one other : Dir) (puts : List Put) (name : Name) → one name ≡ other name → with_puts one puts name ≡ with_puts other puts name
 same_below one other puts name e = newest_decides puts name one ∙ ap (laid_by (newest_put puts name)) e ∙ sym (newest_decides puts name other)
 
@@ -64,7 +64,7 @@ in_place put p ps dir name alike free = go (same_name name put.name) refl
         same_below (with_put dir put) (with_put dir p) ps name (ap (λ b. cond b put.bytes (dir name)) f ∙ sym (ap (λ b. cond b p.bytes (dir name)) other))
         ∙ sym (ap (λ b. cond b put.bytes (with_puts (with_put dir p) ps name)) f) ∙ sym (pushed (with_put dir p) ps put name)
 
--- laid over any directory it makes the same as behind all of them
+-- laid over any directory, it has the same effect as added after all of them
 pub laid_as_pushed : (put : Put) (puts : List Put) (dir : Dir) (name : Name) → with_puts dir (laid_in put puts) name ≡ with_puts dir (puts ++ put ∷ []) name
 laid_as_pushed put [] dir name = refl
 laid_as_pushed put (p ∷ ps) dir name = go (laid_as_pushed put ps (with_put dir p) name) (same_name put.name p.name && not (touches ps put.name)) refl
@@ -99,7 +99,7 @@ apart put p ps free e = not_true (same_name put.name p.name) (λ t.
     let bad : true ≡ false = sym (ap₂ (λ a b. a && not b) t none) ∙ e in
     cc)
 
--- no file has two puts where none had
+-- no file has two puts if none had before
 pub laid_distinct : (put : Put) (puts : List Put) → are_distinct puts ≡ true → are_distinct (laid_in put puts) ≡ true
 laid_distinct put [] e = refl
 laid_distinct put (p ∷ ps) e =

@@ -19,7 +19,6 @@ pub mod SortedLaws
 pub mod BelowLemmas
 pub mod AddressParts
 pub mod KeptAddresses
-pub mod RangeLemmas
 pub mod DamagedNames
 pub mod ReadingLemmas
 mod Examples

@@ -26,7 +26,7 @@ compared x y = go (nat_lt x y) refl
             let more : y < x = omega (arith, no_less, apart) in
             inr (inr (sym (nat_cmp_is x y Greater more), more))
 
--- a name that isn't behind another has a smaller kind, or the same and a place no further
+-- a name that doesn't come after another has a smaller kind, or the same kind and a place no further
 pub up_to : (a b : Name) → is_gt (name_cmp a b) ≡ false → (a.kind < b.kind) ⊎ ((a.kind ≡ b.kind) × (a.at ≤ b.at))
 up_to a b h = kinds (compared a.kind b.kind)
   where
@@ -42,7 +42,7 @@ up_to a b h = kinds (compared a.kind b.kind)
         places (inr (inr more)) =
             absurd (let bad : true ≡ false = sym (ap (λ o. is_gt (ordering_then o (nat_cmp a.at b.at))) same.0 ∙ ap is_gt more.0) ∙ h in cc)
 
--- of two names of a kind the one whose place is no further isn't behind
+-- of two names of a kind, the one whose place is no further doesn't come after the other
 pub in_order : (kind from at : ℕ) → from ≤ at → is_gt (name_cmp (record { kind = kind; at = from }) (record { kind = kind; at = at })) ≡ false
 in_order kind from at up = ap (λ o. is_gt (ordering_then o (nat_cmp from at))) (sym (nat_cmp_is kind kind Equal refl)) ∙ places (compared from at)
   where
@@ -51,7 +51,7 @@ in_order kind from at up = ap (λ o. is_gt (ordering_then o (nat_cmp from at))) 
     places (inr (inl equal)) = ap is_gt equal.0
     places (inr (inr more)) = let l = more.1 in absurd (omega (arith, l, up))
 
--- before the first entry of a map from a name on it has none of the name's kind
+-- a map has no name of a kind between a name and the first entry from that name on
 pub none_before : {X : Type 0} (map : BTreeMap Name X) (kind from end : ℕ) (first : Name)
     → ((q : Name) → is_gt (name_cmp (record { kind = kind; at = from }) q) ≡ false → IsSome (get name_cmp map q) → is_gt (name_cmp first q) ≡ false)
     → is_gt (name_cmp (record { kind = kind; at = from }) first) ≡ false → (first.kind ≡ kind → end ≤ first.at) → NoEntryOf map kind from end
@@ -66,6 +66,6 @@ none_before {X} map kind from end first least onward last at up below = go (get 
     go None e = e
     go (Some x) e = absurd (beyond (up_to first (record { kind = kind; at = at }) (least (record { kind = kind; at = at }) (in_order kind from at up) (subst IsSome (sym e) refl))) (up_to (record { kind = kind; at = from }) first onward))
 
--- what holds of the first of a list
+-- what holds of the first entry of a list
 pub first_of : {X : Type 0} (r rest : List X) (e : X) (P : X → Type 0) → r ≡ e ∷ rest → IfSome (slice_get r 0) P → P e
 first_of {X} r rest e P is first = subst (λ (r : List X). IfSome (slice_get r 0) P) is first

@@ -95,7 +95,7 @@ contents n x rest e =
     let long : ltb (length (x ++ 44 ∷ rest)) n ≡ false = le-ltb _ _ (omega (arith, length-append x (44 ∷ rest))) in
     rw (long, take_at x (44 ∷ rest) n (sym e), drop_at x (44 ∷ rest) n (sym e)) refl
 
--- a netstring's parts, each before all that follows it
+-- a netstring's parts, each joined to all that follows it
 pub regroup : (d x rest : Text) → ((d ++ (58 ∷ x)) ++ (44 ∷ [])) ++ rest ≡ d ++ (58 ∷ (x ++ (44 ∷ rest)))
 regroup d x rest = append_assoc (d ++ (58 ∷ x)) (44 ∷ []) rest ∙ append_assoc d (58 ∷ x) (44 ∷ rest)
 

@@ -1,4 +1,4 @@
--- Numbers are spelled as they are printed.
+-- Numbers are read from the digits that are printed of them, and from no others.
 use Rattle.std.proofs.Common.{◌≡◌, ℕ, suc, ◌+◌, ◌-◌, ◌*◌, ◌<◌, ◌≤◌, ◌^◌, Bool, true, false, not, ◌&&◌, List, [], ◌∷◌, length, get_or, Some, None, refl, ap, sym, ◌∙◌, arith, rules, eqb, leb, subst}
 use Rattle.std.specs.Str.{all_ascii_digits}
 use Rattle.std.specs.Char.{is_ascii_digit}
@@ -82,7 +82,7 @@ value-up : (n : ℕ) (bs : List ℕ) → n ≤ value n bs
 value-up n [] = omega arith
 value-up n (b ∷ bs) = let up = value-up (10 * n + (b - 48)) bs in omega arith
 
--- the first digit is no zero, or stands alone
+-- the first digit is no zero, unless it stands alone
 NoLead : ℕ → ℕ → List ℕ → Type 0
 NoLead count n bytes = (count ≡ 1 → n ≡ 0 → bytes ≡ []) × (count ≡ 0 → (n ≡ 0) × (get_or bytes 0 0 ≡ 48 → length bytes ≡ 1))
 

@@ -1,4 +1,4 @@
--- LOCAL at the front of a text, and what is behind it.
+-- LOCAL at the beginning of a text, and what follows it.
 use Rattle.std.proofs.Common.{◌≡◌, ◌<◌, ◌≤◌, ℕ, Bool, true, false, ◌&&◌, ◌||◌, ◌==◌, nat_eq, [], ◌∷◌, ◌++◌, length, take, drop, refl, sym, ap, ◌∙◌, arith, take-append-drop}
 use Rattle.std.proofs.lemmas.Bool.Decides.{nat_tests}
 use Rattle.std.proofs.lemmas.List.{length-take}
@@ -41,7 +41,7 @@ too_short (x ∷ xs) (b ∷ bs) less =
     shared (to_ascii_lowercase x == to_ascii_lowercase b) (str_eq_ignore_ascii_case xs bs) (starts_with nat_eq (lower bs) (lower xs ++ 45 ∷ []))
     ∙ ap (λ t. (to_ascii_lowercase x == to_ascii_lowercase b) && t) (too_short xs bs (omega arith)) ∙ nothing (to_ascii_lowercase x == to_ascii_lowercase b)
 
--- as the code cuts it
+-- the same, in the way that the code cuts the text
 pub cut_there : (local before front rest : Text) → length local ≤ length before → front ≡ take (length local) before → rest ≡ drop (length local) before
     → is_own_local local before ≡ (str_eq_ignore_ascii_case local front && is_own_rest rest)
 cut_there local before front rest less first second =

@@ -16,7 +16,7 @@ use Rattle.ml_base.proofs.SplitLaws.{first_written}
 use Rattle.ml_base.proofs.Bools.{both}
 use Rattle.ml_base.proofs.NumberLaws.{all_digits}
 
--- the kind of a file in the archive, by what is behind the first slash
+-- the kind of a file in the archive, by what follows the first slash
 abbrev archive_kind : Option (Text × Text) → ℕ
 archive_kind None = 22
 archive_kind (Some parts) = if length parts.1 == 2 then 9 else (if length parts.1 == 3 then 20 else 10)
@@ -31,7 +31,7 @@ kind_d text =
     else (if get_or text 7 0 == 115 then 4
     else (if get_or text 7 0 == 98 then 16 else 12)))
 
--- the kind of a file, by the front of its path
+-- the kind of a file, by the beginning of its path
 abbrev kind_of : Text → ℕ
 kind_of text =
     let first = get_or text 0 0 in
@@ -52,12 +52,12 @@ kind_of text =
 abbrev name_of : ℕ → ℕ → Name
 name_of kind at = record { kind = kind; at = at }
 
--- the kind and the place are told by the path
+-- the path shows the kind and the place
 record IsTold (kind : ℕ) : Type 0 where
   by_front : (at : ℕ) → at ≤ last_place kind → kind_of (path_of (name_of kind at)) ≡ kind
   by_leaf : (x y : ℕ) → x ≤ last_place kind → y ≤ last_place kind → leaf_of kind x ≡ leaf_of kind y → x ≡ y
 
--- what holds of so many numbers from one on
+-- a property holds of so many numbers, from one on
 Each : (ℕ → Type 0) → ℕ → ℕ → Type 0
 Each P from zero = Unit {0}
 Each P from (suc count) = P from × Each P (suc from) count
@@ -78,7 +78,7 @@ slashless (b ∷ bs) e = let parts = both (is_ascii_digit b) (all_ascii_digits b
     digit : (b : ℕ) → is_ascii_digit b ≡ true → (b == 47) ≡ false
     digit b h = grind (arith, nat_tests)
 
--- a number with a slash behind it is split there
+-- a number followed by a slash is split there
 cut : (n : ℕ) (rest : Text) → n < 2 ^ 64 → split_first 47 (decimal n ++ 47 ∷ rest) ≡ Some (decimal n, rest)
 cut n rest small = first_written 47 (decimal n) rest (slashless (decimal n) (all_digits n small))
 
@@ -205,7 +205,7 @@ in_range name h =
 one_place : (kind x y : ℕ) → kind ≤ 21 → x ≤ last_place kind → y ≤ last_place kind → path_of (name_of kind x) ≡ path_of (name_of kind y) → x ≡ y
 one_place kind x y k p q e = (each_is IsTold 0 22 kind all_told (omega arith) (omega arith)).by_leaf x y p q (append_cancel_left (folder_of kind) (leaf_of kind x) (leaf_of kind y) e)
 
--- no two names of the table have one path
+-- no two names of the table have the same path
 pub one_path : (a b : Name) → IsTrue (is_in_table a) → IsTrue (is_in_table b) → path_of a ≡ path_of b → a ≡ b
 one_path a b p q e =
     let r = in_range a p in

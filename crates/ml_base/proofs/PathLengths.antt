@@ -19,14 +19,14 @@ count_short at = grind arith
 digits_short : (n : ℕ) → n ≤ 10 ^ 15 → length (decimal n) ≤ 16
 digits_short n small = length-decimal-le 16 n (omega arith) (omega arith) (omega arith)
 
--- a post's leaf: the group, a slash and two digits
+-- the last part of a post's path: the group, a slash and two digits
 post_short : (at : ℕ) → at ≤ 10 ^ 15 → length (decimal (at / 100) ++ 47 ∷ two_digits (at % 100)) ≤ 19
 post_short at small = omega (arith, length-append (decimal (at / 100)) (47 ∷ two_digits (at % 100)), digits_short (at / 100) (omega arith))
 
 index_short : (at : ℕ) → at ≤ 10 ^ 15 → length (codes "archive/" ++ (decimal at ++ codes "/index")) ≤ 38
 index_short at small = omega (arith, length-append (codes "archive/") (decimal at ++ codes "/index"), length-append (decimal at) (codes "/index"), digits_short at small)
 
--- a leaf other than an index's
+-- the last part of a path other than an index's
 leaf_short : (kind at : ℕ) → at ≤ 10 ^ 15 → (kind == 10) ≡ false → length (leaf_of kind at) ≤ 19
 leaf_short kind at small other = grind (arith, post_short at small, digits_short at small, count_short at, single_short kind)
 

@@ -1,4 +1,4 @@
--- What a call that reads files keeps, behind the calls before it.
+-- What a call that reads files keeps, joined to what the calls before it kept.
 use Rattle.std.proofs.Common.{◌≡◌, Result, Ok, Err, arith}
 use Rattle.ml_base.specs.ReadFiles.{AreKept, IsReading, NamesDamaged}
 use Rattle.ml_base.specs.declared.files.Files.{Ghosts}
@@ -32,24 +32,11 @@ kept_read told old new result is = record { kept = is.kept; later = is.later }
 pub reading_ok : {F T : Type 0} (told : Ghosts F) (old new : F) (answer : T) → AreKept told old new → IsReading told old new (Ok answer)
 reading_ok told old new answer is = record { kept = is.kept; later = is.later; cause = λ bad. absurd (cc) }
 
--- an error is handed on
-pub reading_err : {F T U : Type 0} (told : Ghosts F) (old new : F) (result : Result T PartError) (e : PartError) → result ≡ Err e → IsReading told old new result
-    → (answer : Result U PartError) → answer ≡ Err e → IsReading told old new answer
-reading_err told old new result e was is answer now = record { kept = is.kept; later = is.later; cause = λ bad. is.cause (cc) }
-
--- a call after a call
+-- a call after another call
 pub reading_then : {F T : Type 0} (told : Ghosts F) → KeepsOn told → (first second third : F) (result : Result T PartError) → AreKept told first second → IsReading told second third result
     → IsReading told first third result
 reading_then told on first second third result one two = record {
   kept = on first second third one.kept two.kept;
   later = omega (arith, one.later, two.later);
   cause = λ bad. let rose = two.cause bad in omega (arith, rose, one.later);
-}
-
--- a damaged file in other words: more may be read, and it is bad in what the files were before
-pub names_in : {F T : Type 0} (told : Ghosts F) (May May2 Bad Bad2 : Name → Type 0) (result : Result T PartError) → ((name : Name) → May name → May2 name)
-    → ((name : Name) → Bad name → Bad2 name) → NamesDamaged told May Bad result → NamesDamaged told May2 Bad2 result
-names_in told May May2 Bad Bad2 result f g is = record {
-  named = err_damaged result May May2 f is.named;
-  damaged = λ tells. err_damaged result Bad Bad2 g (is.damaged tells);
 }

@@ -1,4 +1,4 @@
--- What is left behind a place is left behind a later one.
+-- If two texts agree after a place, they agree after any later one.
 use Rattle.std.proofs.Common.{◌≡◌, ℕ, ◌+◌, ◌-◌, ◌≤◌, List, drop, ap, sym, ◌∙◌, arith}
 use Rattle.std.proofs.lemmas.List.{drop-drop}
 

@@ -1,4 +1,4 @@
--- Lists in the order of their keys, by what std has of entries in order.
+-- Laws of lists in the order of their keys, from what std proves of entries in order.
 use Rattle.std.proofs.Common.{◌≡◌, ℕ, suc, ◌+◌, Bool, true, false, not, ◌&&◌, T, cond, List, [], ◌∷◌, map, length, Option, Some, None, is_some, refl, sym, ap, ap₂, ◌∙◌, subst}
 use Rattle.std.specs.declared.cmp.Ordering.{Ordering}
 use Rattle.std.specs.declared.cmp.Ordering.TheVariants.{Less, Equal, Greater}
@@ -24,7 +24,7 @@ flipped true o = refl
 flipped false o = refl
 
 module _ {K E : Type 0} (order : K → K → Ordering) (key : E → K) where
-  -- each entry with its key before it
+  -- every entry with its key before it
   abbrev keyed : List E → List (K × E)
   keyed es = map (λ e. (key e, e)) es
 
@@ -58,7 +58,7 @@ module _ {K E : Type 0} (order : K → K → Ordering) (key : E → K) where
       go true more = ap (λ t. (key e, e) ∷ t) more
       go false more = more
 
-  -- what holds of an entry and of each of a list holds of each of the list with the entry
+  -- what holds of an entry and of every entry of a list holds of every entry of the list with that entry put in
   pub each_with : (P : E → Type 0) (e : E) (es : List E) → P e → AllByRecursion P es → AllByRecursion P (with_entry order key e es)
   each_with P e [] is all = (is, tt)
   each_with P e (f ∷ fs) is all = go (order (key e) (key f)) (each_with P e fs is all.1)
@@ -68,7 +68,7 @@ module _ {K E : Type 0} (order : K → K → Ordering) (key : E → K) where
       go Equal more = (is, all.1)
       go Greater more = (all.0, more)
 
-  -- what holds of each of a list holds of each that is left without a key
+  -- what holds of every entry of a list holds of every entry that is left without a key
   pub each_without : (P : E → Type 0) (k : K) (es : List E) → AllByRecursion P es → AllByRecursion P (without_key order key k es)
   each_without P k [] all = tt
   each_without P k (e ∷ es) all = go (not (eq_by_cmp order k (key e))) (each_without P k es all.1)
@@ -77,7 +77,7 @@ module _ {K E : Type 0} (order : K → K → Ordering) (key : E → K) where
       go true more = (all.0, more)
       go false more = more
 
-  -- what is found of a list is one of its entries, of the key that was sought
+  -- what is found in a list is one of its entries, and has the key that was sought
   pub found_is : (P : E → Type 0) (k : K) (e : E) (es : List E) → AllByRecursion P es → entry_of order key k es ≡ Some e → P e × (order k (key e) ≡ Equal)
   found_is P k e [] all is = absurd (let bad : None ≡ Some e = is in cc)
   found_is P k e (f ∷ fs) all is = go (order k (key f)) refl (found_is P k e fs all.1)

@@ -1,4 +1,4 @@
--- What is split is put together of its parts, and what is put together is split there.
+-- What is split is its parts put together, and what is put together is split there again.
 use Rattle.std.proofs.Common.{◌≡◌, ℕ, ◌<◌, Bool, true, false, ◌==◌, ◌||◌, cond, List, [], ◌∷◌, ◌++◌, length, Option, Some, None, refl, sym, ap, ap₂, ◌∙◌, arith, length-append}
 use Rattle.std.proofs.lemmas.Bool.{eqb-true, eq-eqb}
 use Rattle.std.specs.List.{concat, AllByRecursion}
@@ -89,7 +89,7 @@ onto_joined : (b : ℕ) (ls : List Text) → concat (onto_line b ls) ≡ b ∷ c
 onto_joined b [] = refl
 onto_joined b (l ∷ ls) = refl
 
--- the lines of a text make it
+-- the lines of a text, joined, are the text
 pub lines_joined : (text : Text) → concat (lines text) ≡ text
 lines_joined [] = refl
 lines_joined (b ∷ bs) = go (b == 10) (lines_joined bs)
@@ -101,12 +101,12 @@ lines_joined (b ∷ bs) = go (b == 10) (lines_joined bs)
 abbrev line_of : ℕ → Bool → List Text → List Text
 line_of b is more = cond is ((b ∷ []) ∷ more) (onto_line b more)
 
--- what has no LF up to one is a line
+-- the bytes up to and with the first LF are a line
 pub line_written : (line rest : Text) → has_byte 10 line ≡ false → lines (line ++ 10 ∷ rest) ≡ (line ++ 10 ∷ []) ∷ lines rest
 line_written [] rest e = refl
 line_written (x ∷ xs) rest e = let parts = neither (x == 10) (has_byte 10 xs) e in ap₂ (λ t ls. line_of x t ls) parts.0 (line_written xs rest parts.1)
 
--- and so is what has none up to the end
+-- if there is no LF, all that is left is a line
 pub last_line : (line : Text) → has_byte 10 line ≡ false → 0 < length line → lines line ≡ line ∷ []
 last_line [] e some = absurd (omega arith)
 last_line (x ∷ []) e some = let parts = neither (x == 10) false e in ap (λ t. line_of x t []) parts.0
@@ -117,7 +117,7 @@ last_line (x ∷ y ∷ ys) e some =
 not_empty : (a b : Text) → [] ≡ a ++ 0 ∷ b → ⊥
 not_empty a b e = let long = ap length e in omega (arith, long, length-append a (0 ∷ b))
 
--- texts without a NUL are told by their row
+-- texts without a NUL are known from their row
 pub nul_rows : (xs ys : List Text) → HaveNoNul xs → HaveNoNul ys → nul_row xs ≡ nul_row ys → xs ≡ ys
 nul_rows [] [] p q e = refl
 nul_rows [] (y ∷ ys) p q e = absurd (not_empty y (nul_row ys) e)
@@ -126,7 +126,7 @@ nul_rows (x ∷ xs) (y ∷ ys) p q e =
     let both : two x (nul_row xs) ≡ two y (nul_row ys) = sym (first_written 0 x (nul_row xs) p.0) ∙ ap (split_first 0) e ∙ first_written 0 y (nul_row ys) q.0 in
     ap₂ (λ t ts. t ∷ ts) (ap before_at both) (nul_rows xs ys p.1 q.1 (ap behind_at both))
 
--- texts are told by the row of their netstrings
+-- texts are known from the row of their netstrings
 pub ns_rows : (xs ys : List Text) → AreShort xs → AreShort ys → ns_row xs ≡ ns_row ys → xs ≡ ys
 ns_rows [] [] p q e = refl
 ns_rows [] (y ∷ ys) p q e = absurd (let bad : no_two ≡ two y (ns_row ys) = ap netstring_at e ∙ netstring_written y (ns_row ys) q.0 in cc)

@@ -16,7 +16,7 @@ split_some c (x ∷ xs) (suc k) less is h = rw (split_some c xs k (omega arith) 
 pub rest : (k : ℕ) (t : List ℕ) → take (length t - (k + 1)) (drop (k + 1) t) ≡ drop (suc k) t
 rest k t = rw add-one (rw (← length-drop (suc k) t) (take-length (drop (suc k) t)))
 
--- the same as the code cuts it
+-- the same, in the way that the code cuts the text
 pub split_here : (c : ℕ) (xs : List ℕ) (k : ℕ) → k < length xs → eqb (get_or xs k 0) c ≡ true
     → ((j : ℕ) → k < j → j < length xs → eqb (get_or xs j 0) c ≡ false)
     → Some (take k xs, take (length xs - (k + 1)) (drop (k + 1) xs)) ≡ split_last c xs

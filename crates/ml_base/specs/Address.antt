@@ -1,4 +1,4 @@
--- Addresses: a local part, `@` and a host.
+-- Addresses: a local part, `@` and a host. When a text is one, how it is kept, and its key.
 use Rattle.std.specs.Prelude.{◌≡◌, ◌<◌, ◌+◌, ◌++◌, take, drop, is_ok, ℕ, Bool, not, ◌&&◌, ◌||◌, ◌==◌, nat_lt, nat_le, [], ◌∷◌, length, Option, Some, None, Result, Ok, Err, if◌then◌else◌}
 use Rattle.std.specs.List.{list_all}
 use Rattle.std.specs.Char.{is_ascii_alphabetic, is_ascii_digit}
@@ -8,7 +8,7 @@ use Rattle.ml_base.specs.declared.address.AddressFault.TheVariants.{TooLong, NoA
 use Rattle.ml_base.specs.declared.address.AddressError.{AddressError}
 use Rattle.ml_base.specs.declared.address.AddressError.TheVariants as errors
 
--- the key of an address: two addresses are one subscriber exactly where their keys are equal
+-- the key of an address: two addresses are one subscriber exactly if their keys are equal
 abbrev pub key : Text → Text
 key address = lower address
 
@@ -27,11 +27,11 @@ abbrev pub check_parts : Option (Text × Text) → Result (Unit {0}) AddressFaul
 check_parts None = Err NoAt
 check_parts (Some parts) = if is_empty parts.0 || is_empty parts.1 then Err EmptyPart else check_bytes parts.0 parts.1
 
--- whether two parts make an address with an `@` between them, tested of the parts alone
+-- whether two parts make an address with an `@` between them, tested on the parts alone
 abbrev pub are_parts : Text → Text → Bool
 are_parts local host = nat_lt (length local + length host) 400 && not (is_empty local || is_empty host) && list_all is_local_byte local && list_all is_host_byte host
 
--- whether a text, split at its last `@`, is an address, and else the first of the four faults that it has
+-- whether a text, split at its last `@`, is an address; if not, the first of the four faults that it has
 abbrev pub address_check : Text → Result (Unit {0}) AddressFault
 address_check text = if nat_lt 400 (length text) then Err TooLong else check_parts (split_last at_sign text)
 
@@ -44,7 +44,7 @@ abbrev pub before_at : Option (Text × Text) → Text
 before_at None = []
 before_at (Some parts) = parts.0
 
--- the part behind the last `@`
+-- the part after the last `@`
 abbrev pub behind_at : Option (Text × Text) → Text
 behind_at None = []
 behind_at (Some parts) = parts.1
@@ -68,7 +68,7 @@ pub record IsAddress (address : Text) : Type 0 where
   pub checks : address_check address ≡ Ok tt
   pub kept : as_address address ≡ address
 
--- the error tells the text's fault, where it isn't want of memory
+-- the error is the text's fault, unless it is lack of memory
 abbrev pub IsFaultOf : AddressError → Text → Type 0
 IsFaultOf (errors.Fault fault) text = address_check text ≡ Err fault
 IsFaultOf errors.Memory text = Unit {0}

@@ -1,4 +1,4 @@
--- Byte strings.
+-- Byte strings: names for bytes that are used often, lower case, and the split at the last place of a byte.
 use Rattle.std.specs.Prelude.{ℕ, Bool, true, false, ◌==◌, List, [], ◌∷◌, Option, Some, None}
 use Rattle.std.specs.Str.{str_to_ascii_lowercase}
 
@@ -27,9 +27,6 @@ comma = 44
 abbrev pub hyphen : ℕ
 hyphen = 45
 
-abbrev pub slash : ℕ
-slash = 47
-
 abbrev pub colon : ℕ
 colon = 58
 
@@ -47,13 +44,13 @@ abbrev pub is_empty : {X : Type 0} → List X → Bool
 is_empty [] = true
 is_empty (x ∷ xs) = false
 
--- what splits the bytes behind the first splits them all; where nothing does, the first may
+-- a text's split from the split of what follows its first byte; if that has none, the text may be split at its first byte
 abbrev pub onto_split : ℕ → Bool → Text → Option (Text × Text) → Option (Text × Text)
 onto_split x is rest (Some parts) = Some (x ∷ parts.0, parts.1)
 onto_split x true rest None = Some ([], rest)
 onto_split x false rest None = None
 
--- the parts before and behind the last place of a byte, or None where it isn't there
+-- the parts before and after the last place of a byte, or None if it isn't there
 abbrev pub split_last : ℕ → Text → Option (Text × Text)
 split_last byte [] = None
 split_last byte (x ∷ xs) = onto_split x (x == byte) xs (split_last byte xs)

@@ -6,7 +6,7 @@ use Rattle.ml_base.specs.Name.{is_file}
 use Rattle.ml_base.specs.declared.names.Name.{Name}
 use Rattle.ml_base.specs.declared.puts.Put.{Put}
 
--- the bytes of each file, or None where it is absent
+-- the bytes of every file, or None if it is absent
 abbrev pub Dir : Type 0
 Dir = Name → Option Text
 
@@ -31,11 +31,11 @@ with_puts dir (put ∷ puts) = with_puts (with_put dir put) puts
 abbrev pub touches : List Put → Name → Bool
 touches puts name = list_any (λ put. same_name name put.name) puts
 
--- whether each put of the row is of a file that passes the test
+-- whether every put of the row is of a file that passes the test
 abbrev pub touches_only : (Name → Bool) → List Put → Bool
 touches_only test puts = list_all (λ put. test put.name) puts
 
--- whether each put of the row is of a file that the log may name
+-- whether every put of the row is of a file that the log may name
 abbrev pub are_files : List Put → Bool
 are_files puts = touches_only is_file puts
 
@@ -43,7 +43,7 @@ are_files puts = touches_only is_file puts
 abbrev pub newest_put : List Put → Name → Option Put
 newest_put puts name = find (λ put. same_name name put.name) (reverse puts)
 
--- the bytes that a put leaves in its file, or those that were there where there is no put
+-- the bytes that a put leaves in its file, or those that were there before if there is no put
 abbrev pub laid_by : Option Put → Option Text → Option Text
 laid_by None before = before
 laid_by (Some put) before = put.bytes

@@ -1,4 +1,4 @@
--- Files in memory.
+-- Files in memory: what they hold, and which of their calls fail.
 use Rattle.std.specs.Prelude.{◌≡◌, ◌≤◌, ℕ, List, Result, Ok, Err}
 use Rattle.std.specs.BTreeMap.{BTreeMap, get}
 use Rattle.ml_base.specs.Bytes.{Text}
@@ -30,7 +30,7 @@ map_failing files = files.plan.failing
 abbrev pub map_made : MapFiles → ℕ
 map_made files = files.plan.made
 
--- how often a call has failed behind one that answered this: once more at a fault, as far as can be counted
+-- how often a call has failed after one that answered this: once more if it was a fault, as far as can be counted
 abbrev pub faults_after : {T : Type 0} → ℕ → Result T FilesError → ℕ
 faults_after count (Ok found) = count
 faults_after count (Err Memory) = count

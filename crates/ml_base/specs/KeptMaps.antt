@@ -1,4 +1,4 @@
--- Files in memory that are kept twice are kept.
+-- Files in memory are kept from themselves, and what is kept twice is kept.
 use Rattle.std.proofs.Common.{refl, ◌∙◌, arith}
 use Rattle.ml_base.specs.declared.maps.MapFiles.{MapFiles}
 use Rattle.ml_base.specs.FilesInMemory.{IsMapKept}

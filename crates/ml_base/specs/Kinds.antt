@@ -1,4 +1,4 @@
--- The kinds of files, each by a word, and the names of files.
+-- The kinds of files, with a word for each, and the names of files.
 use Rattle.std.specs.Prelude.{ℕ}
 use Rattle.ml_base.specs.Name.{set_kind, set_number}
 use Rattle.ml_base.specs.declared.names.Name.{Name}

@@ -14,10 +14,6 @@ use Rattle.ml_base.specs.declared.names.Set.TheVariants as sets
 abbrev pub name_cmp : Name → Name → Ordering
 name_cmp a b = ordering_then (nat_cmp a.kind b.kind) (nat_cmp a.at b.at)
 
--- as a pair of numbers
-abbrev pub coded_name : Coded Name
-coded_name = code_by (ℕ × ℕ) (coded× coded_ℕ coded_ℕ) (λ s. (s.kind, s.at)) (λ p. record { kind = p.0; at = p.1 }) (λ _. refl)
-
 -- the place of a set in the order list, digest, allow, deny, mod
 abbrev pub set_number : Set → ℕ
 set_number sets.List = 0
@@ -47,11 +43,11 @@ set_of word =
     else (if bytes_eq word (codes "deny") then Some sets.Deny
     else (if bytes_eq word (codes "mod") then Some sets.Moderators else None))))
 
--- the kinds of one bucket of an address's set or ledger: 53 files each
+-- the kinds with 53 buckets: those of the five sets and of the two ledgers
 abbrev pub is_bucket_kind : ℕ → Bool
 is_bucket_kind kind = (nat_le 3 kind && nat_le kind 7) || (nat_le 15 kind && nat_le kind 16)
 
--- the kinds whose places are counted from 1: posts, held posts and queue entries
+-- the first place of a kind: 1 for posts, held posts and queue entries, 0 for others
 abbrev pub first_place : ℕ → ℕ
 first_place kind = if kind == 9 || kind == 13 || kind == 17 then 1 else 0
 
@@ -74,7 +70,7 @@ is_in_table name = nat_le name.kind 21 && nat_le (first_place name.kind) name.at
 abbrev pub is_file : Name → Bool
 is_file name = is_in_table name && not (name.kind == 0)
 
--- the name of this kind and place, where it is one of the table other than the log's
+-- the name of this kind and place, if it is one of the table other than the log's
 abbrev pub file_named : ℕ → ℕ → Option Name
 file_named kind at = if is_file (record { kind = kind; at = at }) then Some (record { kind = kind; at = at }) else None
 
@@ -86,7 +82,7 @@ two_digits n = (48 + n / 10) ∷ (48 + n % 10) ∷ []
 abbrev pub three_digits : ℕ → Text
 three_digits n = (48 + n / 100) ∷ two_digits (n % 100)
 
--- the word of the set whose number this is
+-- the word of the set that has this number
 abbrev pub count_word : ℕ → Text
 count_word at =
     if at == 0 then codes "list" else (if at == 1 then codes "digest" else (if at == 2 then codes "allow" else (if at == 3 then codes "deny" else codes "mod")))
@@ -119,7 +115,7 @@ folder_of kind =
     else (if kind == 19 then codes "done/"
     else (if kind == 20 then codes "archive/threads/" else []))))))))))))
 
--- the rest of the path behind the folder
+-- the rest of the path after the folder
 abbrev pub leaf_of : ℕ → ℕ → Text
 leaf_of kind at =
     if is_bucket_kind kind then (64 + at) ∷ []

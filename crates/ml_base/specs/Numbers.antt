@@ -1,14 +1,14 @@
--- Numbers in decimal, with one spelling each.
+-- Numbers in decimal, each with one spelling.
 use Rattle.std.specs.Prelude.{ℕ, suc, ◌+◌, ◌-◌, ◌*◌, Bool, true, false, not, ◌&&◌, ◌==◌, nat_le, [], ◌∷◌, Option, Some, None, if◌then◌else◌}
 use Rattle.std.specs.Char.{is_ascii_digit}
 use Rattle.ml_base.specs.Bytes.{Text}
 
--- Whether a byte is a digit that goes on a number of so many digits and this value, up to a limit.
+-- Whether a byte is a digit that continues a number with so many digits and this value so far, and keeps it within a limit.
 -- No digit follows a leading zero.
 abbrev pub is_next_digit : ℕ → ℕ → ℕ → ℕ → Bool
 is_next_digit limit count n b = is_ascii_digit b && not (count == 1 && n == 0) && nat_le (10 * n + (b - 48)) limit
 
--- the number up to the limit that digits make behind so many digits of this value
+-- the number up to the limit that a text spells after so many digits of this value
 abbrev pub digits_from : ℕ → ℕ → ℕ → Text → Option ℕ
 digits_from limit count n [] = if count == 0 then None else Some n
 digits_from limit count n (b ∷ bs) =

@@ -1,4 +1,4 @@
--- Why a part of the list gives no answer.
+-- Why a part of the list gives no answer: its error in terms of the files' error, and facts about the file it names.
 use Rattle.ml_base.specs.declared.files.FilesError.{FilesError}
 use Rattle.ml_base.specs.declared.files.FilesError.TheVariants as files
 use Rattle.ml_base.specs.declared.names.Name.{Name}
@@ -10,7 +10,7 @@ abbrev pub part_error : FilesError → PartError
 part_error files.Fault = Fault
 part_error files.Memory = Memory
 
--- a file that is named as damaged has this property
+-- if the error names a file as damaged, that file has this property
 abbrev pub OnDamaged : PartError → (Name → Type 0) → Type 0
 OnDamaged Fault P = Unit {0}
 OnDamaged Memory P = Unit {0}

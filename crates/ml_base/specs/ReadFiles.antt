@@ -1,11 +1,11 @@
--- What a call that reads files keeps of them, and of which files it says that they are damaged.
+-- What a call that reads files keeps of them, and which files it says are damaged.
 --
--- A function that is generic over `F: Files` says it in a clause each, where `⟦<F as Files>⟧` is all that the type tells:
+-- A function that is generic over `F: Files` says it in one clause each, where `⟦<F as Files>⟧` is all that the type tells:
 --
 --     ensures reads { IsReading ⟦<F as Files>⟧ files.old files.new result }
 --     ensures names { NamesDamaged ⟦<F as Files>⟧ (λ name. name ≡ ..) (λ name. .. (F.map files.old) ..) result }
 --
--- The search proves both at each return from the same clauses of the calls, with no answer, and uses their fields. In an
+-- The search proves both at each return from the same clauses of the calls, without an answer, and uses their fields. In an
 -- invariant of a loop that reads, `AreKept g.F.Files l.fn.files l.files` says how far the files have come. By hand,
 -- proofs/ReadingLemmas joins a call and the calls before it.
 use Rattle.std.specs.Prelude.{◌≤◌, IsTrue, Result, IfErr, IsErrOf}
@@ -21,13 +21,13 @@ pub record AreKept {F : Type 0} (told : Ghosts F) (old new : F) : Type 0 where
   pub kept : told.kept old new
   pub later : told.faults old ≤ told.faults new
 
--- the same, and the error of a fault comes only where the count rose
+-- the same, and the error of a fault comes only if the count rose
 pub record IsReading {F T : Type 0} (told : Ghosts F) (old new : F) (result : Result T PartError) : Type 0 where
   pub kept : told.kept old new
   pub later : told.faults old ≤ told.faults new
   pub cause : IsErrOf result Fault → Rose (told.faults old) (told.faults new)
 
--- a file that is named as damaged is one of those that may be read, and where the files tell their map, it is outside
+-- a file that is named as damaged is one of those that may be read, and if the files tell their map, it is outside
 -- its grammar
 pub record NamesDamaged {F T : Type 0} (told : Ghosts F) (MayRead IsBad : Name → Type 0) (result : Result T PartError) : Type 0 where
   pub named : IfErr result (λ e. OnDamaged e MayRead)

@@ -12,7 +12,7 @@ abbrev pub byte_cmp : Text → Text → Ordering
 byte_cmp a b = slice_cmp nat_cmp a b
 
 module _ {K E : Type 0} (order : K → K → Ordering) (key : E → K) where
-  -- the first entry of this key, or None where there is none
+  -- the first entry of this key, or None if there is none
   abbrev pub entry_of : K → List E → Option E
   entry_of k [] = None
   entry_of k (e ∷ es) = if eq_by_cmp order k (key e) then Some e else entry_of k es

@@ -74,7 +74,7 @@ fn all_host(text: &[u8]) -> bool
     text.iter().all(|byte| is_host_byte(*byte))
 }
 
-// The faults of the parts round the `@`.
+// The faults of the parts before and after the `@`.
 fn check_parts(local: &[u8], host: &[u8]) -> Result<(), AddressFault>
     ensures { result ≡ spec.check_parts (Some (local.now, host.now)) }
 {
@@ -183,7 +183,7 @@ impl Address {
         })
     }
 
-    /// The address that a text is, which is spelled as it is kept: what `is_kept` tells. It isn't checked again.
+    /// The address that a text is. The text is spelled as it is kept, as `is_kept` finds; it isn't checked again.
     pub fn from_kept(alloc: Global, text: &[u8]) -> Result<Address, AllocError>
         requires { IsAddress text.now }
         ensures { IfOk result (λ address. address ≡ text.now) }
@@ -213,14 +213,14 @@ impl Address {
         &self.text.as_slice()[..self.at]
     }
 
-    /// The part behind the last `@`, in lower case.
+    /// The part after the last `@`, in lower case.
     pub fn host(&self) -> &[u8]
         ensures { result.now ≡ host_of self.now }
     {
         &self.text.as_slice()[self.at + 1..]
     }
 
-    /// Whether two addresses are one subscriber: they are the same in any case of ASCII letters.
+    /// Whether two addresses are one subscriber: they are the same if the case of ASCII letters is ignored.
     pub fn same(&self, other: &Address) -> bool
         ensures { IsTrue result ↔ (key self.now ≡ key other.now) }
     {

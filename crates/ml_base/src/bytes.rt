@@ -38,7 +38,7 @@ impl Bytes {
         })
     }
 
-    /// Makes room for `more` bytes behind those that are there. The bytes stay the same, also where it fails.
+    /// Makes room for `more` bytes after those that are there. The bytes stay the same, even if it fails.
     pub fn reserve(&mut self, more: usize) -> Result<(), AllocError>
         ensures { self.new ≡ self.old }
     {
@@ -123,7 +123,7 @@ impl Bytes {
     }
 }
 
-/// A copy of a file's bytes, or None where it is absent.
+/// A copy of a file's bytes, or None if it is absent.
 pub fn copied(alloc: Global, bytes: Option<&Bytes>) -> Result<Option<Bytes>, AllocError>
     ensures { IfOk result (λ copy. copy ≡ option_copied bytes.entry) }
 {

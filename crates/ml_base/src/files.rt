@@ -1,4 +1,4 @@
-// Files that are read.
+// How the files of a list are read: the trait `Files`, and the errors of its calls.
 ghost use Rattle.std.specs.Prelude.{◌≡◌, ◌≤◌, ℕ, Bool, IsTrue, IfOk, IsErrOf, is_some};
 ghost use Rattle.ml_base.specs.Absent.{NoneOf};
 ghost use Rattle.ml_base.specs.Dir.{Dir};
@@ -31,7 +31,7 @@ impl From<AllocError> for FilesError {
 
 /// The files of a list, as they are read: a map from names to bytes.
 ///
-/// A type tells its map, or it doesn't, and then it owes nothing of it. The count of faults is told by every type.
+/// A type tells its map, or it doesn't, and then it promises nothing of it. Every type tells its count of faults.
 /// Reading changes nothing but that count: a later value is kept from an earlier one.
 pub trait Files {
     /// Whether it tells its map.
@@ -43,11 +43,11 @@ pub trait Files {
     /// How often a read has failed, as far as that can be counted in 64 bits.
     ghost faults: { Self → ℕ };
 
-    /// The second value is the first, read from at most.
+    /// The second value is the first, with at most reads in between.
     ghost kept: { Self → Self → Type 0 };
 
-    /// The bytes of a file, or None where it is absent. The name is one of the table other than the log's.
-    /// `Fault` comes only where the count of faults rose in this call.
+    /// The bytes of a file, or None if it is absent. The name is one of the table other than the log's.
+    /// `Fault` comes only if the count of faults rose in this call.
     fn get(&mut self, alloc: Global, name: Name) -> Result<Option<Bytes>, FilesError>
         requires { IsTrue (is_file name) }
         ensures value { IsTrue tells → IfOk result (λ found. found ≡ map self.old name) }
@@ -56,7 +56,7 @@ pub trait Files {
         ensures cause { IsErrOf result Fault → Rose (faults self.old) (faults self.new) };
 
     /// Whether a file is there. The name is one of the table other than the log's.
-    /// Where a type can tell it without the file's bytes, it has a body of its own. `Fault` comes only where the count of faults rose
+    /// A type that knows this without the file's bytes has a body of its own. `Fault` comes only if the count of faults rose
     /// in this call.
     fn has(&mut self, alloc: Global, name: Name) -> Result<bool, FilesError>
         requires { IsTrue (is_file name) }
@@ -71,9 +71,9 @@ pub trait Files {
         }
     }
 
-    /// A place from `from` on and at most `end` that a walk over the files of a kind may go on at: no file of the kind is at a place from
-    /// `from` on and before it. Where a type can tell more without a look at each place, it has a body of its own; `from` says nothing.
-    /// `Fault` comes only where the count of faults rose in this call.
+    /// A place from `from` to `end` at which a walk over the files of a kind may go on: no file of the kind is at a place from
+    /// `from` on and before it. A type that knows more without a look at every place has a body of its own; `from` itself says nothing.
+    /// `Fault` comes only if the count of faults rose in this call.
     fn skip_absent(
         &mut self,
         alloc: Global,
@@ -94,7 +94,7 @@ pub trait Files {
     /// A value is kept from itself.
     ghost kept_self: { (files : Self) → kept files files };
 
-    /// What is kept from a kept value is kept.
+    /// If a second value is kept from a first, and a third from the second, then the third is kept from the first.
     ghost kept_then: { (first second third : Self) → kept first second → kept second third → kept first third };
 
     /// A kept value has the same map.

@@ -1,4 +1,4 @@
-// The hash that picks a file: of an address among 53, of a subject among 256.
+// The hash that picks a file: one of 53 for an address, one of 256 for a subject.
 ghost use Rattle.std.specs.Prelude.{◌≡◌, ◌*◌, ◌%◌, ◌^◌, bit_xor};
 ghost use Rattle.ml_base.specs.Bytes.{lower};
 ghost use Rattle.ml_base.specs.Hash.{hash_of};
@@ -6,7 +6,7 @@ ghost use Rattle.ml_base.specs.Hash.{hash_of};
 // The hash of no bytes.
 const FIRST: u32 = 5381;
 
-/// The hash of a text, Bernstein's with exclusive or: from 5381 on, each byte is joined to 33 times the hash before it.
+/// The hash of a text, Bernstein's with exclusive or: it starts at 5381, and each byte is joined to 33 times the hash before it.
 /// It takes no memory.
 pub fn hash(text: &[u8]) -> u32
     ensures { result ≡ hash_of text.now }
@@ -29,7 +29,7 @@ pub fn hash_lower(text: &[u8]) -> u32
     h
 }
 
-// The hash with one byte more.
+// The hash after one more byte.
 fn hash_with(h: u32, byte: u8) -> u32
     ensures { result ≡ bit_xor ((h * 33) % 2 ^ 32) byte }
 {

@@ -1,4 +1,4 @@
-// The order of addresses by their keys.
+// The order in which addresses are sorted: by their keys.
 ghost use Rattle.std.specs.Prelude.{◌≡◌};
 ghost use Rattle.ml_base.specs.Address.{key};
 ghost use Rattle.ml_base.specs.Sorted.{byte_cmp};
@@ -6,8 +6,8 @@ ghost use Rattle.ml_base.specs.Keys as keys;
 
 use std::cmp::Ordering;
 
-/// How the keys of two addresses stand: their bytes in lower case, the first that differs decides, and a shorter key
-/// stands before one that goes on. It takes no memory.
+/// How the keys of two addresses compare: byte by byte in lower case, the first difference decides, and a shorter key
+/// comes before one that goes on. It takes no memory.
 pub fn compare_keys(a: &[u8], b: &[u8]) -> Ordering
     ensures { result ≡ byte_cmp (key a.now) (key b.now) }
 {

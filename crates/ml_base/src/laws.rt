@@ -1,4 +1,4 @@
-// What holds of the words of this crate, whatever text they are read from.
+// What holds of the values of this crate, whatever text they are read from.
 ghost use Rattle.std.specs.Prelude.{◌≡◌, true, false, ◌≤◌, ◌<◌, ◌+◌, ◌^◌, List, [], ◌++◌, ◌∷◌, ℕ, Bool, IsTrue, Some, None, is_some, length, if◌then◌else◌};
 ghost use Rattle.std.specs.List.{concat, list_any, AllByRecursion};
 ghost use Rattle.std.specs.Fmt.{decimal};
@@ -26,7 +26,7 @@ pub fn law_netstrings()
     ensures written { (content rest : Text) → length content < 10 ^ 18 → netstring_at (ns content ++ rest) ≡ Some (content, rest) }
 {}
 
-/// What is read of a text is an address as it is kept, an address is read as itself and is its parts round the `@`,
+/// An address that is read from a text is spelled as it is kept. An address is read as itself and is its parts joined by the `@`,
 /// its key is an address, no address has a NUL, and none has more than 400 bytes.
 pub fn law_addresses()
     ensures read { (text address : Text) → address_of text ≡ Some address → IsAddress address }
@@ -37,8 +37,8 @@ pub fn law_addresses()
     ensures short { (address : Text) → IsAddress address → length address ≤ 400 }
 {}
 
-/// Laying one row of puts and then another is laying them joined; the last put of a file decides; and a row leaves each
-/// file that it doesn't touch.
+/// Laying one row of puts and then another is the same as laying both joined. The last put of a file decides. A row leaves every
+/// file alone that it doesn't touch.
 pub fn law_puts()
     ensures appended { (dir : Dir) (first second : List Put) → with_puts dir (first ++ second) ≡ with_puts (with_puts dir first) second }
     ensures last { (dir : Dir) (puts : List Put) (put : Put) (name : Name) → with_puts dir (puts ++ put ∷ []) name ≡ (if same_name name put.name then put.bytes else with_puts dir puts name) }
@@ -46,8 +46,8 @@ pub fn law_puts()
     ensures others { (test : Name → Bool) (dir : Dir) (puts : List Put) (name : Name) → touches_only test puts ≡ true → test name ≡ false → with_puts dir puts name ≡ dir name }
 {}
 
-/// A list in the order of keys that are bytes: what is found in it with an entry and without a key, that it stays in
-/// order, how long it is, and that lists in order in which the same is found are one.
+/// Of a list in the order of keys that are bytes: what is found in it after an entry was put in or a key taken out, that it stays in
+/// order, how long it is, and that two lists in order are equal if the same is found in both.
 pub fn law_sorted_by_text<E>()
     ensures found_with { (key : E → Text) (k : Text) (e : E) (es : List E) →
         entry_of byte_cmp key k (with_entry byte_cmp key e es) ≡ (if eq_by_cmp byte_cmp k (key e) then Some e else entry_of byte_cmp key k es) }
@@ -63,7 +63,7 @@ pub fn law_sorted_by_text<E>()
         ((k : Text) → entry_of byte_cmp key k es ≡ entry_of byte_cmp key k fs) → es ≡ fs }
 {}
 
-/// The same of a list in the order of keys that are numbers.
+/// The same for a list in the order of keys that are numbers.
 pub fn law_sorted_by_number<E>()
     ensures found_with { (key : E → ℕ) (k : ℕ) (e : E) (es : List E) →
         entry_of nat_cmp key k (with_entry nat_cmp key e es) ≡ (if eq_by_cmp nat_cmp k (key e) then Some e else entry_of nat_cmp key k es) }
@@ -79,8 +79,8 @@ pub fn law_sorted_by_number<E>()
         ((k : ℕ) → entry_of nat_cmp key k es ≡ entry_of nat_cmp key k fs) → es ≡ fs }
 {}
 
-/// What is split at a byte is its parts with the byte between them, of which the first, or the last, hasn't it; what is
-/// put together so is split there; and a text without the byte isn't split.
+/// A text that is split at a byte is its two parts with the byte between them. The first part, or the last, doesn't have the byte. What is
+/// put together like this is split there again, and a text without the byte isn't split.
 pub fn law_splits()
     ensures first_read { (byte : ℕ) (text before behind : Text) → split_first byte text ≡ Some (before, behind) → (text ≡ before ++ byte ∷ behind) × (has_byte byte before ≡ false) }
     ensures first_written { (byte : ℕ) (before behind : Text) → has_byte byte before ≡ false → split_first byte (before ++ byte ∷ behind) ≡ Some (before, behind) }
@@ -90,14 +90,14 @@ pub fn law_splits()
     ensures last_absent { (byte : ℕ) (text : Text) → has_byte byte text ≡ false → split_last byte text ≡ None }
 {}
 
-/// The lines of a text make it; each ends behind its first LF, and the last where the text ends.
+/// The lines of a text make up the text. Each ends after its first LF, and the last one where the text ends.
 pub fn law_lines()
     ensures whole { (text : Text) → concat (lines text) ≡ text }
     ensures ended { (line rest : Text) → has_byte 10 line ≡ false → lines (line ++ 10 ∷ rest) ≡ (line ++ 10 ∷ []) ∷ lines rest }
     ensures last { (line : Text) → has_byte 10 line ≡ false → 0 < length line → lines line ≡ line ∷ [] }
 {}
 
-/// A text is one row of records at most, each with a NUL behind it, and one row of netstrings. Addresses make either.
+/// A text is at most one row of records, each followed by a NUL, and at most one row of netstrings. Addresses can make either.
 pub fn law_rows()
     ensures nul { (xs ys : List Text) → HaveNoNul xs → HaveNoNul ys → nul_row xs ≡ nul_row ys → xs ≡ ys }
     ensures netstrings { (xs ys : List Text) → AreShort xs → AreShort ys → ns_row xs ≡ ns_row ys → xs ≡ ys }
@@ -105,7 +105,7 @@ pub fn law_rows()
     ensures short { (addresses : List Text) → AllByRecursion IsAddress addresses → AreShort addresses }
 {}
 
-/// No two names of the table have one path.
+/// No two names of the table have the same path.
 pub fn law_paths()
     ensures { (a b : Name) → IsTrue (is_in_table a) → IsTrue (is_in_table b) → path_of a ≡ path_of b → a ≡ b }
 {}

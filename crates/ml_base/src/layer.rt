@@ -1,4 +1,4 @@
-// Puts laid over files.
+// Files with puts laid over them, so that later items of a group see what earlier ones did.
 ghost use Rattle.std.specs.Prelude.{◌≡◌, ◌<◌, ◌≤◌, ◌++◌, ℕ, true, false, IsTrue, IfOk, IsErrOf, OnOk, OnErr, is_some};
 ghost use Rattle.std.specs.Option.{option_copied};
 ghost use Rattle.ml_base.specs.Absent.{NoneOf, NoPutOf};
@@ -56,7 +56,7 @@ impl<F: Files> Files for Layer<F> {
 
     ghost kept = { λ a b. F.kept a.files b.files × (b.txn ≡ a.txn) };
 
-    /// The bytes of a file, or None where it is absent. Where a put names the file, the files below are not read.
+    /// The bytes of a file, or None if it is absent. If a put names the file, the files below are not read.
     fn get(&mut self, alloc: Global, name: Name) -> Result<Option<Bytes>, FilesError>
         requires { IsTrue (is_file name) }
         ensures value { IsTrue F.tells → IfOk result (λ found. found ≡ with_puts (F.map (files_below self.old)) (puts_over self.old) name) }
@@ -71,7 +71,7 @@ impl<F: Files> Files for Layer<F> {
         }
     }
 
-    /// Whether a file is there. Where a put names the file, the files below are not asked.
+    /// Whether a file is there. If a put names the file, the files below are not asked.
     fn has(&mut self, alloc: Global, name: Name) -> Result<bool, FilesError>
         requires { IsTrue (is_file name) }
         ensures value { IsTrue F.tells → IfOk result (λ there. there ≡ is_some (with_puts (F.map (files_below self.old)) (puts_over self.old) name)) }
@@ -86,7 +86,7 @@ impl<F: Files> Files for Layer<F> {
         }
     }
 
-    /// A place that a walk over the files of a kind may go on at. It is no further than the first one that a put names.
+    /// A place at which a walk over the files of a kind may go on. It is no further than the first one that a put names.
     fn skip_absent(
         &mut self,
         alloc: Global,
@@ -121,7 +121,7 @@ fn newest(puts: &[Put], name: Name) -> Option<&Put>
     puts.iter().rev().find(|put| put.name == name)
 }
 
-// The first place of a kind from one place on that a put names, or `end` where none names one before it.
+// The first place of a kind, from `from` on, that a put names, or `end` if no put names one before `end`.
 fn first_named(puts: &[Put], kind: u8, from: u64, end: u64) -> u64
     requires { from ≤ end }
     ensures range { (from ≤ result) × (result ≤ end) }
@@ -134,7 +134,7 @@ fn first_named(puts: &[Put], kind: u8, from: u64, end: u64) -> u64
     first
 }
 
-// The place of a file, where it is of the kind and from one place on and before another; else that other one.
+// The place of a file if it is of the kind, at `from` or later and before `end`; otherwise `end`.
 fn nearer(name: Name, kind: u8, from: u64, end: u64) -> u64
     requires { from ≤ end }
     ensures range { (from ≤ result) × (result ≤ end) }

@@ -1,4 +1,4 @@
-//! The words of a mailing list: names of files, addresses, byte strings, numbers and netstrings.
+//! The words of a mailing list that the other crates share: names of files, addresses, byte strings, numbers and netstrings.
 #![tactic(auto)]
 
 mod address;

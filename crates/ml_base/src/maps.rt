@@ -1,4 +1,4 @@
-// Files in memory, whose calls fail where they are told to.
+// Files in memory for tests, whose calls fail when they are told to.
 ghost use Rattle.std.specs.Prelude.{◌≡◌, ◌≤◌, ◌↔◌, true, IsTrue, IfOk, IsErrOf, Contains};
 ghost use Rattle.ml_base.specs.Faults.{Rose, next_call};
 ghost use Rattle.ml_base.specs.FilesInMemory.{dir_of, map_dir, map_faults, map_failing, map_made, faults_after, IsMapKept};
@@ -43,7 +43,7 @@ impl Files for MapFiles {
 
     ghost kept = { IsMapKept };
 
-    /// The bytes of a file, or None where it is absent. It fails exactly where the number of this call is named.
+    /// The bytes of a file, or None if it is absent. It fails exactly if the number of this call is among those that are to fail.
     fn get(&mut self, alloc: Global, name: Name) -> Result<Option<Bytes>, FilesError>
         requires { IsTrue (is_file name) }
         ensures value { IfOk result (λ found. found ≡ map_dir self.old name) }
@@ -61,7 +61,7 @@ impl Files for MapFiles {
         Ok(copied(alloc, self.files.get(&name))?)
     }
 
-    /// The first place of a kind that has a file. It is no call that may fail.
+    /// The first place of a kind that has a file. It never fails, and isn't counted as a call.
     fn skip_absent(
         &mut self,
         _alloc: Global,

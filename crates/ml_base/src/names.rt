@@ -1,4 +1,4 @@
-// Names of files, and the five sets.
+// Names of files as a kind and a place, with a constant or a function for each kind, and the five sets of addresses.
 ghost use Rattle.std.specs.Prelude.{◌≡◌, ◌<◌, ◌≤◌, IsTrue, length};
 ghost use Rattle.ml_base.specs.Kinds as kinds;
 ghost use Rattle.ml_base.specs.Name.{is_file, set_kind, set_word, set_of};
@@ -7,15 +7,15 @@ ghost use Rattle.ml_base.specs.Name as spec;
 /// A set of addresses that a list keeps.
 #[derive(Clone, Copy, Debug, PartialEq, Eq)]
 pub enum Set {
-    /// Who gets each post.
+    /// The addresses that get every post.
     List,
-    /// Who gets the digests.
+    /// The addresses that get the digests.
     Digest,
-    /// Who may post without being on the list.
+    /// The addresses that may post without being on the list.
     Allow,
-    /// Who may not post.
+    /// The addresses that may not post.
     Deny,
-    /// Who moderates.
+    /// The addresses that moderate.
     Moderators,
 }
 
@@ -34,7 +34,7 @@ impl Set {
         }
     }
 
-    /// The set of a word, or None where it is no set's. Words match in lower case alone.
+    /// The set of a word, or None if it is no set's word. Only words in lower case match.
     pub fn of_word(word: &[u8]) -> Option<Set>
         ensures { result ≡ set_of word.now }
     {
@@ -74,7 +74,7 @@ pub struct Name {
     pub at: u64,
 }
 
-/// The table of files. The numbers of kinds stand in this file and in that of paths alone.
+/// The table of files. In this crate only this file and `paths.rt` have the numbers of kinds.
 impl Name {
     /// The log.
     pub const LOG: Name = Name { kind: 0, at: 0 };
@@ -226,7 +226,7 @@ impl Name {
         }
     }
 
-    /// The name of a kind and a place, where it is one of the table of files other than the log's.
+    /// The name of a kind and a place, if it is one of the table of files other than the log's.
     pub fn file(kind: u64, at: u64) -> Option<Name>
         ensures { result ≡ spec.file_named kind at }
     {

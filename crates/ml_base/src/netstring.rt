@@ -1,4 +1,4 @@
-// Netstrings, in the form of Bernstein's note: `len:bytes,`.
+// Netstrings, which are read and written in the form of Bernstein's note: `len:bytes,`.
 ghost use Rattle.std.specs.Prelude.{◌≡◌, ◌≤◌, ◌<◌, ◌+◌, ◌++◌, take, drop, length, slice_range, IfSome, OnOk, OnErr};
 ghost use Rattle.std.specs.Fmt.{decimal};
 ghost use Rattle.std.specs.Option.{option_map};
@@ -15,7 +15,7 @@ pub struct Span {
     pub next: usize,
 }
 
-/// The netstring that begins at a place, or None where none does. It takes no memory.
+/// The netstring that begins at a place, or None if none begins there. It takes no memory.
 pub fn read_netstring(bytes: &[u8], at: usize) -> Option<Span>
     ensures value { option_map (λ s. (slice_range bytes.now s.from s.to, drop s.next bytes.now)) result ≡ netstring_at (drop at bytes.now) }
     ensures places { IfSome result (λ s. (at < s.from) × (s.from ≤ s.to) × (s.to + 1 ≡ s.next) × (s.next ≤ length bytes.now)) }
@@ -39,7 +39,7 @@ pub fn read_netstring(bytes: &[u8], at: usize) -> Option<Span>
     })
 }
 
-/// The content of the netstring that a text begins with, and the bytes behind it, or None where it begins with none.
+/// The content of the netstring that a text begins with, and the bytes after it, or None if the text begins with none.
 /// It takes no memory.
 pub fn split_netstring(text: &[u8]) -> Option<(&[u8], &[u8])>
     ensures value { option_map (λ p. (p.0.now, p.1.now)) result ≡ netstring_at text.now }
@@ -49,7 +49,7 @@ pub fn split_netstring(text: &[u8]) -> Option<(&[u8], &[u8])>
     Some((&text[span.from..span.to], &text[span.next..]))
 }
 
-// The length that bytes begin with, and the place behind its colon.
+// The length that bytes begin with, and the place after its colon.
 fn read_length(bytes: &[u8]) -> Option<(u64, usize)>
     ensures value { option_map (λ r. (r.0, drop r.1 bytes.now)) result ≡ length_from 999_999_999_999_999_999 0 0 bytes.now }
     ensures place { IfSome result (λ r. (0 < r.1) × (r.1 ≤ length bytes.now)) }

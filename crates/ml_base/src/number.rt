@@ -1,4 +1,4 @@
-// Numbers in decimal digits.
+// Numbers in decimal digits: how they are read and written. Each has one spelling.
 ghost use Rattle.std.specs.Prelude.{◌≡◌, ◌-◌, ◌^◌, ◌≤◌, ◌<◌, take, drop};
 ghost use Rattle.std.specs.Fmt.{decimal};
 ghost use Rattle.ml_base.specs.Numbers.{number_of};
@@ -6,14 +6,14 @@ ghost use Rattle.ml_base.specs.Numbers as numbers;
 
 use crate::LARGEST_READ;
 
-/// `now - then` in seconds, or 0 where `then` is later.
+/// `now - then` in seconds, or 0 if `then` is later.
 pub fn age(now: u64, then: u64) -> u64
     ensures { result ≡ now - then }
 {
     now.saturating_sub(then)
 }
 
-/// Whether a byte is a digit that goes on a number of `count` digits and the value `n`, up to a limit.
+/// Whether a byte is a digit that continues a number with `count` digits so far and the value `n`, and keeps it within a limit.
 /// No digit follows a leading zero.
 pub fn is_next_digit(limit: u64, count: usize, n: u64, byte: u8) -> bool
     requires limit { limit < 10 ^ 18 }
@@ -23,7 +23,7 @@ pub fn is_next_digit(limit: u64, count: usize, n: u64, byte: u8) -> bool
     byte.is_ascii_digit() && !(count == 1 && n == 0) && 10 * n + (byte - b'0') as u64 <= limit
 }
 
-/// The number up to the limit that a text spells in decimal without a leading zero, or None where it spells none.
+/// The number that a text spells in decimal without a leading zero, up to the limit, or None if it spells none.
 pub fn number_within(limit: u64, text: &[u8]) -> Option<u64>
     requires { limit < 10 ^ 18 }
     ensures { result ≡ numbers.number_within limit text.now }
@@ -38,14 +38,14 @@ pub fn number_within(limit: u64, text: &[u8]) -> Option<u64>
     if text.is_empty() { None } else { Some(n) }
 }
 
-/// The number that a text of `0`, or of 1 to 18 digits without a leading zero, spells, or None of another text.
+/// The number that a text spells, as `0` or as 1 to 18 digits without a leading zero, or None for any other text.
 pub fn read_number(text: &[u8]) -> Option<u64>
     ensures { result ≡ number_of text.now }
 {
     number_within(LARGEST_READ, text)
 }
 
-/// Writes the digits of a number to the front of `out`, and answers how many they are.
+/// Writes the digits of a number at the beginning of `out`, and answers how many they are.
 pub fn write_number(n: u64, out: &mut [u8; 20]) -> usize
     ensures fits { result ≤ 20 }
     ensures text { take result out.new ≡ decimal n }

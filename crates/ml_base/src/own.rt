@@ -1,4 +1,4 @@
-// Which addresses are the list's own.
+// Which addresses belong to the list itself: LOCAL@HOST and LOCAL-anything@HOST.
 ghost use Rattle.std.specs.Prelude.{◌≡◌};
 ghost use Rattle.std.specs.Str.{str_eq_ignore_ascii_case};
 ghost use Rattle.ml_base.specs.Own as own;
@@ -27,7 +27,7 @@ fn is_own_local(local: &[u8], before: &[u8]) -> bool
     is_alike(local, front) && is_own_rest(rest)
 }
 
-// Whether what is behind LOCAL is nothing, or `-` and any rest.
+// Whether what follows LOCAL is nothing, or `-` and any rest.
 fn is_own_rest(rest: &[u8]) -> bool
     ensures { result ≡ own.is_own_rest rest.now }
 {
@@ -37,7 +37,7 @@ fn is_own_rest(rest: &[u8]) -> bool
     }
 }
 
-// Whether two texts are one in any case of ASCII letters.
+// Whether two texts are the same if the case of ASCII letters is ignored.
 fn is_alike(a: &[u8], b: &[u8]) -> bool
     ensures { result ≡ str_eq_ignore_ascii_case a.now b.now }
 {

@@ -1,4 +1,4 @@
-// Why a part of the list gave no answer.
+// Why a part of the list gave no answer: the error type that the parts share.
 ghost use Rattle.std.specs.Prelude.{◌≡◌};
 ghost use Rattle.ml_base.specs.PartErrors.{part_error};
 ghost use Rattle.ml_base.specs.declared.part.PartError.TheVariants.{Memory};

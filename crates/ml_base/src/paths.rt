@@ -5,7 +5,7 @@ ghost use Rattle.ml_base.specs.Name.{is_in_table, path_of, folder_of, leaf_of, s
 use crate::names::is_bucket_kind;
 use crate::{Name, put_number, put_piece};
 
-/// Writes the path of a file below the list's folder to the front of `out`, and answers its length: at most 38 bytes.
+/// Writes the path of a file below the list's folder at the beginning of `out`, and answers its length: at most 38 bytes.
 /// It takes no memory.
 pub fn path(name: Name, out: &mut [u8; 48]) -> usize
     requires { IsTrue (is_in_table name) }
@@ -115,7 +115,7 @@ fn single(kind: u8) -> &'static [u8]
     }
 }
 
-// The word of the set whose number this is.
+// The word of the set that has this number.
 fn count(at: u64) -> &'static [u8]
     ensures text { result.now ≡ count_word at }
     ensures len { length result.now ≤ 6 }

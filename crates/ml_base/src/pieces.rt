@@ -4,7 +4,7 @@ ghost use Rattle.std.specs.Fmt.{decimal};
 
 use crate::write_number;
 
-/// Puts a piece into the buffer at a place, and answers the place behind it.
+/// Puts a piece into the buffer at a place, and answers the place after it.
 pub fn put_piece(out: &mut [u8], at: usize, piece: &[u8]) -> usize
     requires { at + length piece.now ≤ length out.old }
     ensures place { result ≡ at + length piece.now }
@@ -15,7 +15,7 @@ pub fn put_piece(out: &mut [u8], at: usize, piece: &[u8]) -> usize
     at + piece.len()
 }
 
-/// Puts the digits of a number into the buffer at a place, and answers the place behind them: at most 20 bytes further.
+/// Puts the digits of a number into the buffer at a place, and answers the place after them: at most 20 bytes further.
 pub fn put_number(out: &mut [u8], at: usize, number: u64) -> usize
     requires { at + 20 ≤ length out.old }
     ensures place { result ≤ at + 20 }

@@ -1,4 +1,4 @@
-// Which calls of an object in memory are to fail.
+// Which calls of an object in memory are to fail: tests use it to make a disk or a source fail.
 ghost use Rattle.std.specs.Prelude.{◌≡◌, ◌≤◌, ◌↔◌, IsTrue, Contains};
 ghost use Rattle.ml_base.specs.Faults.{next_call};
 
@@ -12,7 +12,7 @@ pub struct FaultPlan {
 }
 
 impl FaultPlan {
-    /// These calls are to fail, and none was made. It takes no memory.
+    /// These calls are to fail, and none was made so far. It takes no memory.
     pub fn new(failing: Numbers) -> FaultPlan
         ensures made { result.made ≡ 0 }
         ensures failing { result.failing ≡ failing }

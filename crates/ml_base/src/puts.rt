@@ -1,4 +1,4 @@
-// What is to be done to files.
+// What is to be done to files: a put gives one file new bytes or removes it, and a Txn is a row of puts.
 ghost use Rattle.std.specs.Prelude.{◌≡◌, ◌<◌, ◌+◌, ◌++◌, ◌∷◌, [], true, false, IfSome, IfNone, OnOk, OnErr, MatchOption, drop, length, slice_get};
 ghost use Rattle.ml_base.specs.Dir.{Dir, with_puts, touches, same_name};
 ghost use Rattle.ml_base.specs.Laying.{laid_in, IsNewestAt, are_distinct};
@@ -14,15 +14,15 @@ pub struct Put {
     pub bytes: Option<Bytes>,
 }
 
-/// A list of puts. A later put of a name wins.
+/// A row of puts. A later put of a name wins.
 pub type Txn = Row<Put>;
 
 /// A list of addresses.
 pub type AddressList = Row<Address>;
 
 impl Row<Put> {
-    /// Lays a put over the others: in the place of the newest one of its name, or last where there is none. Laid over any
-    /// files it makes the same of them as `push`, and no name stands twice where none did. An error changes nothing.
+    /// Lays a put over the others: in the place of the newest one of its name, or last if there is none. Laid over any
+    /// files it does the same to them as `push`, and no name comes twice if none did before. An error changes nothing.
     pub fn lay(&mut self, put: Put) -> Result<(), AllocError>
         ensures ok { OnOk result (self.new ≡ laid_in put self.old) }
         ensures as_pushed { OnOk result ((dir : Dir) (name : NameOf) → with_puts dir self.new name ≡ with_puts dir (self.old ++ put ∷ []) name) }

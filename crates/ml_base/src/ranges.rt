@@ -3,7 +3,7 @@ ghost use Rattle.std.specs.Prelude.{◌≡◌, ◌↔◌, IsTrue};
 ghost use Rattle.ml_base.specs.Ranges.{IsMoment};
 ghost use Rattle.ml_base.specs.Ranges as ranges;
 
-/// The last moment that is written and read, in seconds since 1970: the last second of the year 9999.
+/// The last moment that can be written and read, in seconds since 1970: the last second of the year 9999.
 pub const LAST_MOMENT: u64 = 253_402_300_799;
 
 /// The largest number of a post or of a digest. The first has number 1.
@@ -21,13 +21,13 @@ pub const LONGEST_PATH: u32 = 1000;
 /// The longest message of an item, in bytes: 32 MiB, which an answer and its log hold in memory at once.
 pub const LONGEST_MESSAGE: u32 = 33_554_432;
 
-/// The longest post that an index tells, in bytes. No message is as long, with what a list puts into it.
+/// The longest size of a post that an index can give, in bytes. No message is as long, even with what a list adds to it.
 pub const LONGEST_POST: u64 = 4_294_967_295;
 
-/// The largest number that is read from decimal digits: eighteen of them, which any machine's word holds.
+/// The largest number that is read from decimal digits: it has eighteen of them, and fits any machine's word.
 pub const LARGEST_READ: u64 = 999_999_999_999_999_999;
 
-/// Whether a number is a moment that is written and read: seconds since 1970, before the year 10000.
+/// Whether a number is a moment that can be written and read: seconds since 1970, before the year 10000.
 pub fn is_moment(n: u64) -> bool
     ensures test { result ≡ ranges.is_moment n }
     ensures moment { IsTrue result ↔ IsMoment n }

@@ -1,4 +1,4 @@
-// Lists that contracts see as such.
+// Vectors that contracts see as lists.
 ghost use Rattle.std.specs.Prelude.{◌≡◌, [], ◌∷◌, ◌++◌, OnOk, OnErr, ◌<◌, length, slice_set};
 
 use std::alloc::{AllocError, Global};

@@ -1,4 +1,4 @@
--- What is done about a due entry is to a ledger.
+-- How doing what is due for an entry changes its ledger.
 use Rattle.std.proofs.Common.{◌≡◌, ◌<◌, ℕ, Bool, true, false, cond, ◌&&◌, List, Option, Some, None, refl, sym, ap, ◌∙◌, subst, arith}
 use Rattle.std.specs.Prelude.{IsTrue, unwrap_or}
 use Rattle.std.proofs.lemmas.Bool.{lt-ltb}
@@ -19,7 +19,7 @@ use Rattle.ml_bounce.proofs.Leading.{IsKnown, known, put_known, under_key}
 moment : (t : ℕ) → t < 253_402_300_800 → IsTrue (is_moment t)
 moment t less = lt-ltb t 253_402_300_800 less
 
--- a key that is found is that of its entry
+-- the entry that is found for a key has this key
 pub found_key : (k : Text) (es : Ledger) (e : LedgerEntry) → find_entry k es ≡ Some e → e.key ≡ k
 found_key k es e found = sym (ap (λ (o : Option LedgerEntry). (unwrap_or o (no_entry k)).key) found) ∙ under_key k es
 
@@ -49,7 +49,7 @@ settled_leads dir set k bucket ledger e is file stands = go (is_blank_at e.stage
         subst (λ t. IsPut dir set k (cond t (forget e.key bucket) (with_ledger e bucket)) (cond t (forget e.key ledger) (with_ledger e ledger))) (sym some)
         (put_known dir set k bucket ledger e is some file stands)
 
--- what is done for an entry by the file of its key
+-- an act that is computed from the key's file does the same to the whole ledger
 pub acted_leads : (dir : Dir) (set : Set) (k : Text) (now : ℕ) (bucket ledger : Ledger) (e : LedgerEntry) (txn : List Put) → IsAddress k → lower k ≡ k → now < 253_402_300_800 → IsBucketOf dir set k bucket → IsLedger dir (ledger_kind set) ledger
     → find_entry k ledger ≡ Some e → txn ≡ acts set k now bucket → IsLedger (with_puts dir txn) (ledger_kind set) (act now e ledger)
 acted_leads dir set k now bucket ledger e txn address low less file stands found is =
@@ -59,13 +59,13 @@ acted_leads dir set k now bucket ledger e txn address low less file stands found
     subst (λ (t : List Put). IsLedger (with_puts dir t) (ledger_kind set) (act now e ledger)) (sym (is ∙ ap (acts_for set k now bucket) here))
     (settled_leads dir set k bucket ledger (after_at now e.stage e) (after_known k now e.stage e less entry) file stands)
 
--- what was done to one entry is the answer
+-- what was done to one entry is what the call answers
 pub acted_made : (set : Set) (k : Text) (es : Ledger) (now : ℕ) (e new : LedgerEntry) (txn : List Put) → Some e ≡ find_entry k es → new ≡ after_at now e.stage e → txn ≡ writes set new.key (settle new es) → txn ≡ acts set k now es
 acted_made set k es now e new txn found made put =
     let named : new.key ≡ k = ap (λ (f : LedgerEntry). f.key) made ∙ after_key now e.stage e ∙ found_key k es e (sym found) in
     put ∙ ap (λ (a : Text). writes set a (settle new es)) named ∙ ap (λ (f : LedgerEntry). writes set k (settle f es)) made ∙ ap (acts_for set k now es) found
 
--- it touches the key's file alone
+-- an act touches the key's file alone
 pub acts_only : (test : Name → Bool) (set : Set) (k : Text) (now : ℕ) (bucket : Ledger) (txn : List Put) → test (key_file set k) ≡ true → txn ≡ acts set k now bucket → touches_only test txn ≡ true
 acts_only test set k now bucket txn passes is = ap (touches_only test) is ∙ go (find_entry k bucket)
   where

@@ -1,4 +1,4 @@
--- What a file written anew makes of a ledger.
+-- How writing one file anew changes a ledger.
 use Rattle.std.proofs.Common.{◌≡◌, ◌≢◌, ℕ, cond, ◌==◌, ◌&&◌, [], ◌∷◌, Option, refl, ap}
 use Rattle.std.specs.Prelude.{unwrap_or}
 use Rattle.std.specs.List.{AllByRecursion, flat_map}
@@ -31,7 +31,7 @@ same_key a b = is_eq-slice_cmp a b
 pub found_there : (dir : Dir) (kind : ℕ) (ledger bucket : Ledger) (k : Text) → IsLedger dir kind ledger → IsLedgerFile (ledger_place k) (dir (ledger_name kind (ledger_place k))) bucket → find_entry k ledger ≡ find_entry k bucket
 found_there dir kind = keyed.found_there entry_key IsLedgerFile file_one (λ n. dir (ledger_name kind n))
 
--- the files of a ledger, one of which becomes another row of entries
+-- the files of a ledger, one of them with another row of entries
 abbrev with_row : Dir → ℕ → ℕ → Ledger → ℕ → Option Text
 with_row dir kind place es n = with_put dir (ledger_put kind place es) (ledger_name kind n)
 

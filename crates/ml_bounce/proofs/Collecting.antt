@@ -1,4 +1,4 @@
--- What the files of a ledger have together.
+-- What all files of a ledger have together: its due entries, and the ledger itself.
 use Rattle.std.proofs.Common.{◌≡◌, ◌<◌, ◌+◌, ℕ, Bool, true, false, cond, [], ◌∷◌, ◌++◌, Option, Some, None, refl, sym, ap, ◌∙◌, subst, arith}
 use Rattle.std.specs.Prelude.{IsTrue}
 use Rattle.std.specs.List.{AllByRecursion, filter, list_all}
@@ -25,7 +25,7 @@ use Rattle.ml_bounce.specs.Ledger.{Ledger, LedgerEntry, entry_key, find_entry}
 use Rattle.ml_bounce.proofs.Changed.{found_there}
 use Rattle.ml_bounce.proofs.Ledgers.{no_bad_file}
 
--- the first files have entries
+-- the first files have some entries
 abbrev pub Files : Dir → Set → ℕ → Type 0
 Files dir set n = (buckets : ℕ → Ledger) × AreFiles dir set n buckets
 
@@ -37,7 +37,7 @@ files_more dir set n es before is =
     let more = reads_more IsLedgerFile [] (λ done bucket. done ++ bucket) (λ bucket. bucket) (λ i. dir (ledger_name (ledger_kind set) i)) n (gathered before.0 n) es (before.0, before.1, refl) is in
     (more.0, more.1)
 
--- entries that were chosen of the first files
+-- entries that a test chose from the first files
 module _ (test : LedgerEntry → Bool) where
   abbrev pub Gathers : Dir → Set → ℕ → Ledger → Type 0
   Gathers dir set n found = Reads IsLedgerFile [] (λ done bucket. done ++ bucket) (filter test) (λ i. dir (ledger_name (ledger_kind set) i)) n found
@@ -49,7 +49,7 @@ module _ (test : LedgerEntry → Bool) where
   gathers_more dir set n found more es before is all =
       subst (λ (l : Ledger). Gathers dir set (n + 1) l) (sym all) (reads_more IsLedgerFile [] (λ done bucket. done ++ bucket) (filter test) (λ i. dir (ledger_name (ledger_kind set) i)) n found es before is)
 
-  -- what holds of each of a list holds of those that are chosen
+  -- what holds of all entries of a list holds of those that are chosen
   each_filter : (P : LedgerEntry → Type 0) (es : Ledger) → AllByRecursion P es → AllByRecursion P (filter test es)
   each_filter P [] all = tt
   each_filter P (e ∷ es) all = go (test e) (each_filter P es all.1)
@@ -74,7 +74,7 @@ module _ (test : LedgerEntry → Bool) where
       go true here more = and_from _ _ here more
       go false here more = more
 
-  -- an entry, where it is chosen
+  -- an entry, if it is chosen
   abbrev when_chosen : Option LedgerEntry → Option LedgerEntry
   when_chosen None = None
   when_chosen (Some e) = cond (test e) (Some e) None
@@ -104,12 +104,12 @@ hashed_each n (e ∷ es) all =
     let first : IsEntry n e = all.0 in
     (first.hashed, hashed_each n es all.1)
 
--- files that are all in their grammar stand for a ledger
+-- if all files are in their grammar, they stand for a ledger
 pub ledger_of_files : (dir : Dir) (set : Set) (buckets : ℕ → Ledger) → AreFiles dir set 53 buckets → (ledger : Ledger) × IsLedger dir (ledger_kind set) ledger
 ledger_of_files dir set buckets files =
     (merged entry_key buckets 53, union_of entry_key IsLedgerFile (λ n file es is. hashed_each n es is.each) (λ n file es is. is.sorted) (λ n. dir (ledger_name (ledger_kind set) n)) buckets files)
 
--- the due entries of the files in order of key are those of the ledger
+-- the due entries of all files, put in order of key, are those of the ledger
 pub due_sorted : (dir : Dir) (set : Set) (now : ℕ) (found sorted ledger : Ledger) → Gathers (is_due now) dir set 53 found → IsPermutation found sorted → IsSortedByKey entry_key byte_cmp sorted → IsLedger dir (ledger_kind set) ledger
     → sorted ≡ due_entries now ledger
 due_sorted dir set now found sorted ledger all moved up is =
@@ -122,19 +122,15 @@ due_sorted dir set now found sorted ledger all moved up is =
     by_key.1 k (place_below k) ∙ found_filter test k (all.0 (ledger_place k)) (all.1 (ledger_place k) (place_below k)).sorted
     ∙ ap (when_chosen test) (sym (found_there dir (ledger_kind set) ledger (all.0 (ledger_place k)) k is (all.1 (ledger_place k) (place_below k)))) ∙ sym (found_filter test k ledger is.sorted))
 
--- where the files stand for a ledger, none is outside its grammar
-pub sound_files : (e : PartError) (dir : Dir) (set : Set) (ledger : Ledger) → IsLedger dir (ledger_kind set) ledger → OnDamaged e (IsBadFile dir set) → OnDamaged e (λ _. ⊥)
-sound_files e dir set ledger is bad = on_damaged e (IsBadFile dir set) (λ _. ⊥) (λ name b. no_bad_file dir set b.0 ledger b.1 is b.3) bad
-
 abbrev pub SomeLedger : Dir → Set → Type 0
 SomeLedger dir set = (ledger : Ledger) × IsLedger dir (ledger_kind set) ledger
 
--- where the files of each set with a ledger stand for one, none is outside its grammar
+-- if the files of every set with a ledger stand for one, none of them is outside its grammar
 pub sound_sets : (dir : Dir) → ((set : Set) → IsTrue (has_ledger set) → SomeLedger dir set) → (e : PartError) → OnDamaged e (λ name. (set : Set) × IsTrue (has_ledger set) × IsBadFile dir set name) → OnDamaged e (λ _. ⊥)
 sound_sets dir all e bad =
     on_damaged e (λ name. (set : Set) × IsTrue (has_ledger set) × IsBadFile dir set name) (λ _. ⊥) (λ name b. no_bad_file dir b.0 (b.2).0 (all b.0 b.1).0 (b.2).1 (all b.0 b.1).1 (b.2).3) bad
 
--- what holds of each set with a ledger
+-- what holds of the sets list and digest holds of every set with a ledger
 pub each_ledger : (P : Set → Type 0) → P sets.List → P sets.Digest → (set : Set) → IsTrue (has_ledger set) → P set
 each_ledger P a b sets.List has = a
 each_ledger P a b sets.Digest has = b

@@ -1,4 +1,4 @@
--- What must have happened before a probe's failure takes an entry out.
+-- What must have happened to an address before a bounced probe takes its entry out.
 use Rattle.std.proofs.Common.{◌≡◌, ◌≢◌, ℕ, Bool, true, false, cond, not, List, [], ◌∷◌, ◌++◌, Option, Some, None, refl, sym, ap, ◌∙◌, subst, append_assoc, append-nil, inl, inr}
 use Rattle.std.specs.Prelude.{unwrap_or}
 use Rattle.std.specs.List.{AllByRecursion}
@@ -15,7 +15,7 @@ use Rattle.ml_bounce.specs.Changes.{can_note, noted, is_warned, probe_failed, is
 use Rattle.ml_bounce.specs.Course.{Change, Bounced, WarningBounced, ProbeBounced, Served, Forgotten, after, after_all, StandInOrder, IsCourse}
 use Rattle.ml_bounce.specs.Ledger.{Ledger, LedgerEntry, Stage, Unwarned, Warned, WarnFailed, Probed, find_entry, entry_under, no_entry, with_ledger, forget, settle, is_blank_at}
 
--- what is under a key
+-- the entry under a key, after an entry was put or removed
 same_key : (a b : Text) → eq_by_cmp byte_cmp a b ≡ bytes_eq a b
 same_key a b = is_eq-slice_cmp a b
 
@@ -48,7 +48,7 @@ under_key k ledger = go (find_entry k ledger) refl
     go None found = refl
     go (Some e) found = sym (same_bytes k e.key (found_is byte_cmp (λ (e : LedgerEntry). e.key) (λ e. Unit {0}) k e ledger (all_unit ledger) found).1)
 
--- an entry in the place of the key's own
+-- an entry that was put is the one under its key
 under_own : (k : Text) (e : LedgerEntry) (ledger : Ledger) → e.key ≡ k → entry_under k (with_ledger e ledger) ≡ e
 under_own k e ledger same = under_with k e ledger ∙ ap (λ b. cond b e (entry_under k ledger)) ((bytes_eq-Decides k e.key).1 (sym same))
 
@@ -68,7 +68,7 @@ under_other k e ledger apart = under_with k e ledger ∙ ap (λ b. cond b e (ent
 under_left : (k a : Text) (ledger : Ledger) → k ≢ a → entry_under k (forget a ledger) ≡ entry_under k ledger
 under_left k a ledger apart = under_without k a ledger ∙ ap (λ b. cond b (no_entry k) (entry_under k ledger)) (apart_test k a apart)
 
--- rows of changes
+-- rows of changes, with one more at the end
 in_order_on : (ws cs : List Change) (c : Change) → StandInOrder ws cs → StandInOrder ws (cs ++ c ∷ [])
 in_order_on [] cs c is = tt
 in_order_on (w ∷ ws) [] c is = absurd is
@@ -90,7 +90,7 @@ module _ (k : Text) where
   abbrev Keeps : Change → Type 0
   Keeps c = c ≢ Forgotten k
 
-  -- mail to the key bounced at `first`, and since then these changes came in order, and it wasn't forgotten
+  -- mail to the key bounced at `first`; since then these changes came in order, and the key wasn't forgotten
   pub record Told (changes : List Change) (first : ℕ) (wanted : List Change) : Type 0 where
     pub before : List Change
     pub number : ℕ
@@ -122,7 +122,7 @@ module _ (k : Text) where
     kept = all_on Keeps is.since c is.kept keeps;
   }
 
-  -- what a stage tells of the changes before
+  -- what a stage says of the changes before it
   abbrev Stands : List Change → Stage → Type 0
   Stands h Unwarned = Unit {0}
   Stands h (Warned t) = (first : ℕ) × Told h first (Served k t ∷ []) × (is_old t first ≡ true)
@@ -135,7 +135,7 @@ module _ (k : Text) where
   stands_on h c (WarnFailed f) keeps is = (is.0, is.1, told_on h c is.0 (Served k is.1 ∷ WarningBounced k is.1 f ∷ []) keeps is.2, is.3)
   stands_on h c (Probed t) keeps is = (is.0, is.1, is.2, told_on h c is.0 (Served k is.1 ∷ WarningBounced k is.1 is.2 ∷ Served k t ∷ []) keeps is.3, is.4, is.5)
 
-  -- what an entry tells of the changes before
+  -- what an entry says of the changes before it
   pub record Knows (h : List Change) (e : LedgerEntry) : Type 0 where
     pub missed : is_empty e.missed ≡ false → Told h e.first []
     pub stage : Stands h e.stage
@@ -149,11 +149,11 @@ module _ (k : Text) where
   abbrev Next : List Change → Change → Ledger → Type 0
   Next h c ledger = Knows (h ++ c ∷ []) (entry_under k (after c ledger))
 
-  -- nothing changes under the key
+  -- a change that leaves the key's entry as it is
   stays : (h : List Change) (c : Change) (ledger other : Ledger) → Keeps c → Knows h (entry_under k ledger) → after c ledger ≡ other → entry_under k other ≡ entry_under k ledger → Next h c ledger
   stays h c ledger other keeps is e same = subst (λ x. Knows (h ++ c ∷ []) x) (sym (ap (entry_under k) e ∙ same)) (knows_on h c (entry_under k ledger) keeps is)
 
-  -- what it becomes
+  -- a change that replaces the key's entry
   becomes : (h : List Change) (c : Change) (ledger other : Ledger) (new : LedgerEntry) → Knows (h ++ c ∷ []) new → after c ledger ≡ other → entry_under k other ≡ new → Next h c ledger
   becomes h c ledger other new is e same = subst (λ x. Knows (h ++ c ∷ []) x) (sym (ap (entry_under k) e ∙ same)) is
 
@@ -199,7 +199,7 @@ module _ (k : Text) where
           (ap (λ t. unwrap_or (cond t (Some (with_ledger (noted number now (entry_under k ledger)) ledger)) None) ledger) notes)
           (under_own k (noted number now (entry_under k ledger)) ledger (under_key k ledger))
 
-  -- its warning bounces
+  -- the key's warning bounces
   warned_on : (h : List Change) (t now : ℕ) (s : Stage) → Stands h s → is_warned t s ≡ true → Stands (h ++ WarningBounced k t now ∷ []) (WarnFailed now)
   unfolding is_forgetting
   warned_on h t now Unwarned is e = absurd (false≢true e)
@@ -227,7 +227,7 @@ module _ (k : Text) where
           (ap (λ b. unwrap_or (cond b (Some (with_ledger (record (entry_under k ledger) { stage = WarnFailed now }) ledger)) None) ledger) e)
           (under_own k (record (entry_under k ledger) { stage = WarnFailed now }) ledger (under_key k ledger))
 
-  -- its probe bounces
+  -- the key's probe bounces
   probe_bounced : (h : List Change) (t : ℕ) (ledger : Ledger) → Knows h (entry_under k ledger) → Next h (ProbeBounced k t) ledger
   unfolding is_forgetting
   probe_bounced h t ledger is = go (is_probed t (entry_under k ledger).stage) refl
@@ -236,7 +236,7 @@ module _ (k : Text) where
       go false e = stays h (ProbeBounced k t) ledger ledger (keeps_on (ProbeBounced k t) refl) is (ap (λ b. unwrap_or (cond b (Some (forget k ledger)) None) ledger) e) refl
       go true e = becomes h (ProbeBounced k t) ledger (forget k ledger) (no_entry k) (knows_none (h ++ ProbeBounced k t ∷ [])) (ap (λ b. unwrap_or (cond b (Some (forget k ledger)) None) ledger) e) (under_gone k ledger)
 
-  -- what is due is done
+  -- what is due for the key is done
   served_entry : (h : List Change) (now : ℕ) (s : Stage) (e : LedgerEntry) → Stands h s → (is_empty e.missed ≡ false → Told h e.first []) → is_due_at now s e ≡ true → Knows (h ++ Served k now ∷ []) (after_at now s e)
   unfolding is_forgetting
   served_entry h now Unwarned e is missed due =

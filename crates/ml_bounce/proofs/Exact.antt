@@ -1,4 +1,4 @@
--- A ledger's file is read as exactly the entries that it spells.
+-- A file of a ledger is read as exactly the entries that it spells.
 use Rattle.std.proofs.Common.{◌≡◌, ◌↔◌, ◌<◌, ◌≤◌, ◌^◌, ◌+◌, ℕ, Bool, true, false, cond, not, ◌==◌, ◌||◌, List, [], ◌∷◌, ◌++◌, length, Option, Some, None, refl, sym, ap, ap₂, ◌∙◌, subst, arith, append_assoc, append-nil, length-append, option_map}
 use Rattle.std.specs.Prelude.{unwrap_or}
 use Rattle.std.specs.Fmt.{decimal}
@@ -23,7 +23,7 @@ use Rattle.ml_bounce.specs.Files.{IsLedgerFile, IsEntry, ledger_place, content_t
 use Rattle.ml_bounce.specs.Ledger.{Ledger, LedgerEntry, Stage, Unwarned, Warned, WarnFailed, Probed, is_blank_at}
 use Rattle.ml_bounce.specs.Reading.{stage_of, key_in, entry_with, fits, entry_of_fields, entry_of_content, entry_at, ledger_of}
 
--- a stage
+-- a stage is read as it is spelled
 moment_range : (t : ℕ) → is_stage (Warned t) ≡ true → t < 253_402_300_800
 moment_range t e = ltb-true t 253_402_300_800 e
 
@@ -74,7 +74,7 @@ stage_written (Warned t) e = ap (option_map (λ t. Warned t)) (moment_written t 
 stage_written (WarnFailed t) e = ap (option_map (λ t. WarnFailed t)) (moment_written t (moment_range t e))
 stage_written (Probed t) e = ap (option_map (λ t. Probed t)) (moment_written t (moment_range t e))
 
--- a key
+-- a key is read as it is spelled
 pub key_read : (text k : Text) → key_in text ≡ Some k → (k ≡ text) × IsAddress k × (lower k ≡ k)
 key_read text k e =
     let o = only_read (λ k. bytes_eq (lower k) k) (address_in text) k e in
@@ -84,7 +84,7 @@ key_read text k e =
 pub key_written : (k : Text) → IsAddress k → lower k ≡ k → key_in k ≡ Some k
 key_written k is low = only_there (λ k. bytes_eq (lower k) k) (address_in k) k (address_there k is) ((bytes_eq-Decides (lower k) k).1 low)
 
--- what the values of an entry are to each other
+-- how the values of an entry fit each other
 first_test : (none zeroed : Bool) → (not none || zeroed) ≡ true → none ≡ true → zeroed ≡ true
 first_test true zeroed e h = e
 first_test false zeroed e h = absurd (false≢true h)
@@ -185,7 +185,7 @@ fields_written n e is =
     only_there (fits n) (option_map entry_with (both_of (key_in e.key) (both_of (moment_in (decimal e.first)) (both_of (stage_of (stage_text e.stage)) (comma_numbers 99_999_999 (comma_text e.missed)))))) e
     (ap (option_map entry_with) values) (fits_told n e (fits_entry n e is))
 
--- how long they are
+-- how long these texts are
 moment_length : (t : ℕ) → is_stage (Warned t) ≡ true → length (decimal t) ≤ 12
 moment_length t e = let m = moment_range t e in length-decimal-le 12 t (omega arith) (omega (arith, m)) (omega (arith, m))
 
@@ -244,7 +244,7 @@ fields_short n e is =
     let k = b.key in let f = b.first in let s = b.stage in let m = b.missed in
     (omega (arith, k), (omega (arith, f), (omega (arith, s), (omega (arith, m), tt))))
 
--- an entry's content is the row of these texts
+-- the content of an entry is the row of these texts
 content_row : (e : LedgerEntry) → content_text e ≡ ns_row (fields e) ++ []
 content_row e =
     let a = ns e.key in let b = ns (decimal e.first) in let c = ns (stage_text e.stage) in let d = ns (comma_text e.missed) in
@@ -271,7 +271,7 @@ content_read n text e h = go (netstrings_at 4 text) refl
     go None found = absurd (none_some e (sym (ap (option_and_then (ended n)) found) ∙ h))
     go (Some p) found = behind p.0 p.1 found (sym (ap (option_and_then (ended n)) found) ∙ h)
 
--- an entry at the front of a text
+-- an entry at the beginning of a text
 abbrev with_rest : ℕ → Text × Text → Option (LedgerEntry × Text)
 with_rest n found = option_map (λ e. (e, found.1)) (entry_of_content n found.0)
 
@@ -300,7 +300,7 @@ entry_read n place text e rest h = go (netstring_at text) refl
 pub entry_some : (e : LedgerEntry) → 0 < length (entry_text e)
 entry_some e = omega (arith, length-append (decimal (length (content_text e)) ++ (58 ∷ content_text e)) (44 ∷ []))
 
--- each entry, whichever its place
+-- the entries of a file, each at whatever place
 each_placed : (n k : ℕ) (es : Ledger) → AllByRecursion (IsEntry n) es → EachFrom (λ place. IsEntry n) k es
 each_placed n k [] all = tt
 each_placed n k (e ∷ es) all = (all.0, each_placed n (k + 1) es all.1)
@@ -327,6 +327,6 @@ file_written n file es is =
 pub file_exact : (n : ℕ) (file : Option Text) (es : Ledger) → (ledger_of n (unwrap_or file []) ≡ Some es) ↔ IsLedgerFile n file es
 file_exact n file es = (file_read n file es, file_written n file es)
 
--- a file spells one row of entries at most
+-- a file spells at most one row of entries
 pub file_one : (n : ℕ) (file : Option Text) (es fs : Ledger) → IsLedgerFile n file es → IsLedgerFile n file fs → es ≡ fs
 file_one n file es fs is other = one_some es fs (sym (file_written n file es is) ∙ file_written n file fs other)

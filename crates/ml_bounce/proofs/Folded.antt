@@ -1,4 +1,4 @@
--- Texts without a capital letter.
+-- Capital letters: a text that was made lower case has none.
 use Rattle.std.proofs.Common.{◌≡◌, ℕ, false, [], ◌∷◌, refl, arith}
 use Rattle.std.proofs.lemmas.Bool.Decides.{nat_tests}
 use Rattle.std.proofs.lemmas.Bool.{or_from}

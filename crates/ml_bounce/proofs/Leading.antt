@@ -1,4 +1,4 @@
--- What a change of an entry is to a ledger.
+-- A change that is computed from one file of a ledger does the same to the whole ledger.
 use Rattle.std.proofs.Common.{◌≡◌, ◌<◌, ◌≤◌, ℕ, Bool, true, false, cond, not, ◌==◌, ◌&&◌, List, [], ◌∷◌, ◌++◌, length, Option, Some, None, refl, sym, ap, ◌∙◌, subst, arith, length-append}
 use Rattle.std.specs.Prelude.{IsTrue, unwrap_or}
 use Rattle.std.specs.Option.{option_map}
@@ -26,7 +26,7 @@ use Rattle.ml_keyed.proofs.Keys.{own_key}
 pub lowered_key : (who : Text) → lower (key who) ≡ key who
 lowered_key who = own_key (lower who) (none_capital who)
 
--- the entry of a key has that key
+-- the entry under a key has that key
 pub under_key : (k : Text) (es : Ledger) → (entry_under k es).key ≡ k
 under_key k [] = refl
 under_key k (e ∷ es) = go (eq_by_cmp byte_cmp k e.key) refl (under_key k es)
@@ -35,7 +35,7 @@ under_key k (e ∷ es) = go (eq_by_cmp byte_cmp k e.key) refl (under_key k es)
     go true is more = sym ((bytes_eq-Decides k e.key).0 (sym (same_key k e.key) ∙ is))
     go false is more = more
 
--- an entry of a key, if there is something to remember
+-- an entry of a key that a file can spell, if it has something to remember
 pub record IsKnown (k : Text) (e : LedgerEntry) : Type 0 where
   pub key : e.key ≡ k
   pub address : IsAddress k
@@ -47,7 +47,7 @@ pub record IsKnown (k : Text) (e : LedgerEntry) : Type 0 where
   pub distinct : are_distinct e.missed ≡ true
   pub no_first : is_empty e.missed ≡ true → e.first ≡ 0
 
--- what a file has of a key
+-- the entry that a file has under a key is such an entry
 pub known : (k : Text) (n : ℕ) (file : Option Text) (es : Ledger) → IsAddress k → lower k ≡ k → IsLedgerFile n file es → IsKnown k (entry_under k es)
 known k n file es address low is = go (find_entry k es) refl
   where
@@ -64,7 +64,7 @@ known k n file es address low is = go (find_entry k es) refl
 abbrev IsPut : Dir → Set → Text → Ledger → Ledger → Type 0
 IsPut dir set k bucket ledger = IsLedger (with_puts dir (writes set k bucket)) (ledger_kind set) ledger
 
--- an entry with something to remember is put into a ledger by the file of its key
+-- an entry with something to remember is put into a ledger by way of its key's file
 pub put_known : (dir : Dir) (set : Set) (k : Text) (bucket ledger : Ledger) (e : LedgerEntry) → IsKnown k e → is_blank_at e.stage e.missed ≡ false → IsBucketOf dir set k bucket → IsLedger dir (ledger_kind set) ledger
     → IsLedger (with_puts dir (writes set k (with_ledger e bucket))) (ledger_kind set) (with_ledger e ledger)
 put_known dir set k bucket ledger e is some file stands =
@@ -92,7 +92,7 @@ not_false : (b : Bool) → not b ≡ true → b ≡ false
 not_false true e = absurd (false≢true e)
 not_false false e = refl
 
--- a number more that isn't there
+-- a number is added that isn't there yet
 distinct_push : (ms : List ℕ) (n : ℕ) → are_distinct ms ≡ true → list_any (λ m. m == n) ms ≡ false → are_distinct (ms ++ n ∷ []) ≡ true
 distinct_push [] n all none = refl
 distinct_push (m ∷ ms) n all none =
@@ -121,7 +121,7 @@ first_of : (b : Bool) (now first : ℕ) → IsTrue (is_moment now) → IsTrue (i
 first_of true now first p q = p
 first_of false now first p q = q
 
--- an entry with a number noted
+-- an entry with one more missed number
 noted_known : (k : Text) (number now : ℕ) (e : LedgerEntry) → IsKnown k e → can_note number e ≡ true → number ≤ 99_999_999 → now < 253_402_300_800 → IsKnown k (noted number now e)
 noted_known k number now e is can small less =
     let parts = and_parts (not (list_any (λ n. n == number) e.missed)) _ can in
@@ -139,7 +139,7 @@ noted_known k number now e is can small less =
       no_first = λ none. absurd (false≢true (sym (push_some e.missed number) ∙ none));
     }
 
--- where a change comes or not, so does what it leads to
+-- if the test holds, the answer leads to the new ledger, and otherwise there is none
 lead_if : (dir : Dir) (set : Set) (k : Text) (b : Bool) (bucket ledger : Ledger) → (b ≡ true → IsPut dir set k bucket ledger) → LeadsTo dir set (option_map (writes set k) (cond b (Some bucket) None)) (cond b (Some ledger) None)
 lead_if dir set k true bucket ledger h = h refl
 lead_if dir set k false bucket ledger h = tt
@@ -147,9 +147,6 @@ lead_if dir set k false bucket ledger h = tt
 module _ (dir : Dir) (set : Set) (k : Text) (bucket ledger : Ledger) (file : IsBucketOf dir set k bucket) (stands : IsLedger dir (ledger_kind set) ledger) where
   pub same_under : entry_under k bucket ≡ entry_under k ledger
   same_under = ap (λ (o : Option LedgerEntry). unwrap_or o (no_entry k)) (sym (found_there dir (ledger_kind set) ledger bucket k stands file))
-
-  abbrev Leads : Option (List Put) → Option Ledger → Option Ledger → Type 0
-  Leads answer b l = LeadsTo dir set answer l
 
   pub note_leads : (number now : ℕ) (answer : Option (List Put)) → IsAddress k → lower k ≡ k → number ≤ 99_999_999 → now < 253_402_300_800 → answer ≡ option_map (writes set k) (note k number now bucket) → LeadsTo dir set answer (note k number now ledger)
   note_leads number now answer address low small less is =
@@ -185,7 +182,7 @@ answer_only test set k o answer passes is = ap (λ (a : Option (List Put)). touc
     go None = refl
     go (Some es) = ap (λ t. t && true) passes
 
--- what was done to one entry is the answer
+-- what was done to one entry is what the call answers
 pub note_made : (set : Set) (k : Text) (es : Ledger) (number now : ℕ) (can : Bool) (e new : LedgerEntry) (txn : List Put) → e ≡ entry_under k es → can ≡ can_note number e → can ≡ true → new ≡ noted number now e
     → txn ≡ writes set new.key (with_ledger new es) → Some txn ≡ option_map (writes set k) (note k number now es)
 note_made set k es number now can e new txn own test right made put =

@@ -1,4 +1,4 @@
--- What a change of one file is to a ledger.
+-- How a change of one file changes a ledger, and that sound files are in their grammar.
 use Rattle.std.proofs.Common.{◌≡◌, ◌<◌, ℕ, Bool, true, false, cond, not, ◌&&◌, List, [], ◌∷◌, Option, Some, None, is_some, refl, sym, ap, ap₂, ◌∙◌, subst, arith}
 use Rattle.std.specs.Prelude.{IsTrue, unwrap_or}
 use Rattle.std.specs.Ordering.{eq_by_cmp}
@@ -26,7 +26,7 @@ use Rattle.ml_rows.proofs.RowLaws.{none_some}
 pub name_itself : (name : Name) → same_name name name ≡ true
 name_itself name = and_from _ _ (eq-eqb name.kind name.kind refl) (eq-eqb name.at name.at refl)
 
--- the files of a ledger are of the table
+-- the files of a ledger are files of the table
 pub ledger_file_of : (set : Set) (n : ℕ) → IsTrue (has_ledger set) → n < 53 → is_file (ledger_name (ledger_kind set) n) ≡ true
 ledger_file_of sets.List n has less = ap₂ (λ a b. (a && b) && true) (le-leb 0 n (omega arith)) (le-leb n 52 (omega (arith, less)))
 ledger_file_of sets.Digest n has less = ap₂ (λ a b. (a && b) && true) (le-leb 0 n (omega arith)) (le-leb n 52 (omega (arith, less)))
@@ -34,7 +34,7 @@ ledger_file_of sets.Allow n has less = absurd (false≢true has)
 ledger_file_of sets.Deny n has less = absurd (false≢true has)
 ledger_file_of sets.Moderators n has less = absurd (false≢true has)
 
--- a row of entries without the entry of a key, where there is none
+-- without an entry of a key, forgetting the key changes nothing
 forget_absent : (k : Text) (es : Ledger) → find_entry k es ≡ None → forget k es ≡ es
 forget_absent k [] none = refl
 forget_absent k (e ∷ es) none = go (eq_by_cmp byte_cmp k e.key) refl none (forget_absent k es)
@@ -43,11 +43,11 @@ forget_absent k (e ∷ es) none = go (eq_by_cmp byte_cmp k e.key) refl none (for
     go true is none later = absurd (none_some e (sym none))
     go false is none later = ap (λ t. cond (not t) (e ∷ forget k es) (forget k es)) is ∙ ap (λ xs. e ∷ xs) (later none)
 
--- a bucket as another directory has it
+-- a file that two directories have alike
 pub bucket_in : (dir other : Dir) (set : Set) (k : Text) (bucket : Ledger) → dir (key_file set k) ≡ other (key_file set k) → IsBucketOf other set k bucket → IsBucketOf dir set k bucket
 bucket_in dir other set k bucket same is = subst (λ (f : Option Text). IsLedgerFile (ledger_place k) f bucket) (sym same) is
 
--- a key is forgotten by its bucket
+-- forgetting a key in its file forgets it in the ledger
 pub forgotten_by : (dir : Dir) (set : Set) (k : Text) (bucket ledger : Ledger) (txn : List Put) → IsBucketOf dir set k bucket → txn ≡ forgets set k bucket → IsLedger dir (ledger_kind set) ledger
     → IsLedger (with_puts dir txn) (ledger_kind set) (forget k ledger)
 forgotten_by dir set k bucket ledger txn file is stands = subst (λ (t : List Put). IsLedger (with_puts dir t) (ledger_kind set) (forget k ledger)) (sym is) (go (find_entry k bucket) refl)
@@ -61,7 +61,7 @@ forgotten_by dir set k bucket ledger txn file is stands = subst (λ (t : List Pu
         subst (λ b. IsLedger (with_puts dir (cond b (writes set k (forget k bucket)) [])) (ledger_kind set) (forget k ledger)) (sym (ap is_some found))
         (forgotten_there dir (ledger_kind set) ledger bucket k stands file)
 
--- what is forgotten touches the key's file alone
+-- forgetting touches the key's file alone
 pub forgets_only : (test : Name → Bool) (set : Set) (k : Text) (bucket : Ledger) (txn : List Put) → test (key_file set k) ≡ true → txn ≡ forgets set k bucket → touches_only test txn ≡ true
 forgets_only test set k bucket txn passes is = ap (touches_only test) is ∙ go (is_some (find_entry k bucket))
   where
@@ -69,14 +69,11 @@ forgets_only test set k bucket txn passes is = ap (touches_only test) is ∙ go 
     go true = ap (λ t. t && true) passes
     go false = refl
 
--- where the files stand for a ledger, none of them is outside its grammar
+-- if the files stand for a ledger, none of them is outside its grammar
 pub no_bad_file : (dir : Dir) (set : Set) (n : ℕ) (ledger : Ledger) → n < 53 → IsLedger dir (ledger_kind set) ledger → IsNoFile dir set n → ⊥
 no_bad_file dir set n ledger less is none = none (is.buckets n) (is.files n less)
 
-pub sound_file : (e : PartError) (dir : Dir) (set : Set) (n : ℕ) (ledger : Ledger) → n < 53 → IsLedger dir (ledger_kind set) ledger → OnDamaged e (λ _. IsNoFile dir set n) → OnDamaged e (λ _. ⊥)
-sound_file e dir set n ledger less is bad = on_damaged e (λ _. IsNoFile dir set n) (λ _. ⊥) (λ name none. no_bad_file dir set n ledger less is none) bad
-
--- what is found in a row of entries is its first, or is found behind that
+-- an entry that is found in a row is the first, or is found after the first
 pub find_here : (r : Bool) (k a : Text) (rest more : Ledger) (e : LedgerEntry) → rest ≡ e ∷ more → r ≡ bytes_eq k a → a ≡ e.key → r ≡ true → find_entry k rest ≡ Some e
 find_here r k a rest more e is test own h =
     ap (find_entry k) is ∙ ap (λ t. cond t (Some e) (find_entry k more)) (same_key k e.key ∙ ap (bytes_eq k) (sym own) ∙ sym test ∙ h)
@@ -85,7 +82,7 @@ pub find_behind : (r : Bool) (k a : Text) (rest more : Ledger) (e : LedgerEntry)
 find_behind r k a rest more e is test own h =
     ap (find_entry k) is ∙ ap (λ t. cond t (Some e) (find_entry k more)) (same_key k e.key ∙ ap (bytes_eq k) (sym own) ∙ sym test ∙ h)
 
--- a file that is read has its entries, and one that isn't has none
+-- a file that is read spells its entries, and one that isn't read spells none
 pub bucket_read : (dir : Dir) (set : Set) (n : ℕ) (name : Name) (file : Option Text) (o : Option Ledger) (es : Ledger) → name ≡ ledger_name (ledger_kind set) n → file ≡ dir name → o ≡ ledger_of n (unwrap_or file []) → o ≡ Some es
     → IsLedgerFile n (dir (ledger_name (ledger_kind set) n)) es
 bucket_read dir set n name file o es named there read some = subst (λ (f : Option Text). IsLedgerFile n f es) (there ∙ ap dir named) (file_read n file es (sym read ∙ some))

@@ -1,4 +1,4 @@
--- What is read piece by piece is what the whole is read as.
+-- Reading a file piece by piece, as the code does, gives what the definitions read from the whole.
 use Rattle.std.proofs.Common.{◌≡◌, ◌<◌, ◌+◌, ℕ, Bool, true, false, cond, not, ◌==◌, ◌&&◌, List, [], ◌∷◌, length, Option, Some, None, refl, sym, ap, ◌∙◌, arith, option_map}
 use Rattle.std.specs.List.{list_any, list_all}
 use Rattle.std.specs.Option.{option_and_then}
@@ -13,7 +13,7 @@ use Rattle.ml_base.proofs.BelowLemmas.{less}
 use Rattle.ml_base.proofs.SortedLaws.{bytes_total}
 use Rattle.ml_rows.specs.Rows.{onto, netstrings_at, row_of}
 use Rattle.ml_rows.proofs.Commas.{two}
-use Rattle.ml_rows.proofs.RowLaws.{row_goes_on, row_fails}
+use Rattle.ml_rows.proofs.RowLaws.{row_goes_on}
 use Rattle.ml_bounce.specs.Files.{IsEntry, entry_text}
 use Rattle.ml_bounce.specs.Ledger.{Ledger, LedgerEntry}
 use Rattle.ml_bounce.specs.Reading.{key_in, entry_of_content, entry_of_fields, entry_at, is_below_first}
@@ -21,7 +21,7 @@ use Rattle.ml_bounce.proofs.Exact.{key_read, key_written, entry_read, entry_writ
 use Rattle.ml_bounce.proofs.Folded.{none_capital}
 use Rattle.ml_keyed.proofs.Keys.{own_key}
 
--- a key
+-- a key is an address without capital letters
 pub key_there : (text : Text) (capital : Bool) → IsAddress text → capital ≡ list_any is_ascii_uppercase text → not capital ≡ true → key_in text ≡ Some text
 key_there text true is e none = absurd (false≢true none)
 key_there text false is e none = key_written text is (own_key text (sym e))
@@ -37,7 +37,7 @@ key_not text true e some = go (key_in text) refl
         let low : lower text ≡ text = ap lower (sym key.0) ∙ key.2 ∙ key.0 in
         absurd (false≢true (sym (none_capital text) ∙ ap (list_any is_ascii_uppercase) low ∙ sym e))
 
--- four netstrings with nothing behind them, or with something
+-- four netstrings with nothing after them, or with something
 abbrev ended : ℕ → List Text × Text → Option LedgerEntry
 ended n found = cond (is_empty found.1) (entry_of_fields n found.0) None
 
@@ -59,14 +59,14 @@ first_key e = e.key
 lt_then : (a b c : Text) → is_lt (byte_cmp a b) ≡ true → is_lt (byte_cmp b c) ≡ true → is_lt (byte_cmp a c) ≡ true
 lt_then a b c e f = ap is_lt (bytes_total.trans a b c (less _ e) (less _ f))
 
--- whether keys rise, told from the front on
+-- whether keys rise, seen from the first one on
 below_more : (k : Text) (e : LedgerEntry) (es : Ledger) → is_lt (byte_cmp k e.key) ≡ true → list_all (λ (f : LedgerEntry). is_lt (byte_cmp e.key f.key)) es ≡ true → list_all (λ (f : LedgerEntry). is_lt (byte_cmp k f.key)) es ≡ true
 below_more k e [] lt all = refl
 below_more k e (f ∷ fs) lt all =
     let parts = and_parts (is_lt (byte_cmp e.key f.key)) (list_all (λ (g : LedgerEntry). is_lt (byte_cmp e.key g.key)) fs) all in
     and_from _ _ (lt_then k e.key f.key lt parts.0) (below_more k e fs lt parts.1)
 
--- whether keys rise is told by their neighbours
+-- keys rise if every two neighbours do
 both_are : (a b : Bool) → (b ≡ true → a ≡ true) → (a && b) ≡ b
 both_are true b h = refl
 both_are false true h = h refl
@@ -78,11 +78,7 @@ sorted_more e (f ∷ fs) lt =
     both_are (list_all (λ (g : LedgerEntry). is_lt (byte_cmp e.key g.key)) (f ∷ fs)) (is_sorted byte_cmp first_key (f ∷ fs))
     (λ all. let parts = and_parts (list_all (λ (g : LedgerEntry). is_lt (byte_cmp f.key g.key)) fs) (is_sorted byte_cmp first_key fs) all in and_from _ _ lt (below_more e.key f fs lt parts.0))
 
-pub sorted_not : (e : LedgerEntry) (es : Ledger) → is_below_first e.key es ≡ false → is_sorted byte_cmp first_key (e ∷ es) ≡ false
-sorted_not e [] lt = absurd (false≢true (sym lt))
-sorted_not e (f ∷ fs) lt = ap (λ b. (b && list_all (λ (g : LedgerEntry). is_lt (byte_cmp e.key g.key)) fs) && is_sorted byte_cmp first_key (f ∷ fs)) lt
-
--- a row of entries goes on behind its first
+-- a row of entries goes on after its first one
 abbrev with_rest : ℕ → Text × Text → Option (LedgerEntry × Text)
 with_rest n found = option_map (λ e. (e, found.1)) (entry_of_content n found.0)
 
@@ -93,17 +89,3 @@ pub entry_more : (n k : ℕ) (text content more : Text) (e : LedgerEntry) → tw
 entry_more n k text content more e cut is =
     row_goes_on (entry_at n) entry_text (λ place. IsEntry n) (entry_written n) (entry_read n) (λ place e is. entry_some e) k text e more
     (ap (option_and_then (with_rest n)) (sym cut) ∙ ap (option_map (onto_rest more)) (sym is))
-
-pub entry_uncut : (n k : ℕ) (text : Text) → None ≡ netstring_at text → 0 < length text → row_of (entry_at n) k text ≡ None
-entry_uncut n k text cut some =
-    row_fails (entry_at n) entry_text (λ place. IsEntry n) (entry_written n) (entry_read n) (λ place e is. entry_some e) k text some (ap (option_and_then (with_rest n)) (sym cut))
-
-pub entry_unread : (n k : ℕ) (text content more : Text) → two content more ≡ netstring_at text → None ≡ entry_of_content n content → 0 < length text → row_of (entry_at n) k text ≡ None
-entry_unread n k text content more cut is some =
-    row_fails (entry_at n) entry_text (λ place. IsEntry n) (entry_written n) (entry_read n) (λ place e is. entry_some e) k text some
-    (ap (option_and_then (with_rest n)) (sym cut) ∙ ap (option_map (onto_rest more)) (sym is))
-
--- whether no bytes are left
-pub none_left : (text : Text) → (length text == 0) ≡ true → text ≡ []
-none_left [] e = refl
-none_left (b ∷ bs) e = absurd (omega (arith, eqb-true (length (b ∷ bs)) 0 e))

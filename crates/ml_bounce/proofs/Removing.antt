@@ -1,4 +1,4 @@
--- The whole course leads to a removal.
+-- A whole course of bounces leads to a removal.
 use Rattle.std.proofs.Common.{◌≡◌, ℕ, true, cond, [], ◌∷◌, Option, Some, None, refl, ap, ◌∙◌}
 use Rattle.std.specs.Prelude.{unwrap_or}
 use Rattle.std.proofs.lemmas.Bool.{eq-eqb}
@@ -17,7 +17,7 @@ entry_by k first stage = record { key = k; first = first; stage = stage; missed 
 abbrev missing : Text → ℕ → ℕ → LedgerEntry
 missing k number first = record { key = k; first = first; stage = Unwarned; missed = number ∷ [] }
 
--- an entry that was put into a ledger is the one of its key
+-- an entry that was put into a ledger is the one under its key
 under_with : (e : LedgerEntry) (es : Ledger) → entry_under e.key (with_ledger e es) ≡ e
 under_with e es =
     ap (λ (o : Option LedgerEntry). unwrap_or o (no_entry e.key)) (found_with byte_cmp entry_key same_bytes bytes_total e.key e es ∙ ap (λ t. cond t (Some e) (find_entry e.key es)) (own_tie e.key))

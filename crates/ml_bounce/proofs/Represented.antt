@@ -1,4 +1,4 @@
--- The files of a kind stand for one ledger at most, and it depends on them alone.
+-- The files of a kind stand for at most one ledger, and no other file matters.
 use Rattle.std.proofs.Common.{◌≡◌, ◌<◌, ℕ, true, [], Option, None, refl, sym, ap, ◌∙◌}
 use Rattle.std.specs.Prelude.{unwrap_or}
 use Rattle.std.proofs.lemmas.Bool.{eq-eqb}

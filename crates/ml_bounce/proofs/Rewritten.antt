@@ -1,4 +1,4 @@
--- Files that are written anew.
+-- How a file of a ledger is written anew, with one entry more, changed or removed.
 use Rattle.std.proofs.Common.{◌≡◌, ◌<◌, ◌-◌, Bool, true, false, cond, not, [], ◌∷◌, ◌++◌, length, Some, None, refl, sym, ap, ◌∙◌, arith, append_assoc, length-append}
 use Rattle.std.proofs.lemmas.Bool.{false≢true}
 use Rattle.std.proofs.lemmas.Slice.Eq.{bytes_eq-Decides}
@@ -19,14 +19,14 @@ use Rattle.ml_bounce.specs.Reading.{is_from, behind_key}
 use Rattle.ml_bounce.proofs.Changed.{same_key}
 use Rattle.ml_bounce.proofs.Exact.{entry_some}
 
--- an entry goes behind those that are below it
+-- an entry goes after those whose keys are below its own
 pub with_below : (e f : LedgerEntry) (fs : Ledger) → is_lt (byte_cmp f.key e.key) ≡ true → with_ledger e (f ∷ fs) ≡ f ∷ with_ledger e fs
 with_below e f fs lt = ap (λ (r : Ordering). by_order r (e ∷ f ∷ fs) (e ∷ fs) (f ∷ with_ledger e fs)) (bytes_total.antisymm e.key f.key ∙ ap ordering_reverse (less _ lt))
 
 not_lt : (a b : Text) → bytes_eq b a ≡ true → byte_cmp a b ≡ Equal
 not_lt a b e = ap (byte_cmp a) ((bytes_eq-Decides b a).0 e) ∙ tied_itself bytes_total a
 
--- and before the others, instead of the one of its key
+-- and before the others, in place of the one with its key
 pub with_from : (e : LedgerEntry) (es : Ledger) → is_from e.key es ≡ true → with_ledger e es ≡ e ∷ behind_key e.key es
 with_from e [] from = refl
 with_from e (f ∷ fs) from = go (byte_cmp e.key f.key) refl (bytes_eq f.key e.key) refl
@@ -38,15 +38,6 @@ with_from e (f ∷ fs) from = go (byte_cmp e.key f.key) refl (bytes_eq f.key e.k
     go Equal is false eq = absurd (false≢true (sym eq ∙ (bytes_eq-Decides f.key e.key).1 (sym (same_bytes e.key f.key is))))
     go Greater is t eq = let bad : not true ≡ true = sym (ap (λ r. not (is_lt r)) (bytes_total.antisymm f.key e.key ∙ ap ordering_reverse is)) ∙ from in cc
 
--- the texts of entries, of which one more was written
-pub written_more : (out : Text) (e : LedgerEntry) (rest whole : Ledger) → out ++ flat_map entry_text (e ∷ rest) ≡ flat_map entry_text whole → (out ++ entry_text e) ++ flat_map entry_text rest ≡ flat_map entry_text whole
-written_more out e rest whole is = append_assoc out (entry_text e) (flat_map entry_text rest) ∙ is
-
--- the file of a text of entries
-pub file_none : (es : Ledger) (out : Text) → out ≡ flat_map entry_text es → length out ≡ 0 → None ≡ ledger_file es
-file_none [] out is none = refl
-file_none (e ∷ es) out is none = absurd (let one = entry_some e in omega (arith, one, none, ap length is, length-append (entry_text e) (flat_map entry_text es)))
-
 pub file_some : (es : Ledger) (out : Text) → out ≡ flat_map entry_text es → 0 < length out → Some out ≡ ledger_file es
 file_some [] out is some = absurd (omega (arith, some, ap length is))
 file_some (e ∷ es) out is some = ap Some is
@@ -54,14 +45,14 @@ file_some (e ∷ es) out is some = ap Some is
 abbrev texts : Ledger → Text
 texts es = flat_map entry_text es
 
--- a turn: one that is below was written
+-- one turn: an entry with a lower key was written
 pub with_turn : (out new : Text) (e f : LedgerEntry) (rest more : Ledger) (whole : Text) → rest ≡ f ∷ more → is_lt (byte_cmp f.key e.key) ≡ true → new ≡ out ++ entry_text f
     → out ++ flat_map entry_text (with_ledger e rest) ≡ whole → new ++ flat_map entry_text (with_ledger e more) ≡ whole
 with_turn out new e f rest more whole is lt made before =
     ap (λ t. t ++ texts (with_ledger e more)) made ∙ append_assoc out (entry_text f) (texts (with_ledger e more))
     ∙ ap (λ es. out ++ texts es) (sym (with_below e f more lt) ∙ ap (with_ledger e) (sym is)) ∙ before
 
--- the end: the entry and those behind it were written
+-- the end: the entry and those after it were written
 pub with_end : (out front all : Text) (e : LedgerEntry) (rest tail whole : Ledger) → is_from e.key rest ≡ true → tail ≡ behind_key e.key rest → front ≡ out ++ entry_text e → all ≡ front ++ flat_map entry_text tail
     → out ++ flat_map entry_text (with_ledger e rest) ≡ flat_map entry_text (with_ledger e whole) → Some all ≡ ledger_file (with_ledger e whole)
 with_end out front all e rest tail whole from is first then before =
@@ -75,7 +66,7 @@ with_end out front all e rest tail whole from is first then before =
     let sizes = length-append out (entry_text e) in
     file_some (with_ledger e whole) all text (omega (arith, one, long, parts, start, sizes))
 
--- a turn: one of another key was written, or one of this key wasn't
+-- one turn: an entry with another key was written, or the one with this key was left out
 pub kept_turn : (k out new : Text) (f : LedgerEntry) (rest more : Ledger) (whole : Text) → rest ≡ f ∷ more → bytes_eq k f.key ≡ false → new ≡ out ++ entry_text f
     → out ++ flat_map entry_text (forget k rest) ≡ whole → new ++ flat_map entry_text (forget k more) ≡ whole
 kept_turn k out new f rest more whole is other made before =

@@ -1,4 +1,4 @@
--- The ledgers of sets, and what the calls on them answer.
+-- The ledgers of sets, what the calls on them answer, and which files they name as damaged.
 use Rattle.std.specs.Prelude.{◌≡◌, ◌<◌, ◌+◌, ℕ, Bool, true, false, List, [], ◌∷◌, map, take, Option, Some, None, is_some, if◌then◌else◌}
 use Rattle.ml_base.specs.Bytes.{Text}
 use Rattle.ml_base.specs.Dir.{Dir, with_puts}
@@ -23,7 +23,7 @@ has_ledger sets.Allow = false
 has_ledger sets.Deny = false
 has_ledger sets.Moderators = false
 
--- the kind of the files of a set's ledger: those of the list's bounces, and behind them those of the bounces of digests
+-- the kind of the files of a set's ledger: one kind for the bounces of posts, the next one for those of digests
 abbrev pub ledger_kind : Set → ℕ
 ledger_kind set = bounces_kind + set_number set
 
@@ -31,30 +31,30 @@ ledger_kind set = bounces_kind + set_number set
 abbrev pub key_file : Set → Text → Name
 key_file set k = ledger_name (ledger_kind set) (ledger_place k)
 
--- a directory's file of a key has these entries
+-- in a directory, the file of a key has these entries
 abbrev pub IsBucketOf : Dir → Set → Text → Ledger → Type 0
 IsBucketOf dir set k bucket = IsLedgerFile (ledger_place k) (dir (key_file set k)) bucket
 
--- one of a ledger's files that spells no entries
+-- one of a ledger's files is outside its grammar
 abbrev pub IsNoFile : Dir → Set → ℕ → Type 0
 IsNoFile dir set n = (entries : Ledger) → ¬ IsLedgerFile n (dir (ledger_name (ledger_kind set) n)) entries
 
--- the puts that write a row of entries into the file of a key
+-- the puts that give the file of a key this row of entries
 abbrev pub writes : Set → Text → Ledger → List Put
 writes set k entries = ledger_put (ledger_kind set) (ledger_place k) entries ∷ []
 
--- the puts by which a key is forgotten: none where there is no entry
+-- the puts that forget a key: none if there is no entry
 abbrev pub forgets : Set → Text → Ledger → List Put
 forgets set k bucket = if is_some (find_entry k bucket) then writes set k (forget k bucket) else []
 
--- an answer by which the files stand for another ledger, or None where there is none
+-- an answer after which the files stand for the new ledger; no answer if there is no new ledger
 abbrev pub LeadsTo : Dir → Set → Option (List Put) → Option Ledger → Type 0
 LeadsTo dir set (Some txn) (Some ledger) = IsLedger (with_puts dir txn) (ledger_kind set) ledger
 LeadsTo dir set None None = Unit {0}
 LeadsTo dir set (Some txn) None = ⊥
 LeadsTo dir set None (Some ledger) = ⊥
 
--- the puts of an answer that may be none
+-- the puts of an answer: none if nothing changes
 abbrev pub puts_of : Option (List Put) → List Put
 puts_of None = []
 puts_of (Some txn) = txn
@@ -67,17 +67,17 @@ IsFileName set name = (n : ℕ) × (n < 53) × (name ≡ ledger_name (ledger_kin
 abbrev pub IsBadFile : Dir → Set → Name → Type 0
 IsBadFile dir set name = (n : ℕ) × (n < 53) × (name ≡ ledger_name (ledger_kind set) n) × IsNoFile dir set n
 
--- the actions of the first so many due entries, in order of key
+-- the actions for the first due entries, at most so many, in order of key
 abbrev pub first_due : ℕ → ℕ → Ledger → List Action
 first_due now max ledger = map action_of (take max (due_entries now ledger))
 
--- whom an action is for
+-- the address that an action is for
 abbrev pub action_key : Action → Text
 action_key (Warn to missed) = to
 action_key (Probe to) = to
 action_key (Lapse to) = to
 
--- the puts by which what is due for a key's entry is done: none where there is no entry
+-- the puts that do what is due for a key's entry: none if there is no entry
 abbrev pub acts_for : Set → Text → ℕ → Ledger → Option LedgerEntry → List Put
 acts_for set k now bucket None = []
 acts_for set k now bucket (Some e) = writes set k (act now e bucket)
@@ -85,6 +85,6 @@ acts_for set k now bucket (Some e) = writes set k (act now e bucket)
 abbrev pub acts : Set → Text → ℕ → Ledger → List Put
 acts set k now bucket = acts_for set k now bucket (find_entry k bucket)
 
--- the first so many of a ledger's files have these entries
+-- the first files of a ledger, so many of them, have these entries
 abbrev pub AreFiles : Dir → Set → ℕ → (ℕ → Ledger) → Type 0
 AreFiles dir set n buckets = AreFirst IsLedgerFile (λ i. dir (ledger_name (ledger_kind set) i)) n buckets

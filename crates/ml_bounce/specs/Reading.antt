@@ -1,4 +1,4 @@
--- Which texts are read as the files of a ledger.
+-- How the texts of a ledger's files are read as entries.
 use Rattle.std.specs.Prelude.{ℕ, Bool, true, not, ◌&&◌, ◌||◌, ◌==◌, nat_le, List, [], ◌∷◌, length, Option, Some, None, option_map, if◌then◌else◌}
 use Rattle.std.specs.Option.{option_and_then}
 use Rattle.std.specs.Ordering.{is_lt}
@@ -20,16 +20,16 @@ stage_of (letter ∷ text) =
     else (if letter == 102 then option_map (λ t. WarnFailed t) (moment_in text)
     else (if letter == 112 then option_map (λ t. Probed t) (moment_in text) else None)))
 
--- the key that a text is: an address in lower case
+-- the key that a text spells: an address in lower case
 abbrev pub key_in : Text → Option Text
 key_in text = only_if (λ k. bytes_eq (lower k) k) (address_in text)
 
--- an entry of these values
+-- an entry made of these values
 abbrev pub entry_with : Text × (ℕ × (Stage × List ℕ)) → LedgerEntry
 entry_with values = record { key = values.0; first = values.1.0; stage = values.1.1.0; missed = values.1.1.1 }
 
--- the values of an entry fit each other, and its key belongs to the file with this number: 100 numbers are missed at most, none
--- twice; where none is, the first moment is 0; and there is something to remember
+-- the values of an entry fit each other, and its key belongs to the file with this number: at most 100 numbers are
+-- missed, none twice; if none is missed, the first moment is 0; and there is something to remember
 abbrev pub fits : ℕ → LedgerEntry → Bool
 fits n e =
     nat_le (length e.missed) 100 && are_distinct e.missed && (not (is_empty e.missed) || e.first == 0)
@@ -41,15 +41,15 @@ entry_of_fields n (key ∷ first ∷ stage ∷ missed ∷ []) =
     only_if (fits n) (option_map entry_with (both_of (key_in key) (both_of (moment_in first) (both_of (stage_of stage) (comma_numbers 99_999_999 missed)))))
 entry_of_fields n texts = None
 
--- the entry that a text spells by four netstrings, with nothing behind them
+-- the entry that a text spells by four netstrings, with nothing after them
 abbrev pub entry_of_content : ℕ → Text → Option LedgerEntry
 entry_of_content n text = option_and_then (λ found. if is_empty found.1 then entry_of_fields n found.0 else None) (netstrings_at 4 text)
 
--- the entry at the front of a text, whichever its place, and what is behind it
+-- the entry at the beginning of a text, at whatever place, and what comes after it
 abbrev pub entry_at : ℕ → ℕ → Text → Option (LedgerEntry × Text)
 entry_at n place text = option_and_then (λ found. option_map (λ e. (e, found.1)) (entry_of_content n found.0)) (netstring_at text)
 
--- the entries of the file with this number: a row of them, in ascending order of key
+-- the entries of the file with this number, in a row in ascending order of key
 abbrev pub ledger_of : ℕ → Text → Option Ledger
 ledger_of n text = only_if (is_sorted byte_cmp entry_key) (row_of (entry_at n) 0 text)
 
@@ -63,7 +63,7 @@ abbrev pub is_from : Text → Ledger → Bool
 is_from k [] = true
 is_from k (e ∷ es) = not (is_lt (byte_cmp e.key k))
 
--- the entries without the first, where it is of this key
+-- the entries without the first, if that has this key
 abbrev pub behind_key : Text → Ledger → Ledger
 behind_key k [] = []
 behind_key k (e ∷ es) = if bytes_eq e.key k then es else e ∷ es

@@ -1,4 +1,4 @@
-// What is due is done.
+// Does what is due for an address: warns it, probes it, or lets its stage lapse.
 ghost use Rattle.std.specs.Prelude.{◌≡◌, true, ℕ, List, Some, IsTrue, IfOk, IfErr};
 ghost use Rattle.ml_base.specs.Address.{key};
 ghost use Rattle.ml_base.specs.Dir.{Dir, same_name, touches_only, with_puts};
@@ -21,7 +21,7 @@ use crate::{Action, LedgerEntry, Stage};
 use ml_base::{Address, Files, Numbers, PartError, Set, Txn};
 use std::alloc::{AllocError, Global};
 
-// Whom an action is for.
+// The address that an action is for.
 fn target(action: &Action) -> &Address
     ensures { result.now ≡ action_key action.now }
 {
@@ -50,7 +50,7 @@ fn after(alloc: Global, entry: &LedgerEntry, now: u64) -> Result<LedgerEntry, Al
     Ok(new)
 }
 
-// The puts that write a file with this entry in the place of the one of its key, or without that where nothing is left to
+// The puts that give a file this entry, in place of the one with its key, or leave it out if it has nothing to
 // remember.
 fn settled(
     alloc: Global,
@@ -68,7 +68,7 @@ fn settled(
     written(alloc, set, entry.key.bytes(), file)
 }
 
-// The puts by which what is due for a key's entry is done.
+// The puts that do what is due for a key's entry.
 fn act_in(
     alloc: Global,
     set: Set,
@@ -86,12 +86,12 @@ fn act_in(
     settled(alloc, set, entries, &new)
 }
 
-/// Does what is due for the address of an action: the puts by which it is warned, and nothing is missed any more; or probed; or
-/// its stage lapses, and its entry goes where nothing is left to remember. Which of these it is, its entry's stage tells. It reads
-/// one file. Where there is no entry, there is nothing to put.
+/// Does what is due for the address of an action. By the puts it is warned, and nothing is missed any more; or it is
+/// probed; or its stage lapses, and its entry goes if it has nothing to remember. The stage of the entry decides which
+/// of these it is. It reads one file. If there is no entry, there are no puts.
 ///
-/// The set is the list or the digest. `now` is in seconds since 1970. The action is one that `due` answers for these files: the
-/// entry isn't looked at for whether it is due.
+/// The set is the list or the digest. `now` is in seconds since 1970. The action is one that `due` answers for these
+/// files: whether the entry is due isn't checked again.
 pub fn act<F: Files>(
     alloc: Global,
     files: &mut F,

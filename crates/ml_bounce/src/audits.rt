@@ -1,4 +1,4 @@
-// Whether the files of both ledgers stand for them.
+// Checks whether the files of both ledgers are in their grammar.
 ghost use Rattle.std.specs.Prelude.{◌≡◌, ◌<◌, true, List, ℕ, IsTrue, IfErr, OnOk};
 ghost use Rattle.ml_base.specs.PartErrors.{OnDamaged};
 ghost use Rattle.ml_base.specs.ReadFiles.{IsReading, NamesDamaged};
@@ -24,8 +24,8 @@ fn audit_set<F: Files>(alloc: Global, files: &mut F, set: Set) -> Result<(), Par
     Ok(())
 }
 
-/// Whether the files of each ledger stand for one: each is in its grammar. It reads all files of the two ledgers, in their order,
-/// and names the first that isn't.
+/// Whether the files of both ledgers stand for ledgers, that is, are all in their grammar. It reads all files of the
+/// two ledgers, in their order, and names the first that isn't.
 pub fn audit<F: Files>(alloc: Global, files: &mut F) -> Result<(), PartError>
     ensures ok { IsTrue F.tells → OnOk result ((set : TheSet) → IsTrue (has_ledger set) → (ledger : Ledger) × IsLedger (F.map files.old) (ledger_kind set) ledger) }
     ensures names { NamesDamaged ⟦<F as Files>⟧ (λ name. (set : TheSet) × IsTrue (has_ledger set) × IsFileName set name) (λ name. (set : TheSet) × IsTrue (has_ledger set) × IsBadFile (F.map files.old) set name) result }

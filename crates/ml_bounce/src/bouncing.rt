@@ -1,4 +1,4 @@
-// What bounces: mail to an address, its warning and its probe.
+// The calls when something bounces: mail to an address, its warning or its probe.
 ghost use Rattle.std.specs.Prelude.{◌≡◌, ◌≤◌, true, ℕ, List, IsTrue, IfOk, IfErr};
 ghost use Rattle.std.specs.Option.{option_map};
 ghost use Rattle.ml_base.specs.Address.{key};
@@ -17,10 +17,10 @@ use crate::changing::{note_in, probe_failed_in, warn_failed_in};
 use ml_base::{Address, Files, PartError, Set, Txn};
 use std::alloc::Global;
 
-/// Mail of a number to an address, in any case of letters, bounced: the puts by which the number stands last among those that it
-/// missed, or None where it is there already, or 100 are. It reads one file.
+/// Mail of a number to an address, in any case of letters, bounced. The puts add the number to the end of those that
+/// the address missed. None if it is among them already, or they are 100. It reads one file.
 ///
-/// The set is the list or the digest, whose numbers are those of posts or of digests. `now` is in seconds since 1970.
+/// The set is the list or the digest; the number is that of a post or of a digest. `now` is in seconds since 1970.
 pub fn note<F: Files>(
     alloc: Global,
     files: &mut F,
@@ -45,8 +45,8 @@ pub fn note<F: Files>(
     Ok(note_in(alloc, set, key.as_slice(), entries.as_slice(), number, now)?)
 }
 
-/// The warning that an address got at the moment `t` bounced: the puts by which its stage says so from now on, or None where it
-/// isn't warned at that very moment. It reads one file.
+/// The warning that an address got at the moment `t` bounced. The puts make that its stage, as of now. None if it
+/// wasn't warned at that very moment. It reads one file.
 ///
 /// The set is the list or the digest. `now` is in seconds since 1970.
 pub fn warn_failed<F: Files>(
@@ -72,7 +72,7 @@ pub fn warn_failed<F: Files>(
     Ok(warn_failed_in(alloc, set, key.as_slice(), entries.as_slice(), t, now)?)
 }
 
-/// The probe that an address got at the moment `t` bounced: the puts by which its entry goes, or None where it isn't probed at
+/// The probe that an address got at the moment `t` bounced. The puts take its entry out. None if it wasn't probed at
 /// that very moment. It reads one file.
 ///
 /// The set is the list or the digest.

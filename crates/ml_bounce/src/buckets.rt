@@ -1,4 +1,4 @@
-// The files of a set's ledger.
+// Names, reads and writes the files of a set's ledger.
 ghost use Rattle.std.specs.Prelude.{◌≡◌, ◌<◌, ◌∷◌, [], true, ℕ, List, IsTrue, IfOk};
 ghost use Rattle.ml_base.specs.Address.{key, IsAddress};
 ghost use Rattle.ml_base.specs.Name.{is_file};
@@ -11,7 +11,7 @@ use ml_base::{Address, Bytes, Files, Name, PartError, Put, Set, Txn};
 use ml_keyed::place_of;
 use std::alloc::{AllocError, Global};
 
-// The key of an address.
+// The key of an address, the address in lower case.
 pub(crate) fn key_of(alloc: Global, who: &Address) -> Result<Bytes, AllocError>
     ensures key { IfOk result (λ k. k ≡ key who.now) }
     ensures address { IfOk result IsAddress }
@@ -52,7 +52,7 @@ pub(crate) fn written(
     Ok(txn)
 }
 
-// The entries of one of these files.
+// The entries of one of the files of a set's ledger.
 pub(crate) fn read_bucket<F: Files>(
     alloc: Global,
     files: &mut F,
@@ -73,7 +73,7 @@ pub(crate) fn read_bucket<F: Files>(
     }
 }
 
-// The entries of the file of a key.
+// The entries of the file that has a key.
 pub(crate) fn bucket_of<F: Files>(
     alloc: Global,
     files: &mut F,

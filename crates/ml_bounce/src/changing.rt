@@ -1,4 +1,4 @@
-// What changes one entry makes of the file that has it.
+// How a change of one entry changes its file.
 ghost use Rattle.std.specs.Prelude.{◌≡◌, true, ℕ, List, Some, None, IsTrue, IfOk, if◌then◌else◌};
 ghost use Rattle.std.specs.Option.{option_map};
 ghost use Rattle.ml_base.specs.Address.{IsAddress};
@@ -38,7 +38,7 @@ pub(crate) fn copied(alloc: Global, entry: &LedgerEntry) -> Result<LedgerEntry, 
     })
 }
 
-// A copy of a key's entry, or one with nothing to remember where there is none.
+// A copy of a key's entry, or an entry with nothing to remember if there is none.
 pub(crate) fn entry_under(
     alloc: Global,
     entries: &[LedgerEntry],
@@ -58,7 +58,7 @@ pub(crate) fn entry_under(
     }
 }
 
-// The puts that write a file with this entry, in the place of the one of its key.
+// The puts that give a file this entry, in place of the one with its key.
 pub(crate) fn put_entry(
     alloc: Global,
     set: Set,
@@ -72,14 +72,14 @@ pub(crate) fn put_entry(
     written(alloc, set, entry.key.bytes(), Some(bytes))
 }
 
-// Whether a number can go among the missed of an entry.
+// Whether a number can be added to those that an entry missed.
 fn can_note(number: u64, entry: &LedgerEntry) -> bool
     ensures { result ≡ spec.can_note number entry.now }
 {
     !has_number(entry.missed.as_slice(), number) && entry.missed.as_slice().len() < MAX_MISSED
 }
 
-// The entry with a number last among the missed.
+// The entry with a number added to those that it missed.
 fn noted(entry: LedgerEntry, number: u64, now: u64) -> Result<LedgerEntry, AllocError>
     ensures { IfOk result (λ new. new ≡ spec.noted number now entry) }
 {
@@ -91,7 +91,7 @@ fn noted(entry: LedgerEntry, number: u64, now: u64) -> Result<LedgerEntry, Alloc
     Ok(new)
 }
 
-// What mail of a number to a key makes of the key's file once it bounced.
+// The puts for a key's file when mail of a number to the key bounced.
 pub(crate) fn note_in(
     alloc: Global,
     set: Set,
@@ -134,7 +134,7 @@ fn is_probed(t: u64, stage: Stage) -> bool
     }
 }
 
-// What the warning of a moment makes of the file of a key once it bounced.
+// The puts for a key's file when the warning of a moment bounced.
 pub(crate) fn warn_failed_in(
     alloc: Global,
     set: Set,
@@ -155,7 +155,7 @@ pub(crate) fn warn_failed_in(
     Ok(Some(put_entry(alloc, set, entries, &entry)?))
 }
 
-// The stage of a key.
+// The stage of a key's entry.
 fn stage_under(entries: &[LedgerEntry], key: &[u8]) -> Stage
     ensures { result ≡ (ledgers.entry_under key.now entries.now).stage }
 {
@@ -165,7 +165,7 @@ fn stage_under(entries: &[LedgerEntry], key: &[u8]) -> Stage
     }
 }
 
-// What the probe of a moment makes of the file of a key once it bounced.
+// The puts for a key's file when the probe of a moment bounced.
 pub(crate) fn probe_failed_in(
     alloc: Global,
     set: Set,

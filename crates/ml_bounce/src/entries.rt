@@ -1,7 +1,7 @@
-// What a ledger has of an address.
+// An entry of a ledger: what is known of one address whose mail bounced.
 use ml_base::{Address, Numbers};
 
-/// What was done about an address whose mail bounced. Moments are seconds since 1970.
+/// How far the course of an address has come. Moments are seconds since 1970.
 #[derive(Clone, Copy, Debug, PartialEq, Eq)]
 pub enum Stage {
     /// Nothing was done, or what was done has lapsed.
@@ -10,20 +10,20 @@ pub enum Stage {
     Warned(u64),
     /// The warning bounced at this moment.
     WarnFailed(u64),
-    /// It was asked once more, by a probe, at this moment.
+    /// A probe was sent to it at this moment.
     Probed(u64),
 }
 
-/// What a ledger has of an address.
+/// What a ledger knows of an address.
 #[derive(Drop)]
 pub struct LedgerEntry {
     /// The address in lower case.
     pub key: Address,
-    /// When the first of the missed numbers bounced, in seconds since 1970, or 0 where nothing is missed.
+    /// When the first of the missed numbers bounced, in seconds since 1970, or 0 if nothing is missed.
     pub first: u64,
-    /// What was done about it.
+    /// What was done about it so far.
     pub stage: Stage,
-    /// The numbers of the posts, or of the digests, that it missed, in the order in which they bounced: 100 at most, none
-    /// twice.
+    /// The numbers of the posts, or of the digests, that it missed, in the order in which they bounced: at most 100,
+    /// none twice.
     pub missed: Numbers,
 }

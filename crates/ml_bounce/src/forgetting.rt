@@ -1,4 +1,4 @@
-// An address is forgotten.
+// Takes the entry of an address out of a ledger.
 ghost use Rattle.std.specs.Prelude.{◌≡◌, ◌<◌, true, ℕ, List, IsTrue, IfOk, IfErr};
 ghost use Rattle.std.specs.Option.{option_map};
 ghost use Rattle.ml_base.specs.Address.{key};
@@ -31,7 +31,7 @@ pub(crate) fn find<'a>(entries: &'a [LedgerEntry], key: &[u8]) -> Option<&'a Led
     None
 }
 
-// The puts by which a file has no entry of a key.
+// The puts that take the entry of a key out of its file.
 pub(crate) fn forgotten(
     alloc: Global,
     set: Set,
@@ -48,8 +48,8 @@ pub(crate) fn forgotten(
     written(alloc, set, key, file)
 }
 
-/// Takes the entry of an address, in any case of letters, out of a set's ledger. It reads one file. Where there is no entry,
-/// there is nothing to put.
+/// Takes the entry of an address, in any case of letters, out of a set's ledger. It reads one file. If there is no
+/// entry, there are no puts.
 ///
 /// The set is the list or the digest.
 pub fn forget<F: Files>(

@@ -1,4 +1,4 @@
-// What is due in a ledger.
+// Finds what is due in a ledger.
 ghost use Rattle.std.specs.Prelude.{◌≡◌, ◌<◌, ◌≤◌, ◌++◌, true, map, take, List, ℕ, IsTrue, IfOk, IfErr, OnOk};
 ghost use Rattle.std.specs.List.{filter};
 ghost use Rattle.std.specs.List.Sorted.{IsPermutation, IsSortedByKey};
@@ -18,7 +18,7 @@ use ml_base::{Files, PartError, Row, Set, age};
 use std::alloc::{AllocError, Global};
 use std::cmp::Ordering;
 
-// How old a moment is when something is due for it, in seconds.
+// How old a moment has to be before something is due, in seconds.
 const OLD: u64 = 1_000_000;
 
 fn is_old(now: u64, t: u64) -> bool
@@ -39,7 +39,7 @@ fn is_due(now: u64, entry: &LedgerEntry) -> bool
     }
 }
 
-// Adds the due ones of some entries.
+// Adds those of some entries that are due.
 fn push_due(out: &mut Entries, entries: Entries, now: u64) -> Result<(), AllocError>
     ensures { OnOk result (out.new ≡ out.old ++ filter (spec.is_due now) entries) }
 {
@@ -52,7 +52,7 @@ fn push_due(out: &mut Entries, entries: Entries, now: u64) -> Result<(), AllocEr
     Ok(())
 }
 
-// The due entries of a set's ledger, one file behind the other.
+// The due entries of a set's ledger, file after file.
 fn read_due<F: Files>(
     alloc: Global,
     files: &mut F,
@@ -72,14 +72,14 @@ fn read_due<F: Files>(
     Ok(found)
 }
 
-// How the keys of two entries stand.
+// The order of the keys of two entries.
 fn compare(a: &LedgerEntry, b: &LedgerEntry) -> Ordering
     ensures { result ≡ byte_cmp a.now.key b.now.key }
 {
     a.key.bytes().cmp(b.key.bytes())
 }
 
-// The entries in the order of their keys. Each file's come in that order, and the sort merges such rows.
+// The entries in order of key. Those of one file are in order already, and the sort merges such rows.
 fn in_order(entries: Entries) -> Result<Entries, AllocError>
     ensures permutation { IfOk result (IsPermutation entries) }
     ensures sorted { IfOk result (IsSortedByKey (λ e. e.key) byte_cmp) }
@@ -104,7 +104,7 @@ fn action_of(entry: LedgerEntry) -> Action
     }
 }
 
-// What is to be done about the first of some due entries.
+// What is to be done about the first due entries, at most `max` of them.
 fn actions_of(alloc: Global, entries: Entries, max: u64) -> Result<Actions, AllocError>
     ensures { IfOk result (λ actions. actions ≡ map spec.action_of (take max entries)) }
 {
@@ -117,10 +117,10 @@ fn actions_of(alloc: Global, entries: Entries, max: u64) -> Result<Actions, Allo
     Ok(Row::from_vec(actions))
 }
 
-/// What is due in a set's ledger: an action for each of its first `max` due entries, in ascending order of key. It reads the
-/// ledger's 53 files.
+/// What is due in a set's ledger: an action for each of its first `max` due entries, in ascending order of key. It
+/// reads the ledger's 53 files.
 ///
-/// The set is the list or the digest. `now` is in seconds since 1970. A moment that is later than that has age 0.
+/// The set is the list or the digest. `now` is in seconds since 1970. A moment later than `now` has age 0.
 pub fn due<F: Files>(
     alloc: Global,
     files: &mut F,

@@ -1,4 +1,4 @@
-// The numbers that an entry missed.
+// Lists of missed numbers: whether they have a number, or one twice.
 ghost use Rattle.std.specs.Prelude.{◌≡◌, ◌==◌};
 ghost use Rattle.std.specs.List.{list_any};
 ghost use Rattle.ml_bounce.specs.Files as files;
@@ -10,7 +10,7 @@ pub(crate) fn has_number(numbers: &[u64], number: u64) -> bool
     numbers.iter().any(|n| *n == number)
 }
 
-// Whether no number stands twice.
+// Whether no number occurs twice.
 pub(crate) fn are_distinct(numbers: &[u64]) -> bool
     ensures { result ≡ files.are_distinct numbers.now }
 {

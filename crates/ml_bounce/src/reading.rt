@@ -1,4 +1,4 @@
-// The entries of a ledger's file.
+// Reads a ledger's file: its entries, in order of key.
 ghost use Rattle.std.specs.Prelude.{◌≡◌, ◌<◌, true, false, ℕ, IsTrue, List, [], ◌∷◌, Option, Some, None, IfOk, IfSome, IfNone, unwrap_or};
 ghost use Rattle.std.specs.Char.{is_ascii_uppercase};
 ghost use Rattle.std.specs.List.{list_any};
@@ -74,7 +74,7 @@ struct Texts<'a> {
     missed: &'a [u8],
 }
 
-// The four texts whose netstrings a text is.
+// The four texts whose netstrings make up a text.
 fn texts_of(text: &[u8]) -> Option<Texts<'_>>
     ensures some { IfSome result (λ t. netstrings_at 4 text.now ≡ Some (t.key.now ∷ t.first.now ∷ t.stage.now ∷ t.missed.now ∷ [], [])) }
     ensures none { IfNone result ((n : ℕ) → entry_of_content n text.now ≡ None) }
@@ -94,7 +94,7 @@ fn texts_of(text: &[u8]) -> Option<Texts<'_>>
     })
 }
 
-// Whether an entry is left with nothing to remember.
+// Whether an entry has nothing to remember.
 pub(crate) fn is_blank(stage: Stage, missed: &[u64]) -> bool
     ensures { result ≡ is_blank_at stage missed.now }
 {
@@ -106,7 +106,7 @@ pub(crate) fn is_blank(stage: Stage, missed: &[u64]) -> bool
     }
 }
 
-// Whether the values of an entry fit each other, and the file with this number.
+// Whether the values of an entry fit each other, and its key belongs to the file with this number.
 fn fits(n: u8, key: &[u8], first: u64, stage: Stage, missed: &[u64]) -> bool
     ensures { result ≡ spec.fits n (record { key = key.now; first = first; stage = stage; missed = missed.now }) }
 {
@@ -117,7 +117,7 @@ fn fits(n: u8, key: &[u8], first: u64, stage: Stage, missed: &[u64]) -> bool
         && place_of(key) == n
 }
 
-// The entry that a text spells, where it belongs to the file with this number.
+// The entry that a text spells, if it belongs to the file with this number.
 fn entry_of(alloc: Global, n: u8, text: &[u8]) -> Result<Option<LedgerEntry>, AllocError>
     ensures { IfOk result (λ r. r ≡ entry_of_content n text.now) }
 {
@@ -148,7 +148,7 @@ fn entry_of(alloc: Global, n: u8, text: &[u8]) -> Result<Option<LedgerEntry>, Al
     }))
 }
 
-// The entries whose row a text is.
+// The entries that a text spells one after another.
 fn entries_of(alloc: Global, n: u8, text: &[u8]) -> Result<Option<Entries>, AllocError>
     ensures { IfOk result (λ r. r ≡ row_of (entry_at n) 0 text.now) }
 {
@@ -167,7 +167,7 @@ fn entries_of(alloc: Global, n: u8, text: &[u8]) -> Result<Option<Entries>, Allo
     Ok(Some(out))
 }
 
-// Whether a text stands before another in the order of bytes.
+// Whether a text comes before another in the order of bytes.
 pub(crate) fn is_before(a: &[u8], b: &[u8]) -> bool
     ensures { result ≡ is_lt (byte_cmp a.now b.now) }
 {
@@ -184,7 +184,7 @@ fn is_below_first(key: &[u8], entries: &[LedgerEntry]) -> bool
     }
 }
 
-// Whether the keys of entries rise.
+// Whether the keys of entries are in ascending order.
 fn is_rising(entries: &[LedgerEntry]) -> bool
     ensures { result ≡ is_sorted byte_cmp (λ e. e.key) entries.now }
 {
@@ -198,7 +198,7 @@ fn is_rising(entries: &[LedgerEntry]) -> bool
     true
 }
 
-// The entries of the file with this number, or None where it is outside its grammar.
+// The entries of the file with this number, or None if it is outside its grammar.
 pub(crate) fn read_file(
     alloc: Global,
     n: u8,

@@ -1,4 +1,4 @@
-// The text of a ledger's file.
+// Writes a ledger's file.
 ghost use Rattle.std.specs.Prelude.{◌≡◌, ◌++◌, ◌∷◌, true, Some, IfOk, IfSome, IfNone, OnOk};
 ghost use Rattle.std.specs.Fmt.{decimal};
 ghost use Rattle.std.specs.List.{flat_map};
@@ -74,7 +74,7 @@ fn push_entries(alloc: Global, out: &mut Bytes, entries: &[LedgerEntry]) -> Resu
     Ok(())
 }
 
-// The first of some entries and those behind it, where it is below a key.
+// The first of some entries and those after it, if its key is below another.
 fn next_below<'a>(
     entries: &'a [LedgerEntry],
     key: &[u8],
@@ -92,7 +92,7 @@ fn next_below<'a>(
     }
 }
 
-// The entries without the first, where it is of this key.
+// The entries without the first, if that has this key.
 fn behind<'a>(entries: &'a [LedgerEntry], key: &[u8]) -> &'a [LedgerEntry]
     ensures { result.now ≡ behind_key key.now entries.now }
 {
@@ -106,7 +106,7 @@ fn behind<'a>(entries: &'a [LedgerEntry], key: &[u8]) -> &'a [LedgerEntry]
     }
 }
 
-// The file of entries with this one, in the place of the one of its key.
+// The file of entries with this one, in place of the one with its key.
 pub(crate) fn file_with(
     alloc: Global,
     entries: &[LedgerEntry],
@@ -126,7 +126,7 @@ pub(crate) fn file_with(
     Ok(out)
 }
 
-// The file of entries of which none is of this key: none where no entry is left.
+// The file of entries without that of this key: no file if no entry is left.
 pub(crate) fn file_without(
     alloc: Global,
     entries: &[LedgerEntry],

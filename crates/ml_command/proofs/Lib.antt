@@ -2,5 +2,4 @@ mod Families
 mod Given
 mod OneItem
 mod Printing
-mod Spelling
 mod Statuses

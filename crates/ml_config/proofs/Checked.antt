@@ -1,4 +1,4 @@
--- What values make is a configuration in its ranges, and its values make it again.
+-- What values make is a configuration in its ranges, and that configuration's values make it again.
 use Rattle.std.proofs.Common.{◌≡◌, ◌∙◌, ◌≤◌, ℕ, ◌&&◌, Bool, true, false, nat_le, cond, [], ◌∷◌, ◌++◌, length, Option, Some, None, is_ok, refl, sym, ap, ap₂, subst, arith}
 use Rattle.std.proofs.lemmas.Bool.Decides.{nat_tests}
 use Rattle.ml_base.specs.Bytes.{Text, lower}
@@ -65,7 +65,7 @@ config_again c is =
     ∙ ap₂ (λ h o. with_owner (record { flags = c.flags; local = c.local; host = h; owner = []; prefix = c.prefix; max = c.max }) o) kept (address_kept c.owner is.owner)
     ∙ ap (λ t. cond t None (Some c)) is.foreign
 
--- the configuration has the values that it was made of, but for the case of its hosts
+-- the configuration has the values that it was made of, except for the case of its hosts
 pub config_parts : (flags : Flags) (local host owner prefix : Text) (max : ℕ) (c : Config) → config_of flags local host owner prefix max ≡ Some c
     → (c.flags ≡ flags) × (c.local ≡ local) × (c.prefix ≡ prefix) × (c.max ≡ max)
 config_parts flags local host owner prefix max c e = go (is_list local host && is_prefix flags.f prefix && is_max max) e

@@ -1,4 +1,4 @@
--- Worked examples.
+-- Worked examples of words of `make` and of the files that they give.
 use Rattle.std.proofs.Common.{◌≡◌, List, [], ◌∷◌, ◌++◌, Option, Some, None, refl, codes}
 use Rattle.std.specs.Fmt.{digits}
 use Rattle.std.specs.Option.{option_map}

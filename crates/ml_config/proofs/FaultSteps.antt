@@ -1,4 +1,4 @@
--- A step of reading words that has no kind of fault passes.
+-- If a step of reading words finds no fault, it passes: the steps, one by one.
 use Rattle.std.proofs.Common.{◌≡◌, ◌⊎◌, ◌&&◌, ◌||◌, ◌==◌, ℕ, zero, suc, Bool, cond, true, false, not, nat_lt, nat_le, List, [], ◌∷◌, length, drop, min, ◌+◌, Option, Some, None, is_some, refl, inl, inr, arith}
 use Rattle.std.proofs.lemmas.Bool.Decides.{nat_tests}
 use Rattle.std.specs.Prelude.{slice_get, encode_utf8, codes}
@@ -26,7 +26,7 @@ pub both_none : (a b : Kinds) → or_else a b ≡ [] → (a ≡ none) × (b ≡ 
 both_none [] b e = (refl, e)
 both_none (k ∷ ks) b e = absurd cc
 
--- a kind that comes unless a test passes
+-- a fault that comes unless a test passes
 unless : (t : Bool) (k : ErrorKind) → cond t none (k ∷ []) ≡ [] → t ≡ true
 unless true k e = refl
 unless false k e = absurd cc

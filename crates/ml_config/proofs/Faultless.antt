@@ -1,4 +1,4 @@
--- Words at which `make` has no kind of fault are taken.
+-- If `clap` finds no fault in the words of `make`, it takes them.
 use Rattle.std.proofs.Common.{◌≡◌, ◌∙◌, ◌&&◌, ◌||◌, Bool, cond, true, false, not, List, [], ◌∷◌, refl, sym, ap}
 use Rattle.std.specs.List.{list_all, list_any}
 use Rattle.clap.specs.Kinds.{Kinds}
@@ -21,7 +21,7 @@ no_kind false true c k l m e = absurd cc
 no_kind false false true k l m e = absurd cc
 no_kind false false false k l m e = refl
 
--- where no argument is both required and missing, each is optional or given
+-- if no argument is both required and missing, every one is optional or given
 each_given : {X : Type 0} (required given : X → Bool) (xs : List X) → list_any (λ x. required x && not (given x)) xs ≡ false
     → list_all (λ x. not (required x) || given x) xs ≡ true
 each_given required given [] e = refl
@@ -34,7 +34,7 @@ each_given {X} required given (x ∷ xs) e = go (required x) (given x) (each_giv
     go true false more d = absurd cc
     go false g more d = more d
 
--- what is asked of a command behind its words
+-- what a command asks for besides its words
 pub record IsEasy (s : Shape) : Type 0 where
   pub defaults : list_all default_passes s.rules ≡ true
   pub free : list_all (λ (a : Rule). a.is_free) s.rules ≡ true

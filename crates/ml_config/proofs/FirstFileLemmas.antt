@@ -1,4 +1,4 @@
--- What the first puts of a list leave in each file.
+-- What the first puts of a list leave in every file.
 use Rattle.std.proofs.Common.{◌≡◌, ◌∙◌, ℕ, ◌+◌, ◌==◌, Bool, true, false, cond, nat_le, List, [], ◌∷◌, ◌++◌, map, Option, None, refl, sym, ap, subst, arith}
 use Rattle.std.proofs.lemmas.Bool.{eqb-true}
 use Rattle.std.proofs.lemmas.Bool.Decides.{nat_tests}
@@ -52,7 +52,7 @@ module _ (c : Config) (key : Text) (a : ℕ) where
 pub files_agree : (c : Config) (key : Text) (name : Name) → with_puts no_files (first_puts c key) name ≡ first_files c key name
 files_agree c key name = by_kind c key name.at name.kind
 
--- the same in any directory, where it has no file
+-- the same in any directory, for a file that it doesn't have
 pub files_over : (c : Config) (key : Text) (dir : Dir) (name : Name) → dir name ≡ None → with_puts dir (first_puts c key) name ≡ first_files c key name
 files_over c key dir name absent =
     newest_decides (first_puts c key) name dir ∙ ap (laid_by (newest_put (first_puts c key) name)) absent

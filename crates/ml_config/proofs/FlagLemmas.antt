@@ -1,4 +1,4 @@
--- A command grows by a flag for each letter of a table.
+-- A command to which a flag is added for every letter of a table has these flags.
 use Rattle.std.proofs.Common.{◌≡◌, ◌∙◌, ℕ, ◌+◌, ◌<◌, Bool, true, false, List, [], ◌∷◌, length, take, map, refl, sym, ap₂, slice_index_or, Bor}
 use Rattle.std.specs.List.{fold, list_all}
 use Rattle.std.proofs.lemmas.List.Folds.{fold-map, list_all_at}

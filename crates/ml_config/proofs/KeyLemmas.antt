@@ -11,7 +11,7 @@ use Rattle.ml_config.specs.KeyFile.{AreKeys, IsFormer, IsKeyFile, former_text, k
 use Rattle.ml_config.specs.declared.key_file.Former.{Former}
 use Rattle.ml_config.specs.declared.key_file.Keys.{Keys}
 
--- a text of so many bytes before another is cut off there
+-- a text of so many bytes is cut off again from what follows it
 front_of : (n : ℕ) (a b bytes front : Text) → length a ≡ n → bytes ≡ a ++ b → front ≡ take n bytes → front ≡ a
 front_of n a b bytes front size is e = e ∙ ap₂ (λ m t. take m t) (sym size) is ∙ take-append_seam a b
 
@@ -37,7 +37,7 @@ former_read bytes key rest digits end changed f cut value is e =
       back_of 8 be [] rest end refl whole cut.tail,
     )
 
--- what is cut off a text of bytes has bytes
+-- what is cut off a text of bytes consists of bytes
 small_take : (n : ℕ) (xs : Text) → ((i : ℕ) → get_or xs i 0 < 256) → (i : ℕ) → get_or (take n xs) i 0 < 256
 small_take zero xs h i = omega arith
 small_take (suc n) [] h i = omega arith
@@ -70,17 +70,17 @@ pub no_bytes : (bytes : Text) → (length bytes == 0) ≡ true → bytes ≡ []
 no_bytes [] e = refl
 no_bytes (b ∷ bs) e = absurd (let none : length (b ∷ bs) ≡ 0 = eqb-true _ 0 e in omega arith)
 
--- where nothing follows the key there is no former one
+-- if nothing follows the key, there is no former one
 pub no_former : (o : Option Former) → former_text o ≡ [] → o ≡ None
 no_former None e = refl
 no_former (Some f) e = absurd (let none : length (f.key ++ to_be_bytes w64 f.changed) ≡ 0 = ap length e in omega (arith, none, length-append f.key (to_be_bytes w64 f.changed)))
 
--- and where something does there is one
+-- if something does, there is one
 pub some_former : (o : Option Former) (rest : Text) → rest ≡ former_text o → (length rest == 0) ≡ false → IfSome o IsFormer → (f : Former) × (o ≡ Some f) × IsFormer f
 some_former None rest e some is = absurd (let bad : true ≡ false = sym (ap (λ (t : Text). length t == 0) e) ∙ some in cc)
 some_former (Some f) rest e some is = (f, refl, is)
 
--- a former key that a text holds is the only one
+-- a text holds at most one former key
 one_former : (f g : Former) → IsFormer f → IsFormer g → former_text (Some f) ≡ former_text (Some g) → f ≡ g
 one_former f g p q e =
     let bytes = former_text (Some g) in
@@ -94,7 +94,7 @@ same_former None p a b e = sym (no_former p (sym e))
 same_former (Some f) None a b e = no_former (Some f) e
 same_former (Some f) (Some g) a b e = ap (λ (h : Former). Some h) (one_former f g a b e)
 
--- a file holds one pair of keys at most
+-- a file holds at most one pair of keys
 pub one_key_file : (file : Option Text) (a b : Keys) → IsKeyFile file a → IsKeyFile file b → a ≡ b
 one_key_file file a b p q =
     let same : Some (keys_text a) ≡ Some (keys_text b) = sym p.text ∙ q.text in

@@ -1,4 +1,4 @@
--- Six lines are read as they are written.
+-- Six lines are read as they are written, and nothing else is read as six lines.
 use Rattle.std.proofs.Common.{◌≡◌, ◌∙◌, true, false, cond, [], ◌∷◌, ◌++◌, length, take, drop, Option, Some, None, refl, sym, ap, ap₂, append_assoc, codes, ◌==◌, arith}
 use Rattle.std.proofs.Math.Seq.{drop-append_seam, take-append_seam}
 use Rattle.std.proofs.lemmas.List.{append-nil, take-append-drop}
@@ -13,9 +13,6 @@ use Rattle.ml_config.specs.ConfigFile.{Values, line, values_text}
 use Rattle.ml_config.specs.Reading.{behind, lines_of, value_at}
 use Rattle.ml_config.proofs.Small.{bound, tested}
 use Rattle.ml_config.proofs.Clean.{AreLines}
-
-abbrev pair : Text → Text → Option (Text × Text)
-pair a b = Some (a, b)
 
 pub value_read : (name text value rest : Text) → value_at name text ≡ Some (value, rest) → text ≡ line name value ++ rest
 unfolding value_at

@@ -1,4 +1,4 @@
--- LOCAL@HOST as an address: it is split at its one `@`, and its host may be written in lower case.
+-- LOCAL@HOST as an address: it is split at its one `@`, and its host may be put into lower case.
 use Rattle.std.proofs.Common.{◌≡◌, ◌∙◌, ℕ, ◌&&◌, ◌||◌, ◌==◌, Bool, true, false, nat_lt, cond, [], ◌∷◌, ◌++◌, length, Option, Some, None, Result, Ok, Err, is_ok, refl, sym, ap, ap₂, subst}
 use Rattle.std.proofs.lemmas.Bool.{eq-eqb}
 use Rattle.std.proofs.lemmas.Bool.Decides.{nat_tests}
@@ -36,7 +36,7 @@ has_itself c (x ∷ xs) ys = go (x == c) (has_itself c xs ys)
     go true more = refl
     go false more = more
 
--- where one cut is at the only place of a byte, so is every other
+-- if one cut is at the only place of a byte, so is every other
 one_cut : (c : ℕ) (x y b h : Text) → has_byte c b ≡ false → has_byte c h ≡ false → x ++ c ∷ y ≡ b ++ c ∷ h → (x ≡ b) × (y ≡ h)
 one_cut c [] y [] h p q e = (refl, cc)
 one_cut c [] y (d ∷ b) h p q e =
@@ -80,7 +80,7 @@ pub not_long : (t : Bool) (r : Checked) → ◌≡◌ {A = Checked} (cond t (Err
 not_long true r e = absurd cc
 not_long false r e = e
 
--- what is put together as LOCAL@HOST and checks is split there
+-- if LOCAL@HOST is an address, it is split into LOCAL and HOST
 pub cut_there : (local host : Text) → address_check (local ++ 64 ∷ host) ≡ Ok tt → split_last 64 (local ++ 64 ∷ host) ≡ Some (local, host)
 cut_there local host e = go (split_last 64 (local ++ 64 ∷ host)) refl (not_long (nat_lt 400 (length (local ++ 64 ∷ host))) _ e)
   where
@@ -96,7 +96,7 @@ pub is_ok_checks : (r : Checked) → is_ok r ≡ true → r ≡ Ok tt
 is_ok_checks (Ok tt) e = refl
 is_ok_checks (Err f) e = absurd cc
 
--- its host in lower case it is an address as it is kept
+-- with its host in lower case, it is an address as it is kept
 pub list_kept : (local host : Text) → address_check (local ++ 64 ∷ host) ≡ Ok tt → IsAddress (local ++ 64 ∷ lower host)
 list_kept local host e =
     let text = local ++ 64 ∷ host in
@@ -105,7 +105,7 @@ list_kept local host e =
     let found : address_of text ≡ Some (as_address text) = ap (λ (r : Checked). cond (is_ok r) (Some (as_address text)) None) e in
     subst IsAddress kept (address_read text (as_address text) found)
 
--- and where it is one, its host is in lower case
+-- if it is one as it is kept, its host is in lower case
 pub host_lower : (local host : Text) → IsAddress (local ++ 64 ∷ host) → lower host ≡ host
 host_lower local host is =
     let host_is : host_of (local ++ 64 ∷ host) ≡ host = ap behind_at (cut_there local host is.checks) in

@@ -1,4 +1,4 @@
--- What the matches say, by their rows.
+-- What the matches of words say, in terms of their rows.
 use Rattle.std.proofs.Common.{◌≡◌, ◌∙◌, Bool, true, false, cond, List, [], ◌∷◌, Option, Some, None, map, refl, ap}
 use Rattle.std.specs.Prelude.{find, option_map, option_and_then}
 use Rattle.std.specs.Option.{option_map_or}

@@ -1,4 +1,4 @@
--- No two configurations have one spelling.
+-- No two configurations have the same spelling.
 use Rattle.std.proofs.Common.{◌≡◌, ◌∙◌, ℕ, ◌-◌, ◌==◌, Bool, true, false, Option, Some, refl, sym, ap, slice_index}
 use Rattle.std.proofs.lemmas.Bool.{eq-eqb}
 use Rattle.std.proofs.lemmas.Fmt.{decimal_injective}

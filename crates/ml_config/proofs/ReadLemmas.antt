@@ -1,4 +1,4 @@
--- A configuration is read of the values that it is spelled by, and of no others.
+-- A configuration is read from the values that spell it, and from no others.
 use Rattle.std.proofs.Common.{◌≡◌, ◌∙◌, ◌≤◌, ◌<◌, ℕ, true, ◌&&◌, [], ◌∷◌, length, Option, Some, refl, sym, ap, arith, slice_index}
 use Rattle.std.proofs.lemmas.Bool.Decides.{nat_tests}
 use Rattle.std.proofs.lemmas.Slice.Eq.{bytes_eq-Decides}
@@ -17,7 +17,7 @@ use Rattle.ml_config.proofs.Checked.{config_again, config_made, config_parts}
 use Rattle.ml_config.proofs.Clean.{values_one_line}
 use Rattle.ml_config.proofs.LineLemmas.{lines_read, lines_written}
 
--- a text of fourteen bytes is these
+-- a text of fourteen bytes consists of these
 pub fourteen : (text : Text) → 14 ≤ length text → length text < 15
     → text ≡ slice_index text 0 ∷ slice_index text 1 ∷ slice_index text 2 ∷ slice_index text 3 ∷ slice_index text 4 ∷ slice_index text 5 ∷ slice_index text 6
     ∷ slice_index text 7 ∷ slice_index text 8 ∷ slice_index text 9 ∷ slice_index text 10 ∷ slice_index text 11 ∷ slice_index text 12 ∷ slice_index text 13 ∷ []
@@ -54,14 +54,14 @@ spelled_lines bytes c spells = ap lines_of spells.text ∙ lines_written (values
 pub spelled_by : (bytes : Text) (v : Values) (c : Config) → lines_of bytes ≡ Some v → IsConfig c → v ≡ values_of c → Spells bytes c
 spelled_by bytes v c lines is e = record { is = is; text = lines_read bytes v lines ∙ ap values_text e }
 
--- the configuration that values spell has them as they are
+-- the configuration that values spell has these values as they are
 pub kept : (v : Values) (c d : Config) → v ≡ values_of d → Some c ≡ Some d → (bytes_eq c.host v.host && bytes_eq c.owner v.owner) ≡ true
 kept v c d e same =
     let one : c ≡ d = cc in
     all_and _ _ ((bytes_eq-Decides _ _).1 (ap (λ (x : Config). x.host) one ∙ sym (ap (λ (x : Values). x.host) e)))
     ((bytes_eq-Decides _ _).1 (ap (λ (x : Config). x.owner) one ∙ sym (ap (λ (x : Values). x.owner) e)))
 
--- what values were made into is the configuration that they spell
+-- what is made of values is the configuration that they spell
 pub made_again : (v : Values) (d : Config) (flags : Flags) (max : ℕ) (prefix : Text) (made : Option Config) → made ≡ config_of flags v.local v.host v.owner prefix max → prefix ≡ v.prefix
     → IsConfig d → v ≡ values_of d → Some flags ≡ Some d.flags → Some max ≡ Some d.max → made ≡ Some d
 made_again v d flags max prefix made is same range e f m =

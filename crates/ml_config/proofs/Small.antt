@@ -10,7 +10,7 @@ bound (Some x) f y e = (x, refl, e)
 pub all_and : (a b : Bool) → a ≡ true → b ≡ true → (a && b) ≡ true
 all_and a b p q = ap₂ (λ x y. x && y) p q
 
--- a value that is there only where a test passes
+-- a value that is there only if a test passes
 pub tested : {A : Type 0} (t : Bool) (x y : A) → cond t (Some x) None ≡ Some y → (t ≡ true) × (x ≡ y)
 tested true x y e = (refl, cc)
 tested false x y e = absurd cc

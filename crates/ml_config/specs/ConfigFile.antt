@@ -8,7 +8,7 @@ use Rattle.ml_config.specs.declared.configuration.Config.{Config}
 use Rattle.ml_config.specs.declared.configuration.Flags.{Flags}
 pub use Rattle.ml_base.specs.Kinds.{config_name}
 
--- the letter of an option: in lower case where it is set, and in upper case where it is clear
+-- the letter of an option: in lower case if it is set, and in upper case if it is clear
 abbrev pub letter : ℕ → Bool → ℕ
 letter lower set = if set then lower else lower - 32
 
@@ -55,7 +55,7 @@ pub record IsConfigFile (file : Option Text) (c : Config) : Type 0 where
   pub is : IsConfig c
   pub text : file ≡ Some (config_text c)
 
--- no configuration where the file is absent, and else the one that it holds
+-- no configuration if the file is absent, and otherwise the one that it holds
 abbrev pub IsLoaded : Option Text → Option Config → Type 0
 IsLoaded file None = file ≡ None
 IsLoaded file (Some c) = IsConfigFile file c

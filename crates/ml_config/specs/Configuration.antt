@@ -1,4 +1,4 @@
--- Configurations: which values they have, and how they are spelled.
+-- Configurations: which values they may have, and which one some values make.
 use Rattle.std.specs.Prelude.{◌≡◌, ◌≤◌, ℕ, ◌-◌, Bool, false, not, ◌&&◌, ◌||◌, ◌==◌, nat_le, IsTrue, is_ok, if◌then◌else◌, [], ◌∷◌, ◌++◌, length, slice_index, Option, Some, None}
 use Rattle.std.specs.List.{list_all}
 use Rattle.ml_base.specs.Bytes.{Text, lower, is_empty, at_sign, space}
@@ -11,13 +11,13 @@ use Rattle.ml_config.specs.declared.configuration.Flags.{Flags}
 abbrev pub is_prefix_byte : ℕ → Bool
 is_prefix_byte b = nat_le 32 b && nat_le b 126
 
--- a text that may stand before subjects: 1 to 62 bytes, each 33 to 126 or a space, with no space at either end
+-- a text that may be the prefix of subjects: 1 to 62 bytes, each 33 to 126 or a space, with no space at either end
 abbrev pub is_prefix_text : Text → Bool
 is_prefix_text text =
     nat_le 1 (length text) && nat_le (length text) 62 && list_all is_prefix_byte text
     && not (slice_index text 0 == space) && not (slice_index text (length text - 1) == space)
 
--- the prefix of a list that marks subjects, or that doesn't: such a text, or nothing where subjects aren't marked
+-- the prefix of a list that marks subjects, or doesn't: such a text, or nothing if subjects aren't marked
 abbrev pub is_prefix : Bool → Text → Bool
 is_prefix marks text = is_prefix_text text || (not marks && is_empty text)
 
@@ -40,12 +40,12 @@ pub record IsConfig (c : Config) : Type 0 where
   pub prefix : IsTrue (is_prefix c.flags.f c.prefix)
   pub max : IsTrue (is_max c.max)
 
--- the configuration with an owner, unless his address is the list's own
+-- the configuration with an owner, unless the owner's address is one of the list's own
 abbrev pub with_owner : Config → Option Text → Option Config
 with_owner c None = None
 with_owner c (Some owner) = if is_own c.local c.host owner then None else Some (record c { owner = owner })
 
--- the configuration that these values make, hosts in lower case, or None where a value is out of its range
+-- the configuration that these values make, hosts in lower case, or None if a value is out of its range
 abbrev pub config_of : Flags → Text → Text → Text → Text → ℕ → Option Config
 config_of flags local host owner prefix max =
     if is_list local host && is_prefix flags.f prefix && is_max max

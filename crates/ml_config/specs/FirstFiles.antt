@@ -1,4 +1,4 @@
--- The files of a new list.
+-- The files of a new list, and the puts that make them.
 use Rattle.std.specs.Prelude.{ℕ, ◌&&◌, ◌||◌, ◌==◌, nat_le, if◌then◌else◌, codes, map, List, ◌∷◌, ◌++◌, [], Some, None}
 use Rattle.std.specs.List.{range_with_len}
 use Rattle.ml_base.specs.Bytes.{Text, line_feed}
@@ -12,11 +12,11 @@ use Rattle.ml_config.specs.declared.configuration.Config.{Config}
 abbrev pub with_lf : Text → Text
 with_lf text = text ++ line_feed ∷ []
 
--- what writes a file
+-- the put that writes a file
 abbrev pub file_put : ℕ → ℕ → Text → Put
 file_put kind at bytes = record { name = record { kind = kind; at = at }; bytes = Some bytes }
 
--- what writes the count of a set without members
+-- the put that writes the count of a set without members
 abbrev pub empty_count : ℕ → Put
 empty_count set = file_put count_kind set (with_lf (codes "0"))
 
@@ -30,8 +30,8 @@ first_puts c key =
 abbrev pub no_files : Dir
 no_files name = None
 
--- The files of a new list: its configuration, its key, no members in any of the five sets, no posts, no post in a digest
--- and no digest, and neither a held post nor a queue entry, of which the next are number 1. No other file is there.
+-- The files of a new list: its configuration, its key, five sets without members, no posts and no digests, and neither held posts
+-- nor queue entries, whose numbers begin at 1. No other file is there.
 abbrev pub first_files : Config → Text → Dir
 first_files c key name =
     if name.kind == config_kind && name.at == 0 then Some (config_text c)

@@ -1,4 +1,4 @@
--- The words of `make`, as `clap` reads them for a simple command.
+-- The words of `make`, as rules by which `clap` reads them.
 use Rattle.std.specs.Prelude.{◌++◌, ℕ, true, List, [], ◌∷◌, map, Some, codes}
 use Rattle.std.specs.List.{fold}
 use Rattle.clap.specs.Words.{App, Rule, Text, new_app, new_rule, with_rule}
@@ -20,11 +20,11 @@ required_option name = record (option_rule name) { required = true }
 abbrev pub word_rule : Text → Rule
 word_rule name = record (new_rule name) { required = true; action = Some Set }
 
--- one flag for each letter and case
+-- a flag for every letter, in both cases
 abbrev pub letters : Text
 letters = codes "bdfghjklmprstuBDFGHJKLMPRSTU"
 
--- `make` without its arguments: no help and no version, and the first word is no program's name
+-- `make` before its arguments are added: no help and no version, and the first word is no program's name
 abbrev pub bare_make : App
 bare_make =
     let a = new_app (codes "make") in

@@ -7,20 +7,20 @@ use Rattle.ml_base.specs.Splits.{split_first}
 use Rattle.ml_config.specs.ConfigFile.{Values}
 use Rattle.ml_config.specs.declared.reading.Lines.{Lines}
 
--- the second step, where the first gave a value
+-- the second step, if the first gave a value
 infixl 10 ◌>>=◌
 abbrev pub ◌>>=◌ : {A B : Type 0} → Option A → (A → Option B) → Option B
 o >>= f = option_and_then f o
 
--- what a text has behind a name that it begins with
+-- the text after a name, if it begins with that name
 abbrev pub behind : Text → Text → Option Text
 behind name text = if bytes_eq (take (length name) text) name then Some (drop (length name) text) else None
 
--- the value of the line that a text begins with, where the line has this name, and the text behind its LF
+-- the value of the line that a text begins with, if the line has this name, and the text after its LF
 unfoldable pub value_at : Text → Text → Option (Text × Text)
 value_at name text = option_and_then (split_first line_feed) (behind name text)
 
--- the six values, where no text is left behind them
+-- the six values, if no text is left after them
 abbrev pub with_end : Values → Text → Option Values
 with_end v rest = if length rest == 0 then Some v else None
 

@@ -1,4 +1,4 @@
-// Whether values are in the ranges of a configuration.
+// Whether values are in the ranges that a configuration allows.
 ghost use Rattle.std.specs.Prelude.{◌≡◌, IfOk};
 ghost use Rattle.std.specs.List.{list_all};
 ghost use Rattle.ml_base.specs.Address.{address_of};
@@ -29,7 +29,7 @@ fn all_prefix_bytes(text: &[u8]) -> bool
     text.iter().all(|byte| is_prefix_byte(*byte))
 }
 
-// Whether a text may stand before subjects.
+// Whether a text may be the prefix of subjects.
 pub(crate) fn is_prefix_text(text: &[u8]) -> bool
     ensures { result ≡ spec.is_prefix_text text.now }
 {
@@ -39,7 +39,7 @@ pub(crate) fn is_prefix_text(text: &[u8]) -> bool
     all_prefix_bytes(text) && text[0] != b' ' && text[text.len() - 1] != b' '
 }
 
-// Whether a text may be the prefix of a list that marks subjects, or doesn't.
+// Whether a text may be the prefix of a list, given whether the list marks subjects.
 fn is_prefix(marks: bool, text: &[u8]) -> bool
     ensures { result ≡ spec.is_prefix marks text.now }
 {
@@ -65,7 +65,7 @@ fn is_list(alloc: Global, local: &[u8], host: &[u8]) -> Result<bool, AllocError>
     Ok(Address::check(text.as_slice()).is_ok())
 }
 
-// The address that a text spells, or None where it spells none.
+// The address that a text spells, or None if it spells none.
 fn address(alloc: Global, text: &[u8]) -> Result<Option<Address>, AllocError>
     ensures { IfOk result (λ found. found ≡ address_of text.now) }
 {
@@ -83,7 +83,7 @@ fn lowered(alloc: Global, text: &[u8]) -> Result<Bytes, AllocError>
     Ok(Bytes::from_vec(text.to_ascii_lowercase(alloc)?))
 }
 
-// The configuration that these values make, its hosts in lower case, or None where a value is out of its range.
+// The configuration that these values make, with its hosts in lower case, or None if a value is out of its range.
 pub(crate) fn checked(
     alloc: Global,
     flags: Flags,

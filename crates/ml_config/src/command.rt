@@ -12,7 +12,7 @@ use clap::error::ErrorKind;
 use clap::{Arg, ArgAction, ArgMatches, Command};
 use std::alloc::{AllocError, Global};
 
-// Each letter as an id, and as a flag.
+// Every letter, as an id and as a flag.
 const LETTERS: [(&str, char); 28] = [
     ("b", 'b'),
     ("d", 'd'),
@@ -66,7 +66,7 @@ fn word(alloc: Global, name: &str) -> Arg<'_>
     Arg::new(alloc, name).required(true).action(ArgAction::Set)
 }
 
-// `make` without its arguments.
+// `make` before its arguments are added.
 fn bare<'a>(alloc: Global) -> Command<'a>
     ensures { app_of result ≡ bare_make }
 {
@@ -105,7 +105,7 @@ fn make<'a>(alloc: Global) -> Result<Command<'a>, AllocError>
         .arg(word(alloc, "owner"))
 }
 
-// The matches of the words, or `Usage` where they are not those of the command.
+// The matches of the words, or `Usage` if the words aren't those of the command.
 pub(crate) fn matches<'a>(alloc: Global, words: &'a [String]) -> Result<ArgMatches<'a>, ConfigError>
     ensures { MatchResult result
         (λ m. (are_of_make (texts words.now) ≡ true) × (rows_of (found_of m) ≡ make_rows (texts words.now)))

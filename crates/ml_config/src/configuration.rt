@@ -1,22 +1,22 @@
-// Configurations.
+// The configuration of a list, as a value: its options, its address, its owner and its limits.
 use ml_base::{Address, Bytes};
 
 /// The options of a list, each named by its letter in `make`.
 #[derive(Clone, Copy, Debug, PartialEq, Eq)]
 pub struct Flags {
-    /// The archive is for moderators alone.
+    /// The archive is for moderators only.
     pub b: bool,
     /// There are digests.
     pub d: bool,
     /// Subjects are marked with the prefix.
     pub f: bool,
-    /// The archive is for subscribers alone.
+    /// The archive is for subscribers only.
     pub g: bool,
-    /// Whoever subscribes himself need not confirm it.
+    /// Whoever subscribes himself needn't confirm it.
     pub h: bool,
-    /// Whoever unsubscribes himself need not confirm it.
+    /// Whoever unsubscribes himself needn't confirm it.
     pub j: bool,
-    /// Who is in the deny set may not post.
+    /// Whoever is in the deny set may not post.
     pub k: bool,
     /// Moderators may list the subscribers.
     pub l: bool,
@@ -30,7 +30,7 @@ pub struct Flags {
     pub s: bool,
     /// Posts get a trailer.
     pub t: bool,
-    /// Only who is known to the list may post.
+    /// Only those who are known to the list may post.
     pub u: bool,
 }
 
@@ -40,11 +40,11 @@ pub struct Config {
     pub flags: Flags,
     /// The part of the list's address before the `@`, of at most 60 bytes.
     pub local: Bytes,
-    /// The part behind it, in lower case, of at most 255 bytes.
+    /// The part after the `@`, in lower case, of at most 255 bytes.
     pub host: Bytes,
-    /// Who owns the list. His address is not one of the list's own.
+    /// The owner's address. It isn't one of the list's own.
     pub owner: Address,
-    /// What marks subjects: 1 to 62 bytes 33 to 126 or inner spaces, or nothing where subjects aren't marked.
+    /// What marks subjects: 1 to 62 bytes 33 to 126 or inner spaces, or nothing if subjects aren't marked.
     pub prefix: Bytes,
     /// The most bytes that a post may have: 1 to 16,777,216.
     pub max: u64,

@@ -1,4 +1,4 @@
-// The files of a new list.
+// The files of a new list, as `make` writes them.
 ghost use Rattle.std.specs.Prelude.{◌≡◌, ◌++◌, ◌∷◌, [], map, IfOk, IsTrue, None, OnOk};
 ghost use Rattle.std.specs.List.{range_with_len};
 ghost use Rattle.ml_base.specs.Dir.{Dir, with_puts, are_files};
@@ -10,9 +10,9 @@ use crate::{Config, write_config};
 use ml_base::{Bytes, Name, Put, Txn};
 use std::alloc::{AllocError, Global};
 
-/// What makes the files of a new list with this configuration and this key: those two, empty sets, no posts, no digests,
-/// no held posts and no queue entries. In any directory, each file that isn't there becomes what it is in a new list: one of
-/// those, or none.
+/// The puts that make the files of a new list with this configuration and this key: those two, empty sets, no posts, no digests,
+/// no held posts and no queue entries. In any directory, every file that isn't there becomes what it is in a new list: one of
+/// those files, or absent.
 pub fn initial(alloc: Global, config: &Config, key: &[u8; 32]) -> Result<Txn, AllocError>
     ensures puts { IfOk result (λ txn. txn ≡ spec.first_puts config.now key.now) }
     ensures files { IfOk result (λ txn. (name : Name) → with_puts no_files txn name ≡ first_files config.now key.now name) }

@@ -1,4 +1,4 @@
-// The keys of a list.
+// The keys of a list, and the file that holds them.
 ghost use Rattle.std.specs.Prelude.{◌≡◌, ◌≤◌, ◌<◌, IsTrue, IfOk, IfErr, IfSome, IsErrOf, Some, None, Option, [], ◌∷◌};
 ghost use Rattle.std.specs.Option.{option_copied};
 ghost use Rattle.ml_base.specs.Dir.{Dir, are_files, with_puts};
@@ -21,15 +21,15 @@ pub struct Former {
     pub changed: u64,
 }
 
-/// The key of a list, and the one before it where the key was changed. Keys are secrets, so they have no `Debug`.
+/// The key of a list, and the one before it if the key was replaced. Keys are secrets, so they have no `Debug`.
 #[derive(Clone, Copy, PartialEq, Eq)]
 pub struct Keys {
     pub key: [u8; 32],
     pub former: Option<Former>,
 }
 
-/// The keys that the list's files hold. `Damaged` names the file of the keys and comes only where it is absent or holds
-/// no keys. `Fault` comes only where a read failed.
+/// The keys that the list's files hold. `Damaged` names the file of the keys, and comes only if it is absent or holds
+/// no keys. `Fault` comes only if a read failed.
 pub fn key<F: Files>(alloc: Global, files: &mut F) -> Result<Keys, PartError>
     ensures read { IsTrue F.tells → (keys : Keys) → IsKeyFile (F.map files.old key_name) keys → IfOk result (λ found. found ≡ keys) }
     ensures value { IsTrue F.tells → IfOk result (IsKeyFile (F.map files.old key_name)) }
@@ -44,7 +44,7 @@ pub fn key<F: Files>(alloc: Global, files: &mut F) -> Result<Keys, PartError>
     }
 }
 
-// The keys that a file holds, or None where it is absent or holds none.
+// The keys that a file holds, or None if it is absent or holds none.
 fn keys_of(file: Option<&Bytes>) -> Option<Keys>
     ensures read { (keys : Keys) → IsKeyFile (option_copied file.entry) keys → result ≡ Some keys }
     ensures value { IfSome result (IsKeyFile (option_copied file.entry)) }
@@ -52,7 +52,7 @@ fn keys_of(file: Option<&Bytes>) -> Option<Keys>
     read_keys(file?.as_slice())
 }
 
-// The keys that 32 or 72 bytes spell, or None of other bytes.
+// The keys that 32 or 72 bytes spell, or None for other bytes.
 fn read_keys(bytes: &[u8]) -> Option<Keys>
     ensures read { (keys : Keys) → AreKeys keys → bytes.now ≡ keys_text keys → result ≡ Some keys }
     ensures value { IfSome result (λ keys. AreKeys keys × (bytes.now ≡ keys_text keys)) }
@@ -71,7 +71,7 @@ fn read_keys(bytes: &[u8]) -> Option<Keys>
     })
 }
 
-// The former key that 40 bytes spell, or None of other bytes.
+// The former key that 40 bytes spell, or None for other bytes.
 fn read_former(bytes: &[u8]) -> Option<Former>
     ensures read { (former : Former) → IsFormer former → bytes.now ≡ former_text (Some former) → result ≡ Some former }
     ensures value { IfSome result (λ former. IsFormer former × (bytes.now ≡ former_text (Some former))) }
@@ -88,7 +88,7 @@ fn read_former(bytes: &[u8]) -> Option<Former>
     Some(Former { key: *key, changed })
 }
 
-/// What is to be done so that the list's files hold these keys, whose former key was changed before the year 10000.
+/// The puts after which the list's files hold these keys. The former key was replaced before the year 10000.
 pub fn set_keys(alloc: Global, keys: &Keys) -> Result<Txn, AllocError>
     requires { IfSome keys.now.former (λ former. IsMoment former.changed) }
     ensures puts { IfOk result (λ txn. txn ≡ keys_put keys.now ∷ []) }

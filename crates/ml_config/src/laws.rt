@@ -1,4 +1,4 @@
-// What holds of all configurations and keys.
+// What holds of all configurations and keys: no bytes spell two of them.
 ghost use Rattle.std.specs.Prelude.{◌≡◌, ℕ, Option, Some};
 ghost use Rattle.ml_base.specs.Bytes.{Text};
 ghost use Rattle.ml_config.specs.Configuration.{IsConfig, config_of};
@@ -8,7 +8,7 @@ ghost use Rattle.ml_config.specs.declared.key_file.Keys.{Keys};
 ghost use Rattle.ml_config.specs.declared.configuration.Config.{Config};
 ghost use Rattle.ml_config.specs.declared.configuration.Flags.{Flags};
 
-/// Bytes spell one configuration at most, and a file holds one at most. What values make is a configuration in its
+/// Bytes spell at most one configuration, and a file holds at most one. What values make is a configuration in its
 /// ranges, and the values of such a configuration make it again.
 pub fn law_configurations()
     ensures one { (bytes : Text) (c d : Config) → Spells bytes c → Spells bytes d → c ≡ d }
@@ -17,7 +17,7 @@ pub fn law_configurations()
     ensures again { (c : Config) → IsConfig c → config_of c.flags c.local c.host c.owner c.prefix c.max ≡ Some c }
 {}
 
-/// A file holds one pair of keys at most.
+/// A file holds at most one pair of keys.
 pub fn law_keys()
     ensures { (file : Option Text) (a b : Keys) → IsKeyFile file a → IsKeyFile file b → a ≡ b }
 {}

@@ -1,4 +1,4 @@
-// The configuration is read from the list's files.
+// How the configuration is read from the list's files.
 ghost use Rattle.std.specs.Prelude.{◌≡◌, ◌≤◌, IsTrue, IfOk, IfErr, IfSome, IsErrOf, Some, Option};
 ghost use Rattle.ml_base.specs.declared.part.PartError.TheVariants.{Fault};
 ghost use Rattle.ml_base.specs.PartErrors.{OnDamaged};
@@ -11,8 +11,8 @@ use crate::{Config, read_config};
 use ml_base::{Bytes, Files, Name, PartError};
 use std::alloc::Global;
 
-/// The configuration that the list's files hold, or None exactly where its file is absent. `Damaged` names that file and
-/// comes only where it is there and holds no configuration. `Fault` comes only where a read failed.
+/// The configuration that the list's files hold, or None exactly if its file is absent. `Damaged` names that file, and
+/// comes only if it is there and holds no configuration. `Fault` comes only if a read failed.
 pub fn load<F: Files>(alloc: Global, files: &mut F) -> Result<Option<Config>, PartError>
     ensures read { IsTrue F.tells → (c : Config) → IsConfigFile (F.map files.old config_name) c → IfOk result (λ found. found ≡ Some c) }
     ensures value { IsTrue F.tells → IfOk result (IsLoaded (F.map files.old config_name)) }
@@ -25,7 +25,7 @@ pub fn load<F: Files>(alloc: Global, files: &mut F) -> Result<Option<Config>, Pa
     loaded(alloc, file)
 }
 
-// The configuration of its file, or None where the file is absent.
+// The configuration of its file, or None if the file is absent.
 fn loaded(alloc: Global, file: Option<Bytes>) -> Result<Option<Config>, PartError>
     ensures read { (c : Config) → IsConfigFile file c → IfOk result (λ found. found ≡ Some c) }
     ensures value { IfOk result (IsLoaded file) }

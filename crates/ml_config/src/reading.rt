@@ -1,4 +1,4 @@
-// The file of the configuration is read.
+// How the file of the configuration is read.
 ghost use Rattle.std.specs.Prelude.{◌≡◌, ◌≤◌, ◌&&◌, Bool, IfOk, IfSome, Some};
 ghost use Rattle.std.specs.Str.{bytes_eq};
 ghost use Rattle.ml_config.specs.Configuration.{IsConfig};
@@ -25,7 +25,7 @@ struct Lines<'a> {
     max: &'a [u8],
 }
 
-// The value of the line that a text begins with, where the line has this name, and the text behind its LF.
+// The value of the line that a text begins with, if the line has this name, and the text after its LF.
 #[tactic(auto, unfolding(crate::specs::Reading::value_at))]
 fn value_of<'a>(name: &[u8], text: &'a [u8]) -> Option<(&'a [u8], &'a [u8])>
     ensures { option_map (λ p. (p.0.now, p.1.now)) result ≡ value_at name.now text.entry.now }
@@ -33,7 +33,7 @@ fn value_of<'a>(name: &[u8], text: &'a [u8]) -> Option<(&'a [u8], &'a [u8])>
     split_first(b'\n', text.strip_prefix(name)?)
 }
 
-// The values of six lines, or None where the text is not those.
+// The values of six lines, or None if the text isn't six such lines.
 #[tactic(auto, unfolding(crate::specs::Reading::lines_of))]
 fn values_of(text: &[u8]) -> Option<Lines<'_>>
     ensures { option_map texts_of result ≡ lines_of text.now }
@@ -57,7 +57,7 @@ fn values_of(text: &[u8]) -> Option<Lines<'_>>
     })
 }
 
-// Whether an option is set, by its letter, or None where the byte is not the letter.
+// Whether an option is set, by its letter, or None if the byte isn't that letter.
 fn read_letter(lower: u8, byte: u8) -> Option<bool>
     requires { 97 ≤ lower }
     ensures read { (set : Bool) → byte ≡ spec.letter lower set → result ≡ Some set }
@@ -72,7 +72,7 @@ fn read_letter(lower: u8, byte: u8) -> Option<bool>
     }
 }
 
-// The options that fourteen letters spell, or None of another text.
+// The options that fourteen letters spell, or None for any other text.
 fn read_flags(text: &[u8]) -> Option<Flags>
     ensures read { (flags : Flags) → text.now ≡ flags_text flags → result ≡ Some flags }
     ensures spelled { IfSome result (λ flags. text.now ≡ flags_text flags) }
@@ -98,7 +98,7 @@ fn read_flags(text: &[u8]) -> Option<Flags>
     })
 }
 
-// The configuration of values that are spelled as it is written, or None where they are not.
+// The configuration of values that are spelled as it is written, or None if they aren't.
 fn config_of_lines(alloc: Global, lines: &Lines) -> Result<Option<Config>, AllocError>
     ensures read { (c : Config) → IsConfig c → texts_of lines.now ≡ spec.values_of c → IfOk result (λ found. found ≡ Some c) }
     ensures spelled { IfOk result (λ found. IfSome found (λ c. IsConfig c × (texts_of lines.now ≡ spec.values_of c))) }
@@ -135,7 +135,7 @@ fn is_kept(config: &Config, lines: &Lines) -> bool
     config.host.as_slice() == lines.host && config.owner.bytes() == lines.owner
 }
 
-/// The configuration that the bytes of its file spell, or None where they spell none. Each configuration whose values
+/// The configuration that the bytes of its file spell, or None if they spell none. Every configuration whose values
 /// are in their ranges has one spelling, the one that `write_config` writes.
 pub fn read_config(alloc: Global, bytes: &[u8]) -> Result<Option<Config>, AllocError>
     ensures read { (c : Config) → Spells bytes.now c → IfOk result (λ found. found ≡ Some c) }

@@ -1,4 +1,4 @@
-// What the words of `make` mean.
+// What the words of `make` mean: the configuration and the key that they give.
 ghost use Rattle.std.specs.Prelude.{◌≡◌, IfOk, MatchResult, Some, None};
 ghost use Rattle.std.specs.Option.{option_map};
 ghost use Rattle.ml_config.specs.Configuration.{IsConfig, config_of};
@@ -38,11 +38,11 @@ impl From<AllocError> for ConfigError {
     }
 }
 
-/// The configuration and the key that the words behind `make` give.
+/// The configuration and the key that the words after `make` give.
 ///
 /// The words are `[LETTERS] [--prefix TEXT] [--max BYTES] --key HEX LOCAL HOST OWNER`: a flag for each letter, in lower
 /// case to set its option and in upper case to clear it, the prefix of subjects, the most bytes of a post, the key as 64
-/// hexadecimal digits, the parts of the list's address, and its owner's address. `Usage` comes only where the words are
+/// hexadecimal digits, the parts of the list's address, and its owner's address. `Usage` comes only if the words are
 /// not those, a letter is there in both cases, or a value is out of its range.
 pub fn config_from_words(alloc: Global, words: &[String]) -> Result<(Config, [u8; 32]), ConfigError>
     ensures made { Gives (make_of (texts words.now)) result }
@@ -107,7 +107,7 @@ fn text<'a>(matches: &ArgMatches<'a>, id: &str) -> Result<&'a str, ConfigError>
     }
 }
 
-// Whether a value came from the words, and is no default.
+// Whether a value came from the words, and isn't a default.
 fn is_from_words(source: Option<ValueSource>) -> bool
     ensures { result ≡ spec.is_from_words source }
 {
@@ -122,7 +122,7 @@ fn is_there(matches: &ArgMatches, id: &str) -> bool
     is_from_words(matches.value_source(id))
 }
 
-// Whether an option is set, by the flags that set and clear it.
+// Whether an option is set, given the flags that set and clear it.
 fn option(
     matches: &ArgMatches,
     otherwise: bool,
@@ -162,7 +162,7 @@ fn flags(matches: &ArgMatches) -> Result<Flags, ConfigError>
     })
 }
 
-// The most bytes of a post, by the text of `--max`.
+// The most bytes of a post, from the text of `--max`.
 fn max(given: Option<&str>) -> Result<u64, ConfigError>
     ensures { Gives (max_of (option_map (λ s. s.now) given.entry)) result }
 {
@@ -172,7 +172,7 @@ fn max(given: Option<&str>) -> Result<u64, ConfigError>
     }
 }
 
-// The prefix, by the text of `--prefix`.
+// The prefix, from the text of `--prefix`.
 fn prefix(
     alloc: Global,
     marks: bool,
@@ -192,7 +192,7 @@ fn prefix(
     }
 }
 
-// The prefix without `--prefix`.
+// The prefix if there is no `--prefix`.
 fn usual_prefix(alloc: Global, marks: bool, local: &str) -> Result<Bytes, AllocError>
     ensures { IfOk result (λ prefix. prefix ≡ default_prefix marks local.now) }
 {
@@ -205,7 +205,7 @@ fn usual_prefix(alloc: Global, marks: bool, local: &str) -> Result<Bytes, AllocE
     Ok(out)
 }
 
-// The key of 64 hexadecimal digits.
+// The key that 64 hexadecimal digits spell.
 fn key(digits: &str) -> Result<[u8; 32], ConfigError>
     ensures { Gives (key_of digits.now) result }
 {

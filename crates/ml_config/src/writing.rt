@@ -1,4 +1,4 @@
-// The file of the configuration is written.
+// How the file of the configuration is written.
 ghost use Rattle.std.specs.Prelude.{◌≡◌, ◌≤◌, ◌++◌, IfOk, OnOk};
 ghost use Rattle.ml_config.specs.ConfigFile.{config_text, line};
 ghost use Rattle.ml_config.specs.ConfigFile as spec;
@@ -7,7 +7,7 @@ use crate::{Config, Flags};
 use ml_base::{Bytes, write_number};
 use std::alloc::{AllocError, Global};
 
-// The letter of an option: in lower case where it is set, and in upper case where it is clear.
+// The letter of an option: in lower case if it is set, and in upper case if it is clear.
 fn letter(lower: u8, set: bool) -> u8
     requires { 97 ≤ lower }
     ensures { result ≡ spec.letter lower set }

@@ -1,4 +1,4 @@
--- A digest is taken apart into what was put into it.
+-- A digest that was written is taken apart into the messages that were put into it.
 use Rattle.std.proofs.Common.{◌≡◌, ◌≢◌, ◌<◌, ◌≤◌, ◌+◌, ◌-◌, ℕ, Bool, true, false, not, ◌==◌, ◌||◌, List, [], ◌∷◌, ◌++◌, length, map, refl, sym, ap, ap₂, ◌∙◌, arith, append_assoc, codes, is_ok}
 use Rattle.std.specs.Fmt.{decimal}
 use Rattle.std.specs.List.{AllByRecursion, flat_map, enumerate_from, list_all}
@@ -18,7 +18,7 @@ use Rattle.ml_digest.specs.Digest.{preamble_rule, message_rule, issue_title, end
 use Rattle.ml_digest.specs.declared.posts.DigestPost.{DigestPost}
 use Rattle.ml_digest.proofs.Laid.{message_set, lines_both, has_both}
 
--- no byte that passes a test is an LF
+-- if no byte that passes a test is an LF, a text of such bytes has none
 none_lf : (test : ℕ → Bool) → ((b : ℕ) → test b ≡ true → (b == 10) ≡ false) → (bs : Text) → list_all test bs ≡ true → has_byte 10 bs ≡ false
 none_lf test h [] e = refl
 none_lf test h (b ∷ bs) e = let parts = both (test b) (list_all test bs) e in ap₂ (λ s t. s || t) (h b parts.0) (none_lf test h bs parts.1)
@@ -29,7 +29,7 @@ local_byte b h = grind (arith, nat_tests)
 host_byte : (b : ℕ) → is_host_byte b ≡ true → (b == 10) ≡ false
 host_byte b h = grind (arith, nat_tests)
 
--- what is used of a configuration
+-- what is needed of a configuration: its names are lines
 pub record Plain (c : Config) : Type 0 where
   pub local : IsLine c.local
   pub host : IsLine c.host
@@ -56,17 +56,12 @@ config_plain c is =
     }
 
 module _ (c : Config) (issue first : ℕ) (posts : List DigestPost) (date : Text) (is : IsConfig c) (can : AreDigested issue first posts) (day : has_byte 10 date ≡ false) where
-  abbrev Entry : Type 0
-  Entry = ℕ × DigestPost
 
   abbrev topics : List Text
   topics = map topic (enumerate_from first posts)
 
   abbrev title_line : Text
   title_line = issue_title c.local issue ++ codes ", posts " ++ decimal first ++ codes " to " ++ decimal (first + length posts - 1)
-
-  rows_of : DigestPost → List Text
-  rows_of p = (message_set p.bytes).rows
 
   abbrev parts : Parts
   parts = record {
@@ -79,9 +74,6 @@ module _ (c : Config) (issue first : ℕ) (posts : List DigestPost) (date : Text
 
   number_line_lf : (n : ℕ) → n ≤ 100_000_000 → has_byte 10 (decimal n) ≡ false
   number_line_lf n le = decimal_without 10 n refl (omega (arith, le))
-
-  plain : Plain c
-  plain = config_plain c is
 
   list_line : (rest : Text) → IsLine rest → IsLine (list_address c.local c.host rest)
   list_line rest line =
@@ -119,7 +111,7 @@ module _ (c : Config) (issue first : ℕ) (posts : List DigestPost) (date : Text
       (has_both 10 (issue_title c.local issue ++ codes ", posts ") (decimal first) (has_both 10 (issue_title c.local issue) (codes ", posts ") title refl) (number_line_lf first (omega (arith, f)))) refl)
       (number_line_lf (first + length posts - 1) (omega (arith, f)))
 
-  -- a line that has a byte other than a hyphen isn't the rule
+  -- a line that has a byte other than a hyphen isn't the rule after the preface
   other_than : (byte : ℕ) (line : Text) → has_byte byte preamble_rule ≡ false → has_byte byte line ≡ true → line ≢ preamble_rule
   other_than byte line none some same = let bad : true ≡ false = sym some ∙ ap (has_byte byte) same ∙ none in cc
 

@@ -1,4 +1,4 @@
--- Where a text of lines is cut.
+-- How a text is cut at its first line of some kind, and that there is only one such cut.
 use Rattle.std.proofs.Common.{◌≡◌, ◌≢◌, ◌-◌, Bool, true, false, cond, not, ◌==◌, ◌||◌, List, [], ◌∷◌, ◌++◌, length, take, Option, Some, None, refl, sym, ap, ap₂, ◌∙◌, subst, arith, append_assoc, length-append}
 use Rattle.std.specs.List.{AllByRecursion}
 use Rattle.std.specs.Str.{bytes_eq}
@@ -19,7 +19,7 @@ two a b = Some (a, b)
 abbrev no_two : Option (Text × Text)
 no_two = None
 
--- what is before the first LF is one
+-- the text before the first LF is determined
 pub line_one : (x y a b : Text) → IsLine x → IsLine y → x ++ 10 ∷ a ≡ y ++ 10 ∷ b → (x ≡ y) × (a ≡ b)
 line_one x y a b p q e =
     let both : two x a ≡ two y b = sym (first_written 10 x a p) ∙ ap (split_first 10) e ∙ first_written 10 y b q in
@@ -32,7 +32,7 @@ pub lines_push : (xs : List Text) (x t : Text) → lines_text (xs ++ x ∷ []) +
 lines_push [] x t = lines_cons x [] t
 lines_push (y ∷ ys) x t = lines_cons y (ys ++ x ∷ []) t ∙ ap (λ r. y ++ 10 ∷ r) (lines_push ys x t) ∙ sym (lines_cons y ys (x ++ 10 ∷ t))
 
--- the parts of lines in a row
+-- what holds of all lines of two rows holds of those of each row
 pub all_left : (P : Text → Type 0) (xs ys : List Text) → AllByRecursion P (xs ++ ys) → AllByRecursion P xs
 all_left P [] ys all = tt
 all_left P (x ∷ xs) ys all = (all.0, all_left P xs ys all.1)
@@ -41,7 +41,7 @@ pub all_right : (P : Text → Type 0) (xs ys : List Text) → AllByRecursion P (
 all_right P [] ys all = all
 all_right P (x ∷ xs) ys all = all_right P xs ys all.1
 
--- lines that were passed stand before the line wanted
+-- lines that were passed come before the line that is wanted
 pub record Onward (xs ys : List Text) (rest wanted behind : Text) : Type 0 where
   pub more : List Text
   pub all : ys ≡ xs ++ more
@@ -57,7 +57,7 @@ onward wanted (x ∷ xs) (y ∷ ys) rest behind w a b none e =
     let on = onward wanted xs ys rest behind w a.1 b.1 none.1 parts.1 in
     record { more = on.more; all = ap₂ (λ (t : Text) (ts : List Text). t ∷ ts) (sym parts.0) on.all; left = on.left }
 
--- two cuts at the same line are one
+-- two cuts at the same line are the same
 pub cut_one : (v : Text) (xs ys : List Text) (a b : Text) → IsLine v → AllByRecursion IsLine xs → AllByRecursion IsLine ys → HaveNo v xs → HaveNo v ys
     → lines_text xs ++ (v ++ 10 ∷ a) ≡ lines_text ys ++ (v ++ 10 ∷ b) → (xs ≡ ys) × (a ≡ b)
 cut_one v [] [] a b w p q none also e = (refl, (line_one v v a b w w e).1)
@@ -81,7 +81,7 @@ pub lf_behind : (xs : List Text) (v b : Text) → has_byte 10 (lines_text xs ++ 
 lf_behind [] v b = lf_in v b
 lf_behind (x ∷ xs) v b = ap (has_byte 10) (lines_cons x xs (v ++ 10 ∷ b)) ∙ lf_in x (lines_text xs ++ (v ++ 10 ∷ b))
 
--- one line more was passed
+-- one more line was passed
 pub passed_more : (wanted barred text rest line more : Text) → IsPassed wanted barred text rest → Some (line, more) ≡ split_first 10 rest → line ≢ wanted → line ≢ barred → IsPassed wanted barred text more
 passed_more wanted barred text rest line more was cut other also =
     let parts = first_read 10 rest line more (sym cut) in
@@ -93,7 +93,7 @@ passed_more wanted barred text rest line more was cut other also =
       whole = was.whole ∙ ap (λ t. lines_text was.rows ++ t) parts.0 ∙ sym (lines_push was.rows line more);
     }
 
--- the line barred comes first
+-- the barred line comes first
 pub barred_first : (wanted barred text rest line more : Text) → IsLine wanted → IsPassed wanted barred text rest → Some (line, more) ≡ split_first 10 rest → line ≢ wanted → line ≡ barred → HasNoCut wanted barred text
 barred_first wanted barred text rest line more w was cut other same before behind is =
     let on = onward wanted was.rows is.rows rest behind w was.each is.each was.none_wanted (sym was.whole ∙ is.whole) in
@@ -107,7 +107,7 @@ barred_first wanted barred text rest line more w was cut other same before behin
         let none : HaveNo barred (z ∷ zs) = all_right (λ l. l ≢ barred) was.rows (z ∷ zs) (subst (λ rows. HaveNo barred rows) all is.none_barred) in
         none.0 (sym (line_one line z more (lines_text zs ++ (wanted ++ 10 ∷ behind)) is_line each.0 (left ∙ lines_cons z zs (wanted ++ 10 ∷ behind))).0 ∙ same)
 
--- the line wanted
+-- the wanted line is here
 pub cut_here : (wanted barred text rest line more : Text) → IsPassed wanted barred text rest → Some (line, more) ≡ split_first 10 rest → line ≡ wanted
     → IsCut wanted barred text (take (length text - length rest) text) more
 cut_here wanted barred text rest line more was cut same =
@@ -121,7 +121,7 @@ cut_here wanted barred text rest line more was cut same =
       whole = was.whole ∙ ap (λ t. lines_text was.rows ++ t) (parts.0 ∙ ap (λ t. t ++ 10 ∷ more) same);
     }
 
--- what is not split has no LF
+-- a text that can't be split at an LF has none
 pub not_split : (rest : Text) → None ≡ split_first 10 rest → has_byte 10 rest ≡ false
 not_split [] e = refl
 not_split (x ∷ xs) e = go (x == 10) refl (split_first 10 xs) refl (λ same. not_split xs same)
@@ -131,7 +131,7 @@ not_split (x ∷ xs) e = go (x == 10) refl (split_first 10 xs) refl (λ same. no
     go false is None found more = ap₂ (λ a b. a || b) is (more (sym found))
     go false is (Some p) found more = absurd (let bad : no_two ≡ two (x ∷ p.0) p.1 = e ∙ ap₂ (λ t o. cond t (two [] xs) (onto_first x o)) is found in cc)
 
--- bytes that are compared
+-- bytes that compare equal are the same
 pub same_bytes : (a b : Text) (t : Bool) → t ≡ bytes_eq a b → t ≡ true → a ≡ b
 same_bytes a b t e is = (bytes_eq-Decides a b).0 (sym e ∙ is)
 
@@ -155,7 +155,7 @@ no_lines_left wanted barred text rest w was none before behind is =
     let bad : true ≡ false = sym (lf_behind on.more wanted behind) ∙ ap (has_byte 10) (sym on.left) ∙ none in
     cc
 
--- two cuts of one text are one
+-- two cuts of a text are the same
 pub cuts_one : (wanted barred text a b x y : Text) → IsLine wanted → IsCut wanted barred text a b → IsCut wanted barred text x y → (a ≡ x) × (b ≡ y)
 cuts_one wanted barred text a b x y w is also =
     let one = cut_one wanted is.rows also.rows b y w is.each also.each is.none_wanted also.none_wanted (sym is.whole ∙ also.whole) in

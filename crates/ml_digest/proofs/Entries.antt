@@ -1,4 +1,4 @@
--- Messages that stand one behind the other, each with the rule behind it.
+-- How messages are read one after another, up to the end of a digest.
 use Rattle.std.proofs.Common.{◌≡◌, ◌≢◌, ◌<◌, ◌+◌, ℕ, zero, suc, true, false, cond, ◌==◌, ◌&&◌, nat_eq, List, [], ◌∷◌, ◌++◌, length, take, drop, get_or, Option, Some, None, IfNone, Bor, refl, sym, ap, ap₂, ◌∙◌, subst, arith, append_assoc, append-nil, length-append, codes}
 use Rattle.std.specs.Cmp.Lexicographic.{pointwise}
 use Rattle.std.specs.List.{flat_map, AllByRecursion, ends_with}
@@ -16,7 +16,7 @@ use Rattle.ml_digest.proofs.Laid.{all_both, lines_both, last_behind, ended_line,
 use Rattle.ml_digest.proofs.Cutting.{lines_cons, cut_one, cuts_one, all_left, all_right}
 use Rattle.ml_digest.proofs.Told.{Ending, ending}
 
--- a text that is nothing, or ends in an LF
+-- whether a text is empty or ends in an LF
 pub ended_empty : (t : Text) → (length t == 0) ≡ true → IsEnded t
 ended_empty [] e = refl
 ended_empty (x ∷ xs) e = absurd (let n = eqb-true (length (x ∷ xs)) 0 e in omega (arith, n))
@@ -55,7 +55,7 @@ empty_end rows front each is = go (ending rows (some rows is.whole)) refl
             let bad : lines_text before ++ ((x ∷ xs) ++ lf) ≡ lines_text before ++ (x ∷ xs) = sym longer ∙ is.ended ∙ sym same in
             absurd (let n = ap length (append_cancel_left (lines_text before) ((x ∷ xs) ++ lf) (x ∷ xs) bad) in omega (arith, n, length-append (x ∷ xs) lf))
 
--- the first empty line
+-- lines that are split at the first empty one
 pub record Split (m : List Text) : Type 0 where
   pub fields : List Text
   pub rest : List Text
@@ -73,7 +73,7 @@ at_empty ((b ∷ bs) ∷ xs) (suc i) less e =
 pub split_empty : (m : List Text) → IsMessage m → Split m
 split_empty m is = at_empty m (is.empty).0 (is.empty).1.0 (is.empty).1.1
 
--- the cuts of a text that begins with a message
+-- how a text that begins with a message is cut
 message_whole : (h k : List Text) (rest : Text) → lines_text (message_lines (h ++ [] ∷ k)) ++ rest ≡ lines_text h ++ 10 ∷ (lines_text (k ++ [] ∷ []) ++ (message_rule ++ 10 ∷ 10 ∷ rest))
 message_whole h k rest =
     ap (λ t. t ++ rest) (ap lines_text (append_assoc h ([] ∷ k) ([] ∷ message_rule ∷ [] ∷ [])) ∙ lines_both h ([] ∷ (k ++ [] ∷ message_rule ∷ [] ∷ [])))
@@ -113,7 +113,7 @@ cuts_of text rest m is whole = by (split_empty m is)
           second = record { rows = at.rest ++ [] ∷ []; each = second_each; none_wanted = second_rule; none_barred = second_rule; front = refl; whole = refl };
         }
 
--- a message at the front of a text is one
+-- the message that a text begins with is determined
 pub entry_one : (m n : List Text) (a b : Text) → AllByRecursion IsLine m → AllByRecursion IsLine n → HaveNo message_rule m → HaveNo message_rule n
     → lines_text (message_lines m) ++ a ≡ lines_text (message_lines n) ++ b → (m ≡ n) × (a ≡ b)
 entry_one m n a b p q none also e =
@@ -127,7 +127,7 @@ entry_one m n a b p q none also e =
         ap (λ t. t ++ a) (ap lines_text (sym (append_assoc m ([] ∷ []) (message_rule ∷ [] ∷ []))) ∙ lines_both (m ++ [] ∷ []) (message_rule ∷ [] ∷ []))
         ∙ append_assoc (lines_text (m ++ [] ∷ [])) (lines_text (message_rule ∷ [] ∷ [])) a
 
--- no message stands at the front of a text
+-- no message is at the beginning of a text
 abbrev pub NoEntry : Text → Type 0
 NoEntry text = (message rest : Text) → ¬ IsEntry text message rest
 
@@ -215,11 +215,7 @@ module _ (text fields behind : Text) (first : IsCut [] message_rule text fields 
           let bad : true ≡ false = sym start ∙ ap (begins_with (codes "End of ")) (taken ∙ ap lines_text one.0) ∙ (is.is).start in
           cc
 
-pub none_of : (text : Text) (o : Option (Bor Text × Bor Text)) → NoEntry text → IfNone o (NoEntry text)
-none_of text None none = none
-none_of text (Some x) none = tt
-
--- what begins with a line doesn't tell by what is behind it
+-- what a text begins with doesn't depend on what comes after its first line
 pub begins_same : (p x t u : Text) → has_byte 10 p ≡ false → begins_with p (x ++ 10 ∷ t) ≡ begins_with p (x ++ 10 ∷ u)
 begins_same [] x t u none = refl
 begins_same (b ∷ bs) [] t u none =
@@ -236,7 +232,7 @@ message_begins (x ∷ xs) t is =
     ap (begins_with (codes "End of ")) (lines_cons x (xs ++ [] ∷ message_rule ∷ [] ∷ []) t)
     ∙ begins_same (codes "End of ") x (lines_text (xs ++ [] ∷ message_rule ∷ [] ∷ []) ++ t) (lines_text xs) refl ∙ ap (begins_with (codes "End of ")) (sym (append_assoc x lf (lines_text xs))) ∙ is.start
 
--- the text of messages, each with what stands behind it
+-- the text of messages, each with the lines that follow it
 abbrev pub all_text : List (List Text) → Text
 all_text ms = lines_text (flat_map message_lines ms)
 
@@ -251,7 +247,7 @@ all_more : (ms : List (List Text)) (m : List Text) → AllByRecursion IsMessage 
 all_more [] m all is = (is, tt)
 all_more (n ∷ ns) m all is = (all.0, all_more ns m all.1 is)
 
--- one message more was read
+-- one more message was read
 pub read_more : (text message more rest : Text) (messages : List Text) → AreRead text messages rest → IsEntry rest message more → AreRead text (messages ++ message ∷ []) more
 read_more text message more rest messages was is = record {
   rows = was.rows ++ is.rows ∷ [];
@@ -260,7 +256,7 @@ read_more text message more rest messages was is = record {
   whole = was.whole ∙ ap (λ t. all_text was.rows ++ t) is.whole ∙ sym (all_push was.rows is.rows more);
 }
 
--- what was read stands in front of what is there
+-- the messages that were read come before all others
 pub record Further (ms ns : List (List Text)) (rest end : Text) : Type 0 where
   pub more : List (List Text)
   pub are : AllByRecursion IsMessage more

@@ -1,4 +1,4 @@
--- What a digest has of a message: whole lines, none of which is the rule behind messages.
+-- What a digest has of a message is whole lines, none of which is the rule after messages.
 use Rattle.std.proofs.Common.{◌≡◌, ◌≢◌, ◌<◌, ℕ, Bool, true, false, cond, not, ◌==◌, ◌&&◌, ◌||◌, nat_eq, List, [], ◌∷◌, ◌++◌, length, filter, take, drop, get_or, refl, sym, ap, ap₂, ◌∙◌, subst, arith, append_assoc, append-nil, length-append, slice_index_or, codes, ◌⊎◌, inl, inr}
 use Rattle.std.specs.Prelude.{replicate}
 use Rattle.std.specs.Cmp.Lexicographic.{pointwise}
@@ -57,7 +57,7 @@ pub has_both : (byte : ℕ) (a b : Text) → has_byte byte a ≡ false → has_b
 has_both byte [] b p q = q
 has_both byte (x ∷ xs) b p q = let parts = neither (x == byte) (has_byte byte xs) p in ap₂ (λ s t. s || t) parts.0 (has_both byte xs b parts.1 q)
 
--- what has no LF doesn't end in one
+-- a text without an LF doesn't end in one
 ends_not : (x : ℕ) (xs : Text) → has_byte 10 (x ∷ xs) ≡ false → ends_with nat_eq (x ∷ xs) lf ≡ false
 ends_not x [] e = let parts = neither (x == 10) false e in go (x == 10) refl parts.0
   where
@@ -74,7 +74,7 @@ ended_line x xs e = ap (end_when (x ∷ xs)) (ends_not x xs e)
 ended_already : (t : Text) → with_line_end (t ++ lf) ≡ t ++ lf
 ended_already t = line_end_behind t lf (omega arith)
 
--- a line, and behind it a value that is folded
+-- a line with a folded value after it
 folded_laid : (x : ℕ) (xs v : Text) → x ≢ 45 → has_byte 10 (x ∷ xs) ≡ false → is_folded v ≡ true → Laid (with_line_end ((x ∷ xs) ++ v))
 folded_laid x xs [] other line fold =
     subst (λ t. Laid t) (sym (ap with_line_end (append-nil (x ∷ xs)) ∙ ended_line x xs line)) (laid_line (x ∷ xs) line (no_hyphen (x ∷ xs) other))
@@ -118,7 +118,7 @@ folded_laid x xs (b ∷ y ∷ ys) other line fold =
     go false is parts next same_line =
         subst (λ t. Laid (with_line_end t)) (append_assoc (x ∷ xs) (b ∷ []) (y ∷ ys)) (same_line (has_both 10 (x ∷ xs) (b ∷ []) line (ap (λ t. t || false) is)) parts.1)
 
--- the names of fields
+-- the names of fields have no LF
 printable_no_lf : (name : Text) → list_all is_printable name ≡ true → has_byte 10 name ≡ false
 printable_no_lf [] e = refl
 printable_no_lf (b ∷ bs) e = let parts = both (is_printable b) (list_all is_printable bs) e in ap₂ (λ s t. s || t) (other parts.0) (printable_no_lf bs parts.1)
@@ -210,7 +210,7 @@ all_begun m (name ∷ names) all =
 pub kept_begun : (m : Text) → Begun (kept_fields m)
 kept_begun m = all_begun m kept_names ((refl, refl), ((refl, refl), ((refl, refl), ((refl, refl), ((refl, refl), ((refl, refl), ((refl, refl), ((refl, refl), tt))))))))
 
--- lines as a text is made of them: each has an LF at its end, but for the last one, which has some byte
+-- lines as a text is made of them: each ends in an LF, except for the last one, which isn't empty
 abbrev Ended : Text → Type 0
 Ended line = (text : Text) × IsLine text × (line ≡ text ++ lf)
 
@@ -350,7 +350,7 @@ rows_laid (l ∷ m ∷ ms) rows =
 pub body_laid : (m : Text) → Laid (with_last_line_end (flat_map quoted_line (lines (body m))))
 body_laid m = rows_laid (lines (body m)) (text_rows (body m))
 
--- a message as a digest has it
+-- a message as a digest has it: whole lines without the rule, one of them empty, and not begun like the end
 pub record IsSet (m : Text) : Type 0 where
   pub rows : List Text
   pub is : IsMessage rows

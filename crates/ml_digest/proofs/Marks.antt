@@ -72,7 +72,7 @@ mark_set dir mark p q = record { last = p; issue = q; text = refl }
 pub mark_elsewhere : (dir : Dir) (mark : Mark) (name : Name) → name ≢ mark_name → with_put dir (mark_put mark) name ≡ dir name
 mark_elsewhere dir mark name other = ap (λ b. cond b (Some (mark_text mark)) (dir name)) (not_true (same_name name mark_name) (λ e. other (one_name name mark_name e)))
 
--- what a file holds
+-- the mark that a file spells
 pub file_mark : (dir : Dir) (file : Option Text) (mark : Mark) → file ≡ dir mark_name → Some mark ≡ option_and_then mark_in file → IsMark dir mark
 file_mark dir None mark e is = absurd (none_some mark (sym is))
 file_mark dir (Some text) mark e is = (mark_exact dir mark text (sym e)).0 (sym is)

@@ -1,4 +1,4 @@
--- A text is one digest at most.
+-- A text is at most one digest: its number and its messages are determined.
 use Rattle.std.proofs.Common.{◌≡◌, ◌≢◌, ◌<◌, ◌^◌, ℕ, zero, suc, true, false, List, [], ◌∷◌, ◌++◌, length, map, drop, Option, Some, refl, sym, ap, ap₂, ◌∙◌, arith, append_assoc, length-append, codes}
 use Rattle.std.proofs.lemmas.Bool.{true≢false}
 use Rattle.std.specs.Prelude.{replicate}
@@ -20,7 +20,7 @@ use Rattle.ml_digest.proofs.Laid.{has_both, all_both}
 abbrev two : Text → Text → Option (Text × Text)
 two a b = Some (a, b)
 
--- lines are told by their text
+-- lines are determined by their text
 cut_line : (x : Text) (xs : List Text) → IsLine x → split_first 10 (lines_text (x ∷ xs)) ≡ Some (x, lines_text xs)
 cut_line x xs line = ap (split_first 10) (append_assoc x lf (lines_text xs)) ∙ first_written 10 x (lines_text xs) line
 
@@ -35,7 +35,7 @@ lines_one (x ∷ xs) (y ∷ ys) a b e =
     let both : two x (lines_text xs) ≡ two y (lines_text ys) = sym (cut_line x xs a.0) ∙ ap (split_first 10) e ∙ cut_line y ys b.0 in
     ap₂ (λ (t : Text) (ts : List Text). t ∷ ts) (ap before_at both) (lines_one xs ys a.1 b.1 (ap behind_at both))
 
--- a row up to its first line of a kind
+-- a row of lines without this one
 abbrev pub Apart : Text → List Text → Type 0
 Apart v xs = AllByRecursion (λ x. x ≢ v) xs
 
@@ -57,7 +57,7 @@ last_one [] (z ∷ zs) x y e = absurd (let size = ap length e in omega (arith, s
 last_one (z ∷ zs) [] x y e = absurd (let size = ap length e in omega (arith, size, length-append zs (x ∷ [])))
 last_one (z ∷ zs) (w ∷ ws) x y e = last_one zs ws x y (first_of z w (zs ++ x ∷ []) (ws ++ y ∷ []) e).1
 
--- the title tells its name and its number
+-- a title determines its name and its number
 pub title_cut : (name : Text) (issue : ℕ) → issue < 2 ^ 64 → split_last 32 (issue_title name issue) ≡ Some (name ++ codes " Digest Issue", decimal issue)
 title_cut name issue small =
     ap (split_last 32) (append_assoc name (codes " Digest Issue ") (decimal issue) ∙ sym (append_assoc name (codes " Digest Issue") (32 ∷ decimal issue)))
@@ -68,7 +68,7 @@ title_one a b i j p q e =
     let both : two (a ++ codes " Digest Issue") (decimal i) ≡ two (b ++ codes " Digest Issue") (decimal j) = sym (title_cut a i p) ∙ ap (split_last 32) e ∙ title_cut b j q in
     (append_cancel_right a b (codes " Digest Issue") (ap before_at both), decimal_injective i j p q (ap behind_at both))
 
--- messages, and the last lines behind them
+-- the last two lines of a digest, which come after its messages
 abbrev pub last_lines : Text → ℕ → List Text
 last_lines name issue = end_line name issue ∷ asterisks name issue ∷ []
 
@@ -99,7 +99,7 @@ messages_one name issue (m ∷ ms) (n ∷ ns) a b e =
     let parts = until_one message_rule (m ++ [] ∷ []) (n ++ [] ∷ []) ([] ∷ left) ([] ∷ right) (no_rule m a.0) (no_rule n b.0) whole in
     ap₂ (λ (x : List Text) (xs : List (List Text)). x ∷ xs) (append_cancel_right m n ([] ∷ []) parts.0) (messages_one name issue ms ns a.1 b.1 (first_of [] [] left right parts.1).1)
 
--- each line of a digest is one
+-- no line of a digest has an LF
 stars : (n : ℕ) → has_byte 10 (replicate n 42) ≡ false
 stars zero = refl
 stars (suc n) = stars n
@@ -134,7 +134,7 @@ each_line p are =
     (refl, (refl, message_each p.messages are.messages)))
     (has_both 10 (codes "End of ") (issue_title p.name p.issue) refl title, (stars (length (end_line p.name p.issue)), tt))
 
--- the lines in the order in which they are told
+-- the lines of a digest in the order in which they are told apart
 abbrev pub behind_rule : Parts → List Text
 behind_rule p = [] ∷ (flat_map message_lines p.messages ++ last_lines p.name p.issue)
 

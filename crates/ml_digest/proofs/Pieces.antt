@@ -1,4 +1,4 @@
--- A digest is joined piece by piece, in whatever order.
+-- Joining the pieces of a digest gives the same text, however they are grouped.
 use Rattle.std.proofs.Common.{◌≡◌, ◌<◌, ◌+◌, ℕ, zero, suc, true, cond, List, [], ◌∷◌, ◌++◌, length, take, get_or, map, filter, replicate, codes, refl, sym, ap, ap₂, ◌∙◌, arith, append_assoc, append-nil, length-append}
 use Rattle.std.specs.List.{flat_map, enumerate_from}
 use Rattle.ml_base.specs.Bytes.{Text}
@@ -28,14 +28,11 @@ joined_end o e t a = simp append_assoc refl
 pub end_pieces : (o e t : Text) (count : ℕ) → count ≡ length (e ++ t) → o ++ e ++ t ++ lf ++ replicate count 42 ++ lf ≡ o ++ (e ++ t ++ lf ++ (replicate (length (e ++ t)) 42 ++ lf ++ []))
 end_pieces o e t count same = ap (λ n. o ++ e ++ t ++ lf ++ replicate n 42 ++ lf) same ∙ joined_end o e t (replicate (length (e ++ t)) 42)
 
-pub kept_pieces : (o a b c d e f g h : Text) → o ++ a ++ b ++ c ++ d ++ e ++ f ++ g ++ h ≡ o ++ (a ++ (b ++ (c ++ (d ++ (e ++ (f ++ (g ++ (h ++ []))))))))
-kept_pieces o a b c d e f g h = simp (append_assoc, append-nil) refl
-
 pub whole_pieces : (m p f t d s z k q r : Text) → m ++ lf ++ (p ++ lf ++ (f ++ lf ++ (t ++ lf ++ (d ++ lf ++ (s ++ lf ++ (lf ++ (z ++ lf ++ (lf ++ (k ++ lf ++ (q ++ r))))))))))
     ≡ (m ++ lf ++ (p ++ lf ++ (f ++ lf ++ (t ++ lf ++ []))) ++ (d ++ lf ++ (s ++ lf ++ (lf ++ [])))) ++ (z ++ lf ++ (lf ++ (k ++ lf ++ [])) ++ q ++ r)
 whole_pieces m p f t d s z k q r = simp append_assoc refl
 
--- a topic more
+-- one more topic
 pub topics_more : (n : ℕ) (ps : List DigestPost) (i : ℕ) (p : DigestPost) → i < length ps → p ≡ get_or ps i p → topics_text n (take (suc i) ps) ≡ topics_text n (take i ps) ++ (topic (n + i, p) ++ lf)
 topics_more n [] i p less e = absurd (omega (arith, less))
 topics_more n (q ∷ qs) zero p less e =
@@ -49,7 +46,7 @@ topics_more n (q ∷ qs) (suc i) p less e =
 pub topic_pieces : (o t d a s : Text) → o ++ t ++ d ++ a ++ s ++ lf ≡ o ++ (t ++ (d ++ a ++ s ++ lf))
 topic_pieces o t d a s = simp append_assoc refl
 
--- a field more
+-- one more field
 pub named_turn : (name out new start : Text) (f : FieldText) (fs all : List FieldText) → all ≡ f ∷ fs → IsWhole f → has_name name f ≡ true → new ≡ with_line_end (out ++ f.lines)
     → out ++ named_text name all ≡ start → new ++ named_text name fs ≡ start
 named_turn name out new start f fs all is whole named text old =

@@ -1,4 +1,4 @@
--- The range of a digest that is due.
+-- The range of posts that a due digest has, as the code counts it.
 use Rattle.std.proofs.Common.{◌≡◌, ◌<◌, ◌+◌, ◌-◌, ℕ, Bool, true, false, cond, not, List, [], ◌∷◌, length, take, sum, Option, Some, None, refl, sym, ap, ap₂, ◌∙◌, subst, arith, ◌≤◌, ◌==◌, ◌&&◌, ◌||◌}
 use Rattle.std.specs.Prelude.{nat_lt, nat_le}
 use Rattle.std.proofs.lemmas.Bool.{leb-true, ne_eqb}
@@ -48,7 +48,7 @@ due_range last oldest now sizes range e = go (is_due sizes oldest now) refl
         let same = one_some (range_of last sizes) range (sym (ap (λ t. cond t (Some (range_of last sizes)) None) is) ∙ e) in
         subst (λ r. IsNextRange last sizes r) same (next_range last sizes (filled sizes (and_parts (not (is_empty sizes)) _ is).0))
 
--- how a loop takes sizes
+-- how many sizes the loop takes
 abbrev within_count : ℕ → ℕ → List ℕ → ℕ
 within_count count room xs = length (within own_size count room xs)
 
@@ -63,14 +63,7 @@ stops_large count room ys x xs e large = ap (within_count count room) e ∙ go (
     go false is = refl
     go true is = absurd (let small = leb-true x room (and_parts (nat_lt 0 count) (nat_le x room) is).1 in omega (arith, small, large))
 
-pub goes_on : (count room : ℕ) (ys : List ℕ) (x : ℕ) (xs : List ℕ) → ys ≡ x ∷ xs → 0 < count → x ≤ room → within_count count room ys ≡ within_count (count - 1) (room - x) xs + 1
-goes_on count room ys x xs e some small = ap (within_count count room) e ∙ go (nat_lt 0 count && nat_le x room) refl
-  where
-    go : (t : Bool) → (nat_lt 0 count && nat_le x room) ≡ t → length (cond t (x ∷ within own_size (count - 1) (room - x) xs) []) ≡ within_count (count - 1) (room - x) xs + 1
-    go true is = omega arith
-    go false is = grind (arith, nat_tests)
-
--- the test of the code
+-- the test for no posts, as the code makes it
 empty_by : (xs : List ℕ) → is_empty xs ≡ (length xs == 0)
 empty_by [] = refl
 empty_by (x ∷ xs) = sym (ne_eqb (length (x ∷ xs)) 0 (λ e. omega (arith, e)))
@@ -80,7 +73,7 @@ pub is_due_by : (sizes : List ℕ) (oldest now : ℕ) → length sizes ≤ 100
 is_due_by sizes oldest now few =
     ap₂ (λ (e : Bool) (s : ℕ). not e && (nat_le 30 (length sizes) || nat_le 65_536 s || nat_le 172_800 (now - oldest))) (empty_by sizes) (ap sum (take_all 100 sizes few))
 
--- the answer by the code's test
+-- the answer, from the outcome of this test
 abbrev range_when : ℕ → List ℕ → Bool → Option Range
 range_when last sizes is = cond is (Some (range_of last sizes)) None
 

@@ -24,7 +24,7 @@ one_number n = Some n
 abbrev no_number : Option ℕ
 no_number = None
 
--- no title is told of a line
+-- a line that is no title
 abbrev pub Untitled : Text → Type 0
 Untitled line = (name : Text) (issue : ℕ) → ¬ IsTitle line name issue
 

@@ -1,4 +1,4 @@
--- A digest is what its header, its title, its preface and its entries are, and these are one.
+-- The steps of reading a digest: each finds one part, and the part is determined.
 use Rattle.std.proofs.Common.{◌≡◌, ◌≢◌, ◌<◌, ◌≤◌, ◌-◌, ℕ, suc, true, false, ◌==◌, List, [], ◌∷◌, ◌++◌, length, map, drop, get_or, Option, Some, None, IfSome, IfNone, MatchOption, Bor, refl, sym, ap, ◌∙◌, subst, arith, length-append, codes}
 use Rattle.std.specs.List.{flat_map}
 use Rattle.ml_base.specs.Bytes.{Text}
@@ -13,7 +13,7 @@ use Rattle.ml_digest.proofs.Laid.{all_both, lines_both, has_both}
 use Rattle.ml_digest.proofs.OneDigest.{title_one, head_each, head_filled, last_lines, in_turn, subject_line, behind_rule, title_line}
 use Rattle.ml_digest.proofs.Cutting.{lines_push, cut_one, onward, lf_behind}
 
--- the last of some lines
+-- the last line of some lines
 pub last_push : (xs : List Text) (x : Text) → last_of (xs ++ x ∷ []) ≡ x
 last_push xs x = let n : length xs ≡ length (xs ++ x ∷ []) - 1 = omega (arith, length-append xs (x ∷ [])) in ap (λ k. get_or (xs ++ x ∷ []) k []) (sym n) ∙ at_end xs
   where
@@ -38,13 +38,13 @@ ending (x ∷ y ∷ ys) some =
     let same : last_of (x ∷ y ∷ ys) ≡ last_of (y ∷ ys) = later x y ys in
     record { front = x ∷ more.front; all = ap (λ (t : List Text). x ∷ t) more.all ∙ ap (λ (t : Text). x ∷ more.front ++ t ∷ []) (sym same) }
 
--- headers
+-- the header of a text is determined
 pub header_one : (text l r m s : Text) → IsHeader text l r → IsHeader text m s → (l ≡ m) × (r ≡ s)
 header_one text l r m s is also =
     let one = cut_one [] is.rows also.rows r s refl (head_each is.rows is.each) (head_each also.rows also.each) (head_filled is.rows is.each) (head_filled also.rows also.each) (sym is.whole ∙ also.whole) in
     (is.ends ∙ ap last_of one.0 ∙ sym also.ends, one.1)
 
--- one line more of a header
+-- one more line of a header
 pub begun_more : (text last rest line more : Text) → IsBegun text last rest → Some (line, more) ≡ split_first 10 rest → 0 < length line → IsBegun text line more
 begun_more text last rest line more was cut some =
     let parts = first_read 10 rest line more (sym cut) in
@@ -74,7 +74,7 @@ pub some_there : (line : Text) → (length line == 0) ≡ false → 0 < length l
 some_there [] e = absurd (let bad : true ≡ false = e in cc)
 some_there (x ∷ xs) e = omega arith
 
--- prefaces by their cut
+-- a preface is found by a cut at its rule
 pub preface_by : (text front behind : Text) (r : Option (Bor Text)) → IsCut preamble_rule preamble_rule text front behind
     → MatchOption r ((rest : Text) → behind ≢ (10 ∷ []) ++ rest) (λ x. behind ≡ (10 ∷ []) ++ x.now) → IfSome r (λ rest. IsPreface text rest.now)
 preface_by text front behind None is m = tt
@@ -89,14 +89,14 @@ pub no_preface : (text : Text) (r : Option (Bor Text)) → HasNoCut preamble_rul
 no_preface text (Some r) lacks = tt
 no_preface text None lacks = λ rest is. lacks (lines_text is.rows) (10 ∷ rest) (record { rows = is.rows; each = is.each; none_wanted = is.none; none_barred = is.none; front = refl; whole = is.whole })
 
--- titles
+-- a line has at most one title
 pub title_told : (line a b : Text) (i j : ℕ) → IsTitle line a i → IsTitle line b j → (a ≡ b) × (i ≡ j)
 title_told line a b i j is also =
     let p = is.readable in
     let q = also.readable in
     title_one a b i j (omega (arith, p)) (omega (arith, q)) (ap (λ (t : Text). drop 9 t) (sym is.spelled ∙ also.spelled))
 
--- prefaces
+-- the preface of a text is determined
 pub preface_one : (text r s : Text) → IsPreface text r → IsPreface text s → r ≡ s
 preface_one text r s is also =
     let one = cut_one preamble_rule is.rows also.rows (10 ∷ r) (10 ∷ s) refl is.each also.each is.none also.none (sym is.whole ∙ also.whole) in
@@ -105,7 +105,7 @@ preface_one text r s is also =
 abbrev pub end_text : Text → ℕ → Text
 end_text name issue = lines_text (last_lines name issue)
 
--- what a digest is step by step
+-- a digest as the steps find it
 pub record InSteps (text : Text) (issue : ℕ) (messages : List Text) : Type 0 where
   pub subject : Text
   pub behind : Text

@@ -1,4 +1,4 @@
--- A text is a digest exactly where each step finds its part.
+-- A text is a digest exactly if every step of reading finds its part.
 use Rattle.std.proofs.Common.{◌≡◌, ◌<◌, ℕ, false, ◌==◌, ◌||◌, List, [], ◌∷◌, ◌++◌, length, Option, Some, refl, sym, ap, ap₂, ◌∙◌, subst, arith, length-append, codes}
 use Rattle.std.specs.Fmt.{decimal}
 use Rattle.std.specs.List.{flat_map, AllByRecursion}
@@ -44,7 +44,7 @@ module _ (text subject rest : Text) (header : IsHeader text subject rest) where
         let last : end ≡ end_text steps.name other = ends ∙ ap₂ (λ (n : Text) (i : ℕ). end_text n i) told.0 told.1 in
         none messages (subst (λ t. AreEntries t end messages) (sym same) (subst (λ t. AreEntries steps.rest t messages) (sym last) steps.entries))
 
-    -- the lines before the subject
+    -- the header has a line, its last one being the subject
     some_header : (rows : List Text) → subject ≡ last_of rows → 0 < length rows
     some_header [] e = absurd (let n = ap length (sym title.spelled ∙ e) in omega (arith, n, length-append (codes "Subject: ") (issue_title name issue)))
     some_header (x ∷ xs) e = omega arith
@@ -102,7 +102,7 @@ module _ (text subject rest : Text) (header : IsHeader text subject rest) where
             let all : header.rows ≡ found.front ++ subject ∷ [] = found.all ∙ ap (λ (t : Text). found.front ++ t ∷ []) (sym header.ends) in
             record { parts = parts_of found.front entries.rows; are = are_parts found.front messages entries all; spelled = is_spelled found.front messages entries all; number = refl; each = entries.messages_are }
 
--- what is read is the digest that is there
+-- what is read is the digest
 abbrev burst_of : ℕ → List Text → Option Burst
 burst_of issue messages = Some (record { issue = issue; messages = messages })
 

@@ -1,4 +1,4 @@
--- What a reader finds of a digest, step by step.
+-- What each step of reading a digest finds: header, title, preface and messages.
 use Rattle.std.specs.Prelude.{◌≡◌, ◌-◌, ◌<◌, ◌≤◌, ℕ, List, [], ◌∷◌, ◌++◌, length, map, codes, get_or}
 use Rattle.std.specs.List.{flat_map, AllByRecursion}
 use Rattle.ml_base.specs.Bytes.{Text, line_feed}
@@ -6,7 +6,7 @@ use Rattle.ml_base.specs.Texts.{lf, lines_text, with_last_line_end}
 use Rattle.ml_digest.specs.Burst.{IsLine, HaveNo, IsMessage, message_lines}
 use Rattle.ml_digest.specs.Digest.{issue_title, preamble_rule}
 
--- A text is lines, none of which is one of two, and then the first of the two and what is behind it.
+-- A text is lines, none of which is the wanted or the barred one, then the wanted line, and then what comes after it.
 pub record IsCut (wanted barred text before behind : Text) : Type 0 where
   pub rows : List Text
   pub each : AllByRecursion IsLine rows
@@ -15,11 +15,11 @@ pub record IsCut (wanted barred text before behind : Text) : Type 0 where
   pub front : before ≡ lines_text rows
   pub whole : text ≡ lines_text rows ++ (wanted ++ line_feed ∷ behind)
 
--- the line wanted doesn't come, or the one barred comes before it
+-- the wanted line doesn't come, or the barred line comes before it
 abbrev pub HasNoCut : Text → Text → Text → Type 0
 HasNoCut wanted barred text = (before behind : Text) → ¬ IsCut wanted barred text before behind
 
--- lines none of which is one of two were passed, and this is left
+-- lines were passed, none of them wanted or barred, and this is left
 pub record IsPassed (wanted barred text rest : Text) : Type 0 where
   pub rows : List Text
   pub each : AllByRecursion IsLine rows
@@ -27,22 +27,22 @@ pub record IsPassed (wanted barred text rest : Text) : Type 0 where
   pub none_barred : HaveNo barred rows
   pub whole : text ≡ lines_text rows ++ rest
 
--- a line that has some byte
+-- a line that isn't empty
 abbrev pub IsFilled : Text → Type 0
 IsFilled line = IsLine line × (0 < length line)
 
--- the last of some lines, or nothing where there is none
+-- the last of some lines, or nothing if there is none
 abbrev pub last_of : List Text → Text
 last_of rows = get_or rows (length rows - 1) []
 
--- a text is lines with some byte each, the last of which is this one, an empty line and what is behind it
+-- a text is lines that aren't empty, the last of which is this one, then an empty line, and then what comes after it
 pub record IsHeader (text last rest : Text) : Type 0 where
   pub rows : List Text
   pub each : AllByRecursion IsFilled rows
   pub ends : last ≡ last_of rows
   pub whole : text ≡ lines_text rows ++ line_feed ∷ rest
 
--- lines with some byte each were passed, and this is left
+-- lines that aren't empty were passed, and this is left
 pub record IsBegun (text last rest : Text) : Type 0 where
   pub rows : List Text
   pub each : AllByRecursion IsFilled rows
@@ -56,37 +56,37 @@ pub record IsTitle (line name : Text) (issue : ℕ) : Type 0 where
   pub readable : issue ≤ 999_999_999_999_999_999
   pub spelled : line ≡ codes "Subject: " ++ issue_title name issue
 
--- lines up to the rule behind the preface, an empty line and what is behind it
+-- lines up to the rule after the preface, an empty line, and what comes after it
 pub record IsPreface (text rest : Text) : Type 0 where
   pub rows : List Text
   pub each : AllByRecursion IsLine rows
   pub none : HaveNo preamble_rule rows
   pub whole : text ≡ lines_text rows ++ (preamble_rule ++ line_feed ∷ line_feed ∷ rest)
 
--- nothing, or a text that ends in an LF
+-- a text that is empty or ends in an LF
 abbrev pub IsEnded : Text → Type 0
 IsEnded text = with_last_line_end text ≡ text
 
--- a text that ends in an empty line, and what is before that
+-- a text that ends in an empty line, and what comes before that
 pub record HasEmptyEnd (text front : Text) : Type 0 where
   pub whole : text ≡ front ++ lf
   pub ended : IsEnded front
 
--- messages were read one behind the other, and this is left
+-- messages were read one after another, and this is left
 pub record AreRead (text : Text) (messages : List Text) (rest : Text) : Type 0 where
   pub rows : List (List Text)
   pub are : AllByRecursion IsMessage rows
   pub messages_are : messages ≡ map lines_text rows
   pub whole : text ≡ lines_text (flat_map message_lines rows) ++ rest
 
--- a message, what stands behind each message, and what is behind that
+-- a message, the lines that follow every message, and what comes after them
 pub record IsEntry (text message rest : Text) : Type 0 where
   pub rows : List Text
   pub is : IsMessage rows
   pub message_is : message ≡ lines_text rows
   pub whole : text ≡ lines_text (message_lines rows) ++ rest
 
--- messages one behind the other, and the end
+-- messages one after another, and the end
 pub record AreEntries (text end : Text) (messages : List Text) : Type 0 where
   pub rows : List (List Text)
   pub are : AllByRecursion IsMessage rows

@@ -1,4 +1,4 @@
--- A digest piece by piece, in the order in which it is written.
+-- The pieces of a digest, in the order in which it is written.
 use Rattle.std.specs.Prelude.{ℕ, ◌+◌, ◌-◌, List, [], ◌∷◌, ◌++◌, length, map, codes, filter}
 use Rattle.std.specs.Fmt.{decimal}
 use Rattle.std.specs.List.{flat_map, enumerate_from}
@@ -14,7 +14,7 @@ unfoldable pub first_text : Config → Text
 first_text c =
     lines_text (mailing_list_line c.local c.host ∷ codes "Precedence: bulk" ∷ (codes "From: " ++ list_address c.local c.host (codes "help")) ∷ (codes "To: " ++ post_address c.local c.host) ∷ [])
 
--- the header and the empty line behind it
+-- the header and the empty line after it
 unfoldable pub header_text : Config → ℕ → Text → Text
 header_text c issue date = first_text c ++ lines_text ((codes "Date: " ++ date) ∷ (codes "Subject: " ++ issue_title c.local issue) ∷ [] ∷ [])
 
@@ -27,11 +27,11 @@ abbrev pub title_line : Text → ℕ → ℕ → List DigestPost → Text
 title_line name issue first posts =
     issue_title name issue ++ codes ", posts " ++ decimal first ++ codes " to " ++ decimal (first + length posts - 1)
 
--- the preface, the rule behind it and an empty line
+-- the preface, the rule after it and an empty line
 unfoldable pub preface_text : Text → ℕ → ℕ → List DigestPost → Text
 preface_text name issue first posts =
     lines_text (title_line name issue first posts ∷ [] ∷ codes "Topics:" ∷ []) ++ topics_text first posts ++ lines_text ([] ∷ preamble_rule ∷ [] ∷ [])
 
--- the fields of a name, each with an LF at its end
+-- the fields with a name, each with an LF at its end
 abbrev pub named_text : Text → List FieldText → Text
 named_text name fs = flat_map (λ f. with_line_end f.lines) (filter (has_name name) fs)

@@ -1,4 +1,4 @@
-// When a digest is due, and of which posts.
+// Decides when a digest is due, and which posts it has.
 ghost use Rattle.std.specs.Prelude.{◌≡◌, ◌==◌, ◌≤◌, ◌<◌, ◌-◌, not, ◌&&◌, ◌||◌, nat_le, length, sum, IfSome, EachIndex, slice_index};
 ghost use Rattle.ml_base.specs.Cuts as cuts;
 ghost use Rattle.ml_digest.specs.Due as words;
@@ -7,7 +7,7 @@ ghost use Rattle.ml_digest.specs.Due.{IsNextRange};
 use crate::{Mark, Range};
 use ml_base::age;
 
-// So many posts are due, so many bytes, and a post so many seconds old.
+// A digest is due for so many posts, or so many bytes, or a post that is so many seconds old.
 const POSTS: usize = 30;
 
 const BYTES: u64 = 65_536;
@@ -19,12 +19,13 @@ const MAX_POSTS: usize = 100;
 
 const MAX_BYTES: u64 = 4_194_304;
 
-/// The posts of the digest that is due, or None where none is. `sizes` are the bytes of the first 100 posts behind the
-/// mark, or of all where there are fewer, `oldest` is the moment of the first of them, and `now` the current one, both in
+/// The posts of the digest that is due, or None if none is. `sizes` are the bytes of the first 100 posts after the
+/// mark, or of all if there are fewer, `oldest` is the moment of the first of them, and `now` the current one, both in
+/// seconds since 1970.
 /// seconds since 1970.
 ///
-/// One is due where there are 30 posts, or they have 65,536 bytes together, or there is one and it is 172,800 seconds old.
-/// It has as many of them as have at most 4,194,304 bytes together, but the first one always. It takes no memory.
+/// A digest is due if there are 30 posts, or they have 65,536 bytes together, or the first is 172,800 seconds old. It
+/// has as many of them as have at most 4,194,304 bytes together, but always the first one. It takes no memory.
 pub fn due(mark: &Mark, sizes: &[u64], oldest: u64, now: u64) -> Option<Range>
     requires count { length sizes.now ≤ 100 }
     requires each { EachIndex sizes.now (λ k. slice_index sizes.now k < 4_294_967_296) }
@@ -51,7 +52,7 @@ fn is_due(sizes: &[u64], oldest: u64, now: u64) -> bool
         && (sizes.len() >= POSTS || total(sizes) >= BYTES || age(now, oldest) >= SECONDS)
 }
 
-// The bytes of all posts.
+// The bytes of all posts together.
 fn total(sizes: &[u64]) -> u64
     requires count { length sizes.now ≤ 100 }
     requires each { EachIndex sizes.now (λ k. slice_index sizes.now k < 4_294_967_296) }
@@ -64,7 +65,7 @@ fn total(sizes: &[u64]) -> u64
     total
 }
 
-// How many posts a digest takes: the first one always.
+// How many posts a digest takes; always the first one.
 fn one_or_within(sizes: &[u64]) -> usize
     ensures value { result ≡ length (cuts.one_or_within (λ size. size) 100 4_194_304 sizes.now) }
     ensures few { result ≤ 100 }
@@ -80,7 +81,7 @@ fn one_or_within(sizes: &[u64]) -> usize
     }
 }
 
-// How many of the first things there are at most so many of, of at most this size together.
+// How many of the first posts a digest takes: at most `count`, of at most `room` bytes together.
 fn within(count: usize, mut room: u64, sizes: &[u64]) -> usize
     ensures value { result ≡ length (cuts.within (λ size. size) count room sizes.now) }
     ensures few { result ≤ count }

@@ -1,4 +1,4 @@
-// The text of a digest.
+// Writes the text of a digest.
 ghost use Rattle.std.specs.Prelude.{◌≡◌, ◌≤◌, ◌<◌, ◌+◌, ◌++◌, ℕ, false, length, map, OnOk, IfOk};
 ghost use Rattle.std.specs.List.{flat_map};
 ghost use Rattle.ml_base.specs.Splits.{has_byte};
@@ -15,14 +15,14 @@ use ml_base::Bytes;
 use ml_config::Config;
 use std::alloc::{AllocError, Global};
 
-// The most bytes that a digest has for a post beside its subject and its text: its number, and what stands round both.
+// The most bytes that a digest has for a post besides its subject and its text: its number, and what is around both.
 const ROUND_POST: usize = 64;
 
-// The most bytes of the lines round topics and messages, but for the list's names and the date.
+// The most bytes of the lines around topics and messages, except for the list's names and the date.
 const ROUND_POSTS: usize = 512;
 
-/// The text of a digest (RFC 1153): its number, the number of its first post, its posts, and its date. The posts are those
-/// of one number after the other, up to 99,999,999. Its one error is want of memory.
+/// The text of a digest (RFC 1153), from its number, the number of its first post, its posts and its date. The posts
+/// have consecutive numbers, up to 99,999,999. The only error is lack of memory.
 pub fn digest_text(
     alloc: Global,
     config: &Config,
@@ -46,7 +46,7 @@ pub fn digest_text(
     Ok(out)
 }
 
-// The preface, with a line for each post, and the rule behind it.
+// The preface, with a line for every post, and the rule after it.
 fn add_preface(
     out: &mut Bytes,
     name: &[u8],
@@ -69,7 +69,7 @@ fn add_preface(
     Ok(())
 }
 
-// A line for each post: its number and its subject.
+// A line for every post: its number and its subject.
 fn add_topics(out: &mut Bytes, first: u64, posts: &[DigestPost]) -> Result<(), AllocError>
     requires { first + length posts.now ≤ 100_000_000 }
     ensures { OnOk result (out.new ≡ out.old ++ topics_text first posts.now) }
@@ -83,7 +83,7 @@ fn add_topics(out: &mut Bytes, first: u64, posts: &[DigestPost]) -> Result<(), A
     Ok(())
 }
 
-// Each post's message, with an empty line, 30 hyphens and an empty line behind it.
+// Every post's message, and after it an empty line, 30 hyphens and an empty line.
 fn add_messages(out: &mut Bytes, posts: &[DigestPost]) -> Result<(), AllocError>
     ensures { OnOk result (out.new ≡ out.old ++ flat_map with_rule posts.now) }
 {
@@ -94,7 +94,7 @@ fn add_messages(out: &mut Bytes, posts: &[DigestPost]) -> Result<(), AllocError>
     Ok(())
 }
 
-// About as many bytes as the digest has, and no fewer: so the buffer is taken once.
+// About as many bytes as the digest has, and not fewer, so that the buffer never grows.
 fn room(config: &Config, posts: &[DigestPost], date: &[u8]) -> usize {
     let mut room = ROUND_POSTS.saturating_add(date.len());
     for name in [&config.local, &config.host] {

@@ -1,12 +1,12 @@
-// Lines of a digest, each ended by an LF.
+// Cuts a digest at one of its lines; each line ends in an LF.
 ghost use Rattle.std.specs.Prelude.{◌≡◌, ◌+◌, ◌<◌, false, length, IfSome, IfNone};
 ghost use Rattle.ml_base.specs.Splits.{has_byte};
 ghost use Rattle.ml_digest.specs.Reading.{IsCut, HasNoCut};
 
 use ml_base::split_first;
 
-// The lines before the first line that is the one wanted, and what is behind that; or None where there is none, or the one
-// barred stands before it.
+// The lines before the first line that is `wanted`, and what comes after it; or None if there is no such line, or the
+// line `barred` comes before it.
 pub(crate) fn split_at_line<'a>(
     text: &'a [u8],
     wanted: &[u8],

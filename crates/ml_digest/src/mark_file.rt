@@ -1,4 +1,4 @@
-// How far the digests have come, in the list's files.
+// Reads and writes the mark, which says how far the digests have come.
 ghost use Rattle.std.specs.Prelude.{◌≡◌, ◌≤◌, [], ◌∷◌, true, IsTrue, IfOk, IfErr, Some};
 ghost use Rattle.std.specs.Option.{option_and_then};
 ghost use Rattle.ml_base.specs.Dir.{Dir, with_puts, are_files, touches_only, same_name};
@@ -14,8 +14,8 @@ use ml_base::{
 };
 use std::alloc::{AllocError, Global};
 
-/// How far the digests have come. `Damaged` names the mark's file and comes only where it is absent or holds no mark.
-/// `Fault` comes only where a read failed.
+/// How far the digests have come. `Damaged` names the mark's file, and comes only if that is absent or spells no mark.
+/// `Fault` comes only if a read failed.
 pub fn mark<F: Files>(alloc: Global, files: &mut F) -> Result<Mark, PartError>
     ensures value { IsTrue F.tells → IfOk result (IsMark (F.map files.old)) }
     ensures read { IsTrue F.tells → (mark : Mark) → IsMark (F.map files.old) mark → IfOk result (λ found. found ≡ mark) }
@@ -31,7 +31,7 @@ pub fn mark<F: Files>(alloc: Global, files: &mut F) -> Result<Mark, PartError>
     }
 }
 
-// The mark that a file spells, or None where it spells none.
+// The mark that a file spells, or None if it spells none.
 fn read_mark(file: &Option<Bytes>) -> Option<Mark>
     ensures { result ≡ option_and_then mark_in file.now }
 {
@@ -44,7 +44,7 @@ fn read_mark(file: &Option<Bytes>) -> Option<Mark>
     Some(Mark { last, issue })
 }
 
-// The number that a text of one line spells, or None of another text.
+// The number that a text of one line spells, or None if the text is no such line.
 fn read_line(text: &[u8]) -> Option<u64>
     ensures { result ≡ line_number 99_999_999 text.now }
 {
@@ -56,8 +56,8 @@ fn read_line(text: &[u8]) -> Option<u64>
     }
 }
 
-/// What is to be done so that the mark is this one, whose number of the last digest is at most that of the last post in
-/// one, and that at most 99,999,999.
+/// The puts that write this mark. The number of its last digest is at most that of its last post, and that is at most
+/// 99,999,999.
 pub fn set_mark(alloc: Global, mark: &Mark) -> Result<Txn, AllocError>
     requires issue { mark.now.issue ≤ mark.now.last }
     requires last { mark.now.last ≤ 99_999_999 }

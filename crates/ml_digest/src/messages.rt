@@ -1,4 +1,4 @@
-// What a digest has of a post.
+// Writes a post as a digest has it: some of its fields, and its body.
 ghost use Rattle.std.specs.Prelude.{◌≡◌, ◌++◌, ◌||◌, OnOk};
 ghost use Rattle.std.specs.List.{flat_map};
 ghost use Rattle.std.specs.Str.{bytes_eq};
@@ -13,7 +13,7 @@ use ml_base::{Bytes, split_line};
 use ml_header::{Fields, Message};
 use std::alloc::AllocError;
 
-// The line of 30 hyphens that stands behind each message.
+// The line of 30 hyphens that comes after every message.
 pub(crate) const MESSAGE_RULE: &[u8] = b"------------------------------";
 
 // The message that a digest has of a post: its kept fields, an empty line, and its body.
@@ -43,7 +43,7 @@ fn add_kept_fields(out: &mut Bytes, message: &Message<'_>) -> Result<(), AllocEr
     Ok(())
 }
 
-// The fields of a name, in any case of letters, with all their lines.
+// The fields with a name, in any case of letters, with all their lines.
 fn add_named(out: &mut Bytes, mut fields: Fields<'_>, name: &[u8]) -> Result<(), AllocError>
     requires { AreWhole fields }
     ensures { OnOk result (out.new ≡ out.old ++ named_text name.now fields.entry) }
@@ -57,7 +57,7 @@ fn add_named(out: &mut Bytes, mut fields: Fields<'_>, name: &[u8]) -> Result<(),
     Ok(())
 }
 
-// The lines of a body, each of exactly 30 hyphens with a space for its first one.
+// The lines of a body, with a space for the first hyphen of a line of exactly 30.
 fn add_body(out: &mut Bytes, body: &[u8]) -> Result<(), AllocError>
     ensures { OnOk result (out.new ≡ out.old ++ flat_map quoted_line (lines body.now)) }
 {
@@ -69,7 +69,7 @@ fn add_body(out: &mut Bytes, body: &[u8]) -> Result<(), AllocError>
     Ok(())
 }
 
-// A line, with a space for its first byte where it is the rule behind messages.
+// A line, with a space for its first byte if it is the rule after messages.
 fn add_quoted(out: &mut Bytes, line: &[u8]) -> Result<(), AllocError>
     ensures { OnOk result (out.new ≡ out.old ++ quoted_line line.now) }
 {
@@ -81,7 +81,7 @@ fn add_quoted(out: &mut Bytes, line: &[u8]) -> Result<(), AllocError>
     }
 }
 
-// Whether a line, with its LF where it has one, is of exactly 30 hyphens.
+// Whether a line, with or without an LF, is exactly 30 hyphens.
 fn is_message_rule(line: &[u8]) -> bool
     ensures { result ≡ (bytes_eq line.now message_rule || bytes_eq line.now (message_rule ++ lf)) }
 {

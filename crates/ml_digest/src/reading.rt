@@ -1,4 +1,4 @@
-// A digest is taken apart.
+// Takes a digest apart into its messages.
 ghost use Rattle.std.specs.Prelude.{◌≡◌, ◌+◌, ◌<◌, ℕ, true, codes, List, length, Some, IfSome, IfNone, IfOk};
 ghost use Rattle.ml_base.specs.Bytes.{Text};
 ghost use Rattle.ml_header.specs.Lines.{begins_with};
@@ -12,12 +12,12 @@ use crate::{Burst, BytesList};
 use ml_base::{Bytes, read_number, split_first, split_last};
 use std::alloc::{AllocError, Global};
 
-// The line of 70 hyphens that stands behind the preface.
+// The line of 70 hyphens that comes after the preface.
 const PREAMBLE_RULE: &[u8] =
     b"----------------------------------------------------------------------";
 
-/// Takes a digest apart (RFC 1153): its number and its messages, in order, or None of a text that is no digest. Its one error is
-/// want of memory.
+/// Takes a digest apart (RFC 1153): its number and its messages, in order, or None if the text is no digest. The only
+/// error is lack of memory.
 pub fn read_digest(alloc: Global, text: &[u8]) -> Result<Option<Burst>, AllocError>
     ensures some { IfOk result (λ burst. IfSome burst (λ b. IsDigest text.now b.issue b.messages)) }
     ensures none { IfOk result (λ burst. IfNone burst ((issue : ℕ) (messages : List Text) → ¬ IsDigest text.now issue messages)) }
@@ -50,7 +50,7 @@ struct Title<'a> {
     issue: u64,
 }
 
-// The last line of the header, and what is behind the empty line that ends it; or None where no empty line comes.
+// The last line of the header, and what comes after the empty line that ends it; or None if no empty line comes.
 fn split_header(text: &[u8]) -> Option<(&[u8], &[u8])>
     ensures some { IfSome result (λ p. IsHeader text.now p.0.now p.1.now) }
     ensures none { IfNone result ((last rest : Text) → ¬ IsHeader text.now last rest) }
@@ -67,7 +67,7 @@ fn split_header(text: &[u8]) -> Option<(&[u8], &[u8])>
     None
 }
 
-// What the line `Subject: NAME Digest Issue I` tells, or None of another line.
+// The name and number that the line `Subject: NAME Digest Issue I` spells, or None if the line is no such title.
 fn title_of(line: &[u8]) -> Option<Title<'_>>
     ensures some { IfSome result (λ t. IsTitle line.now t.name.now t.issue) }
     ensures none { IfNone result ((name : Text) (issue : ℕ) → ¬ IsTitle line.now name issue) }
@@ -85,7 +85,7 @@ fn title_of(line: &[u8]) -> Option<Title<'_>>
     Some(Title { name, issue })
 }
 
-// What is behind the preface, its rule and an empty line.
+// What comes after the preface, its rule and an empty line.
 fn split_preface(text: &[u8]) -> Option<&[u8]>
     ensures some { IfSome result (λ rest. IsPreface text.now rest.now) }
     ensures none { IfNone result ((rest : Text) → ¬ IsPreface text.now rest) }
@@ -94,7 +94,7 @@ fn split_preface(text: &[u8]) -> Option<&[u8]>
     rest.strip_prefix(b"\n")
 }
 
-// The message at the front of a text, and what is behind the rule behind it.
+// The message at the beginning of a text, and what comes after the rule that follows it.
 fn split_message(text: &[u8]) -> Option<(&[u8], &[u8])>
     ensures some { IfSome result (λ p. IsEntry text.now p.0.now p.1.now) }
     ensures none { IfNone result ((message rest : Text) → ¬ IsEntry text.now message rest) }
@@ -111,7 +111,7 @@ fn split_message(text: &[u8]) -> Option<(&[u8], &[u8])>
     Some((message, rest))
 }
 
-// Lines without the last one, which is empty; or None where it isn't.
+// Lines without the last one, if that is empty; or None if it isn't.
 fn without_empty_line(lines: &[u8]) -> Option<&[u8]>
     ensures some { IfSome result (λ front. HasEmptyEnd lines.now front.now) }
     ensures none { IfNone result ((front : Text) → ¬ HasEmptyEnd lines.now front) }
@@ -124,7 +124,7 @@ fn without_empty_line(lines: &[u8]) -> Option<&[u8]>
     }
 }
 
-// Messages, each with the rule behind it, up to a text that is the end.
+// Messages, each with the rule after it, until the text that is left is `end`.
 fn read_messages(alloc: Global, text: &[u8], end: &[u8]) -> Result<Option<BytesList>, AllocError>
     requires { begins_with (codes "End of ") end.now ≡ true }
     ensures some { IfOk result (λ found. IfSome found (λ messages. AreEntries text.now end.now messages)) }

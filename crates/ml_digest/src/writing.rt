@@ -1,4 +1,4 @@
-// The words and lines of which digests are made, each added at the end of a buffer.
+// The words and lines that digests are made of. Each function adds one at the end of a buffer.
 ghost use Rattle.std.specs.Prelude.{◌≡◌, ◌++◌, ◌∷◌, [], OnOk, codes, replicate};
 ghost use Rattle.std.specs.Fmt.{decimal};
 ghost use Rattle.ml_base.specs.Texts.{lf, lines_text, with_line_end, list_address, post_address, mailing_list_line};
@@ -9,7 +9,7 @@ use ml_base::Bytes;
 use ml_config::Config;
 use std::alloc::AllocError;
 
-// A line of two parts.
+// A line made of two parts.
 pub(crate) fn add_line(out: &mut Bytes, name: &[u8], value: &[u8]) -> Result<(), AllocError>
     ensures { OnOk result (out.new ≡ out.old ++ (name.now ++ value.now ++ lf)) }
 {
@@ -18,7 +18,7 @@ pub(crate) fn add_line(out: &mut Bytes, name: &[u8], value: &[u8]) -> Result<(),
     out.push(b'\n')
 }
 
-// An LF where the text doesn't end in one.
+// An LF, unless the text ends in one.
 pub(crate) fn end_text_line(out: &mut Bytes) -> Result<(), AllocError>
     ensures { OnOk result (out.new ≡ with_line_end out.old) }
 {
@@ -47,7 +47,7 @@ fn add_help(out: &mut Bytes, config: &Config) -> Result<(), AllocError>
     out.extend(config.host.as_slice())
 }
 
-// The line that tells mail of the list from other mail.
+// The line by which mail of the list is known.
 fn add_mailing_list(out: &mut Bytes, config: &Config) -> Result<(), AllocError>
     ensures { OnOk result (out.new ≡ out.old ++ (mailing_list_line config.now.local config.now.host ++ lf)) }
 {
@@ -57,7 +57,7 @@ fn add_mailing_list(out: &mut Bytes, config: &Config) -> Result<(), AllocError>
     Ok(())
 }
 
-// The line that tells from whom a digest is.
+// The line that says whom a digest is from.
 fn add_from(out: &mut Bytes, config: &Config) -> Result<(), AllocError>
     ensures { OnOk result (out.new ≡ out.old ++ (codes "From: " ++ list_address config.now.local config.now.host (codes "help") ++ lf)) }
 {
@@ -66,7 +66,7 @@ fn add_from(out: &mut Bytes, config: &Config) -> Result<(), AllocError>
     out.push(b'\n')
 }
 
-// The line that tells to whom a digest goes.
+// The line that says whom a digest is for.
 fn add_to(out: &mut Bytes, config: &Config) -> Result<(), AllocError>
     ensures { OnOk result (out.new ≡ out.old ++ (codes "To: " ++ post_address config.now.local config.now.host ++ lf)) }
 {
@@ -87,7 +87,7 @@ fn add_first_lines(out: &mut Bytes, config: &Config) -> Result<(), AllocError>
     Ok(())
 }
 
-// The header of a digest, and the empty line behind it.
+// The header of a digest, and the empty line after it.
 pub(crate) fn add_header(
     out: &mut Bytes,
     config: &Config,
@@ -104,7 +104,7 @@ pub(crate) fn add_header(
     Ok(())
 }
 
-// The line `End of NAME Digest Issue I`, and one of as many asterisks as it has bytes.
+// The line `End of NAME Digest Issue I`, and a line of as many asterisks as that has bytes.
 pub(crate) fn add_end(out: &mut Bytes, name: &[u8], issue: u64) -> Result<(), AllocError>
     ensures { OnOk result (out.new ≡ out.old ++ lines_text (end_line name.now issue ∷ asterisks name.now issue ∷ [])) }
 {
@@ -118,7 +118,7 @@ pub(crate) fn add_end(out: &mut Bytes, name: &[u8], issue: u64) -> Result<(), Al
     Ok(())
 }
 
-// So many asterisks.
+// As many asterisks as `count`.
 fn add_asterisks(out: &mut Bytes, count: usize) -> Result<(), AllocError>
     ensures { OnOk result (out.new ≡ out.old ++ replicate count 42) }
 {

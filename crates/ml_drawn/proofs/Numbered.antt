@@ -1,4 +1,4 @@
--- Numbers under which a file is there, told without its bytes.
+-- A file is known to be there under a number without its bytes.
 use Rattle.std.proofs.Common.{◌≡◌, ℕ, ◌<◌, ◌≤◌, true, false, cond, IsTrue, Option, Some, None, is_some, refl, sym, ap, ◌∙◌}
 use Rattle.ml_base.specs.Bytes.{Text}
 use Rattle.ml_base.specs.Dir.{Dir}
@@ -7,7 +7,7 @@ use Rattle.ml_drawn.specs.declared.series.Series.{Series}
 use Rattle.ml_drawn.specs.Names.{thing_name}
 use Rattle.ml_drawn.specs.Answers.{IsFirst, NoneThere}
 
--- what is there is something
+-- what is there has a value
 pub there_is : {A : Type 0} (o : Option A) → is_some o ≡ true → (x : A) × (o ≡ Some x)
 there_is None is = absurd (let bad : false ≡ true = is in cc)
 there_is (Some x) is = (x, refl)
@@ -20,7 +20,7 @@ absent_is (Some x) is = absurd (let bad : true ≡ false = is in cc)
 pub there_drawn : (dir : Dir) (series : Series) (n : ℕ) → IsTrue (is_drawn n) → is_some (cond (is_drawn n) (dir (thing_name series n)) None) ≡ true → (bytes : Text) × (dir (thing_name series n) ≡ Some bytes)
 there_drawn dir series n drawn is = there_is (dir (thing_name series n)) (sym (ap (λ t. is_some (cond t (dir (thing_name series n)) None)) drawn) ∙ is)
 
--- the first such number, behind those at which nothing is there
+-- the first such number, after those under which nothing is there
 pub first_there : (dir : Dir) (series : Series) (from n next : ℕ) → from ≤ n → n < next → IsTrue (is_drawn n) → NoneThere dir series from n → is_some (cond (is_drawn n) (dir (thing_name series n)) None) ≡ true
     → (bytes : Text) × IsFirst dir series from next (record { number = n; bytes = bytes })
 first_there dir series from n next up below drawn none is =

@@ -1,4 +1,4 @@
--- What holds of the files of a series, apart from the code, and what the answers are of the things for which they stand.
+-- What holds of the files of a series, and what the answers that are read from them say of the things for which they stand.
 use Rattle.std.proofs.Common.{◌≡◌, ℕ, ◌<◌, Bool, true, false, cond, IsTrue, List, Option, Some, None, Result, IfOk, refl, sym, ap, ◌∙◌, subst, arith, inl, inr}
 use Rattle.std.specs.Option.{option_map}
 use Rattle.ml_base.specs.Bytes.{Text}
@@ -35,7 +35,7 @@ file_there dir series n file text is some = go (is_drawn n) refl
     go false e = absurd (let bad : Some text ≡ None = sym some ∙ is ∙ ap (λ t. cond t (dir (thing_name series n)) None) e in cc)
     go true e = (e, sym (ap (λ t. cond t (dir (thing_name series n)) None) e) ∙ sym is ∙ some)
 
--- where a look-up finds nothing, the number has no file
+-- if a look-up finds nothing, the number has no file
 pub file_absent : (dir : Dir) (series : Series) (n : ℕ) (file : Option Text) → file ≡ cond (is_drawn n) (dir (thing_name series n)) None → file ≡ None → IsTrue (is_drawn n) → dir (thing_name series n) ≡ None
 file_absent dir series n file is none drawn = sym (sym none ∙ is ∙ ap (λ t. cond t (dir (thing_name series n)) None) drawn)
 
@@ -46,7 +46,7 @@ module _ {E : Type 0} (IsThing : E → Type 0) (spelling : E → Text) (series :
   abbrev text_of : Option (Drawn E) → Option Text
   text_of o = option_map spelling (thing_at o)
 
-  -- the files of a series alone decide
+  -- only the files of a series matter
   pub own : (other : Dir) (d : Drawing E) → ((name : Name) → is_of_series series name ≡ true → other name ≡ dir name) → AreRepresented IsThing spelling dir series d → AreRepresented IsThing spelling other series d
   own other d same is = record {
     low = is.low;
@@ -57,7 +57,7 @@ module _ {E : Type 0} (IsThing : E → Type 0) (spelling : E → Text) (series :
     files = λ n drawn. same (thing_name series n) (thing_in series n) ∙ is.files n drawn;
   }
 
-  -- under the number of a file that is there is a thing
+  -- if a number has a file, it has a thing
   spelled_at : (d : Drawing E) (is : AreCounted IsThing spelling dir series d) (n : ℕ) (text : Text) → Some text ≡ text_of (at_number n d.all) → (thing : E) × (thing_of n d ≡ Some thing) × IsSpelled IsThing spelling text thing
   spelled_at d is n text file = go (at_number n d.all) refl
     where
@@ -95,7 +95,7 @@ module _ {E : Type 0} (IsThing : E → Type 0) (spelling : E → Text) (series :
     files = none;
   }
 
-  -- what is drawn by the counter stands last, under the next number
+  -- what is drawn by the counter comes last, under the next number
   pub drawing : (thing : E) (n : ℕ) (puts : List Put) (d : Drawing E) → IsThing thing → IsDrawing dir series (spelling thing) n puts → AreRepresented IsThing spelling dir series d
       → (n ≡ d.next) × AreRepresented IsThing spelling (with_puts dir puts) series (with_next thing d)
   drawing thing n puts d is drawn stands =
@@ -129,11 +129,11 @@ module _ {E : Type 0} (IsThing : E → Type 0) (spelling : E → Text) (series :
     entry : (n : ℕ) (e : Drawn E) → at_number n d.all ≡ Some e → IsWithin IsThing is.low d.next e × (n ≡ e.number)
     entry = entry_there IsThing spelling dir series d (counted_of IsThing spelling dir series d is)
 
-    -- under the number of a file that is there is a thing
+    -- if a number has a file, it has a thing
     pub thing_there : (n : ℕ) (text : Text) → IsTrue (is_drawn n) → dir (thing_name series n) ≡ Some text → (thing : E) × (thing_of n d ≡ Some thing) × IsSpelled IsThing spelling text thing
     thing_there n text drawn there = spelled_at d (counted_of IsThing spelling dir series d is) n text (sym there ∙ is.files n drawn)
 
-    -- where no file is there, no thing is
+    -- if a number has no file, it has no thing
     pub none_there : (n : ℕ) → (IsTrue (is_drawn n) → dir (thing_name series n) ≡ None) → None ≡ thing_of n d
     none_there n none = go (at_number n d.all) refl
       where
@@ -156,7 +156,7 @@ module _ {E : Type 0} (IsThing : E → Type 0) (spelling : E → Text) (series :
             let same = there.1 in
             omega (arith, less, same)
 
-    -- what a number's file answers is the number's thing, where things are told apart by their texts
+    -- what a number's file answers is the number's thing, if no two things have the same text
     pub looking : ((a b : E) → IsThing a → IsThing b → spelling a ≡ spelling b → a ≡ b) → (n : ℕ) (answer : Option E) → LooksBy IsThing spelling dir series n answer → answer ≡ thing_of n d
     looking one n None by = none_there n by
     looking one n (Some thing) by =

@@ -9,6 +9,6 @@ next_kept d [] = omega arith
 next_kept d (inl thing ∷ more) = let up = next_kept (with_next thing d) more in omega (arith, up)
 next_kept d (inr n ∷ more) = next_kept (without_number n d) more
 
--- a number that was drawn is below the next one for good
+-- a number that was drawn stays below the next one for good
 pub next_rises : {E : Type 0} (d : Drawing E) (thing : E) (later : List (E ⊎ ℕ)) → d.next < (after (with_next thing d) later).next
 next_rises d thing later = let up = next_kept (with_next thing d) later in omega (arith, up)

@@ -1,4 +1,4 @@
--- Files of a series that are read one behind the other.
+-- Files of a series that are read one after another, up to the last.
 use Rattle.std.proofs.Common.{◌≡◌, ℕ, ◌+◌, ◌≤◌, List, ◌∷◌, [], ◌++◌, Option, Some, None, sym, ◌∙◌, subst, arith, inr}
 use Rattle.ml_base.specs.Bytes.{Text}
 use Rattle.ml_base.specs.Dir.{Dir}
@@ -20,7 +20,7 @@ first_at dir other series from next answer f same is some = subst (λ (d : Dir).
 pub none_at : (dir other : Dir) (series : Series) (from next : ℕ) (answer : Option Found) → other ≡ dir → IsNextThere other series from next answer → answer ≡ None → NoneThere dir series from next
 none_at dir other series from next answer same is none = subst (λ (d : Dir). NoneThere d series from next) same (subst (λ (o : Option Found). IsNextThere other series from next o) none is)
 
--- the same of the number alone
+-- the same for the number only
 pub first_number : (dir other : Dir) (series : Series) (from next : ℕ) (answer : Option ℕ) (n : ℕ) → other ≡ dir → IsNextNumber other series from next answer → answer ≡ Some n
     → (bytes : Text) × IsFirst dir series from next (record { number = n; bytes = bytes })
 first_number dir other series from next answer n same is some =
@@ -30,7 +30,7 @@ pub none_number : (dir other : Dir) (series : Series) (from next : ℕ) (answer 
 none_number dir other series from next answer same is none = subst (λ (d : Dir). NoneThere d series from next) same (subst (λ (o : Option ℕ). IsNextNumber other series from next o) none is)
 
 module _ {E : Type 0} (IsThing : E → Type 0) (spelling : E → Text) (series : Series) (dir : Dir) where
-  -- a file that was read and spells no thing breaks them
+  -- a file that was read and spells no thing is outside its grammar
   pub no_thing : (low from next : ℕ) (f : Found) (text : Text) (name : Name) → IsCounter (dir (counter_name series)) low next → low ≤ from → IsFirst dir series from next f
       → text ≡ f.bytes → ((thing : E) → IsSpelled IsThing spelling text thing → ⊥) → name ≡ thing_name series f.number → BreaksCounted IsThing spelling dir series name
   no_thing low from next f text name counted up first same none named =
@@ -48,7 +48,7 @@ module _ {E : Type 0} (IsThing : E → Type 0) (spelling : E → Text) (series :
         },
       )
 
-  -- things stand in the files from one number on, up to another
+  -- the files up to a number have been read, and stand for things
   abbrev pub AreRead : ℕ → ℕ → Type 0
   AreRead low at = (done : List (Drawn E)) × AreWalked IsThing spelling dir series low at done
 

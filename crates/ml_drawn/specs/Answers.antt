@@ -1,4 +1,4 @@
--- What is read of a series, and what changes it.
+-- What reading a series answers, and which puts change it.
 use Rattle.std.specs.Prelude.{◌≡◌, ◌<◌, ◌≤◌, ◌+◌, ℕ, Bool, true, false, ◌==◌, IsTrue, List, [], ◌∷◌, ◌++◌, Option, Some, None}
 use Rattle.std.specs.Fmt.{decimal}
 use Rattle.ml_base.specs.Bytes.{Text, colon}
@@ -33,12 +33,12 @@ pub record IsFirst (dir : Dir) (series : Series) (from next : ℕ) (found : Foun
   pub before : NoneThere dir series from found.number
   pub file : dir (thing_name series found.number) ≡ Some found.bytes
 
--- the first file under the numbers from one on and below another, or None where none is there
+-- the first file under the numbers from one on and below another, or None if there is none
 abbrev pub IsNextThere : Dir → Series → ℕ → ℕ → Option Found → Type 0
 IsNextThere dir series from next None = NoneThere dir series from next
 IsNextThere dir series from next (Some found) = IsFirst dir series from next found
 
--- the number of the first file under the numbers from one on and below another, or None where none is there
+-- the number of the first file under the numbers from one on and below another, or None if there is none
 abbrev pub IsNextNumber : Dir → Series → ℕ → ℕ → Option ℕ → Type 0
 IsNextNumber dir series from next None = NoneThere dir series from next
 IsNextNumber dir series from next (Some n) = (bytes : Text) × IsFirst dir series from next (record { number = n; bytes = bytes })
@@ -51,7 +51,7 @@ counter_put series low next = record { name = counter_name series; bytes = Some 
 abbrev pub removal : Series → ℕ → Put
 removal series n = record { name = thing_name series n; bytes = None }
 
--- the puts by which bytes stand under the next number
+-- the puts that store bytes under the next number
 abbrev pub drawn_puts : Series → ℕ → ℕ → Text → List Put
 drawn_puts series low next bytes = record { name = thing_name series next; bytes = Some bytes } ∷ counter_put series low (next + 1) ∷ []
 
@@ -73,7 +73,7 @@ pub record IsMoved (dir : Dir) (series : Series) (n next : ℕ) (put : Put) : Ty
   pub first : IsNextThere dir series (n + 1) next found
   pub is : put ≡ counter_put series (low_of next found) next
 
--- the puts by which a number's file is gone: the counter moves where the number is its `low`
+-- the puts that remove a number's file: if the number is the counter's `low`, the counter moves
 abbrev pub AreTaken : Dir → Series → ℕ → ℕ → Bool → List Put → Type 0
 AreTaken dir series n next true puts = (put : Put) × IsMoved dir series n next put × (puts ≡ removal series n ∷ put ∷ [])
 AreTaken dir series n next false puts = puts ≡ removal series n ∷ []

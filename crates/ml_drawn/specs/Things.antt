@@ -1,4 +1,4 @@
--- The files of a series, each of which spells a thing.
+-- The files of a series, each of which spells a thing, and which of them are outside their grammar.
 use Rattle.std.specs.Prelude.{◌≡◌, ◌<◌, ◌≤◌, ◌⊎◌, ℕ, Bool, true, false, IsTrue, Option, Some, None}
 use Rattle.ml_base.specs.Bytes.{Text}
 use Rattle.ml_base.specs.Dir.{Dir}
@@ -9,7 +9,7 @@ use Rattle.ml_drawn.specs.declared.series.Series.{Series}
 use Rattle.ml_drawn.specs.Names.{thing_name, counter_name}
 use Rattle.ml_drawn.specs.Answers.{IsNoCounter}
 
--- the file of the thing of a number that can be drawn
+-- the file of the thing of a number that may be drawn
 abbrev pub IsThingName : Series → ℕ → Name → Type 0
 IsThingName series n name = IsTrue (is_drawn n) × (name ≡ thing_name series n)
 
@@ -57,7 +57,7 @@ module _ {E : Type 0} (IsThing : E → Type 0) (spelling : E → Text) where
   abbrev pub BreaksCounted : Dir → Series → Name → Type 0
   BreaksCounted dir series name = ((name ≡ counter_name series) × IsNoCounter dir series) ⊎ ((n : ℕ) × (name ≡ thing_name series n) × IsNoThingWithin dir series n)
 
-  -- what looking at a number answers by the number's file, in whatever directory
+  -- what a look at a number answers, given the number's file
   abbrev pub LooksBy : Dir → Series → ℕ → Option E → Type 0
   LooksBy dir series n None = IsTrue (is_drawn n) → dir (thing_name series n) ≡ None
   LooksBy dir series n (Some thing) = IsTrue (is_drawn n) × IsFileOf (dir (thing_name series n)) thing

@@ -1,4 +1,4 @@
-// What changes when a number is drawn, and when its thing is taken out.
+// What changes in the files when a number is drawn, and when its thing is taken out.
 ghost use Rattle.std.specs.Prelude.{◌≡◌, ◌≤◌, ◌<◌, ◌+◌, ◌^◌, true, ℕ, IsTrue, IfOk, IfErr, IsErrOf};
 ghost use Rattle.ml_base.specs.Dir.{touches_only};
 ghost use Rattle.ml_base.specs.Drawn.{IsCounter};
@@ -45,9 +45,9 @@ fn drawn_puts(
     Ok(txn)
 }
 
-/// Draws the next number of a series for these bytes: the number, and the puts by which they stand under it.
+/// Draws the next number of a series for these bytes: the number, and the puts that store the bytes under it.
 ///
-/// The next number is at most 10^15. Where the files tell nothing, a next number above that is answered as damage.
+/// The next number is at most 10^15. If the files tell nothing, a next number above that is answered as damage.
 pub fn draw<F: Files>(
     alloc: Global,
     files: &mut F,
@@ -71,7 +71,7 @@ pub fn draw<F: Files>(
     Ok((counter.next, txn))
 }
 
-// The counter once the thing at `low` is taken out.
+// The counter after the thing at `low` is taken out.
 fn moved<F: Files>(
     alloc: Global,
     files: &mut F,
@@ -91,7 +91,7 @@ fn moved<F: Files>(
     }
 }
 
-/// Takes out the thing of a number that has one: the puts by which its file is gone. Where it stood at `low`, `low` moves
+/// Takes out the thing of a number that has one: the puts that remove its file. If the number was `low`, `low` moves
 /// to the next number that has a thing, or to the next number to be drawn.
 pub fn take_out<F: Files>(
     alloc: Global,

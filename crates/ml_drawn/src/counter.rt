@@ -1,4 +1,4 @@
-// The counter of a series.
+// The counter of a series: how its file is read and written.
 ghost use Rattle.std.specs.Prelude.{◌≡◌, ◌≢◌, ◌≤◌, ◌<◌, ◌∷◌, ◌++◌, ◌^◌, ℕ, Some, IsTrue, IfOk, IfErr, IfSome, IfNone, IsErrOf};
 ghost use Rattle.std.specs.Fmt.{decimal};
 ghost use Rattle.ml_base.specs.Drawn.{IsCounter, counter_text};
@@ -18,7 +18,7 @@ pub struct Counter {
     pub next: u64,
 }
 
-// The numbers round a colon, or None of another text.
+// The numbers before and after a colon, or None for any other text.
 fn read_pair(line: &[u8]) -> Option<Counter>
     ensures some { IfSome result (λ c. IsPair line.now c.low c.next) }
     ensures none { IfNone result ((low next : ℕ) → ¬ IsPair line.now low next) }
@@ -35,7 +35,7 @@ fn read_pair(line: &[u8]) -> Option<Counter>
     Some(Counter { low, next })
 }
 
-// The counter that a file spells, or None where it spells none.
+// The counter that a file spells, or None if it spells none.
 fn read_counter(file: &Option<Bytes>) -> Option<Counter>
     ensures some { IfSome result (λ c. IsCounter file.now c.low c.next) }
     ensures none { IfNone result ((low next : ℕ) → ¬ IsCounter file.now low next) }

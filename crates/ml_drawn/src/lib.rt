@@ -1,4 +1,4 @@
-//! Files under numbers that are drawn in order, with a counter of the next number: the form of held posts and of the queue.
+//! Files under numbers that are drawn in order, with a counter that has the next number. Held posts and the queue have this form.
 #![tactic(auto)]
 
 mod changing;

@@ -11,7 +11,7 @@ use crate::Series;
 use ml_base::{Bytes, Files, FilesError, LAST_DRAWN, is_drawn};
 use std::alloc::Global;
 
-// How many numbers are looked at one by one before the files are asked how far nothing is there.
+// How many numbers are looked at one by one before the files are asked up to which number nothing is there.
 const STRIDE: u64 = 16;
 
 /// A file of a series.
@@ -21,7 +21,7 @@ pub struct Found {
     pub bytes: Bytes,
 }
 
-/// The bytes under a number, or None where nothing is there. Nothing is under a number that is never drawn.
+/// The bytes under a number, or None if nothing is there. Nothing is under a number that is never drawn.
 pub fn file_of<F: Files>(
     alloc: Global,
     files: &mut F,
@@ -39,8 +39,8 @@ pub fn file_of<F: Files>(
     files.get(alloc, series.name(n))
 }
 
-/// Whether something is there under a number. Nothing is under a number that is never drawn. Where the files can tell it without, no byte of
-/// it is read.
+/// Whether something is there under a number. Nothing is under a number that is never drawn. If the files know without its bytes, none of
+/// them are read.
 pub fn is_there<F: Files>(
     alloc: Global,
     files: &mut F,
@@ -58,8 +58,8 @@ pub fn is_there<F: Files>(
     files.has(alloc, series.name(n))
 }
 
-// The number to look at behind one under which nothing is, in a walk that began at another: the one after it, and at each 16th a number
-// below which the files know that nothing is there. So a small gap asks nothing of a whole folder, and a wide one takes few looks.
+// The number to look at after one under which nothing is, in a walk that began at `from`: the next one, but at every 16th number one up
+// to which the files know that nothing is there. So a small gap doesn't search a whole folder, and a wide one takes few looks.
 fn number_behind<F: Files>(
     alloc: Global,
     files: &mut F,
@@ -81,9 +81,9 @@ fn number_behind<F: Files>(
     files.skip_absent(alloc, series.name(next).kind, next, end)
 }
 
-/// The first number from `from` on, below `next`, under which a file is there, or None where none is. It looks at one number after the
-/// other, and leaves those out of which the files know that nothing is there. It reads no file where the files can tell without that one is
-/// there.
+/// The first number from `from` on, below `next`, under which a file is there, or None if there is none. It looks at one number after
+/// another, and skips those under which the files know that nothing is there. It reads no file if the files know without its bytes
+/// that it is there.
 pub fn next_number<F: Files>(
     alloc: Global,
     files: &mut F,
@@ -108,8 +108,8 @@ pub fn next_number<F: Files>(
     Ok(None)
 }
 
-/// The first number from `from` on, below `next`, under which a file is there, with its bytes; or None where none is.
-/// It looks at one number after the other, leaves those out of which the files know that nothing is there, and stops at the first file.
+/// The first number from `from` on, below `next`, under which a file is there, with its bytes; or None if there is none.
+/// It looks at one number after another, skips those under which the files know that nothing is there, and stops at the first file.
 pub fn next_there<F: Files>(
     alloc: Global,
     files: &mut F,

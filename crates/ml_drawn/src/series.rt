@@ -1,10 +1,10 @@
-// The series of numbers that a list draws.
+// The two series of numbers that a list draws, and the names of their files.
 ghost use Rattle.std.specs.Prelude.{◌≡◌};
 ghost use Rattle.ml_drawn.specs.Names.{thing_name, counter_name};
 
 use ml_base::Name;
 
-/// A series of numbers that a list draws, each number once.
+/// A series of numbers that a list draws, every number at most once.
 #[derive(Clone, Copy, Debug, PartialEq, Eq)]
 pub enum Series {
     /// The tickets of held posts.

@@ -1,4 +1,4 @@
-// The things of a series, each spelled by the text of its file.
+// The things that the files of a series hold, and a check that all of them are in their grammar.
 ghost use Rattle.std.specs.Prelude.{◌≡◌, IsTrue, IfOk, IfErr, OnOk, IsErrOf};
 ghost use Rattle.ml_base.specs.Bytes.{Text};
 ghost use Rattle.ml_base.specs.Drawn.{Drawing};
@@ -11,7 +11,7 @@ use crate::{Series, counter_of, next_there};
 use ml_base::{Files, PartError};
 use std::alloc::{AllocError, Global};
 
-/// A thing that stands in a file of a series.
+/// A thing that a file of a series holds.
 pub trait Thing {
     /// It is in its ranges.
     ghost is_thing: { Self → Type 0 };
@@ -24,7 +24,7 @@ pub trait Thing {
         ensures { IfOk result (TellsSpelled is_thing spelling text.now) };
 }
 
-/// Whether the files of a series from the counter's `low` on and below its next number stand for things. It reads all of them, and names
+/// Whether the files of a series, from the counter's `low` on and below its next number, stand for things. It reads all of them, and names
 /// the first that is outside its grammar.
 pub fn audit<F: Files, T: Thing>(
     alloc: Global,

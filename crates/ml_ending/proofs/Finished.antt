@@ -1,4 +1,4 @@
--- What holds behind the close of a store and its stop line.
+-- What holds after a store was closed and its stop line put out.
 use Rattle.std.proofs.Common.{◌≡◌, ⊎_elim, ℕ, ◌+◌, ◌≤◌, IsTrue, [], Option, ap, ◌∙◌, arith}
 use Rattle.ml_base.specs.Faults.{Rose}
 use Rattle.ml_site.specs.Disk.{Disk}

@@ -1,4 +1,4 @@
--- What the end of a call leaves at any moment, of any property.
+-- What a crash during the end of a call may leave, for any property P of that.
 use Rattle.std.proofs.Common.{◌≡◌, ⊎_elim, ℕ, IsTrue, ◌++◌, take, Option, Some, None, ap, subst, ◌∙◌}
 use Rattle.ml_base.specs.Bytes.{Text}
 use Rattle.ml_site.specs.Disk.{Contents, Disk, IsImage, Giving}
@@ -23,7 +23,7 @@ module _ {S : Type 0} (told : Ghosts S) where
       (λ left out g. front left out g.1.0 g.0 g.1.1)
       (λ left image. (subst (λ (d : Disk). IsImage d left) (s.disk_is t) image, says_front told mid new status who why s t))
 
-  -- the close of a store, and a text behind it
+  -- the close of a store, and a text after it
   pub told_leaves : (start old new : S) (P : Contents → Text → Type 0) (status : ℕ) (text : Text) → LeavesOnly told.moment told.left_since told.disk told.output start old P
       → ((left : Contents) (out : Text) → IsOld (directory (told.disk old).reads) (told.output old) left out → P left out)
       → ((left : Contents) (out : Text) (n : ℕ) → directory left ≡ directory (told.disk old).reads → out ≡ told.output old ++ take n text → P left out)
@@ -41,7 +41,7 @@ module _ {S : Type 0} (told : Ghosts S) where
       (λ left out n image e. stops left out s.0 n (images left image) (e ∙ ap (λ (o : Text). o ++ take n (stop_text None (status_of_why s.0) s.0)) (f.output t))) s.2 t)
       f.said
 
-  -- the close of a store, and a stop line behind it
+  -- the close of a store, and a stop line after it
   pub finished_leaves : (start old new : S) (P : Contents → Text → Type 0) (status : ℕ) (why : Why) → LeavesOnly told.moment told.left_since told.disk told.output start old P
       → ((left : Contents) (out : Text) → IsOld (directory (told.disk old).reads) (told.output old) left out → P left out)
       → ((left : Contents) (out : Text) (y : Why) (n : ℕ) → directory left ≡ directory (told.disk old).reads → out ≡ told.output old ++ take n (stop_text None (status_of_why y) y) → P left out)

@@ -1,4 +1,4 @@
--- What is said at the end of a call, and the moments of it.
+-- What is put out at the end of a call, and what a crash meanwhile may leave.
 use Rattle.std.proofs.Common.{Result, ◌≡◌, ◌⊎◌, inl, inr, ⊎_elim, ℕ, IsTrue, ◌++◌, length, take, Option, Some, None, ap, sym, refl, subst, ◌∙◌, arith}
 use Rattle.std.proofs.lemmas.List.{take_all}
 use Rattle.ml_base.specs.Bytes.{Text}
@@ -27,7 +27,7 @@ same_line a b e = let same : a ≡ b = cc in (ap (λ (p : Option ℕ × Why). p.
 some_none : (line : Option ℕ × Why) → ◌≡◌ {A = StopLine} (Some line) None → ⊥
 some_none line e = cc
 
--- a run that has a line has one when its store is closed
+-- a run that has a stop line still has one when its store is closed
 pub some_stays : (line : Option ℕ × Why) (final : StopLine) (rest disk : Type 0) → ClosesTo (Some line) final rest disk → final ≡ None → ⊥
 some_stays line final rest disk c is = ⊎_elim (λ a. some_none line (sym a.0 ∙ is)) (λ more. ⊎_elim (λ a. some_none line (sym a.0 ∙ is))
     (λ other. ⊎_elim (λ m. some_none (line.0, whys.Memory) (sym m.0 ∙ is)) (λ d. some_none (line.0, whys.Disk) (sym d.0 ∙ is)) other) more) c
@@ -38,12 +38,12 @@ pub final_why : (why : Why) (final : StopLine) (w : Option ℕ) (y : Why) (rest 
 final_why why final w y rest disk c is = ⊎_elim (λ a. inl (same_line (w, y) (None, why) (sym is ∙ a.0))) (λ more. ⊎_elim (λ a. inl (same_line (w, y) (None, why) (sym is ∙ a.0)))
     (λ other. ⊎_elim (λ m. let e = same_line (w, y) (None, whys.Memory) (sym is ∙ m.0) in inr (e.0, inl e.1)) (λ d. let e = same_line (w, y) (None, whys.Disk) (sym is ∙ d.0) in inr (e.0, inr e.1)) other) more) c
 
--- what a list that was made says where its close was refused
+-- without a stop line: what is said if the close was refused
 pub closed_why : (final : StopLine) (w : Option ℕ) (y : Why) (rest disk : Type 0) → ClosesTo None final rest disk → final ≡ Some (w, y) → (w ≡ None) × ((y ≡ whys.Memory) ⊎ ((y ≡ whys.Disk) × disk))
 closed_why final w y rest disk c is = ⊎_elim (λ a. absurd (some_none (w, y) (sym is ∙ a.0))) (λ more. ⊎_elim (λ a. absurd (some_none (w, y) (sym is ∙ a.0)))
     (λ other. ⊎_elim (λ m. let e = same_line (w, y) (None, whys.Memory) (sym is ∙ m.0) in (e.0, inl e.1)) (λ d. let e = same_line (w, y) (None, whys.Disk) (sym is ∙ d.0) in (e.0, inr (e.1, d.2))) other) more) c
 
--- what a line says where the close was refused keeps its number
+-- whether or not the close was refused, the line keeps its number
 pub closes_who : (line final : StopLine) (rest disk : Type 0) (who : Option ℕ) (why : Why) → ClosesTo line final rest disk → final ≡ Some (who, why) → who ≡ who_of line
 closes_who line final rest disk who why c is = ⊎_elim (λ same. ap who_of (sym is ∙ same.0)) (λ more. ⊎_elim (λ same. ap who_of (sym is ∙ same.0)) (λ other. ⊎_elim (λ m. ap who_of (sym is ∙ m.0)) (λ d. ap who_of (sym is ∙ d.0)) other) more) c
 
@@ -52,18 +52,18 @@ pub commit_why : (error : CommitError) → (why_of_commit error ≡ whys.Memory)
 commit_why commits.Fault = inr refl
 commit_why commits.Memory = inl refl
 
--- what holds of the site behind a call holds of the one that it answers
+-- if P holds of the site after a call, it holds of the site that the call answers
 pub at_site : {S E : Type 0} {told : Ghosts S} (P : S → Type 0) (r x : Result (Store S told) (E × S)) → r ≡ x → P (site_after r) → P (site_after x)
 at_site {S} {E} {told} P r x is h = subst (λ (q : Result (Store S told) (E × S)). P (site_after q)) is h
 
 module _ {S : Type 0} (told : Ghosts S) where
-  -- some front of the line is out
+  -- some first bytes of the line are out
   pub says_front : (old new : S) (status : ℕ) (who : Option ℕ) (why : Why) → Says told old new status who why → IsTrue told.tells_all → (n : ℕ) × (told.output new ≡ told.output old ++ take n (stop_text who (status_of_why why) why))
   says_front old new status who why s t =
       let line = stop_text who (status_of_why why) why in
       ⊎_elim (λ whole. (length line, whole.1 t ∙ ap (λ (l : Text). told.output old ++ l) (sym (take_all (length line) line (omega arith))))) (λ cut. cut.2 t) s.line
 
-  -- some front of the line that tells of it is out
+  -- some first bytes of the text are out
   pub tells_front : (old new : S) (status : ℕ) (line : Text) → Tells told old new status line → IsTrue told.tells_all → (n : ℕ) × (told.output new ≡ told.output old ++ take n line)
   tells_front old new status line s t =
       ⊎_elim (λ whole. (length line, whole.1 t ∙ ap (λ (l : Text). told.output old ++ l) (sym (take_all (length line) line (omega arith))))) (λ cut. cut.2 t) s.line_is
@@ -75,7 +75,7 @@ module _ {S : Type 0} (told : Ghosts S) where
       nothing_left : OnlyNow told → (start : S) → IsTrue told.tells_all → LeavesOnly told.moment told.left_since told.disk told.output start start (Now (told.disk start) (told.output start))
       nothing_left only_now start t = started told.moment told.left_since told.disk told.output start (Now (told.disk start) (told.output start)) (λ left out l. only_now start left out t l) (λ left image. (image, refl))
 
-  -- the moments of a line on a site that was not opened
+  -- what a crash may leave while a line is put out on a site that wasn't opened
   unopened_moments : (start mid new : S) (status : ℕ) (why : Why) → LeavesOnly told.moment told.left_since told.disk told.output start mid (Now (told.disk start) (told.output start)) → Says told mid new status None why → IsTrue told.tells_all
       → LeavesOnly told.moment told.left_since told.disk told.output start new (IsUnopened (told.disk start) (told.output start))
   unopened_moments start mid new status why l s t =
@@ -93,7 +93,7 @@ module _ {S : Type 0} (told : Ghosts S) where
       → BeforeFirstSync told.moment told.left_since told.disk told.output told.syncs start new (IsUnopened (told.disk start) (told.output start))
   unopened_said start mid new status why b s t = record { same = s.disk_is t ∙ b.same; none = s.syncs t ∙ b.none; all = unopened_moments start mid new status why b.all s t }
 
-  -- behind a sync that was the first a call goes on
+  -- a call that goes on after its first sync
   pub opening_then : (start now new : S) (P : Contents → Text → Type 0) → FromFirstSync told.moment told.left_since told.disk told.output told.syncs start now (Now (told.disk start) (told.output start)) (IsOld (directory (told.disk start).reads) (told.output start))
       → LeavesOnly told.moment told.left_since told.disk told.output now new P → ((left : Contents) (out : Text) → IsOld (directory (told.disk start).reads) (told.output start) left out → P left out) → Opens told start new P
   opening_then start now new P first run old = inr (record {

@@ -1,4 +1,4 @@
--- How a call on a store ends: what is said, and what that leaves.
+-- How a call on a store ends: what it says at the end, and what a crash meanwhile may leave.
 use Rattle.std.specs.Prelude.{◌≡◌, ◌⊎◌, ◌≤◌, ◌+◌, ℕ, Bool, true, false, if◌then◌else◌, IsTrue, ◌++◌, take, Option, Some, None}
 use Rattle.ml_base.specs.Bytes.{Text}
 use Rattle.ml_base.specs.Faults.{Rose}
@@ -17,7 +17,7 @@ use Rattle.ml_ending.specs.Stops.{status_of_why}
 abbrev pub StopLine : Type 0
 StopLine = Option (Option ℕ × Why)
 
--- a stop line was put out, or the output failed and some front of it was
+-- a stop line was put out; or the output failed, and some first bytes of the line are out
 pub record Says {S : Type 0} (told : Ghosts S) (old new : S) (status : ℕ) (who : Option ℕ) (why : Why) : Type 0 where
   pub reads : IsTrue told.tells_reads → (told.disk new).reads ≡ (told.disk old).reads
   pub disk_is : IsTrue told.tells_all → told.disk new ≡ told.disk old
@@ -37,37 +37,37 @@ abbrev pub who_of : StopLine → Option ℕ
 who_of None = None
 who_of (Some line) = line.0
 
--- the line says that memory was wanting
+-- the line says that memory ran out
 abbrev pub IsMemory : StopLine → Type 0
 IsMemory None = ⊥
 IsMemory (Some line) = line.1 ≡ whys.Memory
 
--- What a run says once its store is closed: what it would have said, and the log is clean; or that, where it says that memory
--- was wanting; or in its place why the close was refused.
+-- What a run says once its store is closed. The log is clean, and it says what it would have said. Or the close was refused, and the line
+-- says why in place of that, but a line that says that memory ran out stays.
 abbrev pub ClosesTo : StopLine → StopLine → Type 0 → Type 0 → Type 0
 ClosesTo old new rest disk =
     ((new ≡ old) × rest) ⊎ (((new ≡ old) × IsMemory old) ⊎ (((new ≡ Some (who_of old, whys.Memory)) × (¬ IsMemory old)) ⊎ ((new ≡ Some (who_of old, whys.Disk)) × (¬ IsMemory old) × disk)))
 
--- whether memory was wanting
+-- whether memory ran out
 abbrev pub is_memory : Why → Bool
 is_memory whys.Memory = true
 is_memory _ = false
 
--- why a run ends whose close was refused so: a run that wants memory keeps that
+-- why a run ends if its close was refused: if memory ran out before, that stays the reason
 abbrev pub in_place : Why → Why → Why
 in_place old new = if is_memory old then old else new
 
--- what it says then
+-- the stop line in that case
 abbrev pub line_in_place : StopLine → Why → StopLine
 line_in_place None why = Some (None, why)
 line_in_place (Some line) why = Some (line.0, in_place line.1 why)
 
--- a line names a file of the table at most
+-- if a line names a file, that is in the table
 abbrev pub HasLinePath : StopLine → Type 0
 HasLinePath None = Unit {0}
 HasLinePath (Some line) = HasPath line.1
 
--- at most so many syncs more, and no log byte less
+-- at most this many more syncs, and no fewer log bytes
 pub record CostsAtMost (most : ℕ) (syncs syncs' bytes bytes' : ℕ) : Type 0 where
   pub few : syncs' ≤ syncs + most
   pub stay : syncs ≤ syncs'
@@ -86,12 +86,12 @@ pub record Finishes {S : Type 0} (told : Ghosts S) (old new : S) (line : StopLin
   pub spends : IsTrue told.tells_all → CostsAtMost 3 (told.syncs old) (told.syncs mid) (told.log_bytes old) (told.log_bytes mid)
   pub said : ((final ≡ None) × (status ≡ last) × (new ≡ mid)) ⊎ ((who : Option ℕ) × (why : Why) × (final ≡ Some (who, why)) × Says told mid new status who why)
 
--- a group was refused: by the output, and nothing more is put out, or else a stop line says why
+-- a group was refused: if by the output, nothing more is put out; otherwise a stop line says why
 pub record Refuses {S : Type 0} (told : Ghosts S) (old new : S) (first : Option ℕ) (why : Option Why) (status : ℕ) : Type 0 where
   pub quiet : why ≡ None → (status ≡ 73) × (new ≡ old)
   pub said : (reason : Why) → why ≡ Some reason → Says told old new status first reason
 
--- a text was put out, or the output failed and some front of it was
+-- a text was put out; or the output failed, and some first bytes of the text are out
 pub record Tells {S : Type 0} (told : Ghosts S) (old new : S) (status : ℕ) (line : Text) : Type 0 where
   pub reads : IsTrue told.tells_reads → (told.disk new).reads ≡ (told.disk old).reads
   pub disk_is : IsTrue told.tells_all → told.disk new ≡ told.disk old
@@ -116,7 +116,7 @@ pub record TellsClosed {S : Type 0} (told : Ghosts S) (old new : S) (status : �
   pub said : (IsClean told mid × Tells told mid new status line)
       ⊎ ((why : Why) × ((why ≡ whys.Memory) ⊎ ((why ≡ whys.Disk) × Rose (told.disk_faults old) (told.disk_faults mid))) × Says told mid new status None why)
 
--- some first bytes of one stop line are out at most; it has no number
+-- nothing is out, or some first bytes of one stop line without a number
 abbrev pub SaysAtMost : Text → Text → Type 0
 SaysAtMost before out = (out ≡ before) ⊎ ((why : Why) × (n : ℕ) × (out ≡ before ++ take n (stop_text None (status_of_why why) why)))
 
@@ -124,20 +124,20 @@ SaysAtMost before out = (out ≡ before) ⊎ ((why : Why) × (n : ℕ) × (out �
 abbrev pub TellsAtMost : Text → Text → Text → Type 0
 TellsAtMost line before out = (n : ℕ) × (out ≡ before ++ take n line)
 
--- what a crash at the start may leave, and some first bytes of one stop line at most
+-- what a crash at the start may leave, and at most some first bytes of one stop line
 pub record IsUnopened (disk : Disk) (before : Text) (left : Contents) (out : Text) : Type 0 where
   pub image : IsImage disk left
   pub put : SaysAtMost before out
 
--- From the first sync that succeeds on a crash left what has P, and until then what one at the start could leave. Where no
--- sync succeeded, the disk is as it was, and a crash left what one at the start could leave, with some front of one stop line
--- at most.
+-- From the first good sync on, what a crash leaves has P; until then a crash leaves what one at the start could leave. If no sync
+-- was good, the disk is as it was, a crash leaves what one at the start could leave, and at most some first bytes of one stop
+-- line are out.
 abbrev pub Opens : {S : Type 0} → Ghosts S → S → S → (Contents → Text → Type 0) → Type 0
 Opens told old new P =
     BeforeFirstSync told.moment told.left_since told.disk told.output told.syncs old new (IsUnopened (told.disk old) (told.output old))
     ⊎ FromFirstSync told.moment told.left_since told.disk told.output told.syncs old new (Now (told.disk old) (told.output old)) P
 
--- Where there is no configuration, a run's stop line says so, or memory was wanting, or the output or the disk failed.
+-- If there is no configuration, a run's stop line says so, or memory ran out, or the output or the disk failed.
 abbrev pub MissesList : Type 0 → ℕ → Text → Text → Type 0
 MissesList told status before output =
     ((status ≡ 75) × (told → output ≡ before ++ stop_text None 75 whys.NoList)) ⊎ ((status ≡ 71) ⊎ ((status ≡ 73) ⊎ (status ≡ 111)))

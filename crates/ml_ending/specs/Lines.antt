@@ -1,4 +1,4 @@
--- The line that ends a run early.
+-- The stop line, which ends a run early: its text.
 use Rattle.std.specs.Prelude.{ℕ, Option, Some, None, [], ◌∷◌, ◌++◌, IsTrue, codes}
 use Rattle.std.specs.Fmt.{decimal}
 use Rattle.ml_base.specs.Bytes.{Text, line_feed, space}
@@ -6,7 +6,7 @@ use Rattle.ml_base.specs.Name.{is_in_table, path_of}
 use Rattle.ml_ending.specs.declared.lines.Why.{Why}
 use Rattle.ml_ending.specs.declared.lines.Why.TheVariants as whys
 
--- what is said of why a run ends
+-- the words for why a run ends
 abbrev pub why_text : Why → Text
 why_text whys.Usage = codes "usage"
 why_text (whys.Bad at) = codes "bad " ++ decimal at
@@ -23,7 +23,7 @@ why_text whys.There = codes "there"
 why_text whys.Absent = codes "absent"
 why_text whys.Disk = codes "disk"
 
--- a file that is named stands in the table
+-- if a file is named, it is in the table
 abbrev pub HasPath : Why → Type 0
 HasPath (whys.At name) = IsTrue (is_in_table name)
 HasPath _ = Unit {0}

@@ -1,4 +1,4 @@
--- Why a call ends early: the status, and which refusals give it.
+-- Why a call ends early: the exit status of every reason, and which error gives which reason.
 use Rattle.std.specs.Prelude.{ℕ}
 use Rattle.ml_base.specs.declared.names.Name.{Name}
 use Rattle.ml_base.specs.declared.part.PartError.{PartError}
@@ -28,18 +28,18 @@ status_of_why whys.There = 100
 status_of_why whys.Absent = 100
 status_of_why whys.Disk = 111
 
--- why a run ends where a part of the list gave no answer
+-- why a run ends if a part of the list gave no answer
 abbrev pub why_of_part : PartError → Why
 why_of_part parts.Fault = whys.Disk
 why_of_part parts.Memory = whys.Memory
 why_of_part (parts.Damaged name) = whys.At name
 
--- why a run ends whose commit or closing was refused
+-- why a run ends if its commit or its close was refused
 abbrev pub why_of_commit : CommitError → Why
 why_of_commit commits.Fault = whys.Disk
 why_of_commit commits.Memory = whys.Memory
 
--- why a run ends whose store was not opened
+-- why a run ends if its store wasn't opened
 abbrev pub why_of_open : OpenError → Why
 why_of_open opens.Fault = whys.Disk
 why_of_open opens.Damaged = whys.At log_name

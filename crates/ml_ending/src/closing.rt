@@ -1,4 +1,4 @@
-// The end of a call: its store is closed, and its stop line put out.
+// Ends a call: closes its store and puts its stop line out.
 ghost use Rattle.std.specs.Prelude.{◌≡◌, ◌≤◌, ◌<◌, ◌+◌, ℕ, IsTrue, Some, None};
 ghost use Rattle.ml_base.specs.Faults.{Rose};
 ghost use Rattle.ml_journal.specs.Log.{directory};
@@ -23,8 +23,8 @@ pub struct Ending {
     pub answered: u64,
 }
 
-/// Closes the store of a run. Where that is refused, the refusal stands in place of what the run says, but a run that wants
-/// memory keeps that. The number that its line begins with stays.
+/// Closes the store of a run, and answers what the run says then. If the close is refused, the reason for that takes the place of
+/// the reason in the line, but lack of memory stays. The number that the line begins with stays too.
 pub fn closed<S: Site>(
     alloc: Global,
     store: Store<S>,
@@ -45,7 +45,7 @@ pub fn closed<S: Site>(
     }
 }
 
-// What a run says whose close was refused.
+// What a run says if its close was refused.
 fn said_instead(line: Option<(Option<u64>, Why)>, why: Why) -> Option<(Option<u64>, Why)>
     ensures { result ≡ line_in_place line why }
 {
@@ -55,7 +55,7 @@ fn said_instead(line: Option<(Option<u64>, Why)>, why: Why) -> Option<(Option<u6
     }
 }
 
-// Why a run ends whose close was refused: one that wants memory keeps that.
+// Why a run ends if its close was refused: lack of memory stays.
 fn reason_instead(old: Why, why: Why) -> Why
     ensures { result ≡ in_place old why }
 {
@@ -100,7 +100,7 @@ pub fn finish<S: Site>(
     }
 }
 
-/// The end of a run whose group was refused: by the output, after which no call is made, or else with a stop line.
+/// Ends a run whose group was refused: if by the output, no call is made after that; otherwise a stop line says why.
 pub fn refused<S: Site>(site: S, first: Option<u64>, why: Option<Why>, answered: u64) -> (Ending, S)
     requires { (reason : TheWhy) → why ≡ Some reason → HasPath reason }
     ensures refuses { Refuses ⟦<S as Site>⟧ site result.1 first why result.0.status }
@@ -118,8 +118,8 @@ pub fn refused<S: Site>(site: S, first: Option<u64>, why: Option<Why>, answered:
     }
 }
 
-/// Tells why nothing is done, in a line without a number, and answers its status, or 73 where the output failed. It takes no
-/// memory and makes no call on the disk. The name of `At` stands in the table of files.
+/// Says why nothing is done, in a line without a number, and answers its status, or 73 if the output failed. It takes no
+/// memory and makes no call on the disk. The name of `At` is in the table of files.
 pub fn stop<S: Site>(site: S, why: Why) -> (u8, S)
     requires { HasPath why }
     ensures { Says ⟦<S as Site>⟧ site result.1 result.0 None why }
@@ -128,7 +128,7 @@ pub fn stop<S: Site>(site: S, why: Why) -> (u8, S)
     (ending.status, site)
 }
 
-/// Puts a stop line out. Its status is that of the line, or 73 where the output fails. The name of `At` stands in the table of
+/// Puts a stop line out. Its status is that of the line, or 73 if the output fails. The name of `At` is in the table of
 /// files.
 pub fn say<S: Site>(site: S, number: Option<u64>, why: Why, answered: u64) -> (Ending, S)
     requires { HasPath why }

@@ -1,4 +1,4 @@
-//! How a call on a store ends: its store closed, its text or one stop line given.
+//! How a call on a store ends: its store is closed, and its text or one stop line is given.
 #![tactic(auto)]
 
 mod closing;

@@ -1,4 +1,4 @@
-// The line that ends a call early. It takes no memory.
+// Writes the line that ends a call early. It takes no memory.
 ghost use Rattle.std.specs.Prelude.{◌≡◌, ◌≤◌, ◌+◌, ◌++◌, IsTrue, length, take};
 ghost use Rattle.std.specs.Fmt.{decimal};
 ghost use Rattle.ml_base.specs.Name.{is_in_table, path_of};
@@ -6,22 +6,22 @@ ghost use Rattle.ml_ending.specs.Lines.{HasPath, number_text, stop_text, why_tex
 
 use ml_base::{Name, path, put_number, put_piece};
 
-/// Why a run ends early, or gives one line alone.
+/// Why a run ends early, or gives only one line.
 #[derive(Clone, Copy, Debug, PartialEq, Eq)]
 pub enum Why {
     /// The words are no command.
     Usage,
-    /// The stream has a wrong byte: the place, from 0, where the element begins that it belongs to.
+    /// The stream has a wrong byte. This is the place, counted from 0, where the element with that byte begins.
     Bad(u64),
-    /// The input ends too early: the place, from 0, where the element begins that it cuts off.
+    /// The input ends too early. This is the place, counted from 0, where the element begins that is cut off.
     Short(u64),
-    /// A word of the command holds no number, set or address that it must hold.
+    /// A word of the command isn't the number, set or address that it has to be.
     Words,
     /// The input is longer than it may be.
     Long,
     /// The clock can't be read.
     Clock,
-    /// Memory is wanting.
+    /// Memory ran out.
     Memory,
     /// There are more items than were asked for.
     More,
@@ -29,7 +29,7 @@ pub enum Why {
     Input,
     /// There is no list in the folder.
     NoList,
-    /// A file isn't in its grammar.
+    /// A file is damaged.
     At(Name),
     /// There is a list in the folder already.
     There,
@@ -39,7 +39,7 @@ pub enum Why {
     Disk,
 }
 
-/// Writes an exit status, which has three digits at most, behind the first `at` bytes of a line, and answers where it ends.
+/// Writes an exit status, of at most three digits, after the first `at` bytes of a line, and answers where it ends.
 pub fn put_status(out: &mut [u8; 64], at: usize, status: u8) -> usize
     requires { at ≤ 44 }
     ensures place { result ≤ at + 3 }
@@ -48,8 +48,8 @@ pub fn put_status(out: &mut [u8; 64], at: usize, status: u8) -> usize
     put_number(out, at, status as u64)
 }
 
-/// Writes the line that ends a run early at the front of `out`, and answers its length: the number of the item
-/// in hand, if there is one, the exit status, and why. The name of `At` stands in the table of files.
+/// Writes the line that ends a run early at the beginning of `out`, and answers its length: the number of the item
+/// in hand, if there is one, the exit status, and why. The name of `At` is in the table of files.
 pub fn stop_line(number: Option<u64>, status: u8, why: Why, out: &mut [u8; 64]) -> usize
     requires { HasPath why }
     ensures fits { result ≤ 64 }
@@ -74,7 +74,7 @@ fn put_item_number(out: &mut [u8; 64], number: Option<u64>) -> usize
     }
 }
 
-// What is said of why a run ends.
+// The words for why a run ends.
 fn put_why(out: &mut [u8; 64], at: usize, why: Why) -> usize
     requires at { at ≤ 25 }
     requires path { HasPath why }
@@ -99,7 +99,7 @@ fn put_why(out: &mut [u8; 64], at: usize, why: Why) -> usize
     }
 }
 
-// A word, and the place in the stream that it is said of.
+// A word, and the place in the stream that it is about.
 fn put_place(out: &mut [u8; 64], at: usize, fault: &[u8], place: u64) -> usize
     requires at { at ≤ 25 }
     requires fault { length fault.now ≤ 6 }

@@ -1,4 +1,4 @@
-// Why a call ends that was refused by the store or by a part of the list.
+// Why a call ends that the store or a part of the list refused.
 ghost use Rattle.std.specs.Prelude.{◌≡◌};
 ghost use Rattle.ml_ending.specs.Stops.{why_of_commit, why_of_open, why_of_part};
 
@@ -6,7 +6,7 @@ use crate::lines::Why;
 use ml_base::{Name, PartError};
 use ml_journal::{CommitError, OpenError};
 
-/// Why a call ends whose commit or closing was refused.
+/// Why a call ends if its commit or its close was refused.
 pub fn why_refused(error: CommitError) -> Why
     ensures { result ≡ why_of_commit error }
 {
@@ -16,7 +16,7 @@ pub fn why_refused(error: CommitError) -> Why
     }
 }
 
-/// Why a call ends whose store was not opened.
+/// Why a call ends if its store wasn't opened.
 pub fn not_opened(error: OpenError) -> Why
     ensures { result ≡ why_of_open error }
 {
@@ -27,7 +27,7 @@ pub fn not_opened(error: OpenError) -> Why
     }
 }
 
-/// Why a call ends where a part of the list gave no answer.
+/// Why a call ends if a part of the list gave no answer.
 pub fn why_of(error: PartError) -> Why
     ensures { result ≡ why_of_part error }
 {

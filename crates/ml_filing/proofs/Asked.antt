@@ -1,4 +1,4 @@
--- Which files an answer about numbered posts is read from.
+-- Which files the calls about numbered posts read, and that these are files of the archive.
 use Rattle.std.proofs.Common.{◌≡◌, ◌<◌, ◌≤◌, ◌+◌, ◌-◌, ◌/◌, min, max, ℕ, zero, suc, List, [], ◌∷◌, take, subst, sym, ◌∙◌, arith, inl, inr}
 use Rattle.std.specs.List.{AllByRecursion, IsAmong, range_with_len}
 use Rattle.std.proofs.lemmas.Nat.{div_below}
@@ -11,7 +11,7 @@ use Rattle.ml_filing.specs.Reads.{IsOfRange, IsOfRow, IsOfThread, IsWithin}
 use Rattle.ml_filing.specs.Threads.{thread_name, thread_place}
 use Rattle.ml_filing.proofs.Threaded.{key_bad, row_bad, row_named, sizes_bad}
 
--- what all of a row have, the one that is among them has
+-- what holds of all numbers of a row holds of each number among them
 pub each_among : (P : ℕ → Type 0) (ns : List ℕ) (m : ℕ) → AllByRecursion P ns → IsAmong ns m → P m
 each_among P [] m all among = absurd (let less = among.1.0 in omega (arith, less))
 each_among P (n ∷ ns) m all (zero, is) = subst P (sym is.1) all.0
@@ -25,7 +25,7 @@ front_all P zero ns all = tt
 front_all P (suc k) [] all = tt
 front_all P (suc k) (n ∷ ns) all = (all.0, front_all P k ns all.1)
 
--- the numbers of a range
+-- the numbers of a range are within it
 range_within : (a b k n : ℕ) → a ≤ k → (0 < n → (k + n ≤ b + 1) × (k + n ≤ 100_000_000)) → AllByRecursion (IsWithin a b) (range_with_len k n)
 range_within a b k zero low high = tt
 range_within a b k (suc n) low high =
@@ -43,7 +43,7 @@ range_named a b count row name few is (inr (m, among, less, e)) =
     let within = each_among (IsWithin a b) row m (subst (λ (ns : List ℕ). AllByRecursion (IsWithin a b) ns) (sym is) (row_within a b count few)) among in
     inr (m, within.0, within.1, within.2, e)
 
--- a thread's
+-- the same for a thread
 pub row_files : (k : Text) (row : List ℕ) (missing name : Name) → missing ≡ thread_name (thread_place k) → IsOfRow missing row name → IsThreadName name
 row_files k row missing name is (inl named) = row_named k name (named ∙ is)
 row_files k row missing name is (inr (m, among, few, named)) = inr (inl (m / 100, div_below m 100 1_000_000 (omega arith) (omega (arith, few)), named))

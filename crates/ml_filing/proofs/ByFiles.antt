@@ -1,4 +1,4 @@
--- The thread of a post by the files is the filter over all posts.
+-- The thread of a post that is read from a few files is the same as if all posts were filtered.
 use Rattle.std.proofs.Common.{◌≡◌, ◌<◌, ◌≤◌, ◌+◌, ◌-◌, ◌/◌, ℕ, zero, suc, Bool, true, false, cond, ◌&&◌, List, [], ◌∷◌, length, map, filter, take, slice_get, Some, refl, sym, ap, ap₂, ◌∙◌, subst, arith}
 use Rattle.std.specs.Prelude.{IsTrue, nat_lt, nat_le}
 use Rattle.std.specs.List.{AllByRecursion, AllZip, enumerate_from, IsAmong}
@@ -20,7 +20,7 @@ use Rattle.ml_filing.specs.declared.posts.Post.{Post}
 use Rattle.ml_filing.proofs.Exact.{index_one, threads_one}
 use Rattle.ml_filing.proofs.Represented.{looked_up, in_table, get_some}
 
--- a cut of what is made of things
+-- cutting a row that a function makes of another one
 module _ {A B : Type 0} (f : A → B) (size : B → ℕ) where
   within_made : (count room : ℕ) (xs : List A) → within size count room (map f xs) ≡ map f (within (λ x. size (f x)) count room xs)
   within_made count room [] = refl
@@ -39,7 +39,7 @@ module _ {A B : Type 0} (f : A → B) (size : B → ℕ) where
       go true = ap (λ t. f x ∷ t) (within_made (count - 1) (room - size (f x)) xs)
       go false = refl
 
--- no more are taken than may be
+-- a cut takes no more things than it may
 module _ {A : Type 0} (size : A → ℕ) where
   within_taken : (count room : ℕ) (xs : List A) → within size count room (take count xs) ≡ within size count room xs
   within_taken zero room [] = refl
@@ -67,7 +67,7 @@ numbers_made : (xs : List Numbered) → map (λ (e : Entry). e.number) (map entr
 numbers_made [] = refl
 numbers_made (x ∷ xs) = ap (λ t. x.0 ∷ t) (numbers_made xs)
 
--- what the entries of the first hundred answer is the cut of all
+-- cutting the first hundred entries gives the same numbers as cutting all posts
 pub cut_entries : (xs : List Numbered) → map (λ (e : Entry). e.number) (one_or_within (λ (e : Entry). e.size) 100 4_194_304 (map entry (take 100 xs))) ≡ numbers (cut xs)
 cut_entries xs =
     ap (map (λ (e : Entry). e.number)) (cut_made entry (λ (e : Entry). e.size) 100 4_194_304 (take 100 xs))
@@ -118,7 +118,7 @@ module _ (dir : Dir) (prefix : Text) (posts : List Post) (is : IsArchive dir pre
       let low : suc i / 100 < 1_000_000 = div_below (suc i) 100 1_000_000 (omega arith) (omega (arith, less, f)) in
       in_table 10 (suc i / 100) 0 999_999 refl refl (omega arith) (omega (arith, low))
 
-  -- the entry of a post in the index of its group
+  -- the entry of a post is in the index of its group
   own_entry : (m i : ℕ) (p : Post) → m ≡ suc i → slice_get posts i ≡ Some p → entry_at m (index_of (m / 100) posts) ≡ Some (entry (m, p))
   own_entry m i p e get = looked_up 1 m i posts (omega (arith, e)) ∙ ap (option_map (λ (p : Post). entry (m, p))) get
 
@@ -128,7 +128,7 @@ module _ (dir : Dir) (prefix : Text) (posts : List Post) (is : IsArchive dir pre
   place_below : (k : Text) → thread_place k < 256
   place_below k = omega arith
 
-  -- the entries of posts of the list, by whatever indexes the files are
+  -- entries that are found in indexes which the files spell
   abbrev IsFound : (ℕ → List Entry) → ℕ → Entry → Type 0
   IsFound indexes m e = IsIndexFile (m / 100) (dir (index_name (m / 100))) (indexes (m / 100)) × (entry_at m (indexes (m / 100)) ≡ Some e)
 

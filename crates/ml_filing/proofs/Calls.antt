@@ -1,17 +1,17 @@
--- The lemmas of ml_base on a call that reads files, as antt finds their arguments itself.
+-- Lemmas of ml_base on calls that read files, here with arguments that antt finds itself.
 use Rattle.std.proofs.Common.{Result}
 use Rattle.ml_base.specs.ReadFiles.{AreKept, IsReading}
 use Rattle.ml_base.specs.declared.files.Files.{Ghosts}
 use Rattle.ml_base.specs.declared.part.PartError.{PartError}
 use Rattle.ml_base.proofs.ReadingLemmas.{KeepsOn, kept_read, kept_then, reading_then}
 
--- a call keeps the files, also after calls that kept them
+-- a call that reads keeps the files, also after calls that kept them
 pub kept_by : {F T : Type 0} {told : Ghosts F} {first second : F} {called : Result T PartError} → IsReading told first second called → AreKept told first second
 kept_by {told = told} {first = first} {second = second} {called = called} is = kept_read told first second called is
 
 pub kept_on : {F T : Type 0} {told : Ghosts F} {first second third : F} {called : Result T PartError} → KeepsOn told → AreKept told first second → IsReading told second third called → AreKept told first third
 kept_on {told = told} {first = first} {second = second} {third = third} on before is = kept_then told on first second third before (kept_by is)
 
--- a call after calls that kept the files, as one call
+-- a call after calls that kept the files counts as one call with them
 pub read_on : {F T : Type 0} {told : Ghosts F} {first second third : F} {called : Result T PartError} → KeepsOn told → AreKept told first second → IsReading told second third called → IsReading told first third called
 read_on {told = told} {first = first} {second = second} {third = third} {called = called} on before is = reading_then told on first second third called before is

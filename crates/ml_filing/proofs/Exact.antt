@@ -1,4 +1,4 @@
--- The files of the archive are read as exactly what they spell.
+-- Every file of the archive is read as exactly what it spells.
 use Rattle.std.proofs.Common.{◌≡◌, ◌↔◌, ◌<◌, ◌≤◌, ◌^◌, ◌+◌, ◌*◌, ◌/◌, max, ℕ, Bool, true, false, cond, ◌==◌, List, [], ◌∷◌, ◌++◌, length, map, drop, get_or, Option, Some, None, ◌⊎◌, inl, inr, refl, sym, ap, ap₂, ◌∙◌, subst, arith, append_assoc, append-nil, length-append, option_map}
 use Rattle.std.specs.Prelude.{unwrap_or, IsTrue}
 use Rattle.std.specs.Fmt.{decimal}
@@ -20,14 +20,14 @@ use Rattle.ml_base.proofs.Addresses.{address_short}
 use Rattle.ml_base.proofs.NumberLaws.{number_spelled, number_read}
 use Rattle.ml_rows.specs.Rows.{onto, both_of, row_of, EachFrom, netstrings_at}
 use Rattle.ml_rows.specs.Values.{moment_in, address_in, comma_text, comma_numbers}
-use Rattle.ml_rows.proofs.RowLaws.{one_some, none_some, only_read, only_there, made_read, both_read, both_there, netstrings_read, netstrings_written, row_read, row_written, row_goes_on, row_fails}
+use Rattle.ml_rows.proofs.RowLaws.{one_some, none_some, only_read, only_there, made_read, both_read, both_there, netstrings_read, netstrings_written, row_read, row_written, row_goes_on}
 use Rattle.ml_rows.proofs.ValueLaws.{moment_read, moment_written, address_is, address_there, line_read, line_written, commas_read, commas_written, comma_length}
 use Rattle.ml_filing.specs.Archive.{IsIndexFile, IsNumberFile, IsEntry, entry_text}
 use Rattle.ml_filing.specs.Reading.{count_in, entry_with, entry_of_fields, behind_lf, entry_in_place, index_in, thread_with, fits, thread_of_fields, thread_at, threads_in}
 use Rattle.ml_filing.specs.Threads.{Thread, IsThread, IsThreadFile, thread_place, thread_text}
 use Rattle.ml_filing.specs.declared.posts.Entry.{Entry}
 
--- the number of posts
+-- the number of posts is read as it is spelled
 pub count_read : (text : Text) (n : ℕ) → count_in text ≡ Some n → IsNumberFile (Some text) n
 count_read text n e = let is = line_read 99_999_999 text n (omega arith) e in record { few = is.0; spelled = ap (λ t. Some t) is.1 }
 
@@ -47,7 +47,7 @@ fields e = decimal e.moment ∷ e.sender ∷ decimal e.size ∷ e.subject ∷ []
 abbrev Values : Type 0
 Values = Text × (ℕ × (ℕ × Text))
 
--- an entry in place k of the index of group g
+-- an entry at place k of the index of group g
 pub record IsPlaced (g k : ℕ) (e : Entry) : Type 0 where
   pub is : IsEntry e
   pub number : e.number ≡ k
@@ -107,7 +107,7 @@ fields_short e is =
     let size = length-decimal-le 10 e.size (omega arith) (omega (arith, s)) (omega (arith, s)) in
     (omega (arith, digits), (omega (arith, a), (omega (arith, size), (is.short, tt))))
 
--- an entry's text is the row of these texts, and an LF
+-- the text of an entry is the row of these four texts, and an LF
 text_row : (e : Entry) (rest : Text) → entry_text e ++ rest ≡ ns_row (fields e) ++ 10 ∷ rest
 unfolding entry_text
 text_row e rest =
@@ -164,7 +164,7 @@ entry_some e = let d = ((ns (decimal e.moment) ++ ns e.sender) ++ ns (decimal e.
 abbrev entry_numbers : List Entry → List ℕ
 entry_numbers es = map (λ (e : Entry). e.number) es
 
--- entries in their places are those of a row of numbers, of which none is behind the group
+-- entries at their places: their numbers follow each other from k on, and none is beyond the group
 record Placed (g k : ℕ) (es : List Entry) : Type 0 where
   pub each : AllByRecursion IsEntry es
   pub numbered : entry_numbers es ≡ range_with_len k (length es)
@@ -196,12 +196,9 @@ index_read g file es h =
     let last = is.last (omega arith) in
     record { each = is.each; numbered = is.numbered; few = omega (arith, last); spelled = r.1 }
 
--- an index goes on behind its first entry, or ends there
+-- an index goes on after its first entry, or ends there
 pub index_more : (g k : ℕ) (text : Text) (e : Entry) (rest : Text) → entry_in_place g k text ≡ Some (e, rest) → row_of (entry_in_place g) k text ≡ onto e (row_of (entry_in_place g) (k + 1) rest)
 index_more g k text e rest found = row_goes_on (entry_in_place g) entry_text (IsPlaced g) (entry_written g) (entry_read g) (λ k e is. entry_some e) k text e rest found
-
-pub index_fails : (g k : ℕ) (text : Text) → 0 < length text → entry_in_place g k text ≡ None → row_of (entry_in_place g) k text ≡ None
-index_fails g k text some none = row_fails (entry_in_place g) entry_text (IsPlaced g) (entry_written g) (entry_read g) (λ k e is. entry_some e) k text some none
 
 pub index_written : (g : ℕ) (file : Option Text) (es : List Entry) → IsIndexFile g file es → index_in g (unwrap_or file []) ≡ Some es
 index_written g file es is =
@@ -216,7 +213,7 @@ index_exact g file es = (index_read g file es, index_written g file es)
 pub index_one : (g : ℕ) (file : Option Text) (es fs : List Entry) → IsIndexFile g file es → IsIndexFile g file fs → es ≡ fs
 index_one g file es fs is other = one_some es fs (sym (index_written g file es is) ∙ index_written g file fs other)
 
--- threads
+-- the two texts of a thread
 abbrev thread_fields : Thread → List Text
 thread_fields t = t.key ∷ comma_text t.numbers ∷ []
 
@@ -249,7 +246,7 @@ less_than a b e = go (cases_lt a b)
         tested true same = absurd (let bad : false ≡ true = ap is_lt (nat_cmp_is a b Equal (eqb-true a b same)) ∙ e in cc)
         tested false same = absurd (let other = eqb-false a b same in let bad : false ≡ true = ap is_lt (nat_cmp_is a b Greater (omega (arith, other, high))) ∙ e in cc)
 
--- numbers that rise are fewer than the last of them may be
+-- rising numbers are at most as many as the largest number allowed
 risen : (low : ℕ) (numbers : List ℕ) → list_all (λ m. is_lt (nat_cmp low m)) numbers ≡ true → in_order numbers ≡ true → AllByRecursion (λ m. m ≤ 99_999_999) numbers → low ≤ 99_999_999 → low + length numbers ≤ 99_999_999
 risen low [] above sorted all le = omega (arith, le)
 risen low (n ∷ ns) above sorted all le =
@@ -360,12 +357,9 @@ threads_read n file ts h =
     let r = row_read (thread_at n) thread_text (λ place. IsThread n) (thread_written n) (thread_read n) (λ place t is. thread_some t) 0 (unwrap_or file []) ts o.0 in
     record { each = placed_each n 0 ts r.0; sorted = o.1; spelled = r.1 }
 
--- a row of threads goes on behind its first, or ends there
+-- a row of threads goes on after its first one, or ends there
 pub threads_more : (n k : ℕ) (text : Text) (t : Thread) (rest : Text) → thread_at n k text ≡ Some (t, rest) → row_of (thread_at n) k text ≡ onto t (row_of (thread_at n) (k + 1) rest)
 threads_more n k text t rest found = row_goes_on (thread_at n) thread_text (λ place. IsThread n) (thread_written n) (thread_read n) (λ place t is. thread_some t) k text t rest found
-
-pub threads_fail : (n k : ℕ) (text : Text) → 0 < length text → thread_at n k text ≡ None → row_of (thread_at n) k text ≡ None
-threads_fail n k text some none = row_fails (thread_at n) thread_text (λ place. IsThread n) (thread_written n) (thread_read n) (λ place t is. thread_some t) k text some none
 
 pub threads_written : (n : ℕ) (file : Option Text) (ts : List Thread) → IsThreadFile n file ts → threads_in n (unwrap_or file []) ≡ Some ts
 threads_written n file ts is =

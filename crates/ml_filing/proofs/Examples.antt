@@ -88,7 +88,7 @@ index : index_text (index_of 0 (post (codes "hello") (codes "two\n") ∷ [])) �
 unfolding entry_text digits
 index = refl
 
--- hello, other and the empty key
+-- the keys `hello`, `other` and the empty one
 places : map thread_place (codes "hello" ∷ codes "other" ∷ [] ∷ []) ≡ 231 ∷ 161 ∷ 5 ∷ []
 places = refl
 
@@ -100,7 +100,7 @@ other_thread_file : flat_map thread_text (record { key = codes "other"; numbers 
 unfolding digits
 other_thread_file = refl
 
--- cuts, here of numbers by their value
+-- cuts, here of numbers that are their own sizes
 abbrev cut_by_value : ℕ → ℕ → List ℕ → List ℕ
 cut_by_value count room ns = one_or_within (λ n. n) count room ns
 
@@ -116,7 +116,7 @@ first_alone = refl
 nothing_to_cut : cut_by_value 100 10 [] ≡ []
 nothing_to_cut = refl
 
--- the files are read again
+-- the files are read back
 count_read : count_in (codes "3\n") ≡ Some 3
 count_read = refl
 
@@ -136,7 +136,7 @@ cut_entry = refl
 threads_read : threads_in 231 (codes "5:hello,3:1,2,") ≡ Some (record { key = codes "hello"; numbers = 1 ∷ 2 ∷ [] } ∷ [])
 threads_read = refl
 
--- of another file, numbers that don't rise, and no number
+-- a key of another file, numbers that don't rise, and no number
 another_file : threads_in 161 (codes "5:hello,3:1,2,") ≡ None
 another_file = refl
 

@@ -1,4 +1,4 @@
--- The files that appending writes stand for the longer list.
+-- After an append, the files that it wrote stand for the archive with one more post.
 use Rattle.std.proofs.Common.{◌≡◌, ◌<◌, ◌≤◌, ◌+◌, ◌/◌, ℕ, Bool, true, false, cond, ◌==◌, List, [], ◌∷◌, ◌++◌, length, filter, Option, Some, refl, sym, ap, ◌∙◌, subst, arith, append-nil, length-append, ◌⊎◌, inl, inr}
 use Rattle.std.specs.Prelude.{unwrap_or, IsTrue}
 use Rattle.std.specs.Cmp.{nat_cmp_is}
@@ -27,7 +27,7 @@ use Rattle.ml_filing.proofs.Exact.{threads_one}
 use Rattle.ml_filing.proofs.KeyLengths.{key_short}
 use Rattle.ml_filing.proofs.OneMore.{post_new, post_kept, post_past, key_on, index_file_on, index_file_kept, all_on}
 
--- numbers that rise from one on, below another
+-- numbers that rise, from a lower bound on and below an upper one
 abbrev pub Rising : ℕ → ℕ → List ℕ → Type 0
 Rising low high [] = Unit {0}
 Rising low high (m ∷ ms) = (low ≤ m) × (m < high) × Rising (m + 1) high ms
@@ -62,7 +62,7 @@ rising_posts low high (m ∷ ms) one few is =
     let a = is.0 in let b = is.1 in
     (and_from _ _ (le-leb 1 m (omega (arith, one, a))) (le-leb m 99_999_999 (omega (arith, few, b))), rising_posts (m + 1) high ms (omega arith) few is.2)
 
--- two tests of texts are one
+-- two tests of texts say the same
 same_test : (a b : Text) → eq_by_cmp byte_cmp a b ≡ bytes_eq b a
 same_test a b = is_eq-slice_cmp a b ∙ turned (bytes_eq b a) refl
   where
@@ -74,7 +74,7 @@ same_test a b = is_eq-slice_cmp a b ∙ turned (bytes_eq b a) refl
         other false e = e
         other true e = absurd (let bad : true ≡ false = sym ((bytes_eq-Decides b a).1 (sym ((bytes_eq-Decides a b).0 e))) ∙ is in cc)
 
--- each of a row with an entry more
+-- what holds of all threads, and of one more, holds of the row with that one
 all_with : (P : Thread → Type 0) (t : Thread) (ts : List Thread) → P t → AllByRecursion P ts → AllByRecursion P (with_entry byte_cmp (λ (t : Thread). t.key) t ts)
 all_with P t [] is all = (is, tt)
 all_with P t (u ∷ us) is all = go (byte_cmp t.key u.key) (all_with P t us is all.1)
@@ -86,8 +86,6 @@ all_with P t (u ∷ us) is all = go (byte_cmp t.key u.key) (all_with P t us is a
 
 module _ (dir : Dir) (prefix : Text) (posts : List Post) (p : Post) (threads : List Thread) (is : IsArchive dir prefix posts) (can : CanAppend posts p)
     (file : IsThreadFile (thread_place (key_of prefix p)) (dir (thread_name (thread_place (key_of prefix p)))) threads) where
-  n : ℕ
-  n = next_number posts
 
   abbrev k : Text
   k = key_of prefix p
@@ -113,7 +111,7 @@ module _ (dir : Dir) (prefix : Text) (posts : List Post) (p : Post) (threads : L
   place_below : place < 256
   place_below = omega arith
 
-  -- the threads of the key's file are those that the archive has there
+  -- the threads that were read from the key's file are those that the archive has there
   same_threads : threads ≡ (is.threaded).threads place
   same_threads = threads_one place (dir (thread_name place)) threads ((is.threaded).threads place) file ((is.threaded).files place place_below)
 
@@ -168,7 +166,7 @@ module _ (dir : Dir) (prefix : Text) (posts : List Post) (p : Post) (threads : L
       go true here = rw here (subst (λ x. IsThreadFile x (Some (flat_map thread_text (with_number k (next_number posts) threads))) (with_number k (next_number posts) threads)) (sym (eqb-true m place here)) thread_file)
       go false away = rw away ((is.threaded).files m less)
 
-  -- what is under a key
+  -- the numbers under any key once the new post's number is added
   under_found : (q : Text) (t : Bool) → bytes_eq k q ≡ t → numbers_under q (with_number k (next_number posts) threads) ≡ cond t (numbers_under k threads ++ next_number posts ∷ []) (numbers_under q threads)
   under_found q t e =
       ap (λ (o : Option Thread). unwrap_or (option_map (λ (t : Thread). t.numbers) o) []) (found_with byte_cmp (λ (t : Thread). t.key) same_bytes bytes_total q thread threads ∙ ap (λ b. cond b (Some thread) (entry_of byte_cmp (λ (t : Thread). t.key) q threads)) (same_test q k ∙ e))

@@ -1,4 +1,4 @@
--- What is found under a key among threads in order of their keys.
+-- How threads in order of their keys are searched for a key.
 use Rattle.std.proofs.Common.{◌≡◌, Bool, true, false, cond, List, [], ◌∷◌, Option, Some, refl, sym, ap, ◌∙◌}
 use Rattle.std.specs.Prelude.{unwrap_or}
 use Rattle.std.specs.List.{AllByRecursion, list_all}
@@ -25,7 +25,7 @@ pub all_true : (f : Thread → Bool) (ts : List Thread) → list_all f ts ≡ tr
 all_true f [] is = tt
 all_true f (t ∷ ts) is = let parts = both (f t) (list_all f ts) is in (parts.0, all_true f ts parts.1)
 
--- what is found under each key is true of all threads
+-- what is true of what is found under every key is true of all threads
 pub all_found : (P : Thread → Type 0) (ts : List Thread) → InOrder ts → ((k : Text) (t : Thread) → find k ts ≡ Some t → P t) → AllByRecursion P ts
 all_found P [] is each = tt
 all_found P (t ∷ ts) is each =

@@ -1,4 +1,4 @@
--- The entries of an index are those of its posts.
+-- The entries of an index fit the posts of its group: their numbers, bytes and sizes.
 use Rattle.std.proofs.Common.{◌≡◌, ◌<◌, ◌≤◌, ◌+◌, ◌/◌, ◌==◌, ℕ, refl, zero, suc, List, [], ◌∷◌, length, map, slice_get, Some, sym, ap, ◌∙◌, subst, arith}
 use Rattle.std.specs.List.{AllByRecursion, IsAmong}
 use Rattle.std.specs.Option.{option_map}
@@ -14,7 +14,7 @@ use Rattle.ml_filing.proofs.ByFiles.{IsOne, filtered_ones}
 use Rattle.ml_filing.proofs.Looking.{bytes_are}
 use Rattle.ml_filing.proofs.Represented.{in_table}
 
--- an entry of posts is made of one of them
+-- every entry that is made of posts is made of one of them
 entry_of_one : (posts : List Post) (xs : List Numbered) (e : Entry) → AllByRecursion (IsOne posts) xs → IsAmong (map entry xs) e → (i : ℕ) × ((p : Post) × (slice_get posts i ≡ Some p) × (e ≡ entry (suc i, p)))
 entry_of_one posts [] e all among = absurd (let less = among.1.0 in omega (arith, less))
 entry_of_one posts (x ∷ xs) e all (zero, is) = let one = all.0 in (one.0, (x.1, one.2, is.1 ∙ ap (λ (n : ℕ). entry (n, x.1)) one.1))

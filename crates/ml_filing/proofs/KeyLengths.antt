@@ -24,7 +24,7 @@ end_short (b ∷ bs) = go (b == 32 && is_empty (without_end bs)) (end_short bs)
     go true le = omega arith
     go false le = omega (arith, le)
 
--- a text that is there has so many bytes at most
+-- a text, if there is one, has at most so many bytes
 abbrev AtMost : ℕ → Option Text → Type 0
 AtMost n None = Unit {0}
 AtMost n (Some text) = length text ≤ n

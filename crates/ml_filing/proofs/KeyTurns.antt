@@ -1,4 +1,4 @@
--- A subject's key as a loop makes it.
+-- The loop that takes marks off a subject, one at a time, makes the subject's key.
 use Rattle.std.proofs.Common.{◌≡◌, ◌<◌, ◌≤◌, ◌-◌, ℕ, zero, suc, Bool, true, false, cond, ◌&&◌, ◌==◌, [], ◌∷◌, ◌++◌, length, take, drop, get_or, Option, Some, None, refl, sym, ap, ap₂, ◌∙◌, arith, codes, length-drop, ◌⊎◌, inl, inr}
 use Rattle.std.proofs.lemmas.Bool.{ne_eqb, cases_lt}
 use Rattle.std.proofs.lemmas.Grind.{common_steps}
@@ -8,7 +8,7 @@ use Rattle.ml_base.specs.Bytes.{Text, lower, is_empty}
 use Rattle.ml_header.specs.Lines.{begins_with}
 use Rattle.ml_filing.specs.Subjects.{squeezed, without_front, without_end, behind_word, behind_digits, behind_lower, behind_mark, stripped, subject_key}
 
--- a text that is there is shorter than so many bytes
+-- a text, if there is one, is shorter than so many bytes
 abbrev pub Below : ℕ → Option Text → Type 0
 Below n None = Unit {0}
 Below n (Some text) = length text < n
@@ -79,7 +79,7 @@ nothing prefix = go (behind_mark prefix []) refl (mark_below prefix [])
     go None is below = is
     go (Some t) is below = absurd (omega (arith, below))
 
--- how many turns may be taken doesn't matter, where they are as many as bytes
+-- more turns than the text has bytes change nothing
 pub turns_enough : (a b : ℕ) (prefix text : Text) → length text ≤ a → length text ≤ b → stripped a prefix text ≡ stripped b prefix text
 unfolding stripped
 turns_enough zero zero prefix text p q = refl
@@ -95,7 +95,7 @@ turns_enough (suc a) (suc b) prefix text p q =
     go None below later = refl
     go (Some rest) below later = let w = front_within rest in later (without_front rest) (omega (arith, w, below, p)) (omega (arith, w, below, q))
 
--- one mark is taken off
+-- one mark was taken off
 pub strip_more : (prefix low text more rest : Text) → low ≡ lower prefix → Some more ≡ behind_lower low text → rest ≡ without_front more → stripped (length rest) prefix rest ≡ stripped (length text) prefix text
 strip_more prefix low [] more rest is found then = absurd (let bad : Some more ≡ None = found ∙ ap (λ l. behind_lower l []) is ∙ nothing prefix in cc)
 strip_more prefix low (b ∷ bs) more rest is found then =
@@ -110,13 +110,13 @@ strip_more prefix low (b ∷ bs) more rest is found then =
         go None is less = absurd (let bad : None ≡ Some more = is in cc)
         go (Some t) is less = let same : t ≡ more = cc in let w = front_within more in omega (arith, w, less, ap length then, ap length same)
 
--- and none is left
+-- no mark is left
 pub strip_none : (prefix low text : Text) → low ≡ lower prefix → None ≡ behind_lower low text → text ≡ stripped (length text) prefix text
 unfolding stripped
 strip_none prefix low [] is found = refl
 strip_none prefix low (b ∷ bs) is found = sym (step (length bs) prefix (b ∷ bs) ∙ ap (turn_of (stripped (length bs) prefix) (b ∷ bs)) (sym (found ∙ ap (λ l. behind_lower l (b ∷ bs)) is)))
 
--- the spaces at an end
+-- spaces at the end
 end_space : (xs : Text) → without_end (xs ++ 32 ∷ []) ≡ without_end xs
 end_space [] = refl
 end_space (b ∷ bs) = ap (λ t. cond (b == 32 && is_empty t) [] (b ∷ t)) (end_space bs)
@@ -150,7 +150,7 @@ end_turn n text some le space = sym (ap without_end (take_last n text some le) �
 pub end_stop : (n : ℕ) (text : Text) → 0 < n → n ≤ length text → (get_or text (n - 1) 0 == 32) ≡ false → take n text ≡ without_end (take n text)
 end_stop n text some le other = sym (ap without_end (take_last n text some le) ∙ end_other (take (n - 1) text) (get_or text (n - 1) 0) other ∙ sym (take_last n text some le))
 
--- lower case and spaces
+-- lower case leaves spaces as they are
 pub low_space : (b : ℕ) → (to_ascii_lowercase b == 32) ≡ (b == 32)
 low_space b = grind (arith, common_steps)
 
@@ -176,7 +176,7 @@ end_lower (b ∷ bs) =
     go true = refl
     go false = refl
 
--- a loop that goes over the spaces at the end
+-- the loop over the spaces at the end
 pub end_none : (n : ℕ) (text : Text) → without_end (take n text) ≡ without_end text → n ≡ 0 → take n text ≡ without_end text
 end_none n text before none = ap (λ (k : ℕ). take k text) none ∙ sym (ap (λ (k : ℕ). without_end (take k text)) none) ∙ before
 
@@ -187,7 +187,7 @@ end_done n text before le other = go (cases_lt 0 n)
     go (inl some) = end_stop n text some le (ne_eqb (get_or text (n - 1) 0) 32 other) ∙ before
     go (inr none) = end_none n text before (omega (arith, none))
 
--- the key, made in lower case from the start
+-- making lower case first gives the same key
 pub key_made : (prefix subject text : Text) → text ≡ without_end (without_front (lower (squeezed subject))) → stripped (length text) prefix text ≡ subject_key prefix subject
 key_made prefix subject text is =
     ap (λ t. stripped (length t) prefix t) (is ∙ ap without_end (front_lower (squeezed subject)) ∙ end_lower (without_front (squeezed subject)))

@@ -1,4 +1,4 @@
--- What the files of posts tell, where they stand for a list of posts, and of what each is.
+-- What the files of posts say of one post: exactly what it is, if they stand for a list of posts.
 use Rattle.std.proofs.Common.{◌≡◌, ◌≢◌, ◌<◌, ◌≤◌, ◌+◌, ◌*◌, ◌/◌, ℕ, zero, suc, Bool, true, false, cond, ◌==◌, List, [], ◌∷◌, length, map, filter, slice_get, Option, Some, None, refl, sym, ap, ap₂, ◌∙◌, subst, arith, ◌⊎◌, inl, inr}
 use Rattle.std.specs.Prelude.{unwrap_or, IsTrue}
 use Rattle.std.specs.List.{enumerate_from}
@@ -20,7 +20,7 @@ use Rattle.ml_filing.specs.declared.posts.Post.{Post}
 use Rattle.ml_filing.proofs.Exact.{count_read, count_one, count_written, index_read, index_one, index_written, threads_read, threads_written}
 use Rattle.ml_filing.proofs.Represented.{looked_up, get_some, in_table}
 
--- a file that is read has its value, and one that isn't has none
+-- a file that is read spells its value, and one that isn't read spells none
 count_file : (file : Option Text) (n : ℕ) → count_in (unwrap_or file []) ≡ Some n → IsNumberFile file n
 count_file None n e = absurd (none_some n e)
 count_file (Some text) n e = count_read text n e
@@ -53,7 +53,7 @@ pub threads_lost : (dir : Dir) (n : ℕ) (name : Name) (file : Option Text) (tex
 threads_lost dir n name file text o named there is read none ts fits =
     none_some ts (sym none ∙ read ∙ ap (threads_in n) is ∙ threads_written n file ts (subst (λ (f : Option Text). IsThreadFile n f ts) (sym (there ∙ ap dir named)) fits))
 
--- the entry that is found of a number has it
+-- the entry that is found for a number has this number
 pub entry_named : (n : ℕ) (es : List Entry) (e : Entry) → entry_at n es ≡ Some e → e.number ≡ n
 entry_named n [] e found = absurd (none_some e found)
 entry_named n (f ∷ fs) e found = go (f.number == n) refl found (λ is. entry_named n fs e is)
@@ -62,7 +62,7 @@ entry_named n (f ∷ fs) e found = go (f.number == n) refl found (λ is. entry_n
     go true same is later = ap (λ (x : Entry). x.number) (sym (one_some f e is)) ∙ eqb-true f.number n same
     go false other is later = later is
 
--- no post is in a group behind them
+-- a group after the last post has no posts
 none_behind : (g k : ℕ) (posts : List Post) → k + length posts ≤ 100 * g → filter (λ (e : ℕ × Post). (e.0 / 100) == g) (enumerate_from k posts) ≡ []
 none_behind g k [] le = refl
 none_behind g k (p ∷ ps) le =
@@ -95,7 +95,7 @@ module _ (dir : Dir) (posts : List Post) (is : ArePosts dir posts) where
   group_low : (n : ℕ) → n ≤ length posts → n / 100 < 1_000_000
   group_low n le = let f = few in div_below n 100 1_000_000 (omega arith) (omega (arith, le, f))
 
-  -- the entry of a post is there, and its own
+  -- the entry of a post is in its index, and is its own
   own : (i : ℕ) (p : Post) → slice_get posts i ≡ Some p → entry_at (suc i) (index_of (suc i / 100) posts) ≡ Some (entry (suc i, p))
   own i p get = looked_up 1 (suc i) i posts (omega arith) ∙ ap (option_map (λ (p : Post). entry (suc i, p))) get
 
@@ -148,7 +148,7 @@ module _ (dir : Dir) (posts : List Post) (is : ArePosts dir posts) where
       let own = entry_is n e low within found in
       other (ap (option_map length) (bytes_are n own.0 low within own.1) ∙ ap (λ (x : Entry). Some x.size) (sym own.2))
 
--- what was read of a post is what the files have of it
+-- what was read of a post is what the files say of it
 pub post_by_files : (dir : Dir) (n count : ℕ) (e : Entry) (bytes : Text) → IsNumberFile (dir number_name) count → 1 ≤ n → n ≤ count → IsEntryByFiles dir n e → dir (post_name n) ≡ Some bytes → length bytes ≡ e.size
     → IsPostByFiles dir n (Some (record { sender = e.sender; moment = e.moment; subject = e.subject; bytes = bytes }))
 post_by_files dir n count e bytes counted low high found there size =
@@ -156,7 +156,7 @@ post_by_files dir n count e bytes counted low high found there size =
     let same : e ≡ record { number = n; moment = e.moment; sender = e.sender; size = length bytes; subject = e.subject } = λ i. record { number = named i; moment = e.moment; sender = e.sender; size = sym size i; subject = e.subject } in
     ((count, counted, low, high), (found.0, found.1, found.2 ∙ ap (λ (x : Entry). Some x) same), there)
 
--- what is bad of the entry of a post that is there is bad of the post, and so is another size than its entry's
+-- if the entry of a post that is there is damaged, so is the post; likewise if its size isn't that of its entry
 pub entry_bad : (dir : Dir) (n count : ℕ) (name : Name) → IsNumberFile (dir number_name) count → 1 ≤ n → n ≤ count → IsBadForEntry dir n name → IsBadForPost dir n name
 entry_bad dir n count name counted low high (inl (is, (entries, index, lacks))) =
     inl (is, inr (record { count = count; counted = counted; low = low; high = high; entries = entries; index = index; lacks = lacks }))

@@ -1,4 +1,4 @@
--- One post more.
+-- How numbering, groups and indexes change when a post is added.
 use Rattle.std.proofs.Common.{◌≡◌, ◌<◌, ◌≤◌, ◌+◌, ◌*◌, ◌/◌, max, ℕ, zero, suc, Bool, true, false, cond, ◌==◌, ◌&&◌, List, [], ◌∷◌, ◌++◌, length, map, filter, slice_get, Option, Some, refl, sym, ap, ap₂, ◌∙◌, subst, arith, append-nil, length-append}
 use Rattle.std.specs.Prelude.{unwrap_or, nat_le}
 use Rattle.std.specs.List.{AllByRecursion, enumerate_from, range_with_len}
@@ -14,7 +14,7 @@ use Rattle.ml_filing.specs.Posts.{Numbered, numbered, in_range, group, of_key, k
 use Rattle.ml_filing.specs.declared.posts.Entry.{Entry}
 use Rattle.ml_filing.specs.declared.posts.Post.{Post}
 
--- the posts with their numbers, and one more
+-- the numbered posts, and one more
 counted_on : (n : ℕ) (posts : List Post) (p : Post) → enumerate_from n (posts ++ p ∷ []) ≡ enumerate_from n posts ++ (n + length posts, p) ∷ []
 counted_on n [] p = let e : n ≡ n + 0 = omega arith in ap (λ (k : ℕ). (k, p) ∷ []) e
 counted_on n (x ∷ xs) p =
@@ -25,7 +25,7 @@ pub numbered_on : (posts : List Post) (p : Post) → numbered (append p posts) �
 numbered_on posts p =
     let e : 1 + length posts ≡ length posts + 1 = omega arith in counted_on 1 posts p ∙ ap (λ (k : ℕ). numbered posts ++ (k, p) ∷ []) e
 
--- a filter of them, and the new one where it passes
+-- a filter of them, with the new post at the end if it passes
 filtered_on : (f : Numbered → Bool) (posts : List Post) (p : Post) → filter f (numbered (append p posts)) ≡ filter f (numbered posts) ++ cond (f (next_post posts p)) (next_post posts p ∷ []) []
 filtered_on f posts p = ap (filter f) (numbered_on posts p) ∙ filter-append f (numbered posts) (next_post posts p ∷ [])
 
@@ -38,7 +38,7 @@ group_on g posts p = filtered_on (λ (e : Numbered). (e.0 / 100) == g) posts p
 pub key_on : (prefix k : Text) (posts : List Post) (p : Post) → of_key prefix k (append p posts) ≡ of_key prefix k posts ++ cond (bytes_eq (key_of prefix p) k) (next_post posts p ∷ []) []
 key_on prefix k posts p = filtered_on (λ (e : Numbered). bytes_eq (key_of prefix e.1) k) posts p
 
--- post n is post n
+-- post n stays post n
 get_kept : (posts : List Post) (p : Post) (i : ℕ) → i < length posts → slice_get (posts ++ p ∷ []) i ≡ slice_get posts i
 get_kept [] p i less = absurd (omega (arith, less))
 get_kept (x ∷ xs) p zero less = refl
@@ -68,7 +68,7 @@ pub post_past : (posts : List Post) (p : Post) (n : ℕ) → next_number posts <
 post_past posts p zero less = refl
 post_past posts p (suc n) less = get_past posts p n (omega (arith, less))
 
--- how many posts of a group are there, where the last one behind them is of the group
+-- how many posts a group has, if the next post is of that group
 counted_group : (g k : ℕ) (posts : List Post) → 1 ≤ k → max 1 (100 * g) ≤ k + length posts → k + length posts ≤ 100 * g + 100
     → length (filter (λ (e : Numbered). (e.0 / 100) == g) (enumerate_from k posts)) + max k (max 1 (100 * g)) ≡ k + length posts
 counted_group g k [] low first high = omega (arith, low, first, high)
@@ -86,9 +86,6 @@ range_on_end a (suc n) =
     let e : (a + 1) + n ≡ a + suc n = omega arith in
     ap (range_with_len a) one ∙ ap (λ t. a ∷ t) (range_on_end (a + 1) n ∙ ap (λ (k : ℕ). range_with_len (a + 1) n ++ k ∷ []) e)
 
-abbrev entry_numbers : List Entry → List ℕ
-entry_numbers es = map (λ (e : Entry). e.number) es
-
 map_on : {A B : Type 0} (f : A → B) (xs : List A) (x : A) → map f (xs ++ x ∷ []) ≡ map f xs ++ f x ∷ []
 map_on f [] x = refl
 map_on f (y ∷ ys) x = ap (λ t. f y ∷ t) (map_on f ys x)
@@ -97,7 +94,7 @@ pub all_on : {A : Type 0} (P : A → Type 0) (xs : List A) (x : A) → AllByRecu
 all_on P [] x all is = (is, tt)
 all_on P (y ∷ ys) x all is = (all.0, all_on P ys x all.1 is)
 
--- the index of a group, and the new post's entry where it is of the group
+-- the index of a group, with the new post's entry at the end if it is of the group
 pub index_on : (g : ℕ) (posts : List Post) (p : Post) (t : Bool) → ((next_number posts / 100) == g) ≡ t → index_of g (append p posts) ≡ index_of g posts ++ cond t (entry (next_post posts p) ∷ []) []
 index_on g posts p true is = ap (map entry) (group_on g posts p ∙ ap (λ b. group g posts ++ cond b (next_post posts p ∷ []) []) is) ∙ map_on entry (group g posts) (next_post posts p)
 index_on g posts p false is =
@@ -106,14 +103,14 @@ index_on g posts p false is =
 abbrev next_entry : List Post → Post → Entry
 next_entry posts p = entry (next_post posts p)
 
--- how many entries the next post's group has
+-- how many entries the group of the next post has
 pub index_size : (g : ℕ) (posts : List Post) → next_number posts / 100 ≡ g → length (index_of g posts) + max 1 (100 * g) ≡ next_number posts
 index_size g posts here =
     let counted = counted_group g 1 posts (omega arith) (omega (arith, here)) (omega (arith, here)) in
     let same = length-map (group g posts) entry in
     omega (arith, counted, same)
 
--- the new post's entry behind those of its group
+-- the file of the index with the new post's entry after those of its group
 pub index_file_on : (g : ℕ) (posts : List Post) (p : Post) (file : Option Text) → next_number posts / 100 ≡ g → IsEntry (next_entry posts p) → IsIndexFile g file (index_of g posts)
     → IsIndexFile g (Some (unwrap_or file [] ++ entry_text (next_entry posts p))) (index_of g (append p posts))
 index_file_on g posts p file here entry_is is =
@@ -142,6 +139,6 @@ index_file_on g posts p file here entry_is is =
               ∙ sym (flat_map-append entry_text (index_of g posts) (next_entry posts p ∷ []) ∙ ap (λ t. index_text (index_of g posts) ++ t) (append-nil (entry_text (next_entry posts p))));
         }
 
--- an index of another group stays
+-- the index of another group stays as it is
 pub index_file_kept : (g : ℕ) (posts : List Post) (p : Post) (file : Option Text) → ((next_number posts / 100) == g) ≡ false → IsIndexFile g file (index_of g posts) → IsIndexFile g file (index_of g (append p posts))
 index_file_kept g posts p file away is = subst (λ es. IsIndexFile g file es) (sym (index_on g posts p false away ∙ append-nil (index_of g posts))) is

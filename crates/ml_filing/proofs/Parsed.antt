@@ -1,4 +1,4 @@
--- What is read piece by piece is what the whole is read as.
+-- Reading a file piece by piece, as the code does, gives what the definitions read from the whole.
 use Rattle.std.proofs.Common.{◌≡◌, ◌≤◌, ◌+◌, ◌-◌, ℕ, Bool, true, false, ◌&&◌, List, [], ◌∷◌, length, take, drop, get_or, Option, Some, None, refl, sym, ap, ◌∙◌, arith, option_map}
 use Rattle.std.specs.List.{list_all}
 use Rattle.std.specs.Option.{option_and_then}
@@ -22,20 +22,12 @@ use Rattle.ml_filing.specs.Reading.{thread_at, thread_of_fields}
 use Rattle.ml_filing.specs.Threads.{Thread}
 use Rattle.ml_filing.proofs.Exact.{threads_more}
 
--- a text that is no address
-pub address_not : (text : Text) → (IsAddress text → ⊥) → address_in text ≡ None
-address_not text other = go (address_in text) refl
-  where
-    go : (o : Option Text) → address_in text ≡ o → o ≡ None
-    go None found = refl
-    go (Some a) found = absurd (other (address_is text a found).1)
-
 both_are : (a b : Bool) → (b ≡ true → a ≡ true) → (a && b) ≡ b
 both_are true b h = refl
 both_are false true h = h refl
 both_are false false h = refl
 
--- whether keys rise is told by their neighbours
+-- keys rise if every two neighbours do
 module _ {K E : Type 0} (order : K → K → Ordering) (total : IsTotalOrder order) (key : E → K) where
   lt_then : (a b c : K) → is_lt (order a b) ≡ true → is_lt (order b c) ≡ true → is_lt (order a c) ≡ true
   lt_then a b c e f = ap is_lt (total.trans a b c (less _ e) (less _ f))
@@ -52,11 +44,7 @@ module _ {K E : Type 0} (order : K → K → Ordering) (total : IsTotalOrder ord
       both_are (list_all (λ (g : E). is_lt (order (key e) (key g))) (f ∷ fs)) (is_sorted order key (f ∷ fs))
       (λ all. let parts = and_parts (list_all (λ (g : E). is_lt (order (key f) (key g))) fs) (is_sorted order key fs) all in and_from _ _ lt (below_more (key e) f fs lt parts.0))
 
-  pub sorted_not : (e : E) (es : List E) → is_below_first order key (key e) es ≡ false → is_sorted order key (e ∷ es) ≡ false
-  sorted_not e [] lt = absurd (false≢true (sym lt))
-  sorted_not e (f ∷ fs) lt = ap (λ b. (b && list_all (λ (g : E). is_lt (order (key e) (key g))) fs) && is_sorted order key (f ∷ fs)) lt
-
--- the rest of numbers of which the first is below them rises where all do
+-- numbers rise if the first is below the rest and the rest rises
 pub numbers_turn : (rest : List ℕ) → 1 ≤ length rest → is_below_first nat_cmp (λ (m : ℕ). m) (get_or rest 0 0) (take (length rest - 1) (drop 1 rest)) ≡ true
     → is_sorted nat_cmp (λ (m : ℕ). m) (take (length rest - 1) (drop 1 rest)) ≡ is_sorted nat_cmp (λ (m : ℕ). m) rest
 numbers_turn [] some below = absurd (omega arith)
@@ -64,7 +52,7 @@ numbers_turn (n ∷ ns) some below =
     let all = take_all (length (n ∷ ns) - 1) ns (omega arith) in
     ap (is_sorted nat_cmp (λ (m : ℕ). m)) all ∙ sym (sorted_more nat_cmp numbers_total (λ (m : ℕ). m) n ns (ap (is_below_first nat_cmp (λ (m : ℕ). m) n) (sym all) ∙ below))
 
--- a thread at the front of a text
+-- a thread at the beginning of a text
 abbrev with_rest : ℕ → List Text × Text → Option (Thread × Text)
 with_rest n found = option_map (λ (t : Thread). (t, found.1)) (thread_of_fields n found.0)
 
@@ -75,11 +63,3 @@ pub thread_more : (n k : ℕ) (text key numbers more : Text) (t : Thread) → ne
     → row_of (thread_at n) k text ≡ onto t (row_of (thread_at n) (k + 1) more)
 thread_more n k text key numbers more t cut is =
     threads_more n k text t more (ap (option_and_then (with_rest n)) cut ∙ ap (option_map (onto_rest more)) (sym is))
-
--- two, and four netstrings at the front of a text
-pub two_cut : (text k b d e : Text) → two k b ≡ netstring_at text → two d e ≡ netstring_at b → netstrings_at 2 text ≡ Some (k ∷ d ∷ [], e)
-two_cut text k b d e p q = rw (sym p, sym q) refl
-
-pub four_cut : (text k b f l s m d e : Text) → two k b ≡ netstring_at text → two f l ≡ netstring_at b → two s m ≡ netstring_at l → two d e ≡ netstring_at m
-    → netstrings_at 4 text ≡ Some (k ∷ f ∷ s ∷ d ∷ [], e)
-four_cut text k b f l s m d e p q r t = rw (sym p, sym q, sym r, sym t) refl

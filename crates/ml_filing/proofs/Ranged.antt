@@ -1,4 +1,4 @@
--- A range by the files is the filter over all posts.
+-- A range that is read from a few files is the same as if all posts were filtered.
 use Rattle.std.proofs.Common.{◌≡◌, ◌<◌, ◌≤◌, ◌+◌, ◌-◌, min, max, ℕ, zero, suc, Bool, true, false, cond, ◌&&◌, List, [], ◌∷◌, length, map, filter, take, slice_get, Some, refl, sym, ap, ap₂, ◌∙◌, subst, arith, inl, inr}
 use Rattle.std.specs.Prelude.{nat_le}
 use Rattle.std.specs.List.{AllByRecursion, AllZip, IsAmong, enumerate_from, range_with_len}
@@ -18,7 +18,7 @@ use Rattle.ml_filing.specs.declared.posts.Post.{Post}
 use Rattle.ml_filing.proofs.ByFiles.{IsOne, filtered_ones, taken_all, take_numbers, cut_entries, cut_made}
 use Rattle.ml_filing.proofs.Looking.{counted_is, entry_is, entry_named, no_bad_count, no_bad_index, no_missing}
 
--- numbers that are those of posts
+-- numbers that posts can have
 pub all_few : (a n : ℕ) → (0 < n → a + n ≤ 100_000_000) → AllByRecursion (λ m. m ≤ 99_999_999) (range_with_len a n)
 all_few a zero few = tt
 all_few a (suc n) few = let here = few (omega arith) in (omega (arith, here), all_few (a + 1) n (λ some. omega (arith, here)))
@@ -31,7 +31,7 @@ among_range a n m among =
     let is = among.1.1 in
     (omega (arith, is, at), omega (arith, is, at, less, long))
 
--- entries of sizes
+-- entries with these sizes
 pub sized_entries : (dir : Dir) (ns ss : List ℕ) → AreSizes dir ns ss → (es : List Entry) × AllZip (IsEntryByFiles dir) ns es × (map (λ (e : Entry). e.size) es ≡ ss) × (map (λ (e : Entry). e.number) es ≡ ns)
 sized_entries dir [] [] all = ([], tt, refl, refl)
 sized_entries dir [] (s ∷ ss) all = absurd all
@@ -47,7 +47,7 @@ take_map f zero xs = refl
 take_map f (suc k) [] = refl
 take_map f (suc k) (x ∷ xs) = ap (λ t. f x ∷ t) (take_map f k xs)
 
--- as many numbers as the cut has
+-- as many numbers as the cut of the entries has
 pub cut_sizes : (es : List Entry) (ss ns : List ℕ) → map (λ (e : Entry). e.size) es ≡ ss → map (λ (e : Entry). e.number) es ≡ ns
     → take (length (one_or_within (λ (s : ℕ). s) 100 4_194_304 ss)) ns ≡ map (λ (e : Entry). e.number) (one_or_within (λ (e : Entry). e.size) 100 4_194_304 es)
 cut_sizes es ss ns sizes named =
@@ -58,7 +58,7 @@ cut_sizes es ss ns sizes named =
     let is = (cut_is (λ (e : Entry). e.size) 100 4_194_304 es some).is_front in
     ap₂ (λ (k : ℕ) (t : List ℕ). take k t) long (sym named) ∙ take_map (λ (e : Entry). e.number) (length front) es ∙ ap (map (λ (e : Entry). e.number)) (sym is)
 
--- the numbers of a range
+-- the numbers of the posts in a range
 pub ranged : (a b k : ℕ) (posts : List Post) → map (λ (e : Numbered). e.0) (filter (λ (e : Numbered). nat_le a e.0 && nat_le e.0 b) (enumerate_from k posts)) ≡ range_with_len (max a k) (min (b + 1) (k + length posts) - max a k)
 ranged a b k [] = let none : 0 ≡ min (b + 1) (k + 0) - max a k = omega arith in ap (range_with_len (max a k)) none
 ranged a b k (x ∷ xs) = go (nat_le a k) refl (nat_le k b) refl (ranged a b (k + 1) xs)
@@ -92,7 +92,7 @@ take_range zero a n = let none : 0 ≡ min 0 n = omega arith in ap (range_with_l
 take_range (suc k) a zero = let none : 0 ≡ min (suc k) 0 = omega arith in ap (range_with_len a) none
 take_range (suc k) a (suc n) = let one : suc (min k n) ≡ min (suc k) (suc n) = omega arith in ap (λ (t : List ℕ). a ∷ t) (take_range k (a + 1) n) ∙ ap (range_with_len a) one
 
--- the first hundred of a range
+-- the first hundred numbers of a range
 first_is : (a b count : ℕ) (posts : List Post) → count ≡ length posts → first_numbers a b count ≡ numbers (take 100 (in_range a b posts))
 first_is a b count posts same =
     let size : min 100 (min (b + 1) (1 + length posts) - max a 1) ≡ min 100 (min b count + 1 - max a 1) = omega (arith, same) in
@@ -104,7 +104,7 @@ module _ (dir : Dir) (posts : List Post) (is : ArePosts dir posts) where
   within_list (x ∷ xs) zero p e = omega arith
   within_list (x ∷ xs) (suc i) p e = let more = within_list xs i p e in omega (arith, more)
 
-  -- the entries of posts of the list
+  -- entries that are found by the files are those of posts of the list
   pub entries_are : (xs : List Numbered) (es : List Entry) → AllByRecursion (IsOne posts) xs → AllZip (IsEntryByFiles dir) (numbers xs) es → es ≡ map entry xs
   entries_are [] [] ones all = refl
   entries_are [] (e ∷ es) ones all = absurd all
@@ -119,7 +119,7 @@ module _ (dir : Dir) (posts : List Post) (is : ArePosts dir posts) where
           let get : post_at posts x.0 ≡ Some x.1 = ap (post_at posts) number ∙ one.2 in
           there.2 ∙ ap (λ (p : Post). entry (x.0, p)) (one_some there.0 x.1 (sym there.1 ∙ get))
 
-  -- what a range is by the files it is of the list
+  -- the range that the files give is the range of the list
   pub range_is : (a b : ℕ) (answer : List ℕ) → IsRangeByFiles dir a b answer → answer ≡ numbers (cut (in_range a b posts))
   range_is a b answer by =
       let same = counted_is dir posts is by.count by.counted in
@@ -136,7 +136,7 @@ module _ (dir : Dir) (posts : List Post) (is : ArePosts dir posts) where
       no_missing dir posts is m lacks.low (omega (arith, within, same)) (lacks.entries, lacks.index, lacks.lacks)
   no_bad_range a b name (inr (g, less, named, none)) = no_bad_index dir posts is g less none
 
--- what was looked up of a range
+-- what was looked up is the range that the files give
 pub range_by_files : (dir : Dir) (a b count : ℕ) (row ss answer : List ℕ) → IsNumberFile (dir number_name) count → row ≡ first_numbers a b count → AreSizes dir row ss → answer ≡ take (length (one_or_within (λ (s : ℕ). s) 100 4_194_304 ss)) row
     → IsRangeByFiles dir a b answer
 range_by_files dir a b count row ss answer counted is sizes front =

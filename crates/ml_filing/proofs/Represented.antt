@@ -1,4 +1,4 @@
--- The files of the archive stand for one list of posts at most, and it depends on them alone.
+-- The files of the archive stand for at most one list of posts, and no other file matters.
 use Rattle.std.proofs.Common.{◌≡◌, ◌≢◌, ◌<◌, ◌≤◌, ◌+◌, ◌/◌, ℕ, zero, suc, Bool, true, false, ◌==◌, ◌&&◌, leb, List, [], ◌∷◌, length, map, filter, find, slice_get, Option, Some, None, refl, sym, ap, ap₂, ◌∙◌, subst, arith, ◌⊎◌, inl, inr}
 use Rattle.std.specs.Prelude.{unwrap_or, IsTrue}
 use Rattle.std.specs.List.{enumerate_from}
@@ -18,7 +18,7 @@ use Rattle.ml_filing.specs.declared.posts.Entry.{Entry}
 use Rattle.ml_filing.specs.declared.posts.Post.{Post}
 use Rattle.ml_filing.proofs.Exact.{index_one, index_written, threads_written, count_one, count_written}
 
--- the entry of a number is its post's
+-- the entry with a number is that of the post with this number
 pub looked_up : (k n i : ℕ) (posts : List Post) → n ≡ k + i
     → find (λ (e : Entry). e.number == n) (map entry (filter (λ (e : ℕ × Post). (e.0 / 100) == (n / 100)) (enumerate_from k posts))) ≡ option_map (λ (p : Post). entry (n, p)) (slice_get posts i)
 looked_up k n i [] e = refl

@@ -1,4 +1,4 @@
--- Files of threads that are written anew.
+-- How a file of threads is written anew with one thread more or changed.
 use Rattle.std.proofs.Common.{◌≡◌, ℕ, Bool, true, false, cond, not, List, [], ◌∷◌, ◌++◌, Option, Some, refl, sym, ap, ◌∙◌, append_assoc}
 use Rattle.std.specs.Prelude.{unwrap_or}
 use Rattle.std.specs.Option.{option_map}
@@ -28,14 +28,14 @@ with_thread t ts = with_entry byte_cmp (λ (u : Thread). u.key) t ts
 pub same_key : (a b : Text) → eq_by_cmp byte_cmp a b ≡ bytes_eq a b
 same_key a b = is_eq-slice_cmp a b
 
--- an entry goes behind those that are below it
+-- a thread goes after those whose keys are below its own
 with_below : (e f : Thread) (fs : Threads) → is_lt (byte_cmp f.key e.key) ≡ true → with_thread e (f ∷ fs) ≡ f ∷ with_thread e fs
 with_below e f fs lt = ap (λ (r : Ordering). by_order r (e ∷ f ∷ fs) (e ∷ fs) (f ∷ with_thread e fs)) (bytes_total.antisymm e.key f.key ∙ ap ordering_reverse (less _ lt))
 
 not_lt : (a b : Text) → bytes_eq b a ≡ true → byte_cmp a b ≡ Equal
 not_lt a b e = ap (byte_cmp a) ((bytes_eq-Decides b a).0 e) ∙ tied_itself bytes_total a
 
--- and before the others, instead of the one of its key
+-- and before the others, in place of the one with its key
 with_from : (e : Thread) (es : Threads) → is_from e.key es ≡ true → with_thread e es ≡ e ∷ behind_key e.key es
 with_from e [] from = refl
 with_from e (f ∷ fs) from = go (byte_cmp e.key f.key) refl (bytes_eq f.key e.key) refl
@@ -50,23 +50,19 @@ with_from e (f ∷ fs) from = go (byte_cmp e.key f.key) refl (bytes_eq f.key e.k
 abbrev texts : Threads → Text
 texts es = flat_map thread_text es
 
--- a turn: one that is below was written
+-- one turn: a thread with a lower key was written
 pub with_turn : (out new : Text) (e f : Thread) (rest more : Threads) (whole : Text) → rest ≡ f ∷ more → is_lt (byte_cmp f.key e.key) ≡ true → new ≡ out ++ thread_text f
     → out ++ texts (with_thread e rest) ≡ whole → new ++ texts (with_thread e more) ≡ whole
 with_turn out new e f rest more whole is lt made before =
     ap (λ t. t ++ texts (with_thread e more)) made ∙ append_assoc out (thread_text f) (texts (with_thread e more))
     ∙ ap (λ es. out ++ texts es) (sym (with_below e f more lt) ∙ ap (with_thread e) (sym is)) ∙ before
 
--- the end: the thread and those behind it were written
+-- the end: the thread and those after it were written
 pub with_end : (out front all whole : Text) (e : Thread) (rest tail : Threads) → is_from e.key rest ≡ true → tail ≡ behind_key e.key rest → front ≡ out ++ thread_text e → all ≡ front ++ texts tail
     → out ++ texts (with_thread e rest) ≡ whole → all ≡ whole
 with_end out front all whole e rest tail from is first then before =
     then ∙ ap (λ t. t ++ texts tail) first ∙ append_assoc out (thread_text e) (texts tail)
     ∙ ap (λ es. out ++ texts (e ∷ es)) is ∙ ap (λ es. out ++ texts es) (sym (with_from e rest from)) ∙ before
-
--- the numbers under a key, from the front on
-abbrev numbers_or : Bool → List ℕ → List ℕ → List ℕ
-numbers_or t here more = cond t here more
 
 pub under_first : (t : Bool) (e : Thread) (o : Option Thread) → unwrap_or (option_map (λ (x : Thread). x.numbers) (cond t (Some e) o)) [] ≡ cond t e.numbers (unwrap_or (option_map (λ (x : Thread). x.numbers) o) [])
 under_first true e o = refl

@@ -1,4 +1,4 @@
--- Rows of posts that are looked up in indexes.
+-- How the entries of a row of posts are looked up in the indexes that were read.
 use Rattle.std.proofs.Common.{◌≡◌, ◌<◌, ◌≤◌, ◌+◌, ◌-◌, ◌/◌, ℕ, suc, Bool, true, false, cond, ◌==◌, ◌||◌, List, [], ◌∷◌, ◌++◌, length, find, take, drop, get_or, Option, Some, None, refl, sym, ap, ◌∙◌, subst, arith, append_assoc, length-append, Bor, IfSome, IfNone}
 use Rattle.std.specs.Option.{option_copied}
 use Rattle.std.specs.List.{IsAmong}

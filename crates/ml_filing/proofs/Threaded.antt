@@ -1,4 +1,4 @@
--- What is looked up of a thread.
+-- How a thread is looked up: the files it is read from, and what it is if they stand for an archive.
 use Rattle.std.proofs.Common.{◌≡◌, ◌<◌, ◌≤◌, ◌+◌, ◌/◌, min, ℕ, zero, suc, Bool, true, false, cond, ◌==◌, ◌||◌, List, [], ◌∷◌, length, take, slice_get, Option, Some, None, option_map, refl, sym, ap, ◌∙◌, subst, arith, ◌⊎◌, inl, inr}
 use Rattle.std.specs.Prelude.{unwrap_or}
 use Rattle.std.specs.List.{AllByRecursion, AllZip, IsAmong, list_any}
@@ -54,7 +54,7 @@ among_taken (suc k) m (n ∷ ns) (suc i, is) =
     let more = among_taken k m ns (i, (omega (arith, less), is.1)) in
     (suc more.0, (let below = more.1.0 in omega (arith, below), more.1.1))
 
--- numbers of threads are those of posts
+-- the numbers of threads are those that posts can have
 pub under_few : (f : ℕ) (k : Text) (ts : List Thread) → AllByRecursion (IsThread f) ts → AllByRecursion (λ m. m ≤ 99_999_999) (numbers_under k ts)
 under_few f k [] all = tt
 under_few f k (t ∷ ts) all =
@@ -70,12 +70,7 @@ take_few zero ns all = tt
 take_few (suc k) [] all = tt
 take_few (suc k) (n ∷ ns) all = (all.0, take_few k ns all.1)
 
-pub take_least : (k : ℕ) (ns : List ℕ) → take (min (length ns) k) ns ≡ take k ns
-take_least zero ns = let none : min (length ns) 0 ≡ 0 = omega arith in ap (λ (j : ℕ). take j ns) none
-take_least (suc k) [] = let none : min 0 (suc k) ≡ 0 = omega arith in ap (λ (j : ℕ). take j []) none
-take_least (suc k) (n ∷ ns) = let one : min (suc (length ns)) (suc k) ≡ suc (min (length ns) k) = omega arith in ap (λ (j : ℕ). take j (n ∷ ns)) one ∙ ap (λ (t : List ℕ). n ∷ t) (take_least k ns)
-
--- the files that are read in other words
+-- the files of one post are among those that a thread is looked up in
 pub key_named : (n : ℕ) (name : Name) → n ≤ 99_999_999 → IsPostName n name → IsThreadName name
 key_named n name few (inl is) = inl is
 key_named n name few (inr is) = inr (inl (n / 100, group_below n few, is.1))
@@ -114,7 +109,7 @@ sizes_bad dir prefix k n row missing name is (e, entry, key_is) (threads, file, 
   lacks = inr (m, subst (λ (k : Text). IsAmong (numbers_under k threads) m) key_is (among_taken 100 m (numbers_under k threads) (subst (λ (ns : List ℕ). IsAmong ns m) row_is in_row)), lost);
 })))
 
--- the entries of each group, as its index has them
+-- the entries of every group, as its index has them
 abbrev indexes : Dir → ℕ → List Entry
 indexes dir g = unwrap_or (index_in g (unwrap_or (dir (index_name g)) [])) []
 
@@ -196,11 +191,11 @@ module _ (dir : Dir) (prefix : Text) (posts : List Post) (is : IsArchive dir pre
   no_bad_known name (inr (inr (inl (f, less, named, none)))) = none ((is.threaded).threads f) ((is.threaded).files f less)
   no_bad_known name (inr (inr (inr bad))) = lacks_none name bad
 
--- no thread of a post that isn't there
+-- a post that isn't there has no thread
 pub thread_none : (dir : Dir) (prefix : Text) (posts : List Post) (n count : ℕ) → IsArchive dir prefix posts → IsNumberFile (dir number_name) count → ((n ≡ 0) ⊎ (count < n)) → [] ≡ numbers (cut (in_thread prefix n posts))
 thread_none dir prefix posts n count is counted out = ap (λ (o : Option Post). numbers (cut (as_post prefix posts o))) (post_none dir posts is.filed n count counted out)
 
--- the whole thread of a post by the files is the filter over all posts
+-- the whole thread that the files give is the same as if all posts were filtered
 pub whole_is : (dir : Dir) (prefix : Text) (posts : List Post) (n : ℕ) (t : Thread) → IsArchive dir prefix posts → 1 ≤ n → n ≤ length posts → IsWholeByFiles dir prefix n t → Some t ≡ whole_thread prefix n posts
 whole_is dir prefix posts n t is low high ((e, found, key_is), (threads, file, among, numbers_are)) =
     let mine = (is.threaded).files (thread_place t.key) (place_below t.key) in

@@ -1,4 +1,4 @@
--- What the calls on the archive answer, and what code reads of its files piece by piece.
+-- What the calls on the archive answer from its files, and which files they name as damaged.
 use Rattle.std.specs.Prelude.{◌≡◌, ◌≢◌, ◌<◌, ◌≤◌, ◌+◌, ◌-◌, ◌*◌, ◌/◌, ◌==◌, min, max, ◌⊎◌, ℕ, Bool, true, not, List, [], ◌∷◌, length, map, take, Option, Some, None, unwrap_or, if◌then◌else◌}
 use Rattle.std.specs.declared.cmp.Ordering.{Ordering}
 use Rattle.std.specs.Option.{option_map}
@@ -33,7 +33,7 @@ abbrev pub is_from : Text → List Thread → Bool
 is_from k [] = true
 is_from k (t ∷ ts) = not (is_lt (byte_cmp t.key k))
 
--- the threads without the first, where it is of this key
+-- the threads without the first, if that has this key
 abbrev pub behind_key : Text → List Thread → List Thread
 behind_key k [] = []
 behind_key k (t ∷ ts) = if bytes_eq t.key k then ts else t ∷ ts
@@ -48,7 +48,7 @@ IsNoIndex dir g = (entries : List Entry) → ¬ IsIndexFile g (dir (index_name g
 abbrev pub IsNoThreads : Dir → ℕ → Type 0
 IsNoThreads dir n = (threads : List Thread) → ¬ IsThreadFile n (dir (thread_name n)) threads
 
--- the number of posts says that post n is there, and the index of its group has no entry of it
+-- by the number of posts, post n is there, but the index of its group has no entry for it
 pub record LacksEntry (dir : Dir) (n : ℕ) : Type 0 where
   pub count : ℕ
   pub counted : IsNumberFile (dir number_name) count
@@ -58,11 +58,11 @@ pub record LacksEntry (dir : Dir) (n : ℕ) : Type 0 where
   pub index : IsIndexFile (n / 100) (dir (index_name (n / 100))) entries
   pub lacks : entry_at n entries ≡ None
 
--- no file of post n has so many bytes
+-- post n is absent or has another size
 abbrev pub IsOtherSize : Dir → ℕ → ℕ → Type 0
 IsOtherSize dir n size = option_map length (dir (post_name n)) ≢ Some size
 
--- an index has an entry of post n, and no file of that many bytes is there
+-- an index has an entry for post n, but the file of the post is absent or has another size
 pub record LacksPost (dir : Dir) (n : ℕ) : Type 0 where
   pub entries : List Entry
   pub index : IsIndexFile (n / 100) (dir (index_name (n / 100))) entries
@@ -70,7 +70,8 @@ pub record LacksPost (dir : Dir) (n : ℕ) : Type 0 where
   pub found : entry_at n entries ≡ Some entry
   pub lacks : IsOtherSize dir n entry.size
 
--- the files that tell of post n, and when one of them is damaged: it is outside its grammar, or it names what isn't there
+-- the files that say what post n is, and when one of them is damaged: if it is outside its grammar or names what isn't
+-- there
 abbrev pub IsPostName : ℕ → Name → Type 0
 IsPostName n name = (name ≡ number_name) ⊎ ((n ≤ 99_999_999) × (name ≡ index_name (n / 100)))
 
@@ -78,42 +79,42 @@ abbrev pub IsBadForPost : Dir → ℕ → Name → Type 0
 IsBadForPost dir n name =
     ((name ≡ number_name) × (IsNoNumber dir ⊎ LacksEntry dir n)) ⊎ ((name ≡ index_name (n / 100)) × (IsNoIndex dir (n / 100) ⊎ LacksPost dir n))
 
--- what the files have of post n: None exactly where n is 0 or above their number
+-- what the files say of post n: None exactly if n is 0 or above the number of posts
 abbrev pub IsPostByFiles : Dir → ℕ → Option Post → Type 0
 IsPostByFiles dir n None = (count : ℕ) × IsNumberFile (dir number_name) count × ((n ≡ 0) ⊎ (count < n))
 IsPostByFiles dir n (Some p) =
     ((count : ℕ) × IsNumberFile (dir number_name) count × (1 ≤ n) × (n ≤ count))
     × ((entries : List Entry) × IsIndexFile (n / 100) (dir (index_name (n / 100))) entries × (entry_at n entries ≡ Some (entry (n, p)))) × (dir (post_name n) ≡ Some p.bytes)
 
--- the index of n's group has this entry of post n, or none
+-- the index of n's group has this entry for post n; or it has none for n
 abbrev pub IsEntryByFiles : Dir → ℕ → Entry → Type 0
 IsEntryByFiles dir n e = (entries : List Entry) × IsIndexFile (n / 100) (dir (index_name (n / 100))) entries × (entry_at n entries ≡ Some e)
 
 abbrev pub HasNoEntry : Dir → ℕ → Type 0
 HasNoEntry dir n = (entries : List Entry) × IsIndexFile (n / 100) (dir (index_name (n / 100))) entries × (entry_at n entries ≡ None)
 
--- when one of the files that tell of post n's entry is damaged
+-- when one of the files that say what post n's entry is, is damaged
 abbrev pub IsBadForEntry : Dir → ℕ → Name → Type 0
 IsBadForEntry dir n name = ((name ≡ number_name) × HasNoEntry dir n) ⊎ ((name ≡ index_name (n / 100)) × IsNoIndex dir (n / 100))
 
--- what the index of a group says; none is there of a group that no post has
+-- the index of a group; it is empty for a group that no post can be in
 abbrev pub IsIndexByFiles : Dir → ℕ → List Entry → Type 0
 IsIndexByFiles dir g entries = ((g < 1_000_000) × IsIndexFile g (dir (index_name g)) entries) ⊎ ((1_000_000 ≤ g) × (entries ≡ []))
 
--- the post that is made of a sender, a moment and bytes
+-- the post made of a sender, a moment and bytes
 abbrev pub new_post : Text → ℕ → Text → Post
 new_post sender moment bytes = record { sender = sender; moment = moment; subject = subject bytes; bytes = bytes }
 
--- the file of the key of a post's subject
+-- the thread file that has the key of a post's subject
 abbrev pub post_thread : Text → Post → Name
 post_thread prefix post = thread_name (thread_place (key_of prefix post))
 
--- the index of the group of the next post, which is to get this number, has exactly the entries of the posts before it
+-- the next post gets this number, and the index of its group has exactly the entries of the posts before it
 abbrev pub HasEntriesBefore : Dir → ℕ → Type 0
 HasEntriesBefore dir n = (entries : List Entry) × IsIndexFile (n / 100) (dir (index_name (n / 100))) entries × (length entries + max 1 (100 * (n / 100)) ≡ n)
 
--- What appending a post is by the files: Full where their number is 99,999,999, and else the puts of the next number, whose group's index has
--- exactly the entries before it.
+-- What appending a post answers from the files: Full if the number of posts is 99,999,999; otherwise the next number,
+-- and its puts, if the index of its group has exactly the entries before it.
 abbrev pub IsAppended : Dir → Text → Post → Appended → Type 0
 IsAppended dir prefix post (At number txn) =
     (count : ℕ) × IsNumberFile (dir number_name) count × (count < 99_999_999) × (number ≡ count + 1)
@@ -122,13 +123,13 @@ IsAppended dir prefix post (At number txn) =
     × HasEntriesBefore dir number
 IsAppended dir prefix post Full = IsNumberFile (dir number_name) 99_999_999
 
--- a directory has the same three files that appending a post behind so many reads
+-- in the three files that appending a post reads, two directories are alike
 pub record ReadsAlike (old dir : Dir) (prefix : Text) (post : Post) (posts : List Post) : Type 0 where
   pub number : dir number_name ≡ old number_name
   pub index : dir (index_name (next_number posts / 100)) ≡ old (index_name (next_number posts / 100))
   pub thread : dir (post_thread prefix post) ≡ old (post_thread prefix post)
 
--- an answer by which the files stand for one post more, which gets the next number; Full exactly where no number is left
+-- an answer after which the files stand for one more post, with the next number; Full exactly if no number is left
 abbrev pub AppendsTo : Dir → Text → List Post → Post → Appended → Type 0
 AppendsTo dir prefix posts post (At number txn) = (length posts < 99_999_999) × (number ≡ next_number posts) × IsArchive (with_puts dir txn) prefix (append post posts)
 AppendsTo dir prefix posts post Full = length posts ≡ 99_999_999
@@ -138,7 +139,7 @@ abbrev pub puts_of : Appended → List Put
 puts_of (At number txn) = txn
 puts_of Full = []
 
--- the index of the group of the next post, which is to get this number, has another number of entries than there are posts before it
+-- the next post gets this number, and its group's index has too few or too many entries of the posts before it
 abbrev pub HasOtherCount : Dir → ℕ → Type 0
 HasOtherCount dir n = (entries : List Entry) × IsIndexFile (n / 100) (dir (index_name (n / 100))) entries × (length entries + max 1 (100 * (n / 100)) ≢ n)
 
@@ -161,24 +162,24 @@ AreIndexes dir indexes = AllByRecursion (λ i. IsIndexFile i.group (dir (index_n
 abbrev pub has_group : ℕ → List Index → Bool
 has_group g indexes = list_any (λ i. i.group == g) indexes
 
--- the sizes that their index entries give posts
+-- the sizes of posts, by their entries in the indexes
 abbrev pub AreSizes : Dir → List ℕ → List ℕ → Type 0
 AreSizes dir ns sizes = AllZip (λ m s. (e : Entry) × IsEntryByFiles dir m e × (e.size ≡ s)) ns sizes
 
--- the files that a row of posts is looked up in, and when one of them is damaged: an index outside its grammar, or the file that
--- names a post of which its index has no entry
+-- the files that a row of posts is looked up in, and when one of them is damaged: an index, if it is outside its
+-- grammar; the file that names the posts, if the index of one of them has no entry for it
 abbrev pub IsRowName : Name → Name → Type 0
 IsRowName missing name = (name ≡ missing) ⊎ ((g : ℕ) × (g < 1_000_000) × (name ≡ index_name g))
 
 abbrev pub IsBadForRow : Dir → Name → List ℕ → Name → Type 0
 IsBadForRow dir missing ns name = ((name ≡ missing) × ((m : ℕ) × IsAmong ns m × HasNoEntry dir m)) ⊎ ((g : ℕ) × (g < 1_000_000) × (name ≡ index_name g) × IsNoIndex dir g)
 
--- the numbers of the first hundred of the posts a to b, of so many
+-- the numbers from a to b of the posts that are there, at most a hundred of them
 abbrev pub first_numbers : ℕ → ℕ → ℕ → List ℕ
 first_numbers a b count = range_with_len (max a 1) (min 100 (min b count + 1 - max a 1))
 
--- What the range a to b is by the files: of the first hundred numbers from a to b and to the number of posts as many as one answer
--- has, by the sizes in their index entries.
+-- What the files say of the range a to b: of the first hundred numbers in it that posts have, as many as one answer
+-- has, by the sizes in their entries.
 pub record IsRangeByFiles (dir : Dir) (a b : ℕ) (answer : List ℕ) : Type 0 where
   pub count : ℕ
   pub counted : IsNumberFile (dir number_name) count
@@ -186,43 +187,41 @@ pub record IsRangeByFiles (dir : Dir) (a b : ℕ) (answer : List ℕ) : Type 0 w
   pub each : AllZip (IsEntryByFiles dir) (first_numbers a b count) entries
   pub cut : answer ≡ map (λ e. e.number) (one_or_within (λ e. e.size) 100 4_194_304 entries)
 
--- the files that a range is looked up in, and when one of them is damaged
-abbrev pub IsRangeName : Name → Type 0
-IsRangeName name = IsRowName number_name name
-
 abbrev pub IsBadForRange : Dir → ℕ → ℕ → Name → Type 0
 IsBadForRange dir a b name =
     ((name ≡ number_name) × (IsNoNumber dir ⊎ ((m : ℕ) × (a ≤ m) × (m ≤ b) × LacksEntry dir m))) ⊎ ((g : ℕ) × (g < 1_000_000) × (name ≡ index_name g) × IsNoIndex dir g)
 
--- the key of post n's subject, by the entry that its index has
+-- the key of post n's subject, by the entry for n in its index
 abbrev pub IsKeyByFiles : Dir → Text → ℕ → Text → Type 0
 IsKeyByFiles dir prefix n k = (e : Entry) × IsEntryByFiles dir n e × (k ≡ subject_key prefix e.subject)
 
--- the first hundred numbers that a key's thread file has under it, n among them all
+-- the first hundred numbers that the thread file of a key has under it; n is among all of them, if not among these
 abbrev pub IsRowByFiles : Dir → Text → ℕ → List ℕ → Type 0
 IsRowByFiles dir k n row =
     (threads : List Thread) × IsThreadFile (thread_place k) (dir (thread_name (thread_place k))) threads × IsAmong (numbers_under k threads) n × (row ≡ take 100 (numbers_under k threads))
 
--- all numbers that a key's thread file has under it, n among them
+-- all numbers that the thread file of a key has under it, with n among them
 abbrev pub AreNumbersByFiles : Dir → Text → ℕ → List ℕ → Type 0
 AreNumbersByFiles dir k n numbers =
     (threads : List Thread) × IsThreadFile (thread_place k) (dir (thread_name (thread_place k))) threads × IsAmong (numbers_under k threads) n × (numbers ≡ numbers_under k threads)
 
--- the whole thread of n by the files: the key of n's subject by its index entry, and all numbers that the thread file has under it, n among them
+-- the whole thread of n by the files: the key of n's subject from its entry, and all numbers that the thread file has
+-- under that key, with n among them
 abbrev pub IsWholeByFiles : Dir → Text → ℕ → Thread → Type 0
 IsWholeByFiles dir prefix n t = IsKeyByFiles dir prefix n t.key × AreNumbersByFiles dir t.key n t.numbers
 
--- the same, and none where n is 0 or above the number of posts
+-- the same, or None if n is 0 or above the number of posts
 abbrev pub IsWholeAnswer : Dir → Text → ℕ → Option Thread → Type 0
 IsWholeAnswer dir prefix n None = (count : ℕ) × IsNumberFile (dir number_name) count × ((n ≡ 0) ⊎ (count < n))
 IsWholeAnswer dir prefix n (Some t) = ((count : ℕ) × IsNumberFile (dir number_name) count × (1 ≤ n) × (n ≤ count)) × IsWholeByFiles dir prefix n t
 
--- a key's thread file is outside its grammar, or it lacks n under the key
+-- the thread file of a key is outside its grammar, or doesn't have n under the key
 abbrev pub IsBadThreads : Dir → Text → ℕ → Type 0
 IsBadThreads dir k n =
     IsNoThreads dir (thread_place k) ⊎ ((threads : List Thread) × IsThreadFile (thread_place k) (dir (thread_name (thread_place k))) threads × (¬ IsAmong (numbers_under k threads) n))
 
--- the thread file of the key of n's subject lacks n under it, or has a number there of which its index has no entry
+-- the thread file of the key of n's subject doesn't have n under it, or has a number there for which the index has no
+-- entry
 pub record LacksThread (dir : Dir) (prefix : Text) (n : ℕ) (name : Name) : Type 0 where
   pub entry : Entry
   pub found : IsEntryByFiles dir n entry
@@ -241,15 +240,16 @@ abbrev pub IsBadBelow : Dir → Text → ℕ → Name → Type 0
 IsBadBelow dir prefix n name =
     ((g : ℕ) × (g < 1_000_000) × (name ≡ index_name g) × IsNoIndex dir g) ⊎ (((f : ℕ) × (f < 256) × (name ≡ thread_name f) × IsNoThreads dir f) ⊎ LacksThread dir prefix n name)
 
--- when one of the files is damaged for the thread of n, where n is there, and in general: a file outside its grammar; the number of
--- posts, where the index of n's group lacks n; or the thread file of n's key, where it lacks n or has a number without an entry
+-- when one of the files is damaged for the thread of n, if n is there, and in general: a file outside its grammar; the
+-- number of posts, if n's index has no entry for n; or the thread file of n's key, if it lacks n or has a number
+-- without an entry
 abbrev pub IsBadForKnown : Dir → Text → ℕ → Name → Type 0
 IsBadForKnown dir prefix n name = ((name ≡ number_name) × HasNoEntry dir n) ⊎ IsBadBelow dir prefix n name
 
 abbrev pub IsBadForThread : Dir → Text → ℕ → Name → Type 0
 IsBadForThread dir prefix n name = ((name ≡ number_name) × (IsNoNumber dir ⊎ LacksEntry dir n)) ⊎ IsBadBelow dir prefix n name
 
--- the thread of n by the files, and nothing where n is 0 or above the number of posts
+-- the thread of n by the files, and nothing if n is 0 or above the number of posts
 abbrev pub IsThreadAnswer : Dir → Text → ℕ → List ℕ → Type 0
 IsThreadAnswer dir prefix n answer =
     (count : ℕ) × IsNumberFile (dir number_name) count × (((1 ≤ n) × (n ≤ count) × IsThreadByFiles dir prefix n answer) ⊎ (((n ≡ 0) ⊎ (count < n)) × (answer ≡ [])))

@@ -1,4 +1,4 @@
--- What appending a post makes of the archive: of its lists, and of its files.
+-- What appending a post makes of the archive: of its list of posts, and of its files.
 use Rattle.std.specs.Prelude.{◌≤◌, ◌<◌, ℕ, ◌+◌, ◌/◌, List, [], ◌∷◌, ◌++◌, length, Some}
 use Rattle.std.specs.List.{flat_map}
 use Rattle.ml_base.specs.Bytes.{Text}
@@ -10,7 +10,7 @@ use Rattle.ml_filing.specs.Posts.{Numbered, IsPost, entry, key_of}
 use Rattle.ml_filing.specs.Threads.{Thread, thread_name, thread_place, thread_text, numbers_under}
 use Rattle.ml_filing.specs.declared.posts.Post.{Post}
 
--- the posts with one more behind them
+-- the posts with one more at the end
 abbrev pub append : Post → List Post → List Post
 append post posts = posts ++ post ∷ []
 
@@ -22,22 +22,22 @@ next_number posts = length posts + 1
 abbrev pub next_post : List Post → Post → Numbered
 next_post posts post = (next_number posts, post)
 
--- a post that the archive takes: in its ranges, with a subject of at most 1,000 bytes
+-- a post that the archive can take: in its ranges, with a subject of at most 1,000 bytes, and a number left for it
 pub record CanAppend (posts : List Post) (post : Post) : Type 0 where
   pub is : IsPost post
   pub subject : length post.subject ≤ 1000
   pub room : length posts < 99_999_999
 
--- threads with one number more under a key
+-- threads with one more number under a key
 abbrev pub with_number : Text → ℕ → List Thread → List Thread
 with_number k n threads = with_entry byte_cmp (λ t. t.key) (record { key = k; numbers = numbers_under k threads ++ n ∷ [] }) threads
 
--- a file that is to have these bytes
+-- gives a file these bytes
 abbrev pub written : Name → Text → Put
 written name bytes = record { name = name; bytes = Some bytes }
 
--- What is written of a post that gets number n, and whose subject has key k: the post itself; its entry behind the text that its
--- group's index had; the number of posts; and the threads of its key's file, with the number under the key.
+-- What is written for a post that gets number n and whose subject has key k: the post itself; its entry, after the text
+-- that its group's index had; the number of posts; and the threads of the key's file, with n under the key.
 abbrev pub key_puts : Text → ℕ → Post → Text → List Thread → List Put
 key_puts k n post index threads =
     written (post_name n) post.bytes

@@ -1,4 +1,5 @@
--- The files of the archive: a file for each post, an index for each group, and the number of posts.
+-- The files of the archive without its threads: a file for every post, an index for every group, and the number of
+-- posts.
 use Rattle.std.specs.Prelude.{◌≡◌, ◌<◌, ◌≤◌, ◌^◌, ℕ, Bool, ◌||◌, ◌==◌, IsTrue, List, [], ◌∷◌, ◌++◌, length, Some, unwrap_or, ◌+◌, ◌-◌, ◌*◌, max, map, Option}
 use Rattle.std.specs.List.{flat_map, range_with_len, AllByRecursion}
 use Rattle.std.specs.Option.{option_map}
@@ -36,19 +37,19 @@ pub record IsEntry (e : Entry) : Type 0 where
   pub size : e.size < 4_294_967_296
   pub short : length e.subject < 10 ^ 18
 
--- the index of group g has these entries, of its numbers from the first on; an absent index is as an empty one
+-- the index of group g has these entries, from the group's first number on; an absent index is an empty one
 pub record IsIndexFile (g : ℕ) (file : Option Text) (entries : List Entry) : Type 0 where
   pub each : AllByRecursion IsEntry entries
   pub numbered : map (λ e. e.number) entries ≡ range_with_len (max 1 (100 * g)) (length entries)
   pub few : length entries ≤ 100 * g + 100 - max 1 (100 * g)
   pub spelled : unwrap_or file [] ≡ index_text entries
 
--- a file that holds the number of posts
+-- the file that spells the number of posts
 pub record IsNumberFile (file : Option Text) (count : ℕ) : Type 0 where
   pub few : count ≤ 99_999_999
   pub spelled : file ≡ Some (number_text count)
 
--- the files hold these posts and no other, the index files exactly their entries, and the number is how many they are
+-- the files hold these posts and no others, the indexes hold exactly their entries, and the number is how many they are
 pub record ArePosts (dir : Dir) (posts : List Post) : Type 0 where
   pub each : AllByRecursion IsPost posts
   pub files : (n : ℕ) → IsTrue (is_in_table (post_name n)) → dir (post_name n) ≡ option_map (λ p. p.bytes) (post_at posts n)

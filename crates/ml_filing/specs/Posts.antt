@@ -1,4 +1,4 @@
--- Posts as a list, in which post n is the n-th, and what is asked of it.
+-- The archive as a list in which post n is the n-th, and what is asked of it: ranges, threads and groups.
 use Rattle.std.specs.Prelude.{◌<◌, ◌/◌, ℕ, zero, suc, ◌&&◌, ◌==◌, nat_le, IsTrue, List, [], length, filter, map, slice_get, Option, Some, None}
 use Rattle.std.specs.List.{enumerate_from}
 use Rattle.std.specs.Str.{bytes_eq}
@@ -37,11 +37,11 @@ in_range a b posts = filter (λ e. nat_le a e.0 && nat_le e.0 b) (numbered posts
 abbrev pub key_of : Text → Post → Text
 key_of prefix p = subject_key prefix p.subject
 
--- the posts of a subject key
+-- the posts whose subject has this key
 abbrev pub of_key : Text → Text → List Post → List Numbered
 of_key prefix k posts = filter (λ e. bytes_eq (key_of prefix e.1) k) (numbered posts)
 
--- the posts whose subject key is that of a post; none where there is no such post
+-- the posts with the same subject key as a given post; none if that isn't there
 abbrev pub as_post : Text → List Post → Option Post → List Numbered
 as_post prefix posts None = []
 as_post prefix posts (Some p) = of_key prefix (key_of prefix p) posts
@@ -58,7 +58,7 @@ group g posts = filter (λ e. (e.0 / 100) == g) (numbered posts)
 abbrev pub size_of : Numbered → ℕ
 size_of e = length e.1.bytes
 
--- as many from the front as one answer has: 100 posts and 4,194,304 bytes together, but the first always
+-- as many posts, from the first on, as one answer has: 100 posts and 4,194,304 bytes together, but always the first
 abbrev pub cut : List Numbered → List Numbered
 cut posts = one_or_within size_of 100 4_194_304 posts
 

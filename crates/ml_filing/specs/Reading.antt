@@ -1,4 +1,4 @@
--- Which texts are read as the files of the archive.
+-- How the texts of the archive's files are read: the number of posts, the indexes and the thread files.
 use Rattle.std.specs.Prelude.{ℕ, ◌*◌, ◌/◌, max, Bool, ◌&&◌, ◌==◌, nat_lt, List, [], ◌∷◌, length, Option, Some, None, option_map, if◌then◌else◌}
 use Rattle.std.specs.List.{list_all}
 use Rattle.std.specs.Option.{option_and_then}
@@ -12,7 +12,7 @@ use Rattle.ml_rows.specs.Values.{moment_in, address_in, line_number, comma_numbe
 use Rattle.ml_filing.specs.Threads.{Thread, thread_place}
 use Rattle.ml_filing.specs.declared.posts.Entry.{Entry}
 
--- the number of posts that a text spells on a line of its own
+-- the number of posts that a text spells, on a line of its own
 abbrev pub count_in : Text → Option ℕ
 count_in text = line_number 99_999_999 text
 
@@ -26,17 +26,18 @@ entry_of_fields k (moment ∷ sender ∷ size ∷ subject ∷ []) =
     option_map (entry_with k) (both_of (address_in sender) (both_of (moment_in moment) (both_of (number_within 4_294_967_295 size) (Some subject))))
 entry_of_fields k texts = None
 
--- what stands behind an LF
+-- what comes after an LF
 abbrev pub behind_lf : Text → Option Text
 behind_lf [] = None
 behind_lf (b ∷ bs) = if b == line_feed then Some bs else None
 
--- the entry of number k at the front of a text, in the index of group g: its four netstrings and an LF, where k is of the group
+-- the entry of number k at the beginning of a text, in the index of group g, and what comes after it: four netstrings
+-- and an LF, if k is of the group
 abbrev pub entry_in_place : ℕ → ℕ → Text → Option (Entry × Text)
 entry_in_place g k text =
     if k / 100 == g then option_and_then (λ found. both_of (entry_of_fields k found.0) (behind_lf found.1)) (netstrings_at 4 text) else None
 
--- the entries of the index of group g: a row of them, from the group's first number on
+-- the entries in the index of group g, in a row from the group's first number on
 abbrev pub index_in : ℕ → Text → Option (List Entry)
 index_in g text = row_of (entry_in_place g) (max 1 (100 * g)) text
 
@@ -44,7 +45,7 @@ index_in g text = row_of (entry_in_place g) (max 1 (100 * g)) text
 abbrev pub thread_with : Text → List ℕ → Thread
 thread_with key numbers = record { key = key; numbers = numbers }
 
--- whether a thread may stand in the file with this number: it has numbers of posts, one at least, in ascending order
+-- whether a thread may be in the file with this number: it has one or more numbers of posts, in ascending order
 abbrev pub fits : ℕ → Thread → Bool
 fits n t = thread_place t.key == n && nat_lt 0 (length t.numbers) && list_all is_post_number t.numbers && is_sorted nat_cmp (λ m. m) t.numbers
 
@@ -53,10 +54,10 @@ abbrev pub thread_of_fields : ℕ → List Text → Option Thread
 thread_of_fields n (key ∷ numbers ∷ []) = only_if (fits n) (option_map (thread_with key) (comma_numbers 99_999_999 numbers))
 thread_of_fields n texts = None
 
--- the thread at the front of a text, whichever its place, and what is behind it
+-- the thread at the beginning of a text, at whatever place, and what comes after it
 abbrev pub thread_at : ℕ → ℕ → Text → Option (Thread × Text)
 thread_at n place text = option_and_then (λ found. option_map (λ t. (t, found.1)) (thread_of_fields n found.0)) (netstrings_at 2 text)
 
--- the threads of the file with this number: a row of them, in ascending order of key
+-- the threads of the file with this number, in a row in ascending order of key
 abbrev pub threads_in : ℕ → Text → Option (List Thread)
 threads_in n text = only_if (is_sorted byte_cmp (λ t. t.key)) (row_of (thread_at n) 0 text)

@@ -1,4 +1,4 @@
--- The thread files: for each subject key the numbers of its posts, spread over 256 files by the key's hash.
+-- The thread files: for every subject key the numbers of its posts, spread over 256 files by the key's hash.
 use Rattle.std.specs.Prelude.{◌≡◌, ◌<◌, ◌^◌, ◌%◌, ◌/◌, ◌==◌, ◌||◌, Bool, find, take, ℕ, true, IsTrue, List, [], ◌++◌, length, Option, unwrap_or, Some, map}
 use Rattle.std.specs.List.{flat_map, AllByRecursion, AllZip, IsAmong}
 use Rattle.std.specs.Ordering.{nat_cmp}
@@ -21,7 +21,7 @@ pub use Rattle.ml_filing.specs.declared.posts.Thread.{Thread}
 pub use Rattle.ml_base.specs.Kinds.{thread_name}
 use Rattle.ml_base.specs.Kinds.{thread_kind}
 
--- the file of a subject key
+-- the number of the file that has a subject key
 abbrev pub thread_place : Text → ℕ
 thread_place k = hash_of k % 256
 
@@ -37,7 +37,7 @@ pub record IsThread (n : ℕ) (t : Thread) : Type 0 where
   pub each : AllByRecursion (λ m. IsTrue (is_post_number m)) t.numbers
   pub ascending : is_sorted nat_cmp (λ m. m) t.numbers ≡ true
 
--- a file of threads, in ascending order of key; one that is absent is as an empty one
+-- a file of threads, in ascending order of key; an absent one has no threads
 pub record IsThreadFile (n : ℕ) (file : Option Text) (threads : List Thread) : Type 0 where
   pub each : AllByRecursion (IsThread n) threads
   pub sorted : is_sorted byte_cmp (λ t. t.key) threads ≡ true
@@ -47,7 +47,7 @@ pub record IsThreadFile (n : ℕ) (file : Option Text) (threads : List Thread) :
 abbrev pub numbers_under : Text → List Thread → List ℕ
 numbers_under k threads = unwrap_or (option_map (λ t. t.numbers) (entry_of byte_cmp (λ t. t.key) k threads)) []
 
--- the thread files have each post's number under the key of its subject, and nothing else
+-- the thread files have the number of every post under the key of its subject, and nothing else
 pub record AreThreads (dir : Dir) (prefix : Text) (posts : List Post) : Type 0 where
   pub threads : ℕ → List Thread
   pub files : (n : ℕ) → n < 256 → IsThreadFile n (dir (thread_name n)) (threads n)
@@ -58,11 +58,11 @@ pub record IsArchive (dir : Dir) (prefix : Text) (posts : List Post) : Type 0 wh
   pub filed : ArePosts dir posts
   pub threaded : AreThreads dir prefix posts
 
--- the thread of a post: the key of its subject, and the numbers of all posts of that key
+-- the thread of a post: the key of its subject, and the numbers of all posts with that key
 abbrev pub thread_of_post : Text → List Post → Post → Thread
 thread_of_post prefix posts p = record { key = key_of prefix p; numbers = numbers (of_key prefix (key_of prefix p) posts) }
 
--- the thread of post n; none where there is no such post
+-- the thread of post n; None if there is no such post
 abbrev pub whole_thread : Text → ℕ → List Post → Option Thread
 whole_thread prefix n posts = option_map (thread_of_post prefix posts) (post_at posts n)
 
@@ -70,9 +70,9 @@ whole_thread prefix n posts = option_map (thread_of_post prefix posts) (post_at 
 abbrev pub entry_at : ℕ → List Entry → Option Entry
 entry_at n entries = find (λ e. e.number == n) entries
 
--- What thread n is by the files alone, on any directory: the index of n's group has n's entry, and the file of its subject's key has n
--- among the numbers under that key. The answer is those of them from the first on that one answer has, by the sizes in their index
--- entries, of which the first 100 decide.
+-- The thread of n by the files alone, in any directory: the index of n's group has an entry for n, and the thread file
+-- of its subject's key has n among the numbers under that key. The answer is as many of these, from the first on, as
+-- one answer has, by the sizes in their entries; only the first 100 are looked up.
 pub record IsThreadByFiles (dir : Dir) (prefix : Text) (n : ℕ) (answer : List ℕ) : Type 0 where
   pub indexes : ℕ → List Entry
   pub index : IsIndexFile (n / 100) (dir (index_name (n / 100))) (indexes (n / 100))

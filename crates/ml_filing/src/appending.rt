@@ -1,4 +1,4 @@
-// A post goes last into the archive.
+// Appends a post to the archive.
 ghost use Rattle.std.specs.Prelude.{◌≡◌, ◌<◌, ◌≤◌, ◌+◌, ◌/◌, ◌⊎◌, List, [], Some, length, true, IsTrue, IfOk, IfErr, unwrap_or};
 ghost use Rattle.ml_base.specs.Dir.{Dir, touches_only};
 ghost use Rattle.ml_base.specs.Name.{is_file};
@@ -23,7 +23,7 @@ use ml_base::{Address, Bytes, Files, LAST_POST_NUMBER, Name, PartError, Put, Txn
 use ml_header::Message;
 use std::alloc::{AllocError, Global};
 
-// The text of the index in which the next post gets its entry, which has those of its group before it.
+// The text of the index in which the next post gets its entry; it has the entries of the group's posts before it.
 fn next_index<F: Files>(alloc: Global, files: &mut F, number: u64) -> Result<Bytes, PartError>
     requires { number ≤ 99_999_999 }
     ensures value { IsTrue F.tells → IfOk result (λ text. text ≡ unwrap_or (F.map files.old (archive.index_name (number / 100))) []) }
@@ -45,7 +45,7 @@ fn next_index<F: Files>(alloc: Global, files: &mut F, number: u64) -> Result<Byt
     }
 }
 
-// A file that is to have these bytes.
+// Gives a file these bytes.
 fn written(name: Name, bytes: Bytes) -> Put
     ensures { result ≡ record { name = name; bytes = Some bytes } }
 {
@@ -55,7 +55,7 @@ fn written(name: Name, bytes: Bytes) -> Put
     }
 }
 
-// What is appended: its sender, its moment, its subject and its bytes.
+// What is appended: sender, moment, subject and bytes of a post.
 #[derive(Clone, Copy)]
 struct New<'a> {
     sender: &'a [u8],
@@ -64,7 +64,7 @@ struct New<'a> {
     bytes: &'a [u8],
 }
 
-// The puts of a post that gets a number, by what its index and the thread file of its key have.
+// The puts of a post that gets a number, made from what its index and its key's thread file have.
 fn puts(
     alloc: Global,
     number: u64,
@@ -92,9 +92,10 @@ fn puts(
     Ok(txn)
 }
 
-/// Puts a post last into the archive of a list with this prefix: its number, and the puts of four files, which are the post, its
-/// group's index, the number of posts, and the thread file of its subject's key. The subject is that of the bytes. `Full` exactly
-/// where the archive has 99,999,999 posts. It reads the three files besides the post, and never another post.
+/// Appends a post to the archive of a list with this prefix. The answer is its number, and the puts of four files: the
+/// post, its group's index, the number of posts, and the thread file of its subject's key. The subject is taken from
+/// the bytes. `Full` exactly if the archive has 99,999,999 posts. It reads the three files besides the post, and never
+/// another post.
 ///
 /// The moment is in seconds since 1970.
 pub fn append<F: Files>(

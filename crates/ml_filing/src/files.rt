@@ -1,4 +1,4 @@
-// The files of the archive.
+// Reads the files of the archive: the number of posts, an index, or a thread file.
 ghost use Rattle.std.specs.Prelude.{◌≡◌, ◌<◌, ◌≤◌, ℕ, IsTrue, IfOk, unwrap_or, []};
 ghost use Rattle.std.specs.List.{AllByRecursion};
 ghost use Rattle.ml_base.specs.Name.{is_file};
@@ -16,7 +16,7 @@ use crate::{Entries, Threads};
 use ml_base::{Bytes, Files, Name, PartError};
 use std::alloc::Global;
 
-// The bytes of a file, or none where it is absent.
+// The bytes of a file, or no bytes if it is absent.
 pub(crate) fn text_of(file: &Option<Bytes>) -> &[u8]
     ensures { result.now ≡ unwrap_or file.now [] }
 {
@@ -26,7 +26,7 @@ pub(crate) fn text_of(file: &Option<Bytes>) -> &[u8]
     }
 }
 
-// The number of posts, as its file has it.
+// The number of posts, read from its file.
 pub(crate) fn read_count<F: Files>(alloc: Global, files: &mut F) -> Result<u64, PartError>
     ensures value { IsTrue F.tells → IfOk result (IsNumberFile (F.map files.old archive.number_name)) }
     ensures few { IfOk result (λ n. n ≤ 99_999_999) }
@@ -40,7 +40,7 @@ pub(crate) fn read_count<F: Files>(alloc: Global, files: &mut F) -> Result<u64, 
     }
 }
 
-// The entries of a group, as its index has them.
+// The entries of a group, read from its index.
 pub(crate) fn read_index<F: Files>(
     alloc: Global,
     files: &mut F,

@@ -1,4 +1,4 @@
-// What holds of the files of the archive, apart from the code.
+// Laws of the archive: what its files stand for, and what an append changes.
 ghost use Rattle.std.specs.Prelude.{◌≡◌, ◌≢◌, ◌↔◌, ◌<◌, ◌≤◌, ◌/◌, ◌==◌, ◌&&◌, nat_le, ℕ, true, IsTrue, List, [], ◌∷◌, ◌++◌, length, Option, Some, None, unwrap_or, if◌then◌else◌};
 ghost use Rattle.ml_base.specs.Bytes.{Text};
 ghost use Rattle.std.specs.Str.{bytes_eq};
@@ -15,8 +15,8 @@ ghost use Rattle.ml_filing.specs.declared.posts.Entry.{Entry};
 ghost use Rattle.ml_filing.specs.declared.posts.Post.{Post};
 ghost use Rattle.ml_filing.specs.declared.posts.Thread.{Thread};
 
-/// An index, a thread file and the number of posts are each read as exactly what they spell; an index or a thread file that is
-/// absent as an empty one. So each of them spells one value at most.
+/// An index, a thread file and the number of posts are each read as exactly what they spell; an absent index or thread
+/// file is read as empty. So each of them spells at most one value.
 pub fn law_archive_files()
     ensures index { (g : ℕ) (file : Option Text) (entries : List Entry) → (index_in g (unwrap_or file []) ≡ Some entries) ↔ IsIndexFile g file entries }
     ensures threads { (n : ℕ) (file : Option Text) (threads : List Thread) → (threads_in n (unwrap_or file []) ≡ Some threads) ↔ IsThreadFile n file threads }
@@ -26,8 +26,9 @@ pub fn law_archive_files()
     ensures one_count { (file : Option Text) (count other : ℕ) → IsNumberFile file count → IsNumberFile file other → count ≡ other }
 {}
 
-/// The files stand for one list of posts at most, already without the thread files. Which it is depends on the archive's own
-/// files alone. Where one of them is outside its grammar, they stand for none. A count of 0 and no other file is no post.
+/// The files stand for at most one list of posts, even without the thread files. That list depends on the archive's own
+/// files alone. If one of them is outside its grammar, there is none. A number of 0 and no other file is an empty
+/// archive.
 pub fn law_archive()
     ensures one_list { (dir : Dir) (posts others : List Post) → ArePosts dir posts → ArePosts dir others → posts ≡ others }
     ensures one { (dir : Dir) (prefix : Text) (posts others : List Post) → IsArchive dir prefix posts → IsArchive dir prefix others → posts ≡ others }
@@ -39,9 +40,9 @@ pub fn law_archive()
     ensures nothing { (dir : Dir) (prefix : Text) → ((name : Name) → is_of_archive name ≡ true → name.kind ≢ 11 → dir name ≡ None) → dir number_name ≡ Some (number_text 0) → IsArchive dir prefix [] }
 {}
 
-/// A post that is appended gets the number behind the last one's, and each post keeps its number for good. The range, the
-/// group and the posts of a subject key are, after an append, what they were before, with the new post at their end where it
-/// is one of them. And the four files that appending writes make the archive stand for the longer list.
+/// An appended post gets the number after the last one's, and every post keeps its number for good. After an append a
+/// range, a group and the posts of a subject key are what they were before, with the new post at the end if it is one
+/// of them. And with the four files that appending writes, the archive stands for the longer list.
 pub fn law_append()
     ensures new { (posts : List Post) (post : Post) → post_at (append post posts) (next_number posts) ≡ Some post }
     ensures kept { (posts : List Post) (post : Post) (n : ℕ) → n ≤ length posts → post_at (append post posts) n ≡ post_at posts n }
@@ -53,15 +54,16 @@ pub fn law_append()
         IsArchive (with_puts dir (append_puts prefix (next_number posts) post (unwrap_or (dir (index_name (next_number posts / 100))) []) threads)) prefix (append post posts) }
 {}
 
-/// Where the files stand for a list of posts, the thread of one of them by the files is the filter over all posts, cut as an
-/// answer is, and there is one. So whoever reads a thread file and a few indexes answers as if he had read all posts.
+/// If the files stand for a list of posts, the thread of a post that is read from the files is there, and is the same
+/// as if all posts were filtered and the result cut as an answer is. So reading a thread file and a few indexes is
+/// enough.
 pub fn law_threads()
     ensures same { (dir : Dir) (prefix : Text) (posts : List Post) (n : ℕ) (answer : List ℕ) → IsArchive dir prefix posts → 1 ≤ n → n ≤ length posts → IsThreadByFiles dir prefix n answer → answer ≡ numbers (cut (in_thread prefix n posts)) }
     ensures there { (dir : Dir) (prefix : Text) (posts : List Post) (n : ℕ) → IsArchive dir prefix posts → 1 ≤ n → n ≤ length posts → IsThreadByFiles dir prefix n (numbers (cut (in_thread prefix n posts))) }
 {}
 
-/// What one answer has of a row of posts is the longest front of at most 100 posts and at most 4,194,304 bytes together, but
-/// the first post always.
+/// Of a row of posts, one answer has as many as fit, from the first on: at most 100 posts, and at most 4,194,304 bytes
+/// together, but always the first post.
 pub fn law_cut()
     ensures longest { (row : List Numbered) → IsLongest size_of 100 4_194_304 row (cut row) }
     ensures some { (row : List Numbered) → 0 < length row → 0 < length (cut row) }

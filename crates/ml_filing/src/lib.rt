@@ -1,4 +1,4 @@
-//! The archive of a list: numbered posts, an index for each hundred of them, and threads of posts with one subject.
+//! The archive of a list: numbered posts, an index for every group of a hundred, and threads of posts with one subject.
 #![tactic(auto)]
 
 mod appending;

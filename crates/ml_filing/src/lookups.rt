@@ -1,4 +1,4 @@
-// Rows of posts, by what their indexes say of them.
+// Looks up a row of posts in their indexes, and cuts the row to what one answer may have.
 ghost use Rattle.std.specs.Prelude.{◌≡◌, ◌<◌, ◌≤◌, ◌/◌, ◌==◌, true, find, length, take, IsTrue, IfOk, IfSome, IfNone, OnOk};
 ghost use Rattle.std.specs.List.{AllByRecursion};
 ghost use Rattle.std.specs.Option.{option_copied};
@@ -15,7 +15,7 @@ use crate::{Entries, Entry};
 use ml_base::{Files, Name, Numbers, PartError, Row};
 use std::alloc::{AllocError, Global};
 
-// How many posts one answer has at most, and how many bytes together where it has more than one.
+// The most posts that one answer has, and the most bytes together if it has more than one post.
 pub(crate) const MAX_POSTS: usize = 100;
 
 const MAX_BYTES: u64 = 4_194_304;
@@ -27,7 +27,7 @@ pub(crate) struct Index {
     pub(crate) entries: Entries,
 }
 
-// The indexes that a call has read, each once.
+// The indexes that a call has read, each of them once.
 pub(crate) type Indexes = Row<Index>;
 
 // Whether the index of a group was read.
@@ -37,7 +37,7 @@ fn was_read(indexes: &[Index], group: u64) -> bool
     indexes.iter().any(|index| index.group == group)
 }
 
-// Reads the index of a group, unless it was read.
+// Reads the index of a group, unless it was read before.
 pub(crate) fn read_once<F: Files>(
     alloc: Global,
     files: &mut F,
@@ -65,7 +65,7 @@ fn index_for(indexes: &[Index], group: u64) -> Option<&Index>
     indexes.iter().find(|index| index.group == group)
 }
 
-// The entry of a post, by the indexes that were read.
+// The entry of a post in the indexes that were read.
 pub(crate) fn entry_among(indexes: &[Index], number: u64) -> Option<&Entry>
     ensures some { (dir : Dir) → AreIndexes dir indexes.now → IfSome result (λ e. IsEntryByFiles dir number e.now) }
     ensures none { (dir : Dir) → AreIndexes dir indexes.now → has_group (number / 100) indexes.now ≡ true → IfNone result (HasNoEntry dir number) }
@@ -76,7 +76,7 @@ pub(crate) fn entry_among(indexes: &[Index], number: u64) -> Option<&Entry>
     }
 }
 
-// The sizes of posts. `missing` is the file that is damaged where an index has no entry of one.
+// The sizes of posts. `missing` is the file that is damaged if an index has no entry for one of them.
 pub(crate) fn sizes_of<F: Files>(
     alloc: Global,
     files: &mut F,
@@ -125,7 +125,7 @@ fn within_len(count: usize, room: u64, sizes: &[u64]) -> usize
     taken
 }
 
-// How many posts of these sizes one answer has.
+// How many posts with these sizes one answer has.
 fn cut_len(sizes: &[u64]) -> usize
     ensures value { result ≡ length (one_or_within (λ s. s) 100 4_194_304 sizes.now) }
     ensures few { result ≤ length sizes.now }
@@ -139,7 +139,7 @@ fn cut_len(sizes: &[u64]) -> usize
     1 + within_len(MAX_POSTS - 1, MAX_BYTES - *first, more)
 }
 
-// As many of a row of posts as one answer has, by their sizes.
+// As many posts of a row as one answer has, by their sizes.
 pub(crate) fn cut_by(alloc: Global, numbers: &[u64], sizes: &[u64]) -> Result<Numbers, AllocError>
     requires { length sizes.now ≤ length numbers.now }
     ensures { IfOk result (λ front. front ≡ take (length (one_or_within (λ s. s) 100 4_194_304 sizes.now)) numbers.now) }

@@ -1,4 +1,4 @@
-// The numbers of posts, and how many there are.
+// The numbers of posts: whether they rise, and how many posts there are.
 ghost use Rattle.std.specs.Prelude.{◌≡◌, IfOk, true};
 ghost use Rattle.std.specs.Ordering.{nat_cmp};
 ghost use Rattle.ml_base.specs.Sorted.{is_sorted};
@@ -19,7 +19,7 @@ fn is_below_first(number: u64, numbers: &[u64]) -> bool
     }
 }
 
-// Whether numbers rise.
+// Whether numbers are in ascending order.
 pub(crate) fn are_rising(numbers: &[u64]) -> bool
     ensures { result ≡ is_sorted nat_cmp (λ m. m) numbers.now }
 {
@@ -33,7 +33,7 @@ pub(crate) fn are_rising(numbers: &[u64]) -> bool
     true
 }
 
-// The number of posts that a text spells on a line of its own.
+// The number of posts that a text spells, on a line of its own.
 pub(crate) fn count_of(text: &[u8]) -> Option<u64>
     ensures { result ≡ count_in text.now }
 {
@@ -45,7 +45,7 @@ pub(crate) fn count_of(text: &[u8]) -> Option<u64>
     }
 }
 
-// The text of a number of posts.
+// The text that spells a number of posts.
 pub(crate) fn count_text(alloc: Global, count: u64) -> Result<Bytes, AllocError>
     ensures { IfOk result (λ text. text ≡ number_text count) }
 {

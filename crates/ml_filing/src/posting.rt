@@ -1,4 +1,4 @@
-// The posts by their numbers.
+// Reads posts by their numbers, and the index of a group.
 ghost use Rattle.std.specs.Prelude.{◌≡◌, ◌<◌, ◌≤◌, ◌/◌, ◌⊎◌, ℕ, List, length, Some, IsTrue, IfOk, IfErr};
 ghost use Rattle.std.specs.List.{IsAmong};
 ghost use Rattle.std.specs.Option.{option_map};
@@ -29,8 +29,8 @@ pub fn count<F: Files>(alloc: Global, files: &mut F) -> Result<u64, PartError>
     read_count(alloc, files)
 }
 
-/// What the index says of the posts n with n / 100 the number of this group, in order. It reads one file, and none for a group
-/// that no post has.
+/// What the index says of the posts n with n / 100 = `group`, in order. It reads one file, or none for a group that no
+/// post can be in.
 pub fn index<F: Files>(alloc: Global, files: &mut F, group: u64) -> Result<Entries, PartError>
     ensures value { IsTrue F.tells → (posts : List ThePost) → ArePosts (F.map files.old) posts → IfOk result (λ entries. entries ≡ spec.index_of group posts) }
     ensures read { IsTrue F.tells → IfOk result (IsIndexByFiles (F.map files.old) group) }
@@ -72,7 +72,7 @@ fn copied(alloc: Global, entry: &Entry) -> Result<Entry, AllocError>
     })
 }
 
-// The bytes of a post, which are as many as its entry says.
+// The bytes of a post; they have to be as many as its entry says.
 fn read_bytes<F: Files>(alloc: Global, files: &mut F, n: u64, size: u64) -> Result<Bytes, PartError>
     requires low { 1 ≤ n }
     requires high { n ≤ 99_999_999 }
@@ -87,7 +87,7 @@ fn read_bytes<F: Files>(alloc: Global, files: &mut F, n: u64, size: u64) -> Resu
     }
 }
 
-/// Post n, or None exactly where n is 0 or above the number of posts. It reads three files.
+/// Post n, or None exactly if n is 0 or above the number of posts. It reads three files.
 pub fn post<F: Files>(alloc: Global, files: &mut F, n: u64) -> Result<Option<Post>, PartError>
     ensures value { IsTrue F.tells → (posts : List ThePost) → ArePosts (F.map files.old) posts → IfOk result (λ found. found ≡ post_at posts n) }
     ensures read { IsTrue F.tells → IfOk result (IsPostByFiles (F.map files.old) n) }
@@ -109,8 +109,8 @@ pub fn post<F: Files>(alloc: Global, files: &mut F, n: u64) -> Result<Option<Pos
     }))
 }
 
-/// The text of the post that an index entry is of, as the list sent it. It reads one file, and neither the number of posts nor the
-/// index: the entry is one that `index` answered. Its number is that of a post, from 1 to 99,999,999.
+/// The text of the post with this index entry, as the list sent it. It reads one file, and neither the number of posts
+/// nor the index: the entry comes from `index`. Its number is that of a post, from 1 to 99,999,999.
 pub fn message_of<F: Files>(alloc: Global, files: &mut F, entry: &Entry) -> Result<Bytes, PartError>
     requires low { 1 ≤ entry.now.number }
     requires high { entry.now.number ≤ 99_999_999 }

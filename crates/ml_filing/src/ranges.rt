@@ -1,4 +1,4 @@
-// Ranges of posts.
+// Which posts of a range one answer has.
 ghost use Rattle.std.specs.Prelude.{◌≡◌, ◌<◌, ◌≤◌, ◌+◌, ◌^◌, List, IsTrue, IfOk, IfErr};
 ghost use Rattle.std.specs.List.{AllByRecursion, range_with_len};
 ghost use Rattle.ml_base.specs.PartErrors.{OnDamaged};
@@ -14,7 +14,7 @@ use crate::lookups::{Indexes, MAX_POSTS, cut_by, sizes_of};
 use ml_base::{Files, Name, Numbers, PartError};
 use std::alloc::{AllocError, Global};
 
-// This many numbers from the first on.
+// Numbers from the first on, as many as `count`.
 fn numbers_from(alloc: Global, first: u64, count: u64) -> Result<Numbers, AllocError>
     requires { first + count < 2 ^ 64 }
     ensures { IfOk result (λ ns. ns ≡ range_with_len first count) }
@@ -28,7 +28,7 @@ fn numbers_from(alloc: Global, first: u64, count: u64) -> Result<Numbers, AllocE
     Ok(out)
 }
 
-// The first hundred of the numbers a to b, as far as there are posts.
+// The numbers from a to b of posts that are there, at most a hundred of them.
 fn asked_for(alloc: Global, a: u64, b: u64, count: u64) -> Result<Numbers, AllocError>
     requires { count ≤ 99_999_999 }
     ensures { IfOk result (λ ns. ns ≡ first_numbers a b count) }
@@ -39,9 +39,9 @@ fn asked_for(alloc: Global, a: u64, b: u64, count: u64) -> Result<Numbers, Alloc
     numbers_from(alloc, first, size)
 }
 
-/// The numbers of the posts a to b that are there, in order, as many as one answer has: at most 100, and at most 4,194,304 bytes of
-/// posts together, but the first one always. It reads the number of posts and at most two indexes, each once: those of the groups from a's to
-/// b's.
+/// The numbers of the posts from a to b that are there, in order, as many as one answer has: at most 100, and at most
+/// 4,194,304 bytes of posts together, but always the first one. It reads the number of posts and at most two indexes,
+/// of the groups from a's to b's, each of them once.
 pub fn range<F: Files>(alloc: Global, files: &mut F, a: u64, b: u64) -> Result<Numbers, PartError>
     ensures value { IsTrue F.tells → (posts : List ThePost) → ArePosts (F.map files.old) posts → IfOk result (λ answer. answer ≡ numbers (cut (in_range a b posts))) }
     ensures read { IsTrue F.tells → IfOk result (IsRangeByFiles (F.map files.old) a b) }

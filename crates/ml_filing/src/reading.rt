@@ -1,4 +1,4 @@
-// The entries of an index.
+// Reads an index: the entries of the posts of a group.
 ghost use Rattle.std.specs.Prelude.{◌≡◌, ◌<◌, ◌≤◌, ◌+◌, ◌*◌, ◌/◌, max, true, false, ℕ, IsTrue, [], ◌∷◌, ◌++◌, length, Some, None, IfOk, IfSome, IfNone, OnOk, find, ◌==◌};
 ghost use Rattle.std.specs.Option.{option_map, option_copied};
 ghost use Rattle.std.specs.Fmt.{decimal};
@@ -27,7 +27,7 @@ fn is_sender(text: &[u8]) -> bool
     is_kept(text)
 }
 
-// The four texts of an entry, and what is behind them.
+// The four texts of an entry, and what comes after them.
 #[derive(Clone, Copy)]
 struct Texts<'a> {
     moment: &'a [u8],
@@ -37,7 +37,7 @@ struct Texts<'a> {
     rest: &'a [u8],
 }
 
-// The four texts whose netstrings a text begins with.
+// The four texts whose netstrings a text begins with, and what comes after them.
 fn texts_of(text: &[u8]) -> Option<Texts<'_>>
     ensures some { IfSome result (λ t. netstrings_at 4 text.now ≡ Some (t.moment.now ∷ t.sender.now ∷ t.size.now ∷ t.subject.now ∷ [], t.rest.now)) }
     ensures none { IfNone result (netstrings_at 4 text.now ≡ None) }
@@ -56,7 +56,7 @@ fn texts_of(text: &[u8]) -> Option<Texts<'_>>
     })
 }
 
-// What stands behind an LF at the front.
+// What comes after an LF at the beginning of a text.
 fn behind_lf(text: &[u8]) -> Option<&[u8]>
     ensures value { option_map (λ t. t.now) result ≡ spec.behind_lf text.now }
     ensures shorter { IfSome result (λ t. length t.now < length text.now) }
@@ -91,7 +91,7 @@ fn entry_of(alloc: Global, number: u64, texts: Texts<'_>) -> Result<Option<Entry
     }))
 }
 
-// The entry of a number at the front of a text, in the index of a group, and what is behind it.
+// The entry of a number at the beginning of a text, in the index of a group, and what comes after it.
 fn entry_at<'a>(
     alloc: Global,
     group: u64,
@@ -125,7 +125,7 @@ pub(crate) fn first_number(group: u64) -> u64
     (100 * group).max(1)
 }
 
-// The entries of the index of a group, or None of a text that is none.
+// The entries of the index of a group, or None if the text is no such index.
 pub(crate) fn index_of(
     alloc: Global,
     group: u64,

@@ -1,4 +1,4 @@
-// Subjects, and the keys by which posts make a thread.
+// Subjects of posts, and their keys: posts whose subjects have the same key are one thread.
 ghost use Rattle.std.specs.Prelude.{◌≡◌, ◌<◌, ◌≤◌, ◌++◌, ◌∷◌, [], true, false, IsTrue, length, take, codes, IfOk, IfSome, OnOk};
 ghost use Rattle.std.specs.Option.{option_map};
 ghost use Rattle.ml_base.specs.Bytes.{Text, lower};
@@ -11,7 +11,7 @@ use std::alloc::{AllocError, Global};
 // The longest subject in bytes.
 const MAX_SUBJECT: usize = 1000;
 
-/// The subject of a message: the first 1,000 bytes of its first Subject field, unfolded, or nothing where there is none.
+/// The subject of a message: the first 1,000 bytes of its first Subject field, unfolded, or nothing if it has none.
 pub fn subject(alloc: Global, message: &Message<'_>) -> Result<Bytes, AllocError>
     ensures value { IfOk result (λ s. s ≡ spec.subject message.now) }
     ensures short { IfOk result (λ s. length s ≤ 1000) }
@@ -42,7 +42,7 @@ fn begins_with_space(text: &[u8]) -> bool
     }
 }
 
-// A text in lower case, with each run of spaces, tabs, CRs and LFs as one space.
+// A text in lower case, with every run of spaces, tabs, CRs and LFs as one space.
 fn squeezed(alloc: Global, text: &[u8]) -> Result<Bytes, AllocError>
     ensures { IfOk result (λ s. s ≡ lower (spec.squeezed text.now)) }
 {
@@ -59,7 +59,7 @@ fn squeezed(alloc: Global, text: &[u8]) -> Result<Bytes, AllocError>
     Ok(out)
 }
 
-// A text without the spaces at its front.
+// A text without the spaces at its beginning.
 fn without_front(text: &[u8]) -> &[u8]
     ensures value { result.now ≡ spec.without_front text.now }
     ensures shorter { length result.now ≤ length text.now }
@@ -82,7 +82,7 @@ fn without_end(text: &[u8]) -> &[u8]
     &text[..end]
 }
 
-// What stands behind a word at the front, where the word isn't empty.
+// What comes after a word at the beginning of a text, if the word isn't empty.
 fn behind_word<'a>(word: &[u8], text: &'a [u8]) -> Option<&'a [u8]>
     ensures value { option_map (λ t. t.now) result ≡ spec.behind_word word.now text.now }
     ensures shorter { IfSome result (λ t. length t.now < length text.now) }
@@ -93,7 +93,7 @@ fn behind_word<'a>(word: &[u8], text: &'a [u8]) -> Option<&'a [u8]>
     text.strip_prefix(word)
 }
 
-// What stands behind one or more digits at the front and `]:`.
+// What comes after one or more digits and `]:` at the beginning of a text.
 fn behind_digits(text: &[u8]) -> Option<&[u8]>
     ensures value { option_map (λ t. t.now) result ≡ spec.behind_digits false text.now }
     ensures shorter { IfSome result (λ t. length t.now < length text.now) }
@@ -114,7 +114,7 @@ fn behind_digits(text: &[u8]) -> Option<&[u8]>
     None
 }
 
-// What stands behind the mark of an answer to a mail that was numbered.
+// What comes after the mark of an answer that has a number, as `re[2]:`.
 fn behind_numbered(text: &[u8]) -> Option<&[u8]>
     ensures value { option_map (λ t. t.now) result ≡ spec.behind_numbered text.now }
     ensures shorter { IfSome result (λ t. length t.now < length text.now) }
@@ -122,7 +122,7 @@ fn behind_numbered(text: &[u8]) -> Option<&[u8]>
     behind_digits(behind_word(b"re[", text)?)
 }
 
-// What stands behind the first mark of an answer, or the prefix in lower case, at the front.
+// What comes after the first mark of an answer, or the prefix in lower case, at the beginning of a text.
 fn behind_mark<'a>(prefix: &[u8], text: &'a [u8]) -> Option<&'a [u8]>
     ensures value { option_map (λ t. t.now) result ≡ spec.behind_lower prefix.now text.now }
     ensures shorter { IfSome result (λ t. length t.now < length text.now) }
@@ -135,7 +135,7 @@ fn behind_mark<'a>(prefix: &[u8], text: &'a [u8]) -> Option<&'a [u8]>
         .or_else(|| behind_numbered(text))
 }
 
-// A text without such marks and the spaces behind each, as long as one stands at the front.
+// A text without such marks and the spaces after them, as long as it begins with one.
 fn stripped<'a>(prefix: &[u8], text: &'a [u8]) -> &'a [u8]
     ensures { (list : Text) → prefix.now ≡ lower list → result.now ≡ spec.stripped (length text.now) list text.now }
 {
@@ -155,8 +155,9 @@ fn lowered(alloc: Global, text: &[u8]) -> Result<Bytes, AllocError>
     Ok(Bytes::from_vec(bytes))
 }
 
-/// The key of a subject, on a list with this prefix, by which posts make a thread. Runs of spaces, tabs, CRs and LFs count as one
-/// space, and letters in lower case. Spaces at the ends, marks of answers at the front, as `Re:`, and the prefix are taken off.
+/// The key of a subject on a list with this prefix: posts with the same key are one thread. Letters are made lower
+/// case, and runs of spaces, tabs, CRs and LFs count as one space. Spaces at both ends are taken off, and at the
+/// beginning marks of answers, as `Re:`, and the prefix.
 pub fn subject_key(alloc: Global, prefix: &[u8], subject: &[u8]) -> Result<Bytes, AllocError>
     ensures { IfOk result (λ key. key ≡ spec.subject_key prefix.now subject.now) }
 {

@@ -1,4 +1,4 @@
-// The thread of a post.
+// The thread of a post: the numbers of all posts with its subject key.
 ghost use Rattle.std.specs.Prelude.{◌≡◌, ◌≤◌, ◌==◌, ℕ, List, take, IsTrue, IfOk, IfErr, IfSome, OnOk};
 ghost use Rattle.std.specs.List.{AllByRecursion, IsAmong, list_any};
 ghost use Rattle.ml_base.specs.Bytes.{Text};
@@ -20,7 +20,7 @@ use crate::{Thread, Threads};
 use ml_base::{Bytes, Files, Name, Numbers, PartError};
 use std::alloc::Global;
 
-// The key of a post's subject, by its index entry.
+// The key of a post's subject, from its index entry.
 fn key_for<F: Files>(
     alloc: Global,
     files: &mut F,
@@ -49,7 +49,7 @@ fn has_number(numbers: &[u64], number: u64) -> bool
     numbers.iter().any(|other| *other == number)
 }
 
-// The numbers of a key, of which n is one.
+// The numbers of a key, if n is one of them.
 fn numbers_with<F: Files>(
     alloc: Global,
     files: &mut F,
@@ -70,7 +70,7 @@ fn numbers_with<F: Files>(
     Ok(Numbers::from_vec(Vec::from_slice(alloc, numbers)?))
 }
 
-// The first hundred numbers of a key, of which n is one.
+// The first hundred numbers of a key, if n is one of its numbers.
 fn row_for<F: Files>(alloc: Global, files: &mut F, key: &[u8], n: u64) -> Result<Numbers, PartError>
     ensures value { IsTrue F.tells → IfOk result (IsRowByFiles (F.map files.old) key.now n) }
     ensures few { IfOk result (AllByRecursion (λ m. m ≤ 99_999_999)) }
@@ -105,9 +105,10 @@ fn known_thread<F: Files>(
     Ok(cut_by(alloc, row.as_slice(), sizes.as_slice())?)
 }
 
-/// The numbers of the posts whose subject has the key of post n's, on a list with this prefix, in order and as many as one answer
-/// has: at most 100, and at most 4,194,304 bytes of posts together, but the first one always. None where n is 0 or above the number
-/// of posts. It reads the number of posts, one thread file, and the indexes of the first hundred posts there, each once.
+/// The numbers of the posts whose subject has the same key as post n's, on a list with this prefix, in order and as
+/// many as one answer has: at most 100, and at most 4,194,304 bytes of posts together, but always the first one. No
+/// number if n is 0 or above the number of posts. It reads the number of posts, one thread file, and the indexes of the
+/// first hundred posts there, each of them once.
 pub fn thread<F: Files>(
     alloc: Global,
     files: &mut F,
@@ -148,8 +149,9 @@ fn known_whole_thread<F: Files>(
     Ok(Thread { key, numbers })
 }
 
-/// The thread of post n, on a list with this prefix: the key of its subject, and the numbers of all posts whose subject has that
-/// key, in order. None where n is 0 or above the number of posts. It reads the number of posts, one index and one thread file.
+/// The thread of post n, on a list with this prefix: the key of its subject, and the numbers of all posts whose subject
+/// has that key, in order. None if n is 0 or above the number of posts. It reads the number of posts, one index and one
+/// thread file.
 pub fn whole_thread<F: Files>(
     alloc: Global,
     files: &mut F,

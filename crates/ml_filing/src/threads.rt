@@ -1,4 +1,4 @@
-// The threads of a file.
+// Reads and writes thread files: the numbers of posts under each subject key.
 ghost use Rattle.std.specs.Prelude.{◌≡◌, ◌<◌, ◌%◌, true, false, ℕ, IsTrue, [], ◌∷◌, ◌++◌, length, Some, None, IfOk, IfSome, IfNone, OnOk};
 ghost use Rattle.std.specs.List.{flat_map, list_all};
 ghost use Rattle.std.specs.Option.{option_map};
@@ -26,21 +26,21 @@ pub(crate) fn place_of(key: &[u8]) -> u8
     (hash(key) % 256) as u8
 }
 
-// Whether numbers may all be those of posts.
+// Whether all numbers are ones that posts can have.
 fn are_post_numbers(numbers: &[u64]) -> bool
     ensures { result ≡ list_all ranges.is_post_number numbers.now }
 {
     numbers.iter().all(|number| is_post_number(*number))
 }
 
-// Whether a thread may stand in the file with this number.
+// Whether a thread may be in the file with this number.
 fn fits(n: u8, key: &[u8], numbers: &[u64]) -> bool
     ensures { result ≡ spec.fits n (record { key = key.now; numbers = numbers.now }) }
 {
     place_of(key) == n && !numbers.is_empty() && are_post_numbers(numbers) && are_rising(numbers)
 }
 
-// The thread that two texts spell, where it belongs to the file with this number.
+// The thread that two texts spell, if it belongs to the file with this number.
 fn thread_of(alloc: Global, n: u8, key: &[u8], text: &[u8]) -> Result<Option<Thread>, AllocError>
     ensures { IfOk result (λ r. r ≡ thread_of_fields n (key.now ∷ text.now ∷ [])) }
 {
@@ -54,7 +54,7 @@ fn thread_of(alloc: Global, n: u8, key: &[u8], text: &[u8]) -> Result<Option<Thr
     Ok(Some(Thread { key, numbers }))
 }
 
-// The two texts whose netstrings a text begins with, and what is behind them.
+// The two texts whose netstrings a text begins with, and what comes after them.
 fn texts_of(text: &[u8]) -> Option<(&[u8], &[u8], &[u8])>
     ensures some { IfSome result (λ t. netstrings_at 2 text.now ≡ Some (t.0.now ∷ t.1.now ∷ [], t.2.now)) }
     ensures none { IfNone result (netstrings_at 2 text.now ≡ None) }
@@ -65,7 +65,7 @@ fn texts_of(text: &[u8]) -> Option<(&[u8], &[u8], &[u8])>
     Some((key, numbers, rest))
 }
 
-// The threads whose row a text is.
+// The threads that a text spells one after another.
 fn threads_of(alloc: Global, n: u8, text: &[u8]) -> Result<Option<Threads>, AllocError>
     ensures { IfOk result (λ r. r ≡ row_of (thread_at n) 0 text.now) }
 {
@@ -84,7 +84,7 @@ fn threads_of(alloc: Global, n: u8, text: &[u8]) -> Result<Option<Threads>, Allo
     Ok(Some(out))
 }
 
-// Whether a text stands before another in the order of bytes.
+// Whether a text comes before another in the order of bytes.
 fn is_before(a: &[u8], b: &[u8]) -> bool
     ensures { result ≡ is_lt (byte_cmp a.now b.now) }
 {
@@ -101,7 +101,7 @@ fn is_below_first(key: &[u8], threads: &[Thread]) -> bool
     }
 }
 
-// Whether the keys of threads rise.
+// Whether the keys of threads are in ascending order.
 fn keys_rise(threads: &[Thread]) -> bool
     ensures { result ≡ is_sorted byte_cmp (λ t. t.key) threads.now }
 {
@@ -115,7 +115,7 @@ fn keys_rise(threads: &[Thread]) -> bool
     true
 }
 
-// The threads of the file with this number, or None of a text that is none.
+// The threads of the file with this number, or None if the text is no such file.
 pub(crate) fn read_threads(alloc: Global, n: u8, text: &[u8]) -> Result<Option<Threads>, AllocError>
     ensures { IfOk result (λ r. r ≡ threads_in n text.now) }
 {
@@ -129,7 +129,7 @@ pub(crate) fn read_threads(alloc: Global, n: u8, text: &[u8]) -> Result<Option<T
     }
 }
 
-// The numbers of a key.
+// The numbers under a key.
 pub(crate) fn numbers_for<'a>(threads: &'a [Thread], key: &[u8]) -> &'a [u64]
     ensures { result.now ≡ numbers_under key.now threads.now }
 {
@@ -165,7 +165,7 @@ fn push_threads(alloc: Global, out: &mut Bytes, threads: &[Thread]) -> Result<()
     Ok(())
 }
 
-// The first of some threads and those behind it, where it is below a key.
+// The first of some threads and those after it, if its key is below another.
 fn next_below<'a>(threads: &'a [Thread], key: &[u8]) -> Option<(&'a Thread, &'a [Thread])>
     ensures some { IfSome result (λ r. (threads.now ≡ r.0.now ∷ r.1.now) × (is_lt (byte_cmp r.0.now.key key.now) ≡ true)) }
     ensures none { IfNone result (answers.is_from key.now threads.now ≡ true) }
@@ -180,7 +180,7 @@ fn next_below<'a>(threads: &'a [Thread], key: &[u8]) -> Option<(&'a Thread, &'a 
     }
 }
 
-// The threads without the first, where it is of this key.
+// The threads without the first, if that has this key.
 fn behind<'a>(threads: &'a [Thread], key: &[u8]) -> &'a [Thread]
     ensures { result.now ≡ answers.behind_key key.now threads.now }
 {
@@ -194,7 +194,7 @@ fn behind<'a>(threads: &'a [Thread], key: &[u8]) -> &'a [Thread]
     }
 }
 
-// The thread of a key with one number more.
+// The thread of a key with one more number.
 fn longer(alloc: Global, threads: &[Thread], key: &[u8], number: u64) -> Result<Thread, AllocError>
     ensures { IfOk result (λ thread. thread ≡ record { key = key.now; numbers = numbers_under key.now threads.now ++ number ∷ [] }) }
 {
@@ -206,7 +206,7 @@ fn longer(alloc: Global, threads: &[Thread], key: &[u8], number: u64) -> Result<
     })
 }
 
-// The text of threads with this one, in the place of the one of its key.
+// The text of threads with this one, in the place of the one with its key.
 fn text_with(alloc: Global, threads: &[Thread], thread: &Thread) -> Result<Bytes, AllocError>
     ensures { IfOk result (λ text. text ≡ flat_map thread_text (with_entry byte_cmp (λ t. t.key) thread.now threads.now)) }
 {
@@ -222,7 +222,7 @@ fn text_with(alloc: Global, threads: &[Thread], thread: &Thread) -> Result<Bytes
     Ok(out)
 }
 
-// The text of threads with a number under a key, behind those that are there.
+// The text of threads with one more number under a key, after those that are there.
 pub(crate) fn text_with_number(
     alloc: Global,
     threads: &[Thread],

@@ -1,4 +1,4 @@
--- The people of an exercise have addresses.
+-- The people in an exercise have valid addresses.
 use Rattle.std.proofs.Common.{◌≡◌, ℕ, suc, ◌+◌, ◌%◌, ◌^◌, ◌<◌, ◌≤◌, List, [], ◌∷◌, ◌++◌, ◌&&◌, true, length, Result, Ok, Err, is_ok, ap, ap₂, sym, refl, ◌∙◌, arith, codes, nat_lt}
 use Rattle.std.proofs.lemmas.Bool.Decides.{nat_tests}
 use Rattle.std.proofs.lemmas.Fmt.{decimal_by_steps}

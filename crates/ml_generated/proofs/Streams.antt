@@ -1,4 +1,4 @@
--- The items of an exercise make a stream, and how long it is.
+-- The items of an exercise make a stream, and it isn't too long.
 use Rattle.std.proofs.Common.{◌≡◌, ℕ, zero, suc, ◌+◌, ◌*◌, ◌/◌, ◌%◌, ◌^◌, ◌<◌, ◌≤◌, [], ◌∷◌, ◌++◌, length, drop, Some, ap, refl, ◌∙◌, arith, codes, length-append, length-drop}
 use Rattle.std.proofs.lemmas.Bool.Decides.{nat_tests}
 use Rattle.std.proofs.lemmas.List.Concat.{flat_map-cons}
@@ -15,7 +15,7 @@ use Rattle.ml_generated.specs.declared.items.Kind.TheVariants as kinds
 use Rattle.ml_generated.proofs.People.{is_address}
 use Rattle.ml_generated.proofs.Sizes.{address_size, bounce_size, digits_short, message_size, ns_short}
 
--- an entry of the queue is told of by items that end in 9
+-- only items whose number ends in 9 report an entry of the queue
 nine : (d : ℕ) → kind_of d ≡ kinds.Sent → d ≡ 9
 nine d is = grind (arith, nat_tests)
 
@@ -78,7 +78,7 @@ member_size set i short =
     let c = ns_short set (omega (arith, short)) in
     omega (arith, who, a, b, c)
 
--- an act takes so many bytes at most
+-- an act takes at most 900 bytes
 act_size : (k : Kind) (local host : Text) (i : ℕ) → length local ≤ 60 → length host ≤ 255 → i < 1_000_000 → length (spelled_act (act_of k local host i)) ≤ 900
 act_size kinds.Join local host i few some small = member_size (codes "list") i (omega arith)
 act_size kinds.Bounce local host i few some small = delivery_size [] (bounce_address local host i) (line []) (omega arith) (bounce_size local host i few some small) (omega arith)
@@ -117,7 +117,7 @@ stream_size local host first (suc more) few some all =
     ap length (flat_map-cons spelled_item (item local host first) (items_from local host (first + 1) more)) ∙ length-append (spelled_item (item local host first)) rest in
     omega (arith, one, others, whole)
 
--- what is left can be counted
+-- the bytes that are left can be counted in 64 bits
 pub room : (local host held : Text) (at next ahead : ℕ) → length local ≤ 60 → length host ≤ 255 → next + ahead ≤ 1_000_000 → length held ≤ 1024 → length (left_of local host held at next ahead) < 2 ^ 64
 room local host held at next ahead few some all short =
     let rest = stream_text (items_from local host next ahead) in

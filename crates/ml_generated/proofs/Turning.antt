@@ -1,4 +1,4 @@
--- A source of the items of an exercise turns to its next item, and gives bytes of one.
+-- A source of an exercise turns to its next item, and gives the bytes of one.
 use Rattle.std.proofs.Common.{◌≡◌, ℕ, zero, suc, ◌+◌, ◌-◌, ◌<◌, ◌≤◌, min, ◌++◌, length, take, drop, Some, ap, ap₂, sym, refl, ◌∙◌, arith, append_assoc, length-append, length-drop, length-take}
 use Rattle.std.proofs.lemmas.List.{drop_all, drop-drop, take-append-drop, take-append-le, take_all}
 use Rattle.std.proofs.lemmas.List.Concat.{flat_map-cons}
@@ -7,7 +7,7 @@ use Rattle.ml_site.specs.Source.{Takes}
 use Rattle.ml_stream.specs.Writing.{spelled_item, stream_text}
 use Rattle.ml_generated.specs.Items.{item, items_from, left_of}
 
--- all of the item that was held is taken, and the next one is held
+-- the item that was held is taken whole, and the next one is held
 pub turned : (local host held fresh : Text) (at next ahead : ℕ) → at ≡ length held → 0 < ahead → fresh ≡ spelled_item (item local host next)
     → left_of local host fresh 0 (next + 1) (ahead - 1) ≡ left_of local host held at next ahead
 turned local host held fresh at next zero all some is = absurd (omega arith)
@@ -17,7 +17,7 @@ turned local host held fresh at next (suc more) all some is =
     ap (λ (k : ℕ). fresh ++ stream_text (items_from local host (next + 1) k)) less ∙ ap (λ (t : Text). t ++ stream_text rest) is
     ∙ sym (flat_map-cons spelled_item (item local host next) rest) ∙ ap (λ (t : Text). t ++ stream_text (items_from local host next (suc more))) (sym (drop_all at held (omega arith)))
 
--- the front of what is left of an item is read into a buffer
+-- some first bytes of what is left of an item are read into a buffer
 taken : (held left buf part : Text) (at count : ℕ) → left ≡ take (length held - at) (drop at held) → count ≡ min (length left) (length buf) → part ≡ take count left
     → drop at held ≡ take count (part ++ drop count buf) ++ drop (at + count) held
 taken held left buf part at count is_left is_count is_part =
@@ -26,7 +26,7 @@ taken held left buf part at count is_left is_count is_part =
     let front : take count (part ++ drop count buf) ≡ part = take-append-le count part (drop count buf) (omega (arith, part_len)) ∙ take_all count part (omega (arith, part_len)) in
     sym (ap (λ (t : Text). t ++ drop (at + count) held) (front ∙ is_part ∙ ap (take count) all) ∙ ap (λ (t : Text). take count (drop at held) ++ t) (sym (drop-drop count at held)) ∙ take-append-drop count (drop at held))
 
--- a read takes from the item that is held; where it gives no byte, there is none behind it
+-- a read takes from the item that is held; if it gives no byte, no item comes after that
 pub takes : (local host held buf part left : Text) (at count next ahead : ℕ) → (at ≡ length held → ahead ≡ 0) → at ≤ length held → left ≡ take (length held - at) (drop at held) → count ≡ min (length left) (length buf) → part ≡ take count left
     → Takes (left_of local host held at next ahead) (Some (left_of local host held (at + count) next ahead)) (part ++ drop count buf) count
 takes local host held buf part left at count next ahead end within is_left is_count is_part = (

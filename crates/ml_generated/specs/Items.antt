@@ -1,4 +1,4 @@
--- The items of an exercise: what each does is told by the last digit of its number.
+-- The items of an exercise. The last digit of an item's number decides what it does.
 use Rattle.std.specs.Prelude.{ℕ, zero, suc, ◌+◌, ◌*◌, ◌/◌, ◌%◌, ◌==◌, if◌then◌else◌, List, [], ◌∷◌, ◌++◌, drop}
 use Rattle.ml_base.specs.Bytes.{Text}
 use Rattle.ml_base.specs.declared.names.Set.TheVariants as sets
@@ -32,11 +32,11 @@ act_of kinds.Request local host i = acts.Deliver (address i) (request_address lo
 act_of kinds.Sent local host i = acts.Sent ((i + 1) / 10)
 act_of kinds.Timed local host i = acts.Timed
 
--- the item of a number, for a list of this local part and host
+-- the item with this number, for a list with this local part and host
 abbrev pub item : Text → Text → ℕ → Item
 item local host i = record { number = i; moment = 1_000_000_000 + 1000 * i; act = act_of (kind_of (i % 10)) local host i }
 
--- so many items from this number on
+-- `more` items, from this number on
 abbrev pub items_from : Text → Text → ℕ → ℕ → List Item
 items_from local host first zero = []
 items_from local host first (suc more) = item local host first ∷ items_from local host (first + 1) more
@@ -45,6 +45,6 @@ items_from local host first (suc more) = item local host first ∷ items_from lo
 abbrev pub generated : Text → Text → ℕ → List Item
 generated local host n = items_from local host 1 n
 
--- the bytes that are left where some of one item's bytes are taken, and so many items are behind it from this number on
+-- the bytes that are left if `at` bytes of the held item are taken, and `ahead` items come after it, from number `next` on
 abbrev pub left_of : Text → Text → Text → ℕ → ℕ → ℕ → Text
 left_of local host held at next ahead = drop at held ++ stream_text (items_from local host next ahead)

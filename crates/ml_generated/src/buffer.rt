@@ -1,4 +1,4 @@
-// Bytes in a fixed buffer.
+// A buffer of fixed size, for the bytes of one item.
 ghost use Rattle.std.specs.Prelude.{◌≡◌, ◌≤◌, ◌+◌, List, ℕ, [], ◌++◌, length, take};
 ghost use Rattle.std.specs.Fmt.{decimal};
 ghost use Rattle.ml_base.specs.Netstrings.{ns};
@@ -6,7 +6,7 @@ ghost use Rattle.ml_base.specs.Netstrings.{ns};
 use ml_base::{put_number, put_piece};
 use std::marker::Model;
 
-/// At most 1,024 bytes. It takes no memory.
+/// A row of at most 1,024 bytes. It takes no memory.
 #[derive(Drop)]
 pub(crate) struct Buffer {
     bytes: [u8; 1024],
@@ -22,7 +22,7 @@ impl Model for Buffer {
 }
 
 impl Buffer {
-    /// No bytes.
+    /// An empty buffer.
     pub fn new() -> Self
         ensures { result ≡ [] }
     {
@@ -32,14 +32,14 @@ impl Buffer {
         }
     }
 
-    /// The bytes.
+    /// The bytes that were added.
     pub fn as_slice(&self) -> &[u8]
         ensures { result.now ≡ self.now }
     {
         &self.bytes[..self.len]
     }
 
-    /// How many bytes there are.
+    /// How many bytes were added.
     pub fn len(&self) -> usize
         ensures { result ≡ length self.now }
     {

@@ -1,4 +1,4 @@
-// A source of the items of an exercise.
+// The source that gives the items of an exercise.
 ghost use Rattle.std.specs.Prelude.{◌≡◌, ◌≤◌, ◌<◌, ◌+◌, ◌^◌, Some, IsOk, length};
 ghost use Rattle.ml_stream.specs.Writing.{stream_text};
 ghost use Rattle.ml_site.specs.Source.{left-room};
@@ -8,19 +8,19 @@ use crate::buffer::Buffer;
 use crate::items::item;
 use ml_site::{Failed, Source};
 
-/// The bytes of the items of an exercise, one item after the other. It holds one of them at a time, takes no memory, and no read fails.
+/// The bytes of the items of an exercise, item after item. It holds one of them at a time, takes no memory, and no read fails.
 ///
-/// Item `i` has the number `i` and the moment `1_000_000_000 + 1000 * i`, in seconds since 1970. By the last digit of `i` it adds a member
-/// (1, 2, 3), delivers a bounce (4), adds a member of the digest (5), removes a member (6), delivers a post (7), delivers a request to join
-/// (8), reports an entry of the queue as sent (9), or is a timed run (0).
+/// Item `i` has the number `i` and the moment `1_000_000_000 + 1000 * i`, in seconds since 1970. The last digit of `i` decides what it does:
+/// it adds a member (1, 2, 3), delivers a bounce (4), adds a member of the digest (5), removes a member (6), delivers a post (7), delivers a
+/// request to join (8), reports an entry of the queue as sent (9), or is a timed run (0).
 #[derive(Drop)]
 pub struct Generated {
     local: Buffer,
     host: Buffer,
-    // The number of the item behind the one that is held, and how many there are from it on.
+    // The number of the item after the one that is held, and how many items there are from it on.
     next: u64,
     ahead: u64,
-    // The item that is held, and how many bytes of it are taken.
+    // The item that is held, and how many of its bytes are taken.
     item: Buffer,
     at: usize,
     ghost local_fits: { length local ≤ 60 },
@@ -56,7 +56,7 @@ impl Generated {
         }
     }
 
-    // Holds the next item where all of the one that is held is taken.
+    // Holds the next item if the one that is held is taken whole.
     fn turn(&mut self)
         ensures left { generated_left self.new ≡ generated_left self.old }
         ensures end { self.new.at ≡ length self.new.item → self.new.ahead ≡ 0 }

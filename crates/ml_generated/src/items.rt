@@ -1,4 +1,4 @@
-// The bytes of one item of an exercise.
+// Writes one item of an exercise.
 ghost use Rattle.std.specs.Prelude.{◌≡◌, ◌≤◌, ◌+◌, [], ◌∷◌, ◌++◌, length};
 ghost use Rattle.ml_base.specs.Netstrings.{ns};
 ghost use Rattle.ml_stream.specs.Writing.{letter as letter_of, spelled_act, spelled_item};
@@ -44,7 +44,7 @@ fn kind_of(digit: u64) -> Kind
     }
 }
 
-/// The bytes of the item of a number, 1 to 999,999, for a list of this local part and host.
+/// The bytes of the item with this number, 1 to 999,999, for a list with this local part and host.
 pub(crate) fn item(local: &[u8], host: &[u8], i: u64) -> Buffer
     requires local { length local.now ≤ 60 }
     requires host { length host.now ≤ 255 }
@@ -73,7 +73,7 @@ fn letter(kind: Kind) -> u8
     }
 }
 
-// Adds what the act of an item is about at the end.
+// Adds the elements of an act at the end.
 fn put_act(out: &mut Buffer, kind: Kind, local: &[u8], host: &[u8], i: u64)
     requires room { length out.old ≤ 100 }
     requires local { length local.now ≤ 60 }
@@ -110,7 +110,7 @@ fn put_member(out: &mut Buffer, set: &[u8], i: u64)
 }
 
 // Adds a sender, a recipient and a message at the end: a message of an item's person to the list, sent to the list's address with
-// these words behind its local part.
+// these words after its local part.
 fn put_post(out: &mut Buffer, words: &[u8], local: &[u8], host: &[u8], i: u64)
     requires room { length out.old ≤ 100 }
     requires words { length words.now ≤ 10 }

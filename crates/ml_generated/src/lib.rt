@@ -1,4 +1,4 @@
-//! The items of an exercise: a stream that is made from a count, and uses every part of a list.
+//! An exercise: a stream of N made-up items that use every part of a list.
 #![tactic(auto)]
 
 mod buffer;

@@ -1,11 +1,11 @@
-// The texts in the items of an exercise.
+// Writes the texts in the items of an exercise.
 ghost use Rattle.std.specs.Prelude.{◌≡◌, ◌≤◌, ◌+◌, ◌∷◌, ◌++◌, length};
 ghost use Rattle.std.specs.Fmt.{decimal};
 ghost use Rattle.ml_generated.specs.Texts as spec;
 
 use crate::buffer::Buffer;
 
-/// Adds an address of the list at the end, with these words behind its local part.
+/// Adds an address of the list at the end, with these words after its local part.
 pub(crate) fn put_list(out: &mut Buffer, local: &[u8], words: &[u8], host: &[u8])
     requires { length out.old + length local.now + length words.now + length host.now + 1 ≤ 1024 }
     ensures text { out.new ≡ out.old ++ local.now ++ words.now ++ 64 ∷ host.now }
@@ -30,7 +30,7 @@ pub(crate) fn address(i: u64) -> Buffer
     out
 }
 
-// Whom an item is about.
+// The person that an item is about, by number.
 fn person(i: u64) -> u64
     requires { i ≤ 999_999 }
     ensures { result ≡ spec.person i }
@@ -38,7 +38,7 @@ fn person(i: u64) -> u64
     37 * i % 97
 }
 
-/// The envelope sender under which the list sent a post to an item's person.
+/// The envelope sender with which the list sent a post to an item's person.
 pub(crate) fn bounce_address(local: &[u8], host: &[u8], i: u64) -> Buffer
     requires local { length local.now ≤ 60 }
     requires host { length host.now ≤ 255 }

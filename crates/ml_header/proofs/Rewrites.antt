@@ -1,4 +1,4 @@
--- Messages that are rewritten, field by field.
+-- How messages are rewritten, field by field, as the code does it.
 use Rattle.std.proofs.Common.{◌≡◌, ℕ, zero, suc, ◌+◌, ◌-◌, ◌<◌, ◌≤◌, Bool, true, false, not, cond, ◌==◌, ◌&&◌, ◌||◌, nat_eq, List, [], ◌∷◌, ◌++◌, length, take, drop, Option, Some, None, is_some, codes, filter, find, unwrap_or, refl, sym, ap, ap₂, ◌∙◌, arith, append_assoc, length-append}
 use Rattle.std.specs.List.{flat_map, ends_with}
 use Rattle.std.specs.Option.{option_map, option_or}
@@ -61,7 +61,7 @@ among_next row name more f cut = ap (λ ns. is_among ns f) (names_next row name 
 pub among_none : (row : Text) (f : FieldText) → None ≡ split_first 10 row → is_among (names_of row) f ≡ false
 among_none row f cut = ap (λ ns. is_among ns f) (no_names row cut)
 
--- where a needle stands
+-- where a part begins in a text
 front_true : (part text : Text) → take (length part) text ≡ part → begins_with part text ≡ true
 front_true part text e = (bytes_eq-Decides part (take (length part) text)).1 (sym e)
 
@@ -135,12 +135,12 @@ pub ended_body : (old body text new : Text) → (length body == 0) ≡ false →
 ended_body old [] text new some e f = absurd (let bad : true ≡ false = some in cc)
 ended_body old (b ∷ bs) text new some e f = f ∙ ap with_line_end e ∙ line_end_behind old (b ∷ bs) (omega arith)
 
--- whether a search found a needle
+-- whether a search found a part
 pub is_found : (part text : Text) (r : Option ℕ) → FindsNeedle text part 0 r → is_some r ≡ has_part part text
 is_found part text None none = sym (no_part part text none)
 is_found part text (Some k) found = sym (found_part part text k found.1)
 
--- one field, and those behind it
+-- one field, and those after it
 abbrev subject : Text
 subject = codes "subject"
 
@@ -177,7 +177,7 @@ value_next name None f fs = go (has_name name f)
     go true = refl
     go false = refl
 
--- one turn over the fields
+-- one step over the fields
 pub value_turn : (name : Text) (found next : Option Text) (f : FieldText) (fs all : List FieldText) (v : Option Text)
     → all ≡ f ∷ fs → next ≡ onto_value name found f → option_or found (value_in name all) ≡ v → option_or next (value_in name fs) ≡ v
 value_turn name found next f fs all v is then e =
@@ -191,10 +191,6 @@ text_turn remove old new v due rest f fs all is put left e =
     ∙ append_assoc old (kept_text remove (here due f) f) (sent_fields remove (with_first (later due f) fs))
     ∙ ap (λ t. old ++ t) (sym (sent_next remove due f fs))
     ∙ ap (λ l. old ++ sent_fields remove (with_first due l)) (sym is) ∙ e
-
-pub value_end : (found : Option Text) → option_or found None ≡ found
-value_end (Some value) = refl
-value_end None = refl
 
 -- the fields of a message are whole
 whole_field : (line : Text) (parts : Text × Text) (loose : Text) → field_line line ≡ Some parts → line ++ loose ≡ parts.0 ++ 58 ∷ (parts.1 ++ loose)
@@ -217,12 +213,12 @@ fields_whole m = go (is_empty (header_of (lines m)).loose)
     go true = header_whole (lines m)
     go false = tt
 
--- the steps make the whole
+-- the steps together do the whole
 none_first : (fs : List FieldText) → with_first None fs ≡ fs
 none_first [] = refl
 none_first (f ∷ fs) = ap (λ t. f ∷ t) (none_first fs)
 
--- the unfolded subject of fields, or nothing where there is none
+-- the unfolded subject of fields, or nothing if there is none
 abbrev subject_in : Option FieldText → Text
 subject_in found = unwrap_or (option_map (λ f. unfolded_value f.value) found) []
 

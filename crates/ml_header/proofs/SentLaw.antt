@@ -1,4 +1,4 @@
--- The text that is sent is read again: the fields in front, those that are kept, and the body.
+-- The text that is sent is read again: the fields put in front, those that are kept, and the body.
 use Rattle.std.proofs.Common.{◌≡◌, ◌-◌, Bool, true, false, not, cond, ◌==◌, ◌&&◌, ◌||◌, inl, inr, nat_eq, List, [], ◌∷◌, ◌++◌, length, take, drop, map, filter, codes, Option, Some, None, IfSome, refl, sym, ap, ap₂, ◌∙◌, arith, append_assoc, take-append-drop}
 use Rattle.std.specs.List.{flat_map, ends_with, AllByRecursion}
 use Rattle.std.proofs.lemmas.Bool.{eqb-true, eq-eqb}
@@ -32,7 +32,7 @@ line_ends t = go (ends_with nat_eq t lf) refl
     go true is = ends_so t is
     go false is = (t, refl)
 
--- a folded value stays so with an LF at its end
+-- a folded value stays folded if an LF is added
 folded_end : (v : Text) → is_folded v ≡ true → ends_with nat_eq v lf ≡ false → is_folded (v ++ lf) ≡ true
 folded_end [] e no_lf = refl
 folded_end (b ∷ []) e no_lf = go (b == 10) refl
@@ -107,7 +107,7 @@ message_fields m = go (read_all m)
     go (inl made) = made.are_fields
     go (inr all) = none (fields m) all.no_fields
 
--- a folded value behind a text without an LF stays so
+-- a folded value stays folded after a text without an LF
 folded_behind : (t v : Text) → has_byte 10 t ≡ false → is_folded v ≡ true → is_folded (t ++ v) ≡ true
 folded_behind [] v no_lf e = e
 folded_behind (b ∷ bs) v no_lf e = go (b == 10) refl no_lf (λ rest. folded_behind bs v rest e)

@@ -1,4 +1,4 @@
--- What a message is made of: fields, and behind them nothing, or an empty line and a body, or a body alone.
+-- What a message is made of: fields, followed by nothing, by an empty line and a body, or by a body alone.
 use Rattle.std.specs.Prelude.{◌≡◌, Bool, true, false, not, ◌&&◌, ◌||◌, ◌==◌, ◌⊎◌, List, [], ◌∷◌, ◌++◌, Option, None, filter}
 use Rattle.std.specs.List.{flat_map, AllByRecursion}
 use Rattle.ml_base.specs.Bytes.{Text, is_empty, colon, line_feed}
@@ -11,7 +11,7 @@ use Rattle.ml_header.specs.Rewriting.{names_of, is_among, prefixed}
 abbrev pub EndsInLf : Text → Type 0
 EndsInLf text = (front : Text) × (text ≡ front ++ line_feed ∷ [])
 
--- behind each LF, but for one at the end, a space or a tab stands
+-- a space or a tab follows every LF, except for one at the end
 abbrev pub is_folded : Text → Bool
 is_folded [] = true
 is_folded (b ∷ bs) = (not (b == line_feed) || is_empty bs || begins_blank bs) && is_folded bs
@@ -23,19 +23,19 @@ pub record IsField (f : FieldText) : Type 0 where
   pub whole : f.lines ≡ f.name ++ colon ∷ f.value
   pub folded : is_folded f.value ≡ true
 
--- each of the fields ends in an LF, but for a last one with nothing behind it
+-- every field ends in an LF, except for the last one if nothing follows it
 abbrev pub AreEnded : List FieldText → Text → Type 0
 AreEnded [] rest = Unit {0}
 AreEnded (f ∷ fs) rest = (EndsInLf f.lines ⊎ ((fs ≡ []) × (rest ≡ []))) × AreEnded fs rest
 
--- an empty line, and a body behind it; a line that doesn't end in an LF is the last
+-- an empty line followed by a body; if the line doesn't end in an LF, it is the last
 pub record Parted (rest body : Text) : Type 0 where
   pub line : Text
   pub is_empty : is_empty_line line ≡ true
   pub ended : EndsInLf line ⊎ (body ≡ [])
   pub whole : rest ≡ line ++ body
 
--- a body whose first line is not empty, begins no field and goes on none
+-- a body whose first line isn't empty, begins no field and continues none
 pub record Unparted (rest body : Text) : Type 0 where
   pub whole : rest ≡ body
   pub line : Text
@@ -45,11 +45,11 @@ pub record Unparted (rest body : Text) : Type 0 where
   pub no_field : field_line line ≡ None
   pub no_fold : begins_blank line ≡ false
 
--- what stands behind the fields
+-- what may follow the fields
 abbrev pub Behind : Text → Text → Type 0
 Behind rest body = ((rest ≡ []) × (body ≡ [])) ⊎ (Parted rest body ⊎ Unparted rest body)
 
--- fields, and what stands behind them
+-- fields, and what follows them
 pub record Made (m : Text) (fs : List FieldText) (body : Text) : Type 0 where
   pub rest : Text
   pub whole : m ≡ flat_map (λ f. f.lines) fs ++ rest
@@ -57,7 +57,7 @@ pub record Made (m : Text) (fs : List FieldText) (body : Text) : Type 0 where
   pub ended : AreEnded fs rest
   pub behind : Behind rest body
 
--- a message whose first line would go on a field is all body
+-- a message whose first line would continue a field is all body
 pub record AllBody (m : Text) (fs : List FieldText) (body : Text) : Type 0 where
   pub no_fields : fs ≡ []
   pub whole : body ≡ m
@@ -76,6 +76,6 @@ pub record IsRow (text : Text) (fs : List FieldText) : Type 0 where
 abbrev pub ended_field : FieldText → FieldText
 ended_field f = record f { value = with_line_end f.value; lines = with_line_end f.lines }
 
--- the fields of a message but for those that are left out, with a prefix in the first subject where it is due
+-- the fields of a message except for those that are left out, with a prefix in the first subject if it is due
 abbrev pub kept_fields : Text → Option Text → Text → List FieldText
 kept_fields remove prefix m = filter (λ f. not (is_among (names_of remove) f)) (prefixed prefix m)

@@ -1,4 +1,4 @@
-// What holds of the words of this crate, whatever message they are read from.
+// What holds of messages and of what is sent of them, whatever message it is.
 ghost use Rattle.std.specs.Prelude.{◌≡◌, true, false, ◌++◌, List, Option, IfSome, map};
 ghost use Rattle.std.specs.List.{AllByRecursion};
 ghost use Rattle.ml_base.specs.Bytes.{Text};
@@ -9,19 +9,19 @@ ghost use Rattle.ml_header.specs.Forms.{IsMadeOf, IsRow, ended_field, kept_field
 ghost use Rattle.ml_header.specs.Rewriting.{has_part, names_of, trailed, rewritten};
 ghost use Rattle.ml_header.specs.Unfolding.{trim_front, trim_end, unfolded_value};
 
-/// Every row of bytes is, in exactly one way, a row of fields, and then nothing, or an empty line and a body, or a body
-/// that begins with a line that is no field. What is put together so has these fields and this body.
+/// Every row of bytes is, in exactly one way, a row of fields followed by nothing, by an empty line and a body, or by a body
+/// that begins with a line that is no field. What is put together like this has these fields and this body.
 pub fn law_messages()
     ensures read { (m : Text) → IsMadeOf m (fields m) (body m) }
     ensures one { (m : Text) (fs : List FieldText) (b : Text) → IsMadeOf m fs b → (fields m ≡ fs) × (body m ≡ b) }
 {}
 
-/// A row of names, each ended by an LF, has these names, whatever bytes without an LF stand behind it.
+/// A row of names, each ended by an LF, has these names, whatever bytes without an LF follow them.
 pub fn law_names()
     ensures { (names : List Text) (rest : Text) → AllByRecursion (λ name. has_byte 10 name ≡ false) names → has_byte 10 rest ≡ false → names_of (lines_text names ++ rest) ≡ names }
 {}
 
-/// A text has a part exactly where it is that part with bytes before and behind it.
+/// A text has a part exactly if it is that part with bytes before and after it.
 pub fn law_parts()
     ensures read { (part text : Text) → has_part part text ≡ true → (before behind : Text) × (text ≡ before ++ (part ++ behind)) }
     ensures written { (before part behind : Text) → has_part part (before ++ (part ++ behind)) ≡ true }
@@ -34,9 +34,9 @@ pub fn law_unfolded()
     ensures end_trimmed { (value : Text) → trim_end (unfolded_value value) ≡ unfolded_value value }
 {}
 
-/// The text that is sent of a message is read again: its fields are those in front, which are each ended by an LF, and
-/// behind them the message's own, with the prefix where it is due, but for those that are left out, each ended by an LF;
-/// its body is the message's, with the trailer where it is due. The prefix has no LF.
+/// The text that is sent of a message is read again like this: its fields are those of the lines in front and then the message's own,
+/// without those that are left out and with the prefix if it is due, each ended by an LF; its body is the message's, with the
+/// trailer if it is due. The prefix has no LF.
 pub fn law_sent()
     ensures { (m remove add : Text) (fs : List FieldText) (prefix trailer : Option Text) → IsRow add fs → IfSome prefix (λ p. has_byte 10 p ≡ false) →
         (fields (rewritten m remove add prefix trailer) ≡ fs ++ map ended_field (kept_fields remove prefix m)) × (body (rewritten m remove add prefix trailer) ≡ trailed trailer m) }

@@ -1,4 +1,4 @@
-// The text that is sent of a message.
+// How the text that a list sends is made of a message.
 ghost use Rattle.std.specs.Prelude.{◌≡◌, ◌++◌, ◌<◌, IfOk, OnOk, length, codes, is_some};
 ghost use Rattle.std.specs.Option.{option_map};
 ghost use Rattle.ml_base.specs.Bytes.{lower};
@@ -17,11 +17,11 @@ use memchr::memmem;
 use ml_base::{Bytes, split_first};
 use std::alloc::{AllocError, Global};
 
-// Two spaces round a prefix, and three LFs: of the last field, behind the header, and before a trailer.
+// Two spaces round a prefix, and three LFs: of the last field, after the header, and before a trailer.
 const ENDS: usize = 5;
 
-// The values that decide whether a trailer is due: those of the first content type and the first encoding, as far as
-// fields were read.
+// The values that decide whether a trailer is due: those of the first content type and of the first encoding, in the
+// fields that were read so far.
 #[derive(Clone, Copy)]
 struct Met<'a> {
     kind: Option<&'a [u8]>,
@@ -29,7 +29,7 @@ struct Met<'a> {
 }
 
 impl<'a> Met<'a> {
-    // With a further field.
+    // The values after one more field.
     fn with(self, field: &Field<'a>) -> Met<'a>
         ensures kind { option_map (λ v. v.now) result.kind ≡ onto_value (codes "content-type") (option_map (λ v. v.now) self.entry.kind) (text_of field.now) }
         ensures encoding { option_map (λ v. v.now) result.encoding ≡ onto_value (codes "content-transfer-encoding") (option_map (λ v. v.now) self.entry.encoding) (text_of field.now) }
@@ -68,7 +68,7 @@ fn has_part(part: &[u8], text: &[u8]) -> bool
     memmem::find(text, part).is_some()
 }
 
-// The prefix, unless a subject's value has it at some place in any case of letters.
+// The prefix, unless a subject's value already has it somewhere, in any case of letters.
 fn due_prefix<'p>(
     alloc: Global,
     prefix: &'p [u8],
@@ -111,7 +111,7 @@ fn is_base64(alloc: Global, encoding: Option<&[u8]>) -> Result<bool, AllocError>
     }
 }
 
-// The trailer, where the body is plain text.
+// The trailer, if the body is plain text.
 fn due_trailer<'t>(
     alloc: Global,
     met: &Met<'_>,
@@ -133,7 +133,7 @@ fn due_trailer<'t>(
     }
 }
 
-// Whether a field has one of the names of a row, each ended by an LF, in any case of letters.
+// Whether a field has one of the names of a row, in which each is ended by an LF, in any case of letters.
 fn is_among(names: &[u8], field: &Field<'_>) -> bool
     ensures { result ≡ words.is_among (names_of names.now) (text_of field.now) }
 {
@@ -147,7 +147,7 @@ fn is_among(names: &[u8], field: &Field<'_>) -> bool
     false
 }
 
-// Adds an LF where the text doesn't end in one.
+// Adds an LF if the text doesn't end in one.
 fn end_line(text: &mut Bytes) -> Result<(), AllocError>
     ensures { OnOk result (text.new ≡ with_line_end text.old) }
 {
@@ -158,7 +158,7 @@ fn end_line(text: &mut Bytes) -> Result<(), AllocError>
     }
 }
 
-// Adds a field's lines, with a prefix behind its colon where there is one, and an LF at its end.
+// Adds a field's lines, with a prefix after its colon if there is one, and an LF at its end.
 fn push_field(text: &mut Bytes, field: &Field<'_>, prefix: Option<&[u8]>) -> Result<(), AllocError>
     requires { IsWhole (text_of field.now) }
     ensures { OnOk result (text.new ≡ text.old ++ with_line_end (with_due (option_map (λ p. p.now) prefix.entry) (text_of field.now)).lines) }
@@ -168,7 +168,7 @@ fn push_field(text: &mut Bytes, field: &Field<'_>, prefix: Option<&[u8]>) -> Res
     Ok(())
 }
 
-// Adds a field's lines, with a prefix behind its colon where there is one.
+// Adds a field's lines, with a prefix after its colon if there is one.
 fn push_lines(text: &mut Bytes, field: &Field<'_>, prefix: Option<&[u8]>) -> Result<(), AllocError>
     ensures { OnOk result (text.new ≡ text.old ++ (with_due (option_map (λ p. p.now) prefix.entry) (text_of field.now)).lines) }
 {
@@ -178,7 +178,7 @@ fn push_lines(text: &mut Bytes, field: &Field<'_>, prefix: Option<&[u8]>) -> Res
     }
 }
 
-// Adds a field's lines, with a prefix behind its colon.
+// Adds a field's lines, with a prefix after its colon.
 fn push_prefixed(text: &mut Bytes, field: &Field<'_>, prefix: &[u8]) -> Result<(), AllocError>
     ensures { OnOk result (text.new ≡ text.old ++ (words.with_prefix prefix.now (text_of field.now)).lines) }
 {
@@ -189,7 +189,7 @@ fn push_prefixed(text: &mut Bytes, field: &Field<'_>, prefix: &[u8]) -> Result<(
     Ok(())
 }
 
-// Adds a value, behind a space where it doesn't begin with a space or a tab.
+// Adds a value, after a space if it doesn't begin with a space or a tab.
 fn push_spaced(text: &mut Bytes, value: &[u8]) -> Result<(), AllocError>
     ensures { OnOk result (text.new ≡ text.old ++ words.spaced value.now) }
 {
@@ -200,7 +200,7 @@ fn push_spaced(text: &mut Bytes, value: &[u8]) -> Result<(), AllocError>
     Ok(())
 }
 
-// The prefix that goes into a field, and the one that is left for those behind it.
+// The prefix that goes into a field, and the one that is left for the fields after it.
 fn split_due<'p>(
     alloc: Global,
     field: &Field<'_>,
@@ -239,7 +239,7 @@ fn push_kept(
     }
 }
 
-// Adds the fields but for those that are left out, with a prefix in the first subject where it is due. It goes over the
+// Adds the fields except for those that are left out, with a prefix in the first subject if it is due. It goes over the
 // fields once, and answers the values that it met.
 fn push_fields<'a>(
     alloc: Global,
@@ -267,7 +267,7 @@ fn push_fields<'a>(
     Ok(met)
 }
 
-// Adds a body, and an LF where it has bytes and doesn't end in one.
+// Adds a body, and an LF if it has bytes and doesn't end in one.
 fn push_ended(text: &mut Bytes, body: &[u8]) -> Result<(), AllocError>
     ensures { OnOk result (text.new ≡ text.old ++ with_last_line_end body.now) }
 {
@@ -279,7 +279,7 @@ fn push_ended(text: &mut Bytes, body: &[u8]) -> Result<(), AllocError>
     Ok(())
 }
 
-// Adds a body, with a trailer on a line of its own where there is one.
+// Adds a body, with a trailer on a line of its own if there is one.
 fn push_body(text: &mut Bytes, body: &[u8], trailer: Option<&[u8]>) -> Result<(), AllocError>
     ensures { OnOk result (text.new ≡ text.old ++ with_trailer (option_map (λ t. t.now) trailer.entry) body.now) }
 {

@@ -1,4 +1,4 @@
-// Posts that are held, looked at and taken out.
+// The calls on one held post: holding it, looking at it and taking it out.
 ghost use Rattle.std.specs.Prelude.{◌≡◌, ◌≤◌, true, ℕ, Some, IsTrue, IfOk, IfErr, IsErrOf, IfSome, length, ◌⊎◌};
 ghost use Rattle.ml_base.specs.Dir.{with_puts, touches_only};
 ghost use Rattle.ml_base.specs.Drawn.{IsCounter};
@@ -20,7 +20,7 @@ use ml_base::{Files, PartError, Txn};
 use ml_drawn::{Series, counter_of, draw, file_of, take_out};
 use std::alloc::Global;
 
-/// Holds a post under the next ticket, behind all others: the ticket, and the puts that do it.
+/// Holds a post under the next ticket, after all others. It answers the ticket, and the puts that do it.
 ///
 /// The next ticket is at most 10^15, and the message has at most 33,554,432 bytes.
 pub fn hold<F: Files>(alloc: Global, files: &mut F, held: &Held) -> Result<(u64, Txn), PartError>
@@ -39,7 +39,7 @@ pub fn hold<F: Files>(alloc: Global, files: &mut F, held: &Held) -> Result<(u64,
     draw(alloc, files, Series::Tickets, text)
 }
 
-/// The post of a ticket, or None where the ticket isn't there. It reads that post's file alone.
+/// The post of a ticket, or None if the ticket isn't there. It reads that post's file alone.
 pub fn look<F: Files>(alloc: Global, files: &mut F, ticket: u64) -> Result<Option<Held>, PartError>
     ensures value { IsTrue F.tells → IfOk result (λ answer. (pending : Pending) → IsPending (F.map files.old) pending → answer ≡ held_post ticket pending) }
     ensures read { IsTrue F.tells → IfOk result (LooksBy (F.map files.old) ticket) }
@@ -57,8 +57,8 @@ pub fn look<F: Files>(alloc: Global, files: &mut F, ticket: u64) -> Result<Optio
     }
 }
 
-/// Takes the post of a ticket out: the post and the puts that do it, or None where the ticket isn't there. Where it is the
-/// lowest ticket, it looks for the next one that is there, one file after the other.
+/// Takes the post of a ticket out. It answers the post and the puts that do it, or None if the ticket isn't there. If
+/// it is the lowest ticket, the call looks for the next one that is there, one file after another.
 pub fn take<F: Files>(
     alloc: Global,
     files: &mut F,
@@ -79,8 +79,8 @@ pub fn take<F: Files>(
     Ok(Some((held, txn)))
 }
 
-/// Takes out the post of a ticket that was looked at: the puts that do it. It doesn't read the post again. Where it is the lowest ticket, it
-/// looks for the next one that is there, one file after the other.
+/// Takes out the post of a ticket that was looked at, without reading it again. It answers the puts that do it. If it
+/// is the lowest ticket, the call looks for the next one that is there, one file after another.
 pub fn release<F: Files>(alloc: Global, files: &mut F, ticket: u64) -> Result<Txn, PartError>
     requires { IsTrue (is_drawn ticket) }
     ensures value { IsTrue F.tells → IfOk result (λ txn. (pending : Pending) (held : TheHeld) → IsPending (F.map files.old) pending → held_post ticket pending ≡ Some held → IsPending (with_puts (F.map files.old) txn) (spec.without_ticket ticket pending)) }

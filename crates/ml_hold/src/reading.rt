@@ -1,4 +1,4 @@
-// The text of a held post.
+// Reads and writes the text of a held post.
 ghost use Rattle.std.specs.Prelude.{◌≡◌, ◌≤◌, ◌<◌, IfOk, IfSome, IfNone};
 ghost use Rattle.ml_base.specs.Address.{IsAddress};
 ghost use Rattle.ml_hold.specs.declared.posts.Held.{Held};
@@ -14,8 +14,8 @@ use ml_base::{
 use ml_drawn::Thing;
 use std::alloc::{AllocError, Global};
 
-// The most bytes that a text has besides the sender and the message: the netstring of twenty digits, and twice eighteen
-// digits, a colon and a comma.
+// The most bytes that a text has besides the sender and the message: a netstring of twenty digits, and twice a length
+// of eighteen digits, a colon and a comma.
 const AROUND: usize = 64;
 
 // The parts of a held post's text.
@@ -26,7 +26,7 @@ pub(crate) struct Parts<'a> {
     pub message: &'a [u8],
 }
 
-// The parts of a held post's text, or None of a text that spells none. It takes no memory.
+// The parts of a held post's text, or None if the text spells no held post. It takes no memory.
 pub(crate) fn parts_of(text: &[u8]) -> Option<Parts<'_>>
     ensures some { IfSome result (λ p. IsSpelled text.now (told p)) }
     ensures none { IfNone result ((held : Held) → ¬ IsSpelled text.now held) }
@@ -51,7 +51,7 @@ pub(crate) fn parts_of(text: &[u8]) -> Option<Parts<'_>>
     })
 }
 
-// The held post of these parts.
+// The held post that has these parts.
 pub(crate) fn held_of(alloc: Global, parts: Parts<'_>) -> Result<Held, AllocError>
     requires { IsHeld (told parts) }
     ensures { IfOk result (λ held. held ≡ told parts.entry) }
@@ -72,7 +72,7 @@ fn room_of(held: &Held) -> usize {
         .saturating_add(AROUND)
 }
 
-// The text of a held post, whose bytes are written once.
+// The text of a held post, written into a buffer that never grows.
 pub(crate) fn text_of(alloc: Global, held: &Held) -> Result<Bytes, AllocError>
     ensures address { IfOk result (λ _. IsAddress held.now.sender) }
     ensures text { IfOk result (λ bytes. bytes ≡ held_text held.now) }

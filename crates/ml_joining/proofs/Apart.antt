@@ -1,4 +1,4 @@
--- What requests do on every directory that has the files that they look at.
+-- What requests do is the same on every directory that has the files that they look at.
 use Rattle.std.proofs.Common.{◌≡◌, ◌∙◌, Bool, true, false, cond, List, [], Option, Some, is_some, Result, IfErr, IfOk, refl, sym, ap, ap₂, subst}
 use Rattle.std.specs.Option.{option_map_or}
 use Rattle.std.proofs.lemmas.Bool.{false≢true}
@@ -33,7 +33,7 @@ use Rattle.ml_joining.specs.Damaged.{IsDamagedAmong}
 use Rattle.ml_joining.specs.Operations.{IsSubject}
 use Rattle.ml_joining.specs.declared.subjects.Subject.{Subject}
 
--- what is the same of more files, as they were before a read that kept them
+-- what is alike for more files is alike for fewer, before a read that kept them too
 pub alike_kept : (few more : Name → Bool) (old new dir : Dir) → new ≡ old → ((name : Name) → few name ≡ true → more name ≡ true) → Alike more old dir → Alike few new dir
 alike_kept few more old new dir kept weak alike name e = alike name (weak name e) ∙ sym (ap (λ (d : Dir). d name) kept)
 
@@ -76,7 +76,7 @@ module _ (c d : Config) (old there : Dir) (same : d ≡ c) (kept : there ≡ old
   pub spared_under : IfErr r (λ e. OnDamaged e (IsDamagedAmong looked (with_config d there))) → (dir : Dir) (p : Plain) → Alike looked old dir → IsList dir p → IfErr r (λ e. OnDamaged e (λ _. ⊥))
   spared_under bad dir p alike is = err_damaged r (IsDamagedAmong looked (with_config d there)) (λ _. ⊥) (λ name b. b.none dir p (looked_under dir alike) is) bad
 
--- of the files themselves
+-- the same without a configuration
 pub done_itself : (dir : Dir) (looked : Name → Bool) (c : Config) (r : Result (List Put × Reply) PartError) (step : Plain → Plain × Reply)
     → IfOk r (λ done. (other : Dir) (p : Plain) → Alike looked dir other → IsList other p → p.config ≡ c → DoesList other done (step p)) → IfOk r (λ done. (p : Plain) → IsList dir p → p.config ≡ c → DoesList dir done (step p))
 done_itself dir looked c r step does = ok_then r (λ done is p list e. is dir p (λ name f. refl) list e) does
@@ -84,7 +84,7 @@ done_itself dir looked c r step does = ok_then r (λ done is p list e. is dir p 
 pub named_itself : (dir : Dir) (looked : Name → Bool) (r : Result (List Put × Reply) PartError) → IfErr r (λ e. OnDamaged e (IsDamagedAmong looked dir)) → IfErr r (λ e. OnDamaged e (IsDamaged dir))
 named_itself dir looked r bad = err_damaged r (IsDamagedAmong looked dir) (IsDamaged dir) (λ name b. b.damaged) bad
 
--- what an answer does wherever some files are the same is a step, wherever more of them are
+-- what an answer does if some files are the same is a step if more of them are
 module _ (r : Result (List Put × Reply) PartError) (c : Config) (Same Wider : Dir → Type 0) (fewer : (dir : Dir) → Wider dir → Same dir) (step other : Plain → Plain × Reply) where
   -- after no puts
   pub told_apart : (txn : List Put) → txn ≡ [] → ((dir : Dir) (p : Plain) → Wider dir → IsList dir p → p.config ≡ c → step p ≡ other p)
@@ -102,7 +102,7 @@ module _ (r : Result (List Put × Reply) PartError) (c : Config) (Same Wider : D
     found_apart f does = ok_then r (λ answer is dir p wide list e about.
         subst (λ (t : Plain × Reply). DoesList dir answer t) (f dir p wide list e about) (is dir p (fewer dir wide) list e about)) does
 
-    -- who was found by a read
+    -- about whom a read found
     pub asked_apart : ((dir : Dir) (p : Plain) → Wider dir → IsList dir p → IsSubject p set s) → ((dir : Dir) (p : Plain) → Wider dir → IsList dir p → p.config ≡ c → IsSubject p set s → step p ≡ other p)
         → IfOk r (λ answer. (dir : Dir) (p : Plain) → Same dir → IsList dir p → p.config ≡ c → IsSubject p set s → DoesList dir answer (step p))
         → IfOk r (λ answer. (dir : Dir) (p : Plain) → Wider dir → IsList dir p → p.config ≡ c → DoesList dir answer (other p))

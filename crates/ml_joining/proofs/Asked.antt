@@ -33,7 +33,7 @@ module _ (p : Plain) (set : Set) (s : Subject) (is : IsSubject p set s) where
   pub subject_is : (sender : Text) (who : Option PlainWho) → s.named ≡ asked_of sender who → s.who ≡ subject_of p set sender who
   subject_is sender who e = is.who ∙ ap (λ (t : Text). spelled_in p set t) e
 
-  -- where the set has nobody of his key, he is as he was named
+  -- if the set has nobody with his key, he is spelled as he was named
   pub unspelled : s.member ≡ false → s.who ≡ s.named
   unspelled none = is.who ∙ go (member_of (key s.named) (p.sets set)) (sym is.member ∙ none)
     where

@@ -1,4 +1,4 @@
--- The first case that applies, by what a request says.
+-- What the code decides about a request is the first case that applies.
 use Rattle.std.proofs.Common.{◌≡◌, ◌∙◌, Bool, true, false, not, ◌&&◌, ◌||◌, ◌↔◌, IsTrue, [], ◌∷◌, refl, sym, ap}
 use Rattle.std.proofs.lemmas.Bool.Decides.{same_from_decides}
 use Rattle.std.proofs.lemmas.Slice.Eq.{bytes_eq-Decides}
@@ -24,7 +24,7 @@ leave_by : Bool → Bool → Bool → Bool → Bool → Operation
 leave_by closed member admin j own =
     first_row ((closed, Only answers.private) ∷ (not member, TellAbsent) ∷ (admin, AskSender words.Uc) ∷ (j && own, Leave) ∷ []) (AskSubject words.Uc)
 
--- the right of a moderator, who is asked for where it or the list's openness depends on him
+-- the right of a moderator; whether the sender is one is asked if that right or the list's openness depends on it
 admin_asked : (r free m : Bool) → (((r || not free) && m) && r) ≡ (m && r)
 admin_asked true free m = refl
 admin_asked false true true = refl

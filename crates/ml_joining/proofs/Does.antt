@@ -1,4 +1,4 @@
--- What acts do, said of the files as they were before the reads.
+-- What acts do to the list, said of the files as they were before the reads.
 use Rattle.std.proofs.Common.{◌≡◌, ℕ, Bool, true, false, List, [], length, Result, Ok, Err, IfOk, sym, ap, subst, arith}
 use Rattle.std.proofs.lemmas.Bool.{le-leb, lt-leb}
 use Rattle.ml_base.specs.Address.{key}
@@ -20,16 +20,7 @@ use Rattle.ml_plain.specs.Plain.{Plain, added, is_full, ledger_of, removed, with
 use Rattle.ml_plain.proofs.Changes.{members_changed}
 use Rattle.ml_acts.specs.Doing.{DoesList}
 
--- an answer of a call on the files as they were kept, behind no puts
-pub told_by : (old dir : Dir) (txn : List Put) (r : Result (List Put × Reply) PartError) (c : Config) (step other : Plain → Plain × Reply) → dir ≡ old → txn ≡ []
-    → ((p : Plain) → IsList old p → p.config ≡ c → step p ≡ other p)
-    → IfOk r (λ answer. (p : Plain) → IsList (with_puts dir txn) p → p.config ≡ c → DoesList dir answer (step p)) → IfOk r (λ answer. (p : Plain) → IsList old p → p.config ≡ c → DoesList old answer (other p))
-told_by old dir txn (Err e) c step other same none f value = tt
-told_by old dir txn (Ok answer) c step other same none f value = λ p is e.
-    subst (λ (d : Dir). DoesList d answer (other p)) same
-    (subst (λ (s : Plain × Reply). DoesList dir answer s) (f p is e) (value p (subst (λ (t : List Put). IsList (with_puts dir t) p) (sym none) (subst (λ (d : Dir). IsList d p) (sym same) is)) e))
-
--- nothing is done but a reply
+-- nothing is done, and there is only a reply
 pub only_reply : (dir : Dir) (p : Plain) (puts : List Put) (reply given : Reply) → puts ≡ [] → reply ≡ given → IsList dir p → DoesList dir (puts, reply) (p, given)
 only_reply dir p puts reply given none e is = record { reply = e; list = subst (λ (t : List Put). IsList (with_puts dir t) p) (sym none) is }
 

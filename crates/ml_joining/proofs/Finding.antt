@@ -1,4 +1,4 @@
--- What is found where mail goes, and where an address joins.
+-- What is found when mail goes out, and when an address joins.
 use Rattle.std.proofs.Common.{◌≡◌, ◌∙◌, ℕ, List, Result, Ok, Err, IfOk, sym, subst, arith}
 use Rattle.ml_base.specs.Address.{key}
 use Rattle.ml_base.specs.Bytes.{Text}

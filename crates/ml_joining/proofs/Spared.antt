@@ -1,4 +1,4 @@
--- Which damaged files a request names: no list has the files that it looks at.
+-- If a request names a damaged file, no list has the files that it looks at.
 use Rattle.std.proofs.Common.{◌≡◌, ◌⊎◌, inl, inr, Bool, true, false, ◌&&◌, ◌||◌, List, Result, Err, IfErr, IsTrue}
 use Rattle.std.proofs.lemmas.Bool.{and_parts, or_cases, or_left}
 use Rattle.ml_base.specs.Address.{key}
@@ -32,7 +32,7 @@ use Rattle.ml_joining.specs.Damaged.{AnswersLooking, IsDamagedAmong}
 use Rattle.ml_joining.specs.Reads.{is_for_mail, is_read_to_leave, is_touched_with_mail}
 use Rattle.ml_joining.proofs.Ways.{left_to_leave}
 
--- each of these files is sound if a list has the same one, whatever the others hold
+-- none of these files is damaged if a list has the same one, whatever the others hold
 abbrev pub AreAlone : (Name → Bool) → Type 0
 AreAlone few = (old dir : Dir) (p : Plain) → IsList dir p → (name : Name) → few name ≡ true → dir name ≡ old name → IsDamaged old name → ⊥
 
@@ -75,7 +75,7 @@ module _ (few more : Name → Bool) where
   among_alone alone weak old name e bad = record { damaged = bad; none = λ dir p alike is. alone old dir p is name e (alike name (weak name e)) bad }
 
   module _ {F : Type 0} {may_write : Name → Bool} {told : Ghosts F} {r : Result (List Put × Reply) PartError} where
-    -- an act that looks at fewer files, or at such ones
+    -- an act that looks at fewer files, or at files like these
     pub act_more : {old new : F} → Within few more → AnswersLooking may_write told few old new r → AnswersLooking may_write told more old new r
     act_more {old = old} {new = new} weak act =
         act_so told r (λ name. more name ≡ true) (IsDamagedAmong few (told.map old)) (IsDamagedAmong more (told.map old)) (λ name. few name ≡ true) old new weak

@@ -1,4 +1,4 @@
--- Which files a request to join or to leave may read, and a confirmation.
+-- Which files a request to join or to leave and a confirmation may read.
 use Rattle.std.proofs.Common.{◌≡◌, ◌⊎◌, inl, inr, Bool, true, false, ◌&&◌, ◌||◌, refl}
 use Rattle.std.proofs.lemmas.Bool.{or_cases, or_left, or_right}
 use Rattle.ml_base.specs.Address.{key}
@@ -78,7 +78,7 @@ module _ (set : Set) (who : Text) (name : Name) where
   keys_to_confirm words.Sc e = mail_to_join (keys_for_mail e)
   keys_to_confirm words.Tc e = mail_to_join (keys_for_mail e)
 
-  -- what a request looks at beside the sender's rank
+  -- what a request looks at besides the sender's rank
   module _ (c : Config) (sender : Text) where
     pub join_to_subscribe : is_read_to_join set who name ≡ true → is_read_to_subscribe c sender set who name ≡ true
     join_to_subscribe e = or_right (asks_rank c && is_bucket_of sets.Moderators sender name) (is_read_to_join set who name) e

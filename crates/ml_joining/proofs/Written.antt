@@ -23,7 +23,7 @@ queue_to_join set who name e = or_right (is_touched set (key who) name) (is_of_q
 pub touched_to_join : (set : Set) (who : Text) (puts : List Put) → touches_only (is_touched set (key who)) puts ≡ true → touches_only (is_written_to_join set who) puts ≡ true
 touched_to_join set who puts only = touches_weaker (is_touched set (key who)) (is_written_to_join set who) puts (λ name e. or_left (is_touched set (key who) name) (is_of_queue name) e) only
 
--- all this a delivery may write
+-- a delivery may write all of this
 pub join_beside : (set : Set) (who : Text) (name : Name) → is_written_to_join set who name ≡ true → is_beside_mark name ≡ true
 join_beside set who name e = go (or_cases (is_touched set (key who) name) (is_of_queue name) e)
   where

@@ -1,4 +1,4 @@
--- What follows from a request, by what it says: the first case that applies.
+-- What is done about a request to join or to leave, by what it says: the first case that applies.
 use Rattle.std.specs.Prelude.{Bool, true, false, not, ◌&&◌, [], ◌∷◌}
 use Rattle.ml_base.specs.declared.names.Set.{Set}
 use Rattle.ml_base.specs.declared.names.Set.TheVariants as sets
@@ -9,7 +9,7 @@ use Rattle.ml_plain.specs.Managing.{Operation, Only, TellAlready, TellAbsent, As
 use Rattle.ml_plain.specs.Plain.{first_row}
 use Rattle.ml_joining.specs.declared.deciding.Facts.{Facts}
 
--- whether only who administers the list may change a set
+-- whether only those who administer the list may change a set
 abbrev pub is_reserved : Set → Bool
 is_reserved sets.List = false
 is_reserved sets.Digest = false
@@ -39,7 +39,7 @@ leaving f set x =
     ∷ (f.j && x.own, Leave)
     ∷ []) (AskSubject words.Uc)
 
--- a confirmation of joining, where `moderated` sends it to the moderators
+-- a confirmation of joining; if `moderated` is true, it goes to the moderators
 abbrev pub confirmed_joining : Bool → Bool → Bool → Operation
 confirmed_joining moderated member good =
     first_row ((not good, Only answers.badcookie) ∷ (member, Only answers.already) ∷ (moderated, AskModerators) ∷ []) Join

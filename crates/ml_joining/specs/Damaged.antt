@@ -12,8 +12,8 @@ use Rattle.ml_acts.specs.Acting.{AnswersWithin}
 use Rattle.ml_acts.specs.Damaged.{IsDamaged}
 use Rattle.ml_acts.specs.Doing.{Alike}
 
--- A damaged file, on a directory whose files of these names no list has. The second says more than the first: a bucket that isn't looked at may be
--- all that shows that a set's count is damaged.
+-- A damaged file, in a directory whose files of these names no list has. The second says more than the first: perhaps only a bucket that
+-- isn't looked at shows that a set's count is damaged.
 pub record IsDamagedAmong (looked : Name → Bool) (old : Dir) (name : Name) : Type 0 where
   pub damaged : IsDamaged old name
   pub none : (dir : Dir) (p : Plain) → Alike looked old dir → ¬ IsList dir p

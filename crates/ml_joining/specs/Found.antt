@@ -1,5 +1,5 @@
--- What requests to join and to leave find in the files that they read, whatever the other files hold: these are in their grammar, and what is answered
--- goes by what they spell.
+-- What requests to join and to leave find in the files that they read, whatever the other files hold: these are in their grammar, and the
+-- answer depends on what they spell.
 use Rattle.std.specs.Prelude.{◌≡◌, Bool, true, false, List, [], Option, Some, None}
 use Rattle.ml_base.specs.Address.{key}
 use Rattle.ml_base.specs.Bytes.{Text}
@@ -20,7 +20,7 @@ use Rattle.ml_joining.specs.Cases.{confirmed_joining, confirmed_leaving, joining
 use Rattle.ml_joining.specs.Reads.{asks_rank}
 use Rattle.ml_joining.specs.declared.deciding.Facts.{Facts}
 
--- what is found where a key is added to a set: its bucket; and where that doesn't have it, the set's count
+-- what is found when a key is added to a set: its bucket; and if that doesn't have it, the set's count
 abbrev pub FoundToAdd : Dir → Set → Text → AddAnswer → Type 0
 FoundToAdd dir set k Already = TellsMember dir set k true
 FoundToAdd dir set k Full = TellsMember dir set k false × TellsCount dir set
@@ -31,12 +31,12 @@ pub record SendsMail (dir : Dir) (before : List Put) (reply : Reply) (done : Lis
   pub sent : AddsMail dir before done.0
   pub is : done.1 ≡ reply
 
--- the same with a mail to exactly the addresses that the buckets of a set spell
+-- the same, with a mail to exactly the addresses that the buckets of a set spell
 pub record SendsToSet (dir : Dir) (set : Set) (before : List Put) (reply : Reply) (done : List Put × Reply) : Type 0 where
   pub sent : AddsMailToSet dir set before done.0
   pub is : done.1 ≡ reply
 
--- what follows where a key was to be added
+-- what follows when a key was to be added
 abbrev pub FoundAdded : Dir → AddAnswer → List Put × Reply → Type 0
 FoundAdded dir Already done = Says answers.already done
 FoundAdded dir Full done = Says answers.full done
@@ -47,7 +47,7 @@ pub record FoundToJoin (dir : Dir) (set : Set) (k : Text) (done : List Put × Re
   pub found : FoundToAdd dir set k answer
   pub joined : FoundAdded dir answer done
 
--- what follows where one was to be removed
+-- what follows when one was to be removed
 abbrev pub FoundRemoved : Dir → Option (List Put) → List Put × Reply → Type 0
 FoundRemoved dir None done = Says answers.absent done
 FoundRemoved dir (Some puts) done = SendsMail dir puts answers.unsubscribed done
@@ -57,7 +57,7 @@ pub record FoundToPart (dir : Dir) (set : Set) (k : Text) (done : List Put × Re
   pub found : FoundToLeave dir set k answer
   pub left : FoundRemoved dir answer done
 
--- somebody is asked, by the keys
+-- somebody is asked for a confirmation, with a cookie under the keys
 pub record FoundToAsk (dir : Dir) (done : List Put × Reply) : Type 0 where
   pub keys : TellsKeys dir
   pub sent : SendsMail dir [] answers.asked done
@@ -77,8 +77,8 @@ FoundToDo dir set k AskModerators done = FoundToAskModerators dir done
 FoundToDo dir set k Join done = FoundToJoin dir set k done
 FoundToDo dir set k Leave done = FoundToPart dir set k done
 
--- What a request says, by the files: whether the set has the key, and whether the sender is a moderator, where that is asked. What is done goes by
--- these.
+-- What a request says, by the files: whether the set has the key, and whether the sender is a moderator, if that is asked. What is done
+-- depends on these.
 pub record FoundByRequest (dir : Dir) (set : Set) (k : Text) (asked : Bool) (sender : Text) (decide : Facts → Operation) (done : List Put × Reply) : Type 0 where
   pub facts : Facts
   pub member : TellsMember dir set k facts.member

@@ -1,4 +1,4 @@
--- What is done about an address that is to join or leave a set, and whom a request is about.
+-- What the values of the code mean that say what is done about an address that is to join or leave a set, and whom a request is about.
 use Rattle.std.specs.Prelude.{◌≡◌, Bool, true, false, Option}
 use Rattle.std.specs.Option.{option_map_or}
 use Rattle.ml_base.specs.Bytes.{Text}
@@ -42,21 +42,21 @@ leaving_deed leaves.AskSender = AskSender words.Uc
 leaving_deed leaves.AskSubject = AskSubject words.Uc
 leaving_deed leaves.Leave = Leave
 
--- the address that a request names, or the sender where it names none
+-- the address that a request names, or the sender if it names none
 abbrev pub asked_of : Text → Option PlainWho → Text
 asked_of sender who = option_map_or address_named who sender
 
--- an address as the set spells it, where the set has it, and whether it does
+-- an address as the set spells it, if the set has it, and whether it does
 pub record IsSubject (p : Plain) (set : Set) (s : Subject) : Type 0 where
   pub who : s.who ≡ spelled_in p set s.named
   pub member : s.member ≡ is_in p set s.named
 
--- nobody joins who is a member
+-- nobody who is a member joins
 abbrev pub MayJoin : Bool → Joining → Type 0
 MayJoin member joins.Join = member ≡ false
 MayJoin member _ = Unit {0}
 
--- nobody leaves who is none
+-- nobody who isn't one leaves
 abbrev pub MayLeave : Bool → Leaving → Type 0
 MayLeave member leaves.Leave = member ≡ true
 MayLeave member _ = Unit {0}

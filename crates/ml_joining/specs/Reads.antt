@@ -18,7 +18,7 @@ use Rattle.ml_acts.specs.Doing.{is_bucket, is_bucket_of, is_entry_of}
 abbrev pub is_for_mail : Name → Bool
 is_for_mail name = same_name name key_name || same_name name ids_name
 
--- an address joins a set, or somebody is asked: its bucket and the count, the keys, the counter of ids, and the moderators' set, where
+-- an address joins a set, or somebody is asked: its bucket and the count, the keys, the counter of ids, and the moderators' set, if
 -- they are asked
 abbrev pub is_read_to_join : Set → Text → Name → Bool
 is_read_to_join set who name = is_touched set (key who) name || is_for_mail name || is_bucket sets.Moderators name
@@ -31,11 +31,11 @@ is_touched_with_mail set who name = is_touched set (key who) name || same_name n
 abbrev pub is_read_to_leave : Set → Text → Name → Bool
 is_read_to_leave set who name = is_touched set (key who) name || is_entry_of set who name || is_for_mail name
 
--- whether the sender is a moderator is looked at where his right or the list's openness depends on it
+-- whether it is asked if the sender is a moderator: it is if his right or the list's openness depends on that
 abbrev pub asks_rank : Config → Bool
 asks_rank c = c.flags.r || not c.flags.p
 
--- the files that a request to join may read, to leave, and a confirmation
+-- the files that may be read by a request to join, by one to leave, and by a confirmation
 abbrev pub is_read_to_subscribe : Config → Text → Set → Text → Name → Bool
 is_read_to_subscribe c sender set who name = (asks_rank c && is_bucket_of sets.Moderators sender name) || is_read_to_join set who name
 

@@ -1,4 +1,4 @@
-// Mails about an address that is to join or leave a set.
+// Mails that ask to confirm that an address joins or leaves a set.
 ghost use Rattle.std.specs.Prelude.{◌≡◌, true, ◌||◌, IsTrue, IfOk};
 ghost use Rattle.ml_base.specs.Dir.{Dir};
 ghost use Rattle.ml_base.specs.declared.names.Set.TheVariants as sets;
@@ -58,7 +58,7 @@ fn question(
     })
 }
 
-// An address is asked to confirm something of another, or of itself.
+// Asks an address to confirm something of another, or of itself: the puts of the mail, and the reply.
 pub(crate) fn ask<F: Files>(
     alloc: Global,
     files: &mut F,
@@ -103,7 +103,7 @@ fn moderators_question(
     })
 }
 
-// The moderators are asked to confirm a subscription.
+// Asks the moderators to confirm a subscription: the puts of the mail, and the reply.
 pub(crate) fn ask_moderators<F: Files>(
     alloc: Global,
     files: &mut F,

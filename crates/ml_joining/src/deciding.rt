@@ -1,4 +1,4 @@
-// What follows from a request: the first case that applies.
+// What is done about a request to join or to leave, by what it says: the first case that applies.
 ghost use Rattle.std.specs.Prelude.{◌≡◌, ◌&&◌};
 ghost use Rattle.ml_joining.specs.Operations.{MayJoin, MayLeave, joining_deed, leaving_deed};
 ghost use Rattle.ml_joining.specs.Cases as cases;
@@ -10,7 +10,7 @@ use ml_config::{Config, Flags};
 // What a request says of the sender and of the address that it is about.
 #[derive(Clone, Copy, PartialEq, Eq)]
 pub(crate) struct Facts {
-    // The sender is a moderator, as far as that is asked.
+    // The sender is a moderator; false if that isn't asked.
     pub moderator: bool,
     // The set has the address.
     pub member: bool,
@@ -18,7 +18,7 @@ pub(crate) struct Facts {
     pub own: bool,
 }
 
-// Whether only who administers the list may change a set.
+// Whether only those who administer the list may change a set.
 fn is_reserved(set: Set) -> bool
     ensures { result ≡ cases.is_reserved set }
 {
@@ -32,7 +32,7 @@ fn administers(flags: Flags, facts: Facts) -> bool
     facts.moderator && flags.r
 }
 
-// What is done where an address is to join a set.
+// What is done when an address is to join a set.
 pub(crate) fn joining(config: &Config, set: Set, facts: Facts) -> Joining
     ensures operation { joining_deed result ≡ cases.joining config.now.flags set facts }
     ensures fresh { MayJoin facts.member result }
@@ -61,7 +61,7 @@ pub(crate) fn joining(config: &Config, set: Set, facts: Facts) -> Joining
     Joining::AskSubject
 }
 
-// What is done where an address is to leave a set.
+// What is done when an address is to leave a set.
 pub(crate) fn leaving(config: &Config, set: Set, facts: Facts) -> Leaving
     ensures operation { leaving_deed result ≡ cases.leaving config.now.flags set facts }
     ensures member { MayLeave facts.member result }
@@ -83,8 +83,8 @@ pub(crate) fn leaving(config: &Config, set: Set, facts: Facts) -> Leaving
     Leaving::AskSubject
 }
 
-// What is done where somebody confirms that an address is to join a set, with letters of this goodness: moderated subscriptions
-// that the address itself confirms go to the moderators.
+// What is done when somebody confirms that an address is to join a set, with letters that are a good cookie or not: moderated
+// subscriptions that the address itself confirms go to the moderators.
 pub(crate) fn confirmed_joining(moderated: bool, member: bool, good: bool) -> Joining
     ensures operation { joining_deed result ≡ cases.confirmed_joining moderated member good }
     ensures fresh { MayJoin member result }
@@ -102,7 +102,7 @@ pub(crate) fn confirmed_joining(moderated: bool, member: bool, good: bool) -> Jo
     }
 }
 
-// What is done where somebody confirms that an address is to leave a set, with letters of this goodness.
+// What is done when somebody confirms that an address is to leave a set, with letters that are a good cookie or not.
 pub(crate) fn confirmed_leaving(member: bool, good: bool) -> Leaving
     ensures operation { leaving_deed result ≡ cases.confirmed_leaving member good }
     ensures member { MayLeave member result }

@@ -1,4 +1,4 @@
-// An address that is to join a set.
+// What is done about an address that is to join a set: a refusal, a mail, or that it joins.
 ghost use Rattle.std.specs.Prelude.{◌≡◌, [], false, true, IsTrue, IfOk};
 ghost use Rattle.ml_base.specs.Address.{key};
 ghost use Rattle.ml_base.specs.Dir.{Dir, are_files, same_name, touches_only, with_puts};
@@ -63,7 +63,7 @@ pub(crate) fn joined<F: Files>(
     }
 }
 
-// The sender is told that an address is a member.
+// A mail tells the sender that an address is a member.
 fn tell_already<F: Files>(
     alloc: Global,
     files: &mut F,
@@ -88,7 +88,7 @@ fn tell_already<F: Files>(
     with_mail(alloc, files, config, txn, sender, now, mail, reply)
 }
 
-// An address that a set doesn't have joins it, where there is room, and is welcomed.
+// An address that a set doesn't have joins it, if there is room, and is welcomed.
 fn join<F: Files>(
     alloc: Global,
     files: &mut F,
@@ -102,7 +102,7 @@ fn join<F: Files>(
     ensures found { IsTrue F.tells → IfOk result (FoundToJoin (F.map files.old) set (key who.now)) }
     ensures act { AnswersLooking (is_written_to_join set who.now) ⟦<F as Files>⟧ (is_touched_with_mail set who.now) files.old files.new result }
 {
-    // That it is an address is known of its bytes.
+    // By its bytes it is known to be an address.
     let _address = who.bytes();
     match add(alloc, files, set, who, now.seconds)? {
         AddAnswer::Added(txn) => welcome(alloc, files, config, now, set, who, txn),
@@ -111,7 +111,7 @@ fn join<F: Files>(
     }
 }
 
-// The puts that add an address to a set, and behind them its welcome.
+// The puts that add an address to a set, and after them its welcome.
 fn welcome<F: Files>(
     alloc: Global,
     files: &mut F,

@@ -1,4 +1,4 @@
-// An address that is to leave a set.
+// What is done about an address that is to leave a set: a refusal, a mail, or that it leaves.
 ghost use Rattle.std.specs.Prelude.{◌≡◌, [], true, IsTrue, IfOk, Bool};
 ghost use Rattle.ml_base.specs.Address.{key};
 ghost use Rattle.ml_base.specs.Dir.{Dir, are_files, same_name, touches_only, with_puts};
@@ -60,7 +60,7 @@ pub(crate) fn left<F: Files>(
     }
 }
 
-// The sender is told that an address is no member.
+// A mail tells the sender that an address isn't a member.
 fn tell_absent<F: Files>(
     alloc: Global,
     files: &mut F,

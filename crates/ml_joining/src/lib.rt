@@ -1,4 +1,4 @@
-//! Who joins a set and who leaves it, by mail.
+//! Requests by mail to join or to leave a set, and their confirmations: what is answered, and what is done to the list.
 #![tactic(auto)]
 
 mod asking;

@@ -1,11 +1,11 @@
-// What is done about an address that is to join or leave a set.
+// The values that say what is done about an address that is to join or leave a set.
 ghost use Rattle.std.specs.Prelude.{◌≡◌, true};
 ghost use Rattle.ml_plain.specs.KeptFiles.{is_kept};
 ghost use Rattle.ml_joining.specs.Operations.{answer_reply};
 
 use ml_plain::Reply;
 
-// What is answered without a mail and without a change.
+// A reply without a mail and without a change.
 #[derive(Clone, Copy, PartialEq, Eq)]
 pub(crate) enum Answer {
     Private,
@@ -18,7 +18,7 @@ pub(crate) enum Answer {
 #[derive(Clone, Copy, PartialEq, Eq)]
 pub(crate) enum Joining {
     Only(Answer),
-    // The sender is told that the address is a member.
+    // A mail tells the sender that the address is a member.
     TellAlready,
     // The sender, the address or the moderators are asked to confirm it.
     AskSender,
@@ -32,7 +32,7 @@ pub(crate) enum Joining {
 #[derive(Clone, Copy, PartialEq, Eq)]
 pub(crate) enum Leaving {
     Only(Answer),
-    // The sender is told that the address is no member.
+    // A mail tells the sender that the address isn't a member.
     TellAbsent,
     // The sender or the address is asked to confirm it.
     AskSender,

@@ -1,4 +1,4 @@
-// Requests to join and to leave, and confirmations.
+// Requests to join and to leave, and confirmations: these look for the address, decide and do it.
 ghost use Rattle.std.specs.Prelude.{◌≡◌, true, IsTrue, IfErr, IfOk, Some};
 ghost use Rattle.std.specs.Option.{option_map};
 ghost use Rattle.ml_base.specs.Address.{key};
@@ -38,8 +38,8 @@ use ml_config::{Config, key as load_keys};
 use ml_plain::Reply;
 use std::alloc::Global;
 
-/// A sender asks that an address joins a set: the one that is named, or his own. The set is one that requests name. What it does is said
-/// of the files with the configuration in the place of theirs.
+/// A sender asks that an address joins a set: the one that he names, or his own. The set is one that requests name. What it does is said
+/// of the files with the configuration in place of theirs.
 pub fn subscribe<F: Files>(
     alloc: Global,
     files: &mut F,
@@ -72,7 +72,7 @@ pub fn subscribe<F: Files>(
     )
 }
 
-// A sender asks that somebody joins a set, who is looked for there.
+// A sender asks that somebody joins a set. The set is searched for him.
 fn join_asked<F: Files>(
     alloc: Global,
     files: &mut F,
@@ -94,14 +94,14 @@ fn join_asked<F: Files>(
     join_found(alloc, files, config, now, sender, set, &x)
 }
 
-// Whether it depends on the sender's rank who joins.
+// Whether it depends on the sender's rank if somebody joins.
 fn asks_rank(config: &Config) -> bool
     ensures { result ≡ reads.asks_rank config.now }
 {
     config.flags.r || !config.flags.p
 }
 
-// A sender asks that somebody joins a set, who was looked for there.
+// A sender asks that somebody joins a set. The set was searched for him.
 fn join_found<F: Files>(
     alloc: Global,
     files: &mut F,
@@ -128,8 +128,8 @@ fn join_found<F: Files>(
     joined(alloc, files, config, now, set, sender, x, operation)
 }
 
-/// A sender asks that an address leaves a set: the one that is named, or his own. The set is one that requests name. What it does is said
-/// of the files with the configuration in the place of theirs.
+/// A sender asks that an address leaves a set: the one that he names, or his own. The set is one that requests name. What it does is said
+/// of the files with the configuration in place of theirs.
 pub fn unsubscribe<F: Files>(
     alloc: Global,
     files: &mut F,
@@ -162,7 +162,7 @@ pub fn unsubscribe<F: Files>(
     )
 }
 
-// A sender asks that somebody leaves a set, who is looked for there.
+// A sender asks that somebody leaves a set. The set is searched for him.
 fn leave_asked<F: Files>(
     alloc: Global,
     files: &mut F,
@@ -184,7 +184,7 @@ fn leave_asked<F: Files>(
     leave_found(alloc, files, config, now, sender, set, &x)
 }
 
-// A sender asks that somebody leaves a set, who was looked for there.
+// A sender asks that somebody leaves a set. The set was searched for him.
 fn leave_found<F: Files>(
     alloc: Global,
     files: &mut F,
@@ -212,7 +212,7 @@ fn leave_found<F: Files>(
 }
 
 /// A sender confirms that an address joins a set or leaves it, with a cookie for the address. The set is one that requests name. What it
-/// does is said of the files with the configuration in the place of theirs.
+/// does is said of the files with the configuration in place of theirs.
 pub fn confirm<F: Files>(
     alloc: Global,
     files: &mut F,
@@ -251,7 +251,7 @@ pub fn confirm<F: Files>(
     )
 }
 
-// A sender confirms something of somebody, who is looked for in the set.
+// A sender confirms something of somebody. The set is searched for him.
 fn confirm_asked<F: Files>(
     alloc: Global,
     files: &mut F,
@@ -278,7 +278,7 @@ fn confirm_asked<F: Files>(
     )
 }
 
-// A sender confirms something of somebody, who was looked for in the set.
+// A sender confirms something of somebody. The set was searched for him.
 fn confirm_found<F: Files>(
     alloc: Global,
     files: &mut F,
@@ -324,7 +324,7 @@ fn is_signed<F: Files>(
     Ok(good_cookie(&keys, kind, set, time, what.as_slice(), cookie, now))
 }
 
-// Does what follows from a confirmation with letters of this goodness.
+// Does what follows from a confirmation, with letters that are a good cookie or not.
 fn confirmed<F: Files>(
     alloc: Global,
     files: &mut F,

@@ -1,4 +1,4 @@
-// Whom a request is about.
+// Whom a request is about, and whether its sender is a moderator.
 ghost use Rattle.std.specs.Prelude.{◌≡◌, false, true, IsTrue, IfOk};
 ghost use Rattle.std.specs.Option.{option_map};
 ghost use Rattle.ml_base.specs.ReadFiles.{IsReading, NamesDamaged};
@@ -21,7 +21,7 @@ use ml_base::{Address, AddressError, Bytes, Files, PartError, Set};
 use ml_subs::{find, member};
 use std::alloc::{AllocError, Global};
 
-// Whom a request is about: the address that is named, how its set spells it, where it has it, and whether it does.
+// Whom a request is about: the address that is named, how the set spells it if the set has it, and whether it does.
 #[derive(Drop)]
 pub(crate) struct Subject {
     pub named: Address,
@@ -59,7 +59,7 @@ fn asked_address(
     }
 }
 
-// Whom a request about a set is about.
+// Whom a request about a set is about, by the set's files.
 pub(crate) fn find_subject<F: Files>(
     alloc: Global,
     files: &mut F,
@@ -92,7 +92,7 @@ pub(crate) fn find_subject<F: Files>(
     }
 }
 
-// Whether the sender is a moderator, where that is asked, and else false.
+// Whether the sender is a moderator, if that is asked, otherwise false.
 pub(crate) fn moderates<F: Files>(
     alloc: Global,
     files: &mut F,

@@ -1,4 +1,4 @@
--- Texts that a writer of the log takes one behind the other.
+-- Texts that a writer of the log takes one after another.
 use Rattle.std.proofs.Common.{◌≡◌, ◌≤◌, ℕ, ◌+◌, IsTrue, [], ◌++◌, length, Result, Ok, Err, OnOk, refl, sym, ◌∙◌, ap, subst, arith, append_assoc, length-append}
 use Rattle.std.specs.Prelude.{IsErrOf}
 use Rattle.std.proofs.lemmas.List.{append-nil}
@@ -10,20 +10,9 @@ use Rattle.ml_site.specs.declared.site.SiteError.TheVariants.{Failed as FailedCa
 use Rattle.ml_journal.specs.Handing.{Hands}
 use Rattle.ml_journal.specs.Buffering.{Buffers}
 use Rattle.ml_journal.specs.declared.writer.LogWriter.{LogWriter}
-use Rattle.ml_journal.proofs.Handed.{hands_none, hands_on, hands_cut, with_long, ok_then}
+use Rattle.ml_journal.proofs.Handed.{hands_on, hands_cut, with_long, ok_then}
 
 module _ {S : Type 0} (told : Ghosts S) where
-  -- the text is buffered, or it can't be
-  pub buffers_none : (result : Result (Unit {0}) SiteError) (text : Text) (before after : LogWriter) (site : S) → (IsErrOf result FailedCall → ⊥)
-      → OnOk result ((after.buffered ≡ before.buffered ++ text) × (after.at ≡ before.at)) → Buffers told result text before after site site
-  buffers_none result text before after site none ok = record {
-    handed = [];
-    left = before.buffered ++ text;
-    all = refl;
-    buffered = ok_then result (λ same. sym same.0) ok;
-    at = ok_then result (λ same. omega (arith, same.1)) ok;
-    hands = hands_none told result before.at site none;
-  }
 
   -- all of it was handed to the log
   pub buffers_all : (result : Result (Unit {0}) SiteError) (text : Text) (before after : LogWriter) (old new : S) → OnOk result ((after.buffered ≡ []) × (after.at ≡ before.at + length (before.buffered ++ text)))
@@ -37,17 +26,17 @@ module _ {S : Type 0} (told : Ghosts S) where
     hands = hands;
   }
 
-  -- where the writer's next bytes go is in the log
+  -- the place for the writer's next bytes is inside the log or at its end
   pub buffers_place : (text : Text) (before after : LogWriter) (old new : S) (r : IsTrue told.tells_reads) → before.at ≤ length (told.disk old).reads.log → Buffers told (Ok tt) text before after old new → after.at ≤ length (told.disk new).reads.log
   buffers_place text before after old new r place gathers =
       omega (arith, gathers.at, ap (λ (c : Contents). length c.log) (gathers.hands.reads r).ok, with_long (told.disk old).reads before.at gathers.handed place)
 
-  -- how much is buffered or handed
+  -- how much is buffered or was handed over
   pub buffers_size : (text : Text) (before after : LogWriter) (old new : S) → Buffers told (Ok tt) text before after old new → after.at + length after.buffered ≡ before.at + length before.buffered + length text
   buffers_size text before after old new gathers =
       omega (arith, gathers.at, ap length gathers.buffered, ap length gathers.all, length-append gathers.handed gathers.left, length-append before.buffered text)
 
-  -- one text behind another
+  -- one text after another
   pub buffers_on : (result : Result (Unit {0}) SiteError) (one two : Text) (a b c : LogWriter) (old mid new : S) → (IsTrue told.tells_reads → a.at ≤ length (told.disk old).reads.log)
       → Buffers told (Ok tt) one a b old mid → Buffers told result two b c mid new → Buffers told result (one ++ two) a c old new
   buffers_on result one two a b c old mid new place first then = record {
@@ -63,7 +52,7 @@ module _ {S : Type 0} (told : Ghosts S) where
     hands = hands_on told result a.at first.handed then.handed old mid new place first.hands (subst (λ (n : ℕ). Hands told result n then.handed mid new) first.at then.hands);
   }
 
-  -- an error, of a text that was to go on
+  -- an error in a text that others were to follow
   pub buffers_cut : (error : SiteError) (one two : Text) (a b c : LogWriter) (old new : S) → Buffers told (Err error) one a b old new → Buffers told (Err error) (one ++ two) a c old new
   buffers_cut error one two a b c old new gathers = record {
     handed = gathers.handed;
@@ -74,7 +63,7 @@ module _ {S : Type 0} (told : Ghosts S) where
     hands = gathers.hands;
   }
 
-  -- the last bytes are handed to the log behind the others
+  -- the last bytes are handed to the log after the others
   pub hands_last : (result : Result (Unit {0}) SiteError) (text last : Text) (a b : LogWriter) (old mid new : S) → (IsTrue told.tells_reads → a.at ≤ length (told.disk old).reads.log)
       → Buffers told (Ok tt) text a b old mid → Hands told result b.at (b.buffered ++ last) mid new → Hands told result a.at (a.buffered ++ text ++ last) old new
   hands_last result text last a b old mid new place gathers hands =
@@ -100,7 +89,7 @@ module _ {S : Type 0} (told : Ghosts S) where
     hands = hands;
   }
 
-  -- what was buffered was handed to the log, and the text behind it
+  -- what was buffered was handed to the log, and then the text
   pub buffers_through : (result : Result (Unit {0}) SiteError) (text : Text) (before mid after : LogWriter) (old flushed new : S) → (IsTrue told.tells_reads → before.at ≤ length (told.disk old).reads.log)
       → Hands told (Ok tt) before.at before.buffered old flushed → mid.at ≡ before.at + length before.buffered → Hands told result mid.at text flushed new
       → OnOk result ((after.buffered ≡ []) × (after.at ≡ mid.at + length text)) → Buffers told result text before after old new
@@ -108,7 +97,7 @@ module _ {S : Type 0} (told : Ghosts S) where
       (ok_then result (λ done. (done.0, omega (arith, done.1, is, length-append before.buffered text))) ok)
       (hands_on told result before.at before.buffered text old flushed new place first (subst (λ (n : ℕ). Hands told result n text flushed new) is then))
 
-  -- the same, with its result and text told otherwise
+  -- the same, with its result and text named otherwise
   pub buffers_as : (result told_as : Result (Unit {0}) SiteError) (text other : Text) (before after : LogWriter) (old new : S) → told_as ≡ result → text ≡ other → Buffers told result text before after old new → Buffers told told_as other before after old new
   buffers_as result told_as text other before after old new same is gathers =
       subst (λ (r : Result (Unit {0}) SiteError). Buffers told r other before after old new) (sym same)

@@ -13,7 +13,7 @@ use Rattle.ml_journal.specs.Rows.{Rests, Lays}
 use Rattle.ml_journal.specs.Laying.{laid_down, Beside}
 use Rattle.ml_journal.proofs.Crash.{Counts, counts_same, closed, last_row, rests_counts}
 
--- laid over files that differ in nothing else it is the same
+-- puts laid over two directories give the same if these differ only in files of the puts
 pub laid_beside : (puts : BTreeMap Name (Option Text)) (f g : Dir) → ((name : Name) → newest_of puts name ≡ None → f name ≡ g name) → with_newest puts f ≡ with_newest puts g
 laid_beside puts f g same = λ i name. one name (newest_of puts name) refl i
   where
@@ -70,7 +70,7 @@ pub record IsClosed (old : Contents) (puts : BTreeMap Name (Option Text)) (mid :
 pub is_closed : (old : Contents) (puts : BTreeMap Name (Option Text)) → Lays old.log (with_newest puts) → IsClosed old puts (log_with (laid_down puts old) 0 (0 ∷ []))
 is_closed old puts held = record { behind = held.behind; log = ap (λ (l : Text). take 0 l ++ 0 ∷ drop 1 l) held.split; files = refl }
 
--- so it is where the first gate was written over what was laid down
+-- it is so after the first gate was written over what was laid down
 pub closed_then : (old : Contents) (puts : BTreeMap Name (Option Text)) (first second : Contents) → Lays old.log (with_newest puts) → first ≡ laid_down puts old → second ≡ log_with first 0 (0 ∷ []) → IsClosed old puts second
 closed_then old puts first second held laid is = subst (IsClosed old puts) (sym (is ∙ ap (λ (m : Contents). log_with m 0 (0 ∷ [])) laid)) (is_closed old puts held)
 
@@ -78,7 +78,7 @@ closed_directory : (old : Contents) (puts : BTreeMap Name (Option Text)) (left :
 closed_directory old puts left held is =
     counts_same (0 ∷ is.behind) left.log (λ d. d) is.log (closed 0 is.behind (omega arith)) left.files ∙ ap Some is.files ∙ sym (held.counts old.files)
 
--- the log is cut behind its closed gate
+-- the log is cut after its closed gate
 pub while_cut : (old : Contents) (puts : BTreeMap Name (Option Text)) (mid left : Contents) → Lays old.log (with_newest puts) → IsClosed old puts mid → MayLeave mid (Cut 1 ∷ []) left → directory left ≡ directory old
 while_cut old puts mid left held is may =
     let split : left.log ≡ 0 ∷ drop 1 left.log = torn_cut mid left 1 (omega (arith, ap length is.log)) may ∙ ap (λ (l : Text). take 1 l ++ drop 1 left.log) is.log in

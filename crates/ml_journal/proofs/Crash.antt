@@ -12,24 +12,24 @@ use Rattle.ml_journal.specs.Moments.{with_txn}
 use Rattle.ml_journal.specs.Rows.{IsRow, IsRecord, Rests, Staged}
 use Rattle.ml_journal.proofs.Logs.{log_end, log_closed, row_of}
 
--- a log counts to this change
+-- the records of a log that count make this change
 abbrev pub Counts : Text → (Dir → Dir) → Type 0
 Counts log change = (files : Dir) → laid_over files (log_puts log) ≡ Some (change files)
 
--- the same log counts to the same
+-- the same log makes the same change
 pub counts_same : (log other : Text) (change : Dir → Dir) → other ≡ log → Counts log change → Counts other change
 counts_same log other change same counts files = ap (λ (l : Text). laid_over files (log_puts l)) same ∙ counts files
 
--- two contents that count to one change over the same files
+-- two contents whose logs make the same change over the same files
 pub same_directory : (old left : Contents) (change : Dir → Dir) → Counts old.log change → Counts left.log change → left.files ≡ old.files → directory left ≡ directory old
 same_directory old left change was is files = is left.files ∙ ap (λ (d : Dir). Some (change d)) files ∙ sym (was old.files)
 
--- nothing counts behind a closed gate
+-- nothing counts after a closed gate
 pub closed : (gate : ℕ) (rest : Text) → gate ≢ 1 → Counts (gate ∷ rest) (λ d. d)
 closed gate [] shut files = ap (laid_over files) (log_end gate)
 closed gate (b ∷ rest) shut files = ap (laid_over files) (log_closed gate b rest shut)
 
--- a row and a closed gate, whatever stands behind it
+-- a row and a closed gate, whatever follows it
 pub closed_row : (row : Text) (change : Dir → Dir) (gate : ℕ) (rest : Text) → IsRow row change → gate ≢ 1 → Counts (row ++ gate ∷ rest) change
 closed_row row change gate rest is_row shut files = is_row (gate ∷ rest) files (omega arith) ∙ closed gate rest shut (change files)
 
@@ -41,12 +41,12 @@ row_then : (front behind : Text) (first second : Dir → Dir) → IsRow front fi
 row_then front behind first second a b rest files some =
     ap (λ (l : Text). laid_over files (log_puts l)) (append_assoc front behind rest) ∙ a (behind ++ rest) files (omega (arith, length-append behind rest)) ∙ b rest (first files) some
 
--- a record has a byte
+-- a record has at least one byte
 record_some : (body : Text) (txn : List Put) → IsRecord body txn → 0 < length body
 record_some [] txn reads = cc (reads [])
 record_some (b ∷ body) txn reads = omega arith
 
--- the row is longer by a record
+-- the row becomes longer by a record
 longer_row : (row body : Text) (change : Dir → Dir) (txn : List Put) → IsRow row change → IsRecord body txn → IsRow (row ++ 1 ∷ body) (λ d. with_puts (change d) txn)
 longer_row row body change txn is_row reads = row_then row (1 ∷ body) change (λ d. with_puts d txn) is_row (row_of body txn reads (record_some body txn reads))
 
@@ -56,7 +56,7 @@ rests_counts log end change rests = counts_same (rests.row ++ 0 ∷ []) log chan
 pub rests_size : (log : Text) (end : ℕ) (change : Dir → Dir) → Rests log end change → length log ≡ end + 1
 rests_size log end change rests = omega (arith, ap length rests.split, length-append rests.row (0 ∷ []), rests.size)
 
--- a record is written behind the last gate
+-- a record is written after the last gate
 pub behind_gate : (old : Contents) (end n : ℕ) (change : Dir → Dir) (left : Contents) → Rests old.log end change → MayLeave old (Range (end + 1) n ∷ []) left → directory left ≡ directory old
 behind_gate old end n change left rests may =
     let size = rests_size old.log end change rests in
@@ -79,7 +79,7 @@ staged old end body change rests =
       first = rests.first;
     }
 
--- so it is where the record with its gate was written
+-- it is so after the record with its gate was written
 pub staged_then : (old mid : Contents) (end : ℕ) (body bytes : Text) (change : Dir → Dir) → Rests old.log end change → bytes ≡ body ++ 0 ∷ [] → mid ≡ log_with old (end + 1) bytes → Staged mid.log end body change
 staged_then old mid end body bytes change rests is done = subst (λ (m : Contents). Staged m.log end body change) (sym (done ∙ ap (log_with old (end + 1)) is)) (staged old end body change rests)
 

@@ -50,7 +50,7 @@ first_of_log log end change rests some = begins rests.row rests.split rests.size
     begins row split size (inl none) = absurd (omega (arith, ap length none, size, some))
     begins row split size (inr first) = ap (λ (l : Text). get_or l 0 0) (split ∙ ap (λ (l : Text). l ++ 0 ∷ []) first.1)
 
--- no record changes nothing
+-- a row of no records changes nothing
 pub no_row : (change : Dir → Dir) → ((dir : Dir) → change dir ≡ dir) → IsRow [] change
 no_row change none rest files some = ap (λ (d : Dir). laid_over d (log_puts rest)) (sym (none files))
 
@@ -58,11 +58,11 @@ no_row change none rest files some = ap (λ (d : Dir). laid_over d (log_puts res
 pub one_gate_rests : (log : Text) (change : Dir → Dir) → log ≡ 0 ∷ [] → ((dir : Dir) → change dir ≡ dir) → Rests log 0 change
 one_gate_rests log change is none = record { row = []; split = is; size = refl; is_row = no_row change none; first = inl refl }
 
--- what a directory shows of a file, by the newest puts
+-- what a directory shows of a file, given the newest puts
 pub shown : (held : Contents) (end : ℕ) (puts : BTreeMap Name (Option Text)) (name : Name) → Rests held.log end (with_newest puts) → the_dir (directory held) name ≡ left_by (newest_of puts name) (held.files name)
 shown held end puts name rests = ap (λ (d : Option Dir). the_dir d name) (rests_counts held.log end (with_newest puts) rests held.files)
 
--- a directory shows no file of a kind before a place before which no newest put is of one and none is held
+-- a directory shows no file in a range of places if no newest put is of one there and the disk holds none there
 pub none_shown : {E : Type 0} (held : Contents) (end : ℕ) (puts : BTreeMap Name (Option Text)) (kind from last : ℕ) (result : Result ℕ E) → Rests held.log end (with_newest puts) → NoEntryOf puts kind from last
     → IfOk result (λ at. (from ≤ at) × (at ≤ last)) → IfOk result (NoneOf held.files kind from) → IfOk result (NoneOf (the_dir (directory held)) kind from)
 none_shown held end puts kind from last (Ok n) rests named range none = λ at up below.
@@ -73,9 +73,3 @@ none_shown held end puts kind from last (Err e) rests named range none = tt
 -- a store has a directory
 pub whole : (held : Contents) (end : ℕ) (change : Dir → Dir) → Rests held.log end change → IsSome (directory held)
 whole held end change rests = ap is_some (rests_counts held.log end change rests held.files)
-
--- what a txn makes of a directory, file by file
-pub shows_txn : (held : Contents) (end : ℕ) (change : Dir → Dir) (new : Option Dir) (txn : List Put) → Rests held.log end change → new ≡ with_txn txn (directory held) → the_dir new ≡ with_puts (the_dir (directory held)) txn
-shows_txn held end change new txn rests done =
-    let was = rests_counts held.log end change rests held.files in
-    ap the_dir (done ∙ ap (with_txn txn) was) ∙ ap (λ (d : Option Dir). with_puts (the_dir d) txn) (sym was)

@@ -1,4 +1,4 @@
--- Bytes that are handed to the log in some writes: joined, they are handed to it as one text.
+-- Bytes that are handed to the log in several writes have the same effect as if they were handed to it as one text.
 use Rattle.std.proofs.Common.{◌≡◌, ◌⊎◌, inl, inr, ⊎_elim, ◌<◌, ◌≤◌, ℕ, ◌+◌, max, IsTrue, List, [], ◌∷◌, ◌++◌, length, take, drop, Result, Ok, Err, OnOk, refl, sym, ◌∙◌, ap, subst, arith, add-zero, append_assoc, length-append}
 use Rattle.std.specs.Prelude.{IsErrOf}
 use Rattle.std.proofs.lemmas.List.{append-nil, length-take, take_at, take-append-drop}
@@ -45,7 +45,7 @@ within_file at size name (Range from k ∷ parts) are = within_file at size name
 within_file at size name (Cut k ∷ parts) are = absurd are
 within_file at size name (File other ∷ parts) are = absurd are
 
--- what parts of a range may leave, the whole range may
+-- what parts of a range may leave, the whole range may leave
 pub as_one : (at size : ℕ) (old left : Contents) (parts : List Part) → AreWithin at size parts → MayLeave old parts left → MayLeave old (Range at size ∷ []) left
 as_one at size old left parts are may = record {
   no_shorter = omega (arith, within_least at size (length old.log) parts are, may.no_shorter);
@@ -54,7 +54,7 @@ as_one at size old left parts are may = record {
   files = λ name out. may.files name (within_file at size name parts are);
 }
 
--- an image of a disk on which parts of a range alone are pending
+-- an image of a disk on which only parts of a range are pending
 pub image_in : (at size : ℕ) (old : Contents) (disk : Disk) (left : Contents) → IsPendingIn at size old disk → IsImage disk left → MayLeave old (Range at size ∷ []) left
 image_in at size old disk left pends image = as_one at size old left disk.pending pends.pending (subst (λ (c : Contents). MayLeave c disk.pending left) pends.settled image)
 
@@ -62,7 +62,7 @@ image_in at size old disk left pends image = as_one at size old left disk.pendin
 pub rest_in : (at size : ℕ) (disk : Disk) → IsAtRest disk → IsPendingIn at size disk.reads disk
 rest_in at size disk rest = record { settled = rest.settled; pending = subst (AreWithin at size) (sym rest.pending) tt }
 
--- one write more
+-- one more write
 more_in : {E : Type 0} (result : Result (Unit {0}) E) (from size at n : ℕ) (base : Contents) (old new : Disk) → from ≤ at → at + n ≤ from + size → Pends result (Range at n) old new → IsPendingIn from size base old → IsPendingIn from size base new
 more_in {E} result from size at n base old new low high pends over = record { settled = pends.settled ∙ over.settled; pending = parts result pends }
   where
@@ -73,14 +73,7 @@ more_in {E} result from size at n base old new low high pends over = record { se
     parts (Ok u) p = longer p.ok
     parts (Err e) p = ⊎_elim longer (λ none. subst (AreWithin from size) (sym none) over.pending) p.err
 
--- a write of no bytes
-with_none : (old : Contents) (at : ℕ) → log_with old at [] ≡ old
-with_none old at = λ i. record { log = log i; files = old.files }
-  where
-    log : take at old.log ++ [] ++ drop (at + 0) old.log ≡ old.log
-    log = (λ i. append-nil (take at old.log) i ++ drop (add-zero at i) old.log) ∙ take-append-drop at old.log
-
--- one write behind another
+-- one write after another
 with_more : (old : Contents) (at : ℕ) (one two : Text) → at ≤ length old.log → log_with (log_with old at one) (at + length one) two ≡ log_with old at (one ++ two)
 with_more old at one two le = λ i. record { log = log i; files = old.files }
   where
@@ -106,24 +99,11 @@ with_more old at one two le = λ i. record { log = log i; files = old.files }
 pub with_long : (old : Contents) (at : ℕ) (text : Text) → at ≤ length old.log → at + length text ≤ length (log_with old at text).log
 with_long old at text le = omega (arith, length-append (take at old.log ++ text) (drop (at + length text) old.log), length-append (take at old.log) text, length-take at old.log, le)
 
-ok_always : {E P : Type 0} (result : Result (Unit {0}) E) → P → OnOk result P
-ok_always (Ok u) p = p
-ok_always (Err e) p = tt
-
 pub ok_then : {E P Q : Type 0} (result : Result (Unit {0}) E) → (P → Q) → OnOk result P → OnOk result Q
 ok_then (Ok u) f p = f p
 ok_then (Err e) f p = tt
 
 module _ {S : Type 0} (told : Ghosts S) where
-  -- no write
-  pub hands_none : (result : Result (Unit {0}) SiteError) (at : ℕ) (site : S) → (IsErrOf result FailedCall → ⊥) → Hands told result at [] site site
-  hands_none result at site none = record {
-    reads = λ r. record { ok = ok_always result (sym (with_none (told.disk site).reads at)); part_only = unchanged_part (Range at 0) (told.disk site).reads };
-    pends = λ t from size base low high over. over;
-    time = λ t from size base low high over. record { later = omega arith; nothing_else = λ time left out le since. inl since };
-    log_bytes = λ t. ok_always result (omega arith);
-    keeps = keeps_none told 0 (IsErrOf result FailedCall) site none;
-  }
 
   -- one write
   pub hands_one : (result : Result (Unit {0}) SiteError) (at : ℕ) (text : Text) (old new : S)
@@ -156,7 +136,7 @@ module _ {S : Type 0} (told : Ghosts S) where
     };
   }
 
-  -- one text behind another
+  -- one text after another
   pub hands_on : (result : Result (Unit {0}) SiteError) (at : ℕ) (one two : Text) (old mid new : S) → (IsTrue told.tells_reads → at ≤ length (told.disk old).reads.log)
       → Hands told (Ok tt) at one old mid → Hands told result (at + length one) two mid new → Hands told result at (one ++ two) old new
   hands_on result at one two old mid new place first then = record {
@@ -184,7 +164,7 @@ module _ {S : Type 0} (told : Ghosts S) where
     keeps = keeps_on told 0 0 0 (IsErrOf {T = Unit {0}} (Ok tt) FailedCall) (IsErrOf result FailedCall) old mid new (omega arith) first.keeps then.keeps;
   }
 
-  -- an error, of a text that was to go on
+  -- an error in a text that others were to follow
   pub hands_cut : (error : SiteError) (at : ℕ) (one two : Text) (old new : S) → Hands told (Err error) at one old new → Hands told (Err error) at (one ++ two) old new
   hands_cut error at one two old new hands = record {
     reads = λ r. record {
@@ -197,7 +177,7 @@ module _ {S : Type 0} (told : Ghosts S) where
     keeps = hands.keeps;
   }
 
-  -- the same, with its result, place and text told otherwise
+  -- the same, with its result, place and text named otherwise
   pub hands_as : (result told_as : Result (Unit {0}) SiteError) (at place : ℕ) (text other : Text) (old new : S) → told_as ≡ result → at ≡ place → text ≡ other → Hands told result at text old new → Hands told told_as place other old new
   hands_as result told_as at place text other old new same here is hands =
       subst (λ (r : Result (Unit {0}) SiteError). Hands told r place other old new) (sym same)
@@ -218,7 +198,7 @@ module _ {S : Type 0} (told : Ghosts S) where
         (λ left out within. within)
         (λ left is. (image_in at (length text) (told.disk old).reads (told.disk new) left more is, hands.keeps.output t))
 
-    -- and behind a sync
+    -- the same after a sync
     pub synced_leave : (result : Result (Unit {0}) SiteError) (at : ℕ) (text : Text) (old mid new : S) (t : IsTrue told.tells_all) → IsAtRest (told.disk old) → Hands told result at text old mid
         → ((left : Contents) → IsImage (told.disk new) left → IsImage (told.disk mid) left) → told.output new ≡ told.output mid
         → Elapses (told.moment mid) (told.moment new) (told.left_since mid) (told.left_since new) (Now (told.disk new) (told.output new))

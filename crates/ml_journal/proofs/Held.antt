@@ -1,4 +1,4 @@
--- What is known of a store that is held.
+-- What is known of every store that is held.
 use Rattle.std.proofs.Common.{◌≤◌, IsTrue, length, arith}
 use Rattle.std.specs.Prelude.{IsSome}
 use Rattle.ml_site.specs.Disk.{IsAtRest}

@@ -1,4 +1,4 @@
--- How one call of the journal follows another.
+-- How one call of the journal follows another: what both together keep or change.
 use Rattle.std.proofs.Common.{◌≡◌, ◌⊎◌, inl, inr, ⊎_elim, ◌≤◌, ◌+◌, ℕ, IsTrue, List, Option, refl, ◌∙◌, ap, arith}
 use Rattle.ml_base.specs.Bytes.{Text}
 use Rattle.ml_base.specs.Dir.{Dir}
@@ -35,19 +35,7 @@ module _ {S : Type 0} (told : Ghosts S) where
     others = two.others ∙ one.others;
   }
 
-  -- with more syncs, and another error
-  pub keeps_more : (few most : ℕ) (failed other : Type 0) (old new : S) → few ≤ most → (other → failed) → Keeps told few failed old new → Keeps told most other old new
-  keeps_more few most failed other old new le why keeps = record {
-    output = keeps.output;
-    syncs = λ t. omega (arith, le, keeps.syncs t);
-    syncs_stay = keeps.syncs_stay;
-    log_bytes_stay = keeps.log_bytes_stay;
-    faults = keeps.faults;
-    cause = λ f. keeps.cause (why f);
-    others = keeps.others;
-  }
-
-  -- the directory stays where all that is left has it
+  -- the directory stays if whatever may be left has it
   pub directory_by : (old new : S) (P : Contents → Text → Type 0) → Leaves told old new P
       → (IsTrue told.tells_reads → directory (told.disk new).reads ≡ directory (told.disk old).reads)
       → (IsTrue told.tells_all → (left : Contents) (out : Text) → P left out → IsOld (directory (told.disk old).reads) (told.output old) left out)
@@ -57,7 +45,7 @@ module _ {S : Type 0} (told : Ghosts S) where
     moments = λ t. weaker told.moment told.left_since told.disk told.output old new P (IsOld (directory (told.disk old).reads) (told.output old)) (leaves t) (is t);
   }
 
-  -- the directory changes where all that is left has it or the one with the txn
+  -- the directory changes as it should if whatever may be left has the old one or the one with the txn
   pub changes_by : (txn : List Put) (old new : S) (P : Contents → Text → Type 0) → Leaves told old new P
       → (IsTrue told.tells_reads → (directory (told.disk new).reads ≡ directory (told.disk old).reads) ⊎ (directory (told.disk new).reads ≡ with_txn txn (directory (told.disk old).reads)))
       → (IsTrue told.tells_all → (left : Contents) (out : Text) → P left out → IsOldOrNew (directory (told.disk old).reads) txn (told.output old) left out)
@@ -90,7 +78,7 @@ module _ {S : Type 0} (told : Ghosts S) where
     }
 
   module _ (all_has_reads : IsTrue told.tells_all → IsTrue told.tells_reads) where
-    -- one after another
+    -- one call after another
     pub directory_on : (old mid new : S) → (IsTrue told.tells_all → told.output mid ≡ told.output old) → KeepsDirectory told old mid → KeepsDirectory told mid new → KeepsDirectory told old new
     directory_on old mid new output one two = record {
       same = λ r. two.same r ∙ one.same r;
@@ -98,7 +86,7 @@ module _ {S : Type 0} (told : Ghosts S) where
           (one.moments t) (two.moments t) (λ left out p. p) (λ left out p. (p.0 ∙ one.same (all_has_reads t), p.1 ∙ output t));
     }
 
-    -- a change behind calls that keep the directory
+    -- a change after calls that keep the directory
     pub changes_after : (txn : List Put) (old mid new : S) → (IsTrue told.tells_all → told.output mid ≡ told.output old) → KeepsDirectory told old mid → ChangesDirectory told txn mid new → ChangesDirectory told txn old new
     changes_after txn old mid new output one two = record {
       any = λ r. or_new (directory (told.disk new).reads) (one.same r) (two.any r);
@@ -110,7 +98,7 @@ module _ {S : Type 0} (told : Ghosts S) where
             → (dir ≡ directory (told.disk old).reads) ⊎ (dir ≡ with_txn txn (directory (told.disk old).reads))
         or_new dir same is = ⊎_elim (λ a. inl (a ∙ same)) (λ b. inr (b ∙ ap (with_txn txn) same)) is
 
-    -- calls that keep the directory, behind a change that was done
+    -- calls that keep the directory, after a change that was done
     pub changes_then : (txn : List Put) (old mid new : S) → (IsTrue told.tells_all → told.output mid ≡ told.output old) → ChangesDirectory told txn old mid
         → (IsTrue told.tells_reads → directory (told.disk mid).reads ≡ with_txn txn (directory (told.disk old).reads)) → KeepsDirectory told mid new → ChangesDirectory told txn old new
     changes_then txn old mid new output one done two = record {

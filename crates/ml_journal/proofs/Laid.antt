@@ -1,4 +1,4 @@
--- Files that are laid down one after another.
+-- How files are laid down one after another.
 use Rattle.std.proofs.Common.{◌≡◌, ◌≢◌, ℕ, ◌<◌, ◌+◌, Bool, true, false, cond, List, [], ◌∷◌, length, take, get_or, Option, Some, None, refl, sym, ◌∙◌, ap, subst, arith}
 use Rattle.std.proofs.lemmas.List.{take_more}
 use Rattle.std.specs.Prelude.{IsSome}
@@ -21,7 +21,7 @@ use Rattle.ml_site.proofs.FileParts.{file_log, over_log, over_beside}
 use Rattle.ml_journal.specs.Newest.{newest_of, left_by, with_newest}
 use Rattle.ml_journal.specs.Laying.{laid_down, Beside, IsOver, IsBeside}
 
--- a file of the puts is no file that they don't have
+-- a file that has a put differs from a file that has none
 apart : (puts : BTreeMap Name (Option Text)) (name other : Name) → IsSome (newest_of puts name) → newest_of puts other ≡ None → other ≢ name
 apart puts name other is none same =
     let found : IsSome (newest_of puts other) = subst (λ (n : Name). IsSome (newest_of puts n)) (sym same) is in
@@ -60,7 +60,7 @@ not_found (entry ∷ entries) name beside = ap (λ (b : Bool). cond b (Some entr
 pub none_laid : (puts : BTreeMap Name (Option Text)) (entries : List (Name × Option Text)) (old : Dir) (name : Name) → entries ≡ puts.entries → IsBeside name entries → old name ≡ with_newest puts old name
 none_laid puts entries old name same beside = ap (λ (found : Option (Option Text)). left_by found (old name)) (sym (not_found puts.entries name (subst (IsBeside name) same beside)))
 
--- one file more is laid
+-- one more file is laid down
 pub laid_more : (puts : BTreeMap Name (Option Text)) (old mid new : Dir) (name : Name) (bytes : Option Text) (entries left : List (Name × Option Text)) → left ≡ (name, bytes) ∷ entries → newest_of puts name ≡ Some bytes → new ≡ with_file mid name bytes
     → ((other : Name) → IsBeside other left → mid other ≡ with_newest puts old other) → (other : Name) → IsBeside other entries → new other ≡ with_newest puts old other
 laid_more puts old mid new name bytes entries left is found done so_far other beside = ap (λ (d : Dir). d other) done ∙ chosen (same_name other name) refl
@@ -76,15 +76,3 @@ laid_more puts old mid new name bytes entries left is found done so_far other be
         let same : other ≡ name = one_name other name test in
         ap (λ (o : Option (Option Text)). left_by o (old other)) (sym (ap (newest_of puts) same ∙ found))
     chosen false test = so_far other (subst (IsBeside other) (sym is) (differs test, beside))
-
--- all are laid
-pub all_laid : (puts : BTreeMap Name (Option Text)) (old new : Contents) (entries : List (Name × Option Text)) → entries ≡ [] → Beside puts old new
-    → ((name : Name) → IsBeside name entries → new.files name ≡ with_newest puts old.files name) → new ≡ laid_down puts old
-all_laid puts old new entries none beside done = λ i. record { log = beside.log i; files = λ name. done name (subst (IsBeside name) (sym none) tt) i }
-
--- a row with one put more
-pub one_put_more : (txn : List Put) (i : ℕ) (put : Put) (dir : Dir) → i < length txn → put ≡ get_or txn i put → with_puts dir (take (i + 1) txn) ≡ with_file (with_puts dir (take i txn)) put.name put.bytes
-one_put_more txn i put dir lt is =
-    ap (with_puts dir) (take_more txn i put lt)
-    ∙ laid_joined dir (take i txn) (get_or txn i put ∷ [])
-    ∙ ap (with_put (with_puts dir (take i txn))) (sym is)

@@ -1,4 +1,4 @@
--- What stands at the front of a log.
+-- How a log is read from its beginning: gate by gate and record by record.
 use Rattle.std.proofs.Common.{◌≡◌, ◌≢◌, ◌⊎◌, inl, inr, ◌<◌, ◌≤◌, ℕ, zero, suc, Bool, true, false, cond, List, [], ◌∷◌, ◌++◌, length, Option, Some, None, refl, sym, ◌∙◌, ap, arith, append_assoc, length-append}
 use Rattle.std.specs.Prelude.{option_map, ◌==◌, ◌&&◌}
 use Rattle.std.specs.List.{AllByRecursion}
@@ -21,11 +21,11 @@ use Rattle.ml_journal.proofs.Records.{record_written, record_found}
 pub log_end : (gate : ℕ) → log_puts (gate ∷ []) ≡ Some []
 log_end gate = refl
 
--- nothing behind a closed gate is looked at
+-- nothing after a closed gate is looked at
 pub log_closed : (gate b : ℕ) (rest : Text) → gate ≢ 1 → log_puts (gate ∷ b ∷ rest) ≡ Some []
 log_closed gate b rest shut = let test : (gate == 1) ≡ false = grind (arith, nat_tests) in ap (λ (t : Bool). cond t (record_and_more (log_puts_within (suc (length rest))) (record_at (b ∷ rest))) (Some [])) test
 
--- what is behind a record is shorter
+-- what follows a record is shorter
 pub record_shorter : (text : Text) (found : List Put × Text) → record_at text ≡ Some found → length found.1 < length text
 record_shorter text found e =
     let is = record_found text found.0 found.1 e in
@@ -52,7 +52,7 @@ log_enough (suc n) (suc m) (gate ∷ b ∷ rest) le le' = ap (λ (more : Option 
         let shorter = record_shorter (b ∷ rest) found is in
         ap (option_map (λ (puts : List Put). found.0 ++ puts)) (more found.1 (omega (arith, shorter, le)) (omega (arith, shorter, le')))
 
--- an open gate counts with what is behind it
+-- an open gate counts, with what follows it
 pub log_opened : (b : ℕ) (rest : Text) → log_puts (1 ∷ b ∷ rest) ≡ record_and_more log_puts (record_at (b ∷ rest))
 log_opened b rest = go (record_at (b ∷ rest)) refl
   where
@@ -131,7 +131,7 @@ log_written (puts ∷ rows) end are none =
     ∙ open_record puts (open_records rows ++ end) are.0
     ∙ ap (option_map (λ (more : List Put). puts ++ more)) (log_written rows end are.1 none)
 
--- behind open records a broken end leaves no value
+-- after open records a broken end leaves no value
 pub log_damaged : (rows : List (List Put)) (end : Text) → AllByRecursion IsWritable rows → IsBroken end → log_puts (open_records rows ++ end) ≡ None
 log_damaged [] end are broken = is_broken end broken
 log_damaged (puts ∷ rows) end are broken =
@@ -139,7 +139,7 @@ log_damaged (puts ∷ rows) end are broken =
     ∙ open_record puts (open_records rows ++ end) are.0
     ∙ ap (option_map (λ (more : List Put). puts ++ more)) (log_damaged rows end are.1 broken)
 
--- every log is open records and an end
+-- every log is open records and then an end
 abbrev Split : Text → Type 0
 Split log = (rows : List (List Put)) × (end : Text) × IsSplit log rows end
 

@@ -1,4 +1,4 @@
--- An opening begins with a sync.
+-- An opening begins with a sync: what a crash leaves before it, and what after it.
 use Rattle.std.proofs.Common.{◌≡◌, ◌+◌, IsTrue, ◌∙◌, ap}
 use Rattle.ml_site.specs.Disk.{Contents, Elapses, IsAtRest, IsImage, Now}
 use Rattle.ml_site.specs.Moments.{BeforeFirstSync, FromFirstSync}
@@ -16,7 +16,7 @@ module _ {S : Type 0} (told : Ghosts S) (only_now : OnlyNow told) (all_has_reads
     pub output : IsTrue told.tells_all → told.output new ≡ told.output old
     pub time : IsTrue told.tells_all → Elapses (told.moment old) (told.moment new) (told.left_since old) (told.left_since new) (Now (told.disk new) (told.output new))
 
-  -- in its course a crash leaves what a crash before it could leave
+  -- a crash during it leaves what a crash before it could leave
   synced : (old new : S) → Syncs old new → Leaves told old new (Now (told.disk old) (told.output old))
   synced old new syncs t = after_sync told.moment told.left_since told.disk told.output (λ s left out l. only_now s left out t l) old new (syncs.crash t) (syncs.output t) (syncs.time t)
 
@@ -24,12 +24,12 @@ module _ {S : Type 0} (told : Ghosts S) (only_now : OnlyNow told) (all_has_reads
       → BeforeFirstSync told.moment told.left_since told.disk told.output told.syncs old new (Now (told.disk old) (told.output old))
   not_opened old new syncs none same t = not_synced told.moment told.left_since told.disk told.output (λ s left out l. only_now s left out t l) told.syncs old new (none t) (same t) (syncs.crash t) (syncs.output t) (syncs.time t)
 
-  -- where nothing was pending, the directory stays
+  -- if nothing was pending, the directory stays
   pub synced_at_rest : (old new : S) → Syncs old new → IsAtRest (told.disk old) → Leaves told old new (IsOld (directory (told.disk old).reads) (told.output old))
   synced_at_rest old new syncs rest t = weaker told.moment told.left_since told.disk told.output old new (Now (told.disk old) (told.output old)) (IsOld (directory (told.disk old).reads) (told.output old)) (synced old new syncs t)
       (λ left out now. (ap directory (rest_contents (told.disk old) left rest now.0), now.1))
 
-  -- calls that keep the directory behind it
+  -- calls after it that keep the directory
   behind : (old mid new : S) → Syncs old mid → KeepsDirectory told mid new → Leaves told mid new (IsOld (directory (told.disk old).reads) (told.output old))
   behind old mid new syncs keeps t = weaker told.moment told.left_since told.disk told.output mid new (IsOld (directory (told.disk mid).reads) (told.output mid)) (IsOld (directory (told.disk old).reads) (told.output old))
       (keeps.moments t) (λ left out now. (now.0 ∙ ap directory (syncs.reads (all_has_reads t)), now.1 ∙ syncs.output t))

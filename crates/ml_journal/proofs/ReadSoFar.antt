@@ -1,4 +1,4 @@
--- What was read so far, and what is left.
+-- What was read of a log so far, and what is left to read: the invariants of the loops that read.
 use Rattle.std.proofs.Common.{◌≡◌, ◌<◌, ◌≤◌, ℕ, ◌+◌, ◌-◌, true, List, [], ◌∷◌, ◌++◌, length, drop, get_or, Option, Some, None, refl, sym, ◌∙◌, ap, arith, append_assoc}
 use Rattle.std.specs.Prelude.{option_map}
 use Rattle.std.specs.Option.{option_and_then}
@@ -23,7 +23,7 @@ behind_both : (found more : List Put) (rest : Option (List Put)) → behind foun
 behind_both found more None = refl
 behind_both found more (Some puts) = ap Some (sym (append_assoc found more puts))
 
--- one put more was read
+-- one more put was read
 pub put_read : (found : List Put) (text : Text) (put : Put) (rest : Text) → put_at text ≡ Some (put, rest) → behind found (puts_of text) ≡ behind (found ++ put ∷ []) (puts_of rest)
 put_read found text put rest e = ap (behind found) (puts_next text put rest e) ∙ behind_both found (put ∷ []) (puts_of rest)
 
@@ -31,7 +31,7 @@ put_read found text put rest e = ap (behind found) (puts_next text put rest e) �
 pub record_read : (text content rest : Text) → netstring_at text ≡ Some (content, rest) → record_at text ≡ option_map (λ (puts : List Put). (puts, rest)) (puts_of content)
 record_read text content rest e = ap (option_and_then (λ (found : Text × Text). option_map (λ (puts : List Put). (puts, found.1)) (puts_of found.0))) e
 
--- one record more was read
+-- one more record was read
 pub log_read : (old new : List Put) (b : ℕ) (text content rest : Text) → netstring_at (b ∷ text) ≡ Some (content, rest) → behind old (puts_of content) ≡ Some new → behind old (log_puts (1 ∷ b ∷ text)) ≡ behind new (log_puts rest)
 log_read old new b text content rest e is =
     ap (behind old) (log_opened b text ∙ ap (record_and_more log_puts) (record_read (b ∷ text) content rest e)) ∙ go (puts_of content) is
@@ -40,7 +40,7 @@ log_read old new b text content rest e is =
     go None e' = cc
     go (Some puts) e' = let same : old ++ puts ≡ new = cc in behind_both old puts (log_puts rest) ∙ ap (λ (l : List Put). behind l (log_puts rest)) same
 
--- no record stands behind an open gate
+-- no record follows an open gate
 pub log_broken : (old : List Put) (b : ℕ) (text : Text) → record_at (b ∷ text) ≡ None → behind old (log_puts (1 ∷ b ∷ text)) ≡ None
 log_broken old b text e = ap (behind old) (log_opened b text ∙ ap (record_and_more log_puts) e)
 
@@ -54,26 +54,23 @@ pub found_more : (found : List FoundPut) (put : FoundPut) → puts_found (found 
 found_more [] put = refl
 found_more (first ∷ found) put = ap (λ (l : List Put). put_of first ∷ l) (found_more found put)
 
--- one put more was found
+-- one more put was found
 pub next_put : (start : Option (List Put)) (found new : List FoundPut) (text : Text) (put : FoundPut) (rest : Text) → put_at text ≡ Some (put_of put, rest) → new ≡ found ++ put ∷ []
     → behind (puts_found found) (puts_of text) ≡ start → behind (puts_found new) (puts_of rest) ≡ start
 next_put start found new text put rest e is so_far =
     ap (λ (l : List FoundPut). behind (puts_found l) (puts_of rest)) is ∙ ap (λ (l : List Put). behind l (puts_of rest)) (found_more found put)
     ∙ sym (put_read (puts_found found) text (put_of put) rest e) ∙ so_far
 
--- one record more was found
+-- one more record was found
 pub next_record : (log text content rest : Text) (old new : List Put) (at : Text) → at ≡ 1 ∷ text → 0 < length text → netstring_at text ≡ Some (content, rest) → behind old (puts_of content) ≡ Some new
     → behind old (log_puts at) ≡ log_puts log → behind new (log_puts rest) ≡ log_puts log
 next_record log [] content rest old new at is some e row so_far = absurd (omega (arith, some))
 next_record log (b ∷ text) content rest old new at is some e row so_far = sym (log_read old new b text content rest e row) ∙ ap (λ (l : Text). behind old (log_puts l)) (sym is) ∙ so_far
 
--- no record stands behind the gate
+-- no record follows the gate
 no_record : (log text : Text) (old : List Put) (at : Text) → at ≡ 1 ∷ text → 0 < length text → record_at text ≡ None → behind old (log_puts at) ≡ log_puts log → None ≡ log_puts log
 no_record log [] old at is some e so_far = absurd (omega (arith, some))
 no_record log (b ∷ text) old at is some e so_far = sym (log_broken old b text e) ∙ ap (λ (l : Text). behind old (log_puts l)) (sym is) ∙ so_far
-
-pub no_netstring : (log text : Text) (old : List Put) (at : Text) → at ≡ 1 ∷ text → 0 < length text → netstring_at text ≡ None → behind old (log_puts at) ≡ log_puts log → None ≡ log_puts log
-no_netstring log text old at is some e so_far = no_record log text old at is some (ap (option_and_then (λ (found : Text × Text). option_map (λ (puts : List Put). (puts, found.1)) (puts_of found.0))) e) so_far
 
 pub no_row : (log text content rest : Text) (old : List Put) (at : Text) → at ≡ 1 ∷ text → 0 < length text → netstring_at text ≡ Some (content, rest) → behind old (puts_of content) ≡ None
     → behind old (log_puts at) ≡ log_puts log → None ≡ log_puts log
@@ -82,10 +79,6 @@ no_row log text content rest old at is some e row so_far = no_record log text ol
     none : (puts : Option (List Put)) → behind old puts ≡ None → option_map {U = List Put × Text} (λ (ps : List Put). (ps, rest)) puts ≡ None
     none None e' = refl
     none (Some puts) e' = cc
-
--- nothing more counts
-pub no_more : (log : Text) (old : List Put) (at : Text) → log_puts at ≡ Some [] → behind old (log_puts at) ≡ log_puts log → Some old ≡ log_puts log
-no_more log old at e so_far = ap Some (sym (append-nil old)) ∙ sym (ap (behind old) e) ∙ so_far
 
 -- before the first step no put is looked at
 pub none_older : (found : List FoundPut) (dir : Dir) → with_puts dir (drop (length found) (puts_found found)) ≡ dir

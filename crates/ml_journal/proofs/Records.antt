@@ -1,4 +1,4 @@
--- Records are read as they are written.
+-- Records are read as they are written, and what is read is written the same.
 use Rattle.std.proofs.Common.{◌≡◌, ◌<◌, ◌≤◌, ◌^◌, ℕ, zero, suc, ◌+◌, Bool, true, false, cond, List, [], ◌∷◌, ◌++◌, length, Option, Some, None, refl, sym, ◌∙◌, ap, subst, arith, append_assoc, length-append}
 use Rattle.std.specs.Option.{option_and_then}
 use Rattle.std.specs.Prelude.{option_map, ◌&&◌, ◌||◌, ◌==◌}
@@ -17,7 +17,7 @@ use Rattle.ml_base.proofs.Netstrings.{netstring_written, netstring_read}
 use Rattle.ml_base.proofs.NumberLaws.{number_read, number_spelled}
 use Rattle.ml_journal.specs.Records.{spelled_name, spelled_as, spelled_put, spelled_puts, spelled_record, number_at, name_at, write_at, removal_at, put_at, with_first, first_and_more, puts_within, puts_of, record_at}
 
--- what went on to something was something
+-- if a next step has a value, the step before it has one
 went_on : {A B : Type 0} (found : Option A) (next : A → Option B) (b : B) → option_and_then next found ≡ Some b → (a : A) × (found ≡ Some a) × (next a ≡ Some b)
 went_on None next b e = cc
 went_on (Some a) next b e = (a, refl, e)
@@ -46,7 +46,7 @@ number_found text n rest e =
       split.1 ∙ ap (λ (digits : Text). ns digits ++ first.0.1) spelled.1 ∙ ap (λ (p : ℕ × Text). ns (decimal p.0) ++ p.1) number.2,
     )
 
--- the places of a file are small
+-- a bound of both branches is a bound of the choice
 pick : (b : Bool) (x y most : ℕ) → x ≤ most → y ≤ most → cond b x y ≤ most
 pick true x y most first second = first
 pick false x y most first second = second
@@ -136,7 +136,7 @@ put_written name (Some bytes) rest is small =
     write_written name bytes rest is size
 put_written name None rest is small = ap (option_map (λ (p : Name × Text). (record { name = p.0; bytes = None }, p.1))) (name_written name rest is)
 
--- what is read is spelled so
+-- what is read as a put is spelled so
 put_found : (text : Text) (put : Put) (rest : Text) → put_at text ≡ Some (put, rest) → (is_file put.name ≡ true) × (text ≡ spelled_put put ++ rest)
 put_found [] put rest e = cc
 put_found (letter ∷ text) put rest e = first (letter == 87) refl
@@ -153,7 +153,7 @@ put_found (letter ∷ text) put rest e = first (letter == 87) refl
         (found.0, ap (λ (l : ℕ). l ∷ text) (eqb-true letter 87 is) ∙ found.1)
     first false is = second (letter == 88) refl (ap (λ (t : Bool). cond t (write_at text) (cond (letter == 88) (removal_at text) None)) (sym is) ∙ e)
 
--- a put is a byte at least, so what is behind it is shorter
+-- a put has at least one byte, so what follows it is shorter
 put_some : (name : Name) (bytes : Option Text) → 0 < length (spelled_as name bytes)
 put_some name (Some bytes) = omega arith
 put_some name None = omega arith
@@ -163,7 +163,7 @@ put_shorter text put rest e =
     let found = put_found text put rest e in
     omega (arith, ap length found.1, length-append (spelled_put put) rest, put_some put.name put.bytes)
 
--- a text that begins with a put is that put and what is behind it
+-- a text that begins with a put is that put and what follows it
 one_more : (n : ℕ) (text : Text) (found : Option (Put × Text)) → put_at text ≡ found → 0 < length text → puts_within (suc n) text ≡ first_and_more (puts_within n) found
 one_more n [] found e some = absurd (omega (arith, some))
 one_more n (letter ∷ text) found e some = ap (first_and_more (puts_within n)) e
@@ -185,10 +185,6 @@ puts_enough (suc n) (suc m) (b ∷ text) le le' = go (put_at (b ∷ text)) refl 
         let shorter = put_shorter (b ∷ text) found.0 found.1 is in
         ap (with_first found.0) (more found.1 (omega (arith, shorter, le)) (omega (arith, shorter, le')))
 
--- no put is left
-pub puts_end : puts_of [] ≡ Some []
-puts_end = refl
-
 -- the puts of a text that begins with one
 pub puts_next : (text : Text) (put : Put) (rest : Text) → put_at text ≡ Some (put, rest) → puts_of text ≡ with_first put (puts_of rest)
 puts_next [] put rest e = cc
@@ -196,11 +192,6 @@ puts_next (b ∷ text) put rest e =
     let shorter = put_shorter (b ∷ text) put rest e in
     ap (first_and_more (puts_within (length text))) e
     ∙ ap (with_first put) (puts_enough (length text) (length rest) rest (omega (arith, shorter)) (omega arith))
-
--- a text that begins with no put is no row of puts
-pub puts_none : (text : Text) → put_at text ≡ None → 0 < length text → puts_of text ≡ None
-puts_none [] e some = absurd (omega (arith, some))
-puts_none (b ∷ text) e some = ap (first_and_more (puts_within (length text))) e
 
 -- a row of puts is read as it is written
 puts_written : (puts : List Put) (n : ℕ) → are_files puts ≡ true → length (spelled_puts puts) < 10 ^ 18 → length (spelled_puts puts) ≤ n → puts_within n (spelled_puts puts) ≡ Some puts

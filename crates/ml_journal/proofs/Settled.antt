@@ -1,4 +1,4 @@
--- The steps of the journal, each one change that is settled before the next.
+-- The steps of the journal: each is one change that is settled before the next.
 use Rattle.std.proofs.Common.{◌≡◌, ◌≤◌, ◌+◌, ℕ, IsTrue, List, [], ◌∷◌, length, Option, Result, Ok, Err, OnOk, sym, ◌∙◌, ap, subst}
 use Rattle.std.specs.BTreeMap.{BTreeMap}
 use Rattle.ml_base.specs.Bytes.{Text}
@@ -19,14 +19,14 @@ use Rattle.ml_journal.proofs.Keeping.{directory_by, directory_on, changes_by}
 use Rattle.ml_journal.proofs.Shut.{at_cut, at_one_gate, one_gate_log}
 
 module _ {S : Type 0} (told : Ghosts S) where
-  -- the directory stays where each image of a part does
+  -- the directory stays if every image of a part has it
   pub settled_same : {E : Type 0} (result : Result (Unit {0}) E) (part : Part) (done : Contents) (old new : S) → (IsTrue told.tells_all → IsTrue told.tells_reads) → Settles told result part done old new
       → (IsTrue told.tells_reads → (left : Contents) → MayLeave (told.disk old).reads (part ∷ []) left → directory left ≡ directory (told.disk old).reads) → KeepsDirectory told old new
   settled_same result part done old new all_has_reads settles is = directory_by told old new (Within (told.disk old).reads (part ∷ []) (told.output old)) settles.moments
       (λ r. is r (told.disk new).reads (settles.reads r).part_only)
       (λ t left out now. (is (all_has_reads t) left now.0, now.1))
 
-  -- the gate of a log that has no more is written
+  -- the gate is written of a log that has at most one byte
   pub one_gate_step : {E : Type 0} (result : Result (Unit {0}) E) (done : Contents) (old new : S) → (IsTrue told.tells_all → IsTrue told.tells_reads) → Settles told result (Range 0 1) done old new
       → (IsTrue told.tells_reads → length (told.disk old).reads.log ≤ 1) → KeepsDirectory told old new
   one_gate_step result done old new all_has_reads settles short = settled_same result (Range 0 1) done old new all_has_reads settles (λ r left may. at_one_gate (told.disk old).reads left (short r) may)
@@ -39,12 +39,12 @@ module _ {S : Type 0} (told : Ghosts S) where
   }
   one_gate_clean (Err e) old new settles short = tt
 
-  -- a log whose first gate is closed is cut behind it
+  -- a log whose first gate is closed is cut after it
   pub cut_step : {E : Type 0} (result : Result (Unit {0}) E) (done : Contents) (old new : S) → (IsTrue told.tells_all → IsTrue told.tells_reads) → Settles told result (Cut 1) done old new
       → (IsTrue told.tells_reads → IsShut (told.disk old).reads.log) → (IsTrue told.tells_reads → 2 ≤ length (told.disk old).reads.log) → KeepsDirectory told old new
   cut_step result done old new all_has_reads settles shut long = settled_same result (Cut 1) done old new all_has_reads settles (λ r left may. at_cut (told.disk old).reads left (shut r) (long r) may)
 
-  -- a record is written behind the last gate
+  -- a record is written after the last gate
   pub record_step : {E : Type 0} (result : Result (Unit {0}) E) (done : Contents) (end n : ℕ) (change : IsTrue told.tells_reads → Dir → Dir) (old new : S) → (IsTrue told.tells_all → IsTrue told.tells_reads) → Settles told result (Range (end + 1) n) done old new
       → ((r : IsTrue told.tells_reads) → Rests (told.disk old).reads.log end (change r)) → KeepsDirectory told old new
   record_step result done end n change old new all_has_reads settles rests = settled_same result (Range (end + 1) n) done old new all_has_reads settles (λ r left may. behind_gate (told.disk old).reads end n (change r) left (rests r) may)
@@ -71,7 +71,7 @@ module _ {S : Type 0} (told : Ghosts S) where
       (settled_same result (Range 0 1) done mid new all_has_reads settles
       (λ r left may. while_closed (told.disk old).reads puts left (held r) (subst (λ (m : Contents). MayLeave m (Range 0 1 ∷ []) left) (is r) may) ∙ sym (before.same r)))
 
-  -- the log is cut behind it
+  -- the log is cut after it
   pub shut_step : {E : Type 0} (result : Result (Unit {0}) E) (done : Contents) (puts : BTreeMap Name (Option Text)) (old mid new : S) → (IsTrue told.tells_all → IsTrue told.tells_reads) → (IsTrue told.tells_reads → Lays (told.disk old).reads.log (with_newest puts))
       → (IsTrue told.tells_reads → IsClosed (told.disk old).reads puts (told.disk mid).reads) → (IsTrue told.tells_all → told.output mid ≡ told.output old) → KeepsDirectory told old mid
       → Settles told result (Cut 1) done mid new → KeepsDirectory told old new

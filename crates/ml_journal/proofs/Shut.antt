@@ -33,12 +33,3 @@ at_cut old left (inl short) long may = absurd (omega (arith, short, long))
 at_cut old left (inr first) long may =
     let split : left.log ≡ first.0 ∷ drop 1 left.log = torn_cut old left 1 (omega (arith, long)) may ∙ ap (λ (l : Text). take 1 l ++ drop 1 left.log) first.2 in
     same_directory old left (λ d. d) (shut_counts old.log (inr first)) (counts_same (first.0 ∷ drop 1 left.log) left.log (λ d. d) split (closed first.0 (drop 1 left.log) first.3)) (cut_log_files old left 1 may)
-
--- a log whose first gate is 1 and has something behind it
-pub open_lays : (log other : Text) (change : Dir → Dir) (gate : ℕ) → log ≡ other → Counts log change → 2 ≤ length log → gate ≡ get_or log 0 0 → gate ≡ 1 → Lays other change
-open_lays [] other change gate same counts long first is = absurd (omega (arith, long))
-open_lays (h ∷ behind) other change gate same counts long first is = record { counts = counts_same (h ∷ behind) other change (sym same) counts; gate = h; behind = behind; split = sym same; is_open = inr (sym first ∙ is) }
-
-pub not_open : (log other : Text) (gate : ℕ) → log ≡ other → 2 ≤ length log → gate ≡ get_or log 0 0 → gate ≢ 1 → IsShut other
-not_open [] other gate same long first ne = absurd (omega (arith, long))
-not_open (h ∷ behind) other gate same long first ne = inr (h, behind, sym same, λ e. ne (first ∙ e))

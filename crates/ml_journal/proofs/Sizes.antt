@@ -18,6 +18,6 @@ puts_hold : (puts : List Put) → content_size puts ≤ length (spelled_puts put
 puts_hold [] = omega arith
 puts_hold (put ∷ puts) = omega (arith, put_holds put.name put.bytes puts, puts_hold puts, length-append (spelled_put put) (spelled_puts puts))
 
--- a record is as long as the contents of its puts at least
+-- a record is at least as long as the contents of its puts
 pub record_holds : (puts : List Put) → content_size puts ≤ length (spelled_record puts)
 record_holds puts = omega (arith, puts_hold puts, ns_holds (spelled_puts puts))

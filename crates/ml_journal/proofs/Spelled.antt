@@ -1,4 +1,4 @@
--- Puts are spelled one after another.
+-- How puts are spelled one after another.
 use Rattle.std.proofs.Common.{◌≡◌, ◌<◌, ℕ, ◌+◌, List, [], ◌∷◌, ◌++◌, length, take, drop, get_or, Option, Some, None, refl, sym, ◌∙◌, ap, arith, append_assoc, length-append}
 use Rattle.std.proofs.lemmas.List.{append-nil, take_more, take-append-drop}
 use Rattle.std.specs.Fmt.{decimal}
@@ -8,7 +8,7 @@ use Rattle.ml_base.specs.declared.names.Name.{Name}
 use Rattle.ml_base.specs.declared.puts.Put.{Put}
 use Rattle.ml_journal.specs.Records.{spelled_as, spelled_head, spelled_name, spelled_put, spelled_puts}
 
--- one put more
+-- one more put
 pub spelled_more : (puts : List Put) (put : Put) → spelled_puts (puts ++ put ∷ []) ≡ spelled_puts puts ++ spelled_put put
 spelled_more [] put = append-nil (spelled_put put)
 spelled_more (first ∷ puts) put = ap (λ (l : Text). spelled_put first ++ l) (spelled_more puts put) ∙ sym (append_assoc (spelled_put first) (spelled_puts puts) (spelled_put put))
@@ -23,12 +23,12 @@ size_next puts i d lt = ap length (spelled_next puts i d lt) ∙ length-append (
 pub ns_size : (content : Text) → length (ns content) ≡ length (decimal (length content)) + length content + 2
 ns_size content = omega (arith, length-append (decimal (length content) ++ 58 ∷ content) (44 ∷ []), length-append (decimal (length content)) (58 ∷ content))
 
--- what stands behind what is before a put's content: the content and its comma
+-- what follows the head of a put: the content and its comma
 abbrev pub spelled_tail : Option Text → Text
 spelled_tail (Some bytes) = bytes ++ 44 ∷ []
 spelled_tail None = []
 
--- a put is what stands before its content, and the content with its comma
+-- a put is its head, and the content with its comma
 pub put_parts : (name : Name) (bytes : Option Text) → spelled_head name bytes ++ spelled_tail bytes ≡ spelled_as name bytes
 put_parts name None = append-nil (88 ∷ spelled_name name)
 put_parts name (Some bytes) =
@@ -38,7 +38,7 @@ put_parts name (Some bytes) =
     ∙ append_assoc front digits (58 ∷ (bytes ++ 44 ∷ []))
     ∙ ap (λ (l : Text). front ++ l) (sym (append_assoc digits (58 ∷ bytes) (44 ∷ [])))
 
--- a record and a closed gate, from what comes before its puts on
+-- a record and a closed gate, from the first bytes before its puts on
 pub record_parts : (buffered head content : Text) → buffered ≡ [] → head ≡ decimal (length content) ++ 58 ∷ [] → buffered ++ (head ++ content) ++ 44 ∷ 0 ∷ [] ≡ ns content ++ 0 ∷ []
 record_parts buffered head content none is =
     let digits = decimal (length content) in
@@ -46,7 +46,7 @@ record_parts buffered head content none is =
     ∙ ap (λ (l : Text). l ++ 44 ∷ 0 ∷ []) (append_assoc digits (58 ∷ []) content)
     ∙ sym (append_assoc (digits ++ 58 ∷ content) (44 ∷ []) (0 ∷ []))
 
--- the puts up to the next place, and those behind it
+-- the puts up to the next place, and those after it
 pub puts_parts : (puts : List Put) (i : ℕ) → spelled_puts (take i puts) ++ spelled_puts (drop i puts) ≡ spelled_puts puts
 puts_parts puts i = sym (spelled_both (take i puts) (drop i puts)) ∙ ap spelled_puts (take-append-drop i puts)
   where

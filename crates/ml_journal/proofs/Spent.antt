@@ -9,12 +9,12 @@ use Rattle.ml_journal.specs.Records.{content_size, spelled_record}
 use Rattle.ml_journal.specs.Spending.{Spends, SpendsAtMost}
 use Rattle.ml_journal.specs.Stores.{grown}
 
--- what holds in any case holds at an error
+-- what holds always holds at an error
 pub err_always : {A E P : Type 0} (result : Result A E) → P → IfErr result (λ e. P)
 err_always (Ok a) p = tt
 err_always (Err e) p = p
 
--- a txn of no puts, and another
+-- a txn of no puts, and one of some
 pub empty_txn : (puts txn : List Put) → puts ≡ txn → true ≡ (length puts == 0) → txn ≡ []
 empty_txn [] txn same is = sym same
 empty_txn (put ∷ puts) txn same is = grind (arith, nat_tests)
@@ -23,7 +23,7 @@ pub some_txn : (puts txn : List Put) → puts ≡ txn → false ≡ (length puts
 some_txn [] txn same is none = cc
 some_txn (put ∷ puts) txn same is none = let bad : put ∷ puts ≡ [] = same ∙ none in cc
 
--- how long the log is with a record more
+-- how long the log is with one more record
 pub grown_some : (size : ℕ) (txn : List Put) → txn ≢ [] → grown size txn ≡ size + length (spelled_record txn) + 1
 grown_some size [] some = absurd (some refl)
 grown_some size (put ∷ puts) some = refl
@@ -34,7 +34,7 @@ module _ {S : Type 0} (told : Ghosts S) where
   spends_none [] site none short = record { handed = omega arith; cost = inl (short, record { syncs = omega arith; grows = omega arith }) }
   spends_none (put ∷ puts) site none short = cc
 
-  -- a record is added, and files are laid down where the log is long then
+  -- a record is added, and files are laid down if the log is long then
   pub spends_done : {E : Type 0} (result : Result ℕ E) (end size at contents : ℕ) (old mid new : S) → length (told.disk old).reads.log ≡ end + 1 → at ≡ end + size + 1 → contents ≤ size
       → told.syncs mid ≤ told.syncs old + 2 → told.log_bytes mid ≡ told.log_bytes old + size + 2 → told.syncs new ≤ told.syncs mid + 3 → told.log_bytes mid ≤ told.log_bytes new
       → (at < 8_388_608 → told.syncs new ≡ told.syncs mid) → (at < 8_388_608 → IfOk result (λ last. last ≡ at)) → (8_388_608 ≤ at → IfOk result (λ last. last ≡ 0)) → IfOk result (λ last. length (told.disk new).reads.log ≡ last + 1)
@@ -48,7 +48,7 @@ module _ {S : Type 0} (told : Ghosts S) where
   }
   spends_done (Err e) end size at contents old mid new start is holds s1 b1 s2 b2 few stays short log = tt
 
-  -- so does one that is refused behind the record
+  -- a commit that failed after its record was written
   pub spends_refused : (end size at : ℕ) (old mid new : S) → length (told.disk old).reads.log ≡ end + 1 → at ≡ end + size + 1
       → told.syncs mid ≤ told.syncs old + 2 → told.log_bytes mid ≡ told.log_bytes old + size + 2 → told.syncs new ≤ told.syncs mid + 3 → told.log_bytes mid ≤ told.log_bytes new
       → (at < 8_388_608 → told.syncs new ≡ told.syncs mid) → SpendsAtMost told (length (told.disk old).reads.log + size + 1) old new
@@ -56,7 +56,7 @@ module _ {S : Type 0} (told : Ghosts S) where
     cost = ⊎_elim (λ lt. inl (omega (arith, few lt))) (λ le. inr (omega (arith, le), omega (arith, le), omega arith)) (cases_lt at 8_388_608);
   }
 
-  -- what a commit spends, told by the log that it leaves
+  -- what a commit spends, in terms of the log that it leaves
   pub spends_grown : (size : ℕ) (txn : List Put) (old new : S) → txn ≢ [] → Spends told (size + length (spelled_record txn) + 1) (content_size txn) old new → Spends told (grown size txn) (content_size txn) old new
   spends_grown size txn old new some spends = subst (λ (n : ℕ). Spends told n (content_size txn) old new) (sym (grown_some size txn some)) spends
 

@@ -1,4 +1,4 @@
--- A table of newest puts, and what it makes of a directory.
+-- A table of newest puts, and what it does to a directory.
 use Rattle.std.proofs.Common.{◌≡◌, ◌<◌, ◌+◌, ℕ, zero, suc, Bool, true, false, cond, List, [], ◌∷◌, length, drop, get_or, Result, Ok, Err, OnOk, Option, Some, None, IsSome, refl, sym, ◌∙◌, ap, subst, arith}
 use Rattle.std.specs.Prelude.{◌&&◌, IsTrue}
 use Rattle.std.specs.BTreeMap.{BTreeMap}
@@ -14,7 +14,7 @@ use Rattle.ml_journal.specs.Newest.{newest_of, left_by, with_newest, Sets}
 abbrev Table : Type 0
 Table = BTreeMap Name (Option Text)
 
--- a table names files alone
+-- a table names only files
 abbrev pub NamesFiles : Table → Type 0
 NamesFiles puts = (name : Name) → IsSome (newest_of puts name) → IsTrue (is_file name)
 
@@ -39,7 +39,7 @@ laid_set old new name bytes sets dir = λ i other. each other i
 pub laid_unset : (old new : Table) (name : Name) (bytes : Option Text) → Sets false old new name bytes → (dir : Dir) → with_newest new dir ≡ with_newest old dir
 laid_unset old new name bytes sets dir = λ i other. left_by (sets other i) (dir other)
 
--- a put that is older than the newest of its file shows nowhere
+-- a put that is older than the newest of its file has no effect
 pub older_hidden : (puts : Table) (put : Put) → IsSome (newest_of puts put.name) → (dir : Dir) → with_newest puts dir ≡ with_newest puts (with_put dir put)
 older_hidden puts put some dir = λ i name. each name i
   where
@@ -54,7 +54,7 @@ older_hidden puts put some dir = λ i name. each name i
         go true e = hidden (newest_of puts name) (dir name) (with_put dir put name) (subst (λ (n : Name). IsSome (newest_of puts n)) (sym (one_name name put.name e)) some)
         go false e = ap (left_by (newest_of puts name)) (sym (ap (λ (b : Bool). cond b put.bytes (dir name)) e))
 
--- one of a file that has none shows as its newest
+-- a put of a file that has none yet becomes its newest
 pub older_added : (puts : Table) (put : Put) → newest_of puts put.name ≡ None → (dir : Dir) → with_file (with_newest puts dir) put.name put.bytes ≡ with_newest puts (with_put dir put)
 older_added puts put none dir = λ i name. each name i
   where
@@ -70,11 +70,11 @@ older_added puts put none dir = λ i name. each name i
             ap (λ (b : Bool). cond b put.bytes (with_newest puts dir name)) e
             ∙ ap (left_by (newest_of puts name)) (sym (ap (λ (b : Bool). cond b put.bytes (dir name)) e))
 
--- the puts from a place on, with the one before it
+-- the puts from a place on, with the one before that place
 pub older_next : (puts : List Put) (i : ℕ) (d : Put) → i < length puts → (dir : Dir) → with_puts (with_put dir (get_or puts i d)) (drop (i + 1) puts) ≡ with_puts dir (drop i puts)
 older_next puts i d lt dir = ap (with_puts dir) (sym (drop_more puts i d lt))
 
--- each of the puts is of a file
+-- every put is of a file
 pub each_file : (puts : List Put) (i : ℕ) (d : Put) → i < length puts → are_files puts ≡ true → is_file (get_or puts i d).name ≡ true
 each_file [] i d lt files = absurd (omega (arith, lt))
 each_file (put ∷ puts) zero d lt files = (both (is_file put.name) (are_files puts) files).0

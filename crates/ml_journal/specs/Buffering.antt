@@ -1,4 +1,4 @@
--- Bytes that a writer of the log has taken: buffered, or handed to the log.
+-- The bytes that a writer of the log has taken: they are buffered, or were handed to the log.
 use Rattle.std.specs.Prelude.{◌≡◌, ◌+◌, ◌++◌, length, Result, OnOk}
 use Rattle.ml_base.specs.Bytes.{Text}
 use Rattle.ml_site.specs.declared.site.SiteError.{SiteError}
@@ -6,7 +6,7 @@ use Rattle.ml_site.specs.declared.site.Site.{Ghosts}
 use Rattle.ml_journal.specs.Handing.{Hands}
 use Rattle.ml_journal.specs.declared.writer.LogWriter.{LogWriter}
 
--- A text came behind what was buffered. Some first bytes of both were handed to the log, and at Ok the others are buffered.
+-- A text was added to what was buffered. Some first bytes of both were handed to the log, and at Ok the others are buffered.
 pub record Buffers {S : Type 0} (told : Ghosts S) (result : Result (Unit {0}) SiteError) (text : Text) (before after : LogWriter) (old new : S) : Type 0 where
   pub handed : Text
   pub left : Text

@@ -1,4 +1,4 @@
--- Bytes that are handed to the log in some writes, each behind the one before.
+-- Bytes that are handed to the log in several writes, each after the one before.
 use Rattle.std.specs.Prelude.{◌≡◌, ◌≤◌, ◌+◌, ℕ, IsTrue, IsErrOf, List, [], ◌∷◌, length, Result, OnOk}
 use Rattle.ml_base.specs.Bytes.{Text}
 use Rattle.ml_site.specs.Disk.{Contents, Part, Range, Cut, File, Disk, Changes, Elapses, log_with}
@@ -8,20 +8,20 @@ use Rattle.ml_site.specs.declared.site.SiteError.TheVariants.{Failed as FailedCa
 use Rattle.ml_site.specs.declared.site.Site.{Ghosts}
 use Rattle.ml_journal.specs.Calls.{Keeps}
 
--- each part is a range of the log within this one
+-- every part is a range of the log within this one
 abbrev pub AreWithin : ℕ → ℕ → List Part → Type 0
 AreWithin at size [] = Unit {0}
 AreWithin at size (Range from n ∷ parts) = (at ≤ from) × (from + n ≤ at + size) × AreWithin at size parts
 AreWithin at size (Cut n ∷ parts) = ⊥
 AreWithin at size (File name ∷ parts) = ⊥
 
--- parts of this range alone are pending, over these contents
+-- only parts of this range are pending, over these contents
 pub record IsPendingIn (at size : ℕ) (old : Contents) (disk : Disk) : Type 0 where
   pub settled : disk.settled ≡ old
   pub pending : AreWithin at size disk.pending
 
--- A text was handed to the log from this place on, in some writes. After an error nothing but its range differs. Where parts of a
--- range alone were pending in which the text lies, it is so behind it too, and a crash in its course leaves nothing else.
+-- A text was handed to the log from this place on, in some writes. After an error nothing outside its range differs. If the text lies in
+-- a range of which only parts were pending, the same holds after it, and a crash during it leaves nothing else.
 pub record Hands {S : Type 0} (told : Ghosts S) (result : Result (Unit {0}) SiteError) (at : ℕ) (text : Text) (old new : S) : Type 0 where
   pub reads : IsTrue told.tells_reads → Changes result (Range at (length text)) (log_with (told.disk old).reads at text) (told.disk old).reads (told.disk new).reads
   pub pends : IsTrue told.tells_all → (from size : ℕ) (base : Contents) → from ≤ at → at + length text ≤ from + size

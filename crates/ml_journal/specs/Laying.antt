@@ -1,4 +1,4 @@
--- Files that are laid down from the newest puts of a log.
+-- How files are laid down from the newest puts of a log.
 use Rattle.std.specs.Prelude.{◌≡◌, ◌≢◌, IsTrue, List, [], ◌∷◌, Option, None, IsSome, Result, OnOk}
 use Rattle.std.specs.BTreeMap.{BTreeMap}
 use Rattle.ml_base.specs.Bytes.{Text}
@@ -13,12 +13,12 @@ use Rattle.ml_journal.specs.Newest.{newest_of, with_newest}
 abbrev pub laid_down : BTreeMap Name (Option Text) → Contents → Contents
 laid_down puts old = record { log = old.log; files = with_newest puts old.files }
 
--- the same log, and the same files but for those of these puts
+-- the same log, and the same files except for those of these puts
 pub record Beside (puts : BTreeMap Name (Option Text)) (old new : Contents) : Type 0 where
   pub log : new.log ≡ old.log
   pub files : (name : Name) → newest_of puts name ≡ None → new.files name ≡ old.files name
 
--- the files of these puts were laid down: at each moment, and after an error, nothing but files of them differs
+-- the files of these puts were laid down: at every moment, and after an error, only these files differ
 pub record LaysFiles {S E : Type 0} (told : Ghosts S) (result : Result (Unit {0}) E) (puts : BTreeMap Name (Option Text)) (old new : S) : Type 0 where
   pub reads : IsTrue told.tells_reads → OnOk result ((told.disk new).reads ≡ laid_down puts (told.disk old).reads)
   pub beside : IsTrue told.tells_reads → Beside puts (told.disk old).reads (told.disk new).reads
@@ -28,7 +28,7 @@ pub record LaysFiles {S E : Type 0} (told : Ghosts S) (result : Result (Unit {0}
 abbrev pub IsOver : BTreeMap Name (Option Text) → Contents → Disk → Type 0
 IsOver puts old disk = AreOver (λ name. IsSome (newest_of puts name)) old disk
 
--- no entry of these is of this file
+-- none of these entries is of this file
 abbrev pub IsBeside : Name → List (Name × Option Text) → Type 0
 IsBeside name [] = Unit {0}
 IsBeside name (entry ∷ entries) = (name ≢ entry.0) × IsBeside name entries

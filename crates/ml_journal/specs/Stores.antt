@@ -1,4 +1,4 @@
--- What a store shows.
+-- What a store shows: its site, its directory, and how long its log may become.
 use Rattle.std.specs.Prelude.{ℕ, ◌+◌, List, [], ◌∷◌, length, Option, Some, None, Result, Ok, Err}
 use Rattle.ml_base.specs.Dir.{Dir}
 use Rattle.ml_base.specs.declared.puts.Put.{Put}
@@ -20,7 +20,7 @@ abbrev pub the_dir : Option Dir → Dir
 the_dir (Some dir) = dir
 the_dir None = λ name. None
 
--- how long a commit of a txn would leave a log of this length, if the files were not laid down; an empty txn leaves it as it is
+-- how long a commit of a txn would leave a log of this length if the files weren't laid down; an empty txn doesn't change it
 abbrev pub grown : ℕ → List Put → ℕ
 grown size [] = size
 grown size (put ∷ puts) = size + length (spelled_record (put ∷ puts)) + 1

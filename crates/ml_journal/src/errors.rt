@@ -1,4 +1,4 @@
-// Why a call of a store gave no store.
+// Why a call of a store failed: the errors of opening and of committing.
 ghost use Rattle.std.specs.Prelude.{◌≡◌};
 ghost use Rattle.ml_journal.specs.Errors.{open_error, commit_error};
 ghost use Rattle.ml_journal.specs.declared.errors.OpenError.TheVariants.{Memory as OpenMemory};
@@ -14,7 +14,7 @@ pub enum OpenError {
     /// A call on the disk failed. The disk's count of faults rose in this call.
     #[error("the disk failed")]
     Fault,
-    /// The log was read, and an open gate that isn't its last byte has no record behind it. Log and files are as they were.
+    /// The log was read, and no record follows an open gate that isn't its last byte. Log and files are as they were.
     #[error("the log is damaged")]
     Damaged,
     /// There was no memory for the call.
@@ -22,7 +22,7 @@ pub enum OpenError {
     Memory,
 }
 
-/// Why a commit or a closing was not done, or not known to be done.
+/// Why a commit or a closing was not done, or isn't known to be done.
 #[derive(Clone, Copy, Debug, PartialEq, Eq, Error)]
 pub enum CommitError {
     /// A call on the disk failed. The disk's count of faults rose in this call.

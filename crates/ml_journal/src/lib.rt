@@ -1,4 +1,5 @@
-//! The journal of a list: a log of records over the files, so that the directory is whole at every moment.
+//! The journal of a list: a log of records over the files, by which a group of changes takes effect whole or not at all,
+//! whenever a crash comes.
 #![tactic(auto)]
 
 mod adding;

@@ -1,4 +1,4 @@
-// The newest put of each file that a log names.
+// A table of the newest put of every file that a log names.
 ghost use Rattle.std.specs.Prelude.{◌≡◌, ◌≤◌, IsSome, IsTrue, OnOk, OnErr, option_map};
 ghost use Rattle.std.specs.Option.{option_copied};
 ghost use Rattle.ml_base.specs.Absent.{NoEntryOf};
@@ -11,7 +11,7 @@ use ml_base::{Bytes, Name, Txn, next_place};
 use std::alloc::{AllocError, Global};
 use std::collections::BTreeMap;
 
-/// The newest put of each file that a log names: the bytes that it gives the file, or None where it removes it.
+/// The newest put of every file that a log names: the bytes that it gives the file, or None if it removes it.
 #[derive(Drop)]
 pub(crate) struct Newest {
     pub puts: BTreeMap<Name, Option<Bytes>>,
@@ -43,7 +43,7 @@ impl Newest {
         }
     }
 
-    /// Sets the puts of a txn in turn. Their bytes are moved. After an error some of them are set.
+    /// Sets the puts of a txn one after another. Their bytes are moved. After an error some of them are set.
     pub(crate) fn set_all(&mut self, txn: Txn) -> Result<(), AllocError>
         requires { IsTrue (are_files txn) }
         ensures { OnOk result ((dir : Dir) → with_newest self.new.puts dir ≡ with_puts (with_newest self.old.puts dir) txn) }
@@ -54,7 +54,7 @@ impl Newest {
         Ok(())
     }
 
-    /// The bytes that the newest put gives a file, of which None is a removal; or None where no put is of it.
+    /// The bytes that the newest put gives a file, with an inner None if it removes it; or None if no put is of it.
     pub(crate) fn get(&self, name: Name) -> Option<Option<&Bytes>>
         ensures { option_map (λ bytes. option_copied bytes) result ≡ newest_of self.now.puts name }
     {
@@ -64,7 +64,7 @@ impl Newest {
         }
     }
 
-    /// The next place of a kind, from one on, that a put is of, or `end` where none is of one before it.
+    /// The next place of a kind, from `from` on, that a put is of, or `end` if no put is of a place before `end`.
     pub(crate) fn next_place(&self, kind: u8, from: u64, end: u64) -> u64
         requires { from ≤ end }
         ensures range { (from ≤ result) × (result ≤ end) }
@@ -74,7 +74,7 @@ impl Newest {
     }
 }
 
-// Sets the newest put of a file and answers true, or leaves all as it is for want of memory.
+// Sets the newest put of a file and answers true, or changes nothing if memory is lacking.
 fn set_put(puts: &mut BTreeMap<Name, Option<Bytes>>, name: Name, bytes: Option<Bytes>) -> bool
     ensures { Sets result puts.old puts.new name bytes }
 {

@@ -1,4 +1,4 @@
-// Records are read.
+// How the records of a log are read.
 ghost use Rattle.std.specs.Prelude.{◌≡◌, ◌<◌, ◌++◌, [], ◌∷◌, length, MatchOption, IfOk, IfSome, IsTrue, OnOk, Some, None, option_map, map, if◌then◌else◌};
 ghost use Rattle.std.specs.Option.{option_copied};
 ghost use Rattle.ml_base.specs.Dir.{Dir, are_files, with_put, with_puts};
@@ -13,8 +13,8 @@ use crate::newest::Newest;
 use ml_base::{Bytes, Name, read_netstring, read_number};
 use std::alloc::{AllocError, Global};
 
-/// The newest put of each file that the records of a log name, or None where an open gate that isn't the log's last byte
-/// has no record behind it. The log is gone through once, and of its bytes those of the newest puts alone are copied.
+/// The newest put of every file that the records of a log name, or None if no record follows an open gate that isn't the
+/// log's last byte. The log is gone through once, and only the bytes of the newest puts are copied.
 #[tactic(auto, using(crate::proofs::Logs::log_files))]
 pub(crate) fn read_log(alloc: Global, log: &[u8]) -> Result<Option<Newest>, AllocError>
     ensures { IfOk result (λ found. (files : Dir) → option_map (λ newest. newest_over newest files) found ≡ laid_over files (log_puts log.now)) }
@@ -25,7 +25,7 @@ pub(crate) fn read_log(alloc: Global, log: &[u8]) -> Result<Option<Newest>, Allo
     }
 }
 
-// The newest put of each file that the puts name.
+// The newest put of every file that the puts name.
 fn newest_of(alloc: Global, found: &[FoundPut<'_>]) -> Result<Newest, AllocError>
     requires { IsTrue (are_files (puts_found found.now)) }
     ensures { IfOk result (λ newest. (files : Dir) → newest_over newest files ≡ with_puts files (puts_found found.now)) }
@@ -66,8 +66,8 @@ pub(crate) struct FoundPut<'a> {
     pub bytes: Option<&'a [u8]>,
 }
 
-/// The puts of the open records of a log, up to its first gate that is closed or its last byte, or None where an open
-/// gate that isn't the last byte has no record behind it. The log is gone through once, and no byte of it is copied.
+/// The puts of the open records of a log, up to its first closed gate or its last byte, or None if no record follows an open
+/// gate that isn't the last byte. The log is gone through once, and none of its bytes are copied.
 pub(crate) fn puts_in<'a>(
     alloc: Global,
     log: &'a [u8],
@@ -88,7 +88,7 @@ pub(crate) fn puts_in<'a>(
     Ok(Some(found))
 }
 
-// What is behind the gate of a log, where the gate is open and not the last byte.
+// What follows the gate of a log, if the gate is open and not the last byte.
 #[tactic(auto, using(crate::proofs::ReadSoFar::shut))]
 fn behind_open_gate(log: &[u8]) -> Option<&[u8]>
     ensures { MatchOption result (log_puts log.now ≡ Some []) (λ text. (log.now ≡ 1 ∷ text.now) × (0 < length text.now)) }
@@ -103,7 +103,7 @@ fn behind_open_gate(log: &[u8]) -> Option<&[u8]>
     }
 }
 
-// Adds the puts of a row and answers true, or false where the text is no row of puts.
+// Adds the puts of a row and answers true, or answers false if the text is no row of puts.
 fn add_puts_of<'a>(found: &mut Vec<FoundPut<'a>>, text: &'a [u8]) -> Result<bool, AllocError>
     ensures { IfOk result (λ whole. option_map (λ puts. puts_found found.old.items ++ puts) (puts_of text.now)
         ≡ (if whole then Some (puts_found found.new.items) else None)) }
@@ -119,7 +119,7 @@ fn add_puts_of<'a>(found: &mut Vec<FoundPut<'a>>, text: &'a [u8]) -> Result<bool
     Ok(true)
 }
 
-// The put that a text begins with, and what is behind it.
+// The put that a text begins with, and what follows it.
 fn first_put(text: &[u8]) -> Option<(FoundPut<'_>, &[u8])>
     ensures { option_map (λ r. (put_of r.0, r.1.now)) result ≡ put_at text.now }
 {
@@ -152,7 +152,7 @@ fn first_removal(text: &[u8]) -> Option<(FoundPut<'_>, &[u8])>
     Some((FoundPut { name, bytes: None }, behind))
 }
 
-// The name that a text begins with, and what is behind it.
+// The name that a text begins with, and what follows it.
 fn first_name(text: &[u8]) -> Option<(Name, &[u8])>
     ensures { option_map (λ r. (r.0, r.1.now)) result ≡ name_at text.now }
 {
@@ -162,7 +162,7 @@ fn first_name(text: &[u8]) -> Option<(Name, &[u8])>
     Some((name, behind))
 }
 
-// The number whose netstring a text begins with, and what is behind it.
+// The number whose netstring a text begins with, and what follows it.
 fn first_number(text: &[u8]) -> Option<(u64, &[u8])>
     ensures { option_map (λ r. (r.0, r.1.now)) result ≡ number_at text.now }
 {
@@ -171,7 +171,7 @@ fn first_number(text: &[u8]) -> Option<(u64, &[u8])>
     Some((number, behind))
 }
 
-// The content of the netstring that a text begins with, and what is behind it.
+// The content of the netstring that a text begins with, and what follows it.
 fn first_netstring(text: &[u8]) -> Option<(&[u8], &[u8])>
     ensures { option_map (λ r. (r.0.now, r.1.now)) result ≡ netstring_at text.now }
 {

@@ -1,4 +1,4 @@
-// Records are written.
+// How records are written.
 ghost use Rattle.std.specs.Prelude.{◌≡◌, ◌≤◌, ◌<◌, ◌+◌, ◌^◌, ◌++◌, [], ◌∷◌, IsTrue, IfOk, IfSome, OnOk, length};
 ghost use Rattle.std.specs.Fmt.{decimal};
 ghost use Rattle.ml_base.specs.Netstrings.{ns};
@@ -11,10 +11,10 @@ use ml_base::{Bytes, LARGEST_READ, Name, Put, push_number_netstring, write_numbe
 use ml_site::{Site, SiteError};
 use std::alloc::{AllocError, Global};
 
-// The length of a record and its colon are shorter, and so is what stands before a put's content.
+// So many bytes suffice for the length of a record with its colon, and for what comes before a put's content.
 const HEAD: usize = 72;
 
-/// Hands the record of puts that take so many bytes to the log from this place on, and a closed gate behind it.
+/// Hands to the log, from this place on, the record of puts that take so many bytes, and a closed gate after it.
 pub(crate) fn write_record<S: Site>(
     alloc: Global,
     site: &mut S,
@@ -72,7 +72,7 @@ fn add_put<S: Site>(
     }
 }
 
-// What stands before the puts of a record.
+// What comes before the puts of a record.
 fn record_head(alloc: Global, size: u64) -> Result<Bytes, AllocError>
     ensures { IfOk result (λ head. head ≡ decimal size ++ 58 ∷ []) }
 {
@@ -82,7 +82,7 @@ fn record_head(alloc: Global, size: u64) -> Result<Bytes, AllocError>
     Ok(head)
 }
 
-// What stands before a put's content, or all of one that removes.
+// What comes before a put's content, or all of a put that removes.
 fn put_head(alloc: Global, put: &Put) -> Result<Bytes, AllocError>
     ensures { IfOk result (λ head. head ≡ spelled_head put.now.name put.now.bytes) }
 {
@@ -109,7 +109,7 @@ fn add_name(out: &mut Bytes, name: Name) -> Result<(), AllocError>
     push_number_netstring(out, name.at)
 }
 
-/// How many bytes the puts take in a record, or None where they are more than a netstring may have.
+/// How many bytes the puts take in a record, or None if they are more than a netstring may have.
 #[tactic(auto, using(crate::proofs::Spelled::size_next))]
 pub(crate) fn puts_size(puts: &[Put]) -> Option<usize>
     ensures { IfSome result (λ size. (size ≡ length (spelled_puts puts.now)) × (size < 10 ^ 18)) }
@@ -124,7 +124,7 @@ pub(crate) fn puts_size(puts: &[Put]) -> Option<usize>
     Some(size)
 }
 
-// How many bytes a put takes in a record, or None where its content is more than a netstring may have.
+// How many bytes a put takes in a record, or None if its content is more than a netstring may have.
 fn put_size(put: &Put) -> Option<usize>
     ensures { IfSome result (λ size. (size ≡ length (spelled_put put.now)) × (size < 10 ^ 18 + 100)) }
 {

@@ -1,4 +1,4 @@
-// Bytes for the log, buffered so that few writes are made of them.
+// Bytes on their way to the log, buffered so that they take few writes.
 ghost use Rattle.std.specs.Prelude.{◌≡◌, ◌≤◌, ◌<◌, ◌+◌, ◌^◌, ◌++◌, [], ◌∷◌, IsTrue, IfOk, OnOk, length};
 ghost use Rattle.ml_journal.specs.Handing.{Hands};
 
@@ -9,11 +9,11 @@ use std::alloc::{AllocError, Global};
 // How many bytes are buffered at most. With the two that end a record they are 64 KiB.
 const ROOM: usize = 65_534;
 
-/// Bytes on their way to the log. What fits the room that is left is copied there and goes to the log with what is behind it; a longer
-/// piece goes straight from where it stands.
+/// Bytes on their way to the log. A piece that fits the room that is left is copied there, and goes to the log with what follows it; a
+/// longer piece goes straight from where it is.
 #[derive(Drop)]
 pub(crate) struct LogWriter {
-    // Where the buffered bytes go.
+    // The place in the log for the buffered bytes.
     pub at: u64,
     pub buffered: Bytes,
     ghost small: { length buffered ≤ 65534 },
@@ -30,7 +30,7 @@ fn hand<S: Site>(alloc: Global, site: &mut S, at: u64, bytes: &[u8]) -> Result<(
 impl LogWriter {
     ghost use Rattle.ml_journal.specs.Buffering.{Buffers};
 
-    /// Begins at this place of the log. The room that so many bytes need is taken at once.
+    /// Begins at this place of the log. Memory for so many bytes, up to the buffer's limit, is taken at once.
     pub(crate) fn new(alloc: Global, at: u64, size: usize) -> Result<LogWriter, AllocError>
         ensures { IfOk result (λ writer. (writer.at ≡ at) × (writer.buffered ≡ [])) }
     {
@@ -53,7 +53,7 @@ impl LogWriter {
         Ok(())
     }
 
-    /// Adds a piece behind the others.
+    /// Adds a piece after the others.
     pub(crate) fn add<S: Site>(
         &mut self,
         alloc: Global,

@@ -11,7 +11,7 @@ use Rattle.ml_keyed.specs.Buckets.{place_of, through, gathered, counted, AreFirs
 use Rattle.ml_keyed.proofs.Keys.{place_below, differ}
 use Rattle.ml_keyed.proofs.Union.{merged, placed_ordered, found_merged, length_merged, sorted_joined}
 
--- buckets of which one is these records
+-- buckets of which one has these records
 abbrev with_bucket : {E : Type 0} → (ℕ → List E) → ℕ → List E → ℕ → List E
 with_bucket buckets n es i = cond (i == n) es (buckets i)
 
@@ -26,7 +26,7 @@ module _ {E : Type 0} (IsFile : ℕ → Option Text → List E → Type 0) where
           below : (i ≡ n → ⊥) → i < n
           below apart = omega (arith, less, apart)
 
-  -- what the first files come to, by what is chosen of each bucket
+  -- what a step makes of the first files, given what is chosen of each bucket
   module _ {X : Type 0} (start : X) (step : X → List E → X) (choose : List E → List E) where
     abbrev pub Reads : (ℕ → Option Text) → ℕ → X → Type 0
     Reads file n x = (buckets : ℕ → List E) × AreFirst IsFile file n buckets × (x ≡ through start step (λ i. choose (buckets i)) n)
@@ -47,7 +47,7 @@ module _ {E : Type 0} (IsFile : ℕ → Option Text → List E → Type 0) where
     )
 
 module _ {E : Type 0} (key_of : E → Text) (IsFile : ℕ → Option Text → List E → Type 0) where
-  -- the 53 files alone decide
+  -- only the 53 files matter
   pub union_own : (file other : ℕ → Option Text) (whole : List E) → ((n : ℕ) → n < 53 → other n ≡ file n) → IsUnion key_of IsFile file whole → IsUnion key_of IsFile other whole
   union_own file other whole same is = record {
     sorted = is.sorted;
@@ -60,7 +60,7 @@ module _ {E : Type 0} (key_of : E → Text) (IsFile : ℕ → Option Text → Li
   pub union_nothing : (file : ℕ → Option Text) → ((n : ℕ) → n < 53 → IsFile n (file n) []) → IsUnion key_of IsFile file []
   union_nothing file none = record { sorted = refl; buckets = λ n. []; files = none; by_key = λ k. refl }
 
-  -- where each file has the keys of its number, in order
+  -- if every file has only keys of its number, in order
   module _ (hashed : (n : ℕ) (file : Option Text) (es : List E) → IsFile n file es → AllByRecursion (λ e. place_of (key_of e) ≡ n) es) (ordered : (n : ℕ) (file : Option Text) (es : List E) → IsFile n file es → IsOrdered key_of es) where
     pub union_of : (file : ℕ → Option Text) (buckets : ℕ → List E) → AreFirst IsFile file 53 buckets → IsUnion key_of IsFile file (merged key_of buckets 53)
     union_of file buckets files = record {
@@ -73,15 +73,15 @@ module _ {E : Type 0} (key_of : E → Text) (IsFile : ℕ → Option Text → Li
     pub length_of : (file : ℕ → Option Text) (buckets : ℕ → List E) → AreFirst IsFile file 53 buckets → length (merged key_of buckets 53) ≡ counted buckets 53
     length_of file buckets files = length_merged key_of buckets 53 (λ i less. hashed i (file i) (buckets i) (files i less)) (λ i less. ordered i (file i) (buckets i) (files i less))
 
-    -- the records of all files in order of key
+    -- the records of all files, in order of key
     pub union_sorted : (file : ℕ → Option Text) (buckets : ℕ → List E) (es : List E) → AreFirst IsFile file 53 buckets → IsPermutation (gathered buckets 53) es → IsSortedByKey key_of byte_cmp es → IsUnion key_of IsFile file es
     union_sorted file buckets es files moved up =
         let joined = sorted_joined key_of buckets 53 (λ i less. hashed i (file i) (buckets i) (files i less)) (λ i less. ordered i (file i) (buckets i) (files i less)) es moved up in
         record { sorted = joined.0; buckets = buckets; files = files; by_key = λ k. joined.1 k (place_below k) }
 
-  -- where a file has one row of records at most
+  -- if a file has at most one row of records
   module _ (one : (n : ℕ) (file : Option Text) (es others : List E) → IsFile n file es → IsFile n file others → es ≡ others) where
-    -- what is under a key is what its file has
+    -- what is under a key is what the key's file has
     pub found_there : (file : ℕ → Option Text) (whole bucket : List E) (k : Text) → IsUnion key_of IsFile file whole → IsFile (place_of k) (file (place_of k)) bucket → found key_of k whole ≡ found key_of k bucket
     found_there file whole bucket k is there = is.by_key k ∙ ap (found key_of k) (one (place_of k) (file (place_of k)) (is.buckets (place_of k)) bucket (is.files (place_of k) (place_below k)) there)
 
@@ -90,7 +90,7 @@ module _ {E : Type 0} (key_of : E → Text) (IsFile : ℕ → Option Text → Li
         same_lists byte_cmp key_of same_bytes bytes_total whole other is.sorted also.sorted
         (λ k. found_there file whole (also.buckets (place_of k)) k is (also.files (place_of k) (place_below k)) ∙ sym (also.by_key k))
 
-    -- files of which that of a key was written anew
+    -- one file, that of a key, was written anew
     module _ (file after : ℕ → Option Text) (whole bucket : List E) (a : Text) (bytes : Option Text) (left : (n : ℕ) → after n ≡ cond (n == place_of a) bytes (file n)) (is : IsUnion key_of IsFile file whole)
         (there : IsFile (place_of a) (file (place_of a)) bucket) where
       anew : (new written : List E) → IsFile (place_of a) bytes written → IsOrdered key_of new → ((k : Text) → found key_of k whole ≡ found key_of k bucket → found key_of k new ≡ found key_of k written)

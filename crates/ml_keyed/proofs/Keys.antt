@@ -1,4 +1,4 @@
--- Records in the order of their keys.
+-- Records in the order of their keys: what is above a key, and what is found.
 use Rattle.std.proofs.Common.{◌≡◌, ◌<◌, true, false, cond, List, [], ◌∷◌, Some, None, refl, sym, ap, ap₂, ◌∙◌, arith, ℕ}
 use Rattle.std.proofs.lemmas.Bool.{and_parts, and_from, or_parts}
 use Rattle.std.specs.declared.cmp.Ordering.{Ordering}
@@ -40,7 +40,7 @@ pub not_tied : (k l : Text) → is_lt (byte_cmp k l) ≡ true → eq_by_cmp byte
 not_tied k l e = ap is_eq (less _ e)
 
 module _ {E : Type 0} (key_of : E → Text) where
-  -- what is above a key is above each below it
+  -- what is above a key is above any lower key
   pub all_above : (a b : Text) (es : List E) → is_lt (byte_cmp a b) ≡ true → list_all (is_above key_of b) es ≡ true → list_all (is_above key_of a) es ≡ true
   all_above a b [] e h = refl
   all_above a b (x ∷ xs) e h =
@@ -62,12 +62,12 @@ module _ {E : Type 0} (key_of : E → Text) where
       let own = and_parts (list_all (is_above key_of (key_of x)) xs) _ f in
       and_from _ _ parts.0 (ordered_rising (key_of x) xs own.0 own.1)
 
-  -- a key that all are above is not found
+  -- a key below all keys of the records is not found
   pub all_above_none : (k : Text) (es : List E) → list_all (is_above key_of k) es ≡ true → found key_of k es ≡ None
   all_above_none k [] e = refl
   all_above_none k (x ∷ xs) e = let parts = and_parts (is_above key_of k x) (list_all (is_above key_of k) xs) e in ap₂ (λ t o. cond t (Some x) o) (not_tied k (key_of x) parts.0) (all_above_none k xs parts.1)
 
-  -- what holds of each record that is found holds of each of a list in order
+  -- what holds of every record that is found holds of every record of a list in order
   pub each_found : (P : E → Type 0) (es : List E) → IsOrdered key_of es → ((k : Text) (e : E) → found key_of k es ≡ Some e → P e) → AllByRecursion P es
   each_found P [] is all = tt
   each_found P (x ∷ xs) is all = (

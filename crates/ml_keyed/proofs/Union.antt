@@ -1,4 +1,4 @@
--- Records of several buckets together.
+-- The records of several buckets together: each is found under its key, and they can be sorted into one list.
 use Rattle.std.proofs.Common.{◌≡◌, ℕ, zero, suc, ◌+◌, ◌<◌, ◌≤◌, Bool, true, false, cond, ◌==◌, List, [], ◌∷◌, ◌++◌, length, length-append, get_or, Option, Some, None, is_some, refl, sym, ap, ap₂, ◌∙◌, subst, arith, add-one}
 use Rattle.std.proofs.lemmas.Bool.{and_parts, and_from, eqb-true, eqb-false}
 use Rattle.std.proofs.lemmas.List.Elements.{All-from_recursion, recursion_from_All}
@@ -15,7 +15,7 @@ use Rattle.ml_base.proofs.SortedLaws.{bytes_total, same_bytes, found_with, sorte
 use Rattle.ml_keyed.specs.Buckets.{place_of, gathered, counted, found, IsOrdered, is_above, rises}
 use Rattle.ml_keyed.proofs.Keys.{differ, tied, own_tie, rising_ordered, all_above_none}
 
--- what is found first
+-- what is found in the first place, or else in the second
 abbrev or_else : {E : Type 0} → Option E → Option E → Option E
 or_else None other = other
 or_else (Some e) other = Some e
@@ -41,7 +41,7 @@ module _ {E : Type 0} (key_of : E → Text) where
   not_there n k [] all apart = refl
   not_there n k (x ∷ xs) all apart = ap₂ (λ t o. cond t (Some x) o) (differ k (key_of x) (λ e. apart (ap place_of e ∙ all.0))) (not_there n k xs all.1 apart)
 
-  -- the parts of a row of buckets of which each key has one
+  -- the buckets of a row, every key belonging to one of them
   module _ (buckets : ℕ → List E) where
     none_gathered : (n : ℕ) → ((i : ℕ) → i < n → AreIn i (buckets i)) → (k : Text) → n ≤ place_of k → found key_of k (gathered buckets n) ≡ None
     none_gathered zero all k past = refl
@@ -122,12 +122,12 @@ module _ {E : Type 0} (key_of : E → Text) where
           let none = none_hits k (buckets n) (not_there n k (buckets n) (all n (omega arith)) (eqb-false (place_of k) n e)) in
           omega (arith, both, none, more)
 
-  -- records put into a list one after the other, each in its place
+  -- records put into a list one after another, each in its place
   abbrev placed : List E → List E
   placed [] = []
   placed (x ∷ xs) = with_entry byte_cmp key_of x (placed xs)
 
-  -- the records of the first buckets in one list in order
+  -- the records of the first buckets in one list, in order
   abbrev pub merged : (ℕ → List E) → ℕ → List E
   merged buckets n = placed (gathered buckets n)
 
@@ -185,7 +185,7 @@ module _ {E : Type 0} (key_of : E → Text) where
   strict [] up once = refl
   strict (x ∷ xs) up once = let rest = rising_ordered key_of (key_of x) xs (strict_from x xs up once) in and_from _ _ rest.0 rest.1
 
-  -- each record of a list in which a key stands once at most is the one that is found under it
+  -- a record with this key is the one that is found under it, in a list in which the key stands at most once
   abbrev IsFound : Text → List E → E → Type 0
   IsFound k xs x = eq_by_cmp byte_cmp k (key_of x) ≡ true → found key_of k xs ≡ Some x
 
@@ -204,7 +204,7 @@ module _ {E : Type 0} (key_of : E → Text) where
   each_once k [] once = tt
   each_once k (x ∷ xs) once = (λ tie. ap (λ t. cond t (Some x) (found key_of k xs)) tie, found_behind k x xs xs once (each_once k xs (omega (arith, sum_by-cons (hit k) x xs, once))))
 
-  -- what is found doesn't depend on the order, where the key stands once at most
+  -- what is found doesn't depend on the order if the key stands at most once
   found_moved : (k : Text) (xs ys : List E) → IsPermutation xs ys → hits k xs ≤ 1 → found key_of k ys ≡ found key_of k xs
   found_moved k xs ys moved once = go (found key_of k ys) refl
     where
@@ -215,7 +215,7 @@ module _ {E : Type 0} (key_of : E → Text) where
       go None e = e ∙ sym (no_hits k xs (sym (sum_by-IsPermutation (hit k) xs ys moved) ∙ none_hits k ys e))
       go (Some m) e = let there = found_is byte_cmp key_of (IsFound k xs) k m ys each e in e ∙ sym (there.0 (ap is_eq there.1))
 
-  -- the records of the buckets in order of key
+  -- the records of the buckets, in order of key
   pub sorted_joined : (buckets : ℕ → List E) (n : ℕ) → ((i : ℕ) → i < n → AreIn i (buckets i)) → ((i : ℕ) → i < n → IsOrdered key_of (buckets i)) → (ms : List E) → IsPermutation (gathered buckets n) ms
       → IsSortedByKey key_of byte_cmp ms → IsOrdered key_of ms × ((k : Text) → place_of k < n → found key_of k ms ≡ found key_of k (buckets (place_of k)))
   sorted_joined buckets n all ordered ms moved up = (

@@ -1,4 +1,4 @@
-//! Records under keys, in the order of their keys and spread over 53 files: the form of the sets of members and of the ledgers.
+//! Records under keys, in the order of their keys and spread over 53 files, the buckets. Sets of members and ledgers have this form.
 #![tactic(auto)]
 
 ghost use Rattle.std.specs.Prelude.{◌≡◌, ◌<◌};
@@ -15,7 +15,7 @@ pub fn place_of(key: &[u8]) -> u8
     (hash(key) % 53) as u8
 }
 
-/// The number of the file that has the key that a text is in lower case, 0 to 52. It takes no memory.
+/// The number of the file that has the key of a text, which is the text in lower case: 0 to 52. It takes no memory.
 pub fn place_of_lower(text: &[u8]) -> u8
     ensures value { result ≡ buckets.place_of (lower text.now) }
     ensures below { result < 53 }

@@ -1,4 +1,4 @@
--- What a number is answered again is one reply, or none.
+-- A number that came before has only one reply, or none.
 use Rattle.std.proofs.Common.{◌≡◌, ◌≢◌, ◌⊎◌, inl, inr, ◌<◌, ◌≤◌, ◌/◌, ◌%◌, ◌*◌, ◌+◌, ◌-◌, ℕ, zero, suc, List, [], ◌∷◌, ◌++◌, length, take, drop, get_or, Option, Some, None, IfSome, refl, sym, ap, ap₂, ◌∙◌, arith, subst, true}
 use Rattle.std.proofs.Math.Seq.{take-add}
 use Rattle.std.proofs.lemmas.List.{take-take}
@@ -21,7 +21,7 @@ none_some r e = cc
 some_same : (a b : Reply) → Some a ≡ Some b → a ≡ b
 some_same a b e = cc
 
--- a slot spells one reply at most
+-- a slot spells at most one reply
 holds_one : (file : Option Text) (n slot : ℕ) (a b : Option Reply) → IsSlot n a → IsSlot n b → HoldsReply file slot a → HoldsReply file slot b → a ≡ b
 holds_one None n slot a b p q h k = h ∙ sym k
 holds_one (Some text) n slot a b p q h k = slot_one n a b p q (sym h.1 ∙ k.1)

@@ -17,7 +17,7 @@ use Rattle.ml_list.specs.Asked.{IsDamagedForAct, IsReadByAct, IsTimed}
 use Rattle.ml_list.specs.Damage.{IsDamagedInList, is_read_by, part}
 
 module _ {F T : Type 0} (told : Ghosts F) (r : Result T PartError) (dir : Dir) where
-  -- an act whose files go by itself
+  -- an act whose files depend only on itself
   pub acted_named : (act : Act) → ((name : Name) → is_read_by act name ≡ true → IsReadByAct dir act name) → NamesDamaged told (λ name. is_read_by act name ≡ true) (IsDamagedInList dir) r
       → NamesDamaged told (λ name. is_read_by act name ≡ true) (IsDamagedForAct dir act) r
   acted_named act read is =

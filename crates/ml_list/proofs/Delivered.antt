@@ -37,12 +37,12 @@ use Rattle.ml_list.specs.Moderating.{answer_to}
 pub unchanged : (dir : Dir) (p : Plain) (done : List Put × Reply) (reply : Reply) → IsList dir p → done.0 ≡ [] → done.1 ≡ reply → DoesList dir done (p, reply)
 unchanged dir p done reply is e f = record { reply = f; list = subst (λ (t : List Put). IsList (with_puts dir t) p) (sym e) is }
 
--- a step in other words
+-- a step in other terms
 pub does_so : (dir : Dir) (done : List Put × Reply) (a b : Plain × Reply) → b ≡ a → DoesList dir done a → DoesList dir done b
 does_so dir done a b e does = subst (λ (s : Plain × Reply). DoesList dir done s) (sym e) does
 
 module _ (now : ℕ) (m : Text) (p : Plain) where
-  -- a sender that is no address
+  -- a sender that isn't an address
   pub no_sender : (request : PlainRequest) (sender : Option Text) → is_some sender ≡ false → by_sender now m p request sender ≡ (p, answers.nosender)
   no_sender request None e = refl
   no_sender request (Some s) e = absurd (let bad : true ≡ false = e in cc)
@@ -64,7 +64,7 @@ served now sender recipient m p c same left =
     ap (λ (b : Bool). elim b [ true ↦ (p, answers.full) | false ↦ by_recipient now sender m p (request_of p.config.local p.config.host recipient) ]) left
     ∙ ap (λ (d : Config). by_recipient now sender m p (request_of d.local d.host recipient)) same
 
--- a timed run where ids or tickets are worn out
+-- a timed run when ids or tickets are worn out
 pub run_worn : (dir : Dir) (p : Plain) (now : ℕ) (done : List Put × Reply) → IsList dir p → is_worn p ≡ true → done.0 ≡ [] → done.1 ≡ answers.full → DoesList dir done (timed now p)
 run_worn dir p now done is worn none full =
     does_so dir done (p, answers.full) (timed now p)

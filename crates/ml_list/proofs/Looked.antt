@@ -1,4 +1,4 @@
--- What an item does on every directory that has the files that it looks at.
+-- What an item does is the same on every directory that has the files that it looks at.
 use Rattle.std.proofs.Common.{◌≡◌, ◌/◌, ◌*◌, ◌<◌, ◌≢◌, ◌==◌, ℕ, not, ◌||◌, List, Option, Some, None, Result, Ok, Err, IfErr, refl, sym, ap, subst}
 use Rattle.std.proofs.lemmas.Bool.{and_from, ne_eqb}
 use Rattle.ml_base.specs.Bytes.{Text}
@@ -39,7 +39,7 @@ use Rattle.ml_plain.specs.declared.Act.TheVariants.{Deliver, Timed, Add, Remove,
 use Rattle.ml_list.proofs.Lists.{same_self}
 use Rattle.ml_list.proofs.Named.{reads_replies}
 
--- a directory is like itself
+-- a directory is alike to itself
 request_self : (c : Config) (sender m : Text) (request : Option PlainRequest) (dir : Dir) → AlikeForRequest c sender m request dir dir
 request_self c sender m None dir = tt
 request_self c sender m (Some Post) dir = λ name e of. refl
@@ -111,7 +111,7 @@ pub keys_whole : {T : Type 0} (old dir : Dir) (keys : Keys) (r : Result T PartEr
 keys_whole old dir keys r alike is bad =
     err_damaged r (λ _. (ks : Keys) → ¬ IsKeyFile (old key_name) ks) (λ _. ⊥) (λ name none. none keys (subst (λ (f : Option Text). IsKeyFile f keys) (file_there key_name old dir alike) is)) bad
 
--- the queue of both is the same, and what is taken out of it
+-- the queue of both is the same, and so is what is taken out of it
 pub queue_there : (old dir : Dir) (queue : Queue) → Alike is_of_queue old dir → IsQueue dir queue → IsQueue old queue
 queue_there old dir queue alike is = queue_frame dir old queue (λ at. sym (alike (record { kind = 17; at = at }) refl)) (λ at. sym (alike (record { kind = 18; at = at }) refl)) is
 
@@ -131,7 +131,7 @@ module _ (old dir : Dir) (n : ℕ) (alike : Alike (λ name. same_name name floor
   pub floor_there : (floor : ℕ) → IsFloorFile (old floor_name) floor → IsFloorFile (dir floor_name) floor
   floor_there floor is = subst (λ (f : Option Text). IsFloorFile f floor) (sym same_floor_file) is
 
-  -- the replies that the other has are those that were read
+  -- the replies that the other directory has are those that were read
   pub replies_there : (q : State) → IsState dir q → n / 512 < 1_953_125_000 → IsRepliesFile (512 * (n / 512)) (old (replies_name (n / 512))) q.kept
   replies_there q is group = subst (λ (f : Option Text). IsRepliesFile (512 * (n / 512)) f q.kept) same_replies_file ((is.replies).files (n / 512) group)
 
@@ -152,7 +152,7 @@ looked_up_there old dir n some alike name e = alike name (and_from (not (n == 0)
 pub reply_file_there : (old dir : Dir) (n : ℕ) → n ≢ 0 → Alike (is_looked_up n) old dir → dir (replies_name (n / 512)) ≡ old (replies_name (n / 512))
 reply_file_there old dir n some alike = looked_up_there old dir n some alike (replies_name (n / 512)) (reads_replies n)
 
--- a call whose only error is want of memory names no file
+-- a call whose only error is lack of memory names no file
 pub err_only : {T : Type 0} (r : Result T PartError) → IfErr r (λ e. e ≡ Memory) → IfErr r (λ e. OnDamaged e (λ _. ⊥))
 err_only (Ok x) only = tt
 err_only (Err e) only = subst (λ (e : PartError). OnDamaged e (λ _. ⊥)) (sym only) tt

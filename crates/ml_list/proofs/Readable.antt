@@ -1,4 +1,4 @@
--- What a delivery and a timed run read is in the table, and is of the list's acts.
+-- What a delivery and a timed run read is in the table, and is one of the files that acts may name.
 use Rattle.std.proofs.Common.{◌≡◌, ⊎_elim, ◌<◌, ◌≤◌, ◌/◌, ℕ, Bool, true, false, eqb, leb, nat_lt, ◌&&◌, ◌||◌, Option, Some, None, refl, ap, ◌∙◌, arith}
 use Rattle.std.specs.Prelude.{not, unwrap_or}
 use Rattle.std.proofs.lemmas.Bool.{and_from, and_parts, eqb-true, le-leb, leb-true, ltb-true, or_cases}
@@ -228,7 +228,7 @@ module _ (name : Name) where
       let entry = is_entry_of set who name in
       either (touched || entry) (is_for_mail name) (λ a. either touched entry (of_touched set (key who)) (of_entry set who) a) of_mail e
 
-  -- whether the sender is a moderator, where it is looked at, and what else is read
+  -- whether the sender is a moderator, if it is looked at, and what else is read
   ranked : (asks : Bool) (sender : Text) (more : Bool) → (more ≡ true → Acts name) → ((asks && is_bucket_of sets.Moderators sender name) || more) ≡ true → Acts name
   ranked asks sender more of_more e =
       either (asks && is_bucket_of sets.Moderators sender name) more (λ a. of_bucket_of sets.Moderators sender (and_parts asks (is_bucket_of sets.Moderators sender name) a).1) of_more e

@@ -12,7 +12,7 @@ use Rattle.ml_manage.specs.Written.{is_written_for_sender}
 use Rattle.ml_list.specs.Delivering.{IsForMail, is_requested}
 use Rattle.ml_list.specs.Written.{is_delivered_by}
 
--- one that is neither a post nor a moderator's answer
+-- a request that is neither a post nor a moderator's answer
 pub requested_other : (c : Config) (sender : Text) (name : Name) (r : Request) → (r ≡ requests.Post → ⊥) → ((ticket : ℕ) (cookie : List ℕ) → r ≡ requests.Accept ticket cookie → ⊥) → ((ticket : ℕ) (cookie : List ℕ) → r ≡ requests.Reject ticket cookie → ⊥)
     → is_read_for_sender c sender (request_view r) name ≡ true → is_requested c sender (request_view r) name ≡ true
 requested_other c sender name requests.Post n0 n1 n2 e = absurd (n0 refl)

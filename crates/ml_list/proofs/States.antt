@@ -1,4 +1,4 @@
--- Folding over items, and what a run finds of a list's files.
+-- What items in a row leave and answer, and that a list's files aren't damaged.
 use Rattle.std.proofs.Common.{◌≡◌, ℕ, Some, None, List, [], ◌∷◌, ◌++◌, refl, sym, ◌∙◌, ap, append_assoc}
 use Rattle.std.proofs.lemmas.List.{append-nil}
 use Rattle.ml_base.specs.Bytes.{Text}
@@ -46,17 +46,6 @@ last-more status q (x ∷ xs) item = last-more (status_of (step q x).1.code) (st
 pub last-append : (status : ℕ) (q : State) (xs ys : List Item) → last_from status q (xs ++ ys) ≡ last_from (last_from status q xs) (fold q xs) ys
 last-append status q [] ys = refl
 last-append status q (x ∷ xs) ys = last-append (status_of (step q x).1.code) (step q x).0 xs ys
-
-some_none : (t : Text) → Some t ≡ None → ⊥
-some_none t e = cc
-
--- a directory that stands for a list has a configuration
-pub has_config : (dir : Dir) (q : State) → IsState dir q → HasConfig dir
-has_config dir q is = record {
-  there = λ none. some_none (config_text (q.plain).config) (sym ((is.list).config).text ∙ none);
-  config = (q.plain).config;
-  held = (is.list).config;
-}
 
 -- no file of a directory that stands for a list is damaged
 pub sound : (dir : Dir) (q : State) (name : Name) → IsState dir q → IsDamagedInList dir name → ⊥

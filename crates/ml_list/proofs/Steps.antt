@@ -24,7 +24,7 @@ use Rattle.ml_list.specs.Rising.{rise_puts}
 use Rattle.ml_list.proofs.Risen.{risen, cut_is, rise_own}
 use Rattle.ml_acts.proofs.Queued.{touches_both, touches_weaker}
 
--- names of the list's files are none of those of the replies
+-- no file of the replies is one of the list's
 apart : (name : Name) → is_of_replies name ≡ true → is_of_list name ≡ false
 apart name e = go (or_cases (eqb name.kind 19) (eqb name.kind 21) e)
   where
@@ -42,7 +42,7 @@ apart_back name e = go (is_of_replies name) refl
         true_false h = cc
     go false r = r
 
--- a step of the list alone is a step of the state
+-- a step that only changes the list is a step of the state
 pub plain_does : (own : Name → Bool) → ((name : Name) → own name ≡ true → is_of_list name ≡ true) → (dir : Dir) (q : State) (item : Item) (done : List Put × Reply) → IsState dir q → floor_asked item.act ≡ None → touches_only own done.0 ≡ true
     → DoesList dir done (act_step q.plain item.moment item.act) → Does dir done (effect q item)
 unfolding step0
@@ -99,16 +99,13 @@ module _ (dir : Dir) (q : State) (number at floor : ℕ) (is : IsState dir q) (f
         replies = floor_risen dir now q.floor at q.kept is.replies (omega (arith, same, up)) most is_risen file_now;
       }))
 
--- what is answered to an item that doesn't count, and to one that does
+-- the reply to an item that doesn't count, and to one that does
 pub repeat_is : (q : State) (item : Item) (reply : Reply) → Repeats q item.number (Some reply) → step q item ≡ (q, reply)
 repeat_is q item reply (inl low) = step_stale q item low.0 ∙ ap (λ (r : Reply). (q, r)) (sym low.1)
 repeat_is q item reply (inr kept) = step_kept q item reply kept.0 kept.1
 
 pub counts_is : (q : State) (item : Item) → Repeats q item.number None → step q item ≡ with_reply item.number (effect q item)
 counts_is q item new = step_new q item new.0 new.1
-
-pub unnumbered : (q : State) (number : ℕ) → number ≡ 0 → Repeats q number None
-unnumbered q number z = (ap (λ n. is_below q.floor n) z, ap (λ n. kept_for q n) z)
 
 pub below_floor : (dir : Dir) (q : State) (number floor : ℕ) (reply : Reply) → IsState dir q → IsFloorFile (dir floor_name) floor → number ≢ 0 → number < floor → reply ≡ stale → Repeats q number (Some reply)
 below_floor dir q number floor reply is file some low e =
@@ -148,7 +145,7 @@ with_reply_does dir txn put number reply q done is e f name kept = record {
             true_false h = cc
         go false k = ap (λ (b : Bool). cond (b && eqb other.at (number / 512)) put.bytes (with_puts dir txn other)) k
 
--- an unnumbered item keeps nothing
+-- for an item without a number no reply is kept
 pub unkept_does : (dir : Dir) (txn : List Put) (number : ℕ) (reply : Reply) (q : State) → number ≡ 0 → IsState (with_puts dir txn) q → Does dir (txn, reply) (with_reply number (q, reply))
 unkept_does dir txn number reply q z is = record {
   reply = refl;

@@ -1,4 +1,4 @@
--- What was read of files is what they hold.
+-- What is remembered of files is what they hold.
 use Rattle.std.proofs.Common.{◌≡◌, Bool, true, false, cond, List, [], ◌∷◌, ◌++◌, Option, Some, refl, sym, ap, ◌∙◌}
 use Rattle.ml_base.specs.declared.names.Name.{Name}
 use Rattle.ml_base.specs.declared.puts.Put.{Put}
@@ -7,7 +7,7 @@ use Rattle.ml_base.proofs.Bools.{one_name}
 use Rattle.ml_base.proofs.Laid.{laid_joined, newest_decides}
 use Rattle.ml_list.specs.Once.{Tells}
 
--- what was read of a file is what it holds
+-- what is remembered of a file is what it holds
 pub told_newest : (dir : Dir) (read : List Put) (name : Name) (put : Put) → Tells dir read → newest_put read name ≡ Some put → put.bytes ≡ dir name
 told_newest dir read name put told e = sym (newest_decides read name dir ∙ ap (λ (p : Option Put). laid_by p (dir name)) e) ∙ told name
 

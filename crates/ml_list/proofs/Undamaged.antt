@@ -10,7 +10,7 @@ use Rattle.ml_acts.proofs.Agreeing.{no_config, no_floor, no_replies}
 use Rattle.ml_list.specs.Damage.{IsDamagedInList}
 use Rattle.ml_list.specs.Damage as damage
 
--- names of two kinds are two
+-- names of different kinds are different
 kinds : (name other : Name) → name ≡ other → name.kind ≡ other.kind
 kinds name other e = ap (λ (n : Name). n.kind) e
 

@@ -78,7 +78,7 @@ removals_written last from zero low = refl
 removals_written last from (suc n) low =
     and_from (is_up_to last (replies_name from)) (touches_only (is_up_to last) (map removal (range_with_len (from + 1) n))) (le-leb from last (omega (arith, low))) (removals_written last (from + 1) n (omega (arith, low)))
 
--- the files of a rise of the floor
+-- the files that raising the floor writes
 pub rise_written : (floor at : ℕ) (cut : Option Text) → floor < at → touches_only (is_up_to (at / 512)) (rise_puts floor at cut) ≡ true
 rise_written floor at cut up =
     let order = in_order_is (λ name. None) floor at cut up in

@@ -28,9 +28,9 @@ is_requested c sender (Accept ticket cookie) name = is_answered_by ticket true n
 is_requested c sender (Reject ticket cookie) name = is_answered_by ticket false name
 is_requested c sender request name = is_read_for_sender c sender request name
 
--- What a request asks of the archive with the message that came: a post, or one that waits under a ticket, a place after the last one, by the key of
--- its own subject; any other what it says. A moderator's answer reads the post of its ticket, if one waits there the keys, and only if its
--- letters are the cookie what follows.
+-- What a request asks of the archive, with the message that came. A post, also one that waits under a ticket, asks for a place after the last
+-- one, by the key of its own subject; any other request asks for what it says. A moderator's answer reads the post of its ticket; if one
+-- waits there, the keys; and only if its letters are the cookie, what follows.
 abbrev pub IsForMail : Dir → Config → Text → PlainRequest → Name → Type 0
 IsForMail dir c m Post name = is_of_archive name ≡ true → IsBadFor dir (Next (sent_key c m)) name
 IsForMail dir c m (Accept ticket cookie) name =
@@ -39,8 +39,8 @@ IsForMail dir c m (Reject ticket cookie) name =
     (is_of_archive name ≡ true → IsBadForTicket dir c ticket name) × IsReadOfTicket dir ticket cookie false name
 IsForMail dir c m request name = IsForRequest dir c request name
 
--- A file that a request may read, where there is one, and of the archive one that is damaged for what it asks: none is read for a recipient who
--- isn't the list's.
+-- A file that a request may read, if there is a request; one of the archive is damaged for what it asks. No file is read for a recipient
+-- that isn't the list's.
 abbrev pub IsRequested : Dir → Config → Text → Text → Option PlainRequest → Name → Type 0
 IsRequested dir c sender m None name = ⊥
 IsRequested dir c sender m (Some request) name = (is_requested c sender request name ≡ true) × IsForMail dir c m request name
@@ -54,7 +54,7 @@ pub record IsDamagedServed (dir : Dir) (c : Config) (sender m : Text) (request :
   pub damaged : IsDamaged dir name
   pub served : IsServed dir c sender m request name
 
--- A file that a delivery may read: by the configuration that the files hold, under which its recipient is a request, of certain numbers. One of
+-- A file that a delivery may read. By the configuration that the files hold, its recipient is a request, with certain numbers. A file of
 -- the archive is damaged for what this asks of it.
 pub record IsDelivered (dir : Dir) (sender recipient m : Text) (name : Name) : Type 0 where
   pub config : Config

@@ -1,5 +1,5 @@
--- What an item that is answered found in the files that it read, whatever the other files hold. Each file that tells what is done was in its
--- grammar, and what is done goes by what it spells: a damaged file isn't read as one that holds nothing.
+-- What an item that is answered found in the files that it read, whatever the other files hold. Every file that decides what is done was in
+-- its grammar, and what is done depends on what it spells: a damaged file isn't read as one that holds nothing.
 use Rattle.std.specs.Prelude.{◌≡◌, ◌≢◌, ◌⊎◌, ℕ, Bool, true, false, List, [], ◌++◌, Option, Some, None, is_some, codes}
 use Rattle.ml_address.specs.Reading.{request_of}
 use Rattle.ml_address.specs.Requests.{PlainRequest, Post, Accept, Reject}
@@ -56,7 +56,7 @@ pub record FoundToSend (dir : Dir) (id : ℕ) (done : List Put × Reply) : Type 
   pub puts : done.0 ≡ puts_if answer
   pub reply : done.1 ≡ sending_reply answer
 
--- what a moderator answers, who is a usable sender and no list
+-- a moderator's answer, from a usable sender that isn't a list
 abbrev pub FoundModerated : Dir → Config → Text → Text → ℕ → Bool → List Put × Reply → Type 0
 FoundModerated dir c sender m ticket accept done =
     ((is_some (address_of sender) ≡ false) × Says answers.nosender done)
@@ -69,12 +69,12 @@ FoundOfRequest dir c sender m (Accept ticket cookie) done = FoundModerated dir c
 FoundOfRequest dir c sender m (Reject ticket cookie) done = FoundModerated dir c sender m ticket false done
 FoundOfRequest dir c sender m request done = FoundByRequest dir c sender m request done
 
--- a recipient, who may not be the list's
+-- a recipient, which may not be the list's
 abbrev pub FoundOfRecipient : Dir → Config → Text → Text → Option PlainRequest → List Put × Reply → Type 0
 FoundOfRecipient dir c sender m None done = Says answers.notours done
 FoundOfRecipient dir c sender m (Some request) done = FoundOfRequest dir c sender m request done
 
--- where ids or tickets are worn out nothing is done
+-- if ids or tickets are worn out, nothing is done
 abbrev pub UnlessWorn : (List Put × Reply → Type 0) → Bool → List Put × Reply → Type 0
 UnlessWorn Found true done = Says answers.full done
 UnlessWorn Found false done = Found done

@@ -23,8 +23,9 @@ use Rattle.ml_list.specs.Damage.{is_looked_up}
 use Rattle.ml_list.specs.Delivering.{is_of_worn}
 
 -- Two directories have the same files of those that a request looks at. A post looks at those of its verdict and of its own place in the archive,
--- and at those that it needs to be held or sent. A moderator's answer looks at the post that waits, at what tells its cookie, and at what follows.
--- Any other request looks at those that it may read, by its own numbers and addresses, and at the posts that it asks for.
+-- and at those that it needs to be held or sent. A moderator's answer looks at the post that waits, at what decides whether its letters are the
+-- cookie, and at what follows. Any other request looks at those that it may read, by its own numbers and addresses, and at the posts that it
+-- asks for.
 abbrev pub AlikeForRequest : Config → Text → Text → Option PlainRequest → Dir → Dir → Type 0
 AlikeForRequest c sender m None old dir = Unit {0}
 AlikeForRequest c sender m (Some Post) old dir = AlikeForPost c sender m old dir
@@ -32,7 +33,7 @@ AlikeForRequest c sender m (Some (Accept ticket cookie)) old dir = AlikeForAnswe
 AlikeForRequest c sender m (Some (Reject ticket cookie)) old dir = AlikeForAnswer c ticket false old dir
 AlikeForRequest c sender m (Some request) old dir = Alike (is_seen_for_sender c sender request) old dir
 
--- of those that a delivery looks at under a configuration: the counters of ids and tickets, and what its request looks at
+-- the same of those that a delivery looks at under a configuration: the counters of ids and tickets, and what its request looks at
 pub record AlikeServed (c : Config) (sender m : Text) (request : Option PlainRequest) (old dir : Dir) : Type 0 where
   pub counters : Alike is_of_worn old dir
   pub asked : AlikeForRequest c sender m request old dir
@@ -42,13 +43,13 @@ pub record AlikeForMail (sender recipient m : Text) (old dir : Dir) : Type 0 whe
   pub config : dir config_name ≡ old config_name
   pub served : (c : Config) → IsConfigFile (old config_name) c → AlikeServed c sender m (request_of c.local c.host recipient) old dir
 
--- of those that a timed run looks at, under the configuration that the files hold
+-- the same of those that a timed run looks at, under the configuration that the files hold
 pub record AlikeForRun (old dir : Dir) : Type 0 where
   pub config : dir config_name ≡ old config_name
   pub timed : (c : Config) → IsConfigFile (old config_name) c → Alike (is_seen_in_timed c.flags.d) old dir
 
--- Of those that an act looks at: a report of sent mail those of the queue, a rise of the floor the floor's file and the one file of kept replies
--- that the new floor cuts, and an act on a set or the key what it changes.
+-- The same of those that an act looks at. A report of sent mail looks at those of the queue, raising the floor at the floor's file and the one
+-- file of kept replies that the new floor cuts, and an act on a set or the key at what it changes.
 abbrev pub AlikeForAct : Act → Dir → Dir → Type 0
 AlikeForAct (Deliver sender recipient message) old dir = AlikeForMail sender recipient message old dir
 AlikeForAct Timed old dir = AlikeForRun old dir
@@ -58,7 +59,7 @@ AlikeForAct (Sent id) old dir = Alike is_of_queue old dir
 AlikeForAct (Rekey new) old dir = Alike (λ name. same_name name key_name) old dir
 AlikeForAct (Floor at) old dir = Alike (λ name. same_name name floor_name || same_name name (replies_name (at / 512))) old dir
 
--- and of those that an item looks at: before it counts, the floor's and that of its number's reply
+-- and of those that an item looks at: first the floor's and that of its number's reply, and then those of its act
 pub record AlikeFor (item : Item) (old dir : Dir) : Type 0 where
   pub number : Alike (is_looked_up item.number) old dir
   pub act : AlikeForAct item.act old dir

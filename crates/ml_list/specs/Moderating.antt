@@ -1,4 +1,4 @@
--- A moderator's answer as a request.
+-- A moderator's answer, as the request that it is in the plain list.
 use Rattle.std.specs.Prelude.{ℕ, Bool, true, false}
 use Rattle.ml_base.specs.Bytes.{Text}
 use Rattle.ml_address.specs.Requests.{PlainRequest, Accept, Reject}

@@ -1,4 +1,4 @@
--- What was read of files.
+-- What is remembered of files that were read.
 use Rattle.std.specs.Prelude.{◌≡◌, List}
 use Rattle.ml_base.specs.Dir.{Dir, with_puts}
 use Rattle.ml_base.specs.declared.names.Name.{Name}

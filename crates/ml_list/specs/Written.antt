@@ -25,8 +25,8 @@ use Rattle.ml_acts.specs.Growing.{is_of_time}
 abbrev pub is_up_to : ℕ → Name → Bool
 is_up_to group name = same_name name floor_name || ((name.kind == replies_kind) && nat_le name.at group)
 
--- The files that an act may write: a delivery any file of the list but the configuration, the key and the mark of the digests, a timed run the
--- mark, held posts, ledgers and the queue, and any other act those of what it changes.
+-- The files that an act may write: a delivery any file of the list except the configuration, the key and the mark of the digests; a timed run
+-- the mark, held posts, ledgers and the queue; and any other act those of what it changes.
 abbrev pub is_written_by_act : Act → Name → Bool
 is_written_by_act (Deliver sender recipient message) name = is_beside_mark name
 is_written_by_act Timed name = is_of_time name
@@ -36,7 +36,7 @@ is_written_by_act (Sent id) name = same_name name (entry_name id) || same_name n
 is_written_by_act (Rekey new) name = same_name name key_name
 is_written_by_act (Floor at) name = is_up_to (at / 512) name
 
--- the file of a number's kept reply, where the number isn't 0
+-- the file of a number's kept reply, if the number isn't 0
 abbrev pub is_reply_file : ℕ → Name → Bool
 is_reply_file number name = not (number == 0) && same_name name (replies_name (number / 512))
 
@@ -44,8 +44,8 @@ is_reply_file number name = not (number == 0) && same_name name (replies_name (n
 abbrev pub is_written_by : Item → Name → Bool
 is_written_by item name = is_written_by_act item.act name || is_reply_file item.number name
 
--- the files that a delivery from a sender may write by what its recipient asks: a post or a moderator's answer those of posts, and any other
--- request its own; none where the recipient isn't the list's
+-- the files that a delivery from a sender may write, by what its recipient asks: a post or a moderator's answer those of posts, any other
+-- request its own; none if the recipient isn't the list's
 abbrev pub is_delivered_by : Text → Option PlainRequest → Name → Bool
 is_delivered_by sender None name = false
 is_delivered_by sender (Some Post) name = is_of_posting name
@@ -58,10 +58,10 @@ abbrev pub is_written_under_act : Config → Act → Name → Bool
 is_written_under_act c (Deliver sender recipient message) name = is_delivered_by sender (request_of c.local c.host recipient) name
 is_written_under_act c act name = is_written_by_act act name
 
--- and an item
+-- and those that an item may
 abbrev pub is_written_under : Config → Item → Name → Bool
 is_written_under c item name = is_written_under_act c item.act name || is_reply_file item.number name
 
--- an item's puts are of files that it may write under the configuration that the files hold, where they hold one
+-- an item's puts are of files that it may write under the configuration that the files hold, if they hold one
 abbrev pub WritesAsAsked : Dir → Item → List Put → Type 0
 WritesAsAsked dir item puts = (c : Config) → IsConfigFile (dir config_name) c → touches_only (is_written_under c item) puts ≡ true

@@ -1,4 +1,4 @@
-// An item is applied to the files of a list.
+// Applying an item to the files of a list: whether it counts, what it does, and its reply, which is kept for its number.
 ghost use Rattle.std.specs.Prelude.{◌≡◌, ◌≢◌, ◌≤◌, ◌<◌, Bool, true, IsTrue, IfOk, IfErr, IfSome, Some, None, ◌/◌, ◌++◌, ◌∷◌, []};
 ghost use Rattle.std.specs.Option.{option_copied};
 ghost use Rattle.ml_base.specs.Dir.{Dir, are_files, newest_put, touches_only, with_puts};
@@ -40,19 +40,19 @@ use ml_base::{Bytes, Files, Name, PartError, Put, Txn, copied};
 use ml_plain::{Act, Item, Reply};
 use std::alloc::{AllocError, Global};
 
-/// Applies an item: what it is answered, and the puts that make the files stand for the list after it. The files are
-/// handed back, read from at most, whatever is answered.
+/// Applies an item: answers its reply, and the puts that make the files stand for the list after it. The files are
+/// handed back, at most read from, whatever is answered.
 ///
 /// An item whose number isn't 0 and is below the floor is answered `stale`, one whose number has a kept reply is answered
-/// with it, and neither changes anything. The reply of any other item is kept for its number, where that isn't 0.
+/// with that, and neither changes anything. The reply to any other item is kept for its number, if that isn't 0.
 ///
 /// Whatever else the files hold, the puts are of files that the item may write, and a number counts once: if an item with a number is answered,
 /// the floor's file was in its grammar, and so was the number's own slot, unless the number is below the floor.
 ///
-/// `Damaged` names a file that the item may read, a delivery by the numbers of what its recipient asks under the configuration that the
-/// files hold, and that is outside its grammar; one of the archive is damaged for what is asked. `Fault` comes only where a read failed.
+/// `Damaged` names a file that the item may read and that is damaged; one of the archive is damaged for what is asked. What a delivery may
+/// read depends on what its recipient asks under the configuration that the files hold. `Fault` comes only if a read failed.
 ///
-/// The item is in its ranges. The configuration is there, which `load` tells.
+/// The item must be in its ranges, and the configuration must be there: `load` says whether it is.
 pub fn apply<F: Files>(alloc: Global, files: F, item: &Item) -> (F, Result<(Txn, Reply), PartError>)
     requires item { IsItem item.now }
     ensures value { IsTrue F.tells → IfOk result.1 (λ done. (dir : Dir) (q : State) → AlikeFor item.now (F.map files) dir → IsState dir q → Does dir done (step q item.now)) }
@@ -69,7 +69,7 @@ pub fn apply<F: Files>(alloc: Global, files: F, item: &Item) -> (F, Result<(Txn,
     apply_with_memo(alloc, files, &mut Memo::new(alloc), item)
 }
 
-/// What `apply` does, for one of many items: the memo is what an earlier one left, or nothing.
+/// What `apply` does, for one of many items. The memo is the one that an earlier item left, or an empty one.
 pub fn apply_with_memo<F: Files>(
     alloc: Global,
     files: F,
@@ -92,7 +92,7 @@ pub fn apply_with_memo<F: Files>(
     (once.into_files(), answer)
 }
 
-// What an item is answered, whether its number is new or not.
+// The answer to an item, whether its number is new or not.
 fn answered<F: Files>(
     alloc: Global,
     files: F,
@@ -122,7 +122,7 @@ fn answered<F: Files>(
 // What is found for an item's number.
 #[derive(Drop)]
 enum Lookup {
-    // The item doesn't count, and is answered so.
+    // The item doesn't count, and this is its reply.
     Answered(Reply),
     // It counts, and this was read for its number.
     New(Known),
@@ -199,7 +199,7 @@ fn count<F: Files>(
     }
 }
 
-// What an item does that counts, but for its reply that is kept. A timed run lays puts over the files, and so takes them.
+// What an item that counts does, except that its reply is kept. A timed run lays puts over the files, so this takes them.
 fn effect<F: Files>(
     alloc: Global,
     files: F,
@@ -230,7 +230,7 @@ fn effect<F: Files>(
     }
 }
 
-// What an item does that counts and is no timed run.
+// What an item does that counts and isn't a timed run.
 fn change<F: Files>(
     alloc: Global,
     files: &mut F,
@@ -277,7 +277,7 @@ fn change<F: Files>(
     }
 }
 
-// The answer with its reply kept for a number, where that isn't 0. `file` is the number's file as it was before the puts.
+// The answer with its reply kept for a number, if that isn't 0. `file` is the number's file as it was before the puts.
 fn with_reply_kept(
     alloc: Global,
     file: Option<Bytes>,
@@ -303,7 +303,7 @@ fn with_reply_kept(
     with_put(txn, put, reply)
 }
 
-// A file as puts leave it, from what it was before.
+// A file as puts leave it. `before` is what it was.
 fn left_behind(
     alloc: Global,
     txn: &Txn,
@@ -325,7 +325,7 @@ pub(crate) fn newest(puts: &[Put], name: Name) -> Option<&Put>
     puts.iter().rev().find(|put| put.name == name)
 }
 
-// The answer with one put more.
+// The answer with one more put.
 fn with_put(txn: Txn, put: Put, reply: Reply) -> Result<(Txn, Reply), PartError>
     ensures puts { IfOk result (λ done. done.0 ≡ txn ++ put ∷ []) }
     ensures reply { IfOk result (λ done. done.1 ≡ reply) }

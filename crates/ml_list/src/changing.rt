@@ -1,4 +1,4 @@
-// What acts change of the list: its sets and its keys.
+// The acts of the operator that change the sets and the key of a list.
 ghost use Rattle.std.specs.Prelude.{◌≡◌, ◌<◌, ◌≤◌, true, IsTrue, IfOk, IfErr, IfSome, IsErrOf};
 ghost use Rattle.ml_subs.specs.Answers.{puts_of};
 ghost use Rattle.ml_base.specs.Dir.{Dir, touches_only};
@@ -25,7 +25,7 @@ use ml_plain::Reply;
 use ml_subs::{AddAnswer, Checked, add_with_memo};
 use std::alloc::Global;
 
-// How long a new key stays in force at least, in seconds.
+// How long a new key stays in use at least, in seconds.
 const SHORTEST_USE: u64 = 1_000_000;
 
 // Adds an address to a set.
@@ -44,13 +44,13 @@ pub(crate) fn add_member<F: Files>(
     ensures found { IsTrue F.tells → IfOk result (FoundToAddMember (F.map files.old) set who.now) }
     ensures act { AnswersAct ⟦<F as Files>⟧ (λ name. is_read_by (acts.Add set who.now) name ≡ true) (IsDamagedInList (F.map files.old)) files.old files.new result }
 {
-    // That it is an address is known of its bytes.
+    // By its bytes it is known to be an address.
     let _address = who.bytes();
     let answer = add_with_memo(alloc, files, memo, set, who, now)?;
     Ok(addition(alloc, answer))
 }
 
-// The puts and the reply of adding.
+// The puts and the reply of adding an address.
 fn addition(alloc: Global, answer: AddAnswer) -> (Txn, Reply)
     ensures puts { result.0 ≡ puts_of answer }
     ensures reply { result.1 ≡ addition_reply answer }
@@ -62,7 +62,7 @@ fn addition(alloc: Global, answer: AddAnswer) -> (Txn, Reply)
     }
 }
 
-// Removes an address from a set, and its entry from the set's ledger, where the set has one.
+// Removes an address from a set, and its entry from the set's ledger, if the set has one.
 pub(crate) fn remove_member<F: Files>(
     alloc: Global,
     files: &mut F,

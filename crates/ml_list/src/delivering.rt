@@ -1,4 +1,4 @@
-// A delivery: the first rule that applies decides.
+// What a delivery does: the first rule that applies decides.
 ghost use Rattle.std.specs.Prelude.{◌≡◌, true, IsTrue, IfOk, IfErr, IfSome, Some};
 ghost use Rattle.ml_address.specs.Reading.{request_of};
 ghost use Rattle.ml_address.specs.Views.{request_view};
@@ -32,14 +32,15 @@ use std::alloc::Global;
 
 // What a message does that comes for an address, from an envelope sender: the puts, and the reply.
 //
-// Where ids or tickets are worn out it is `full`. Else the recipient decides: one that isn't the list's is `notours`, the list's own address
-// takes posts, and its other addresses take requests, bounces and moderators' answers. `Damaged` names a file that is outside its grammar, or
-// names what isn't there, and that the delivery may read: a counter that is looked at first, or what the request reads, by its own numbers,
-// which the recipient is under the configuration that the files hold. A file of the archive is damaged for these numbers, or for the post's own
-// place and subject. `Fault` comes only where a read failed. The configuration is there: who asks has looked at it, and where it isn't, there
-// is no memory.
+// If ids or tickets are worn out, the reply is `full`. Otherwise the recipient decides: one that isn't the list's is answered `notours`, the
+// list's own address takes posts, and its other addresses take requests, bounces and moderators' answers.
 //
-// `now` is in seconds since 1970. The memo is what an earlier delivery left, or nothing.
+// `Damaged` names a file that is outside its grammar, or names what isn't there, and that the delivery may read: a counter that is looked at
+// first, or a file that its request reads. Which request the recipient makes depends on the configuration that the files hold. A file of the
+// archive is damaged for what the request asks, or for the post's own place and subject. `Fault` comes only if a read failed. The caller has
+// seen that the configuration is there; if it isn't, the error is `Memory`.
+//
+// `now` is in seconds since 1970. The memo is the one that an earlier delivery left, or an empty one.
 pub(crate) fn deliver<F: Files>(
     alloc: Global,
     files: &mut F,
@@ -59,7 +60,7 @@ pub(crate) fn deliver<F: Files>(
     unless_worn(alloc, files, memo, &config, now, sender, recipient, message)
 }
 
-// Looks whether ids and tickets are left.
+// Sees whether ids and tickets are left, and goes on if they are.
 fn unless_worn<F: Files>(
     alloc: Global,
     files: &mut F,
@@ -84,7 +85,7 @@ fn unless_worn<F: Files>(
     by_recipient(alloc, files, memo, config, now, sender, recipient, message)
 }
 
-// The configuration. Who asks has looked at its file, and no item changes it. Where `found` finds none, there is no memory.
+// The configuration. The caller has seen that it is there, and no item changes it. If `found` finds none, the error is `Memory`.
 pub(crate) fn configuration<F: Files>(alloc: Global, files: &mut F) -> Result<Config, PartError>
     ensures value { IsTrue F.tells → IfOk result (λ c. IsConfigFile (F.map files.old config_name) c) }
     ensures range { IfOk result IsConfig }
@@ -97,7 +98,7 @@ pub(crate) fn configuration<F: Files>(alloc: Global, files: &mut F) -> Result<Co
     }
 }
 
-// The configuration, or None where its file is absent or holds none. Files that tell what they hold give the one that they hold.
+// The configuration, or None if its file is absent or holds none. From files that tell what they hold, it is the one that they hold.
 fn found<F: Files>(alloc: Global, files: &mut F) -> Result<Option<Config>, PartError>
     ensures read { IsTrue F.tells → (c : Config) → IsConfigFile (F.map files.old config_name) c → IfOk result (λ found. found ≡ Some c) }
     ensures value { IsTrue F.tells → IfOk result (λ found. IfSome found (IsConfigFile (F.map files.old config_name))) }
@@ -112,7 +113,7 @@ fn found<F: Files>(alloc: Global, files: &mut F) -> Result<Option<Config>, PartE
     }
 }
 
-// What a recipient asks, who may not be the list's.
+// What a recipient's address asks for, if it is one of the list's.
 fn by_recipient<F: Files>(
     alloc: Global,
     files: &mut F,
@@ -141,7 +142,7 @@ fn by_recipient<F: Files>(
     )
 }
 
-// What a request asks that was read of a recipient: a post, a moderator's answer, or anything else.
+// What a request does that was read from a recipient's address: a post, a moderator's answer, or anything else.
 fn by_request<F: Files>(
     alloc: Global,
     files: &mut F,

@@ -1,4 +1,4 @@
-// The file of the floor.
+// The file of the floor: how it is read and written.
 ghost use Rattle.std.specs.Prelude.{◌≡◌, ◌≤◌, ◌++◌, ◌∷◌, [], ℕ, IsTrue, IfOk, IfErr, IfSome, IfNone, IsErrOf};
 ghost use Rattle.std.specs.Fmt.{decimal};
 ghost use Rattle.ml_base.specs.ReadFiles.{IsReading, NamesDamaged};
@@ -10,7 +10,7 @@ ghost use Rattle.ml_list.specs.Lookups.{IsInRange};
 use ml_base::{Bytes, Files, LAST_ITEM, Name, PartError, number_within, write_number};
 use std::alloc::{AllocError, Global};
 
-/// The floor under the kept replies: the number in its file, or 1 where that is absent. It reads that file alone.
+/// The floor: the number in its file, or 1 if that is absent. It reads only that file.
 pub fn floor<F: Files>(alloc: Global, files: &mut F) -> Result<u64, PartError>
     ensures value { IsTrue F.tells → IfOk result (IsFloorFile (F.map files.old floor_name)) }
     ensures least { IfOk result (λ floor. 1 ≤ floor) }
@@ -26,7 +26,7 @@ pub fn floor<F: Files>(alloc: Global, files: &mut F) -> Result<u64, PartError>
     }
 }
 
-// The floor: one that was read before, or else that of its file.
+// The floor: one that was read before, otherwise that of its file.
 pub(crate) fn floor_of<F: Files>(
     alloc: Global,
     files: &mut F,
@@ -46,7 +46,7 @@ pub(crate) fn floor_of<F: Files>(
     }
 }
 
-// The floor that a file holds, or None where it holds none.
+// The floor that a file holds, or None if it holds none.
 fn read_floor(file: &Option<Bytes>) -> Option<u64>
     ensures some { IfSome result (IsFloorFile file.now) }
     ensures none { IfNone result ((floor : ℕ) → ¬ IsFloorFile file.now floor) }

@@ -1,4 +1,5 @@
-//! What an item does to the files of a list: the step of the plain list, and each numbered item once.
+//! What an item does to the files of a list: `apply` answers the reply, and the puts by which the files stand for the list after the item. It
+//! does the step of the plain list, and every number counts once.
 #![tactic(auto)]
 
 mod applying;

@@ -1,4 +1,4 @@
-// Whether there is a list.
+// Whether files are those of a list: whether the configuration is there.
 ghost use Rattle.std.specs.Prelude.{◌≡◌, IsTrue, IfOk, IfErr};
 ghost use Rattle.ml_base.specs.PartErrors.{OnDamaged};
 ghost use Rattle.ml_base.specs.ReadFiles.{IsReading, NamesDamaged};
@@ -11,8 +11,8 @@ ghost use Rattle.ml_list.specs.Loading.{IsLoaded};
 use ml_base::{Files, PartError};
 use std::alloc::Global;
 
-/// Whether the list's configuration is there. `Damaged` names its file, and comes only where that is there and holds no
-/// configuration. `Fault` comes only where a read failed.
+/// Whether the list's configuration is there. `Damaged` names its file, and comes only if that is there and holds no
+/// configuration. `Fault` comes only if a read failed.
 pub fn load<F: Files>(alloc: Global, files: &mut F) -> Result<Option<()>, PartError>
     ensures value { IsTrue F.tells → IfOk result (λ found. IsLoaded found (F.map files.old)) }
     ensures names { NamesDamaged ⟦<F as Files>⟧ (λ name. name ≡ config_name) (λ _. IsNoConfig (F.map files.old)) result }

@@ -1,8 +1,8 @@
-// What one item leaves for the next.
+// What a run remembers from one item to the next.
 use ml_subs::Checked;
 use std::alloc::Global;
 
-/// What was read and checked for earlier items, so that what reads as it did isn't checked again. No answer shows what it holds.
+/// What was read and checked for earlier items, so that what reads the same isn't checked again. No answer depends on it.
 #[derive(Drop)]
 pub struct Memo {
     // The members of the set list, as mail last went to them.

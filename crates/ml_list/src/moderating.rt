@@ -1,4 +1,4 @@
-// Moderators' answers: by a usable sender, and by no list.
+// Moderators' answers, which must come from a usable sender and not from a list.
 ghost use Rattle.ml_list.specs.Found.{FoundModerated};
 ghost use Rattle.std.specs.Prelude.{◌≡◌, true, codes, is_some, IsTrue, IfErr, IfOk};
 ghost use Rattle.ml_address.specs.Requests.{Accept, Reject, PlainRequest};

@@ -1,4 +1,4 @@
-// Files of which each is read once.
+// Files that are read once each: while an item is applied, small ones are remembered.
 ghost use Rattle.std.specs.Prelude.{◌≡◌, ◌≤◌, IsTrue, IfOk, IsErrOf};
 ghost use Rattle.std.specs.Option.{option_copied};
 ghost use Rattle.ml_base.specs.Dir.{Dir};
@@ -17,7 +17,7 @@ const LARGEST: usize = 16_384;
 // How many files are remembered at most. What an item reads again is among the first that it reads.
 const MOST: usize = 16;
 
-// Files that remember the small ones that were read, and read those that are asked for again no more.
+// Files that remember the small ones that were read, and don't read them again when they are asked for.
 #[derive(Drop)]
 pub(crate) struct Once<F: Files> {
     files: F,
@@ -27,7 +27,7 @@ pub(crate) struct Once<F: Files> {
 }
 
 impl<F: Files> Once<F> {
-    // Files of which nothing was read yet. It takes no memory.
+    // These files, none of which is remembered yet. It takes no memory.
     pub(crate) fn new(alloc: Global, files: F) -> Once<F>
         ensures { result.files ≡ files }
     {
@@ -37,7 +37,7 @@ impl<F: Files> Once<F> {
         }
     }
 
-    // The files that were read.
+    // The files themselves.
     pub(crate) fn into_files(self) -> F
         ensures { result ≡ self.files }
     {
@@ -55,18 +55,18 @@ impl<F: Files> Files for Once<F> {
 
     ghost kept = { λ a b. F.kept a.files b.files };
 
-    // The bytes of a file, or None where it is absent. The files below are read where it isn't remembered.
+    // The bytes of a file, or None if it is absent. The file is read if it isn't remembered.
     fn get(&mut self, alloc: Global, name: Name) -> Result<Option<Bytes>, FilesError> {
         if let Some(put) = newest(self.read.as_slice(), name) {
             return Ok(copied(alloc, put.bytes.as_ref())?);
         }
         let found = self.files.get(alloc, name)?;
-        // Where there is no memory for it, the file is read again.
+        // If there is no memory for it, the file is read again.
         let _ = remember(alloc, &mut self.read, name, found.as_ref());
         Ok(found)
     }
 
-    // Whether a file is there. The files below are asked where it isn't remembered.
+    // Whether a file is there. The files are asked if it isn't remembered.
     fn has(&mut self, alloc: Global, name: Name) -> Result<bool, FilesError> {
         match newest(self.read.as_slice(), name) {
             Some(put) => Ok(put.bytes.is_some()),
@@ -74,7 +74,7 @@ impl<F: Files> Files for Once<F> {
         }
     }
 
-    // A place that a walk over the files of a kind may go on at, as the files below have it.
+    // A place at which a walk over the files of a kind may go on, as the files say.
     fn skip_absent(
         &mut self,
         alloc: Global,
@@ -102,7 +102,7 @@ fn is_small(file: Option<&Bytes>) -> bool {
     }
 }
 
-// Adds what was read of a file, unless it is large, or so much was read that it doesn't matter. An error changes nothing.
+// Adds what was read of a file, unless it is large or enough files are remembered. An error changes nothing.
 #[tactic(auto, using(crate::proofs::Told::told_more))]
 fn remember(
     alloc: Global,

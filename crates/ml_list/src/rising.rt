@@ -1,4 +1,4 @@
-// The floor rises.
+// Raising the floor: the files of kept replies below it go, and the one that it cuts loses its first slots.
 ghost use Rattle.std.specs.Prelude.{◌≡◌, ◌≢◌, ◌<◌, ◌≤◌, ◌+◌, ◌*◌, ◌/◌, ◌%◌, ◌++◌, max, true, ℕ, IsTrue, IfOk, IfErr, IfSome, IfNone, IsErrOf, OnOk, Option, length, ◌==◌};
 ghost use Rattle.ml_base.specs.Dir.{Dir, touches_only, with_puts, are_files};
 ghost use Rattle.ml_base.specs.ReadFiles.{IsReading, NamesDamaged};
@@ -28,7 +28,7 @@ use std::alloc::{AllocError, Global};
 // How far the floor may rise at once.
 const LONGEST_RISE: u64 = 512_000;
 
-// The floor no lower than this, asked for by an item with this number.
+// Raises the floor to this, unless it is as high already; an item with this number asks for it.
 pub(crate) fn raise<F: Files>(
     alloc: Global,
     files: &mut F,
@@ -58,7 +58,7 @@ pub(crate) fn raise<F: Files>(
     Ok((txn, Reply::floored(at)))
 }
 
-// Whether a floor may rise so far, asked for by an item with this number.
+// Whether a floor may rise so far if an item with this number asks for it.
 fn may_rise(floor: u64, number: u64, at: u64) -> bool
     requires { floor ≤ 999_999_999_999 }
     ensures { result ≡ steps.may_rise floor number at }
@@ -66,7 +66,7 @@ fn may_rise(floor: u64, number: u64, at: u64) -> bool
     at <= floor + LONGEST_RISE && (number == 0 || at <= number)
 }
 
-// The puts of a rise of the floor. It reads the one file of kept replies that the new floor cuts.
+// The puts that raise the floor. It reads only the file of kept replies that the new floor cuts.
 fn rise<F: Files>(
     alloc: Global,
     files: &mut F,
@@ -92,7 +92,7 @@ fn rise<F: Files>(
     Ok(rise_txn(alloc, floor, at, name, bytes)?)
 }
 
-// The file of kept replies that has a number, `at`: that of the item's own number, where it is the same, was read before.
+// The file of kept replies that has the number `at`. If it is also that of the item's own number, it was read before.
 fn file_of<F: Files>(
     alloc: Global,
     files: &mut F,
@@ -112,7 +112,7 @@ fn file_of<F: Files>(
     Ok(files.get(alloc, replies_name(at))?)
 }
 
-// The puts of a rise of the floor, with what is left of the file that it cuts.
+// The puts that raise the floor, with what is left of the file that it cuts.
 fn rise_txn(
     alloc: Global,
     floor: u64,
@@ -136,7 +136,7 @@ fn rise_txn(
     Ok(txn)
 }
 
-// Adds puts that remove the files of kept replies from one on to before another.
+// Adds puts that remove the files of kept replies from one up to the one before another.
 fn remove_files(txn: &mut Txn, from: u64, to: u64) -> Result<(), AllocError>
     requires { from ≤ to }
     ensures { OnOk result (txn.new ≡ txn.old ++ removals from to) }
@@ -150,8 +150,8 @@ fn remove_files(txn: &mut Txn, from: u64, to: u64) -> Result<(), AllocError>
     Ok(())
 }
 
-// What is left of a file of kept replies whose first slots are emptied, which is no file where nothing is left in it. It
-// is None where the file's length is outside the grammar.
+// What is left of a file of kept replies once its first slots are emptied: no file if nothing is left in it. The answer
+// is None if the file's length is outside the grammar.
 fn cut(file: Option<Bytes>, slots: usize) -> Option<Option<Bytes>>
     requires { slots < 512 }
     ensures some { IfSome result (λ left. (first : ℕ) (kept : Kept) → IsRepliesFile first file kept → IsRepliesFile first left (from_floor (first + slots) kept)) }
@@ -183,7 +183,7 @@ fn emptied(text: Bytes, slots: usize) -> Bytes
     Bytes::from_vec(bytes)
 }
 
-// Whether all bytes are zeros.
+// Whether all bytes are 0.
 fn is_empty(bytes: &[u8]) -> bool
     ensures { result ≡ list_all (λ b. b == 0) bytes.now }
 {

@@ -1,4 +1,4 @@
-// Entries of the queue that were sent.
+// Reports that an entry of the queue was sent.
 ghost use Rattle.std.specs.Prelude.{◌≡◌, true, IsTrue, IfOk, IfErr};
 ghost use Rattle.ml_base.specs.Dir.{Dir, same_name, touches_only};
 ghost use Rattle.ml_base.specs.PartErrors.{OnDamaged};
@@ -19,7 +19,7 @@ use ml_plain::Reply;
 use ml_queue::sent;
 use std::alloc::Global;
 
-// What a report does that an entry of the queue was sent: it leaves the queue. `noentry` is answered where the id isn't there.
+// What the report does that an entry of the queue was sent: the entry leaves the queue. The reply is `noentry` if the id isn't there.
 pub(crate) fn sent_entry<F: Files>(
     alloc: Global,
     files: &mut F,

@@ -1,4 +1,4 @@
-// The files of kept replies: 512 slots of nine bytes each.
+// The files of kept replies, each of 512 slots of nine bytes: how a slot is read and written.
 ghost use Rattle.std.specs.Prelude.{◌≡◌, ◌≢◌, ◌<◌, ◌≤◌, ◌+◌, ◌*◌, ◌/◌, ◌%◌, true, ℕ, Option, Some, None, IsTrue, IfOk, IfErr, IfSome, IfNone, IsErrOf, length, replicate, take};
 ghost use Rattle.ml_base.specs.Dir.{Dir, with_put};
 ghost use Rattle.ml_base.specs.ReadFiles.{IsReading, NamesDamaged};
@@ -55,7 +55,7 @@ fn is_code(code: u8) -> bool
     1 <= code && code <= 36
 }
 
-// What the nine bytes of a slot spell: a reply, or that there is none. It is None where they spell neither.
+// What the nine bytes of a slot spell: a reply, or that there is none. The answer is None if they spell neither.
 fn read_slot(bytes: &[u8]) -> Option<Option<Reply>>
     ensures read { (found : Option Reply) → IfSome found (λ r. states.is_kept r ≡ true) → bytes.now ≡ slot_text found → result ≡ Some found }
     ensures spelled { IfSome result (λ found. take 9 bytes.now ≡ slot_text found) }
@@ -76,7 +76,7 @@ fn read_slot(bytes: &[u8]) -> Option<Option<Reply>>
     }
 }
 
-// The reply in a slot of a file, where there is one. It is None where the slot, or the file's length, is outside the
+// The reply in a slot of a file, if there is one. The answer is None if the slot, or the file's length, is outside the
 // grammar.
 fn reply_in(file: &Option<Bytes>, slot: usize) -> Option<Option<Reply>>
     requires { slot < 512 }
@@ -94,21 +94,21 @@ fn reply_in(file: &Option<Bytes>, slot: usize) -> Option<Option<Reply>>
     read_slot(&text.as_slice()[from..from + SLOT])
 }
 
-// What was found for a number: the reply that is kept for it, where there is one, and the file that was read.
+// What was found for a number: the reply that is kept for it, if there is one, and the file that was read.
 #[derive(Drop)]
 pub(crate) struct Found {
     pub reply: Option<Reply>,
     pub file: Option<Bytes>,
 }
 
-// What was read for an item's number, where that isn't 0: the floor, and the number's file.
+// What was read for an item's number, if that isn't 0: the floor, and the number's file.
 #[derive(Drop)]
 pub(crate) struct Known {
     pub floor: Option<u64>,
     pub file: Option<Bytes>,
 }
 
-// The reply that is kept for a number, where there is one. It reads one file.
+// The reply that is kept for a number, if there is one. It reads one file.
 pub(crate) fn kept_reply<F: Files>(
     alloc: Global,
     files: &mut F,
@@ -130,7 +130,7 @@ pub(crate) fn kept_reply<F: Files>(
     Ok(Found { reply, file })
 }
 
-// The bytes of a file in which a slot is to be written: empty slots where the file is absent. Its length was looked at
+// The bytes of a file into which a slot is to be written: empty slots if the file is absent. Its length was checked
 // when the slot was read.
 fn slots(alloc: Global, file: Option<Bytes>) -> Result<Bytes, AllocError>
     ensures size { IfOk result (λ text. length text ≡ 4608) }
@@ -167,7 +167,7 @@ fn with_reply(text: Bytes, slot: usize, reply: Reply) -> Bytes
     Bytes::from_vec(bytes)
 }
 
-// What keeps a reply for a number, whose file is this.
+// The put that keeps a reply for a number. `file` is the number's file.
 pub(crate) fn keep(
     alloc: Global,
     file: Option<Bytes>,

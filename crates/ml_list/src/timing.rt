@@ -1,4 +1,4 @@
-// Timed runs.
+// A timed run of a list: it is refused if ids or tickets are worn out.
 ghost use Rattle.ml_list.specs.Found.{FoundByCounters, FoundToRun};
 ghost use Rattle.ml_timed.specs.Found.{FoundInRun};
 ghost use Rattle.std.specs.Prelude.{◌≡◌, [], true, IsTrue, IfErr, IfOk};
@@ -29,8 +29,8 @@ use std::alloc::Global;
 //
 // `Damaged` names a file that was read and is outside its grammar, or names what isn't there, in the files as the run found them: what it
 // writes itself is in its grammar. In the archive it is the number of posts, or is damaged for a post that is in no digest yet. On a list
-// without digests it is none that is read for a digest alone. `Fault` comes only if a read failed. The configuration is there: whoever calls
-// has looked at it, and if it isn't, there is no memory. `now` is in seconds since 1970. The files come back, whatever it answers.
+// without digests it isn't one that is read only for a digest. `Fault` comes only if a read failed. The caller has seen that the
+// configuration is there; if it isn't, the error is `Memory`. `now` is in seconds since 1970. The files come back, whatever it answers.
 pub(crate) fn run_timed<F: Files>(
     alloc: Global,
     files: F,
@@ -49,7 +49,7 @@ pub(crate) fn run_timed<F: Files>(
     }
 }
 
-// Looks whether ids and tickets are left.
+// Sees whether ids and tickets are left, and goes on if they are.
 fn run_unless_worn<F: Files>(
     alloc: Global,
     files: F,

@@ -1,4 +1,4 @@
--- What requests find and do, on every directory that has the files that they look at.
+-- What requests find and do is the same on every directory that has the files that they look at.
 use Rattle.std.proofs.Common.{◌≡◌, ◌∙◌, ◌&&◌, ◌||◌, cond, ℕ, Bool, true, false, List, [], length, Option, Some, refl, sym, ap, subst}
 use Rattle.std.specs.Prelude.{not}
 use Rattle.std.proofs.lemmas.Bool.{and_from, or_left, or_right}
@@ -64,7 +64,7 @@ bucket_apart old dir set who has p alike is tells =
     let own = bucket_name set (bucket_of (key who)) in
     member_apart old dir set (key who) has p (alike own (same_self own)) tells is
 
--- whether a sender may be told who is in a set, where that goes by whether he is a moderator
+-- whether a sender may be told who is in a set, if that depends on whether he is a moderator
 pub lister_apart : (c : Config) (sender : Text) (p : Plain) (b : Bool) → c.flags.l ≡ true → p.config ≡ c → b ≡ is_moderator p sender → b ≡ (p.config.flags.l && is_moderator p sender)
 lister_apart c sender p b on same e = e ∙ ap (λ (t : Bool). t && is_moderator p sender) (sym (ap (λ (k : Config). k.flags.l) same ∙ on))
 
@@ -76,7 +76,7 @@ module _ (old dir : Dir) where
   pub count_apart : (count : ℕ) (p : Plain) → dir number_name ≡ old number_name → IsList dir p → IsNumberFile (old number_name) count → count ≡ length p.posts
   count_apart count p same is file = count_one (dir number_name) count (length p.posts) (subst (λ (f : Option Text). IsNumberFile f count) (sym same) file) (is.archive).filed.counted
 
-  -- the files that each step looks at, of those of a bounce
+  -- of the files of a bounce, those that each step looks at
   module _ (set : Set) (x : Text) where
     pub bounce_member : Alike (is_of_bounce set x) old dir → Alike (is_bucket_of set x) old dir
     bounce_member alike name e = alike name (or_left (is_bucket_of set x name || is_counted_in set name) (is_entry_of set x name) (or_left (is_bucket_of set x name) (is_counted_in set name) e))
@@ -113,7 +113,7 @@ module _ (old dir : Dir) where
     pub left_last : Alike (is_left_by set x) old dir → Alike (is_entry_of set x) old dir
     left_last alike name e = alike name (or_right (is_touched set (key x) name) (is_entry_of set x name) e)
 
-  -- of those of who asks for the members of a set
+  -- the same of a request for the members of a set
   module _ (c : Config) (sender : Text) (set : Set) (alike : Alike (is_of_members c sender set) old dir) where
     pub members_rank : Alike (λ name. c.flags.l && is_bucket_of sets.Moderators sender name) old dir
     members_rank name e =
@@ -128,12 +128,12 @@ module _ (old dir : Dir) where
     pub members_ids : dir ids_name ≡ old ids_name
     members_ids = alike ids_name (or_right ((c.flags.l && is_bucket_of sets.Moderators sender ids_name) || is_bucket set ids_name) (same_name ids_name ids_name) refl)
 
-  -- of those of who asks for a part of the archive, with the posts of that part
+  -- the same of a request for a part of the archive, with the posts of that part
   module _ (c : Config) (sender : Text) (part posts : Name → Bool) (alike : Alike (λ name. posts name || (is_of_reader c sender name || part name || same_name name ids_name)) old dir) where
     pub answer_whole : Alike (λ name. is_of_reader c sender name || (part name || posts name) || same_name name ids_name) old dir
     answer_whole name e = alike name (one_first (is_of_reader c sender name) (part name) (posts name) (same_name name ids_name) e)
 
-  -- of those of who asks for a part of the archive
+  -- the same of a request for a part of the archive
   module _ (c : Config) (sender : Text) (part : Name → Bool) (alike : Alike (λ name. is_of_reader c sender name || part name || same_name name ids_name) old dir) where
     pub answer_reader : Alike (is_of_reader c sender) old dir
     answer_reader name e = alike name (or_left (is_of_reader c sender name || part name) (same_name name ids_name) (or_left (is_of_reader c sender name) (part name) e))
@@ -144,7 +144,7 @@ module _ (old dir : Dir) where
     pub answer_ids : dir ids_name ≡ old ids_name
     answer_ids = alike ids_name (or_right (is_of_reader c sender ids_name || part ids_name) (same_name ids_name ids_name) refl)
 
-  -- and of those of the reader himself
+  -- and of what says whether the sender may read it
   module _ (c : Config) (sender : Text) (alike : Alike (is_of_reader c sender) old dir) where
     abbrev subscriber : Name → Bool
     subscriber name = is_bucket_of sets.List sender name || is_bucket_of sets.Digest sender name
@@ -169,7 +169,7 @@ sent_so dir p done txn sender now {mail = mail} {own = own} {reply = reply} {giv
     subst (λ (m : Mail). DoesList dir done (mail_to sender now m p, given)) e
     (subst (λ (r : Reply). DoesList dir done (mail_to sender now mail p, r)) f (does (subst (λ (t : List Put). IsList (with_puts dir t) p) (sym none) is)))
 
--- whether the archive is open to who is no moderator, where that goes by whether he is a subscriber
+-- whether the archive is open to somebody who isn't a moderator, if that depends on whether he is a subscriber
 pub open_apart : (c : Config) (sender : Text) (p : Plain) (b : Bool) → is_closed c ≡ false → c.flags.g ≡ true → p.config ≡ c → b ≡ (is_in p sets.List sender || is_in p sets.Digest sender)
     → b ≡ (not p.config.flags.b && p.config.flags.p && (not p.config.flags.g || is_in p sets.List sender || is_in p sets.Digest sender))
 open_apart c sender p b free only same e =
@@ -193,7 +193,7 @@ reader_apart p sender rank b e other own =
     go true rest other own = own refl
     go false rest other own = other refl
 
--- numbers that aren't of digests are of posts
+-- numbers of a set other than digest are those of posts
 module _ (old dir : Dir) (set : Set) (none : set ≡ sets.Digest → ⊥) (alike : Alike (is_counted_in set) old dir) where
   pub counted_same : dir number_name ≡ old number_name
   counted_same = go set none alike

@@ -23,7 +23,7 @@ use Rattle.ml_manage.specs.Leaving.{change_reply}
 use Rattle.ml_acts.proofs.Queued.{touches_weaker}
 use Rattle.ml_acts.proofs.Left.{entry_kind}
 
--- the sets that bounce have a ledger
+-- the sets whose mail bounces have a ledger
 pub mailed_ledger : (set : Set) → is_mailed set ≡ true → has_ledger set ≡ true
 mailed_ledger sets.List e = refl
 mailed_ledger sets.Digest e = refl
@@ -31,7 +31,7 @@ mailed_ledger sets.Allow e = e
 mailed_ledger sets.Deny e = e
 mailed_ledger sets.Moderators e = e
 
--- its files stand for it
+-- the ledger's files stand for it
 pub ledger_is : (dir : Dir) (p : Plain) (set : Set) → is_mailed set ≡ true → IsList dir p → IsLedger dir (ledger_kind set) (ledger_of p set)
 ledger_is dir p sets.List e is = is.list_ledger
 ledger_is dir p sets.Digest e is = is.digest_ledger

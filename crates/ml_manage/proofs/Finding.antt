@@ -1,4 +1,4 @@
--- What an answer to a request found, by the arm that it falls to.
+-- What an answer to a request found, by the arm of the match that gives it.
 use Rattle.std.proofs.Common.{◌≡◌, ℕ, Bool, true, false, List, [], Option, Result, Ok, Err, IfOk, inr, refl}
 use Rattle.ml_address.specs.Views.{request_view}
 use Rattle.ml_address.specs.declared.Request.{Request}
@@ -26,7 +26,7 @@ module _ (dir : Dir) (set : Set) where
   if_member k Read true member read = (member, read)
   if_member k Read false member read = inr (member, read)
 
--- numbers that aren't of digests are of posts
+-- numbers of a set other than digest are those of posts
 pub used_post : (dir : Dir) (set : Set) → (set ≡ sets.Digest → ⊥) → (count : ℕ) × IsNumberFile (dir number_name) count → TellsUsed dir set
 used_post dir sets.Digest none read = absurd (none refl)
 used_post dir sets.List none read = read
@@ -35,7 +35,7 @@ used_post dir sets.Deny none read = read
 used_post dir sets.Moderators none read = read
 
 module _ (dir : Dir) (c : Config) (k : Text) where
-  -- where only subscribers may read the archive
+  -- if only subscribers may read the archive
   pub open_by : (b : Bool) → is_closed c ≡ false → c.flags.g ≡ true → TellsSubscriber dir k b → TellsOpen dir c k b
   open_by true free only tells = (free, λ _. tells)
   open_by false free only tells = inr (only, tells)

@@ -1,4 +1,4 @@
--- What is said of a request, by what is said of the one that it is.
+-- What is said of any request, from what is said of the one request that it is.
 use Rattle.std.proofs.Common.{◌≡◌, Bool, true, IfErr, IfOk, IsTrue, List, Result, sym, subst}
 use Rattle.std.proofs.lemmas.Result.{IfOk-weaker}
 use Rattle.ml_address.specs.Requests.{PlainRequest, Post, Help, Other, Owner, Subscribe, Unsubscribe, Confirm, Members, Get, Index, Thread, Accept, Reject, Bounce, WarnBounce, ProbeBounce, ReplyBounce}
@@ -36,7 +36,7 @@ module _ (r : Result (List Put × Reply) PartError) (old : Dir) (c : Config) (re
   pub done_of : IfOk r (λ done. (dir : Dir) (p : Plain) → Alike (reads (request_view this)) old dir → IsList dir p → DoesList dir done (step p (request_view this))) → Does q
   done_of does = done_for (IfOk-weaker r _ _ (λ done so dir p alike list same. so dir p alike list) does)
 
--- and where it names no file
+-- and when it names no file
 module _ {T : Type 0} (r : Result T PartError) (old : Dir) (c : Config) (reads : PlainRequest → Name → Bool) {q this : Request} (is : q ≡ this) where
   abbrev Spares : Request → Type 0
   Spares s = (dir : Dir) (p : Plain) → Alike (reads (request_view s)) old dir → IsList dir p → p.config ≡ c → IfErr r (λ e. OnDamaged e (λ _. ⊥))
@@ -44,7 +44,7 @@ module _ {T : Type 0} (r : Result T PartError) (old : Dir) (c : Config) (reads :
   pub spared_for : Spares this → Spares q
   spared_for none = subst Spares (sym is) none
 
--- an act for a request, of files that tell which are damaged for that
+-- an act for a request, on files that tell which of them are damaged for that
 module _ {F : Type 0} (told : Ghosts F) (Writes : PlainRequest → Name → Bool) (May : PlainRequest → Name → Type 0) {r : Result (List Put × Reply) PartError} {dir : Dir} {c : Config} {old new : F} {q this : Request} (is : q ≡ this) where
   of_this : (Bad : Name → Type 0) → ((name : Name) → Bad name → IsDamagedFor dir c (request_view this) name) → AnswersWithin (Writes (request_view this)) told (May (request_view this)) Bad old new r → AnswersWithin (Writes (request_view q)) told (May (request_view q)) (IsDamagedFor dir c (request_view q)) old new r
   of_this Bad so act =

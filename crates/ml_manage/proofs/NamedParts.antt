@@ -29,7 +29,3 @@ who_read local host address e read =
     let same : Some (as_address (local ++ 64 ∷ host)) ≡ Some address = sym (ap (λ (b : Bool). cond b (Some (as_address (local ++ 64 ∷ host))) None) e) ∙ read in
     let this : as_address (local ++ 64 ∷ host) ≡ address = cc in
     sym this ∙ whole
-
--- and have no fault
-pub who_fault : (local host : Text) (fault : AddressFault) → make_address local host ≡ true → address_check (local ++ 64 ∷ host) ≡ Err fault → ⊥
-who_fault local host fault e wrong = let bad : true ≡ false = sym e ∙ ap (λ (r : Result (Unit {0}) AddressFault). is_ok r) wrong in cc

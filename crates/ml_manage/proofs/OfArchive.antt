@@ -1,4 +1,4 @@
--- What an answer from the archive says, by what its calls say.
+-- What an answer from the archive promises, by what its calls promise.
 use Rattle.std.proofs.Common.{◌≡◌, ⊎_elim, Bool, true, ◌&&◌, ◌||◌, IsTrue, List, Result, refl}
 use Rattle.std.proofs.lemmas.Bool.{and_parts, or_cases, or_left, or_right}
 use Rattle.ml_base.specs.Bytes.{Text}
@@ -22,7 +22,7 @@ use Rattle.ml_acts.proofs.Asked.{bucket_other, ids_other, named_as, named_beside
 use Rattle.ml_acts.proofs.OfActs.{act_beside}
 use Rattle.ml_manage.specs.Reads.{is_of_reader}
 
--- what tells whether the archive is open is none of it
+-- the files that say whether the archive is open aren't of the archive
 pub reader_other : (name : Name) (c : Config) (sender : Text) → is_of_reader c sender name ≡ true → is_of_archive name ≡ true → ⊥
 reader_other name c sender e of =
     let list = is_bucket_of sets.List sender name in
@@ -32,7 +32,7 @@ reader_other name c sender e of =
     (or_cases (is_bucket_of sets.Moderators sender name) (c.flags.g && (list || digest)) e)
 
 module _ {F : Type 0} (told : Ghosts F) (asked : Asked) where
-  -- an answer from the archive names what tells whether it is open, and the counter of ids
+  -- an answer from the archive may name the files that say whether it is open, and the counter of ids
   module _ (c : Config) (sender : Text) (part : Name → Bool) where
     abbrev IsOfAnswer : Name → Type 0
     IsOfAnswer name = (is_of_reader c sender name || part name || same_name name ids_name) ≡ true

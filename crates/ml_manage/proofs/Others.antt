@@ -1,4 +1,4 @@
--- The requests that fall to the last arm.
+-- The requests that the last arm of a match answers.
 use Rattle.std.proofs.Common.{◌≡◌, ℕ, true, false, List, Option, refl}
 use Rattle.ml_address.specs.Views.{request_view}
 use Rattle.ml_address.specs.declared.Request.{Request}
@@ -18,7 +18,7 @@ use Rattle.ml_manage.specs.Reads.{is_asked_of, is_managed, is_read_for, is_read_
 use Rattle.ml_manage.proofs.Requests.{is_other_than_posts}
 
 module _ (sender m : Text) (now : ℕ) (p : Plain) where
-  -- a request that is none of bounces and of mail to the owner is answered by its sender
+  -- a request other than a bounce and mail to the owner is answered by its sender
   pub of_sender : (r : Request) → (r ≡ requests.Owner → ⊥) → ((set : Set) (number : ℕ) (who : Who) → r ≡ requests.Bounce set number who → ⊥) → ((set : Set) (time : ℕ) (cookie : List ℕ) (who : Who) → r ≡ requests.WarnBounce set time cookie who → ⊥) → ((set : Set) (time : ℕ) (cookie : List ℕ) (who : Who) → r ≡ requests.ProbeBounce set time cookie who → ⊥) → ((set : Set) → r ≡ requests.ReplyBounce set → ⊥) → is_managed (request_view r) ≡ true → by_request now sender m p (request_view r) ≡ by_sender now m p (request_view r) (address_of sender)
   of_sender requests.Post n0 n1 n2 n3 n4 managed = absurd (let bad : false ≡ true = managed in cc)
   of_sender requests.Help n0 n1 n2 n3 n4 managed = refl
@@ -39,7 +39,7 @@ module _ (sender m : Text) (now : ℕ) (p : Plain) where
   of_sender requests.Other n0 n1 n2 n3 n4 managed = refl
 
 module _ (c : Config) (sender : Text) (name : Name) where
-  -- and so are the files that it may read
+  -- and so are the files that it may read decided
   pub may_read_other : (r : Request) → (r ≡ requests.Owner → ⊥) → ((set : Set) (number : ℕ) (who : Who) → r ≡ requests.Bounce set number who → ⊥) → ((set : Set) (time : ℕ) (cookie : List ℕ) (who : Who) → r ≡ requests.WarnBounce set time cookie who → ⊥) → ((set : Set) (time : ℕ) (cookie : List ℕ) (who : Who) → r ≡ requests.ProbeBounce set time cookie who → ⊥) → ((set : Set) → r ≡ requests.ReplyBounce set → ⊥) → is_managed (request_view r) ≡ true → is_read_for_sender c sender (request_view r) name ≡ is_read_for c (address_of sender) (request_view r) name
   may_read_other requests.Post n0 n1 n2 n3 n4 managed = absurd (let bad : false ≡ true = managed in cc)
   may_read_other requests.Help n0 n1 n2 n3 n4 managed = refl
@@ -81,7 +81,7 @@ module _ (sender : Text) (now : ℕ) (p : Plain) where
   of_nothing requests.Other n0 n1 n2 n3 n4 n5 n6 managed = refl
 
 module _ (c : Config) (sender : Text) (name : Name) where
-  -- which reads the counter of ids
+  -- that reads the counter of ids
   pub is_asked_other : (r : Request) → ((set : Set) (who : Option Who) → r ≡ requests.Subscribe set who → ⊥) → ((set : Set) (who : Option Who) → r ≡ requests.Unsubscribe set who → ⊥) → ((set : Set) → r ≡ requests.Members set → ⊥) → ((word : Word) (set : Set) (time : ℕ) (cookie : List ℕ) (who : Who) → r ≡ requests.Confirm word set time cookie who → ⊥) → ((from : ℕ) (to : Option ℕ) → r ≡ requests.Get from to → ⊥) → ((at : ℕ) → r ≡ requests.Index at → ⊥) → ((at : ℕ) → r ≡ requests.Thread at → ⊥) → is_managed (request_view r) ≡ true → is_asked_of c sender (request_view r) name ≡ same_name name ids_name
   is_asked_other requests.Post n0 n1 n2 n3 n4 n5 n6 managed = absurd (let bad : false ≡ true = managed in cc)
   is_asked_other requests.Help n0 n1 n2 n3 n4 n5 n6 managed = refl
@@ -101,7 +101,7 @@ module _ (c : Config) (sender : Text) (name : Name) where
   is_asked_other (requests.ReplyBounce set) n0 n1 n2 n3 n4 n5 n6 managed = refl
   is_asked_other requests.Other n0 n1 n2 n3 n4 n5 n6 managed = refl
 
--- a request that is none of a post and of moderators' answers
+-- a request that is neither a post nor a moderator's answer
 pub is_other : (r : Request) → (r ≡ requests.Post → ⊥) → ((ticket : ℕ) (cookie : List ℕ) → r ≡ requests.Accept ticket cookie → ⊥) → ((ticket : ℕ) (cookie : List ℕ) → r ≡ requests.Reject ticket cookie → ⊥)
     → true ≡ is_other_than_posts (request_view r)
 is_other requests.Post n0 n1 n2 = absurd (n0 refl)

@@ -26,7 +26,7 @@ use Rattle.ml_acts.proofs.Placed.{index_placed, threads_placed}
 use Rattle.ml_manage.specs.Reads.{is_of_index, is_of_posts, is_of_range, is_of_thread}
 use Rattle.ml_manage.specs.Texts.{entries_text, entry_text, if_post, post_text, posts_text}
 
--- what is taken of a row has what all of it has
+-- what all of a row has, what is taken of it has
 module _ {A : Type 0} (size : A → ℕ) (P : A → Type 0) where
   within_all : (count room : ℕ) (xs : List A) → AllByRecursion P xs → AllByRecursion P (within size count room xs)
   within_all count room [] all = tt
@@ -145,7 +145,7 @@ index_read at name less e =
     and_from (nat_lt (at / 100) 1_000_000) (same_name name (index_name (at / 100))) (lt-ltb (at / 100) 1_000_000 less)
     (subst (λ (n : Name). same_name n (index_name (at / 100)) ≡ true) (sym e) (same_self (index_name (at / 100))))
 
--- where there are some
+-- when there are some
 pub some_posts : (p : Plain) (ns : List ℕ) (t : Bool) → t ≡ (length ns == 0) → t ≡ false → flat_map (post_text p) ns ≡ posts_text p ns
 some_posts p [] t e f = absurd (let bad : true ≡ false = sym e ∙ f in cc)
 some_posts p (n ∷ ns) t e f = refl

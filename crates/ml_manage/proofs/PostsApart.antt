@@ -1,4 +1,4 @@
--- What the archive's files tell, on every directory that has the same ones.
+-- What the archive's files say is the same on every directory that has the same ones.
 use Rattle.std.proofs.Common.{◌≡◌, ◌⊎◌, inl, inr, ◌<◌, ◌≤◌, ◌/◌, ◌&&◌, ◌||◌, ◌∙◌, ℕ, Bool, true, List, [], ◌∷◌, take, Option, Some, None, refl, sym, subst, arith}
 use Rattle.std.specs.Prelude.{nat_le}
 use Rattle.std.specs.List.{AllByRecursion, AllZip}
@@ -26,7 +26,7 @@ use Rattle.ml_acts.proofs.Placed.{threads_placed}
 use Rattle.ml_manage.specs.Reads.{AlikeEach, is_of_index, is_of_posts, is_of_range, is_post_file, is_post_within, is_seen_of_posts, is_seen_of_thread}
 use Rattle.ml_manage.proofs.Posts.{index_read, is_number, of_index, range_read}
 
--- the files that tell of a thread are among those that are looked at for it
+-- the files of a range are among those that are looked at for a thread
 of_range : (name : Name) → is_of_range name ≡ true → is_seen_of_thread name ≡ true
 of_range name e = or_left (is_of_range name || is_thread_file name) (is_post_file name) (or_left (is_of_range name) (is_thread_file name) e)
 
@@ -84,7 +84,7 @@ module _ (name : Name) where
       (λ x. of_range name (or_right (is_index name) (same_name name number_name) x))
       (λ x. or_right (is_of_range name || is_thread_file name) (is_post_file name) (and_parts (is_post_file name) _ x).0) e
 
--- what is the same for a range, or for a thread, is so for each of its posts
+-- what is the same for a range, or for a thread, is the same for each of its posts
 pub each_of_range : (a b : ℕ) (ns : List ℕ) (old dir : Dir) → AllByRecursion (IsWithin a b) ns → Alike (is_seen_of_posts a b) old dir → AlikeEach ns old dir
 each_of_range a b ns old dir all alike n among name e = let within = each_among (IsWithin a b) ns n all among in alike name (one_of_range name a b n within.0 within.1 e)
 

@@ -1,4 +1,4 @@
--- No file of the archive is damaged for a request, on a directory that has the files that a list has of those that it looks at.
+-- No file of the archive is damaged for a request in a directory that has, of the files that the request looks at, those that a list has.
 use Rattle.std.proofs.Common.{◌≡◌, ◌⊎◌, inl, inr, ◌<◌, ◌≤◌, ◌/◌, ◌==◌, ◌&&◌, ◌||◌, ◌∙◌, ℕ, zero, suc, true, List, [], ◌∷◌, length, map, Option, Some, None, slice_get, refl, sym, ap, subst, arith}
 use Rattle.std.specs.Prelude.{nat_le, nat_lt}
 use Rattle.std.specs.List.{AllByRecursion, AllZip, IsAmong}
@@ -76,7 +76,7 @@ module _ (name : Name) where
   pub group_archived : (at : ℕ) → is_of_index at name ≡ true → is_of_archive name ≡ true
   group_archived at e = ap is_of_archive (one_name name (index_name (at / 100)) (and_parts (nat_lt (at / 100) 1_000_000) (same_name name (index_name (at / 100))) e).1)
 
--- what each has, the entries of these numbers have
+-- what every post has, the entries of these numbers have
 entries_all : (dir : Dir) (P : ℕ → Type 0) (ns : List ℕ) (es : List Entry) → AllByRecursion P ns → AllZip (IsEntryByFiles dir) ns es → AllByRecursion (λ (e : Entry). P e.number) es
 entries_all dir P [] [] all each = tt
 entries_all dir P [] (e ∷ es) all each = absurd each
@@ -101,7 +101,7 @@ inside [] i p e = absurd (let bad : None ≡ Some p = e in cc)
 inside (x ∷ xs) zero p e = omega arith
 inside (x ∷ xs) (suc i) p e = let more = inside xs i p e in omega (arith, more)
 
--- a post of a row is one of the list
+-- a post of a row is one of the list's
 one_among : (posts : List Post) (xs : List Numbered) (m : ℕ) → AllByRecursion (IsOne posts) xs → IsAmong (numbers xs) m → (1 ≤ m) × (m ≤ length posts)
 one_among posts [] m all among = absurd (let less = among.1.0 in omega (arith, less))
 one_among posts (x ∷ xs) m all (zero, is) =
@@ -111,7 +111,7 @@ one_among posts (x ∷ xs) m all (zero, is) =
     (omega (arith, number), omega (arith, number, less))
 one_among posts (x ∷ xs) m all (suc i, is) = let less = is.0 in one_among posts xs m all.1 (i, (omega (arith, less), is.1))
 
--- an index of the list has the entries of its posts alone
+-- an index of the list has only the entries of its posts
 entry_own : (posts : List Post) (n : ℕ) (e : Entry) → 1 ≤ n → entry_at n (index_of (n / 100) posts) ≡ Some e → n ≤ length posts
 entry_own posts zero e low found = absurd (omega (arith, low))
 entry_own posts (suc i) e low found = go (slice_get posts i) refl (sym (looked_up 1 (suc i) i posts (omega arith)) ∙ found)
@@ -130,7 +130,7 @@ module _ (old dir : Dir) (posts : List Post) (is : ArePosts dir posts) where
   none_index : (g : ℕ) → g < 1_000_000 → dir (index_name g) ≡ old (index_name g) → IsNoIndex old g → ⊥
   none_index g less same none = no_bad_index dir posts is g less (λ entries file. none entries (subst (λ (f : Option Text). IsIndexFile g f entries) same file))
 
-  -- no entry is lacking of a post that the number of posts says is there
+  -- no post up to the number of posts lacks its entry
   none_lacking : (n : ℕ) → dir number_name ≡ old number_name → (n ≤ 99_999_999 → dir (index_name (n / 100)) ≡ old (index_name (n / 100))) → LacksEntry old n → ⊥
   none_lacking n number index lacks =
       let counted = subst (λ (f : Option Text). IsNumberFile f lacks.count) (sym number) lacks.counted in

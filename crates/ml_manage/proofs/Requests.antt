@@ -1,4 +1,4 @@
--- Requests that were read of a recipient are in their ranges.
+-- Requests that were read from a recipient's address are in their ranges.
 use Rattle.std.proofs.Common.{◌≡◌, ◌≢◌, Bool, true, false, Some, refl, sym}
 use Rattle.ml_base.specs.Bytes.{Text}
 use Rattle.ml_address.specs.Reading.{request_of}
@@ -6,7 +6,7 @@ use Rattle.ml_address.specs.Requests.{PlainRequest, Post, Help, Owner, Subscribe
 use Rattle.ml_address.proofs.Inverse.{request_is}
 use Rattle.ml_manage.specs.Reads.{is_managed}
 
--- whether a request is none of a post and of moderators' answers
+-- whether a request is neither a post nor a moderator's answer
 abbrev pub is_other_than_posts : PlainRequest → Bool
 is_other_than_posts Post = false
 is_other_than_posts (Accept ticket cookie) = false

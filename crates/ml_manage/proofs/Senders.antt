@@ -1,4 +1,4 @@
--- Requests by their senders.
+-- What a request does by its sender and its message.
 use Rattle.std.proofs.Common.{◌≡◌, ℕ, Bool, true, false, List, [], Option, Some, None, codes, sym, subst}
 use Rattle.ml_address.specs.Requests.{PlainRequest}
 use Rattle.ml_base.specs.Bytes.{Text}
@@ -14,7 +14,7 @@ use Rattle.ml_acts.specs.Doing.{DoesList}
 use Rattle.ml_manage.proofs.Bounced.{does_by}
 
 module _ (dir : Dir) (p : Plain) (now : ℕ) (m : Text) (r : PlainRequest) (done : List Put × Reply) (found : Option Text) where
-  -- the sender is no address
+  -- the sender isn't an address
   pub of_nobody : IsList dir p → found ≡ None → done.0 ≡ [] → done.1 ≡ nosender → DoesList dir done (by_sender now m p r found)
   of_nobody is none e f = subst (λ (o : Option Text). DoesList dir done (by_sender now m p r o)) (sym none) (does_by dir done [] nosender p e f is)
 

@@ -25,7 +25,7 @@ module _ (dir : Dir) (p : Plain) (now : ℕ) (sender : Text) (done : List Put ×
   opened text lines holds same does =
       subst (λ (t : Bool). DoesList dir done (from_archive now sender p t text)) (sym holds) (subst (λ (t : Text). DoesList dir done (from_archive now sender p true t)) same does)
 
-  -- a set is shown to nobody
+  -- a set isn't shown
   pub unlisted : (set : Set) → IsList dir p → b ≡ false → done.0 ≡ [] → done.1 ≡ private → DoesList dir done (list_members now sender set p b)
   unlisted set is fails e f = subst (λ (t : Bool). DoesList dir done (list_members now sender set p t)) (sym fails) (does_by dir done [] private p e f is)
 

@@ -1,4 +1,4 @@
--- No file is damaged that a request looks at, on a directory that has the files that a list has of these.
+-- No file that a request looks at is damaged in a directory that has, of these files, those that a list has.
 use Rattle.std.proofs.Common.{◌≡◌, ◌⊎◌, inl, inr, ◌<◌, ◌&&◌, ◌||◌, ◌∙◌, IsTrue, IfErr, Bool, true, false, length, Option, Result, sym, ap, subst, arith}
 use Rattle.std.proofs.lemmas.Bool.{and_parts, or_cases}
 use Rattle.std.proofs.lemmas.Nat.{mod_below}
@@ -69,7 +69,7 @@ module _ (old dir : Dir) (p : Plain) (is : IsList dir p) where
         let named = one_name name (key_file set (key x)) parts.1 in
         subst (λ (n : Name). dir n ≡ old n → IsDamaged old n → ⊥) (sym named) (of_ledger set parts.0)
 
-    -- what tells whether letters are a member's cookie
+    -- the files that say whether letters are a member's cookie
     pub signed_none : (name : Name) → is_of_signed set x name ≡ true → dir name ≡ old name → IsDamaged old name → ⊥
     signed_none name e = go (or_cases (is_bucket_of set x name) (same_name name key_name) e)
       where
@@ -101,7 +101,7 @@ module _ (old dir : Dir) (p : Plain) (is : IsList dir p) where
         last (inl a) = first (or_cases (c.flags.l && own sets.Moderators name) (is_bucket set name) a)
         last (inr b) = ids_spared old dir p is name b
 
-    -- what tells whether the archive is open to a sender
+    -- the files that say whether the archive is open to a sender
     reader_none : (name : Name) → is_of_reader c sender name ≡ true → dir name ≡ old name → IsDamaged old name → ⊥
     reader_none name e = last (or_cases (own sets.Moderators name) (c.flags.g && (own sets.List name || own sets.Digest name)) e)
       where
@@ -113,7 +113,7 @@ module _ (old dir : Dir) (p : Plain) (is : IsList dir p) where
         last (inl a) = bucket_spared old dir p is sets.Moderators sender name a
         last (inr b) = first (or_cases (own sets.List name) (own sets.Digest name) (and_parts c.flags.g (own sets.List name || own sets.Digest name) b).1)
 
-    -- a part of the archive, where none of its own files is
+    -- a part of the archive, if none of its own files is damaged
     pub part_none : (part : Name → Bool) (asked : Asked) → ((name : Name) → part name ≡ true → IsDamagedOf old asked name → ⊥) → (name : Name) → (is_of_reader c sender name || part name || same_name name ids_name) ≡ true
         → dir name ≡ old name → IsDamagedOf old asked name → ⊥
     part_none part asked none name e = last (or_cases (is_of_reader c sender name || part name) (same_name name ids_name) e)

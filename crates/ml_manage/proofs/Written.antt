@@ -1,4 +1,4 @@
--- What requests write.
+-- Which files requests write.
 use Rattle.std.proofs.Common.{◌≡◌, ℕ, true, false, List, Option, Some, None, refl}
 use Rattle.std.proofs.lemmas.Bool.{or_right}
 use Rattle.ml_address.specs.Requests.{PlainRequest, Post, Help, Other, Owner, Subscribe, Unsubscribe, Confirm, Members, Get, Index, Thread, Accept, Reject, Bounce, WarnBounce, ProbeBounce, ReplyBounce}
@@ -21,7 +21,7 @@ use Rattle.ml_joining.proofs.Written.{confirm_beside, join_beside}
 use Rattle.ml_manage.specs.Written.{is_written_for, is_written_for_sender, is_written_of}
 
 module _ (sender : Text) (name : Name) where
-  -- a request that is none of bounces and of mail to the owner writes what its sender's address may
+  -- a request other than a bounce and mail to the owner writes what its sender's address may
   pub written_other : (r : Request) → (r ≡ requests.Owner → ⊥) → ((set : Set) (number : ℕ) (who : Who) → r ≡ requests.Bounce set number who → ⊥) → ((set : Set) (time : ℕ) (cookie : List ℕ) (who : Who) → r ≡ requests.WarnBounce set time cookie who → ⊥) → ((set : Set) (time : ℕ) (cookie : List ℕ) (who : Who) → r ≡ requests.ProbeBounce set time cookie who → ⊥) → ((set : Set) → r ≡ requests.ReplyBounce set → ⊥) → is_written_for_sender sender (request_view r) name ≡ is_written_for (address_of sender) (request_view r) name
   written_other requests.Post n0 n1 n2 n3 n4 = refl
   written_other requests.Help n0 n1 n2 n3 n4 = refl
@@ -41,7 +41,7 @@ module _ (sender : Text) (name : Name) where
   written_other (requests.ReplyBounce set) n0 n1 n2 n3 n4 = absurd (n4 set refl)
   written_other requests.Other n0 n1 n2 n3 n4 = refl
 
-  -- one about no address in a set writes the queue alone
+  -- one that isn't about an address in a set writes only the queue
   pub written_queue : (r : Request) → ((set : Set) (who : Option Who) → r ≡ requests.Subscribe set who → ⊥) → ((set : Set) (who : Option Who) → r ≡ requests.Unsubscribe set who → ⊥) → ((word : Word) (set : Set) (time : ℕ) (cookie : List ℕ) (who : Who) → r ≡ requests.Confirm word set time cookie who → ⊥) → is_written_of sender (request_view r) name ≡ is_of_queue name
   written_queue requests.Post n0 n1 n2 = refl
   written_queue requests.Help n0 n1 n2 = refl
@@ -61,7 +61,7 @@ module _ (sender : Text) (name : Name) where
   written_queue (requests.ReplyBounce set) n0 n1 n2 = refl
   written_queue requests.Other n0 n1 n2 = refl
 
--- all this a delivery may write
+-- a delivery may write all of this
 of_beside : (sender : Text) (r : PlainRequest) (name : Name) → is_written_of sender r name ≡ true → is_beside_mark name ≡ true
 of_beside sender Post name e = queue_beside name e
 of_beside sender Help name e = queue_beside name e

@@ -1,5 +1,5 @@
--- What mail to the list's other addresses finds in the files that it reads, whatever the other files hold: these are in their grammar, and what is
--- answered goes by what they spell.
+-- What mail to the list's other addresses finds in the files that it reads, whatever the other files hold: these are in their grammar, and
+-- the answer depends on what they spell.
 use Rattle.std.specs.Prelude.{◌≡◌, ◌⊎◌, ◌/◌, ◌||◌, ℕ, Bool, true, false, not, List, [], Option, Some, None, unwrap_or, codes}
 use Rattle.ml_address.specs.Requests.{PlainRequest, Owner, Subscribe, Unsubscribe, Confirm, Members, Get, Index, Thread, Bounce, WarnBounce, ProbeBounce, ReplyBounce}
 use Rattle.ml_base.specs.Address.{address_of, key}
@@ -24,7 +24,7 @@ use Rattle.ml_acts.specs.Found.{EitherTells, FoundToLeave, QueuesMail, Says, Spe
 use Rattle.ml_joining.specs.Found.{FoundToConfirm, FoundToSubscribe, FoundToUnsubscribe, SendsMail}
 use Rattle.ml_joining.specs.Operations.{asked_of}
 
--- whether a key is a subscriber's: one of the list or of the digest
+-- whether a key is a subscriber's: a member's of the set list or digest
 abbrev pub TellsSubscriber : Dir → Text → Bool → Type 0
 TellsSubscriber dir k = EitherTells (TellsMember dir sets.List k) (TellsMember dir sets.Digest k)
 
@@ -32,7 +32,7 @@ TellsSubscriber dir k = EitherTells (TellsMember dir sets.List k) (TellsMember d
 abbrev pub is_closed : Config → Bool
 is_closed c = c.flags.b || not c.flags.p
 
--- whether the archive is open to who is no moderator: where only subscribers may read it, by their buckets
+-- whether the archive is open to somebody who isn't a moderator: if only subscribers may read it, by their buckets
 abbrev pub TellsOpen : Dir → Config → Text → Bool → Type 0
 TellsOpen dir c k true = (is_closed c ≡ false) × (c.flags.g ≡ true → TellsSubscriber dir k true)
 TellsOpen dir c k false = (is_closed c ≡ true) ⊎ ((c.flags.g ≡ true) × TellsSubscriber dir k false)
@@ -46,18 +46,18 @@ abbrev pub TellsLister : Dir → Config → Text → Bool → Type 0
 TellsLister dir c k true = (c.flags.l ≡ true) × TellsMember dir sets.Moderators k true
 TellsLister dir c k false = c.flags.l ≡ true → TellsMember dir sets.Moderators k false
 
--- a mail with what was read goes to who may have it, and nobody else gets more than a reply
+-- a mail with what was read goes to those who may have it, and for others there is only a reply
 abbrev pub FoundIfMay : Dir → Type 0 → Reply → Bool → List Put × Reply → Type 0
 FoundIfMay dir Read reply true done = Read × SendsMail dir [] reply done
 FoundIfMay dir Read reply false done = Says answers.private done
 
--- what is found of who asks for a part of the archive, and of that part
+-- what is found about somebody who asks for a part of the archive, and in that part
 pub record FoundToRead (dir : Dir) (c : Config) (k : Text) (Read : Type 0) (done : List Put × Reply) : Type 0 where
   pub may : Bool
   pub tells : TellsReader dir c k may
   pub follows : FoundIfMay dir Read answers.archive may done
 
--- the posts a to b, the thread of a post, and the index of a group, by the files that tell them
+-- the posts a to b, the thread of a post, and the index of a group, by the files that have them
 abbrev pub TellsRange : Dir → ℕ → ℕ → Type 0
 TellsRange dir a b = (row : List ℕ) × IsRangeByFiles dir a b row
 
@@ -67,18 +67,18 @@ TellsThread dir prefix n = (row : List ℕ) × IsThreadAnswer dir prefix n row
 abbrev pub TellsIndex : Dir → ℕ → Type 0
 TellsIndex dir group = (entries : List Entry) × IsIndexByFiles dir group entries
 
--- and of who asks for the members of a set
+-- and about somebody who asks for the members of a set
 pub record FoundToList (dir : Dir) (c : Config) (set : Set) (k : Text) (done : List Put × Reply) : Type 0 where
   pub may : Bool
   pub tells : TellsLister dir c k may
   pub follows : FoundIfMay dir ((to : List Text) × SpellsAddresses dir set to) answers.members may done
 
--- mail to the owner, and no other
+-- one mail, to the owner
 pub record FoundToOwner (dir : Dir) (done : List Put × Reply) : Type 0 where
   pub queued : QueuesMail dir done.0
   pub is : done.1 ≡ answers.owner
 
--- whether a bounce counts: only where the key is a member, and then by what else is read
+-- whether a bounce counts: only if the key is a member's, and then by what else is read
 abbrev pub IfMember : Dir → Set → Text → Type 0 → Bool → Type 0
 IfMember dir set k Read true = TellsMember dir set k true × Read
 IfMember dir set k Read false = TellsMember dir set k false ⊎ (TellsMember dir set k true × Read)
@@ -102,7 +102,7 @@ pub record FoundOfBounce (dir : Dir) (set : Set) (k : Text) (Read : Type 0) (Fol
   pub tells : IfMember dir set k Read counts
   pub follows : FoundIfCounts Follows counts done
 
--- a member leaves by a bounce, or not
+-- a member leaves by a bounce
 pub record FoundToDrop (dir : Dir) (set : Set) (k : Text) (done : List Put × Reply) : Type 0 where
   pub answer : Option (List Put)
   pub found : FoundToLeave dir set k answer
@@ -128,7 +128,7 @@ FoundManaged dir c sender (Index at) done = FoundToRead dir c (key sender) (Tell
 FoundManaged dir c sender (Thread at) done = FoundToRead dir c (key sender) (TellsThread dir c.prefix at) done
 FoundManaged dir c sender _ done = SendsMail dir [] answers.help done
 
--- one of a sender who may be no address, with a message that may be from a list
+-- one of a sender that may not be an address, with a message that may be from a list
 abbrev pub FoundBySender : Dir → Config → Option Text → Text → PlainRequest → List Put × Reply → Type 0
 FoundBySender dir c None m request done = Says answers.nosender done
 FoundBySender dir c (Some who) m request done = ((has_field (codes "mailing-list") m ≡ true) × Says answers.looped done) ⊎ FoundManaged dir c who request done

@@ -1,4 +1,4 @@
--- What bounces make of a list.
+-- What a bounce makes of a list, by the moment and the letters that it has.
 use Rattle.std.specs.Prelude.{ℕ, ◌&&◌, if◌then◌else◌, List, Option, Some, None, codes}
 use Rattle.ml_address.specs.Requests.{PlainWho, Signed}
 use Rattle.ml_base.specs.Address.{key}
@@ -12,7 +12,7 @@ use Rattle.ml_plain.specs.Bouncing.{if_changed, if_probed}
 use Rattle.ml_plain.specs.Mailing.{is_good}
 use Rattle.ml_plain.specs.Plain.{Plain, is_in, ledger_of}
 
--- what the puts of a ledger's change are answered
+-- the reply to a bounce, by the puts of the ledger's change, if there are any
 abbrev pub change_reply : Option (List Put) → Reply
 change_reply None = ignored
 change_reply (Some puts) = bounce

@@ -25,7 +25,7 @@ use Rattle.ml_acts.specs.Damaged.{IsDamaged}
 use Rattle.ml_acts.specs.Doing.{Alike, is_bucket, is_bucket_of, is_entry_of, is_index, is_thread_file}
 use Rattle.ml_queue.specs.Answers.{ids_name}
 
--- the file that tells which numbers of a set were used: the mark of the digests, or the number of posts
+-- the file that says which numbers of a set were used: the mark of the digests, or the number of posts
 abbrev pub is_counted_in : Set → Name → Bool
 is_counted_in sets.Digest name = same_name name mark_name
 is_counted_in _ name = same_name name number_name
@@ -69,7 +69,7 @@ is_post_within a b name = is_post_file name && (nat_le a name.at && nat_le name.
 abbrev pub is_seen_of_posts : ℕ → ℕ → Name → Bool
 is_seen_of_posts a b name = is_of_posts a b name || is_post_within a b name
 
--- two directories have the same files of those that tell of each post of a row
+-- two directories have the same files for every post of a row
 abbrev pub AlikeEach : List ℕ → Dir → Dir → Type 0
 AlikeEach ns old dir = (n : ℕ) → IsAmong ns n → Alike (is_seen_of_posts n n) old dir
 
@@ -81,11 +81,11 @@ is_of_thread name = is_of_range name || is_thread_file name
 abbrev pub is_seen_of_thread : Name → Bool
 is_seen_of_thread name = is_of_thread name || is_post_file name
 
--- the index of a post's group, where it is one that posts can have
+-- the index of a post's group, if posts can have that group
 abbrev pub is_of_index : ℕ → Name → Bool
 is_of_index at name = nat_lt (at / 100) 1_000_000 && same_name name (index_name (at / 100))
 
--- the members of a set for a sender: the moderators, where `l` is set, and the set
+-- the members of a set for a sender: the moderators if `l` is set, and the set
 abbrev pub is_of_members : Config → Text → Set → Name → Bool
 is_of_members c sender set name = (c.flags.l && is_bucket_of sets.Moderators sender name) || is_bucket set name || same_name name ids_name
 
@@ -100,7 +100,7 @@ is_asked_of c sender (Index at) name = is_of_reader c sender name || is_of_index
 is_asked_of c sender (Thread at) name = is_of_reader c sender name || is_of_thread name || same_name name ids_name
 is_asked_of c sender _ name = same_name name ids_name
 
--- and of a sender who may be no address
+-- and one of a sender that may not be an address
 abbrev pub is_read_for : Config → Option Text → PlainRequest → Name → Bool
 is_read_for c None request name = false
 is_read_for c (Some who) request name = is_asked_of c who request name
@@ -130,7 +130,7 @@ is_seen_for c who request name = is_post_asked request name || is_read_for c who
 abbrev pub is_seen_for_sender : Config → Text → PlainRequest → Name → Bool
 is_seen_for_sender c sender request name = is_post_asked request name || is_read_for_sender c sender request name
 
--- what is done here is asked: neither a post nor a moderator's answer, with its parts in their ranges
+-- a request that this crate answers: neither a post nor a moderator's answer, with its parts in their ranges
 abbrev pub is_managed : PlainRequest → Bool
 is_managed Post = false
 is_managed (Accept ticket cookie) = false
@@ -139,7 +139,7 @@ is_managed Other = true
 is_managed request = is_in_range request
 
 -- What a request asks of the archive: a file of it that is named is damaged for the posts of its range, the index of its post's group, its
--- thread, or how many posts there are. Nothing else that is asked reads the archive.
+-- thread, or the number of posts. No other request reads the archive.
 abbrev pub IsForRequest : Dir → Config → PlainRequest → Name → Type 0
 IsForRequest dir c (Get from to) name = is_of_archive name ≡ true → IsBadFor dir (Range from (unwrap_or to from)) name
 IsForRequest dir c (Index at) name = is_of_archive name ≡ true → IsBadFor dir (Group (at / 100)) name
@@ -147,7 +147,7 @@ IsForRequest dir c (Thread at) name = is_of_archive name ≡ true → IsBadFor d
 IsForRequest dir c (Bounce set number who) name = is_of_archive name ≡ true → IsBadFor dir Count name
 IsForRequest dir c _ name = Unit {0}
 
--- a damaged file: one of the archive is damaged for what the request asks of it
+-- a damaged file; if it is one of the archive, it is damaged for what the request asks
 pub record IsDamagedFor (dir : Dir) (c : Config) (request : PlainRequest) (name : Name) : Type 0 where
   pub damaged : IsDamaged dir name
   pub own : IsForRequest dir c request name

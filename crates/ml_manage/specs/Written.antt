@@ -16,12 +16,12 @@ is_written_of sender (Unsubscribe set who) name = is_changed_for set (asked_of s
 is_written_of sender (Confirm word set s) name = is_written_to_confirm word set (address_named s.who) name
 is_written_of sender _ name = is_of_queue name
 
--- and of a sender who may be no address
+-- and one of a sender that may not be an address
 abbrev pub is_written_for : Option Text → PlainRequest → Name → Bool
 is_written_for None request name = false
 is_written_for (Some who) request name = is_written_of who request name
 
--- the files that a sender's mail may write: a bounce those of the address that it names in the set, and no queue
+-- the files that a sender's mail may write: a bounce writes only those of the address that it names in the set, and not the queue
 abbrev pub is_written_for_sender : Text → PlainRequest → Name → Bool
 is_written_for_sender sender (Bounce set number who) name = is_entry_of set (address_named who) name
 is_written_for_sender sender (WarnBounce set s) name = is_entry_of set (address_named s.who) name

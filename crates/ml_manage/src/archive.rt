@@ -1,4 +1,4 @@
-// Answers from the archive: to whom it is open, and what they are.
+// Answers from the archive: to whom it is open, and the texts that it gives.
 ghost use Rattle.std.specs.Prelude.{◌≡◌, ◌/◌, ◌&&◌, ◌||◌, ◌++◌, not, [], true, unwrap_or, IsTrue, IfOk, OnOk};
 ghost use Rattle.ml_filing.specs.Answers.{IsPostName};
 ghost use Rattle.ml_filing.specs.Archive.{number_name};
@@ -34,7 +34,7 @@ use ml_plain::Reply;
 use ml_reply::Mail;
 use std::alloc::Global;
 
-// The posts from one number to another, or one post, for whom the archive is open to.
+// The posts from one number to another, or one post, for a sender to whom the archive is open.
 pub(crate) fn get<F: Files>(
     alloc: Global,
     files: &mut F,
@@ -56,7 +56,7 @@ pub(crate) fn get<F: Files>(
     mail_lines(alloc, files, config, now, sender, lines)
 }
 
-// The thread of a post, for whom the archive is open to.
+// The thread of a post, for a sender to whom the archive is open.
 pub(crate) fn thread_of<F: Files>(
     alloc: Global,
     files: &mut F,
@@ -78,7 +78,7 @@ pub(crate) fn thread_of<F: Files>(
     mail_lines(alloc, files, config, now, sender, lines)
 }
 
-// The index of a post's group, for whom the archive is open to.
+// The index of a post's group, for a sender to whom the archive is open.
 pub(crate) fn index_of<F: Files>(
     alloc: Global,
     files: &mut F,
@@ -117,7 +117,7 @@ fn may_read<F: Files>(
     is_open_to(alloc, files, config, sender)
 }
 
-// Whether it is open to a sender who is no moderator.
+// Whether it is open to a sender who isn't a moderator.
 fn is_open_to<F: Files>(
     alloc: Global,
     files: &mut F,
@@ -138,7 +138,7 @@ fn is_open_to<F: Files>(
     is_subscriber(alloc, files, sender)
 }
 
-// Whether an address is in the list or the digest.
+// Whether an address is in the set list or digest.
 fn is_subscriber<F: Files>(alloc: Global, files: &mut F, who: &Address) -> Result<bool, PartError>
     ensures apart { IsTrue F.tells → IfOk result (λ is. (dir : Dir) (p : Plain) → Alike (λ name. is_bucket_of sets.List who.now name || is_bucket_of sets.Digest who.now name) (F.map files.old) dir → IsList dir p → is ≡ (is_in p sets.List who.now || is_in p sets.Digest who.now)) }
     ensures found { IsTrue F.tells → IfOk result (TellsSubscriber (F.map files.old) (key who.now)) }
@@ -227,7 +227,7 @@ fn index_text<F: Files>(alloc: Global, files: &mut F, at: u64) -> Result<Bytes, 
     Ok(entries_text(alloc, entries.as_slice())?)
 }
 
-// The text of the posts of some numbers, or a line where there are none.
+// The text of the posts of some numbers, or a line that says that there are none.
 fn posts_text<F: Files>(
     alloc: Global,
     files: &mut F,
@@ -244,7 +244,7 @@ fn posts_text<F: Files>(
     all_posts(alloc, files, config, numbers)
 }
 
-// The posts of some numbers, one behind the other.
+// The texts of the posts of some numbers, one after another.
 fn all_posts<F: Files>(
     alloc: Global,
     files: &mut F,
@@ -262,7 +262,7 @@ fn all_posts<F: Files>(
     Ok(out)
 }
 
-// Adds the post of a number, where it is there.
+// Adds the post of a number, if it is there.
 fn add_one<F: Files>(
     alloc: Global,
     files: &mut F,

@@ -1,4 +1,4 @@
-// What bounces do: of mail to a member, of a warning and of a probe.
+// What a bounce does: of mail to a member, of a warning, and of a probe.
 ghost use Rattle.std.specs.Prelude.{◌≡◌, ◌⊎◌, ◌≤◌, ◌&&◌, ◌||◌, true, IsTrue, IfErr, IfOk};
 ghost use Rattle.ml_address.specs.Requests.{is_mailed};
 ghost use Rattle.ml_base.specs.Address.{key};
@@ -36,7 +36,7 @@ use ml_filing::count;
 use ml_plain::Reply;
 use std::alloc::Global;
 
-// A bounce of mail of a number to an address: it is noted, where the address is a member and the number was used.
+// A bounce of mail with a number to an address: it is noted, if the address is a member and the number was used.
 pub(crate) fn bounced<F: Files>(
     alloc: Global,
     files: &mut F,
@@ -58,7 +58,7 @@ pub(crate) fn bounced<F: Files>(
     noted(alloc, files, now, set, number, x)
 }
 
-// Whether mail of a number may have gone to an address: it is a member, and the number was used.
+// Whether mail with a number may have gone to an address: it is a member, and the number was used.
 fn was_mailed<F: Files>(
     alloc: Global,
     files: &mut F,
@@ -92,7 +92,7 @@ fn is_used<F: Files>(alloc: Global, files: &mut F, set: Set, number: u64) -> Res
     }
 }
 
-// Whether a number is one of a digest that was sent.
+// Whether a number is that of a digest that was sent.
 fn is_issue<F: Files>(alloc: Global, files: &mut F, number: u64) -> Result<bool, PartError>
     ensures apart { IsTrue F.tells → IfOk result (λ is. (dir : Dir) (p : Plain) → dir mark_name ≡ F.map files.old mark_name → IsList dir p → is ≡ spec.is_used p sets.Digest number) }
     ensures spared { IsTrue F.tells → (dir : Dir) (p : Plain) → dir mark_name ≡ F.map files.old mark_name → IsList dir p → IfErr result (λ e. OnDamaged e (λ _. ⊥)) }
@@ -104,7 +104,7 @@ fn is_issue<F: Files>(alloc: Global, files: &mut F, number: u64) -> Result<bool,
     Ok(1 <= number && number <= mark.issue)
 }
 
-// Whether a number is one of a post that was sent.
+// Whether a number is that of a post that was sent.
 fn is_post<F: Files>(alloc: Global, files: &mut F, number: u64) -> Result<bool, PartError>
     ensures apart { IsTrue F.tells → IfOk result (λ is. (dir : Dir) (p : Plain) → dir number_name ≡ F.map files.old number_name → IsList dir p → is ≡ spec.is_used p sets.List number) }
     ensures found { IsTrue F.tells → IfOk result (λ _. TellsUsed (F.map files.old) sets.List) }
@@ -115,7 +115,7 @@ fn is_post<F: Files>(alloc: Global, files: &mut F, number: u64) -> Result<bool, 
     Ok(1 <= number && number <= count)
 }
 
-// A number is noted, unless it was before.
+// A number is noted, unless it was noted before.
 fn noted<F: Files>(
     alloc: Global,
     files: &mut F,
@@ -134,7 +134,7 @@ fn noted<F: Files>(
     Ok(changed(alloc, answer))
 }
 
-// The puts of a ledger's change, and what is answered.
+// The puts of a ledger's change, and the reply.
 fn changed(alloc: Global, answer: Option<Txn>) -> (Txn, Reply)
     ensures puts { result.0 ≡ puts_of answer }
     ensures reply { result.1 ≡ change_reply answer }
@@ -209,7 +209,7 @@ fn is_cookie<F: Files>(
     Ok(is_good(&keys, kind, set, time, who.as_slice(), letters, now))
 }
 
-// The stage of a member who was warned at a moment says from now on that the warning failed.
+// The stage of a member who was warned at a moment becomes that the warning failed.
 fn warning_failed<F: Files>(
     alloc: Global,
     files: &mut F,

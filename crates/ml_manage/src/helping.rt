@@ -1,4 +1,4 @@
-// Help, and mail to the owner.
+// The help text, and mail that goes on to the owner.
 ghost use Rattle.std.specs.Prelude.{◌≡◌, ◌∷◌, [], true, IsTrue, IfOk};
 ghost use Rattle.ml_base.specs.Address.{key};
 ghost use Rattle.ml_base.specs.Dir.{Dir, same_name};

@@ -1,4 +1,5 @@
-//! What mail to the list's other addresses does: bounces, answers from the archive, help, and mail to the owner.
+//! What mail to the list's other addresses does, except for moderators' answers: bounces, requests to join and to leave, answers from the
+//! archive, the members of a set, help, and mail to the owner.
 #![tactic(auto)]
 
 mod archive;

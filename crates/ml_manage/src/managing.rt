@@ -1,4 +1,4 @@
-// A request: the first rule that applies decides.
+// What a request does: the first rule that applies decides.
 ghost use Rattle.std.specs.Prelude.{◌≡◌, true, codes, IsTrue, IfErr, IfOk};
 ghost use Rattle.ml_address.specs.Requests.{Bounce, WarnBounce, ProbeBounce, is_in_range};
 ghost use Rattle.ml_address.specs.Views.{request_view, who_view};
@@ -38,14 +38,14 @@ use ml_joining::{confirm, subscribe, unsubscribe};
 use ml_plain::Reply;
 use std::alloc::{AllocError, Global};
 
-/// What a request does that mail to one of the list's addresses asks, of an envelope sender with a message: the puts, and the
+/// What a request does that mail to one of the list's addresses makes, with this envelope sender and this message: the puts, and the
 /// reply. The request is neither a post nor a moderator's answer, and its parts are in their ranges; `now` is in seconds since 1970. What
-/// it does is said of the files with the configuration in the place of theirs.
+/// it does is said of the files with the configuration in place of theirs.
 ///
-/// Bounces are noted and mail to the owner goes on whoever sent it. Of the others a sender who is no address is answered
-/// `nosender`, and a message from a list `looped`. `Damaged` names a file that the request may read, by its own numbers, and that is outside
-/// its grammar, or names what isn't there. What other files hold than those and the posts
-/// that it asks for makes no difference, nor whether they are damaged. `Fault` comes only if a read failed.
+/// Bounces are noted, and mail to the owner goes on, whoever sent it. For the others, a sender that isn't an address is answered
+/// `nosender`, and a message from a list `looped`. `Damaged` names a file that the request may read and that is damaged for what it asks:
+/// it is outside its grammar, or names what isn't there. Only the files that it may read and the posts that it asks for are looked at: what
+/// others hold, and whether they are damaged, makes no difference. `Fault` comes only if a read failed.
 pub fn manage<F: Files>(
     alloc: Global,
     files: &mut F,
@@ -167,7 +167,7 @@ fn of_probe<F: Files>(
     probe_bounced(alloc, files, now, set, time, letters, &x)
 }
 
-// A request of a sender who may be no address, with a message that may be from a list.
+// A request of a sender that may not be an address, with a message that may be from a list.
 fn by_sender<F: Files>(
     alloc: Global,
     files: &mut F,
@@ -195,7 +195,7 @@ fn by_sender<F: Files>(
     managed(alloc, files, config, now, &who, request)
 }
 
-// The address of an envelope sender, or None where it is none.
+// The address of an envelope sender, or None if it isn't one.
 fn usable(alloc: Global, sender: &[u8]) -> Result<Option<Address>, AllocError>
     ensures { IfOk result (λ found. found ≡ address_of sender.now) }
 {

@@ -1,4 +1,4 @@
-// Who is in a set.
+// Who is in a set, and who may know it.
 ghost use Rattle.std.specs.Prelude.{◌≡◌, ◌&&◌, ◌||◌, true, IsTrue, IfOk};
 ghost use Rattle.ml_base.specs.Dir.{Dir};
 ghost use Rattle.ml_base.specs.ReadFiles.{IsReading, NamesDamaged};
@@ -40,7 +40,7 @@ pub(crate) fn is_member<F: Files>(
     member(alloc, files, set, who)
 }
 
-// The members of a set go to a sender, for moderators where `l` is set.
+// The members of a set go to a sender: only to moderators, and only if `l` is set.
 pub(crate) fn members<F: Files>(
     alloc: Global,
     files: &mut F,

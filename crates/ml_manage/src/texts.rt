@@ -1,4 +1,4 @@
-// The texts that are answered from the archive, each piece added at the end of a buffer.
+// The texts of answers from the archive, put together piece by piece at the end of a buffer.
 ghost use Rattle.std.specs.Prelude.{◌≡◌, ◌++◌, min, codes, OnOk, IfOk};
 ghost use Rattle.std.specs.Fmt.{decimal};
 ghost use Rattle.std.specs.List.{flat_map};
@@ -13,14 +13,14 @@ use ml_filing::{Entry, Post};
 use ml_reply::date_text;
 use std::alloc::{AllocError, Global};
 
-// The line of an answer where there are no such posts.
+// The line of an answer if there are no such posts.
 pub(crate) fn no_posts(alloc: Global) -> Result<Bytes, AllocError>
     ensures { IfOk result (λ text. text ≡ words.no_posts) }
 {
     Bytes::from_slice(alloc, b"No such posts.\n")
 }
 
-// LOCAL@HOST.
+// Adds LOCAL@HOST.
 fn add_list(out: &mut Bytes, config: &Config) -> Result<(), AllocError>
     ensures { OnOk result (out.new ≡ out.old ++ post_address config.now.local config.now.host) }
 {
@@ -29,7 +29,7 @@ fn add_list(out: &mut Bytes, config: &Config) -> Result<(), AllocError>
     out.extend(config.host.as_slice())
 }
 
-// A text, and an LF where it doesn't end in one.
+// Adds a text, and an LF if it doesn't end in one.
 fn add_ended(out: &mut Bytes, text: &[u8]) -> Result<(), AllocError>
     ensures { OnOk result (out.new ≡ out.old ++ with_line_end text.now) }
 {
@@ -40,7 +40,7 @@ fn add_ended(out: &mut Bytes, text: &[u8]) -> Result<(), AllocError>
     out.push(b'\n')
 }
 
-// The line before a post.
+// Adds the line before a post.
 fn add_first_line(out: &mut Bytes, config: &Config, number: u64) -> Result<(), AllocError>
     ensures { OnOk result (out.new ≡ out.old ++ (codes "--- post " ++ decimal number ++ codes " of " ++ post_address config.now.local config.now.host ++ codes " ---" ++ lf)) }
 {
@@ -52,7 +52,7 @@ fn add_first_line(out: &mut Bytes, config: &Config, number: u64) -> Result<(), A
     out.push(b'\n')
 }
 
-// A post behind a line with its number, and an empty line.
+// Adds a line with a post's number, the post, and an empty line.
 pub(crate) fn add_post(
     out: &mut Bytes,
     config: &Config,
@@ -66,7 +66,7 @@ pub(crate) fn add_post(
     out.push(b'\n')
 }
 
-// The line of an entry with its number, its date and its sender.
+// Adds the line of an entry with its number, its date and its sender.
 fn add_head(out: &mut Bytes, entry: &Entry) -> Result<(), AllocError>
     ensures { OnOk result (out.new ≡ out.old ++ (decimal entry.now.number ++ codes ": " ++ date_of (min entry.now.moment 253_402_300_799) ++ codes "; " ++ entry.now.sender ++ lf)) }
 {
@@ -78,7 +78,7 @@ fn add_head(out: &mut Bytes, entry: &Entry) -> Result<(), AllocError>
     out.push(b'\n')
 }
 
-// The two lines of an entry.
+// Adds the two lines of an entry.
 fn add_entry(out: &mut Bytes, entry: &Entry) -> Result<(), AllocError>
     ensures { OnOk result (out.new ≡ out.old ++ words.entry_text entry.now) }
 {
@@ -88,7 +88,7 @@ fn add_entry(out: &mut Bytes, entry: &Entry) -> Result<(), AllocError>
     out.push(b'\n')
 }
 
-// The lines of the entries of an index, or one where there are none.
+// The lines of the entries of an index, or the line that says that there are none.
 pub(crate) fn entries_text(alloc: Global, entries: &[Entry]) -> Result<Bytes, AllocError>
     ensures { IfOk result (λ text. text ≡ words.entries_text entries.now) }
 {

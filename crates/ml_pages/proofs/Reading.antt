@@ -1,4 +1,4 @@
--- Files that are in their grammar, up to one, and the pages that they have.
+-- Which files are in their grammar if reading stops at one, and which pages there are then.
 use Rattle.std.proofs.Common.{◌≡◌, ◌≢◌, ◌<◌, ◌+◌, ⊎_elim, ◌==◌, ◌∙◌, ℕ, Bool, true, false, cond, List, [], ◌∷◌, length, Option, Some, None, ap, refl, sym, subst, arith}
 use Rattle.std.proofs.lemmas.Bool.{eqb-true, eqb-false}
 use Rattle.ml_base.specs.Bytes.{Text}
@@ -22,7 +22,7 @@ module _ (P : ℕ → Type 0) where
       go true is = let same = eqb-true g n is in subst P (sym same) last
       go false is = let apart = eqb-false g n is in before g (omega (arith, less, apart))
 
--- an index that is there for so few groups is in its grammar
+-- an index that is there for fewer than 1,000,000 groups is in its grammar
 pub index_read : (dir : Dir) (g : ℕ) (entries : List Entry) → g < 1_000_000 → IsIndexByFiles dir g entries → IsIndexRead dir g
 index_read dir g entries low is = ⊎_elim (λ read. (entries, read.1)) (λ past. absurd (let high = past.0 in omega (arith, low, high))) is
 
@@ -33,7 +33,7 @@ no_numbers (n ∷ ns) e = absurd (omega (arith, e))
 no_text : (text : Text) → ◌≡◌ {A = Option Text} (Some text) None → ⊥
 no_text text e = cc
 
--- no page of a thread under a post that isn't its first, none where nothing is on it, and one else
+-- no page of a thread for a post that isn't its first, and none if nothing is on it; otherwise one
 pub page_of_another : (first page : ℕ) (t : Thread) → is_first first t.numbers ≡ false → IsPageFound first page (Some t) None
 page_of_another first page t is = (λ _. ap (λ (b : Bool). cond b (on_page page t.numbers) []) is, λ _. refl)
 

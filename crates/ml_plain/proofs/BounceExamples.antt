@@ -50,7 +50,7 @@ warning_path : option_map (λ out. out.path) (entry 2 (fold member (first_bounce
 unfolding step step0 request_of request_text verdict sent_text mail_text date_text civil_of cookie sha256 hash_after digest_bytes compress rounds schedule first_words digits
 warning_path = refl
 
--- no bounce came of the probe for long: the entry goes, and the probe's bounce drops nobody any more
+-- the probe didn't bounce for long: the entry goes, and the probe's bounce drops nobody any more
 lapsed : text member (course ++ timed 1003020000 ∷ probe_bounce 1003020000 ∷ []) ≡ text member course ++ codes "0 0 timed 0\n0 0 ignored\n"
 unfolding step step0 request_of request_text verdict sent_text mail_text date_text civil_of cookie sha256 hash_after digest_bytes compress rounds schedule first_words digits
 lapsed = refl
@@ -59,7 +59,7 @@ no_entry_left : (fold member (course ++ timed 1003020000 ∷ [])).plain.list_led
 unfolding step step0 request_of request_text verdict sent_text mail_text date_text civil_of cookie sha256 hash_after digest_bytes compress rounds schedule first_words digits
 no_entry_left = refl
 
--- who leaves and comes back begins anew
+-- whoever leaves and comes back begins anew
 begins_anew : text member (first_bounce ∷ item 70 1000020000 (Remove sets.List (codes "a@b")) ∷ add (codes "a@b") ∷ timed 1001010000 ∷ [])
     ≡ codes "0 0 bounce\n70 0 unsubscribed\n0 0 subscribed\n0 0 timed 0\n"
 unfolding step step0 request_of request_text verdict sent_text mail_text date_text civil_of cookie sha256 hash_after digest_bytes compress rounds schedule first_words digits

@@ -30,7 +30,7 @@ use Rattle.ml_plain.proofs.Places.{fold_snoc, grown, happened, before}
 use Rattle.ml_plain.proofs.TimedTrace.{timed_traced}
 use Rattle.ml_plain.proofs.Tracing.{deliver_traced, add_traced, remove_traced, sent_traced, rekey_traced}
 
--- each step, by its act
+-- every step, by its act
 act_traced : (p : Plain) (item : Item) (a : Act) → item.act ≡ a → Traced p (steps.act_step p item.moment a).0 item
 act_traced p item (Deliver sender recipient m) e = deliver_traced p item sender recipient m e
 act_traced p item Timed e = timed_traced p item e
@@ -44,7 +44,7 @@ step_traced : (p : Plain) (item : Item) → Traced p (steps.step0 p item).0 item
 unfolding steps.step0
 step_traced p item = act_traced p item item.act refl
 
--- that a warning or a probe was queued
+-- a timed run queued a warning or a probe
 mail_told : (p : Plain) (x : Item) (kind : Text) (mail : Text → Mail) (set : Set) (k : Text) → x.act ≡ Timed
     → Queued p (steps.step0 p x).0 kind mail set k x.moment → IsTimedMail p x kind mail set k
 mail_told p x kind mail set k timed q =
@@ -58,7 +58,7 @@ module _ (c : Config) (ck : Text) (set : Set) (k : Text) where
   abbrev Since : List Item → ℕ → Type 0
   Since h first = (i : ℕ) → first ≤ i → i ≤ length h → has_key k ((after c ck (take i h)).sets set) ≡ true
 
-  -- a member behind a history
+  -- a member after a history
   abbrev Member : List Item → Type 0
   Member h = has_key k ((after c ck h).sets set) ≡ true
 
@@ -116,7 +116,7 @@ module _ (c : Config) (ck : Text) (set : Set) (k : Text) where
     at : Happened c ck h fourth moment (IsProbe set k)
     long : 1_000_000 ≤ moment - failed
 
-  -- what a stage tells of a history
+  -- what a stage says about a history
   StageOf : List Item → Stage → Type 0
   StageOf h Unwarned = Unit {0}
   StageOf h (Warned t) = WarnedAt h t
@@ -146,7 +146,7 @@ module _ (c : Config) (ck : Text) (set : Set) (k : Text) where
   abbrev Missed : List Item → LedgerEntry → Type 0
   Missed h e = (n : ℕ) (more : List ℕ) → e.missed ≡ n ∷ more → Bounced h e.first n
 
-  -- what an entry tells of a history
+  -- what an entry says about a history
   record Told (h : List Item) (e : LedgerEntry) : Type 0 where
     missed : Missed h e
     stage : StageOf h e.stage
@@ -158,7 +158,7 @@ module _ (c : Config) (ck : Text) (set : Set) (k : Text) where
   unfolding StageOf
   nothing_told h = record { missed = λ n more is. absurd (let bad : [] ≡ n ∷ more = is in cc); stage = tt }
 
-  -- each entry of the key tells what happened, and the key is a member
+  -- the entry of the key says what happened, and the key is a member's
   abbrev Entry : List Item → Type 0
   Entry h = (e : LedgerEntry) → find_entry k (ledger_of (after c ck h) set) ≡ Some e → Member h × Told h e
 
@@ -257,7 +257,7 @@ module _ (c : Config) (ck : Text) (set : Set) (k : Text) where
   }
   due_told h x (Probed t) old member found timed due mail missed stage = record { missed = missed_grows h x old member missed; stage = tt }
 
-  -- behind one more item
+  -- after one more item
   entry_told : (h : List Item) (x : Item) (e : LedgerEntry) → Entry h → (Member h → Member (h ++ x ∷ []))
       → Origin (after c ck h) (steps.step0 (after c ck h) x).0 x set k e → Member (h ++ x ∷ []) × Told (h ++ x ∷ []) e
   unfolding StageOf
@@ -302,7 +302,7 @@ module _ (c : Config) (ck : Text) (set : Set) (k : Text) where
         member = b.since;
       }
 
--- behind a history each ledger is in order, and each entry tells what happened
+-- after a history every ledger is in order, and every entry says what happened
 record Kept (c : Config) (ck : Text) (h : List Item) : Type 0 where
   sorted : (set : Set) → IsLedgerSorted (ledger_of (after c ck h) set)
   entries : (set : Set) (k : Text) → Entry c ck set k h

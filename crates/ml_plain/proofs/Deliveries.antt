@@ -1,4 +1,4 @@
--- What a delivery does and is answered, by its request.
+-- What a delivery does and how it is answered, by its request.
 use Rattle.std.proofs.Common.{◌≡◌, Bool, true, false, Some, ap, ◌∙◌}
 use Rattle.ml_base.specs.Bytes.{Text}
 use Rattle.ml_address.specs.Requests.{PlainRequest}
@@ -15,7 +15,7 @@ use Rattle.ml_plain.specs.Steps as steps
 abbrev pub if_worn : Plain → Plain × Reply → Bool → Plain × Reply
 if_worn p r worn = elim worn [ true ↦ (p, answers.full) | false ↦ r ]
 
--- what a delivery is answered
+-- how a delivery is answered
 pub delivered : (p : Plain) (item : Item) (sender recipient m : Text) (r : PlainRequest) → item.act ≡ Deliver sender recipient m → is_worn p ≡ false
     → request_of p.config.local p.config.host recipient ≡ Some r → (steps.step0 p item).1 ≡ (managing.by_request item.moment sender m p r).1
 unfolding steps.step0

@@ -1,4 +1,4 @@
--- Each step makes the next digest or none.
+-- The proof that every step makes the next digest or none.
 use Rattle.std.proofs.Common.{◌≡◌, ℕ, ◌+◌, ◌-◌, ◌<◌, ◌≤◌, ◌⊎◌, inl, inr, Bool, true, false, cond, not, ◌==◌, ◌&&◌, List, [], ◌∷◌, ◌++◌, length, map, drop, filter, Option, Some, None, refl, sym, ap, ap₂, subst, ◌∙◌, codes, arith, if◌then◌else◌, is_some, nat_le, nat_lt}
 use Rattle.std.proofs.lemmas.Bool.{and_parts, not-true, true≢false}
 use Rattle.std.proofs.lemmas.List.{append_assoc, length-map, length-drop}
@@ -176,7 +176,7 @@ if_silent : (p : Plain) (a b : Plain × Reply) (t : Bool) → Silent p a.0 → S
 if_silent p a b true h k = h
 if_silent p a b false h k = k
 
--- what such a step keeps to
+-- what holds of every step
 
 abbrev Makes : Plain → Plain → ℕ → Type 0
 Makes p q now = MakesDigest p q now ⊎ MakesNoDigest p q
@@ -299,7 +299,7 @@ not_equal a b apart = go (bytes_eq a b) refl
     go true t = absurd (apart ((bytes_eq-Decides a b).0 t))
     go false t = t
 
--- a digest is made amid silent steps
+-- a digest is made between silent steps
 issued_makes : (p back q : Plain) (now : ℕ) (r : Range) → Below p → Silent p back → back.posts ≡ p.posts → back.sets ≡ p.sets
     → timing.digest_due now back ≡ Some r → Silent (timing.issue now back (Some r)) q → Makes p q now
 issued_makes p back q now r below before posts all is behind =

@@ -15,7 +15,7 @@ use Rattle.ml_plain.specs.Histories.{State, fresh, step, fold, text}
 use Rattle.ml_plain.specs.Verdicts.{verdict}
 use Rattle.ml_plain.proofs.ExampleItems.{usual, config, a_list, three, about, m, to_list, item, add, add_to, deliver, post_20}
 
--- each reply has the code of its word
+-- every reply has the code of its word
 own_words : map (λ r. word_of r.code) (answers.posted 0 ∷ answers.held 0 ∷ answers.timed 0 ∷ answers.subscribed ∷ answers.already ∷ answers.unsubscribed ∷ answers.absent ∷ answers.asked ∷ answers.archive ∷ answers.help ∷ answers.owner ∷ answers.members ∷ answers.bounce ∷ answers.ignored ∷ answers.dropped ∷ answers.rejected ∷ answers.gone ∷ answers.dequeued ∷ answers.noentry ∷ answers.full ∷ answers.toobig ∷ answers.nosender ∷ answers.looped ∷ answers.denied ∷ answers.nosubject ∷ answers.command ∷ answers.notaddressed ∷ answers.usersonly ∷ answers.notours ∷ answers.badcookie ∷ answers.private ∷ answers.rekeyed ∷ answers.toosoon ∷ answers.floored 0 ∷ answers.stale ∷ answers.badfloor ∷ [])
     ≡ codes "posted" ∷ codes "held" ∷ codes "timed" ∷ codes "subscribed" ∷ codes "already" ∷ codes "unsubscribed" ∷ codes "absent" ∷ codes "asked" ∷ codes "archive" ∷ codes "help" ∷ codes "owner" ∷ codes "members" ∷ codes "bounce" ∷ codes "ignored" ∷ codes "dropped" ∷ codes "rejected" ∷ codes "gone" ∷ codes "dequeued" ∷ codes "noentry" ∷ codes "full" ∷ codes "toobig" ∷ codes "nosender" ∷ codes "looped" ∷ codes "denied" ∷ codes "nosubject" ∷ codes "command" ∷ codes "notaddressed" ∷ codes "usersonly" ∷ codes "notours" ∷ codes "badcookie" ∷ codes "private" ∷ codes "rekeyed" ∷ codes "toosoon" ∷ codes "floored" ∷ codes "stale" ∷ codes "badfloor" ∷ []
 own_words = refl
@@ -63,7 +63,7 @@ refused : text (a_list usual) (
 unfolding step step0 request_of verdict sent_text digits
 refused = refl
 
--- the list stands in brackets, in the second Cc field
+-- the list's address is in brackets, in the second Cc field
 addressed : text (a_list usual) (deliver 6 0 (codes "a@b") to_list (codes "Cc: x\nCc: The list <LIST@ex.org>\nSubject: x\n\n") ∷ []) ≡ codes "6 0 posted 1\n"
 unfolding step step0 request_of verdict sent_text digits
 addressed = refl
@@ -90,7 +90,7 @@ worn : text (fresh (record (new_list (config usual) []) { queue = record { all =
 unfolding step step0 request_of verdict sent_text digits
 worn = refl
 
--- a floor under the kept replies
+-- a floor that makes old numbers stale
 abbrev twice : State
 twice = fold (a_list usual) (item 7 1000000000 (Add sets.List (codes "a@b")) ∷ item 8 1000000001 (Add sets.List (codes "A@B")) ∷ [])
 

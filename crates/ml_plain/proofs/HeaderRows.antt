@@ -11,7 +11,7 @@ use Rattle.ml_header.specs.Forms.{is_folded, IsField, AreEnded, Made}
 use Rattle.ml_header.proofs.OneForm.{all_lines, one_form}
 use Rattle.ml_plain.specs.MailFields.{one_line}
 
--- a name and what is put behind it, without an LF
+-- a name and what is put after it, without an LF
 pub record IsLine (name text : Text) : Type 0 where
   pub named : is_name name ≡ true
   pub no_colon : has_byte 58 name ≡ false

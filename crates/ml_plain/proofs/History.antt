@@ -1,4 +1,4 @@
--- Each numbered item counts once.
+-- The proof that every item with a number counts once.
 use Rattle.std.proofs.Common.{◌≡◌, ◌≢◌, ◌≤◌, ◌⊎◌, inl, inr, ℕ, zero, suc, Bool, true, false, not, cond, ◌&&◌, ◌||◌, eqb, leb, List, [], ◌∷◌, Option, Some, None, is_some, refl, sym, ap, ap₂, ◌∙◌, arith, take, slice_get}
 use Rattle.std.proofs.lemmas.Bool.{ne_eqb, eqb-true, eqb-false, le-leb, false≢true}
 use Rattle.ml_plain.specs.declared.Item.{Item}
@@ -10,7 +10,7 @@ use Rattle.ml_plain.specs.Once.{Past, has_number, is_live, past_with, past_from,
 use Rattle.ml_plain.specs.OnceLaws.{CountsOnce, AnswersOnce, IsRepeated}
 use Rattle.ml_plain.proofs.Turns.{Agrees, Way, refused, repeated, counted, way_of, agrees_more, effect_plain, effect_reply, effect_moved, step_stale, step_kept, below_not, below_no, below_is, keep_same, keep_other, live_new, number_more}
 
--- the list behind an item is the one behind the items that count
+-- the list after an item is the list after the items that count
 plain_step : (past : Past) (q : State) (x : Item) (rest : List Item) → Agrees past q
     → fold_plain (step q x).0.plain (once_from (past_with past x) rest) ≡ fold_plain q.plain (once_from past (x ∷ rest))
 plain_step past q x rest a = go (way_of past q x a)
@@ -151,7 +151,7 @@ again_from past q (x ∷ xs) (suc i) zero item first a at_i at_j le some same lo
 again_from past q (x ∷ xs) (suc i) (suc j) item first a at_i at_j le some same low =
     again_from (past_with past x) (step q x).0 xs i j item first (agrees_more past q x a) at_i at_j (omega (arith, le)) some same low
 
--- a number that was met was that of an item
+-- a number that a history says it had was that of one of its items
 met : (past : Past) (h : List Item) (i n : ℕ) → has_number (past_from past (take i h)).numbers n ≡ true → (has_number past.numbers n ≡ true) ⊎ IsRepeated h i n
 met past h zero n e = inl e
 met past [] (suc i) n e = inl e

@@ -15,7 +15,7 @@ use Rattle.ml_plain.specs.Steps.{step0}
 use Rattle.ml_plain.proofs.DigestLaw.{makes_digests, fold_config}
 use Rattle.ml_plain.proofs.Places.{fold_snoc, get_front, get_within, get_last, get_either, grown, happened}
 
--- issues that follow each other behind this post, each made at this place or behind it
+-- issues that follow each other after this post, each made at this place or later
 abbrev Follow : ℕ → ℕ → List Issue → Type 0
 Follow last place [] = Unit {0}
 Follow last place (x ∷ xs) = (x.range.first ≡ last + 1) × (x.range.first ≤ x.range.last) × (place ≤ x.at) × Follow x.range.last (x.at + 1) xs
@@ -25,7 +25,7 @@ abbrev last_post : ℕ → List Issue → ℕ
 last_post last [] = last
 last_post last (x ∷ xs) = last_post x.range.last xs
 
--- the first place behind issues
+-- the first place after issues
 abbrev place_behind : ℕ → List Issue → ℕ
 place_behind place [] = place
 place_behind place (x ∷ xs) = place_behind (x.at + 1) xs
@@ -67,7 +67,7 @@ next_of last place (x ∷ xs) (suc n) one two h e f =
     let step : suc n + 1 ≡ suc (n + 1) = omega arith in
     next_of x.range.last (x.at + 1) xs n one two h.3 e (subst (λ m. slice_get (x ∷ xs) m ≡ Some two) step f)
 
--- each begins behind the post that they follow
+-- every one begins after the post that they follow
 above : (last place : ℕ) (xs : List Issue) (n : ℕ) (x : Issue) → Follow last place xs → slice_get xs n ≡ Some x → last < x.range.first
 above last place [] n x h e = absurd (let bad : None ≡ Some x = e in cc)
 above last place (y ∷ ys) zero x h e = let same : y ≡ x = cc in let P : Issue → Type 0 = λ i. last < i.range.first in subst P same (omega (arith, h.0))
@@ -114,7 +114,7 @@ module _ (c : Config) (key : Text) where
     made : (n : ℕ) (issue : Issue) → slice_get issues n ≡ Some issue → Happened c key h issue.at issue.moment (MakesIssue (n + 1) issue.range)
     others : (at number : ℕ) (item : Item) → slice_get h at ≡ Some item → made_at at number h item ⊎ IsOneOf c issues at number
 
-  -- what a step made before, it made
+  -- a step made the same before the history grew
   made_front : (h : List Item) (x : Item) (at number : ℕ) (item : Item) → slice_get h at ≡ Some item → made_at at number h item → made_at at number (h ++ x ∷ []) item
   made_front h x at number item e is =
       subst (λ t. made_for number (after c key t) (step0 (after c key t) item).0 ≡ [])
@@ -123,7 +123,7 @@ module _ (c : Config) (key : Text) where
   made_last : (h : List Item) (x : Item) (number : ℕ) → made_for number (after c key h) (step0 (after c key h) x).0 ≡ [] → made_at (length h) number (h ++ x ∷ []) x
   made_last h x number is = subst (λ t. made_for number (after c key t) (step0 (after c key t) x).0 ≡ []) (sym (take_at h (x ∷ []) (length h) refl)) is
 
-  -- what holds at each place before and at the last one holds at each
+  -- what holds at every earlier place and at the last one holds at every place
   each_place : (h : List Item) (x : Item) (P : ℕ → Item → Type 0) → ((at : ℕ) (item : Item) → slice_get h at ≡ Some item → P at item) → P (length h) x
       → (at : ℕ) (item : Item) → slice_get (h ++ x ∷ []) at ≡ Some item → P at item
   each_place h x P front last at item e = elim (get_either h x at item e) [

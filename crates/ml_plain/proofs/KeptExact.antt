@@ -53,13 +53,13 @@ floor_is (Some text) floor e =
 pub floor_exact : (file : Option Text) (floor : ℕ) → IsFloorFile file floor ↔ (floor_in file ≡ Some floor)
 floor_exact file floor = (floor_there file floor, floor_is file floor)
 
--- zeros alone are as many zeros
+-- a text of zeros alone is that many zeros
 all_zeros : (text : Text) → list_all is_nul text ≡ true → text ≡ replicate (length text) 0
 all_zeros [] e = refl
 all_zeros (b ∷ bs) e =
     let parts = and_parts (b == 0) (list_all is_nul bs) e in ap₂ (λ (x : ℕ) (t : Text). x ∷ t) (eqb-true b 0 parts.0) (all_zeros bs parts.1)
 
--- each place of a text of bytes has a byte
+-- every place of a text of bytes has a byte
 small : (text : Text) → AllByRecursion (λ b. b < 256) text → (i : ℕ) → get_or text i 0 < 256
 small [] h i = omega arith
 small (b ∷ bs) h zero = h.0
@@ -91,7 +91,7 @@ fits_is n r o e = go (n == 0) refl (is_kept r) refl
     go false p true q =
         (sym (one_some (some r) o (sym (ap₂ (λ a b. if_fits r (not a && b)) p q) ∙ e)), (λ z. let bad : true ≡ false = sym (ap (λ m. m == 0) z) ∙ p in cc), q)
 
--- and bytes that are read as one spell it
+-- and bytes that are read as a reply, or as none, spell it
 pub slot_is : (n : ℕ) (text : Text) (o : Option Reply) → AllByRecursion (λ b. b < 256) text → reply_in n text ≡ Some o → IsSlot n o × (text ≡ slot_text o)
 unfolding slot_text
 slot_is n [] o bytes e = absurd (none_some o e)

@@ -1,4 +1,4 @@
--- Each step leaves what stood before it.
+-- The proof that every step leaves what was there before it.
 use Rattle.std.proofs.Common.{◌≡◌, ◌≢◌, ℕ, ◌+◌, ◌-◌, ◌≤◌, ◌==◌, ◌||◌, ◌⊎◌, inl, inr, ⊎_elim, Bool, true, false, not, cond, is_some, if◌then◌else◌, List, [], ◌∷◌, ◌++◌, filter, Option, Some, None, refl, sym, ap, subst, ◌∙◌, codes, arith}
 use Rattle.std.proofs.lemmas.Bool.{eqb-true, eqb-false, false≢true}
 use Rattle.std.proofs.lemmas.List.{append-nil, append_assoc}
@@ -63,7 +63,7 @@ left_again {E} P (x ∷ xs) ys zs (inl stays) two = go (subst (λ l. AreLeft P l
     go (inr gone) rest = inr (gone.0, rest zs gone.1)
 left_again {E} P (x ∷ xs) ys zs (inr gone) two = inr (gone.0, left_again P xs ys zs gone.1 two)
 
--- things that are drawn behind others
+-- things that are drawn after others
 
 record Grows {E : Type 0} (old new : Drawing E) : Type 0 where
   more : List (Drawn E)
@@ -296,7 +296,7 @@ took_timed P now p out =
 
 -- moderators' answers
 
--- what an answer is told that takes a held post out
+-- the reply to an answer that takes a held post out
 abbrev Told : Bool → Reply → Type 0
 Told true reply = reply.code ≡ 1
 Told false reply = reply ≡ answers.rejected
@@ -337,7 +337,7 @@ module _ (P : Reply → Drawn Held → Type 0) where
   held_by now ticket letters p accepts None out = calm p _ (still_self p)
   held_by now ticket letters p accepts (Some h) out = signed_by now ticket h p accepts _ (λ good. out h refl good)
 
-  -- a request takes out the held post that it names, where its letters are good
+  -- a request takes out the held post that it names, if its letters are good
   abbrev Allows : Plain → PlainRequest → Type 0
   Allows p r = (accepts : Bool) (ticket : ℕ) (letters : Text) (h : Held) → r ≡ asked_for accepts ticket letters → held_post ticket p.held ≡ Some h
       → is_cookie p (codes "hold") sets.Moderators h.moment (decimal ticket) letters ≡ true → (reply : Reply) (e : Drawn Held) → Told accepts reply → (e.number == ticket) ≡ true → P reply e

@@ -1,4 +1,4 @@
--- Each key leaves a set in one of the ways that are for it.
+-- The proof that a key leaves a set only in one of the ways that the law names.
 use Rattle.std.proofs.Common.{◌≡◌, ℕ, ◌⊎◌, inl, inr, Bool, true, false, List, [], ◌∷◌, Option, Some, None, refl, sym, ap, subst, ◌∙◌, codes, if◌then◌else◌, is_some}
 use Rattle.std.proofs.lemmas.Bool.{and_parts, eqb-true, false≢true, true≢false}
 use Rattle.std.specs.List.{AllByRecursion, fold}
@@ -44,7 +44,7 @@ use Rattle.ml_plain.proofs.Steps.{first_row_all}
 record By (W : Set → Text → Type 0) (p q : Plain) : Type 0 where
   by : (set : Set) (k : Text) → has_key k (p.sets set) ≡ true → has_key k (q.sets set) ≡ false → W set k
 
--- none does where the sets stay
+-- no key leaves if the sets stay
 none : (W : Set → Text → Type 0) (p q : Plain) → q.sets ≡ p.sets → By W p q
 none W p q e = record { by = λ set k there gone. absurd (true≢false (sym there ∙ sym (ap (λ all. has_key k (all set)) e) ∙ gone)) }
 
@@ -56,9 +56,6 @@ one W p own x w = record {
 }
 
 -- sets that stay
-
-posted_same : (now : ℕ) (sender m : Text) (p : Plain) → (posting.posted_now now sender m p).0.sets ≡ p.sets
-posted_same now sender m p = refl
 
 verdict_same : (now : ℕ) (sender m : Text) (p : Plain) (v : Verdict) → (posting.by_verdict now sender m p v).0.sets ≡ p.sets
 verdict_same now sender m p TooBig = refl
@@ -142,7 +139,7 @@ licensed : Type 0 → managing.Operation → Type 0
 licensed L managing.Leave = L
 licensed L _ = Unit {0}
 
--- what holds of each row whose test holds, and otherwise, holds of the first row that applies
+-- what holds of every row whose test holds, and of the value if none does, holds of the first row that applies
 first_row_tests : {A : Type 0} (P : A → Type 0) (rows : List (Bool × A)) (otherwise : A) → AllByRecursion (λ row. row.0 ≡ true → P row.1) rows → P otherwise → P (first_row rows otherwise)
 first_row_tests P [] otherwise h o = o
 first_row_tests P (row ∷ rows) otherwise h o = go row.0 refl (first_row_tests P rows otherwise h.1 o)
@@ -211,7 +208,7 @@ looped_by : (W : Set → Text → Type 0) (now : ℕ) (sender : Text) (p : Plain
 looped_by W now sender p r true h = none W p p refl
 looped_by W now sender p r false h = h
 
--- who unsubscribes himself or confirms it, and whose probe bounces
+-- those who unsubscribe themselves or confirm it, and those whose probe bounces
 asked_by : (p : Plain) (item : Item) (sender recipient m : Text) → item.act ≡ Deliver sender recipient m
     → (r : PlainRequest) → request_of p.config.local p.config.host recipient ≡ Some r
     → (o : Option Text) → address_of sender ≡ o → By (Ways p item) p (managing.by_sender item.moment m p r o).0

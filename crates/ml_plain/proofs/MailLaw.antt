@@ -1,4 +1,4 @@
--- What the list puts into the header of a mail has no LF, so the header is read as it was put together.
+-- What the list puts into the header of a mail has no LF, so the header is read as it was written.
 use Rattle.std.proofs.Common.{◌≡◌, ℕ, zero, suc, ◌+◌, ◌-◌, ◌*◌, ◌/◌, ◌%◌, true, false, ◌==◌, ◌||◌, List, [], ◌∷◌, ◌++◌, take, drop, map, codes, Option, Some, None, IfSome, refl, ap, ap₂, ◌∙◌, arith}
 use Rattle.std.specs.Fmt.{decimal}
 use Rattle.ml_base.specs.Bytes.{Text}
@@ -81,7 +81,7 @@ subject_clean c (Warn to set who numbers) l h = refl
 subject_clean c (Probe to set who) l h = refl
 subject_clean c (Archive to lines) l h = clean_both (codes "archive of ") (the_list c) refl (clean_both c.local (64 ∷ c.host) l h)
 
--- the lines of a header, each as a name and what stands behind its colon and a space
+-- the lines of a header, each as a name and what follows its colon and a space
 abbrev reply_row : Option Text → List (Text × Text)
 reply_row None = []
 reply_row (Some reply) = (codes "Reply-To", reply) ∷ []

@@ -1,4 +1,4 @@
--- Texts without an LF.
+-- Which texts have no LF: addresses, cookies, and the list's own addresses.
 use Rattle.std.proofs.Common.{◌≡◌, ℕ, zero, suc, ◌+◌, ◌/◌, ◌%◌, ◌<◌, Bool, true, false, cond, is_ok, ◌==◌, ◌||◌, List, [], ◌∷◌, ◌++◌, take, codes, Option, Some, None, refl, sym, ap, ap₂, ◌∙◌, arith}
 use Rattle.std.specs.Fmt.{decimal, digits, digits_onto, digit_glyph}
 use Rattle.std.specs.List.{list_all, flat_map}
@@ -110,7 +110,7 @@ named_line w e =
     let hosts = (both _ (list_all is_host_byte w.host) fit).1 in
     clean_both w.local (64 ∷ lower w.host) (parts_allowed w.local w.host e).0 (lower_line w.host hosts)
 
--- the parts of a text round its last `@`
+-- the parts of a text before and after its last `@`
 split_line : (text : Text) → Clean text → Clean (before_at (split_last 64 text)) × Clean (behind_at (split_last 64 text))
 split_line [] e = (refl, refl)
 split_line (x ∷ xs) e = let parts = neither (x == 10) (has_byte 10 xs) e in go (x == 64) (split_last 64 xs) parts.0 parts.1 (split_line xs parts.1)
@@ -170,8 +170,3 @@ module _ (local host : Text) (l : Clean local) (h : Clean host) where
   accept_line ticket key kind name moment what =
       let c = cookie key kind name moment what in
       around (Accept ticket c) (clean_both (codes "-accept-") (ticket_text ticket c) refl (ticket_line ticket c (cookie_line key kind name moment what)))
-
-  pub reject_line : (ticket : ℕ) (key kind name : Text) (moment : ℕ) (what : Text) → Clean (request_text local host (Reject ticket (cookie key kind name moment what)))
-  reject_line ticket key kind name moment what =
-      let c = cookie key kind name moment what in
-      around (Reject ticket c) (clean_both (codes "-reject-") (ticket_text ticket c) refl (ticket_line ticket c (cookie_line key kind name moment what)))

@@ -23,7 +23,7 @@ use Rattle.ml_plain.proofs.Leaving.{leaves_removed, ledger_sets, tied_text}
 use Rattle.ml_plain.proofs.Ledgers.{Elem, elem_left, IsLedgerSorted, found_forget, found_changed, sorted_forget, sorted_changed}
 use Rattle.ml_plain.proofs.Mailed.{Mailed}
 
--- a warning or a probe to the member of a key was put into the queue since a list
+-- between two lists, a warning or a probe to the member of a key was put into the queue
 pub record Queued (p q : Plain) (kind : Text) (mail : Text → Mail) (set : Set) (k : Text) (now : ℕ) : Type 0 where
   pub number : ℕ
   pub who : Text
@@ -39,7 +39,7 @@ Mails p q set k now (WarnFailed t) = Queued p q (codes "probe") (probe_to set) s
 Mails p q set k now (Warned t) = Unit {0}
 Mails p q set k now (Probed t) = Unit {0}
 
--- where an entry comes from that a ledger has behind a step: it stood there; a number was noted, of a member; the warning bounced;
+-- where an entry that a ledger has after a step comes from: it was there before; a number was noted, of a member; the warning bounced;
 -- or it was due, and its stage changed
 pub data Origin (p q : Plain) (item : Item) (set : Set) (k : Text) (e : LedgerEntry) : Type 0 where
   Same : (found : find_entry k (ledger_of p set) ≡ Some e) → Origin p q item set k e
@@ -79,7 +79,7 @@ pub calm_grown : (p q : Plain) (item : Item) → q.list_ledger ≡ p.list_ledger
     → ((set : Set) (k : Text) → has_key k (p.sets set) ≡ true → has_key k (q.sets set) ≡ true) → Traced p q item
 calm_grown p q item l d members = calm p q item (ledgers_of p q l d) members
 
--- an entry that is found where one ledger was replaced: in the new one, or in that of another set
+-- an entry that is found after one ledger was replaced: in the new one, or in that of another set
 pub found_in : (p : Plain) (own set : Set) (ledger : Ledger) (k : Text) (e : LedgerEntry) → find_entry k (ledger_of (with_ledger_of own ledger p) set) ≡ Some e
     → ((set ≡ own) × (find_entry k ledger ≡ Some e)) ⊎ (((set_number set == set_number own) ≡ false) × (find_entry k (ledger_of p set) ≡ Some e))
 found_in p sets.List sets.List ledger k e h = inl (refl, h)
@@ -118,7 +118,7 @@ own_number sets.Allow = refl
 own_number sets.Deny = refl
 own_number sets.Moderators = refl
 
--- a key stays that isn't the one that leaves, or in another set
+-- a key other than the one that leaves stays, and so does any key in another set
 pub key_stays : (p : Plain) (own : Set) (x : Text) (set : Set) (k : Text) → ((set ≡ own) × (k ≡ key x) → ⊥) → has_key k (p.sets set) ≡ true → has_key k ((removed own x p).sets set) ≡ true
 key_stays p own x set k other there = go (has_key k ((removed own x p).sets set)) refl
   where
@@ -126,7 +126,7 @@ key_stays p own x set k other there = go (has_key k ((removed own x p).sets set)
     go true t = t
     go false t = absurd (other (leaves_removed p own x set k there t))
 
--- the list with the set alone changed
+-- the list with only the set changed
 abbrev less : Set → Text → Plain → Plain
 less own x p = record p { sets = with_members own (without_member (key x) (p.sets own)) p.sets }
 
@@ -190,7 +190,7 @@ origin_grows p q r item set k e m (Noted number bounced is member) = Noted numbe
 origin_grows p q r item set k e m (Failed t bounced warned is) = Failed t bounced warned is
 origin_grows p q r item set k e m (Due timed old found due is mails) = Due timed old found due is (mails_grow p q r set k item.moment old.stage m mails)
 
--- a step, and mail behind it
+-- a step, and mail after it
 pub traced_more : (p q r : Plain) (item : Item) → Traced p q item → Mailed q r → r.list_ledger ≡ q.list_ledger → r.digest_ledger ≡ q.digest_ledger → r.sets ≡ q.sets → Traced p r item
 traced_more p q r item t m l d s =
     let same = ledgers_of q r l d in

@@ -1,4 +1,4 @@
--- Histories that grow by an item, and what stands at their places.
+-- Histories that grow by an item, and what is at their places.
 use Rattle.std.proofs.Common.{◌≡◌, ℕ, zero, suc, ◌<◌, ◌⊎◌, inl, inr, List, [], ◌∷◌, ◌++◌, Some, None, refl, sym, subst, length, slice_get, arith}
 use Rattle.std.proofs.lemmas.List.{take-append-le, take_at}
 use Rattle.ml_base.specs.Bytes.{Text}
@@ -13,7 +13,7 @@ pub fold_snoc : (p : Plain) (h : List Item) (x : Item) → fold_plain p (h ++ x 
 fold_snoc p [] x = refl
 fold_snoc p (item ∷ items) x = fold_snoc (step0 p item).0 items x
 
--- what stands in a row of which one more stands behind
+-- what is in a row is there too if one more comes after it
 pub get_front : {E : Type 0} (h : List E) (x : E) (at : ℕ) (y : E) → slice_get h at ≡ Some y → slice_get (h ++ x ∷ []) at ≡ Some y
 get_front [] x at y e = absurd (let bad : None ≡ Some y = e in cc)
 get_front (item ∷ items) x zero y e = e
@@ -28,7 +28,7 @@ pub get_last : {E : Type 0} (h : List E) (x : E) → slice_get (h ++ x ∷ []) (
 get_last [] x = refl
 get_last (item ∷ items) x = get_last items x
 
--- it stood there, or it is the last
+-- it was there before, or it is the last
 pub get_either : {E : Type 0} (h : List E) (x : E) (at : ℕ) (y : E) → slice_get (h ++ x ∷ []) at ≡ Some y
     → (slice_get h at ≡ Some y) ⊎ ((at ≡ length h) × (y ≡ x))
 get_either [] x zero y e = let one : Some x ≡ Some y = e in inr (refl, cc)
@@ -40,7 +40,7 @@ get_either (item ∷ items) x (suc at) y e = elim (get_either items x at y e) [
 ]
 
 module _ (c : Config) (key : Text) where
-  -- what happened before happened
+  -- what happened before is still so after one more item
   pub grown : (h : List Item) (x : Item) (at moment : ℕ) (P : Plain → Item → Type 0) → Happened c key h at moment P → Happened c key (h ++ x ∷ []) at moment P
   grown h x at moment P e = record {
     item = e.item;

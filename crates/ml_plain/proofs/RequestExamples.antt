@@ -72,7 +72,7 @@ leaving : text three (deliver 34 1000000200 (codes "a@b") (codes "LIST-Unsubscri
 unfolding step step0 request_of request_text verdict sent_text mail_text date_text civil_of cookie sha256 hash_after digest_bytes compress rounds schedule first_words digits
 leaving = refl
 
--- no confirmation is asked
+-- no confirmation is asked for
 abbrev easy : State
 easy = fold (a_list (record usual { h = true; j = true })) (ask 1 1000000200 (codes "list-subscribe@ex.org") ∷ [])
 
@@ -84,7 +84,7 @@ gone_at_once : text easy (deliver 2 1000000200 (codes "G@h") (codes "list-unsubs
 unfolding step step0 request_of request_text verdict sent_text mail_text date_text civil_of cookie sha256 hash_after digest_bytes compress rounds schedule first_words digits
 gone_at_once = refl
 
--- for another one it is asked
+-- for another address it is asked for
 for_another : text easy (ask 2 1000000200 (codes "list-subscribe-x=y@ex.org") ∷ ask 3 1000000200 (codes "list-allow-subscribe@ex.org") ∷ []) ≡ codes "2 0 asked\n3 100 private\n"
 unfolding step step0 request_of request_text verdict sent_text mail_text date_text civil_of cookie sha256 hash_after digest_bytes compress rounds schedule first_words digits
 for_another = refl

@@ -1,4 +1,4 @@
--- Nothing of what the list knows has an LF where it may come into the header of a mail, and no step changes that.
+-- Nothing that the list knows and may put into the header of a mail has an LF, and no step changes that.
 use Rattle.std.proofs.Common.{◌≡◌, ℕ, ◌+◌, ◌-◌, Bool, true, false, cond, not, ◌==◌, ◌&&◌, nat_lt, nat_le, is_ok, is_some, List, [], ◌∷◌, ◌++◌, length, Option, Some, None, IfSome, refl, sym, ap, subst, ◌∙◌, codes, if◌then◌else◌}
 use Rattle.std.specs.List.{AllByRecursion, fold}
 use Rattle.std.specs.Option.{option_map, option_map_or}

@@ -93,7 +93,7 @@ before_digest : (now : ℕ) (p : Plain) (wanted : Bool) (o : Option Range) → B
 before_digest now p true o = before_issue now p o
 before_digest now p false o = before_self p
 
--- a timed run amid the due entries
+-- a timed run that has followed up some of the due entries
 record Following (p q : Plain) (item : Item) : Type 0 where
   config : q.config ≡ p.config
   keys : q.keys ≡ p.keys
@@ -143,7 +143,7 @@ module _ (p : Plain) (item : Item) (timed : item.act ≡ Timed) (own : Set) (e :
         ];
       }
 
-  -- it goes
+  -- the entry goes
   dropped : (q : Plain) → Following p q item → Following p (timing.drop_entry own e q) item
   dropped q f =
       let ledger = forget e.key (ledger_of q own) in
@@ -217,7 +217,7 @@ module _ (p : Plain) (item : Item) (timed : item.act ≡ Timed) (own : Set) (e :
   followed_on q (WarnFailed t) is f = probed_on q t is (member_of e.key (q.sets own)) refl f
   followed_on q (Probed t) is f = changed q f (subst (Mails p q own e.key item.moment) (sym is) tt)
 
--- each due entry of a list
+-- a due entry of a list
 abbrev IsDue : Plain → ℕ → Set × LedgerEntry → Type 0
 IsDue p now x = (find_entry x.1.key (ledger_of p x.0) ≡ Some x.1) × (is_due now x.1 ≡ true)
 

@@ -138,7 +138,7 @@ probed_traced : (p : Plain) (item : Item) (set : Set) (x : Text) (o : Option Led
 probed_traced p item set x None = calm_same p _ item refl refl refl
 probed_traced p item set x (Some ledger) = traced_removed p set x item
 
--- a ledger that changes by a bounce is answered so
+-- a bounce that changes a ledger is answered `bounce`
 noted_answer : (p : Plain) (set : Set) (ledger : Ledger) (test can : Bool) → test ≡ true → can ≡ true
     → (bouncing.if_changed p set (if test then (if can then Some ledger else None) else None)).1 ≡ answers.bounce
 noted_answer p set ledger true true t c = refl

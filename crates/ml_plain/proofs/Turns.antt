@@ -1,4 +1,4 @@
--- What one item does, by what a history says of it.
+-- What one item does, by what the history before it says.
 use Rattle.std.proofs.Common.{◌≡◌, ◌≢◌, ◌≤◌, ◌<◌, ℕ, max, Bool, true, false, not, cond, eqb, ltb, ◌&&◌, List, ◌∷◌, Option, Some, None, is_some, refl, sym, ap, ◌∙◌, arith}
 use Rattle.std.proofs.lemmas.Bool.{ne_eqb, eq-eqb, eqb-true, eqb-false, ltb-true, ltb-false, le-leb, lt-leb, le-ltb}
 use Rattle.ml_plain.specs.declared.Item.{Item}
@@ -42,12 +42,12 @@ below_no floor n le = go (eqb n 0)
     go true = refl
     go false = le-ltb n floor le
 
--- what a history says, and a state that agrees with it
+-- a state agrees with what a history says
 pub record Agrees (past : Past) (q : State) : Type 0 where
   pub floor : q.floor ≡ past.floor
   pub kept : (n : ℕ) → n ≢ 0 → past.floor ≤ n → is_some (q.kept n) ≡ has_number past.numbers n
 
--- an item counts where no reply is kept for it
+-- an item counts if no reply is kept for it
 pub live_new : (past : Past) (q : State) (n : ℕ) → Agrees past q → is_below q.floor n ≡ false → is_live past n ≡ not (is_some (kept_for q n))
 live_new past q n a e = go (eqb n 0) refl
   where
@@ -67,7 +67,7 @@ live_stale past q n a e =
 abbrev pub raised_by : Bool → State → ℕ → State × Reply
 raised_by b q at = cond b (with_floor q at, floored (max q.floor at)) (q, badfloor)
 
--- a Floor leaves the list
+-- a Floor leaves the list as it is
 floor_leaves : (p : Plain) (now : ℕ) (at : ℕ) (act : Act) → floor_asked act ≡ Some at → (act_step p now act).0 ≡ p
 floor_leaves p now at (Deliver sender recipient message) e = absurd (cc (e))
 floor_leaves p now at Timed e = absurd (cc (e))
@@ -135,7 +135,7 @@ effect_moved q x = record { floor = floor (floor_asked x.act); up = up (floor_as
     kept None n le = refl
     kept (Some at) n le = kept_risen at (may_rise q.floor x.number at) n le
 
--- the reply that is kept with another
+-- what is kept for a number once a reply is added
 pub keep_same : (k : ℕ) (r : Reply) (kept : Kept) → k ≢ 0 → keep k r kept k ≡ Some r
 keep_same k r kept some = rw (ne_eqb k 0 some, eq-eqb k k refl) refl
 
@@ -176,7 +176,7 @@ way_of past q x a = go (is_below q.floor x.number) refl (kept_for q x.number) re
         let kept = kept_is r k in
         repeated r kept.0 (below_not q.floor x.number kept.0 e) kept.1 (live_new past q x.number a e ∙ ap (λ (o : Option Reply). not (is_some o)) k) (step_kept q x r e k)
 
--- the state behind an item agrees with the history that has it
+-- the state after an item agrees with the history that has this item too
 pub agrees_more : (past : Past) (q : State) (x : Item) → Agrees past q → Agrees (past_with past x) (step q x).0
 agrees_more past q x a = go (way_of past q x a)
   where

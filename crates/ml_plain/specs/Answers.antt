@@ -1,4 +1,4 @@
--- The replies by their words.
+-- The replies, each under its word.
 use Rattle.std.specs.Prelude.{ℕ}
 use Rattle.ml_plain.specs.declared.Reply.{Reply}
 
@@ -38,7 +38,7 @@ unsubscribed = plain 6
 abbrev pub absent : Reply
 absent = plain 7
 
--- somebody was asked to confirm
+-- somebody was asked for a confirmation
 abbrev pub asked : Reply
 asked = plain 8
 
@@ -62,7 +62,7 @@ members = plain 12
 abbrev pub bounce : Reply
 bounce = plain 13
 
--- a bounce from which nothing follows
+-- a bounce that changes nothing
 abbrev pub ignored : Reply
 ignored = plain 14
 
@@ -82,7 +82,7 @@ gone = plain 17
 abbrev pub dequeued : Reply
 dequeued = plain 18
 
--- the queue has no entry of the id
+-- the queue has no entry with this id
 abbrev pub noentry : Reply
 noentry = plain 19
 
@@ -98,7 +98,7 @@ toobig = plain 21
 abbrev pub nosender : Reply
 nosender = plain 22
 
--- the message came from a list before
+-- the message has been through a list already
 abbrev pub looped : Reply
 looped = plain 23
 
@@ -118,7 +118,7 @@ command = plain 26
 abbrev pub notaddressed : Reply
 notaddressed = plain 27
 
--- the post is by nobody of list, digest, allow and mod
+-- the sender of the post is in none of the sets list, digest, allow and mod
 abbrev pub usersonly : Reply
 usersonly = plain 28
 
@@ -126,7 +126,7 @@ usersonly = plain 28
 abbrev pub notours : Reply
 notours = plain 29
 
--- the cookie isn't right, or too old
+-- the cookie is wrong or too old
 abbrev pub badcookie : Reply
 badcookie = plain 30
 
@@ -138,7 +138,7 @@ private = plain 31
 abbrev pub rekeyed : Reply
 rekeyed = plain 32
 
--- the key was changed too short a time ago
+-- the last change of the key is too recent
 abbrev pub toosoon : Reply
 toosoon = plain 33
 

@@ -1,4 +1,4 @@
--- What bounces do.
+-- What a bounce does to the list: of a post or an issue, of a warning, and of a probe.
 use Rattle.std.specs.Prelude.{ℕ, Bool, ◌&&◌, nat_le, ◌∷◌, ◌++◌, length, Option, Some, None, if◌then◌else◌, codes}
 use Rattle.ml_base.specs.Bytes.{Text, lower, at_sign}
 use Rattle.ml_base.specs.Address.{key}
@@ -16,22 +16,22 @@ use Rattle.ml_plain.specs.Plain.{Plain, is_in, ledger_of, with_ledger_of, remove
 abbrev pub address_named : PlainWho → Text
 address_named w = w.local ++ at_sign ∷ lower w.host
 
--- the number was used: it is one of a post, or for the digest set one of an issue up to the mark; 0 is none
+-- the number was used: it is that of a post, or for the digest set that of an issue up to the mark; 0 is never used
 abbrev pub is_used : Plain → Set → ℕ → Bool
 is_used p sets.Digest number = nat_le 1 number && nat_le number p.mark.issue
 is_used p _ number = nat_le 1 number && nat_le number (length p.posts)
 
--- another ledger of a set, where there is one, and else nothing changes
+-- a set gets another ledger, if there is one; otherwise nothing changes
 abbrev pub if_changed : Plain → Set → Option Ledger → Plain × Reply
 if_changed p set None = (p, ignored)
 if_changed p set (Some ledger) = (with_ledger_of set ledger p, bounce)
 
--- the address leaves the set, where its ledger lets the entry go, and else nothing changes
+-- the address leaves the set, if its ledger lets the entry go; otherwise nothing changes
 abbrev pub if_probed : Plain → Set → Text → Option Ledger → Plain × Reply
 if_probed p set x None = (p, ignored)
 if_probed p set x (Some ledger) = (removed set x p, dropped)
 
--- a bounce of mail to a member: its number is noted, where it was used
+-- a bounce of mail to a member: its number is noted, if it was used
 abbrev pub bounced : ℕ → Set → ℕ → Text → Plain → Plain × Reply
 bounced now set number x p =
     if_changed p set (if is_in p set x && is_used p set number then note (key x) number now (ledger_of p set) else None)

@@ -1,4 +1,5 @@
--- Items with numbers: each counts once, and none counts below the floor.
+-- Items with numbers: every number counts once, and none counts below the floor. What an item makes of a state, which is a plain list
+-- with its floor and its kept replies.
 use Rattle.std.specs.Prelude.{ℕ, ◌+◌, max, Bool, not, ◌&&◌, ◌||◌, ◌==◌, nat_le, nat_lt, if◌then◌else◌, List, [], ◌∷◌, ◌++◌, Option, Some, None}
 use Rattle.ml_base.specs.Bytes.{Text}
 use Rattle.ml_plain.specs.declared.Item.{Item}
@@ -14,7 +15,7 @@ use Rattle.ml_plain.specs.Replies.{line, status_of}
 abbrev pub Kept : Type 0
 Kept = ℕ → Option Reply
 
--- a list with a floor, from 1 on, and the replies that are kept for numbers from the floor on
+-- a list with its floor, which is at least 1, and the replies that are kept for numbers from the floor on
 pub record State : Type 0 where
   pub plain : Plain
   pub floor : ℕ
@@ -29,7 +30,7 @@ abbrev pub floor_asked : Act → Option ℕ
 floor_asked (Floor at) = Some at
 floor_asked _ = None
 
--- a floor may rise by 512,000 at once, and not above the number of its item, where that has one
+-- a floor may rise by at most 512,000 at once, and not above the number of its item, if that has one
 abbrev pub may_rise : ℕ → ℕ → ℕ → Bool
 may_rise floor number at = nat_le at (floor + 512_000) && (number == 0 || nat_le at number)
 
@@ -37,7 +38,7 @@ may_rise floor number at = nat_le at (floor + 512_000) && (number == 0 || nat_le
 abbrev pub from_floor : ℕ → Kept → Kept
 from_floor floor kept n = if nat_lt n floor then None else kept n
 
--- the state with the floor no lower than this
+-- the state with its floor raised to this, unless it is as high already
 abbrev pub with_floor : State → ℕ → State
 with_floor q at = record q { floor = max q.floor at; kept = from_floor (max q.floor at) q.kept }
 
@@ -45,16 +46,16 @@ with_floor q at = record q { floor = max q.floor at; kept = from_floor (max q.fl
 abbrev pub raise : State → ℕ → ℕ → State × Reply
 raise q number at = if may_rise q.floor number at then (with_floor q at, floored (max q.floor at)) else (q, badfloor)
 
--- what an item does that counts: it moves the floor, or it is a step of the list
+-- what an item that counts does: it moves the floor, or it is a step of the list
 abbrev pub effect_by : State → Item → Option ℕ → State × Reply
 effect_by q item (Some at) = raise q item.number at
 effect_by q item None = (record q { plain = (step0 q.plain item).0 }, (step0 q.plain item).1)
 
--- what an item does that counts, by its act
+-- what an item that counts does, by its act
 abbrev pub effect : State → Item → State × Reply
 effect q item = effect_by q item (floor_asked item.act)
 
--- the replies with one more, where its item has a number
+-- the replies with one more, if its item has a number
 abbrev pub keep : ℕ → Reply → Kept → Kept
 keep number reply kept n = if not (number == 0) && n == number then Some reply else kept n
 
@@ -75,7 +76,7 @@ abbrev pub step_by : State → Item → Option Reply → State × Reply
 step_by q item (Some reply) = (q, reply)
 step_by q item None = with_reply item.number (effect q item)
 
--- the state after an item, and what the item is answered: below the floor it is `stale`, and nothing else
+-- the state after an item, and the item's reply: below the floor that is `stale`, and nothing changes
 unfoldable pub step : State → Item → State × Reply
 step q item = if is_below q.floor item.number then (q, stale) else step_by q item (kept_for q item.number)
 
@@ -84,7 +85,7 @@ abbrev pub fold : State → List Item → State
 fold q [] = q
 fold q (item ∷ more) = fold (step q item).0 more
 
--- what items are answered
+-- the replies to items
 abbrev pub answers : State → List Item → List Reply
 answers q [] = []
 answers q (item ∷ more) = (step q item).1 ∷ answers (step q item).0 more
@@ -94,12 +95,12 @@ abbrev pub text : State → List Item → Text
 text q [] = []
 text q (item ∷ more) = line item.number (step q item).1 ++ text (step q item).0 more
 
--- the status of the last item's reply, or this one where there is no item
+-- the status of the last item's reply, or this one if there is no item
 abbrev pub last_from : ℕ → State → List Item → ℕ
 last_from status q [] = status
 last_from status q (item ∷ more) = last_from (status_of (step q item).1.code) (step q item).0 more
 
--- the plain list after items, each of which counts
+-- the plain list after items, all of which count
 abbrev pub fold_plain : Plain → List Item → Plain
 fold_plain p [] = p
 fold_plain p (item ∷ more) = fold_plain (step0 p item).0 more

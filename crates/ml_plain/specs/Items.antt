@@ -6,7 +6,7 @@ use Rattle.ml_plain.specs.declared.Item.{Item}
 use Rattle.ml_plain.specs.declared.Act.{Act}
 use Rattle.ml_plain.specs.declared.Act.TheVariants.{Deliver, Sent, Floor}
 
--- a delivery that isn't too long: 1,000 bytes of the sender and of the recipient, and 33,554,432 of the message
+-- a delivery that isn't too long: at most 1,000 bytes in the sender and in the recipient, and 33,554,432 in the message
 pub record IsDelivery (sender recipient message : Text) : Type 0 where
   pub from : length sender ≤ 1000
   pub to : length recipient ≤ 1000

@@ -8,7 +8,7 @@ use Rattle.ml_rows.specs.Values.{line_number}
 use Rattle.ml_plain.specs.declared.Reply.{Reply}
 use Rattle.ml_plain.specs.KeptFiles.{is_kept}
 
--- the floor that a file is read as: 1 where it is absent, else the number from 2 on that it has, with an LF behind it at its end
+-- the floor that a file is read as: 1 if it is absent, otherwise its number, which is at least 2 and has an LF after it
 abbrev pub floor_in : Option Text → Option ℕ
 floor_in None = Some 1
 floor_in (Some text) = only_if (nat_le 2) (line_number 999_999_999_999 text)
@@ -17,7 +17,7 @@ floor_in (Some text) = only_if (nat_le 2) (line_number 999_999_999_999 text)
 abbrev pub if_kept : ℕ → Reply → Option (Option Reply)
 if_kept n r = if not (n == 0) && is_kept r then Some (Some r) else None
 
--- what nine bytes are read as, for a number: no reply where all are zero; else a code, and a number with its most significant byte first
+-- what nine bytes are read as, for a number: no reply if all are zero; otherwise a code, and a number with its most significant byte first
 abbrev pub nine_in : ℕ → ℕ → Text → Option (Option Reply)
 nine_in n code digits =
     if list_all is_nul (code ∷ digits) then Some None else if_kept n (record { code = code; number = from_be_bytes w64 digits })

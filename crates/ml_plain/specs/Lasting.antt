@@ -1,4 +1,4 @@
--- What each step leaves of what stood before it: posts, queue and held posts.
+-- What every step leaves of what was there before it: posts, the queue and held posts.
 use Rattle.std.specs.Prelude.{◌≡◌, ◌≢◌, ◌≤◌, ◌-◌, ◌⊎◌, ◌==◌, ℕ, true, nat_le, List, [], ◌∷◌, ◌++◌, Some, codes}
 use Rattle.std.specs.List.{AllByRecursion, list_any}
 use Rattle.std.specs.Fmt.{decimal}
@@ -20,12 +20,12 @@ use Rattle.ml_plain.specs.Plain.{Plain}
 use Rattle.ml_plain.specs.Steps.{step0}
 use Rattle.ml_plain.specs.Timing.{old_held}
 
--- of these some are left, each as it was and in their order, and each of the others has P
+-- some of these are left, as they were and in their order; every other one has P
 abbrev pub AreLeft : {E : Type 0} → (E → Type 0) → List E → List E → Type 0
 AreLeft P [] left = left ≡ []
 AreLeft P (e ∷ es) left = ((more : List _) × (left ≡ e ∷ more) × AreLeft P es more) ⊎ (P e × AreLeft P es left)
 
--- what was there is left but for some that have P, and what is new stands behind it, under numbers that weren't drawn before
+-- what was there is left, except for some that have P; what is new comes after it, under numbers that weren't drawn before
 pub record Lasts {E : Type 0} (P : Drawn E → Type 0) (old new : Drawing E) : Type 0 where
   pub left : List (Drawn E)
   pub more : List (Drawn E)
@@ -43,7 +43,7 @@ pub record IsAnswered (p : Plain) (item : Item) (reply : Reply) (ticket : ℕ) :
   pub good : is_cookie p (codes "hold") sets.Moderators post.moment (decimal ticket) letters ≡ true
   pub which : (Asks p item sender (Accept ticket letters) × (reply.code ≡ 1)) ⊎ (Asks p item sender (Reject ticket letters) × (reply ≡ rejected))
 
--- a timed run gives a held post back that is old
+-- a timed run gives back a held post that is old
 pub record IsGivenBack (p : Plain) (item : Item) (ticket : ℕ) : Type 0 where
   pub act : item.act ≡ Timed
   pub old : list_any (λ e. ticket == e.number) (old_held item.moment p) ≡ true
@@ -52,18 +52,18 @@ pub record IsGivenBack (p : Plain) (item : Item) (ticket : ℕ) : Type 0 where
 abbrev pub TakesHeld : Plain → Item → Reply → Drawn Held → Type 0
 TakesHeld p item reply e = IsAnswered p item reply e.number ⊎ IsGivenBack p item e.number
 
--- a report takes the entry of its id out of the queue, and is answered so
+-- a report takes the entry of its id out of the queue, and is answered `dequeued`
 abbrev pub TakesEntry : Item → Reply → Drawn Out → Type 0
 TakesEntry item reply e = (item.act ≡ Sent e.number) × (reply ≡ dequeued)
 
--- What a step leaves: each post; each entry of the queue, but for that of an id which is reported to be sent, and that is gone; and each held
--- post, but for those that a moderator answers or that are old. What is left is as it was and in its order, and what is new stands behind it.
+-- What a step leaves: every post; every entry of the queue, except for one whose id is reported sent, and that one is gone; and every held
+-- post, except for those that a moderator answers or that are old. What is left is as it was and in its order; what is new comes after it.
 pub record StepLeaves (p : Plain) (item : Item) (q : Plain) (reply : Reply) : Type 0 where
   pub posts : (more : List Post) × (q.posts ≡ p.posts ++ more)
   pub queue : Lasts (TakesEntry item reply) p.queue q.queue
   pub gone : (id : ℕ) → item.act ≡ Sent id → reply ≡ dequeued → AllByRecursion (λ e. e.number ≢ id) q.queue.all
   pub held : Lasts (TakesHeld p item reply) p.held q.held
 
--- each step leaves what stood before it
+-- every step leaves what was there before it
 abbrev pub LawLasting : Type 0
 LawLasting = (p : Plain) (item : Item) → StepLeaves p item (step0 p item).0 (step0 p item).1

@@ -34,22 +34,22 @@ use Rattle.ml_plain.specs.Plain.{Plain, new_list, addresses, ledger_of}
 use Rattle.ml_plain.specs.Steps.{step0}
 use Rattle.ml_plain.specs.Timing.{digest_post, posts_in}
 
--- the list behind a history that began with a new list
+-- the list after a history that began with a new list
 abbrev pub after : Config → Text → List Item → Plain
 after c k items = fold_plain (new_list c k) items
 
--- at this place of a history stands an item of this moment, and it passes a test over the list before it
+-- at this place of a history is an item of this moment, and it passes a test on the list before it
 pub record Happened (c : Config) (key : Text) (h : List Item) (at moment : ℕ) (P : Plain → Item → Type 0) : Type 0 where
   pub item : Item
   pub here : slice_get h at ≡ Some item
   pub moment_is : item.moment ≡ moment
   pub passes : P (after c key (take at h)) item
 
--- the queue entries that a step made: those from the next id on that stood before it
+-- the queue entries that a step made: those with ids from the next id of the list before it on
 abbrev pub made : Plain → Plain → List (Drawn Out)
 made p q = filter (λ e. nat_le p.queue.next e.number) q.queue.all
 
--- an entry of another base than those of posts
+-- an entry whose base isn't that of a post
 abbrev pub IsOfNoPost : Config → Out → Type 0
 IsOfNoPost c out = (n : ℕ) → out.path.base ≢ (post_path c n).base
 
@@ -67,7 +67,7 @@ pub record PostsNothing (p q : Plain) (reply : Reply) : Type 0 where
   pub told : reply.code ≢ 1
   pub entries : AllByRecursion (λ e. IsOfNoPost p.config e.thing) (made p q)
 
--- each step posts or doesn't
+-- every step posts or doesn't
 abbrev pub LawPosts : Type 0
 LawPosts = (c : Config) (k : Text) (h : List Item) (item : Item)
     → Posts (after c k h) (step0 (after c k h) item).0 (step0 (after c k h) item).1
@@ -85,8 +85,8 @@ digest_of p issue r now = record {
   to = addresses p sets.Digest;
 }
 
--- A step that makes a digest: the next issue, of at least one post, from the one behind the last of the issue before it on. One
--- entry that the step made is that digest, and none is another one.
+-- A step that makes a digest: the next issue, of at least one post, which begins with the post after the last of the issue before it. One
+-- entry that the step made is that digest, and none is of another issue.
 pub record MakesDigest (p q : Plain) (now : ℕ) : Type 0 where
   pub range : Range
   pub from : range.first ≡ p.mark.last + 1
@@ -102,7 +102,7 @@ pub record MakesNoDigest (p q : Plain) : Type 0 where
   pub same : q.mark ≡ p.mark
   pub entries : (i : ℕ) → made_for i p q ≡ []
 
--- each step makes the next digest or none
+-- every step makes the next digest or none
 abbrev pub MakesDigests : Type 0
 MakesDigests = (c : Config) (k : Text) (h : List Item) (item : Item)
     → MakesDigest (after c k h) (step0 (after c k h) item).0 item.moment ⊎ MakesNoDigest (after c k h) (step0 (after c k h) item).0
@@ -118,8 +118,8 @@ pub record HasPost (issue : Issue) (post : ℕ) : Type 0 where
   pub from : issue.range.first ≤ post
   pub to : post ≤ issue.range.last
 
--- A step makes the issue of this number: of posts that are there, one at least. One entry that the step made is that digest, for the
--- digest set as it then stands.
+-- A step makes the issue of this number, of at least one post, all of which are there. One entry that the step made is that digest, for
+-- the digest set as it then is.
 pub record MakesIssue (number : ℕ) (r : Range) (p : Plain) (item : Item) : Type 0 where
   pub some : r.first ≤ r.last
   pub there : r.last ≤ length p.posts
@@ -141,9 +141,9 @@ pub record IsIn (issues : List Issue) (post : ℕ) : Type 0 where
   pub listed : slice_get issues before ≡ Some issue
   pub has : HasPost issue post
 
--- The issues that a history made, in the order of their numbers 1, 2, 3 and so on: the first begins with post 1, and each other one
--- with the post behind the last of the one before it, and is made behind it. So no post is in two issues, and none is left out up to
--- the last that is in one. No step made an entry with the base of an issue but these.
+-- The issues that a history made, in the order of their numbers 1, 2, 3 and so on. The first begins with post 1. Every other one begins
+-- with the post after the last of the one before it, and is made after that one. So no post is in two issues, and none is left out up to
+-- the last that is in one. No step made any other entry with the base of an issue.
 pub record AreIssues (c : Config) (key : Text) (h : List Item) (issues : List Issue) : Type 0 where
   pub made : (before : ℕ) (issue : Issue) → slice_get issues before ≡ Some issue → Happened c key h issue.at issue.moment (MakesIssue (before + 1) issue.range)
   pub first : (issue : Issue) → slice_get issues 0 ≡ Some issue → issue.range.first ≡ 1
@@ -154,11 +154,11 @@ pub record AreIssues (c : Config) (key : Text) (h : List Item) (issues : List Is
   pub others : (at number : ℕ) (item : Item) → slice_get h at ≡ Some item
       → (made_for number (after c key (take at h)) (step0 (after c key (take at h)) item).0 ≡ []) ⊎ IsOneOf c issues at number
 
--- each history has its issues
+-- every history has its issues
 abbrev pub HasIssues : Type 0
 HasIssues = (c : Config) (key : Text) (h : List Item) → (issues : List Issue) × AreIssues c key h issues
 
--- a key was in a set before a step, and is not behind it
+-- a key was in a set before a step, and isn't after it
 pub record Leaves (p q : Plain) (set : Set) (k : Text) : Type 0 where
   pub there : has_key k (p.sets set) ≡ true
   pub gone : has_key k (q.sets set) ≡ false
@@ -176,7 +176,7 @@ pub record IsRemoval (item : Item) (set : Set) (k : Text) : Type 0 where
   pub act : item.act ≡ Remove set who
   pub is : key who ≡ k
 
--- he asks for it himself, where the list asks for no confirmation
+-- he asks for it himself, on a list that asks for no confirmation
 pub record IsOwnLeave (p : Plain) (item : Item) (set : Set) (k : Text) : Type 0 where
   pub sender : Text
   pub who : Option PlainWho
@@ -205,13 +205,13 @@ pub record IsDrop (p : Plain) (item : Item) (set : Set) (k : Text) (time : ℕ) 
   pub stage : (entry_under k (ledger_of p set)).stage ≡ Probed time
   pub told : (step0 p item).1 ≡ dropped
 
--- the ways in which a key leaves a set: all but the first are not for the moderators' set
+-- the ways in which a key leaves a set; the moderators' set is left only in the first
 abbrev pub Ways : Plain → Item → Set → Text → Type 0
 Ways p item set k =
     IsRemoval item set k
     ⊎ ((set ≢ sets.Moderators) × (IsOwnLeave p item set k ⊎ (IsConfirmedLeave p item set k ⊎ ((probed : ℕ) × IsDrop p item set k probed))))
 
--- a key leaves a set in one of these ways alone
+-- a key leaves a set only in one of these ways
 abbrev pub LawLeaving : Type 0
 LawLeaving = (p : Plain) (item : Item) (set : Set) (k : Text) → Leaves p (step0 p item).0 set k → Ways p item set k
 
@@ -225,7 +225,7 @@ pub record IsWarningBounce (p : Plain) (item : Item) (set : Set) (k : Text) (tim
   pub good : is_good p (codes "warn") set time k signed.cookie item.moment ≡ true
   pub told : (step0 p item).1 ≡ bounce
 
--- mail of this number to it bounces, of a post or of an issue that there was, and that is noted
+-- mail to it with the number of a post or of an issue that existed bounces, and that is noted
 pub record IsBounce (p : Plain) (item : Item) (set : Set) (k : Text) (number : ℕ) : Type 0 where
   pub sender : Text
   pub who : PlainWho
@@ -265,8 +265,8 @@ pub record IsWarning (set : Set) (k : Text) (number : ℕ) (p : Plain) (item : I
 abbrev pub IsProbe : Set → Text → Plain → Item → Type 0
 IsProbe set k p item = IsTimedMail p item (codes "probe") (probe_to set) set k
 
--- The course before the bounce of a probe of this moment drops a key: its mail bounced, which was noted; 1,000,000 seconds later at
--- least the member was warned, also of that bounce; the warning bounced, which was noted; 1,000,000 seconds later at least the member
+-- The course before the bounce of a probe of this moment drops a key: its mail bounced, which was noted; at least 1,000,000 seconds
+-- later the member was warned, also of that bounce; the warning bounced, which was noted; at least 1,000,000 seconds later the member
 -- was probed; and the key was a member's all the while.
 pub record Course (c : Config) (key : Text) (h : List Item) (set : Set) (k : Text) (probed : ℕ) : Type 0 where
   pub number : ℕ
@@ -294,7 +294,7 @@ pub record IsDroppedByCourse (c : Config) (key : Text) (h : List Item) (item : I
   pub drop : IsDrop (after c key h) item set k probed
   pub course : Course c key h set k probed
 
--- an address leaves a set in one of four ways, and the moderators' set in the first alone
+-- an address leaves a set in one of four ways, and the moderators' set only in the first
 abbrev pub LawChain : Type 0
 LawChain = (c : Config) (key : Text) (h : List Item) (item : Item) (set : Set) (k : Text)
     → Leaves (after c key h) (step0 (after c key h) item).0 set k

@@ -9,7 +9,7 @@ use Rattle.ml_reply.specs.Dates.{date_text}
 use Rattle.ml_reply.specs.Mails.{Letter, letter_of, mail_text}
 use Rattle.ml_reply.specs.declared.mails.Mail.{Mail}
 
--- a field of one line: its value is what was put behind the colon and a space, and the line's LF
+-- a field of one line: its value is a space, what was put after that, and the line's LF
 abbrev pub one_line : Text → Text → FieldText
 one_line name text = record { name = name; value = space ∷ text ++ lf; lines = name ++ colon ∷ (space ∷ text ++ lf) }
 
@@ -36,7 +36,7 @@ pub record HasNoLf (c : Config) (l : Letter) : Type 0 where
   pub to : has_byte 10 l.to ≡ false
   pub reply : IfSome l.reply (λ r. has_byte 10 r ≡ false)
 
--- A mail is read as these fields, and as the body that was put behind them: so nobody who is named in its header can add a field to
+-- A mail is read as these fields, and as the body that was put after them. So nobody who is named in its header can add a field to
 -- it or end its header.
 abbrev pub LawMails : Type 0
 LawMails = (c : Config) (mail : Mail) (moment : ℕ) → HasNoLf c (letter_of c mail) →

@@ -21,7 +21,7 @@ use Rattle.ml_reply.specs.declared.mails.Mail.TheVariants.{AskSc, AskTc, AskUc, 
 use Rattle.ml_queue.specs.Queue.{put}
 use Rattle.ml_plain.specs.Plain.{Plain, addresses}
 
--- the path of what begins with this behind LOCAL and a hyphen
+-- the path in which this follows LOCAL and a hyphen
 abbrev pub path : Config → Text → Bool → Path
 path c base each = record { base = c.local ++ hyphen ∷ base; host = c.host; each = each }
 
@@ -45,7 +45,7 @@ send way body to p = record p { queue = put (record { path = way; body = body; t
 abbrev pub mail_to : Text → ℕ → Mail → Plain → Plain
 mail_to to now mail p = send (reply_path p.config) (mail_text p.config mail now) (to ∷ []) p
 
--- what stands behind `To:` in mails to the moderators
+-- what follows `To:` in mails to the moderators
 abbrev pub owner_address : Config → Text
 owner_address c = list_address c.local c.host (codes "owner")
 
@@ -62,7 +62,7 @@ abbrev pub is_cookie : Plain → Text → Set → ℕ → Text → Text → Bool
 is_cookie p kind set moment what given =
     is_cookie_of p.keys.key (option_map (λ f. f.key) p.keys.former) (option_map_or (λ f. f.changed) p.keys.former 0) kind (set_word set) moment what given
 
--- whether they are, and the cookie is of now or at most 1,000,000 seconds old
+-- whether they are, and the cookie is of this moment or at most 1,000,000 seconds older
 abbrev pub is_good : Plain → Text → Set → ℕ → Text → Text → ℕ → Bool
 is_good p kind set moment what given now =
     cookie_good p.keys.key (option_map (λ f. f.key) p.keys.former) (option_map_or (λ f. f.changed) p.keys.former 0) kind (set_word set) moment what given now

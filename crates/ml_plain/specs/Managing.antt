@@ -23,8 +23,8 @@ use Rattle.ml_plain.specs.Mailing.{send, reply_path, mail_to, ask, ask_moderator
 use Rattle.ml_plain.specs.Plain.{Plain, is_in, is_moderator, spelled_in, addresses, is_full, is_archive_full, is_worn, added, removed, first_row}
 use Rattle.ml_plain.specs.Posting.{post, posted_now}
 
--- the address that a request is about: the one that it names, or the sender's, and where a member of the set has its key, as the
--- set spells it
+-- the address that a request is about: the one that it names, or the sender's; if a member of the set has its key, it is spelled as
+-- in the set
 abbrev pub subject_of : Plain → Set → Text → Option PlainWho → Text
 subject_of p set sender who = spelled_in p set (option_map_or address_named who sender)
 
@@ -36,7 +36,7 @@ is_same a b = bytes_eq (key a) (key b)
 abbrev pub is_admin : Plain → Text → Bool
 is_admin p sender = is_moderator p sender && p.config.flags.r
 
--- the set is none of list and digest, so that none but such a moderator may change it, and the sender is none
+-- the set is neither list nor digest, so that only such a moderator may change it, and the sender isn't one
 abbrev pub is_closed : Plain → Set → Text → Bool
 is_closed p sets.List sender = false
 is_closed p sets.Digest sender = false
@@ -48,7 +48,7 @@ is_closed p sets.Moderators sender = not (is_admin p sender)
 pub data Operation : Type 0 where
   -- only a reply
   Only : (reply : Reply) → Operation
-  -- the sender is told that X is a member, or is none
+  -- a mail tells the sender that X is a member, or isn't
   TellAlready : Operation
   TellAbsent : Operation
   -- the sender, X or the moderators are asked to confirm it
@@ -59,7 +59,7 @@ pub data Operation : Type 0 where
   Join : Operation
   Leave : Operation
 
--- X joins the set, where it has room
+-- X joins the set, unless it is full
 abbrev pub joined : ℕ → Set → Text → Bool → Plain → Plain × Reply
 joined now set x true p = (p, answers.full)
 joined now set x false p = (mail_to x now (mails.Welcome x set x) (added set x now p), answers.subscribed)
@@ -68,7 +68,7 @@ joined now set x false p = (mail_to x now (mails.Welcome x set x) (added set x n
 abbrev pub left : ℕ → Set → Text → Plain → Plain × Reply
 left now set x p = (mail_to x now (mails.Goodbye x set x) (removed set x p), answers.unsubscribed)
 
--- what each operation does, about an address X that the sender asks about, and what it is answered
+-- what each operation does about an address X that the sender asks about, and how it is answered
 abbrev pub done : ℕ → Set → Text → Text → Plain → Operation → Plain × Reply
 done now set sender x p (Only reply) = (p, reply)
 done now set sender x p TellAlready = (mail_to sender now (mails.Already sender set x) p, answers.already)
@@ -79,7 +79,7 @@ done now set sender x p AskModerators = (ask_moderators now set x p, answers.ask
 done now set sender x p Join = joined now set x (is_full p set) p
 done now set sender x p Leave = left now set x p
 
--- the cases where X is to join a set, of which the first that applies decides
+-- the cases when X is to join a set; the first that applies decides
 abbrev pub subscribe_cases : Plain → Set → Text → Text → List (Bool × Operation)
 subscribe_cases p set sender x =
     (is_closed p set sender, Only answers.private)
@@ -90,7 +90,7 @@ subscribe_cases p set sender x =
     ∷ (p.config.flags.h && is_same x sender && p.config.flags.s, AskModerators)
     ∷ []
 
--- the cases where X is to leave a set
+-- the cases when X is to leave a set
 abbrev pub unsubscribe_cases : Plain → Set → Text → Text → List (Bool × Operation)
 unsubscribe_cases p set sender x =
     (is_closed p set sender, Only answers.private)
@@ -99,7 +99,7 @@ unsubscribe_cases p set sender x =
     ∷ (p.config.flags.j && is_same x sender, Leave)
     ∷ []
 
--- the cases where somebody confirms, with letters of this goodness, that X is to join a set or to leave it
+-- the cases when somebody confirms that X is to join a set or to leave it, with letters that are a good cookie or not
 abbrev pub confirm_cases : Plain → Set → Text → Word → Bool → List (Bool × Operation)
 confirm_cases p set x words.Uc good = (not good, Only answers.badcookie) ∷ (not (is_in p set x), Only answers.absent) ∷ []
 confirm_cases p set x words.Sc good = (not good, Only answers.badcookie) ∷ (is_in p set x, Only answers.already) ∷ (p.config.flags.s, AskModerators) ∷ []
@@ -111,15 +111,15 @@ confirmed words.Uc = Leave
 confirmed words.Sc = Join
 confirmed words.Tc = Join
 
--- what is done where X is to join a set: the first case that applies, and else X is asked to confirm
+-- what is done when X is to join a set: the first case that applies; if none does, X is asked to confirm
 abbrev pub subscribing : Plain → Set → Text → Text → Operation
 subscribing p set sender x = first_row (subscribe_cases p set sender x) (AskSubject words.Sc)
 
--- what is done where X is to leave a set: the first case that applies, and else X is asked to confirm
+-- what is done when X is to leave a set: the first case that applies; if none does, X is asked to confirm
 abbrev pub unsubscribing : Plain → Set → Text → Text → Operation
 unsubscribing p set sender x = first_row (unsubscribe_cases p set sender x) (AskSubject words.Uc)
 
--- what is done where somebody confirms: the first case that applies, and else what he confirms
+-- what is done when somebody confirms: the first case that applies; if none does, what he confirms
 abbrev pub confirming : Plain → Set → Text → Word → Bool → Operation
 confirming p set x word good = first_row (confirm_cases p set x word good) (confirmed word)
 
@@ -136,18 +136,18 @@ abbrev pub confirm : ℕ → Text → Word → Set → Signed → Text → Plain
 confirm now sender word set s x p =
     done now set sender x p (confirming p set x word (is_good p (word_text word) set s.time (key x) s.cookie now))
 
--- the members of a set, for moderators where `l` is set
+-- the members of a set, for moderators if `l` is set
 abbrev pub list_members : ℕ → Text → Set → Plain → Bool → Plain × Reply
 list_members now sender set p true = (mail_to sender now (mails.Members sender set (addresses p set)) p, answers.members)
 list_members now sender set p false = (p, answers.private)
 
--- the archive is open to moderators, and unless `b` is set or `p` clear to all, or where `g` is set to the members of list and digest
+-- the archive is open to moderators; unless `b` is set or `p` clear, also to all, or if `g` is set only to the members of list and digest
 abbrev pub may_read : Plain → Text → Bool
 may_read p sender =
     is_moderator p sender
     || (not p.config.flags.b && p.config.flags.p && (not p.config.flags.g || is_in p sets.List sender || is_in p sets.Digest sender))
 
--- a text of the archive, for whom it is open to
+-- a text of the archive, for those to whom it is open
 abbrev pub from_archive : ℕ → Text → Plain → Bool → Text → Plain × Reply
 from_archive now sender p true text = (mail_to sender now (mails.Archive sender text) p, answers.archive)
 from_archive now sender p false text = (p, answers.private)
@@ -163,12 +163,12 @@ answered now ticket h p true = accepted now ticket h p (is_archive_full p)
 answered now ticket h p false =
     (mail_to h.sender now (mails.Rejected h.sender h.message) (record p { held = without_ticket ticket p.held }), answers.rejected)
 
--- where his letters are the held post's cookie, whatever its age
+-- the same, if his letters are the held post's cookie, whatever its age
 abbrev pub if_signed : ℕ → ℕ → Held → Plain → Bool → Bool → Plain × Reply
 if_signed now ticket h p accepts true = answered now ticket h p accepts
 if_signed now ticket h p accepts false = (p, answers.badcookie)
 
--- the answer to a post that may be held no longer, and then it is gone
+-- his answer about a post; it is answered `gone` if the post is held no longer
 abbrev pub answer_held : ℕ → ℕ → Text → Plain → Bool → Option Held → Plain × Reply
 answer_held now ticket letters p accepts None = (p, answers.gone)
 answer_held now ticket letters p accepts (Some h) =
@@ -219,7 +219,7 @@ by_request now sender m p Owner = to_owner m p
 by_request now sender m p Post = post now sender m p
 by_request now sender m p request = by_sender now m p request (address_of sender)
 
--- the request of a recipient, who may not be the list's
+-- what the recipient's address asks for, if it is one of the list's
 abbrev pub by_recipient : ℕ → Text → Text → Plain → Option PlainRequest → Plain × Reply
 by_recipient now sender m p None = (p, answers.notours)
 by_recipient now sender m p (Some request) = by_request now sender m p request

@@ -1,4 +1,4 @@
--- The list as a plain value.
+-- The list as a plain value, without files: all that its files stand for, except the floor and the kept replies.
 use Rattle.std.specs.Prelude.{ℕ, Bool, ◌||◌, ◌==◌, nat_le, nat_lt, if◌then◌else◌, List, [], ◌∷◌, length, map, None}
 use Rattle.std.specs.Option.{option_map_or}
 use Rattle.ml_base.specs.Bytes.{Text}
@@ -56,7 +56,7 @@ is_in p set who = has_key (key who) (p.sets set)
 abbrev pub is_moderator : Plain → Text → Bool
 is_moderator p sender = is_in p sets.Moderators sender
 
--- an address as the set spells it, where a member has its key
+-- an address as the set spells it, if a member has its key
 abbrev pub spelled_in : Plain → Set → Text → Text
 spelled_in p set who = option_map_or (λ m. m.who) (member_of (key who) (p.sets set)) who
 
@@ -72,7 +72,7 @@ is_full p set = nat_le 100_000 (length (p.sets set))
 abbrev pub with_members : Set → List Member → Sets → Sets
 with_members set ms all = λ s. if set_number s == set_number set then ms else all s
 
--- the ledger of a set, and no entries where it has none
+-- the ledger of a set, or no entries if it has none
 abbrev pub ledger_of : Plain → Set → Ledger
 ledger_of p sets.List = p.list_ledger
 ledger_of p sets.Digest = p.digest_ledger
@@ -104,7 +104,7 @@ is_archive_full p = nat_le 99_999_999 (length p.posts)
 abbrev pub is_worn : Plain → Bool
 is_worn p = nat_lt 999_999_999_997_000 p.queue.next || nat_lt 1_000_000_000_000_000 p.held.next
 
--- the first row that holds
+-- the value of the first row whose test holds, or another one if none does
 abbrev pub first_row : {A : Type 0} → List (Bool × A) → A → A
 first_row [] otherwise = otherwise
 first_row (row ∷ rows) otherwise = if row.0 then row.1 else first_row rows otherwise

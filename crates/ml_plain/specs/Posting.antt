@@ -1,4 +1,4 @@
--- What a post does.
+-- What a post does: by its verdict it is posted, held or refused.
 use Rattle.std.specs.Prelude.{ℕ, ◌+◌, not, ◌&&◌, [], ◌∷◌, ◌++◌, length, Option, Some, None, if◌then◌else◌}
 use Rattle.ml_base.specs.Bytes.{Text, is_empty}
 use Rattle.ml_base.specs.Address.{as_address}
@@ -14,11 +14,11 @@ use Rattle.ml_plain.specs.Mailing.{post_path, send, mail_moderators, moderate_ma
 use Rattle.ml_plain.specs.Plain.{Plain, addresses}
 use Rattle.ml_plain.specs.Verdicts.{Verdict, TooBig, BounceSender, Looped, Denied, NoSubject, CommandSubject, NotAddressed, UsersOnly, Held, Full, Posted, verdict}
 
--- the prefix of subjects, where they are marked with one
+-- the prefix of subjects, if they are marked with one
 abbrev pub prefix_of : Config → Option Text
 prefix_of c = if c.flags.f && not (is_empty c.prefix) then Some c.prefix else None
 
--- the trailer, where there is one
+-- the trailer, if there is one
 abbrev pub trailer_of : Config → Option Text
 trailer_of c = if c.flags.t then Some (list_trailer c.local c.host) else None
 
@@ -26,7 +26,7 @@ trailer_of c = if c.flags.t then Some (list_trailer c.local c.host) else None
 unfoldable pub sent_text : Config → Text → Text
 sent_text c m = rewritten m left_out (list_lines c.local c.host) (prefix_of c) (trailer_of c)
 
--- a post of this sender with this text goes last into the archive, and last into the queue to the set list as it stands
+-- a post of this sender with this text goes to the end of the archive, and to the end of the queue, for the set list as it is
 abbrev pub with_text : ℕ → Text → Text → ℕ → Plain → Plain
 with_text now sender text n p =
     send (post_path p.config n) text (addresses p sets.List)

@@ -92,7 +92,7 @@ status_of code = (kind_of code).status
 abbrev pub is_numbered : ℕ → Bool
 is_numbered code = (kind_of code).numbered
 
--- what stands behind the word: a space and the number, where the code has one
+-- what follows the word: a space and the number, if the code has one
 abbrev pub number_part : Reply → Text
 number_part reply = if is_numbered reply.code then space ∷ decimal reply.number else []
 

@@ -1,4 +1,4 @@
--- What stands in the queue of a list.
+-- What the entries of the queue can be, whatever was delivered to the list.
 use Rattle.std.specs.Prelude.{◌≡◌, ℕ, false, List, [], ◌∷◌}
 use Rattle.std.specs.List.{AllByRecursion}
 use Rattle.ml_base.specs.Address.{IsAddress}
@@ -25,7 +25,7 @@ pub record IsReadMail (c : Config) (text : Text) : Type 0 where
   pub fields_are : fields text ≡ mail_fields c (letter_of c mail) moment
   pub body_is : body text ≡ (letter_of c mail).text
 
--- an entry is a post with the text that is sent of a message, an issue of the digest, a message that goes on to the owner, or such a mail
+-- an entry is a post with the text that the list sends of a message, an issue of the digest, a message that goes on to the owner, or such a mail
 pub data IsSent (c : Config) (out : Out) : Type 0 where
   OfPost : (number : ℕ) (message : Text) (path : out.path ≡ post_path c number) (text : out.body ≡ sent_text c message) → IsSent c out
   OfIssue : (issue : ℕ) (path : out.path ≡ digest_path c issue) → IsSent c out
@@ -37,7 +37,7 @@ abbrev pub AddsAddress : Act → Type 0
 AddsAddress (Add set who) = IsAddress who
 AddsAddress _ = Unit {0}
 
--- Over every history in which only addresses are added, each entry of the queue is one of these, whatever was delivered. The list's own
+-- After every history in which only addresses are added, every entry of the queue is one of these, whatever was delivered. The list's own
 -- address has no LF.
 abbrev pub LawSentMails : Type 0
 LawSentMails = (c : Config) (k : Text) (h : List Item) → has_byte 10 c.local ≡ false → has_byte 10 c.host ≡ false →

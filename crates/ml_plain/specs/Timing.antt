@@ -29,8 +29,8 @@ use Rattle.ml_plain.specs.Plain.{Plain, addresses, ledger_of, with_ledger_of, is
 abbrev pub give_back : ℕ → Plain → Drawn Held → Plain
 give_back now p e = mail_to e.thing.sender now (mails.Expired e.thing.sender e.thing.message) (record p { held = without_ticket e.number p.held })
 
--- the posts that are held for 432,000 seconds, in the order of tickets: at most 1,000 of them, and 33,554,432 bytes of messages
--- together, but the first one always
+-- the posts that have been held for 432,000 seconds, in the order of tickets: at most 1,000 of them, and at most 33,554,432 bytes of
+-- messages together, but the first one always
 abbrev pub old_held : ℕ → Plain → List (Drawn Held)
 old_held now p = one_or_within (λ e. length e.thing.message) 1000 33_554_432 (older_posts now 432_000 p.held)
 
@@ -59,7 +59,7 @@ digest_post post = record { subject = post.subject; bytes = post.bytes }
 abbrev pub posts_in : Range → List Post → List Post
 posts_in r posts = take (r.last + 1 - r.first) (drop (r.first - 1) posts)
 
--- an issue of these posts goes to the digest set as it stands, and the mark moves to its last post
+-- an issue of these posts goes to the digest set as it is, and the mark moves to its last post
 abbrev pub issue : ℕ → Plain → Option Range → Plain
 issue now p None = p
 issue now p (Some r) =
@@ -68,7 +68,7 @@ issue now p (Some r) =
     (addresses p sets.Digest)
     (record p { mark = record { last = r.last; issue = p.mark.issue + 1 } })
 
--- on a list with digests the one that is due
+-- on a list with digests, the one that is due is made
 abbrev pub make_digest : ℕ → Plain → Plain
 make_digest now p = elim p.config.flags.d [ true ↦ issue now p (digest_due now p) | false ↦ p ]
 
@@ -80,12 +80,12 @@ change_entry now set e p = with_ledger_of set (act now e (ledger_of p set)) p
 abbrev pub drop_entry : Set → LedgerEntry → Plain → Plain
 drop_entry set e p = with_ledger_of set (forget e.key (ledger_of p set)) p
 
--- a member is warned of the numbers that he missed; where the key is no member's, the entry goes
+-- a member is warned of the numbers that he missed; if the key is no member's, the entry goes
 abbrev pub warn_member : ℕ → Set → LedgerEntry → Plain → Option Member → Plain
 warn_member now set e p None = drop_entry set e p
 warn_member now set e p (Some m) = change_entry now set e (bounce_mail (codes "warn") set m.who now (mails.Warn m.who set m.who e.missed) p)
 
--- a member is probed; where the key is no member's, the entry goes
+-- a member is probed; if the key is no member's, the entry goes
 abbrev pub probe_member : ℕ → Set → LedgerEntry → Plain → Option Member → Plain
 probe_member now set e p None = drop_entry set e p
 probe_member now set e p (Some m) = change_entry now set e (bounce_mail (codes "probe") set m.who now (mails.Probe m.who set m.who) p)
@@ -113,11 +113,11 @@ all_due now p = take 1000 (due_of now sets.List p ++ due_of now sets.Digest p)
 abbrev pub follow_all_up : ℕ → Plain → Plain
 follow_all_up now p = fold (follow_up now) p (all_due now p)
 
--- the three parts in this order
+-- the three parts of a timed run, in this order
 abbrev pub after_timed : ℕ → Plain → Plain
 after_timed now p = follow_all_up now (make_digest now (give_old_back now p))
 
--- a timed run answers how many queue entries it made
+-- a timed run, whose reply says how many queue entries it made
 abbrev pub timed : ℕ → Plain → Plain × Reply
 timed now p =
     elim (is_worn p) [

@@ -1,10 +1,10 @@
-// The codes of replies: what word, what status and whether a number stands in the line of each.
+// The codes of replies: the word and the exit status of each, and whether a number follows the word in the line that answers an item.
 ghost use Rattle.std.specs.Prelude.{◌≡◌, ◌≤◌, length, IsTrue};
 ghost use Rattle.ml_plain.specs.Replies.{is_code, is_numbered, is_status, status_of, word_of};
 
 use crate::Reply;
 
-/// The exit status that a reply's code stands for: 0 where what was asked is done, 100 where it is refused for good.
+/// The exit status that a reply's code stands for: 0 if what was asked is done, 100 if it is refused for good.
 pub fn status(code: u8) -> u8
     requires { IsTrue (is_code code) }
     ensures value { result ≡ status_of code }
@@ -78,7 +78,7 @@ pub fn word(code: u8) -> &'static [u8]
     }
 }
 
-/// Whether a reply's number is written behind the word of its code.
+/// Whether a reply's number is written after the word of its code.
 pub fn has_number(code: u8) -> bool
     requires { IsTrue (is_code code) }
     ensures { result ≡ is_numbered code }

@@ -1,4 +1,5 @@
-// What holds of every history of a list.
+// The laws of a list: theorems about every history of it, and about the files that stand for its state. The functions do nothing; their
+// clauses are the laws.
 ghost use Rattle.std.specs.Prelude.{◌≡◌, ◌↔◌, ◌≢◌, ◌<◌, ◌≤◌, ◌+◌, ◌*◌, ◌/◌, ◌%◌, max, true, ◌∷◌, [], ℕ, List, Option, Some, length};
 ghost use Rattle.std.specs.List.{AllByRecursion};
 ghost use Rattle.ml_base.specs.Bytes.{Text};
@@ -32,63 +33,63 @@ ghost use Rattle.ml_plain.specs.declared.Reply.{Reply};
 ghost use Rattle.ml_plain.specs.Lasting.{LawLasting};
 ghost use Rattle.ml_plain.specs.Laws.{HasIssues, LawChain, LawLeaving, LawPosts, MakesDigests};
 
-/// Each step of a list's history posts or doesn't. One that posts is answered `posted` and the number of the new post, which goes last
-/// into the archive, and puts one entry into the queue: the post, for the members as they then are. Any other leaves the posts as they
-/// are, is answered otherwise, and puts no entry with the path of a post into the queue.
+/// Every step of a list's history posts or doesn't. A step that posts is answered `posted` and the number of the new post. It adds the
+/// post at the end of the archive, and puts one entry into the queue: the post, for those who are members then. Any other step leaves the
+/// posts as they are, has another reply, and puts no entry with the path of a post into the queue.
 ///
-/// Each step of whatever list leaves what stood before it as it was and in its order: each post; each entry of the queue, a digest's too,
-/// but for that of an id which is reported to be sent, and then it is gone; and each held post, but for those that a moderator answers with
-/// their cookies, which are posted or rejected, or that a timed run gives back as old. What is new stands behind it, under numbers that
+/// Every step, of any list, leaves what was there as it was and in its order: every post; every entry of the queue, a digest's too, except
+/// for one whose id is reported sent, and that one is gone; and every held post, except for those that a moderator answers with their
+/// cookies, which are posted or rejected, and those that a timed run gives back as old. What is new comes after these, under numbers that
 /// weren't drawn before.
 pub fn law_posts()
     ensures steps { LawPosts }
     ensures lasting { LawLasting }
 {}
 
-/// An address leaves a set in one of four ways: the operator removes it; it asks for that itself, where the list asks for no
-/// confirmation; it is confirmed with a good cookie; or the probe of its last stage bounces, with a good cookie, in list or digest. The
-/// moderators' set is left in the first way alone.
+/// An address leaves a set in one of four ways: the operator removes it; it asks for that itself, on a list that asks for no
+/// confirmation; its leaving is confirmed with a good cookie; or its probe bounces, with a good cookie, in the set list or digest. The
+/// moderators' set is left only in the first way.
 pub fn law_leaving()
     ensures { LawLeaving }
 {}
 
-/// An address leaves a set in one of the four ways of `law_leaving`. Where a probe drops it, which only happens in list or digest, its
-/// history has the whole course: a bounce of a post or of an issue that there was, which was answered `bounce`; 1,000,000 seconds later
-/// at least a warning, to that member alone, which names the number of that bounce; the bounce of that warning, with a good cookie;
-/// 1,000,000 seconds later at least a probe, to that member alone; and then the bounce of that probe, with a good cookie. The address was
-/// a member all the while.
+/// An address leaves a set in one of the four ways of `law_leaving`. If a probe drops it, which happens only in list or digest, its
+/// history has the whole course: a bounce of a post or of an issue that existed, which was answered `bounce`; at least 1,000,000 seconds
+/// later a warning, to that member alone, which names the number of that bounce; the bounce of that warning, with a good cookie; at least
+/// 1,000,000 seconds later a probe, to that member alone; and then the bounce of that probe, with a good cookie. The address was a member
+/// all the while.
 pub fn law_chain()
     ensures { LawChain }
 {}
 
-/// A directory with the files of a new list, and no other file of the table but maybe the log, stands for the list without members,
-/// posts and mail, and without any kept reply. So does what the puts of `ml_config::initial` leave of a directory that has no file of the
-/// table but maybe the log. Files outside the table may be there, and aren't looked at.
+/// A directory that has the files of a new list, and no other file of the table except perhaps the log, stands for the list without
+/// members, posts and mail, and without any kept reply. So does what the puts of `ml_config::initial` make of a directory that has no file
+/// of the table except perhaps the log. Files outside the table may be there; they aren't looked at.
 pub fn law_new_list()
     ensures files { LawNewList }
     ensures laid { LawLaidNew }
 {}
 
-/// Each step makes the next digest or none: a digest begins with the post behind the last one of the digest before it, has at least one
-/// post, and goes to the digest set as it then stands. So the issues of a history are 1, 2, 3 and so on; the first begins with post 1,
-/// each other one with the post behind the last of the one before it; no post is in two of them, none is left out up to the last that
-/// is in one, and no other entry has the path of an issue.
+/// Every step makes the next digest or none: a digest begins with the post after the last one of the digest before it, has at least one
+/// post, and goes to the digest set as it then is. So the issues of a history are 1, 2, 3 and so on. The first begins with post 1, every
+/// other one with the post after the last of the one before it. No post is in two of them, none is left out up to the last that is in one,
+/// and no other entry has the path of an issue.
 pub fn law_digests()
     ensures steps { MakesDigests }
     ensures issues { HasIssues }
 {}
 
-/// Each numbered item counts once, in the order of its first effect, or, first met below the floor, never.
+/// Every item with a number counts once, when it first comes; or never, if its number is below the floor by then.
 pub fn law_once()
     ensures { Once }
 {}
 
-/// The same over any runs, each on the state that the one before it left, whatever items they share.
+/// The same for any runs, each of which begins with the state that the one before it left. Runs may have items in common.
 pub fn law_joined()
     ensures { (p : Plain) (runs : List Run) → Joined p runs }
 {}
 
-/// A directory stands for one state at most. Which it is depends on the files of its parts alone.
+/// A directory stands for at most one state. Which one depends only on the files of its parts.
 pub fn law_states()
     ensures one { (dir : Dir) (q r : State) → IsState dir q → IsState dir r → q ≡ r }
     ensures own { (dir other : Dir) (q : State) → ((name : Name) → is_of_state name ≡ true → other name ≡ dir name) → IsState dir q → IsState other q }
@@ -96,7 +97,7 @@ pub fn law_states()
     ensures replies { (dir other : Dir) (floor : ℕ) (kept : Kept) → ((name : Name) → is_of_replies name ≡ true → other name ≡ dir name) → AreReplies dir floor kept → AreReplies other floor kept }
 {}
 
-/// Puts that touch the files of one part alone, and make them stand for another value of it, leave the other parts.
+/// Puts that touch only the files of one part, and make them stand for another value of it, leave the other parts as they were.
 pub fn law_parts()
     ensures members { (dir : Dir) (p : Plain) (set : Set) (k : Text) (puts : List Put) (ms : List Member) → IsList dir p → touches_only (is_touched set k) puts ≡ true →
         AreSubscribers (with_puts dir puts) set ms → IsList (with_puts dir puts) (record p { sets = with_members set ms p.sets }) }
@@ -116,7 +117,7 @@ pub fn law_parts()
         IsMark (with_puts dir puts) mark → mark.last ≤ length p.posts → mark.issue ≤ mark.last → IsList (with_puts dir puts) (record p { mark = mark }) }
 {}
 
-/// What a change of the files of kept replies makes of them: a reply more, a floor that stays, and one that rises.
+/// What the kept replies are after a change of their files: with one reply more, with a floor that stays, and with one that rises.
 pub fn law_changes()
     ensures reply { (dir : Dir) (floor : ℕ) (kept : Kept) (n : ℕ) (r : Reply) (new : Text) → AreReplies dir floor kept → n ≢ 0 → floor ≤ n → n ≤ 999_999_999_999 → is_kept r ≡ true →
         IsWritten (slots_of (dir (replies_name (n / 512)))) (n % 512) (Some r) new → AreReplies (with_file dir (replies_name (n / 512)) (Some new)) floor (keep n r kept) }
@@ -125,23 +126,23 @@ pub fn law_changes()
         IsRepliesFile (512 * (at / 512)) (other (replies_name (at / 512))) (from_floor at kept) → AreReplies other (max f at) (from_floor (max f at) kept) }
 {}
 
-/// A file holds a floor exactly where it is read as that floor: 1 where the file is absent, and else the number from 2 to
-/// 999,999,999,999 that stands in it in decimal, with an LF behind it. A slot's nine bytes are read as a reply, or as none, exactly where
-/// they spell it: zeros are none; else the first is the code and the other eight the number, most significant byte first, for a number
-/// other than 0.
+/// A file holds a floor exactly if it is read as that floor: 1 if the file is absent, otherwise the number from 2 to 999,999,999,999 that
+/// stands in it in decimal, with an LF after it. A slot's nine bytes are read as a reply, or as none, exactly if they spell it: zeros are
+/// none; otherwise the first byte is the code, and the other eight are the number, most significant byte first. An item without a number
+/// has no slot.
 pub fn law_kept_files()
     ensures floor { (file : Option Text) (floor : ℕ) → IsFloorFile file floor ↔ (floor_in file ≡ Some floor) }
     ensures slot { (n : ℕ) (o : Option Reply) → IsSlot n o → reply_in n (slot_text o) ≡ Some o }
     ensures only { (n : ℕ) (text : Text) (o : Option Reply) → AllByRecursion (λ b. b < 256) text → reply_in n text ≡ Some o → IsSlot n o × (text ≡ slot_text o) }
 {}
 
-/// The header of each mail of the list is read as the fields `Mailing-List`, `Precedence`, `From`, `To`, `Reply-To` where the mail has an
-/// address for answers, `Date` and `Subject`, in this order and no others. The value of each is what was put there, behind a space and
-/// with an LF behind it, and the body is all that was put behind the header. So it is whatever the mail says, and wherever the list's
+/// The header of every mail of the list is read as the fields `Mailing-List`, `Precedence`, `From`, `To`, `Reply-To` if the mail has an
+/// address for answers, `Date` and `Subject`, in this order and no others. The value of each is what was put there, with a space before
+/// it and an LF after it, and the body is all that was put after the header. This holds whatever the mail says, as long as the list's
 /// address, the recipient and the address for answers have no LF.
 ///
-/// Over every history of a list whose own address has no LF, in which only addresses are added, each entry that stands in the queue is a
-/// post with the text that is sent of a message, or has the path of an issue, or goes to the owner alone, or is a mail that is read so.
+/// After any history of a list whose own address has no LF, in which only addresses are added, every entry of the queue is a post with
+/// the text that the list sends of a message, or has the path of an issue, or goes only to the owner, or is a mail that is read as above.
 /// So nobody can add a field to a mail of the list or end its header, whatever he sends to it.
 pub fn law_mails()
     ensures read { LawMails }

@@ -1,4 +1,5 @@
-//! The list as a plain value: what an item does to it, and what the item is answered.
+//! The list as a plain value, without files: what an item does to it, and how the item is answered. The definitions of this crate say what
+//! the program means, and its laws are theorems about them.
 #![tactic(auto)]
 
 ghost use Rattle.std.specs.Prelude.{◌≡◌};
@@ -45,7 +46,7 @@ pub enum Act {
         set: Set,
         who: Address,
     },
-    /// To take an entry that was sent out of the queue.
+    /// To take out of the queue an entry that was sent.
     Sent {
         id: u64,
     },
@@ -53,16 +54,16 @@ pub enum Act {
     Rekey {
         key: [u8; 32],
     },
-    /// To give up what was answered to items of lower numbers, and to refuse such items from now on.
+    /// To forget the replies to items of lower numbers, and to refuse such items from now on.
     Floor {
         at: u64,
     },
 }
 
-/// Acts in a row, as a stream of items of one moment has them.
+/// Several acts, in order: those of a stream whose items all have one moment.
 pub type ActList = Row<Act>;
 
-/// What an item is answered: a code, and a number where the code has one (`has_number`), else 0.
+/// The answer to an item: a code, and a number if the code has one (`has_number`), otherwise 0.
 #[derive(Clone, Copy, Debug, PartialEq, Eq)]
 pub struct Reply {
     pub code: u8,
@@ -109,7 +110,7 @@ impl Reply {
     /// A bounce was noted.
     pub const BOUNCE: u8 = 13;
 
-    /// A bounce from which nothing follows was taken and let go.
+    /// A bounce was taken that changes nothing.
     pub const IGNORED: u8 = 14;
 
     /// A probe's bounce dropped the address: it left the set.
@@ -137,7 +138,7 @@ impl Reply {
     /// The message has no sender that is an address.
     pub const NOSENDER: u8 = 22;
 
-    /// The message came from this list before.
+    /// The message has been through a list already: it has a `Mailing-List` field.
     pub const LOOPED: u8 = 23;
 
     /// The sender is in the set deny.
@@ -152,13 +153,13 @@ impl Reply {
     /// The message doesn't name the list as a recipient.
     pub const NOTADDRESSED: u8 = 27;
 
-    /// The post is by nobody of list, digest, allow and mod.
+    /// The sender of the post is in none of the sets list, digest, allow and mod.
     pub const USERSONLY: u8 = 28;
 
     /// The recipient isn't an address of this list.
     pub const NOTOURS: u8 = 29;
 
-    /// The cookie isn't right, or too old.
+    /// The cookie is wrong or too old.
     pub const BADCOOKIE: u8 = 30;
 
     /// The list doesn't grant the request to this sender.
@@ -167,10 +168,10 @@ impl Reply {
     /// The key was changed.
     pub const REKEYED: u8 = 32;
 
-    /// The key was changed too short a time ago.
+    /// The last change of the key is too recent.
     pub const TOOSOON: u8 = 33;
 
-    /// The floor was raised; it follows.
+    /// The floor was raised, or was as high already; it follows.
     pub const FLOORED: u8 = 34;
 
     /// The item's number is below the floor.
@@ -216,7 +217,7 @@ impl Reply {
         }
     }
 
-    /// The floor is this, whether it was raised or stands as high already.
+    /// The floor is this: it was raised, or was as high already.
     pub fn floored(floor: u64) -> Self
         ensures { result ≡ answers.floored floor }
     {

@@ -1,4 +1,4 @@
-// Entries of the queue, one behind the other.
+// Goes through the entries of the queue, one after another: to list the ids, and to check all entries.
 ghost use Rattle.std.specs.Prelude.{◌≡◌, ◌≤◌, IsTrue, IfOk, IfErr, OnOk, IsErrOf};
 ghost use Rattle.ml_base.specs.PartErrors.{OnDamaged};
 ghost use Rattle.ml_base.specs.ReadFiles.{IsReading, NamesDamaged};
@@ -11,8 +11,8 @@ use ml_base::{Files, Numbers, PartError};
 use ml_drawn::{Series, counter_of, next_number};
 use std::alloc::Global;
 
-/// All ids, in order. It looks at one id after the other from the lowest on, and reads no entry where the files can tell without that one is
-/// there.
+/// All ids, in order. It looks at one id after another from the lowest on, and reads no entry if the files can tell
+/// without reading whether it is there.
 pub fn ids<F: Files>(alloc: Global, files: &mut F) -> Result<Numbers, PartError>
     ensures value { IsTrue F.tells → IfOk result (λ ids. (queue : Queue) → IsCountedQueue (F.map files.old) queue → ids ≡ spec.ids queue) }
     ensures names { NamesDamaged ⟦<F as Files>⟧ (λ name. name ≡ ids_name) (BreaksCounted (F.map files.old)) result }
@@ -29,8 +29,8 @@ pub fn ids<F: Files>(alloc: Global, files: &mut F) -> Result<Numbers, PartError>
     Ok(ids)
 }
 
-/// Whether the files from the lowest id on and below the next one stand for a queue. It reads all of them, and names the
-/// first that is outside its grammar.
+/// Whether the files from the lowest id on and below the next one stand for a queue. It reads all of them, and names
+/// the first that is outside its grammar.
 pub fn audit<F: Files>(alloc: Global, files: &mut F) -> Result<(), PartError>
     ensures ok { IsTrue F.tells → OnOk result ((queue : Queue) × IsCountedQueue (F.map files.old) queue) }
     ensures names { NamesDamaged ⟦<F as Files>⟧ IsQueueName (BreaksCounted (F.map files.old)) result }

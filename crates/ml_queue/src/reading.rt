@@ -1,4 +1,4 @@
-// The text of an entry.
+// Reads and writes the text of an entry.
 ghost use Rattle.std.specs.Prelude.{◌≡◌, ◌≢◌, ◌≤◌, ◌^◌, ◌↔◌, Bool, true, IsTrue, IfOk, IfSome, IfNone, length};
 ghost use Rattle.ml_base.specs.Address.{key};
 ghost use Rattle.ml_base.specs.Sorted.{byte_cmp, is_sorted};
@@ -12,16 +12,16 @@ use ml_base::{Bytes, LARGEST_READ, push_netstring, split_netstring};
 use ml_drawn::Thing;
 use std::alloc::{AllocError, Global};
 
-// The most bytes that a netstring has besides its content: eighteen digits, a colon and a comma.
+// The most bytes that a netstring has besides its content: a length of eighteen digits, a colon and a comma.
 const AROUND: usize = 20;
 
-// The most that it has besides an address, whose length has three digits at most.
+// The most bytes that the netstring of an address has besides it: its length has at most three digits.
 const AROUND_ADDRESS: usize = 5;
 
-// The bytes of a letter's netstring.
+// The bytes of the netstring of one letter.
 const LETTER: usize = 4;
 
-// What stands before the recipients in an entry's text, and their row.
+// What comes before the recipients in an entry's text, and the row of their netstrings.
 #[derive(Clone, Copy)]
 pub(crate) struct Front<'a> {
     pub base: &'a [u8],
@@ -31,7 +31,7 @@ pub(crate) struct Front<'a> {
     pub row: &'a [u8],
 }
 
-// Whether a recipient stands in the envelope sender: `v` says that he does, and `p` that he doesn't.
+// Whether the envelope sender of each copy names the recipient: `v` says that it does, and `p` that it doesn't.
 fn read_letter(text: &[u8]) -> Option<bool>
     ensures some { IfSome result (λ each. text.now ≡ each_letter each) }
     ensures none { IfNone result ((each : Bool) → text.now ≢ each_letter each) }
@@ -45,7 +45,7 @@ fn read_letter(text: &[u8]) -> Option<bool>
     None
 }
 
-// The front of an entry's text, or None of a text that begins with none. It takes no memory.
+// What an entry's text begins with, or None if the text begins with no such parts. It takes no memory.
 fn front_of(text: &[u8]) -> Option<Front<'_>>
     ensures some { IfSome result (λ front. IsFront text.now (told front)) }
     ensures none { IfNone result ((p : Parts) → ¬ IsFront text.now p) }
@@ -64,7 +64,7 @@ fn front_of(text: &[u8]) -> Option<Front<'_>>
     })
 }
 
-// The entry that a text spells, or None of a text that spells none.
+// The entry that a text spells, or None if it spells none.
 pub(crate) fn read_out(alloc: Global, text: &[u8]) -> Result<Option<Out>, AllocError>
     ensures { IfOk result (IsRead text.now) }
 {
@@ -113,7 +113,8 @@ fn room_of(out: &Out) -> usize {
     room
 }
 
-// The text of an entry, whose bytes are written once. It wants memory for one that no memory holds.
+// The text of an entry, written into a buffer that never grows. If a part is too long for a netstring, the error is lack
+// of memory.
 pub(crate) fn write_out(alloc: Global, out: &Out) -> Result<Bytes, AllocError>
     requires { is_sorted byte_cmp key out.now.to ≡ true }
     ensures is { IfOk result (λ _. IsOut out.now) }

@@ -1,4 +1,4 @@
-// The recipients of an entry.
+// Reads and writes the recipients of an entry.
 ghost use Rattle.std.specs.Prelude.{◌≡◌, ◌++◌, IfOk, OnOk};
 ghost use Rattle.std.specs.List.{AllByRecursion};
 ghost use Rattle.ml_base.specs.Address.{IsAddress};
@@ -8,7 +8,7 @@ ghost use Rattle.ml_queue.specs.Reading.{AreRecipients};
 use ml_base::{Address, AddressList, Bytes, is_below, is_kept, push_netstring, split_netstring};
 use std::alloc::{AllocError, Global};
 
-// The recipients that a text spells, or None where it spells none in ascending order of key.
+// The recipients that a text spells, or None if it doesn't spell addresses in ascending order of key.
 pub(crate) fn recipients_of(alloc: Global, text: &[u8]) -> Result<Option<AddressList>, AllocError>
     ensures { IfOk result (AreRecipients text.now) }
 {

@@ -1,4 +1,4 @@
--- The lines of entries, one id behind the other.
+-- The lines of the queue's entries, one id after another.
 use Rattle.std.proofs.Common.{◌≡◌, ◌+◌, ◌≤◌, ◌++◌, ◌∷◌, [], ℕ, List, Option, Some, None, IsTrue, sym, ap, map, subst, ◌∙◌, append-nil, append_assoc, refl, arith, inl, inr}
 use Rattle.std.proofs.lemmas.Bool.{cases_eq, cases_lt}
 use Rattle.ml_base.specs.Bytes.{Text}
@@ -25,8 +25,8 @@ lines_more : (es : List (Drawn Out)) (e : Drawn Out) → entry_lines (es ++ e �
 lines_more [] e = append-nil (entry_line e.number e.thing ++ lf)
 lines_more (f ∷ fs) e = ap (λ (t : Text). (entry_line f.number f.thing ++ lf) ++ t) (lines_more fs e) ∙ sym (append_assoc (entry_line f.number f.thing ++ lf) (entry_lines fs) (entry_line e.number e.thing ++ lf))
 
--- A text that is the lines of the entries from the lowest id on and below another. From the id on that is behind the last of them there is no
--- further entry up to there.
+-- A text that is the lines of the entries from the lowest id on and below another one. After the last of these entries there is none up to
+-- that other id.
 pub record AreListed (dir : Dir) (low id : ℕ) (text : Text) : Type 0 where
   pub done : List (Drawn Out)
   pub behind : ℕ
@@ -48,7 +48,7 @@ none_listed dir low = record {
   text_is = refl;
 }
 
--- one id more
+-- one more id
 pub listed_more : (dir : Dir) (low id : ℕ) (text new : Text) (found : Option Out) → AreListed dir low id text → LooksBy dir id found → new ≡ text ++ line_of id found → AreListed dir low (id + 1) new
 listed_more dir low id text new None before looks is =
     let within = before.within in

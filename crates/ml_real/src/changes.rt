@@ -1,4 +1,4 @@
-// What has to reach the disk before a sync is good.
+// What a run has changed and has to bring to the disk before a sync is good.
 use crate::descriptors::{length_of, open_folder, open_to_sync};
 use crate::folder::barred_or;
 use crate::log::{FoundLog, find, first_log, new_log, open_log, remove_new_log, rename_new_log};
@@ -13,7 +13,6 @@ use std::io::ErrorKind;
 // How many files are kept open until the next sync, of the 1,024 descriptors that a process usually has.
 const MOST_KEPT: usize = 256;
 
-// The configuration of a list.
 /// The log, files and folders that were changed since the last good sync.
 #[derive(Drop)]
 pub(crate) struct Changes {
@@ -26,24 +25,24 @@ pub(crate) struct Changes {
     is_closed: bool,
     // Whether the log that was found has no closed gate, and wasn't changed since.
     lacks_gate: bool,
-    // Whether each entry that this run found is on the disk, so that only those that it makes and removes are to be synced.
+    // Whether every entry that this run found is on the disk, so that only those that it makes or removes have to be synced.
     are_names_settled: bool,
-    // Each with the descriptor that it was written by, as far as these are kept: on Linux the one that was written is told
-    // of a write-back that failed, where another that is opened later may not be.
+    // The files, each with the descriptor that wrote it, if that is kept: on Linux this one reports a write-back that
+    // failed, and one that is opened later may not.
     files: BTreeMap<Name, Option<File>>,
     kept: usize,
     // Whether the list's own folder has an entry that was made, renamed or removed, or that may have been.
     list: bool,
-    // The same of the folders below it.
+    // The folders below it for which the same holds.
     folders: BTreeSet<Place>,
-    // The folder that the list's folder stands in.
+    // Whether the folder that the list's folder stands in has to be synced.
     outside: bool,
-    // Whether a sync has failed. What it was to write may be lost then, and no later one is good.
+    // Whether a sync has failed. What it had to write may be lost then, and no later one is good.
     is_lost: bool,
 }
 
 impl Changes {
-    /// What a run begins with. It takes no memory.
+    /// The changes that a run begins with. It takes no memory.
     ///
     /// The log and the list's own entry count as changed: an earlier run may have been killed before its sync.
     pub fn new(alloc: Global) -> Self {
@@ -76,8 +75,8 @@ impl Changes {
     }
 
     /// Gives a log that lacks a gate these bytes, at least one. They go into a new file, which is synced and then takes the log's name. So
-    /// where one closed gate reads, its block was written well once: had the sync of a log's first byte failed, and a later run had written on in
-    /// that block, ext4 could show it, call it synced, and have zeros on the disk.
+    /// if one closed gate reads, its block was written well once. Otherwise the sync of a log's first byte could have failed; if a later run
+    /// then wrote on in that block, ext4 could show it, call it synced, and have zeros on the disk.
     pub fn begin_log(
         &mut self,
         rt: &HostRuntime,
@@ -91,7 +90,7 @@ impl Changes {
         self.name_log(rt, paths, log, new)
     }
 
-    /// Whether an entry that is there may be missing on the disk: an earlier run that was killed leaves such ones.
+    /// Whether an entry that is there may be missing on the disk: an earlier run that was killed may leave such entries.
     pub fn may_miss_entries(&self) -> bool {
         !self.are_names_settled
     }
@@ -111,8 +110,8 @@ impl Changes {
         Ok(())
     }
 
-    /// Notes what is to be synced where a file's entry is made or removed: its folder, and those on the way to it where an
-    /// earlier run may have made them.
+    /// Notes what has to be synced when a file's entry is made or removed: its folder, and also the folders on the way to it if
+    /// an earlier run may have made them.
     pub fn note_entry(&mut self, name: Name) -> io::Result<()> {
         if !self.are_names_settled {
             return self.note_folders(name);
@@ -186,9 +185,9 @@ impl Changes {
         if self.is_lost {
             return Err(ErrorKind::Other.into());
         }
-        // The files come first: until they are closed there may be no further descriptor for log and folders. The log comes before the
-        // folders: where it takes its name anew, a crash behind a folder that was synced before could bring the old one back. Else the
-        // order loses nothing, since no sync is good before all of it is on the disk.
+        // The files come first: until they are closed there may be no descriptor left for log and folders. The log comes before the
+        // folders: if it takes its name anew after a folder was synced, a crash could bring the old one back. Otherwise the order
+        // doesn't matter, since no sync is good before all of it is on the disk.
         self.sync_kept_files()?;
         self.sync_closed_files(rt, paths)?;
         self.sync_log(rt, paths, log)?;
@@ -208,7 +207,7 @@ impl Changes {
         Ok(())
     }
 
-    // Whether an earlier run has synced the entries of the log and of the list's folder: else it would have written no file.
+    // Whether an earlier run has synced the entries of the log and of the list's folder: without that it would have written no file.
     fn is_list_there(&self, rt: &HostRuntime, paths: &mut Paths<'_>) -> bool {
         self.is_closed && !self.is_touched && has_config(rt, paths)
     }
@@ -232,8 +231,8 @@ impl Changes {
         }
     }
 
-    // At the first sync of a run: the log that it finds is on the disk behind it as it reads. What an earlier run wrote may be there
-    // in part. Where its sync failed, Linux shows bytes that the disk hasn't got, and calls them written.
+    // For the first sync of a run: after it, the log that the run found is on the disk as it reads. What an earlier run wrote may be
+    // there in part. If its sync failed, Linux shows bytes that the disk hasn't got, and calls them written.
     fn settle_found_log(
         &mut self,
         rt: &HostRuntime,
@@ -258,8 +257,8 @@ impl Changes {
         Ok(())
     }
 
-    // A log of one byte at most isn't written. A run closes the first gate and syncs that before it cuts the log: so where one closed
-    // gate reads, the disk has a closed one too, and nothing counts that it may have behind it.
+    // A log of at most one byte isn't written anew. A run closes the first gate and syncs that before it cuts the log: so if one closed
+    // gate reads, the disk has a closed one too, and nothing counts that it may have after that.
     fn sync_short_log(
         &mut self,
         rt: &HostRuntime,
@@ -269,18 +268,18 @@ impl Changes {
         if let Some(file) = log {
             settled(file.sync_data(), &mut self.is_lost)?;
         }
-        // Of a run that was killed, before a crash left this log.
+        // A run that was killed, before a crash left this log, may have left one.
         remove_new_log(rt, paths)
     }
 
-    // The log's bytes, as they read, go into a new file, which is synced and then takes the log's name; the folder is synced behind it.
-    // In each moment one of the two is whole under that name. The lock is a file of its own and holds throughout.
+    // The log's bytes, as they read, go into a new file, which is synced and then takes the log's name; the folder is synced after that.
+    // At every moment one of the two is whole under that name. The lock is a file of its own and holds throughout.
     //
-    // Each other order could lose answered items by a crash:
-    // - bytes written in place are pending until a sync is good: all of the log may be left with any bytes;
-    // - a name taken before the new file is synced may lead to an empty file, or to half of one;
-    // - a log removed before its name is taken may leave none, which is an empty one;
-    // - a log changed before the folder is synced may come back as it was, without what was answered since.
+    // Any other order could lose answered items in a crash:
+    // - bytes written in place are pending until a sync is good: the whole log may be left with any bytes;
+    // - if the new file takes the name before it is synced, the name may lead to an empty file, or to half of one;
+    // - if the old log is removed before the new one takes its name, there may be none, which counts as an empty one;
+    // - if the log is changed before the folder is synced, it may come back as it was, without what was answered since.
     fn renew_log(
         &mut self,
         rt: &HostRuntime,
@@ -317,8 +316,8 @@ impl Changes {
         }
     }
 
-    // Brings the files that are kept open to the disk, closes them and forgets them. Without it a crash could leave a file that
-    // was written with other bytes.
+    // Brings the files that are kept open to the disk, closes them and forgets them. Without it a crash could leave a written file
+    // with other bytes.
     fn sync_kept_files(&mut self) -> io::Result<()> {
         for (_, place) in self.files.iter() {
             if let Some(file) = place {
@@ -330,7 +329,7 @@ impl Changes {
         Ok(())
     }
 
-    // The same for the files that were closed again, of which each is opened for it.
+    // The same for the files that were closed before. Each of them is opened for it.
     fn sync_closed_files(&mut self, rt: &HostRuntime, paths: &mut Paths<'_>) -> io::Result<()> {
         for (name, _) in self.files.iter() {
             let file = open_to_sync(rt, paths.file(*name)?)?;
@@ -339,7 +338,7 @@ impl Changes {
         Ok(())
     }
 
-    // Without it a crash could leave a file or a folder that was made absent, a removed file there, or an old log under its name.
+    // Without it, after a crash a new file or folder could be missing, a removed file there, or an old log under its name.
     fn sync_list(&mut self, rt: &HostRuntime, paths: &mut Paths<'_>) -> io::Result<()> {
         if self.list {
             let folder = open_folder(rt, paths.folder(Place::LIST)?)?;
@@ -348,7 +347,7 @@ impl Changes {
         Ok(())
     }
 
-    // The same of the folders below the list's own, and of the one that it stands in.
+    // The same for the folders below the list's own, and for the one that it stands in.
     fn sync_folders(&mut self, rt: &HostRuntime, paths: &mut Paths<'_>) -> io::Result<()> {
         for place in self.folders.iter() {
             match open_folder(rt, paths.folder(*place)?) {
@@ -381,7 +380,7 @@ fn named(
     Ok(new)
 }
 
-// Whether there is a configuration, which comes with the first change that a list's log had.
+// Whether there is a configuration. It comes with the first change in a list's log.
 fn has_config(rt: &HostRuntime, paths: &mut Paths<'_>) -> bool {
     match paths.file(Name::CONFIG) {
         Ok(path) => matches!(length_of(rt, path), Ok(Some(_))),

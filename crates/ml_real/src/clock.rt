@@ -1,4 +1,4 @@
-// The system's clock.
+// The system's clock, as a clock that counts its faults.
 ghost use Rattle.std.specs.Prelude.{◌≡◌, None};
 
 use ml_base::LAST_MOMENT;
@@ -14,7 +14,7 @@ pub struct RealClock<'a> {
 }
 
 impl<'a> RealClock<'a> {
-    /// A clock that has failed at nothing. It takes no memory.
+    /// A clock that hasn't failed yet. It takes no memory.
     pub fn new(rt: &'a HostRuntime) -> Self
         ensures { result.faults ≡ 0 }
     {
@@ -22,7 +22,7 @@ impl<'a> RealClock<'a> {
     }
 }
 
-// Seconds since the beginning of 1970. A clock that stands before it is an error.
+// Seconds since the beginning of 1970. A clock that shows an earlier time is an error.
 fn seconds(rt: &HostRuntime) -> io::Result<u64> {
     let now = SystemTime::now(rt)?;
     match now.duration_since(SystemTime::UNIX_EPOCH) {

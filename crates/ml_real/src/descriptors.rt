@@ -1,11 +1,11 @@
-// Files and folders of one user's own, whose numbers are no standard stream's.
+// Opens, makes and removes files and folders, for one user alone. No file gets the number of a standard stream.
 use std::fs::{DirBuilder, File, OpenOptions};
 use std::io::ErrorKind;
 use std::os::fd::AsRawFd;
 use std::os::unix::fs::{DirBuilderExt, OpenOptionsExt};
 use std::{fs, io};
 
-// The list's files and folders are for the user that the program runs as: the keys' file authorises whoever can read it.
+// Only the user that the program runs as may use the list's files and folders: whoever can read the list's key can make its cookies.
 const FILE_MODE: u32 = 0o600;
 
 const FOLDER_MODE: u32 = 0o700;
@@ -33,8 +33,8 @@ pub(crate) fn open_to_change(rt: &HostRuntime, path: &str) -> io::Result<File> {
     above_streams(OpenOptions::new().read(true).write(true).open(rt, path)?)
 }
 
-/// Opens a file to read and to write it, with its bytes as they are, and makes it where it is missing. What stands there is a
-/// regular file, if it is there, as `length_of` finds.
+/// Opens a file to read and to write it, with its bytes as they are, and makes it if it is missing. If something is there, it
+/// is a regular file, as `length_of` finds.
 pub(crate) fn open_to_write(rt: &HostRuntime, path: &str) -> io::Result<File> {
     open_made(rt, path, false)
 }
@@ -45,7 +45,7 @@ pub(crate) fn open_anew(rt: &HostRuntime, path: &str) -> io::Result<File> {
     open_made(rt, path, true)
 }
 
-// Opens a file to read and to write it, without its bytes where it is to be emptied, and makes it where it is missing.
+// Opens a file to read and to write it, without its bytes if `is_emptied`, and makes it if it is missing.
 fn open_made(rt: &HostRuntime, path: &str, is_emptied: bool) -> io::Result<File> {
     let file = OpenOptions::new()
         .read(true)
@@ -57,7 +57,7 @@ fn open_made(rt: &HostRuntime, path: &str, is_emptied: bool) -> io::Result<File>
     above_streams(file)
 }
 
-/// Removes a file, where it is there.
+/// Removes a file, if it is there.
 pub(crate) fn remove_file(rt: &HostRuntime, path: &str) -> io::Result<()> {
     for _ in 0..u64::MAX {
         match fs::remove_file(rt, path) {
@@ -69,7 +69,7 @@ pub(crate) fn remove_file(rt: &HostRuntime, path: &str) -> io::Result<()> {
     Err(ErrorKind::Interrupted.into())
 }
 
-/// Whether a file was not opened for want of a descriptor, of this process or of the whole machine.
+/// Whether a file couldn't be opened because this process or the whole machine has no descriptor left.
 pub(crate) fn lacks_descriptor(error: &io::Error) -> bool {
     matches!(
         error.raw_os_error(),
@@ -98,7 +98,7 @@ pub(crate) fn make_folder(rt: &HostRuntime, path: &str) -> io::Result<bool> {
     Err(ErrorKind::Interrupted.into())
 }
 
-/// The length of a regular file, or None where nothing is there.
+/// The length of a regular file, or None if nothing is there.
 pub(crate) fn length_of(rt: &HostRuntime, path: &str) -> io::Result<Option<u64>> {
     match regular(rt, path) {
         Ok(len) => Ok(Some(len)),
@@ -107,7 +107,7 @@ pub(crate) fn length_of(rt: &HostRuntime, path: &str) -> io::Result<Option<u64>>
     }
 }
 
-// The length of a regular file. It is an error where what is there is none: whoever opens a FIFO waits for another program.
+// The length of a regular file. Anything else there is an error: whoever opens a FIFO waits for another program.
 fn regular(rt: &HostRuntime, path: &str) -> io::Result<u64> {
     let found = fs::metadata(rt, path)?;
     if found.is_file() {

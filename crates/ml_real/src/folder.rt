@@ -1,4 +1,4 @@
-// The folder of a list: its log and its files.
+// The folder of a list: reads and writes its log and its files, and holds its lock.
 ghost use Rattle.std.specs.Prelude.{◌≤◌, IfOk};
 
 use crate::changes::Changes;
@@ -33,14 +33,14 @@ pub(crate) struct Folder<'a> {
     paths: Paths<'a>,
     // The lock ends when this file is closed.
     lock: Option<File>,
-    // Whether this run has waited for the lock. It waits once: after that each further call tries the lock once.
+    // Whether this run has waited for the lock. It waits once: after that every further call tries the lock once.
     has_waited: bool,
-    // The log, from the first sync that finds it or from its first change on.
+    // The log, once a first sync has found it or a first change has opened it.
     log: Option<File>,
-    // The file that was last looked for and not there: each item of a stream asks for the floor, which most lists haven't. The
-    // lock keeps others from making it.
+    // The file that was last looked for and wasn't there: every item of a stream asks for the floor, which most lists don't have.
+    // The lock keeps others from making it.
     absent: Option<Name>,
-    // The configuration, once it was read: each delivery asks for it, and no item changes it.
+    // The configuration, once it was read: every delivery asks for it, and no item changes it.
     config: Option<Bytes>,
     // The last folder that was listed, as long as no file of it was changed: a walk over its files lists it once.
     listing: Option<Listing>,
@@ -64,7 +64,7 @@ impl<'a> Folder<'a> {
         }
     }
 
-    /// Takes the room for paths. Behind it a first sync takes none of its own.
+    /// Takes the room for paths. After that a first sync takes none of its own.
     pub fn take_room(&mut self, alloc: Global) -> Result<(), AllocError> {
         self.paths.take_room(alloc)
     }
@@ -89,7 +89,7 @@ impl<'a> Folder<'a> {
         Ok(())
     }
 
-    // Makes the list's folder, and those above it, where they are missing. The list's own entry is for the first sync.
+    // Makes the list's folder, and those above it, if they are missing. Syncing the list's own entry is left to the first sync.
     fn make_list(&mut self) -> io::Result<()> {
         match make_folder(self.rt, self.dir) {
             Err(error) if error.kind() == ErrorKind::NotFound => {
@@ -104,8 +104,8 @@ impl<'a> Folder<'a> {
     }
 
     // Makes the folders above the list's own that are missing, from the top. Each entry reaches the disk before the next folder
-    // is made: else a crash could leave a list to which no path leads. The last one that was there may be one whose entry an
-    // earlier run made and was killed before it had synced it, so its entry is synced too.
+    // is made: otherwise a crash could leave a list to which no path leads. An earlier run may have made the last folder that was
+    // there, and may have been killed before it synced its entry; so that entry is synced too.
     fn make_above(&mut self) -> io::Result<()> {
         let dir = self.dir;
         let mut is_first = true;
@@ -152,7 +152,7 @@ impl<'a> Folder<'a> {
         self.log()?.set_len(len)
     }
 
-    // The log, to change it. It is made where it is missing.
+    // The log, to change it. It is made if it is missing.
     fn log(&mut self) -> io::Result<&File> {
         self.ready()?;
         self.changes.note_log();
@@ -169,7 +169,7 @@ impl<'a> Folder<'a> {
         }
     }
 
-    /// The bytes of a file, or None where it isn't there.
+    /// The bytes of a file, or None if it isn't there.
     pub fn read(&mut self, alloc: Global, name: Name) -> io::Result<Option<Bytes>> {
         self.ready()?;
         if self.absent == Some(name) {
@@ -192,7 +192,7 @@ impl<'a> Folder<'a> {
         }
     }
 
-    // The bytes of the configuration, where they are kept and it is this file.
+    // The bytes of the configuration, if they are kept and it is this file.
     fn kept(&self, name: Name) -> Option<&[u8]> {
         match &self.config {
             Some(config) if name == Name::CONFIG => Some(config.as_slice()),
@@ -200,7 +200,7 @@ impl<'a> Folder<'a> {
         }
     }
 
-    // Keeps the bytes of a file where it is the configuration, and no larger than one is. Where there is no memory for them they are
+    // Keeps the bytes of a file if it is the configuration, and no larger than one is. If there is no memory for them, they are
     // read again.
     fn keep(&mut self, alloc: Global, name: Name, bytes: &[u8]) {
         if name == Name::CONFIG && bytes.len() <= LARGEST_CONFIG {
@@ -208,7 +208,7 @@ impl<'a> Folder<'a> {
         }
     }
 
-    // Forgets what is kept of a file that is there, before it is changed.
+    // Forgets what is kept of a file, and of its folder, before it is changed.
     fn forget(&mut self, name: Name) {
         if name == Name::CONFIG {
             self.config = None;
@@ -229,8 +229,8 @@ impl<'a> Folder<'a> {
         Ok(there)
     }
 
-    /// The first place from one on that the folder of a kind has an entry of, or `end` where it has none of one before that. Nothing is
-    /// left out of a kind whose files aren't drawn.
+    /// The first place from this one on for which the folder of a kind has an entry, or `end` if there is none before that. For a kind
+    /// whose files aren't drawn it answers `from`.
     pub fn skip(&mut self, kind: u8, from: u64, end: u64) -> io::Result<u64>
         requires { from ≤ end }
         ensures { IfOk result (λ at. (from ≤ at) × (at ≤ end)) }
@@ -265,7 +265,7 @@ impl<'a> Folder<'a> {
         }
     }
 
-    /// Gives a file these bytes. What is to be synced is noted first, so that want of memory writes nothing.
+    /// Gives a file these bytes. What is to be synced is noted first, so nothing is written if there is no memory for that.
     pub fn write(&mut self, name: Name, bytes: &[u8]) -> io::Result<()> {
         self.ready()?;
         self.absent = None;
@@ -301,7 +301,7 @@ impl<'a> Folder<'a> {
     // Opens a file to write it.
     fn file_to_write(&mut self, name: Name) -> io::Result<File> {
         match self.open_file(name) {
-            // There is no further descriptor, as long as files are kept open for the next sync.
+            // There is no descriptor left, but files are kept open for the next sync.
             Err(error) if lacks_descriptor(&error) && self.changes.keeps_files() => {
                 self.changes.close_files()?;
                 self.open_file(name)
@@ -310,7 +310,7 @@ impl<'a> Folder<'a> {
         }
     }
 
-    // Opens a file to write it, and makes it and the folders on the way to it where they are missing.
+    // Opens a file to write it, and makes it and the folders on the way to it if they are missing.
     fn open_file(&mut self, name: Name) -> io::Result<File> {
         match open_to_write(self.rt, self.paths.file(name)?) {
             Err(error) if error.kind() == ErrorKind::NotFound => {
@@ -329,7 +329,7 @@ impl<'a> Folder<'a> {
         Ok(())
     }
 
-    /// Removes a file. It is no error where none is there.
+    /// Removes a file. It is no error if none is there.
     pub fn remove(&mut self, name: Name) -> io::Result<()> {
         self.ready()?;
         self.forget(name);
@@ -339,7 +339,7 @@ impl<'a> Folder<'a> {
         Ok(())
     }
 
-    /// Brings what has changed since the last good sync to the disk. It takes memory at the first use alone.
+    /// Brings what has changed since the last good sync to the disk. Only the first use takes memory.
     pub fn sync(&mut self) -> io::Result<()> {
         self.ready()?;
         self.changes.sync(self.rt, &mut self.paths, &mut self.log)
@@ -364,7 +364,7 @@ impl<'a> Folder<'a> {
     }
 }
 
-// The bytes of a file that has so many of them, by one read where the disk gives them at once. The list's lock keeps others from
+// The bytes of a file of this length, by one read if the disk gives them at once. The list's lock keeps others from
 // changing it meanwhile.
 fn read_all(alloc: Global, mut file: File, len: u64) -> io::Result<Bytes> {
     let Ok(len) = usize::try_from(len) else {
@@ -394,7 +394,7 @@ fn fill(file: &mut File, buf: &mut [u8]) -> io::Result<usize> {
     Err(ErrorKind::Interrupted.into())
 }
 
-// Gives a file that has at most so many bytes these and no others.
+// Gives a file of at most `most` bytes these bytes and no others.
 fn write_whole(file: &File, most: u64, bytes: &[u8]) -> io::Result<()> {
     file.write_all_at(bytes, 0)?;
     let len = bytes.len() as u64;
@@ -407,15 +407,15 @@ fn write_whole(file: &File, most: u64, bytes: &[u8]) -> io::Result<()> {
 
 // Gives a file these bytes and no others, in none of the blocks that it had.
 //
-// An earlier run may have written it, and its sync may have failed. ext4 keeps a block of a new file as one that was never written until
-// a write of it is done. Once that write has failed, bytes that are written over it in place read well, and their sync is good, and
-// the file is zeros after the machine was started again. A file that was cut has none of these blocks.
+// An earlier run may have written it, and its sync may have failed. ext4 treats a block of a new file as never written until
+// a write of it is done. After that write has failed, bytes that are written over it in place read well, and their sync is good,
+// yet the file is zeros after the machine restarts. A file that was cut has none of these blocks.
 fn write_anew(file: &File, bytes: &[u8]) -> io::Result<()> {
     file.set_len(0)?;
     file.write_all_at(bytes, 0)
 }
 
-// Takes the lock of a list, by at most so many tries. Most runs have it for a moment only, so the pauses between are short at first.
+// Takes the lock of a list, in at most `tries` tries. Most runs hold it only for a moment, so the pauses are short at first.
 // A file system that has no locks, or none left, says so at once.
 fn take_lock(rt: &HostRuntime, lock: &File, tries: u32) -> io::Result<()> {
     let mut pause: u64 = 1;
@@ -440,7 +440,7 @@ fn sync_folder(rt: &HostRuntime, path: &str) -> io::Result<()> {
     }
 }
 
-/// No error where a folder may not be opened: it isn't this user's, so an earlier one has made it.
+/// No error if a folder may not be opened: it isn't this user's, so another one made it before.
 pub(crate) fn barred_or(error: io::Error) -> io::Result<()> {
     if error.kind() == ErrorKind::PermissionDenied {
         Ok(())

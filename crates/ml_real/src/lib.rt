@@ -1,5 +1,5 @@
-//! The real disk, output, source and clock. They tell nothing of what they hold, so that what is proved of them is
-//! that each fault is counted. That each call does what it says is for the reader of these files.
+//! The real disk, output, source and clock. They don't tell what they hold, so all that is proved of them is that every
+//! fault is counted. Whether each call does what it says has to be checked by reading these files.
 #![tactic(auto)]
 
 mod changes;

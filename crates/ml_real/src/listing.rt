@@ -1,4 +1,4 @@
-// Which numbers the files of a folder have.
+// Which numbers the files of a folder have: a folder is listed once, and then asked for the next number.
 ghost use Rattle.std.specs.Prelude.{◌≤◌};
 
 use ml_base::{is_drawn, read_number};
@@ -9,7 +9,7 @@ use std::{fs, io};
 #[derive(Drop)]
 pub(crate) struct Listing {
     kind: u8,
-    // From the least on.
+    // In ascending order.
     numbers: Vec<u64>,
 }
 
@@ -22,7 +22,7 @@ impl Listing {
                 for entry in entries {
                     match entry {
                         Ok(entry) => push_number(&mut numbers, entry.file_name())?,
-                        // A name that is no text is none that the program gives.
+                        // A name that isn't text isn't one that the program gives.
                         Err(error) if error.kind() == ErrorKind::InvalidFilename => {}
                         Err(error) => return Err(error),
                     }
@@ -40,7 +40,7 @@ impl Listing {
         self.kind == kind
     }
 
-    /// The first number from one on that has an entry, or `end` where none before it has one.
+    /// The first number from this one on that has an entry, or `end` if none before that has one.
     pub fn first(&self, from: u64, end: u64) -> u64
         requires { from ≤ end }
         ensures { (from ≤ result) × (result ≤ end) }
@@ -53,7 +53,7 @@ impl Listing {
     }
 }
 
-// Adds the number that a name is, if it is one that may be drawn. The program writes it in one way, so each other name is none.
+// Adds the number that a name spells, if it may be drawn. The program spells it in one way, so any other name counts for nothing.
 fn push_number(numbers: &mut Vec<u64>, name: &str) -> io::Result<()> {
     match read_number(name.as_bytes()) {
         Some(number) if is_drawn(number) => {

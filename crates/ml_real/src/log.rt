@@ -1,4 +1,4 @@
-// The log that a run finds, and the file that takes its place.
+// The log that a run finds, and the new file that takes its place.
 use crate::descriptors::{open_anew, open_to_change, remove_file};
 use crate::places::Paths;
 use std::fs::File;
@@ -18,9 +18,9 @@ const PIECE: usize = 65_536;
 /// What a run finds of the log.
 #[derive(Clone, Copy, PartialEq, Eq)]
 pub(crate) enum FoundLog {
-    /// None, or one without a byte, or of a byte that is no closed gate.
+    /// No log, or an empty one, or one byte that is no closed gate.
     Little,
-    /// One closed gate alone.
+    /// One closed gate and nothing else.
     Gate,
     /// More than one byte.
     Records,
@@ -37,7 +37,7 @@ pub(crate) fn find(log: &File) -> io::Result<FoundLog> {
     }
 }
 
-/// Opens the log to change it, where there is one.
+/// Opens the log to change it, if there is one.
 pub(crate) fn open_log(rt: &HostRuntime, paths: &mut Paths<'_>) -> io::Result<Option<File>> {
     match open_to_change(rt, paths.below(LOG)?) {
         Ok(log) => Ok(Some(log)),
@@ -60,7 +60,7 @@ pub(crate) fn first_log(rt: &HostRuntime, paths: &mut Paths<'_>, bytes: &[u8]) -
     Ok(new)
 }
 
-/// Gives the new file the log's name. Its bytes are on the disk by then: else a crash could leave the log empty, or half of it.
+/// Gives the new file the log's name. Its bytes are on the disk by then: otherwise a crash could leave the log empty, or half of it.
 pub(crate) fn rename_new_log(rt: &HostRuntime, paths: &mut Paths<'_>) -> io::Result<()> {
     let (new, log) = paths.both(NEW_LOG, LOG)?;
     for _ in 0..u64::MAX {
@@ -91,8 +91,8 @@ fn byte_at(file: &File, at: u64) -> io::Result<Option<u8>> {
     Err(ErrorKind::Interrupted.into())
 }
 
-// Copies a file's bytes piece by piece, each read and written: what the kernel copies by itself may be what the disk has, and not
-// what reads give.
+// Copies a file's bytes piece by piece, reading and writing each: a copy that the kernel makes by itself may be of what the disk
+// has, and not of what reads give.
 fn copy(from: &File, to: &File) -> io::Result<()> {
     let mut piece = [0u8; PIECE];
     let mut at: u64 = 0;

@@ -5,14 +5,14 @@ use std::alloc::{AllocError, Global};
 use std::io::ErrorKind;
 use std::{io, str};
 
-// A slash, and the longest path of a file.
+// Room for a slash and the longest path of a file.
 const ROOM: usize = 49;
 
-/// A folder of a list: its own at depth 0, and below that those on the way to its files.
+/// A folder of a list: its own at depth 0, and below that the folders on the way to its files.
 #[derive(Clone, Copy, Debug, PartialEq, Eq, PartialOrd, Ord)]
 pub(crate) struct Place {
     depth: u8,
-    // A file below the folder, the same one for all that stand there: so a folder is one value.
+    // A file below the folder, the same one for all files there: so a folder has one value.
     file: Name,
 }
 
@@ -39,7 +39,7 @@ impl Place {
     }
 }
 
-/// Paths below a list's folder, each in the place of those before.
+/// Makes paths below a list's folder, each in the memory of those before.
 #[derive(Drop)]
 pub(crate) struct Paths<'a> {
     dir: &'a str,
@@ -57,7 +57,7 @@ impl<'a> Paths<'a> {
         }
     }
 
-    /// Takes room for each path to come, so that a sync takes no memory.
+    /// Takes room for all paths to come, so that a sync takes no memory.
     pub fn take_room(&mut self, alloc: Global) -> Result<(), AllocError> {
         let room = self.dir.len().saturating_add(ROOM);
         if self.text.capacity() < room {
@@ -69,7 +69,7 @@ impl<'a> Paths<'a> {
         Ok(())
     }
 
-    /// The path of what stands at these bytes below the folder.
+    /// The path of something below the folder, from its path there.
     pub fn below(&mut self, rest: &[u8]) -> io::Result<&str> {
         set_path(&mut self.text, self.dir, rest)?;
         Ok(self.text.as_str())
@@ -82,7 +82,7 @@ impl<'a> Paths<'a> {
         Ok((self.text.as_str(), self.second.as_str()))
     }
 
-    /// The path of a folder above the list's own, with a text of at most eight bytes behind it. It takes no memory.
+    /// The path of a folder above the list's own, and then a text of at most eight bytes. It takes no memory.
     pub fn above(&mut self, folder: &str, rest: &str) -> io::Result<&str> {
         self.text.clear();
         self.text.push_str(folder)?;
@@ -105,7 +105,7 @@ impl<'a> Paths<'a> {
     }
 }
 
-// Makes a text the path of what stands at these bytes below a folder.
+// Makes `text` the path of something below a folder, from its path there.
 fn set_path(text: &mut String, dir: &str, rest: &[u8]) -> io::Result<()> {
     let Ok(rest) = str::from_utf8(rest) else {
         return Err(ErrorKind::InvalidFilename.into());
@@ -133,7 +133,7 @@ pub(crate) fn depth_of(name: Name) -> io::Result<u8> {
     Ok(u8::try_from(depth).unwrap_or(u8::MAX))
 }
 
-// What stands before the slash at this depth, counted from 1, and a dot at depth 0.
+// The path as far as the slash of this depth, counted from 1, and a dot at depth 0.
 fn front(rest: &[u8], depth: u8) -> &[u8] {
     if depth == 0 {
         return b".";

@@ -22,7 +22,7 @@ pub struct RealSite<'a> {
 
 impl<'a> RealSite<'a> {
     /// The site of the list in this folder. Its first call on the disk makes the folder, with those above it, and takes
-    /// the lock; where it can't, that call fails, and the next one tries again. Nothing is done yet, and no memory taken.
+    /// the lock; if it can't, that call fails, and the next one tries again. Nothing is done yet, and no memory taken.
     pub fn new(rt: &'a HostRuntime, dir: &'a str) -> Self
         ensures calls { result.disk_calls ≡ 0 }
         ensures disk { result.disk_faults ≡ 0 }
@@ -36,7 +36,7 @@ impl<'a> RealSite<'a> {
         }
     }
 
-    /// Takes the memory that a first call on the disk needs to begin: where that is a sync, it has no answer for want of it.
+    /// Takes the memory that the first call on the disk needs to begin: if that is a sync, it has no way to say that memory ran out.
     pub fn take_room(&mut self, alloc: Global) -> Result<(), AllocError>
         ensures calls { self.new.disk_calls ≡ self.old.disk_calls }
         ensures disk { self.new.disk_faults ≡ self.old.disk_faults }
@@ -62,7 +62,7 @@ fn count_call(calls: &mut u64)
     *calls = calls.saturating_add(1);
 }
 
-// Counts a fault, and is its answer.
+// Counts a fault, and gives the error that stands for it.
 fn failed(faults: &mut u64) -> Failed
     ensures later { faults.old ≤ faults.new }
     ensures counted { Rose faults.old faults.new }
@@ -71,7 +71,7 @@ fn failed(faults: &mut u64) -> Failed
     Failed
 }
 
-// What a failed call on the disk answers. It counts a fault, unless memory alone was wanting.
+// The error of a failed call on the disk. It counts a fault, unless the call failed only for lack of memory.
 fn site_error(error: io::Error, faults: &mut u64) -> SiteError
     ensures later { faults.old ≤ faults.new }
     ensures cause { result ≡ FailedCall → Rose faults.old faults.new }

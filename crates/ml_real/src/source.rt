@@ -1,4 +1,4 @@
-// The standard input.
+// The standard input, as a source that counts its faults.
 ghost use Rattle.std.specs.Prelude.{◌≡◌, ◌≤◌, None, IfOk, length};
 ghost use Rattle.ml_real.specs.Untold.{untold};
 
@@ -50,7 +50,7 @@ impl<'a> Source for StdSource<'a> {
     ghost room = { λ s bytes told. untold bytes told };
 }
 
-// The bytes that were read ahead stand from `at` to `end`. It counts no faults.
+// The standard input with the bytes that were read ahead, from `at` to `end`. It counts no faults.
 #[derive(Drop)]
 struct Input<'a> {
     rt: &'a HostRuntime,
@@ -62,7 +62,7 @@ struct Input<'a> {
 }
 
 impl<'a> Input<'a> {
-    // A buffer that is as large as ours is filled at once, so that long contents aren't copied twice.
+    // A buffer at least as large as ours is filled directly, so that long contents aren't copied twice.
     fn read(&mut self, buf: &mut [u8]) -> io::Result<usize>
         ensures { IfOk result (λ count. count ≤ length buf.old) }
     {
@@ -82,7 +82,7 @@ impl<'a> Input<'a> {
     }
 }
 
-// Reads what there is, as far as it fits: nothing at the end. A read that a signal interrupts is made again.
+// Reads what there is, as much as fits: nothing at the end. A read that a signal interrupts is made again.
 fn read_some(rt: &HostRuntime, buf: &mut [u8]) -> io::Result<usize>
     ensures { IfOk result (λ count. count ≤ length buf.old) }
 {

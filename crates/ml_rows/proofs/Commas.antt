@@ -1,4 +1,4 @@
--- Numbers that commas join, read one after the other, are what the whole is read as.
+-- Numbers joined by commas can be read one after another: this gives what the whole text spells.
 use Rattle.std.proofs.Common.{◌≡◌, ◌<◌, ℕ, Bool, true, false, cond, ◌==◌, List, [], ◌∷◌, ◌++◌, length, Option, Some, None, refl, sym, ap, ◌∙◌, arith, append_assoc, option_map}
 use Rattle.std.specs.Option.{option_and_then}
 use Rattle.ml_base.specs.Bytes.{Text}
@@ -8,7 +8,7 @@ use Rattle.ml_rows.specs.Rows.{onto}
 use Rattle.ml_rows.specs.Values.{all_numbers, split_all, comma_numbers}
 
 module _ {A : Type 0} where
-  -- a value onto what is there
+  -- a value put before those that are there
   pub onto_more : (out : List A) (a : A) (o : Option (List A)) → option_map (λ more. out ++ more) (onto a o) ≡ option_map (λ more. (out ++ a ∷ []) ++ more) o
   onto_more out a None = refl
   onto_more out a (Some more) = ap Some (sym (append_assoc out (a ∷ []) more))
@@ -46,7 +46,7 @@ pub comma_some : (text : Text) → 0 < length text → comma_numbers 99_999_999 
 comma_some [] lt = absurd (omega arith)
 comma_some (b ∷ bs) lt = refl
 
--- a number in front of a comma
+-- a number followed by a comma
 pub number_more : (text digits more : Text) (n : ℕ) → two digits more ≡ split_first 44 text → Some n ≡ number_within 99_999_999 digits → numbers_in text ≡ onto n (numbers_in more)
 number_more text digits more n cut is =
     ap (all_numbers 99_999_999) (split_parts text ∙ ap (λ o. parts_by o text) (sym cut)) ∙ ap (option_and_then (λ m. onto m (numbers_in more))) (sym is)
@@ -55,7 +55,7 @@ pub number_not : (text digits more : Text) → two digits more ≡ split_first 4
 number_not text digits more cut is =
     ap (all_numbers 99_999_999) (split_parts text ∙ ap (λ o. parts_by o text) (sym cut)) ∙ ap (option_and_then (λ m. onto m (numbers_in more))) (sym is)
 
--- and the last number
+-- the last number
 pub last_number : (text : Text) (n : ℕ) → None ≡ split_first 44 text → Some n ≡ number_within 99_999_999 text → numbers_in text ≡ Some (n ∷ [])
 last_number text n cut is = ap (all_numbers 99_999_999) (split_parts text ∙ ap (λ o. parts_by o text) (sym cut)) ∙ ap (option_and_then (λ m. onto m (Some []))) (sym is)
 

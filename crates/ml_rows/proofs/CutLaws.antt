@@ -1,4 +1,4 @@
--- A cut is the longest front that has at most so many things, of at most so much together, but the first one always.
+-- A cut is the longest front that has at most so many things, together of at most such a size, but always the first one.
 use Rattle.std.proofs.Common.{◌≡◌, ◌<◌, ◌≤◌, ◌-◌, ℕ, zero, suc, Bool, true, false, cond, ◌&&◌, List, [], ◌∷◌, length, take, refl, sym, ap, ◌∙◌, arith, ◌⊎◌, inl, inr}
 use Rattle.std.specs.Prelude.{nat_lt, nat_le}
 use Rattle.std.specs.List.{sum_by}
@@ -11,19 +11,19 @@ module _ {E : Type 0} (size : E → ℕ) where
   abbrev pub total : List E → ℕ
   total xs = sum_by size xs
 
-  -- the same without the first one's leave
+  -- the same, without the exception for the first one
   record IsWithin (count room : ℕ) (xs front : List E) : Type 0 where
     pub is_front : front ≡ take (length front) xs
     pub few : length front ≤ count
     pub fits : total front ≤ room
     pub longest : (k : ℕ) → length front < k → k ≤ length xs → (count < k) ⊎ (room < total (take k xs))
 
-  -- a first thing that is too large alone
+  -- a first thing that is too large by itself
   too_large : (room : ℕ) (x : E) (xs : List E) (k : ℕ) → room < size x → 0 < k → room < total (take k (x ∷ xs))
   too_large room x xs zero large some = absurd (omega (arith, some))
   too_large room x xs (suc k) large some = let first = sum_by-cons size x (take k xs) in omega (arith, large, first)
 
-  -- one thing more in front of what is taken of the others
+  -- one more thing before what is taken of the others
   onto_within : (count room : ℕ) (x : E) (xs front : List E) → 0 < count → size x ≤ room → IsWithin (count - 1) (room - size x) xs front → IsWithin count room (x ∷ xs) (x ∷ front)
   onto_within count room x xs front some small is = record {
     is_front = ap (λ t. x ∷ t) is.is_front;
@@ -58,7 +58,7 @@ module _ {E : Type 0} (size : E → ℕ) where
       go true e is = let parts = and_parts (nat_lt 0 count) (nat_le (size x) room) e in onto_within count room x xs (within size (count - 1) (room - size x) xs) (ltb-true 0 count parts.0) (leb-true (size x) room parts.1) is
       go false e is = none_within count room x xs e
 
-  -- the cut, where one thing may be taken at least
+  -- the cut, if at least one thing may be taken
   pub cut_is : (count room : ℕ) (xs : List E) → 0 < count → IsLongest size count room xs (one_or_within size count room xs)
   cut_is count room [] some = record { is_front = refl; few = omega arith; fits = inl (omega arith); longest = λ k more le. absurd (omega (arith, more, le)) }
   cut_is count room (x ∷ xs) some = go (nat_le (size x) room) refl

@@ -1,4 +1,4 @@
--- A row is read as exactly the records that it spells, where each record is.
+-- A row is read as exactly the records that it spells, if this holds for every single record.
 use Rattle.std.proofs.Common.{◌≡◌, ◌↔◌, Bool, true, false, cond, ℕ, zero, suc, ◌+◌, ◌<◌, ◌≤◌, List, [], ◌∷◌, ◌++◌, length, Option, Some, None, refl, sym, ap, ap₂, ◌∙◌, arith, length-append, append_assoc, option_map, subst, take, get_or, append-nil, drop, ◌-◌}
 use Rattle.std.specs.List.{flat_map}
 use Rattle.std.specs.Option.{option_and_then}
@@ -31,7 +31,7 @@ module _ {A : Type 0} (test : A → Bool) where
   pub only_there : (o : Option A) (a : A) → o ≡ Some a → test a ≡ true → only_if test o ≡ Some a
   only_there o a is passes = ap (only_if test) is ∙ ap (λ b. cond b (Some a) None) passes
 
--- a list behind one more
+-- a list after one more
 module _ {A : Type 0} where
   pub onto_some : (a : A) (more : Option (List A)) (all : List A) → onto a more ≡ Some all → (es : List A) × (more ≡ Some es) × (all ≡ a ∷ es)
   onto_some a None all e = absurd (none_some all e)
@@ -40,7 +40,7 @@ module _ {A : Type 0} where
 abbrev pair_of : {A B : Type 0} → A → B → A × B
 pair_of a b = (a, b)
 
--- both of two things are there exactly where each is
+-- both of two things are there exactly if each of them is
 module _ {A B : Type 0} where
   pub both_read : (x : Option A) (y : Option B) (a : A) (b : B) → both_of x y ≡ Some (a, b) → (x ≡ Some a) × (y ≡ Some b)
   both_read None y a b e = absurd (none_some (pair_of a b) e)
@@ -67,7 +67,7 @@ module _
   begins most k [] lt = absurd (omega arith)
   begins most k (b ∷ bs) lt = refl
 
-  -- what is read is spelled so
+  -- what is read as a row is spelled so
   pub within_read : (most k : ℕ) (text : Text) (es : List A) → within most k text ≡ Some es → EachFrom Is k es × (text ≡ flat_map spell es)
   within_read most k [] [] e = (tt, refl)
   within_read most k [] (a ∷ es) e = absurd (let one = ap length (one_some [] (a ∷ es) e) in omega (arith, one))
@@ -84,7 +84,7 @@ module _
           let each : EachFrom Is k (p.0 ∷ parts.0) = (first.0, rest.0) in
           (subst (λ all. EachFrom Is k all) (sym parts.2) each, first.1 ∙ ap (λ t. spell p.0 ++ t) rest.1 ∙ sym (ap (flat_map spell) parts.2))
 
-  -- what is spelled so is read
+  -- what is spelled as a row is read so
   pub within_written : (most k : ℕ) (es : List A) → EachFrom Is k es → length (flat_map spell es) ≤ most → within most k (flat_map spell es) ≡ Some es
   within_written zero k [] each le = refl
   within_written (suc most) k [] each le = refl
@@ -102,7 +102,7 @@ module _
   pub row_written : (k : ℕ) (es : List A) → EachFrom Is k es → row_of record_at k (flat_map spell es) ≡ Some es
   row_written k es each = within_written (length (flat_map spell es)) k es each (omega arith)
 
-  -- how many records may come at most doesn't matter, where it is as many as bytes
+  -- how many records are allowed doesn't matter if it is at least the number of bytes
   enough : (most other k : ℕ) (text : Text) → length text ≤ most → length text ≤ other → within most k text ≡ within other k text
   enough zero zero k text p q = refl
   enough (suc most) zero k [] p q = refl
@@ -122,7 +122,7 @@ module _
           ap (first_and_more record_at (within most (k + 1))) found ∙ ap (onto f.0) (later f.1 (omega (arith, one, size, p)) (omega (arith, one, size, q)))
           ∙ sym (ap (first_and_more record_at (within other (k + 1))) found)
 
-  -- a row goes on behind its first record
+  -- a row goes on after its first record
   pub row_goes_on : (k : ℕ) (text : Text) (a : A) (rest : Text) → record_at k text ≡ Some (a, rest) → row_of record_at k text ≡ onto a (row_of record_at (k + 1) rest)
   row_goes_on k text a rest found =
       let first = read k text a rest found in
@@ -132,11 +132,6 @@ module _
       ∙ begins (length rest + length (spell a)) k text (omega (arith, one, size))
       ∙ ap (first_and_more record_at (within (length rest + length (spell a)) (k + 1))) found
       ∙ ap (onto a) (enough (length rest + length (spell a)) (length rest) (k + 1) rest (omega arith) (omega arith))
-
-  -- and ends in nothing where no record is found
-  pub row_fails : (k : ℕ) (text : Text) → 0 < length text → record_at k text ≡ None → row_of record_at k text ≡ None
-  row_fails k text lt found =
-      enough (length text) (suc (length text)) k text (omega arith) (omega arith) ∙ begins (length text) k text lt ∙ ap (first_and_more record_at (within (length text) (k + 1))) found
 
 -- netstrings are read as exactly the texts that they spell
 abbrev found_texts : List Text → Text → Option (List Text × Text)
@@ -184,20 +179,20 @@ netstrings_read (suc n) text texts rest e = go (netstring_at text) refl (λ behi
 pub netstrings_exact : (n : ℕ) (texts : List Text) (rest text : Text) → (netstrings_at n text ≡ Some (texts, rest)) ↔ ((length texts ≡ n) × AreShort texts × (text ≡ ns_row texts ++ rest))
 netstrings_exact n texts rest text = (netstrings_read n text texts rest, λ is. ap₂ netstrings_at (sym is.0) is.2 ∙ netstrings_written texts rest is.1)
 
--- what is made of a thing is there exactly where the thing is
+-- what is made of a thing is there exactly if the thing is
 module _ {A B : Type 0} (make : A → B) where
   pub made_read : (o : Option A) (b : B) → option_map make o ≡ Some b → (a : A) × (o ≡ Some a) × (make a ≡ b)
   made_read None b e = absurd (none_some b e)
   made_read (Some a) b e = (a, refl, one_some (make a) b e)
 
--- the texts of a row, and of one number more
+-- the texts of a row of numbers, with one more number
 pub one_more : (f : ℕ → Text) (ns : List ℕ) (i n : ℕ) (out new : Text) → i < length ns → n ≡ get_or ns i 0 → out ≡ flat_map f (take i ns) → new ≡ out ++ f n → new ≡ flat_map f (take (i + 1) ns)
 one_more f ns i n out new low e before is =
     let one : i + 1 ≡ suc i = omega arith in
     is ∙ ap₂ (λ a b. a ++ b) before (ap f e) ∙ ap (λ t. flat_map f (take i ns) ++ t) (sym (append-nil (f (get_or ns i 0)))) ∙ sym (flat_map-append f (take i ns) (get_or ns i 0 ∷ []))
     ∙ ap (flat_map f) (sym (take-suc ns i 0 low)) ∙ ap (λ (k : ℕ). flat_map f (take k ns)) (sym one)
 
--- the first of a row, and what is behind it
+-- the first of a row, and what follows it
 pub first_of : {A : Type 0} (xs : List A) (a : A) → 1 ≤ length xs → a ≡ get_or xs 0 a → xs ≡ a ∷ take (length xs - 1) (drop 1 xs)
 first_of [] a some is = absurd (omega arith)
 first_of (x ∷ xs) a some is = ap₂ (λ y (ys : List _). y ∷ ys) (sym is) (sym (take_all (length (x ∷ xs) - 1) xs (omega arith)))

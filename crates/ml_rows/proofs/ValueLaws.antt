@@ -1,4 +1,4 @@
--- Numbers on a line, and numbers that commas join, are read as exactly what they spell.
+-- Values are read as exactly what their texts spell: moments, addresses, numbers on a line, and numbers joined by commas.
 use Rattle.std.proofs.Common.{◌≡◌, ◌↔◌, ℕ, ◌*◌, ◌<◌, ◌≤◌, ◌^◌, Bool, true, false, cond, ◌==◌, ◌||◌, ◌&&◌, List, [], ◌∷◌, ◌++◌, length, map, Option, Some, None, refl, sym, ap, ap₂, ◌∙◌, subst, arith, length-append, append-nil}
 use Rattle.std.specs.Prelude.{Result, Ok, Err, is_ok}
 use Rattle.std.specs.Char.{is_ascii_digit}
@@ -21,7 +21,7 @@ use Rattle.ml_rows.specs.Rows.{onto}
 use Rattle.ml_rows.specs.Values.{moment_in, address_in, number_line, line_number, comma_text, split_all, all_numbers, comma_numbers}
 use Rattle.ml_rows.proofs.RowLaws.{one_some, none_some, onto_some}
 
--- digits have no byte that is no digit
+-- digits contain no byte that is no digit
 digits_without : (byte : ℕ) → is_ascii_digit byte ≡ false → (bytes : Text) → all_ascii_digits bytes ≡ true → has_byte byte bytes ≡ false
 digits_without byte none [] e = refl
 digits_without byte none (b ∷ bs) e =
@@ -37,9 +37,6 @@ decimal_without byte n none small = digits_without byte none (decimal n) (all_di
 
 abbrev if_last : ℕ → Text × Text → Option ℕ
 if_last limit parts = cond (is_empty parts.1) (number_within limit parts.0) None
-
-abbrev two : Text → Text → Option (Text × Text)
-two a b = Some (a, b)
 
 -- a moment
 pub moment_read : (text : Text) (t : ℕ) → moment_in text ≡ Some t → (t < 253_402_300_800) × (text ≡ decimal t)
@@ -95,7 +92,7 @@ commas numbers = flat_map (λ (n : ℕ). (44 ∷ []) ++ decimal n) numbers
 abbrev AreAtMost : ℕ → List ℕ → Type 0
 AreAtMost limit numbers = AllByRecursion (λ n. n ≤ limit) numbers
 
--- texts with a comma before each, and texts that commas join
+-- texts with a comma before each, and texts joined by commas
 abbrev behind_commas : List Text → Text
 behind_commas texts = flat_map (λ (t : Text). 44 ∷ t) texts
 
@@ -135,7 +132,7 @@ split_joined (b ∷ bs) = go (b == 44) refl (split_joined bs)
     go true is more = empty_joined (split_all 44 bs) (some_text bs) ∙ ap₂ (λ (x : ℕ) (t : Text). x ∷ t) (sym (eqb-true b 44 is)) more
     go false is more = onto_joined b (split_all 44 bs) (some_text bs) ∙ ap (λ t. b ∷ t) more
 
--- what has no comma is split behind it
+-- a text without a comma is split off at the comma after it
 split_behind : (text rest : Text) → has_byte 44 text ≡ false → split_all 44 (text ++ 44 ∷ rest) ≡ text ∷ split_all 44 rest
 split_behind [] rest e = refl
 split_behind (b ∷ bs) rest e = let parts = neither (b == 44) (has_byte 44 bs) e in ap₂ (λ t more. split_at t b more) parts.0 (split_behind bs rest parts.1)
@@ -163,7 +160,7 @@ split_numbers limit n (m ∷ ms) small each =
     let le = each.0 in
     split_behind (decimal n) (comma_text (m ∷ ms)) (decimal_without 44 n refl (omega (arith, small, le))) ∙ ap (λ ts. decimal n ∷ ts) (split_numbers limit m ms small each.1)
 
--- numbers are read as those that are spelled
+-- numbers are read as they are spelled
 all_written : (limit : ℕ) (numbers : List ℕ) → limit < 2 ^ 64 → AreAtMost limit numbers → all_numbers limit (decimals numbers) ≡ Some numbers
 all_written limit [] small each = refl
 all_written limit (n ∷ ns) small each =

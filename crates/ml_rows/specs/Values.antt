@@ -1,4 +1,4 @@
--- Texts of values: moments, addresses, a number on a line of its own, and numbers that commas join.
+-- Texts of values: moments, addresses, a number on a line of its own, and numbers joined by commas.
 use Rattle.std.specs.Prelude.{ℕ, ◌==◌, ◌&&◌, is_ok, List, [], ◌∷◌, ◌++◌, Option, Some, None, if◌then◌else◌}
 use Rattle.std.specs.List.{join_by}
 use Rattle.std.specs.Option.{option_and_then}
@@ -22,7 +22,7 @@ address_in text = if is_ok (address_check text) && bytes_eq (as_address text) te
 abbrev pub number_line : ℕ → Text
 number_line n = decimal n ++ line_feed ∷ []
 
--- the number up to a limit that a text spells with an LF behind it, at the text's end
+-- the number up to a limit that a text spells, with an LF after it that ends the text
 abbrev pub line_number : ℕ → Text → Option ℕ
 line_number limit text = option_and_then (λ parts. if is_empty parts.1 then number_within limit parts.0 else None) (split_first line_feed text)
 
@@ -30,7 +30,7 @@ line_number limit text = option_and_then (λ parts. if is_empty parts.1 then num
 abbrev pub comma_text : List ℕ → Text
 comma_text numbers = join_by decimal (comma ∷ []) numbers
 
--- the texts before, between and behind all places of a byte: one more than there are places
+-- the texts before, between and after all places of a byte: one more than there are places
 abbrev pub split_all : ℕ → Text → List Text
 split_all byte [] = [] ∷ []
 split_all byte (b ∷ bs) = if b == byte then [] ∷ split_all byte bs else onto_line b (split_all byte bs)
@@ -40,7 +40,7 @@ abbrev pub all_numbers : ℕ → List Text → Option (List ℕ)
 all_numbers limit [] = Some []
 all_numbers limit (text ∷ texts) = option_and_then (λ n. onto n (all_numbers limit texts)) (number_within limit text)
 
--- the numbers up to a limit that a text spells with commas between them: none where it is empty
+-- the numbers up to a limit that a text spells with commas between them; an empty text has none
 abbrev pub comma_numbers : ℕ → Text → Option (List ℕ)
 comma_numbers limit [] = Some []
 comma_numbers limit (b ∷ bs) = all_numbers limit (split_all 44 (b ∷ bs))

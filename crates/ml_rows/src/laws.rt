@@ -1,4 +1,4 @@
-// What holds of these texts, apart from the code.
+// What holds of the texts of this crate.
 ghost use Rattle.std.specs.Prelude.{◌≡◌, ◌↔◌, ◌<◌, ◌≤◌, ◌^◌, ◌++◌, ℕ, List, Some, length};
 ghost use Rattle.std.specs.List.{AllByRecursion};
 ghost use Rattle.std.specs.Fmt.{decimal};
@@ -8,8 +8,8 @@ ghost use Rattle.ml_base.specs.Splits.{ns_row, AreShort};
 ghost use Rattle.ml_rows.specs.Rows.{netstrings_at};
 ghost use Rattle.ml_rows.specs.Values.{moment_in, address_in, line_number, number_line, comma_numbers, comma_text};
 
-/// A text is read as exactly the value that it spells: a moment, an address, a number on a line of its own, numbers that commas
-/// join, and netstrings in a row with whatever is behind them.
+/// A text is read as exactly the value that it spells: a moment, an address, a number on a line of its own, numbers joined by
+/// commas, and netstrings in a row with whatever follows them.
 pub fn law_values()
     ensures moment { (t : ℕ) (text : Text) → (moment_in text ≡ Some t) ↔ ((t < 253_402_300_800) × (text ≡ decimal t)) }
     ensures address { (a text : Text) → (address_in text ≡ Some a) ↔ (IsAddress a × (text ≡ a)) }

@@ -1,4 +1,4 @@
-//! Texts in which records stand in a row, and texts of values: what the files of several parts are made of.
+//! Texts in which records stand in a row, and texts of values. The files of several parts of a list are made of these.
 #![tactic(auto)]
 
 mod laws;

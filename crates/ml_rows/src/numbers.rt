@@ -1,11 +1,12 @@
-// Numbers that commas join.
+// Numbers joined by commas: how they are read and written.
 ghost use Rattle.std.specs.Prelude.{◌≡◌, ◌++◌, IfOk, OnOk};
 ghost use Rattle.ml_rows.specs.Values.{comma_text, comma_numbers};
 
 use ml_base::{Bytes, LAST_POST_NUMBER, Numbers, number_within, split_first};
 use std::alloc::{AllocError, Global};
 
-/// The numbers of posts, 0 to 99,999,999, that a text spells in decimal with commas between them, or None of another text. An empty one spells none.
+/// The numbers of posts, 0 to 99,999,999, that a text spells in decimal with commas between them, or None for other texts.
+/// An empty text spells none.
 pub fn numbers_of(alloc: Global, text: &[u8]) -> Result<Option<Numbers>, AllocError>
     ensures { IfOk result (λ r. r ≡ comma_numbers 99_999_999 text.now) }
 {

@@ -1,10 +1,10 @@
--- What a crash leaves where only files are pending.
+-- What a crash leaves if only files are pending.
 use Rattle.std.proofs.Common.{◌≡◌, ◌≢◌, ⊎_elim, ℕ, List, [], ◌∷◌, length, Result, Ok, Err, refl, sym, ◌∙◌, ap, subst, arith}
 use Rattle.std.proofs.lemmas.List.{ext_get_or}
 use Rattle.ml_base.specs.declared.names.Name.{Name}
 use Rattle.ml_site.specs.Disk.{Contents, Part, Range, Cut, File, Disk, MayLeave, IsImage, IsAtRest, Pends, least, greatest, IsSettledAt, IsSettledFile}
 
--- each part is a file that has P
+-- every part is a file that has P
 abbrev pub AreFiles : (Name → Type 0) → List Part → Type 0
 AreFiles P [] = Unit {0}
 AreFiles P (Range at n ∷ parts) = ⊥
@@ -41,12 +41,12 @@ files_log P old left parts are may = ext_get_or 0 left.log old.log
     (omega (arith, may.no_shorter, may.no_longer, files_least P parts (length old.log) are, files_greatest P parts (length old.log) are))
     (λ place lt. may.log place lt (files_place P parts place are))
 
--- and so is each file that hasn't P
+-- every file that hasn't P is as it was too
 pub files_beside : (P : Name → Type 0) (old left : Contents) (parts : List Part) (name : Name) → AreFiles P parts → MayLeave old parts left
     → ((other : Name) → P other → name ≢ other) → left.files name ≡ old.files name
 files_beside P old left parts name are may beside = may.files name (files_other P parts name are beside)
 
--- one file alone
+-- the same for one file
 pub file_log : (old left : Contents) (name : Name) → MayLeave old (File name ∷ []) left → left.log ≡ old.log
 file_log old left name may = files_log (λ n. n ≡ name) old left (File name ∷ []) (refl, tt) may
 
@@ -55,7 +55,7 @@ pub record AreOver (P : Name → Type 0) (old : Contents) (disk : Disk) : Type 0
   pub settled : disk.settled ≡ old
   pub pending : AreFiles P disk.pending
 
--- an image of such a disk has the log as it was, and each file that hasn't P
+-- an image of such a disk has the log as it was, and every file that hasn't P
 pub over_log : (P : Name → Type 0) (old left : Contents) (disk : Disk) → AreOver P old disk → IsImage disk left → left.log ≡ old.log
 over_log P old left disk over image = files_log P disk.settled left disk.pending over.pending image ∙ ap (λ (c : Contents). c.log) over.settled
 
@@ -66,7 +66,7 @@ over_beside P old left disk name over image beside = files_beside P disk.settled
 pub over_rest : (P : Name → Type 0) (disk : Disk) → IsAtRest disk → AreOver P disk.reads disk
 over_rest P disk rest = record { settled = rest.settled; pending = subst (AreFiles P) (sym rest.pending) tt }
 
--- one file more is written or removed
+-- one more file is written or removed
 pub over_more : {E : Type 0} (P : Name → Type 0) (result : Result (Unit {0}) E) (name : Name) (old : Contents) (mid new : Disk) → P name → AreOver P old mid → Pends result (File name) mid new → AreOver P old new
 over_more {E} P result name old mid new is over pends = record { settled = pends.settled ∙ over.settled; pending = parts result pends }
   where

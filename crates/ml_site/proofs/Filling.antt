@@ -1,4 +1,4 @@
--- What is pending, filled with a byte.
+-- What is pending, filled with one byte, is an image that a crash may leave.
 use Rattle.std.proofs.Common.{◌≡◌, ◌⊎◌, inl, inr, ⊎_elim, ◌<◌, ◌≤◌, ℕ, ◌+◌, ◌-◌, zero, suc, min, Bool, true, false, cond, not, ◌&&◌, ◌||◌, List, [], ◌∷◌, ◌++◌, length, take, drop, get_or, replicate, Option, Some, None, refl, sym, ◌∙◌, ap, arith}
 use Rattle.std.specs.Prelude.{nat_lt, nat_le}
 use Rattle.std.proofs.lemmas.Bool.{cases_lt, lt-ltb, le-leb, le-ltb, lt-leb, ltb-true, leb-true, eq-eqb, and_parts, or_cases, both_ways, not-true}
@@ -19,7 +19,7 @@ chosen_not : {A : Type 0} (t : Bool) (x y : A) → cond (not t && true) x y ≡ 
 chosen_not true x y = refl
 chosen_not false x y = refl
 
--- the tests are true where the relations hold
+-- the tests are true if the relations hold
 pub at_settled : (place : ℕ) (parts : List Part) → IsSettledAt place parts → settled_at place parts ≡ true
 at_settled place [] is = refl
 at_settled place (Range at n ∷ parts) is = ⊎_elim
@@ -39,30 +39,6 @@ file_settled name (Range at n ∷ parts) is = file_settled name parts is
 file_settled name (Cut n ∷ parts) is = file_settled name parts is
 file_settled name (File other ∷ parts) is = λ i. not (other_name name other is.0 i) && file_settled name parts is.1 i
 
--- and nothing more
-pub at_test : (place : ℕ) (parts : List Part) → settled_at place parts ≡ true → IsSettledAt place parts
-at_test place [] is = tt
-at_test place (Range at n ∷ parts) is =
-    let both = and_parts (nat_lt place at || nat_le (at + n) place) (settled_at place parts) is in (
-      ⊎_elim (λ below. inl (ltb-true place at below)) (λ past. inr (leb-true (at + n) place past)) (or_cases (nat_lt place at) (nat_le (at + n) place) both.0),
-      at_test place parts both.1,
-    )
-at_test place (Cut n ∷ parts) is = let both = and_parts (nat_lt place n) (settled_at place parts) is in (ltb-true place n both.0, at_test place parts both.1)
-at_test place (File name ∷ parts) is = at_test place parts is
-
-pub file_test : (name : Name) (parts : List Part) → settled_file name parts ≡ true → IsSettledFile name parts
-file_test name [] is = tt
-file_test name (Range at n ∷ parts) is = file_test name parts is
-file_test name (Cut n ∷ parts) is = file_test name parts is
-file_test name (File other ∷ parts) is =
-    let both = and_parts (not (same_name name other)) (settled_file name parts) is in (
-      λ same. both_ways (same_name name other) (not-true (same_name name other) both.0) (same_is name other same),
-      file_test name parts both.1,
-    )
-  where
-    same_is : (a b : Name) → a ≡ b → same_name a b ≡ true
-    same_is a b same = λ i. eq-eqb a.kind b.kind (ap (λ (n : Name). n.kind) same) i && eq-eqb a.at b.at (ap (λ (n : Name). n.at) same) i
-
 pub length-filled : (byte : ℕ) (parts : List Part) (from : ℕ) (log : List ℕ) → length (log_filled byte parts from log) ≡ length log
 length-filled byte parts from [] = refl
 length-filled byte parts from (x ∷ log) = ap suc (length-filled byte parts (from + 1) log)
@@ -74,7 +50,7 @@ get_or-filled byte parts from (x ∷ log) zero lt = ap (λ (p : ℕ). cond (sett
 get_or-filled byte parts from (x ∷ log) (suc place) lt =
     get_or-filled byte parts (from + 1) log place (omega arith) ∙ ap (λ (p : ℕ). cond (settled_at p parts) (get_or log place 0) byte) (let same : from + 1 + place ≡ from + suc place = omega arith in same)
 
--- where nothing is pending nothing is filled
+-- if nothing is pending, nothing is filled
 log_none : (byte from : ℕ) (log : List ℕ) → log_filled byte [] from log ≡ log
 log_none byte from [] = refl
 log_none byte from (x ∷ log) = ap (λ (l : List ℕ). x ∷ l) (log_none byte (from + 1) log)
@@ -82,12 +58,12 @@ log_none byte from (x ∷ log) = ap (λ (l : List ℕ). x ∷ l) (log_none byte 
 pub none_filled : (byte : ℕ) (held : Contents) → bytes_filled byte [] held ≡ held
 none_filled byte held = λ i. record { log = log_none byte 0 held.log i; files = held.files }
 
--- a pending file leaves the log
+-- a pending file leaves the log alone
 pub file_log : (byte : ℕ) (name : Name) (from : ℕ) (log : List ℕ) → log_filled byte (File name ∷ []) from log ≡ log
 file_log byte name from [] = refl
 file_log byte name from (x ∷ log) = ap (λ (l : List ℕ). x ∷ l) (file_log byte name (from + 1) log)
 
--- a part more is filled first
+-- of several parts, the first is filled first
 log_more : (byte : ℕ) (part : Part) (parts : List Part) (from : ℕ) (log : List ℕ) → log_filled byte (part ∷ parts) from log ≡ log_filled byte parts from (log_filled byte (part ∷ []) from log)
 log_more byte part parts from [] = refl
 log_more byte part parts from (x ∷ log) = λ i. here part i ∷ log_more byte part parts (from + 1) log i
@@ -115,7 +91,7 @@ more_filled byte part parts held = λ i. record { log = log_more byte part parts
     here (Cut n) name = refl
     here (File other) name = each (not (same_name name other)) (settled_file name parts) (held.files name)
 
--- a log with a byte at the places from one to below another
+-- a log with a byte at the places from one on and before another
 pub places_filled : (byte : ℕ) (parts : List Part) (log : List ℕ) (from end : ℕ) → from ≤ end → end ≤ length log
     → ((place : ℕ) → from ≤ place → place < end → settled_at place parts ≡ false)
     → ((place : ℕ) → place < length log → (place < from) ⊎ (end ≤ place) → settled_at place parts ≡ true)
@@ -146,7 +122,7 @@ places_filled byte parts log from end le within inside outside = ext_get_or 0 (t
         (cases_lt place end))
         (cases_lt place from)
 
--- a pending range of the log, as far as it lies within it
+-- a pending range of the log, as far as it is inside it
 pub range_filled : (byte at n : ℕ) (log : List ℕ) (from count : ℕ) → from ≡ min (length log) at → count ≡ min n (length log - from)
     → take from log ++ replicate (from + count - from) byte ++ drop (from + count) log ≡ log_filled byte (Range at n ∷ []) 0 log
 range_filled byte at n log from count from_is count_is = places_filled byte (Range at n ∷ []) log from (from + count) (omega arith) (omega arith) inside outside
@@ -183,7 +159,7 @@ pub both_filled : (byte : ℕ) (parts : List Part) (held : Contents) (log : List
     → ((name : Name) → files name ≡ (bytes_filled byte parts held).files name) → (record { log = log; files = files }) ≡ bytes_filled byte parts held
 both_filled byte parts held log files log_is files_is = λ i. record { log = log_is i; files = λ name. files_is name i }
 
--- with pending places filled an image is an image
+-- an image stays an image if pending places are filled
 pub image_filled : (byte : ℕ) (settled : Contents) (parts : List Part) (held : Contents) → MayLeave settled parts held → MayLeave settled parts (bytes_filled byte parts held)
 image_filled byte settled parts held may = record {
   no_shorter = omega (arith, may.no_shorter, length-filled byte parts 0 held.log);

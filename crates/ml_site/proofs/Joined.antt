@@ -1,4 +1,4 @@
--- What the record is after a call was added to it, or was not.
+-- What holds of the record whether a call was added to it or not.
 use Rattle.std.proofs.Common.{◌≡◌, inl, inr, ⊎_elim, ◌≤◌, ℕ, ◌+◌, Bool, true, false, cond, List, [], ◌∷◌, ◌++◌, length, Option, Ok, Err, refl, sym, ◌∙◌, ap, subst, arith, length-append}
 use Rattle.std.proofs.lemmas.List.{append-nil}
 use Rattle.std.specs.Prelude.{nat_le}
@@ -19,7 +19,7 @@ module _ (start : Disk) (calls : List Call) (call : Call) (longer : List Call) w
   pub given_more : longer ≡ calls ++ call ∷ [] → given longer ≡ given calls + size_given call
   given_more is = omega (arith, ap given is, given-append calls (call ∷ []))
 
-  -- where it may not have been added
+  -- when it isn't known whether the call was added
   module _ (b : Bool) (is : longer ≡ cond b (calls ++ call ∷ []) calls) where
     pub reads_same : (step before call).reads ≡ before.reads → (after start longer).reads ≡ before.reads
     reads_same same = elim b as (λ v. longer ≡ cond v (calls ++ call ∷ []) calls → (after start longer).reads ≡ before.reads) [
@@ -27,17 +27,13 @@ module _ (start : Disk) (calls : List Call) (call : Call) (longer : List Call) w
       | false ↦ λ none. ap (λ (cs : List Call). (after start cs).reads) none
     ] is
 
-    -- what a call would change, it changes where it was added
+    -- what a call would change, it changes if it was added
     pub stands : {A : Type 0} (f : Disk → A) → f (after start longer) ≡ cond b (f (step before call)) (f before)
     stands {A} f = elim b as (λ v. longer ≡ cond v (calls ++ call ∷ []) calls → f (after start longer) ≡ cond v (f (step before call)) (f before)) [
       | true ↦ λ more. ap f (stepped more)
       | false ↦ λ none. ap (λ (cs : List Call). f (after start cs)) none
     ] is
 
-    pub given_is : given longer ≡ cond b (given calls + size_given call) (given calls)
-    given_is = elim b as (λ v. longer ≡ cond v (calls ++ call ∷ []) calls → given longer ≡ cond v (given calls + size_given call) (given calls)) [
-      | true ↦ λ more. given_more more
-      | false ↦ λ none. ap given none
     ] is
 
     pub given_same : size_given call ≡ 0 → given longer ≡ given calls
@@ -53,7 +49,7 @@ module _ (start : Disk) (calls : List Call) (call : Call) (longer : List Call) w
       | false ↦ λ none. ap (after start) none
     ] is
 
-    -- what was kept beside the record is right after a call that changes nothing that is read and puts nothing out
+    -- what was kept beside the record stays right after a call that changes nothing that is read and puts nothing out
     pub log_kept : (log : List ℕ) → log ≡ before.reads.log → (step before call).reads ≡ before.reads → log ≡ (after start longer).reads.log
     log_kept log was same = was ∙ sym (ap (λ (d : Contents). d.log) (reads_same same))
 
@@ -89,14 +85,6 @@ pends_ok part reads old new is = record { settled = ap (λ (d : Disk). d.settled
 
 pub step_write : (disk : Disk) (at : ℕ) (bytes : _) → at ≤ length disk.reads.log → step disk (WriteLog at bytes) ≡ pends disk (Range at (length bytes)) (log_with disk.reads at bytes)
 step_write disk at bytes le = let fits : nat_le at (length disk.reads.log) ≡ true = grind arith in ap (λ (b : Bool). pends disk (Range at (length bytes)) (cond b (log_with disk.reads at bytes) disk.reads)) fits
-
-pub length-cond : (b : Bool) (output piece : List ℕ) (n : ℕ) → length output ≡ n → length (cond b (output ++ piece) output) ≡ cond b (n + length piece) n
-length-cond true output piece n is = omega (arith, is, length-append output piece)
-length-cond false output piece n is = is
-
-pub cond_same : {A : Type 0} (b : Bool) (x : A) → cond b x x ≡ x
-cond_same true x = refl
-cond_same false x = refl
 
 total-append : (size : Call → ℕ) (calls more : List Call) → total size (calls ++ more) ≡ total size calls + total size more
 total-append size [] more = omega arith

@@ -1,4 +1,4 @@
--- What a crash leaves is an image at its moment.
+-- What a filled disk holds is an image that a crash at its moment may leave.
 use Rattle.std.proofs.Common.{◌≡◌, ◌<◌, ◌≤◌, ℕ, ◌⊎◌, inl, inr, zero, suc, ◌+◌, min, List, [], ◌∷◌, length, take, Result, Ok, Err, refl, sym, ◌∙◌, ap, subst, arith}
 use Rattle.std.specs.Prelude.{IfOk}
 use Rattle.std.proofs.lemmas.Bool.{cases_lt}
@@ -13,13 +13,13 @@ use Rattle.ml_site.specs.Replay.{after-is_image}
 use Rattle.ml_site.proofs.Filling.{image_filled}
 use Rattle.ml_site.proofs.Settling.{settled_left}
 
--- each fill gives an image
+-- every fill gives an image
 pub filled-is_image : (start : Contents) (calls : List Call) (fill : Fill) → IsImage (after (at_rest start) calls) (filled fill (after (at_rest start) calls))
 filled-is_image start calls fills.Old = settled_left (after (at_rest start) calls).settled (after (at_rest start) calls).pending
 filled-is_image start calls fills.New = after-is_image start calls
 filled-is_image start calls (fills.Byte byte) = image_filled byte (after (at_rest start) calls).settled (after (at_rest start) calls).pending (after (at_rest start) calls).reads (after-is_image start calls)
 
--- what follows of an answer that is Ok
+-- what follows from an answer that is Ok
 pub if_ok : {A E : Type 0} (r : Result A E) (P Q : A → Type 0) → IfOk r P → ((x : A) → P x → Q x) → IfOk r Q
 if_ok (Ok x) P Q p f = f x p
 if_ok (Err e) P Q p f = tt
@@ -32,7 +32,7 @@ more_given (suc k) (call ∷ calls) =
     let next : suc k + 1 ≡ suc (k + 1) = omega arith in
     omega (arith, more_given k calls, ap (λ (n : ℕ). given (take n (call ∷ calls))) next)
 
--- an image after some calls is one of the moments since each time before
+-- an image after some calls is one of the moments since any time before
 pub left_then : (start : Disk) (calls : List Call) (output : List ℕ) (k t : ℕ) (left : Contents) → t ≤ min k (length calls) → IsImage (after start (take k calls)) left
     → Left start calls output t left (take (given (take k calls)) output)
 left_then start calls output k t left le image = record {

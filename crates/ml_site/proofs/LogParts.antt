@@ -1,4 +1,4 @@
--- What a crash leaves of a log of which one part is pending.
+-- What a crash leaves of a log if one part of it is pending.
 use Rattle.std.proofs.Common.{◌≡◌, ◌⊎◌, inl, inr, ◌<◌, ◌≤◌, ℕ, suc, ◌+◌, List, [], ◌∷◌, ◌++◌, length, take, drop, get_or, refl, sym, ◌∙◌, ap, arith}
 use Rattle.std.proofs.lemmas.Bool.{cases_lt, cases_eq}
 use Rattle.std.proofs.lemmas.List.{places, length-take, get_or-take, ext_get_or}
@@ -12,7 +12,7 @@ begins_with (x ∷ front) (y ∷ text) le same =
     let first : y ≡ x = same 0 (omega arith) in
     λ i. first i ∷ begins_with front text (omega arith) (λ place lt. same (suc place) (omega arith)) i
 
--- bytes were written behind its end: it stands, with any bytes behind it
+-- bytes were written after its end: the log stands, with any bytes after it
 pub torn_behind : (old left : Contents) (n : ℕ) → MayLeave old (Range (length old.log) n ∷ []) left → left.log ≡ old.log ++ drop (length old.log) left.log
 torn_behind old left n may = begins_with old.log left.log may.no_shorter (λ place lt. may.log place (omega (arith, lt, may.no_shorter)) (inl lt, tt))
 
@@ -26,7 +26,7 @@ around log at byte place lt (inr past) = grind (arith, places)
 here : (log : List ℕ) (at byte : ℕ) → at < length log → get_or (take at log ++ byte ∷ drop (at + 1) log) at 0 ≡ byte
 here log at byte lt = grind (arith, places)
 
--- one of its bytes was written: any byte is there, and the others stand
+-- one of its bytes was written: any byte may be there, and the others stand
 pub torn_byte : (old left : Contents) (at : ℕ) → at < length old.log → MayLeave old (Range at 1 ∷ []) left → left.log ≡ take at old.log ++ get_or left.log at 0 ∷ drop (at + 1) old.log
 torn_byte old left at lt may = ext_get_or 0 left.log torn (size ∙ sym (length_around old.log at byte lt)) placed
   where
@@ -50,7 +50,7 @@ torn_byte old left at lt may = ext_get_or 0 left.log torn (size ∙ sym (length_
       ]
     ]
 
--- it was cut: what it was cut to stands, with any bytes behind it
+-- it was cut: the part that was kept stands, with any bytes after it
 pub torn_cut : (old left : Contents) (n : ℕ) → n ≤ length old.log → MayLeave old (Cut n ∷ []) left → left.log ≡ take n old.log ++ drop n left.log
 torn_cut old left n le may =
     let size : length (take n old.log) ≡ n = omega (arith, length-take n old.log, le) in

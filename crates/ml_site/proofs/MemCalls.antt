@@ -1,4 +1,4 @@
--- What a call of a site in memory keeps, as it is done and as it fails.
+-- What a call of a site in memory keeps, whether it succeeds or fails.
 use Rattle.std.proofs.Common.{◌≡◌, ◌⊎◌, inl, inr, ⊎_elim, ◌<◌, ◌≤◌, ℕ, ◌+◌, Bool, true, false, cond, List, [], ◌∷◌, ◌++◌, length, Result, Ok, Err, refl, sym, ◌∙◌, ap, subst, arith, length-append}
 use Rattle.std.proofs.lemmas.Bool.{le-leb, leb-true}
 use Rattle.std.specs.Prelude.{nat_le, nat_lt, IsTrue, IsOk, IsErr, IsErrOf, Contains}
@@ -40,7 +40,7 @@ module _ (old new : MemSite) (same : SameStart old new) where
   disk_is : mem_disk new ≡ after start new.calls.items
   disk_is = ap (λ (d : Disk). after d new.calls.items) start_same
 
-  -- a call that was added to the record, or was not
+  -- a call that may or may not have been added to the record
   module _ (call : Call) (b : Bool) (is : new.calls.items ≡ cond b (old.calls.items ++ call ∷ []) old.calls.items) where
     pub keeps : size_given call ≡ 0 → mem_output new ≡ mem_output old → site_disk_faults old ≤ site_disk_faults new → site_output_faults new ≡ site_output_faults old → site_disk_calls new ≡ next_call (site_disk_calls old)
         → OnDisk true mem_disk mem_output mem_calls mem_left_since site_disk_faults site_output_faults site_disk_calls old new
@@ -74,7 +74,7 @@ module _ (old new : MemSite) (same : SameStart old new) where
           pends = λ told. subst (Pends (Err e) part before) (sym disk_is) (pends_err start old.calls.items call new.calls.items b is e part stepping);
         }
 
-  -- a change that was done
+  -- a change that succeeded
   pub done_change : {E : Type 0} (call : Call) (part : Part) (done : Contents) → new.calls.items ≡ old.calls.items ++ call ∷ [] → step before call ≡ pends before part done → MayLeave before.reads (part ∷ []) done
       → ChangesPart {E = E} true true mem_disk (Ok tt) part done old new
   done_change call part done is stepping image =
@@ -99,7 +99,7 @@ no_short told = untold told
 pub never : ⊥ → IsTrue false
 never none = absurd none
 
--- how a call ends, where `short` says whether there is no room beside the record
+-- how a call ends, if `short` says whether there is no room besides the record's
 module _ (old new : MemSite) (same : SameStart old new) (short : Bool) (no_room : Type 0) (to : IsTrue short → no_room) (from : no_room → IsTrue short) (room : call_room new ≡ call_room old) (faults : MemSite → ℕ) (parts : List Part) where
   abbrev full : Bool
   full = nat_le (call_room old) (mem_calls old)
@@ -148,7 +148,7 @@ module _ (old new : MemSite) (same : SameStart old new) (short : Bool) (no_room 
     if_wanting = λ w. absurd (not_wanting w);
   }
 
-  -- by what it answers
+  -- the same by what the call answers
   pub failed_disk : {T : Type 0} (call : Call) → FailsAsPlanned old.plan new.plan old.last_call full short true
       → new.calls.items ≡ cond (nat_lt (mem_calls old) (call_room old)) (old.calls.items ++ call ∷ []) old.calls.items → faults new ≡ one_more (faults old) → mem_output new ≡ mem_output old
       → (step (mem_disk old) call).reads ≡ (mem_disk old).reads → (step (mem_disk old) call).pending ≡ parts ++ (mem_disk old).pending

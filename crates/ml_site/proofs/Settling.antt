@@ -1,4 +1,4 @@
--- A record of calls, one call at a time.
+-- What one more call of a record does to what reads give, to what is settled and to what is pending.
 use Rattle.std.proofs.Common.{◌≡◌, ◌<◌, ◌≤◌, ℕ, ◌+◌, ◌-◌, true, false, List, [], ◌∷◌, ◌++◌, length, take, get_or, refl, sym, ◌∙◌, ap, arith}
 use Rattle.std.proofs.lemmas.List.{take_more}
 use Rattle.ml_site.specs.declared.call.Call.{Call}
@@ -10,7 +10,7 @@ use Rattle.ml_site.specs.Filled.{parts_of, bytes_filled}
 use Rattle.ml_site.proofs.Pushed.{after-push}
 use Rattle.ml_site.proofs.Filling.{more_filled, none_filled}
 
--- one call more of a record was made
+-- one more call of a record was made
 pub one_more : (disk : Disk) (calls : List Call) (k : ℕ) (call : Call) → k < length calls → call ≡ get_or calls k call → after disk (take (k + 1) calls) ≡ step (after disk (take k calls)) call
 one_more disk calls k call lt is =
     let more : take (k + 1) calls ≡ take k calls ++ call ∷ [] = take_more calls k call lt ∙ ap (λ (x : Call). take k calls ++ x ∷ []) (sym is) in
@@ -21,7 +21,7 @@ pub last_of : (disk : Disk) (calls : List Call) (left : ℕ) (call : Call) → 0
 last_of disk calls left call some le is = let next : left ≡ left - 1 + 1 = omega arith in
     ap (λ (k : ℕ). after disk (take k calls)) next ∙ one_more disk calls (left - 1) call (omega arith) is
 
--- what reads give after a call depends on what they gave before it alone
+-- what reads give after a call depends only on what they gave before it
 pub reads_step : (disk : Disk) (call : Call) → (step disk call).reads ≡ (step (at_rest disk.reads) call).reads
 reads_step disk Read = refl
 reads_step disk (WriteLog at bytes) = refl
@@ -49,7 +49,7 @@ step_settles disk (FailedFile name) is = absurd cc
 step_settles disk FailedSync is = absurd cc
 step_settles disk (Give n) is = absurd cc
 
--- another call settles nothing
+-- any other call settles nothing
 pub step_keeps : (disk : Disk) (call : Call) → settles call ≡ false → (step disk call).settled ≡ disk.settled
 step_keeps disk Sync is = absurd cc
 step_keeps disk Read is = refl
@@ -63,7 +63,7 @@ step_keeps disk (FailedFile name) is = refl
 step_keeps disk FailedSync is = refl
 step_keeps disk (Give n) is = refl
 
--- and its part joins what is pending
+-- its part joins what is pending
 pub step_pends : (disk : Disk) (call : Call) → settles call ≡ false → (step disk call).pending ≡ parts_of call ++ disk.pending
 step_pends disk Sync is = absurd cc
 step_pends disk Read is = refl
@@ -91,15 +91,15 @@ filled_step byte (WriteFile name bytes) parts held = more_filled byte (File name
 filled_step byte (RemoveFile name) parts held = more_filled byte (File name) parts held
 filled_step byte (FailedFile name) parts held = more_filled byte (File name) parts held
 
--- what is settled may be left, whatever is pending
+-- what is settled is always an image, whatever is pending
 pub settled_left : (settled : Contents) (parts : List Part) → MayLeave settled parts settled
 settled_left settled [] = unchanged settled
 settled_left settled (part ∷ parts) = more_pending part settled parts settled (settled_left settled parts)
 
--- where nothing is left to be filled all is
+-- if nothing is pending, what is held is already what filling gives
 pub all_filled : (byte : ℕ) (parts : List Part) (held wanted : Contents) → parts ≡ [] → bytes_filled byte parts held ≡ wanted → held ≡ wanted
 all_filled byte parts held wanted none is = sym (none_filled byte held) ∙ ap (λ (ps : List Part). bytes_filled byte ps held) (sym none) ∙ is
 
--- after a sync nothing is pending, and before the first call
+-- nothing is pending after a sync, or before the first call
 pub none_pending : (start : Contents) (calls : List Call) (left : ℕ) → left ≤ 0 → (after (at_rest start) (take left calls)).pending ≡ []
 none_pending start calls left le = ap (λ (k : ℕ). (after (at_rest start) (take k calls)).pending) (let none : left ≡ 0 = omega arith in none)

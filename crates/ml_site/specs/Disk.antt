@@ -71,12 +71,12 @@ log_cut old size = record { log = take size old.log; files = old.files }
 abbrev pub file_with : Contents → Name → Option (List ℕ) → Contents
 file_with old name bytes = record { log = old.log; files = with_file old.files name bytes }
 
--- a call that changes a part: all of it at success, and at an error nothing outside it
+-- a call that changes a part: if it succeeds, all of it is done; if it fails, nothing outside the part has changed
 pub record Changes {E : Type 0} (result : Result (Unit {0}) E) (part : Part) (done old new : Contents) : Type 0 where
   pub ok : OnOk result (new ≡ done)
   pub part_only : MayLeave old (part ∷ []) new
 
--- the part is pending then; where an error came before anything was done it may not be
+-- the part is pending then, unless an error came before anything was done
 pub record Pends {E : Type 0} (result : Result (Unit {0}) E) (part : Part) (old new : Disk) : Type 0 where
   pub settled : new.settled ≡ old.settled
   pub ok : OnOk result (new.pending ≡ part ∷ old.pending)
@@ -91,11 +91,11 @@ pub record IsAtRest (disk : Disk) : Type 0 where
 abbrev pub Now : Disk → List ℕ → Contents → List ℕ → Type 0
 Now disk output left out = IsImage disk left × (out ≡ output)
 
--- what a crash while this piece is put out may leave
+-- what a crash may leave while this piece is put out
 abbrev pub Giving : Disk → List ℕ → List ℕ → Contents → List ℕ → Type 0
 Giving disk output piece left out = IsImage disk left × ((n : ℕ) × (out ≡ output ++ take n piece))
 
--- time goes on, and what a crash since an earlier time may have left it may have left before, or it has P
+-- time goes on; what a crash since an earlier time may have left, it may have left before, or it has P
 pub record Elapses (before now : ℕ) (past since : ℕ → Contents → List ℕ → Type 0) (P : Contents → List ℕ → Type 0) : Type 0 where
   pub later : before ≤ now
   pub nothing_else : (t : ℕ) (left : Contents) (out : List ℕ) → t ≤ before → since t left out → past t left out ⊎ P left out
@@ -104,6 +104,6 @@ pub record Elapses (before now : ℕ) (past since : ℕ → Contents → List �
 abbrev pub nothing : Disk
 nothing = record { reads = record { log = []; files = λ name. None }; settled = record { log = []; files = λ name. None }; pending = [] }
 
--- what is not told is not owed
+-- a type promises nothing of what it doesn't tell
 pub untold : {A : Type 0} → IsTrue false → A
 untold told = absurd (cc told)

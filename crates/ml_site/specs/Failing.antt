@@ -1,10 +1,10 @@
--- Which calls fail.
+-- Which calls of a site in memory fail.
 use Rattle.std.specs.Prelude.{◌≡◌, ◌⊎◌, ◌<◌, ℕ, Bool, IsTrue, Contains}
 use Rattle.ml_base.specs.Faults.{next_call}
 use Rattle.ml_base.specs.declared.plan.FaultPlan.{FaultPlan}
 
--- A call was counted, and it fails where its number is named or above the last one's or there is no room for it, and not
--- otherwise: the record of calls is full, or it is short of room elsewhere.
+-- A call was counted. It fails exactly if its number is named or above the last one's, if the record of calls is full, or if
+-- there is no room elsewhere.
 pub record FailsAsPlanned (before now : FaultPlan) (last : ℕ) (full short result : Bool) : Type 0 where
   pub counted : now.made ≡ next_call before.made
   pub failing : now.failing ≡ before.failing

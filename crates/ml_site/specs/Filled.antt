@@ -1,4 +1,4 @@
--- One image that a crash may leave, for each way to fill what is pending.
+-- One image that a crash may leave, for each way of filling what is pending.
 use Rattle.std.specs.Prelude.{ℕ, ◌+◌, nat_lt, nat_le, Bool, true, not, ◌&&◌, ◌||◌, if◌then◌else◌, List, [], ◌∷◌, length, replicate, Option, option_map}
 use Rattle.ml_base.specs.declared.names.Name.{Name}
 use Rattle.ml_site.specs.declared.fill.Fill.{Fill}
@@ -22,7 +22,7 @@ settled_file name (Range at n ∷ parts) = settled_file name parts
 settled_file name (Cut n ∷ parts) = settled_file name parts
 settled_file name (File other ∷ parts) = not (same_name name other) && settled_file name parts
 
--- the log from this place on, with a byte at each place that is pending
+-- the log from this place on, with a byte at every place that is pending
 abbrev pub log_filled : ℕ → List Part → ℕ → List ℕ → List ℕ
 log_filled byte parts place [] = []
 log_filled byte parts place (x ∷ log) = (if settled_at place parts then x else byte) ∷ log_filled byte parts (place + 1) log
@@ -31,14 +31,14 @@ log_filled byte parts place (x ∷ log) = (if settled_at place parts then x else
 abbrev pub file_filled : ℕ → Option (List ℕ) → Option (List ℕ)
 file_filled byte file = option_map (λ (bytes : List ℕ). replicate (length bytes) byte) file
 
--- what is held, with a byte at each place of the log and of the files that is pending
+-- what is held, with a byte at every place of the log and of the files that is pending
 abbrev pub bytes_filled : ℕ → List Part → Contents → Contents
 bytes_filled byte parts held = record {
   log = log_filled byte parts 0 held.log;
   files = λ name. if settled_file name parts then held.files name else file_filled byte (held.files name);
 }
 
--- what a crash leaves where all that is pending is old, new or one byte
+-- what a crash leaves if all that is pending is old, new or one byte throughout
 abbrev pub filled : Fill → Disk → Contents
 filled fills.Old disk = disk.settled
 filled fills.New disk = disk.reads

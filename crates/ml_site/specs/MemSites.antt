@@ -1,4 +1,4 @@
--- What a site in memory shows.
+-- What a site in memory shows: its disk, its output, its record and its counts.
 use Rattle.std.specs.Prelude.{◌≡◌, ℕ, ◌-◌, ◌^◌, true, List, [], length, take}
 use Rattle.std.specs.Vec.{vec_capacity}
 use Rattle.ml_site.specs.declared.mem.MemSite.{MemSite}
@@ -10,7 +10,7 @@ use Rattle.ml_site.specs.Recorded.{after, at_rest, contents, given, Left, total,
 abbrev pub mem_disk : MemSite → Disk
 mem_disk s = after (at_rest (contents s.start_log s.start_files)) s.calls.items
 
--- the disk after so many calls, or after all where there are fewer
+-- the disk after so many calls, or after all if there are fewer
 abbrev pub mem_disk_at : MemSite → ℕ → Disk
 mem_disk_at s moment = after (at_rest (contents s.start_log s.start_files)) (take moment s.calls.items)
 
@@ -62,7 +62,7 @@ site_made s = s.plan.made
 abbrev pub site_disk_calls : MemSite → ℕ
 site_disk_calls s = s.disk_calls
 
--- how often it was synced
+-- how many syncs succeeded
 abbrev pub mem_syncs : MemSite → ℕ
 mem_syncs s = total size_synced s.calls.items
 
@@ -70,15 +70,15 @@ mem_syncs s = total size_synced s.calls.items
 abbrev pub mem_log_bytes : MemSite → ℕ
 mem_log_bytes s = total size_logged s.calls.items
 
--- what each call on the disk does beside
+-- what else every call on the disk does
 abbrev pub MemOnDisk : MemSite → MemSite → Type 0
 MemOnDisk old new = OnDisk true mem_disk mem_output mem_calls mem_left_since site_disk_faults site_output_faults site_disk_calls old new
 
--- neither a sync nor bytes for the log were counted
+-- the counts of syncs and of bytes for the log are the same
 abbrev pub MemSameNumbers : MemSite → MemSite → Type 0
 MemSameNumbers old new = SameNumbers true mem_syncs mem_log_bytes old new
 
--- Over an image, with room for so many calls and so many bytes of output. No call was made, none is to fail, and nothing is pending.
+-- A site over an image, with room for so many calls and bytes of output. No call was made, none is to fail, and nothing is pending.
 pub record IsNew (image : Contents) (calls output : ℕ) (site : MemSite) : Type 0 where
   pub disk : mem_disk site ≡ at_rest image
   pub put_out : mem_output site ≡ []
@@ -92,7 +92,7 @@ pub record IsNew (image : Contents) (calls output : ℕ) (site : MemSite) : Type
   pub last : site_last site ≡ 2 ^ 64 - 1
   pub made : site_made site ≡ 0
 
--- nothing of a site has changed but which calls are to fail
+-- nothing of a site has changed except which calls are to fail
 pub record ChangesPlan (old new : MemSite) : Type 0 where
   pub made : site_made new ≡ site_made old
   pub disk : mem_disk new ≡ mem_disk old

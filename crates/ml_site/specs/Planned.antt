@@ -1,4 +1,4 @@
--- How each call of a site in memory ends.
+-- How each call of a site in memory ends: done, failed, or without memory.
 use Rattle.std.specs.Prelude.{◌≡◌, ◌⊎◌, ◌↔◌, ◌<◌, ◌≤◌, ℕ, ◌+◌, nat_lt, if◌then◌else◌, List, [], ◌++◌, length, Contains, Result, IsOk, IsErr, IsErrOf}
 use Rattle.ml_base.specs.Faults.{next_call, one_more}
 use Rattle.ml_site.specs.declared.mem.MemSite.{MemSite}
@@ -13,8 +13,8 @@ pub record WasDone (faults : MemSite → ℕ) (old new : MemSite) : Type 0 where
   pub calls : mem_calls new ≡ mem_calls old + 1
   pub faults_same : faults new ≡ faults old
 
--- A call failed. Its fault was counted, and nothing that is read or was put out has changed. Where the record had room for it,
--- it stands there, and these parts are pending.
+-- A call failed. Its fault was counted, and neither what reads give nor what was put out has changed. If the record had room,
+-- the call stands there, and these parts are pending.
 pub record HasFailed (parts : List Part) (faults : MemSite → ℕ) (old new : MemSite) : Type 0 where
   pub calls : mem_calls new ≡ (if nat_lt (mem_calls old) (call_room old) then mem_calls old + 1 else mem_calls old)
   pub fault : faults new ≡ one_more (faults old)
@@ -22,14 +22,14 @@ pub record HasFailed (parts : List Part) (faults : MemSite → ℕ) (old new : M
   pub output : mem_output new ≡ mem_output old
   pub pending : (mem_disk new).pending ≡ (if nat_lt (mem_calls old) (call_room old) then parts ++ (mem_disk old).pending else (mem_disk old).pending)
 
--- memory was wanting: the call doesn't stand in the record, and is no fault
+-- memory ran out: the call doesn't stand in the record, and is no fault
 pub record WasWanting (faults : MemSite → ℕ) (old new : MemSite) : Type 0 where
   pub calls : mem_calls new ≡ mem_calls old
   pub disk : mem_disk new ≡ mem_disk old
   pub faults_same : faults new ≡ faults old
 
--- A call was counted, and ended in one of three ways. It failed exactly where its number is named or above the last one's, or
--- where the record was full or there was no room elsewhere.
+-- A call was counted, and ended in one of three ways. It failed exactly if its number is named or above the last one's, or
+-- if the record was full or there was no room elsewhere.
 pub record EndsAsPlanned (done failed wanting no_room : Type 0) (parts : List Part) (faults : MemSite → ℕ) (old new : MemSite) : Type 0 where
   pub made : site_made new ≡ next_call (site_made old)
   pub failing : site_failing new ≡ site_failing old
@@ -41,14 +41,14 @@ pub record EndsAsPlanned (done failed wanting no_room : Type 0) (parts : List Pa
   pub if_failed : failed → HasFailed parts faults old new
   pub if_wanting : wanting → WasWanting faults old new
 
--- so ends a call on the disk that may take memory
+-- how a call on the disk ends that may take memory
 abbrev pub DiskEnds : {T : Type 0} → Result T SiteError → List Part → MemSite → MemSite → Type 0
 DiskEnds result parts old new = EndsAsPlanned (IsOk result) (IsErrOf result FailedCall) (IsErrOf result Memory) ⊥ parts site_disk_faults old new
 
--- and one that takes none
+-- how a call on the disk ends that takes no memory
 abbrev pub PlainEnds : Result (Unit {0}) Failed → List Part → MemSite → MemSite → Type 0
 PlainEnds result parts old new = EndsAsPlanned (IsOk result) (IsErr result) ⊥ ⊥ parts site_disk_faults old new
 
--- and a call that puts these bytes out
+-- how a call ends that puts these bytes out
 abbrev pub GiveEnds : Result (Unit {0}) Failed → List ℕ → MemSite → MemSite → Type 0
 GiveEnds result bytes old new = EndsAsPlanned (IsOk result) (IsErr result) ⊥ (output_room old < length (mem_output old) + length bytes) [] site_output_faults old new

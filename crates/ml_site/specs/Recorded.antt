@@ -1,4 +1,4 @@
--- What a disk in memory holds after its calls.
+-- What a disk in memory holds after its calls, and what these calls count for.
 use Rattle.std.specs.Prelude.{◌≡◌, ◌≤◌, ℕ, ◌+◌, nat_le, Bool, true, false, if◌then◌else◌, List, [], ◌∷◌, length, take, Option, Some, None}
 use Rattle.std.specs.BTreeMap.{BTreeMap, get}
 use Rattle.ml_base.specs.declared.names.Name.{Name}
@@ -7,7 +7,7 @@ use Rattle.ml_site.specs.declared.call.Call.TheVariants.{Read, WriteLog, FailedL
 use Rattle.ml_site.specs.Disk.{Contents, Part, Disk, Range, Cut, File, IsImage, log_with, log_cut, file_with}
 use Rattle.ml_base.specs.Name.{name_cmp}
 
--- the bytes of a file, or None where it is absent
+-- the bytes of a file, or None if it is absent
 abbrev pub lookup : BTreeMap Name (List ℕ) → Name → Option (List ℕ)
 lookup files name = get name_cmp files name
 
@@ -23,7 +23,7 @@ at_rest c = record { reads = c; settled = c; pending = [] }
 abbrev pub pends : Disk → Part → Contents → Disk
 pends disk part reads = record { reads = reads; settled = disk.settled; pending = part ∷ disk.pending }
 
--- what one call makes of a disk
+-- what one call does to a disk
 abbrev pub step : Disk → Call → Disk
 step disk Read = disk
 step disk (WriteLog at bytes) = pends disk (Range at (length bytes)) (if nat_le at (length disk.reads.log) then log_with disk.reads at bytes else disk.reads)
@@ -42,7 +42,7 @@ abbrev pub settles : Call → Bool
 settles Sync = true
 settles _ = false
 
--- a disk after these calls, the first of them first
+-- a disk after these calls, in their order
 abbrev pub after : Disk → List Call → Disk
 after disk [] = disk
 after disk (call ∷ calls) = after (step disk call) calls
@@ -72,7 +72,7 @@ abbrev pub total : (Call → ℕ) → List Call → ℕ
 total size [] = 0
 total size (call ∷ calls) = size call + total size calls
 
--- what a crash since time t may have left: an image after some of the calls, with the output after them or a part of the next call's piece too
+-- what a crash since time t may have left: an image after some calls, with the output by then, or also a part of the next call's piece
 pub record Left (start : Disk) (calls : List Call) (output : List ℕ) (t : ℕ) (left : Contents) (out : List ℕ) : Type 0 where
   pub number : ℕ
   pub since : t ≤ number

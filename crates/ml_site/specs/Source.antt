@@ -1,4 +1,4 @@
--- What a source has left, as far as it is told.
+-- What a source has left, if it tells that.
 use Rattle.std.specs.Prelude.{◌≡◌, ℕ, ◌<◌, ◌^◌, List, [], ◌++◌, length, take, drop, Option, Some}
 use Rattle.std.proofs.Common.{ap, arith, length-drop}
 
@@ -6,6 +6,6 @@ use Rattle.std.proofs.Common.{ap, arith, length-drop}
 abbrev pub Takes : List ℕ → Option (List ℕ) → List ℕ → ℕ → Type 0
 Takes left after buffer count = (rest : List ℕ) × (left ≡ take count buffer ++ rest) × (after ≡ Some rest) × (count ≡ 0 → 0 < length buffer → rest ≡ [])
 
--- what is left of bytes that a place can count can be counted too
+-- if the number of all bytes fits in 64 bits, so does the number of those that are left
 pub left-room : (at : ℕ) (all left : List ℕ) → length all < 2 ^ 64 → Some (drop at all) ≡ Some left → length left < 2 ^ 64
 left-room at all left room is = let same : drop at all ≡ left = cc in omega (arith, ap length same, length-drop at all)

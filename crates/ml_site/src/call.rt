@@ -1,16 +1,16 @@
-// The record that a site in memory keeps of its calls.
+// The calls on a site in memory, as it records them.
 use ml_base::{Bytes, Name};
 
-/// One call. A call that failed left its part pending and did nothing else.
+/// One call. If it failed, it left its part pending and did nothing else.
 #[derive(Drop)]
 pub enum Call {
-    /// A read of the log or of a file, also one that failed.
+    /// A read of the log or of a file, whether it failed or not.
     Read,
-    /// The place in the log and the bytes that were written there.
+    /// The place in the log, and the bytes that were written there.
     WriteLog(u64, Bytes),
-    /// The place in the log and the number of bytes that were to be written there.
+    /// The place in the log, and the number of bytes that were to be written there.
     FailedLog(u64, u64),
-    /// The length that was left of the log.
+    /// The length to which the log was cut.
     CutLog(u64),
     /// The length to which the log was to be cut.
     FailedCut(u64),
@@ -24,6 +24,6 @@ pub enum Call {
     Sync,
     /// Nothing was settled.
     FailedSync,
-    /// The number of bytes that were put out: 0 where the call failed.
+    /// The number of bytes that were put out: 0 if the call failed.
     Give(u64),
 }

@@ -1,4 +1,4 @@
-// Images that a crash may leave.
+// Images that a crash may leave: what is pending is filled with the old bytes, the new ones or one byte throughout.
 ghost use Rattle.std.specs.Prelude.{◌≡◌, ◌≤◌, ◌-◌, ◌++◌, take, drop, replicate, vec_len, if◌then◌else◌, IfOk, OnOk};
 ghost use Rattle.ml_base.specs.declared.names.Name.{Name as TheName};
 ghost use Rattle.ml_site.specs.Disk.{Contents};
@@ -13,18 +13,18 @@ use ml_base::{Bytes, Name};
 use std::alloc::{AllocError, Global};
 use std::collections::BTreeMap;
 
-/// What a crash leaves in what no sync has settled.
+/// What a crash leaves in the parts that no sync has settled.
 #[derive(Clone, Copy, Debug, PartialEq, Eq)]
 pub enum Fill {
     /// What the last sync settled.
     Old,
     /// What reads give.
     New,
-    /// This byte at each place, in as many places as reads give.
+    /// This byte at every place, in as many places as reads give.
     Byte(u8),
 }
 
-/// Puts a byte at the places from `from` to below `end`.
+/// Puts a byte at the places from `from` on and before `end`.
 fn overwrite(log: &mut Vec<u8>, from: usize, end: usize, byte: u8)
     requires start { from ≤ end }
     requires within { end ≤ vec_len log.old }
@@ -33,7 +33,7 @@ fn overwrite(log: &mut Vec<u8>, from: usize, end: usize, byte: u8)
     log[from..end].fill(byte);
 }
 
-/// Puts a byte in place of each byte of a file, if it is there.
+/// Puts a byte in place of every byte of a file, if it is there.
 fn fill_file(
     alloc: Global,
     files: &mut BTreeMap<Name, Bytes>,
@@ -51,7 +51,7 @@ fn fill_file(
     put_in(files, name, bytes)
 }
 
-/// Puts a byte at each place that a call left pending.
+/// Puts a byte at every place that a call left pending.
 fn fill_part(
     alloc: Global,
     log: &mut Vec<u8>,
@@ -83,7 +83,7 @@ fn fill_part(
     Ok(())
 }
 
-/// An image with a byte at each place that these calls left pending.
+/// An image with a byte at every place that these calls left pending.
 fn fill_pending(alloc: Global, image: Image, calls: &[Call], byte: u8) -> Result<Image, AllocError>
     ensures { (start : Contents) → IfOk result (λ filled. contents filled.log filled.files
         ≡ bytes_filled byte (after (at_rest start) calls.now).pending (contents image.log image.files)) }
@@ -105,7 +105,7 @@ fn fill_pending(alloc: Global, image: Image, calls: &[Call], byte: u8) -> Result
     })
 }
 
-/// What a crash after these calls leaves, as `fill` says. The disk held the log and the files at first, at rest.
+/// What a crash after these calls leaves, as `fill` says. At first the disk held this log and these files, and was at rest.
 pub fn image_left(
     alloc: Global,
     log: &[u8],

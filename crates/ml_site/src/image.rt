@@ -1,4 +1,4 @@
-// What a disk holds.
+// What a disk holds: a log and files.
 ghost use Rattle.std.specs.Prelude.{◌≡◌, ◌≤◌, ◌+◌, ◌++◌, length, take, drop, if◌then◌else◌, IfOk, Some, None};
 ghost use Rattle.ml_base.specs.declared.names.Name.{Name as TheName};
 ghost use Rattle.ml_base.specs.Dir.{with_file};
@@ -8,7 +8,7 @@ use ml_base::{Bytes, Name};
 use std::alloc::{AllocError, Global};
 use std::collections::BTreeMap;
 
-/// What a disk holds: the bytes of its log, and the bytes of each file under its name.
+/// What a disk holds: the bytes of its log, and the bytes of every file under its name.
 /// A log that is absent is an empty log.
 #[derive(Drop)]
 pub struct Image {
@@ -25,7 +25,7 @@ pub fn all_copied(files: &BTreeMap<Name, Bytes>) -> Result<BTreeMap<Name, Bytes>
     Ok(files.clone()?)
 }
 
-/// A copy of a file, or None where it isn't there.
+/// A copy of a file, or None if it isn't there.
 pub fn copied(
     alloc: Global,
     files: &BTreeMap<Name, Bytes>,
@@ -39,7 +39,7 @@ pub fn copied(
     }
 }
 
-/// Sets a file and answers true, or leaves all as it is for want of memory.
+/// Sets a file and answers true, or changes nothing if memory is lacking.
 pub fn set_file(files: &mut BTreeMap<Name, Bytes>, name: Name, bytes: Bytes) -> bool
     ensures { (other : TheName) → lookup files.new other
         ≡ (if result then with_file (lookup files.old) name (Some bytes) other else lookup files.old other) }
@@ -54,7 +54,7 @@ pub fn drop_file(files: &mut BTreeMap<Name, Bytes>, name: Name)
     let _was = files.remove(&name);
 }
 
-/// A log with these bytes at a place.
+/// A log after these bytes were written to it at a place.
 pub fn spliced(alloc: Global, log: &[u8], at: usize, bytes: &[u8]) -> Result<Bytes, AllocError>
     requires { at ≤ length log.now }
     ensures { IfOk result (λ longer.

@@ -1,4 +1,5 @@
-//! A site: a disk with a log and files, and an output. Beside it a source of bytes and a clock.
+//! What the program asks of the world, as traits: a site, which is a disk with a log and files and an output, a source of bytes
+//! and a clock. For tests, each also has a version in memory, whose calls can be made to fail.
 #![tactic(auto)]
 
 mod call;

@@ -1,4 +1,4 @@
-// A disk and an output in memory, with a record of its calls.
+// A disk and an output in memory, for tests: it records its calls, fails when told to, and shows what a crash may leave.
 ghost use Rattle.std.specs.Prelude.{◌≡◌, ℕ, ◌<◌, ◌≤◌, ◌+◌, ◌-◌, ◌^◌, nat_lt, nat_le, min, true, false, IsTrue, ◌↔◌, length, take, [], ◌∷◌, ◌++◌, if◌then◌else◌, IfOk, OnOk, OnErr, IsErrOf, Some, None, vec_len};
 ghost use Rattle.std.specs.Vec.{vec_capacity};
 ghost use Rattle.ml_base.specs.declared.names.Name.{Name as TheName};
@@ -22,7 +22,7 @@ use std::alloc::{AllocError, Global};
 use std::collections::BTreeMap;
 
 /// A site in memory, with a record of its calls. It tells all that a site may tell.
-/// A call whose number is named fails, and so does one for which the record or the output has no room.
+/// A call fails if its number is named, or if the record or the output has no room for it.
 /// A call that fails changes nothing that reads give and puts nothing out.
 #[derive(Drop)]
 pub struct MemSite {
@@ -53,7 +53,7 @@ pub struct MemSite {
 impl MemSite {
     ghost use Rattle.ml_site.specs.MemSites.{IsNew, ChangesPlan, mem_disk_at, mem_output, mem_output_at, mem_left_since, mem_calls, site_failing, site_last};
 
-    /// A site over an image, with room for `calls` calls and `output` bytes of output, which are reserved at once.
+    /// A site over an image, with room for `calls` calls and `output` bytes of output, all reserved at once.
     /// No call is to fail, and nothing is pending.
     pub fn new(
         alloc: Global,
@@ -81,7 +81,7 @@ impl MemSite {
         })
     }
 
-    /// Names the calls that are to fail, counted from 1 since the site was made, in place of those named before.
+    /// Names the calls that are to fail, counted from 1 since the site was made. They replace those named before.
     /// An error changes nothing.
     pub fn fail(&mut self, alloc: Global, calls: &[u64]) -> Result<(), AllocError>
         ensures ok { OnOk result (site_failing self.new ≡ calls.now) }
@@ -93,7 +93,7 @@ impl MemSite {
         Ok(())
     }
 
-    /// Makes every call after the `k`-th fail, counted since the site was made, beside those that are named.
+    /// Makes every call after the `k`-th fail, counted since the site was made, besides those that are named.
     pub fn stop_after(&mut self, k: u64)
         ensures last { site_last self.new ≡ k }
         ensures failing { site_failing self.new ≡ site_failing self.old }
@@ -102,8 +102,8 @@ impl MemSite {
         self.last_call = k;
     }
 
-    /// One image that a crash after the first `moment` calls may leave, or after all where there are fewer:
-    /// what no sync has settled is old, new or one byte, as `fill` says.
+    /// One image that a crash after the first `moment` calls may leave, or after all calls if there are fewer:
+    /// what no sync has settled is old, new or one byte throughout, as `fill` says.
     pub fn crash(&self, alloc: Global, moment: u64, fill: Fill) -> Result<Image, AllocError>
         ensures image { IfOk result (λ image. IsImage (mem_disk_at self.now moment) (contents image.log image.files)) }
         ensures bytes { IfOk result (λ image. contents image.log image.files ≡ filled fill (mem_disk_at self.now moment)) }
@@ -129,8 +129,8 @@ impl MemSite {
     }
 }
 
-/// Counts a call, and answers whether it fails: its number is named or above the last one's, the record has no room for
-/// it, or it finds no room elsewhere, as `short` says.
+/// Counts a call, and answers whether it fails: its number is named or above `last`, the record has no room for
+/// it, or something else has none, as `short` says.
 fn fails(plan: &mut FaultPlan, last: u64, calls: &Vec<Call>, short: bool) -> bool
     ensures planned { FailsAsPlanned plan.old plan.new last (nat_le (vec_capacity calls.now) (length calls.now.items)) short result }
     ensures room { result ≡ false → vec_len calls.now < vec_capacity calls.now }
@@ -154,7 +154,7 @@ fn note_failure(calls: &mut Vec<Call>, faults: &mut u64, call: Call)
     }
 }
 
-/// Whether an output that has this room, and no more than that in it, has none left for these bytes.
+/// Whether these bytes no longer fit an output that has this room and holds no more than that.
 fn is_short(output: &Vec<u8>, room: usize, bytes: &[u8]) -> bool
     requires { length output.now.items ≤ room }
     ensures short { IsTrue result ↔ room < length output.now.items + length bytes.now }

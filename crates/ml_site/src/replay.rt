@@ -1,4 +1,4 @@
-// What reads give after some calls.
+// What reads give after a record of calls, and how many of these calls are settled.
 ghost use Rattle.std.specs.Prelude.{◌≡◌, ◌≤◌, ◌+◌, ◌++◌, length, take, drop, [], if◌then◌else◌, nat_le, Some, IfOk, OnOk};
 ghost use Rattle.ml_base.specs.declared.names.Name.{Name as TheName};
 ghost use Rattle.ml_site.specs.Disk.{Contents};
@@ -20,7 +20,7 @@ pub fn put_in(files: &mut BTreeMap<Name, Bytes>, name: Name, bytes: Bytes) -> Re
     Ok(())
 }
 
-/// Writes bytes to a log, where they begin at or before its end.
+/// Writes bytes to a log, if they begin at or before its end.
 fn write_at(alloc: Global, log: &mut Bytes, at: u64, bytes: &[u8]) -> Result<(), AllocError>
     ensures { OnOk result (log.new
         ≡ (if nat_le at (length log.old) then take at log.old ++ bytes.now ++ drop (at + length bytes.now) log.old else log.old)) }
@@ -31,7 +31,7 @@ fn write_at(alloc: Global, log: &mut Bytes, at: u64, bytes: &[u8]) -> Result<(),
     Ok(())
 }
 
-/// Does what one call did to what reads give.
+/// Makes the change that one call made to what reads give.
 fn redo(alloc: Global, image: &mut Image, call: &Call) -> Result<(), AllocError>
     ensures { OnOk result (contents image.new.log image.new.files
         ≡ (step (at_rest (contents image.old.log image.old.files)) call.now).reads) }

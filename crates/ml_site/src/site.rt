@@ -1,4 +1,4 @@
-// A disk and an output, as the program sees them.
+// A disk with a log and files, and an output, as the program sees them: the trait `Site`.
 ghost use Rattle.std.specs.Prelude.{◌≡◌, ◌≤◌, ◌+◌, ◌++◌, ℕ, Bool, List, Option, Some, None, IsTrue, length, take, IfOk, OnOk, OnErr, IsErrOf, is_some};
 ghost use Rattle.ml_base.specs.Absent.{NoneOf};
 ghost use Rattle.ml_base.specs.Name.{is_file};
@@ -12,7 +12,7 @@ use ml_base::{Bytes, Name};
 use std::alloc::{AllocError, AllocFailed, Global};
 use thiserror::Error;
 
-/// Why a call on the disk that takes memory gave no answer.
+/// Why a call on the disk that takes memory failed.
 #[derive(Clone, Copy, Debug, PartialEq, Eq, Error)]
 pub enum SiteError {
     /// The disk failed. Its count of faults rose in this call.
@@ -46,14 +46,14 @@ impl<T: Drop> From<AllocFailed<T>> for SiteError {
 
 /// A disk with a log and files, and an output.
 ///
-/// A type tells what reads give, or it doesn't, and then it tells nothing; the rest it tells as a whole or not at all.
-/// What isn't told is not owed. The counts of calls and of faults are told by every type, and they never fall.
-/// `Failed` comes only where the count of the disk rose in that call, or of the output for `give`.
+/// A type that doesn't tell what reads give tells nothing of the rest either. The rest it tells as a whole or not at all.
+/// It promises nothing of what it doesn't tell. Every type tells its counts of calls and of faults, and they never fall.
+/// `Failed` comes only if the count of the disk's faults rose in that call, or for `give` the count of the output's.
 pub trait Site {
     /// Whether it tells what reads give.
     ghost tells_reads: { Bool };
 
-    /// Whether it tells its images, output, moments and numbers too.
+    /// Whether it also tells its images, output, moments and numbers.
     ghost tells_all: { Bool };
 
     /// What reads give, what is settled and what is pending.
@@ -68,7 +68,7 @@ pub trait Site {
     /// What a crash at some moment from that time on may have left, with the output so far.
     ghost left_since: { Self → ℕ → Contents → List ℕ → Type 0 };
 
-    /// How often it was synced. A sync that failed doesn't count.
+    /// How many syncs succeeded.
     ghost syncs: { Self → ℕ };
 
     /// How many bytes were handed to the log.
@@ -77,7 +77,7 @@ pub trait Site {
     /// How often a call on the disk has failed, as far as that can be counted in 64 bits.
     ghost disk_faults: { Self → ℕ };
 
-    /// How many calls on the disk were made, `give` not among them, as far as that can be counted in 64 bits.
+    /// How many calls on the disk were made, without those of `give`, as far as that can be counted in 64 bits.
     ghost disk_calls: { Self → ℕ };
 
     /// How often the output has failed, as far as that can be counted in 64 bits.
@@ -92,7 +92,7 @@ pub trait Site {
         ensures cause { IsErrOf result FailedCall → Rose (disk_faults self.old) (disk_faults self.new) };
 
     /// Writes bytes to the log from the byte `at` on, which is at or before its end as it reads.
-    /// They are pending then, also where the call failed, and what reads give differs there at most.
+    /// They are then pending, even if the call failed, and what reads give changes only there.
     fn write_log(&mut self, alloc: Global, at: u64, bytes: &[u8]) -> Result<(), SiteError>
         requires { IsTrue tells_reads → at ≤ length (disk self.old).reads.log }
         ensures change { ChangesPart tells_reads tells_all disk result (Range at (length bytes.now))
@@ -103,8 +103,8 @@ pub trait Site {
         ensures log_bytes_stay { IsTrue tells_all → log_bytes self.old ≤ log_bytes self.new }
         ensures cause { IsErrOf result FailedCall → Rose (disk_faults self.old) (disk_faults self.new) };
 
-    /// Cuts the log to its first `len` bytes, at most as many as it has as it reads.
-    /// What stood behind them is pending then, also where the call failed.
+    /// Cuts the log to its first `len` bytes, which is at most as many as reads give.
+    /// What stood after them is then pending, even if the call failed.
     fn cut_log(&mut self, len: u64) -> Result<(), Failed>
         requires { IsTrue tells_reads → len ≤ length (disk self.old).reads.log }
         ensures change { ChangesPart tells_reads tells_all disk result (Cut len)
@@ -113,7 +113,7 @@ pub trait Site {
         ensures numbers { SameNumbers tells_all syncs log_bytes self.old self.new }
         ensures cause { OnErr result (Rose (disk_faults self.old) (disk_faults self.new)) };
 
-    /// The bytes of a file other than the log, or None where it is absent.
+    /// The bytes of a file other than the log, or None if it is absent.
     fn read_file(&mut self, alloc: Global, name: Name) -> Result<Option<Bytes>, SiteError>
         requires { IsTrue (is_file name) }
         ensures bytes { IsTrue tells_reads → IfOk result (λ o. o ≡ (disk self.old).reads.files name) }
@@ -122,7 +122,7 @@ pub trait Site {
         ensures numbers { SameNumbers tells_all syncs log_bytes self.old self.new }
         ensures cause { IsErrOf result FailedCall → Rose (disk_faults self.old) (disk_faults self.new) };
 
-    /// Whether a file other than the log is there. Where a type can tell it without the file's bytes, it has a body of its own.
+    /// Whether a file other than the log is there. A type that knows this without the file's bytes has a body of its own.
     fn has_file(&mut self, alloc: Global, name: Name) -> Result<bool, SiteError>
         requires { IsTrue (is_file name) }
         ensures there { IsTrue tells_reads → IfOk result (λ there. there ≡ is_some ((disk self.old).reads.files name)) }
@@ -137,8 +137,8 @@ pub trait Site {
         }
     }
 
-    /// A place from `from` on and at most `end` that a walk over the files of a kind may go on at: no file of the kind is at a place from
-    /// `from` on and before it. Where a type can tell more without a look at each place, it has a body of its own; `from` says nothing.
+    /// A place from `from` to `end` at which a walk over the files of a kind may go on: no file of the kind is at a place from
+    /// `from` on and before it. A type that knows more without a look at every place has a body of its own; `from` itself says nothing.
     fn skip_files(&mut self, alloc: Global, kind: u8, from: u64, end: u64) -> Result<u64, SiteError>
         requires { from ≤ end }
         ensures range { IfOk result (λ at. (from ≤ at) × (at ≤ end)) }
@@ -152,7 +152,7 @@ pub trait Site {
     }
 
     /// Gives a file other than the log these bytes, in place of any that it had.
-    /// The file is pending then, also where the call failed, and what reads give differs there at most.
+    /// The file is then pending, even if the call failed, and what reads give changes only there.
     fn write_file(&mut self, alloc: Global, name: Name, bytes: &[u8]) -> Result<(), SiteError>
         requires { IsTrue (is_file name) }
         ensures change { ChangesPart tells_reads tells_all disk result (File name)
@@ -162,7 +162,7 @@ pub trait Site {
         ensures cause { IsErrOf result FailedCall → Rose (disk_faults self.old) (disk_faults self.new) };
 
     /// Removes a file other than the log, if it is there.
-    /// The file is pending then, also where the call failed, and what reads give differs there at most.
+    /// The file is then pending, even if the call failed, and what reads give changes only there.
     fn remove_file(&mut self, alloc: Global, name: Name) -> Result<(), SiteError>
         requires { IsTrue (is_file name) }
         ensures change { ChangesPart tells_reads tells_all disk result (File name)
@@ -187,7 +187,7 @@ pub trait Site {
         ensures log_bytes { IsTrue tells_all → log_bytes self.new ≡ log_bytes self.old }
         ensures cause { OnErr result (Rose (disk_faults self.old) (disk_faults self.new)) };
 
-    /// Puts bytes out behind those that were put out before. An error has put out some first part of them.
+    /// Puts bytes out after those that were put out before. If it fails, some first part of them may be out.
     /// It takes no memory.
     fn give(&mut self, bytes: &[u8]) -> Result<(), Failed>
         ensures same { SameDisk tells_reads tells_all disk self.old self.new }
@@ -202,17 +202,17 @@ pub trait Site {
         ensures others { disk_faults self.new ≡ disk_faults self.old }
         ensures calls { disk_calls self.new ≡ disk_calls self.old };
 
-    /// What is told besides what reads give.
+    /// A type that tells all tells what reads give.
     ghost all_has_reads: { IsTrue tells_all → IsTrue tells_reads };
 
     /// A disk as it reads is one of its images.
     ghost reads_as_image: { (site : Self) → IsTrue tells_all → IsImage (disk site) (disk site).reads };
 
-    /// With the output so far it is a moment now.
+    /// What reads give, with the output so far, is a moment now.
     ghost is_a_moment: { (site : Self) (t : ℕ) → IsTrue tells_all → t ≤ moment site
         → left_since site t (disk site).reads (output site) };
 
-    /// Since this moment there is no other.
+    /// The moments of right now are the disk's images with the output so far, and no others.
     ghost only_now: { (site : Self) (left : Contents) (out : List ℕ) → IsTrue tells_all
         → left_since site (moment site) left out → Now (disk site) (output site) left out };
 }

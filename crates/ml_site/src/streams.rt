@@ -1,4 +1,4 @@
-// A source and a clock in memory, whose calls fail where they are told to.
+// A source and a clock in memory, for tests, whose calls fail when they are told to.
 ghost use Rattle.std.specs.Prelude.{◌≡◌, ◌<◌, ◌≤◌, ◌^◌, ◌↔◌, min, length, drop, Some, IfOk, IsErr, OnErr, Contains};
 ghost use Rattle.ml_base.specs.Faults.{HasCause, next_call};
 ghost use Rattle.ml_site.specs.Source.{Takes, left-room};
@@ -6,7 +6,7 @@ ghost use Rattle.ml_site.specs.Source.{Takes, left-room};
 use crate::{Clock, Failed, Source};
 use ml_base::{Bytes, FaultPlan, Numbers};
 
-/// A source of bytes in memory. Each read gives as many of them as fit.
+/// A source of bytes in memory. Every read gives as many of them as fit.
 #[derive(Drop)]
 pub struct MemSource {
     bytes: Bytes,
@@ -27,7 +27,7 @@ impl MemSource {
         ensures failing { source_failing result ≡ fail }
         ensures made { source_made result ≡ 0 }
     {
-        // There are fewer bytes than a place can count.
+        // Their number fits in 64 bits.
         let _len = bytes.len();
         MemSource {
             bytes,
@@ -45,7 +45,7 @@ impl Source for MemSource {
 
     ghost faults = { λ s. s.faults };
 
-    /// It fails exactly where the number of this read is named.
+    /// It fails exactly if the number of this read is named.
     fn read(&mut self, buf: &mut [u8]) -> Result<usize, Failed>
         ensures bound { IfOk result (λ count. count ≤ length buf.old) }
         ensures taken { IfOk result (λ count. Takes (mem_left self.old) (Some (mem_left self.new)) buf.new count) }
@@ -70,7 +70,7 @@ impl Source for MemSource {
     ghost room = { λ s bytes is. left-room s.at s.bytes bytes s.room is };
 }
 
-/// A clock that always shows one moment.
+/// A clock that always shows the same moment.
 #[derive(Drop)]
 pub struct MemClock {
     moment: u64,
@@ -106,7 +106,7 @@ impl Clock for MemClock {
 
     ghost faults = { λ s. s.faults };
 
-    /// It fails exactly where the number of this call is named.
+    /// It fails exactly if the number of this call is named.
     fn now(&mut self) -> Result<u64, Failed>
         ensures range { IfOk result (λ moment. moment < 253402300800) }
         ensures shown { IfOk result (λ moment. moment ≡ mem_shows self.old) }

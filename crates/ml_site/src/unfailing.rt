@@ -9,8 +9,8 @@ use ml_base::{Bytes, Name};
 use std::alloc::Global;
 use std::collections::BTreeMap;
 
-/// A site in memory whose calls never fail, though they may want memory. It tells what reads give and nothing else.
-/// It counts its calls on the disk and keeps no record of them, and drops what is put out.
+/// A site in memory whose calls never fail, except that memory may run out. It tells what reads give and nothing else.
+/// It counts its calls on the disk but keeps no record of them, and drops what is put out.
 #[derive(Drop)]
 pub struct Unfailing {
     log: Bytes,

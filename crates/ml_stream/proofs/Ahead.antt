@@ -1,4 +1,4 @@
--- A stream item by item.
+-- What is left of a stream is its next item, an error or the end.
 use Rattle.std.proofs.Common.{◌≡◌, ◌≢◌, ◌⊎◌, inl, inr, ℕ, ◌+◌, true, false, List, [], ◌∷◌, Option, Some, None, Result, Ok, Err, ap, sym, refl, subst, ◌∙◌}
 use Rattle.ml_base.specs.Bytes.{Text, is_empty}
 use Rattle.ml_plain.specs.declared.Item.{Item}
@@ -10,7 +10,7 @@ use Rattle.ml_stream.specs.Stream.{Read, got, and_then, StreamEnd, End, Broken, 
 abbrev ItemRead : Type 0
 ItemRead = Read (Option Item)
 
--- the parts of what was read, and others where nothing was
+-- the parts of what was read, or others if nothing was read
 value_in : ItemRead → Option Item
 value_in (Ok found) = found.value
 value_in (Err e) = None
@@ -57,7 +57,7 @@ stream_item place p bs r i (j ∷ js) ending h e =
       subst (λ q. IsStream q r js ending) (ap place_in same) (subst (λ q. IsStream h.0 q js ending) (ap rest_in same) h.3),
     )
 
--- bytes begin an item or are bad: they are no end
+-- bytes begin an item or are bad: they aren't the end
 no_end : (place p : ℕ) (b : ℕ) (bs r : Text) (o : Option Letter) → behind_letter place o bs ≡ got None p r → ⊥
 unfolding value_in
 no_end place p b bs r None e = err_ok (Bad place) _ e
@@ -67,13 +67,13 @@ no_end place p b bs r (Some letter) e = go (elements_at letter (place + 1) bs) e
     go (Ok found) h = some_none found.value (ap value_in h)
     go (Err x) h = err_ok x _ h
 
--- the end is read where no byte is left
+-- the end is read only if no byte is left
 pub no_bytes_end : (place p : ℕ) (bs r : Text) → item_at place bs ≡ got None p r → (bs ≡ []) × (r ≡ [])
 unfolding rest_in
 no_bytes_end place p [] r e = (refl, sym (ap rest_in e))
 no_bytes_end place p (b ∷ bs) r e = absurd (no_end place p b bs r (letter_of b) e)
 
--- whether bytes are left decides whether items or a bad element are
+-- if bytes are left, items or a bad element are left too
 pub more_ahead : (place : ℕ) (bs : Text) (items : List Item) (ending : StreamEnd) → IsStream place bs items ending → is_empty bs ≡ false → (items ≢ []) ⊎ (¬ (ending ≡ End))
 more_ahead place bs [] ending s some = inr (λ is. bytes bs some (subst (λ (x : StreamEnd). IsStream place bs [] x) is s))
   where

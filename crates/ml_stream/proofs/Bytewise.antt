@@ -1,4 +1,4 @@
--- Readers that take a byte at a time.
+-- For functions that read a byte at a time.
 use Rattle.std.proofs.Common.{◌≡◌, ℕ, suc, ◌+◌, ◌-◌, ◌^◌, ◌<◌, ◌≤◌, min, Bool, true, false, List, [], ◌∷◌, ◌++◌, length, get_or, Option, Some, None, ap, refl, ◌∙◌, arith, MatchBool, ◌≢◌, ◌*◌, Err}
 use Rattle.std.specs.Option.{option_to_list}
 use Rattle.std.proofs.lemmas.Bool.Decides.{when_true, when_false, nat_tests}
@@ -17,7 +17,7 @@ none_item : (xs : List ℕ) → length xs < 1 → xs ≡ []
 none_item [] e = refl
 none_item (x ∷ xs) e = absurd (omega arith)
 
--- what filling a buffer of one byte tells
+-- what the result of filling a one-byte buffer says
 abbrev pub Fills : Option (List ℕ) → Option (List ℕ) → List ℕ → Bool → Type 0
 Fills left after buf full = (own : List ℕ) → left ≡ Some own → MatchBool full ((rest : List ℕ) × (own ≡ buf ++ rest) × (after ≡ Some rest)) ((length own < length buf) × (after ≡ Some []))
 
@@ -72,6 +72,6 @@ len_digit start limit count n p b bs colon is = rw (ne_eqb b 58 colon, is, lengt
 pub len_bad : (start limit count n p b : ℕ) (bs : List ℕ) → b ≢ 58 → is_next_digit limit count n b ≡ false → length_at start limit count n p (b ∷ bs) ≡ Err (Bad start)
 len_bad start limit count n p b bs colon is = rw (ne_eqb b 58 colon, is, length_at)
 
--- what a digit that goes on a number keeps
+-- what still holds when a digit is added to a number
 pub digit_keeps : (limit count n b : ℕ) → count ≤ n + 1 → is_next_digit limit count n b ≡ true → (10 * n + (b - 48) ≤ limit) × (count + 1 ≤ 10 * n + (b - 48) + 1)
 digit_keeps limit count n b few is = (grind (arith, nat_tests), grind (arith, nat_tests))

@@ -1,4 +1,4 @@
--- What was taken of a stream that is read no further.
+-- How much of a stream was taken when reading it stopped early.
 use Rattle.std.proofs.Common.{◌≡◌, inl, inr, ⊎_elim, ℕ, ◌+◌, ◌<◌, Bool, true, false, eqb, [], ◌∷◌, ◌++◌, length, Option, Some, None, Result, Ok, Err, OnErr, IfErr, ap, sym, refl, ◌∙◌, arith, append_assoc}
 use Rattle.std.specs.Result.{IsErrAnd}
 use Rattle.std.specs.Option.{option_to_list}
@@ -27,14 +27,14 @@ empty : (xs : Text) → length xs < 1 → xs ≡ []
 empty [] e = refl
 empty (x ∷ xs) e = absurd (omega (arith, e))
 
--- errors that tell of the stream
+-- errors that say something of the stream
 pub bad_not : (at : ℕ) → IsHindrance (Bad at) → ⊥
 bad_not at h = ⊎_elim (λ (e : Bad at ≡ Fault). cc) (λ (e : Bad at ≡ Memory). cc) h
 
 pub short_not : (at : ℕ) → IsHindrance (Short at) → ⊥
 short_not at h = ⊎_elim (λ (e : Short at ≡ Fault). cc) (λ (e : Short at ≡ Memory). cc) h
 
--- what is left where no byte was read ahead
+-- what is left if no byte was read ahead
 pub left_own : (place : ℕ) (ahead : Option ℕ) (left : Option Text) (bs : Text) → ahead ≡ None → Stands place ahead left bs → left ≡ Some bs
 left_own place ahead left bs none s = s.is_left ∙ ap (λ (t : Text). Some t) (sym (own_is place ahead left bs none s))
 
@@ -51,7 +51,7 @@ breaks_none e left bs P is p = record { front = []; rest = bs; split = refl; lef
 pub breaks_byte : (e : StreamError) (place : ℕ) (ahead b : Option ℕ) (left : Option Text) (bs rest : Text) (P : Text → Type 0) → bs ≡ option_to_list b ++ rest → ahead ≡ None → Stands place ahead left rest → (IsHindrance e → ⊥) → EndsEarly e left bs P
 breaks_byte e place ahead b left bs rest P split none s other = record { front = option_to_list b; rest = rest; split = split; left_is = left_own place ahead left rest none s; cut = λ fault. absurd (other fault) }
 
--- the same within a value that was read in part
+-- the same, inside a value that was read in part
 pub breaks_further : (e : StreamError) (left : Option Text) (bs front rest : Text) (Q P : Text → Type 0) → bs ≡ front ++ rest → EndsEarly e left rest Q → ((t : Text) → Q t → P (front ++ t)) → EndsEarly e left bs P
 breaks_further e left bs front rest Q P split b f = record {
   front = front ++ b.front;
@@ -80,21 +80,21 @@ breaks_then {A} {B} e left bs rest f h value place local is b =
     breaks_further e left bs one.one rest (λ t. Fails (h (record { value = value; place = place; rest = t }))) (λ t. Fails (and_then (f t) h)) one.split b
     (λ t x. (x.0, ap (λ (r : Read A). and_then r h) (one.all t) ∙ x.1))
 
--- a value was read, and no more, for another reason than a fault
+-- a value was read and then reading stopped, but not for a fault
 pub breaks_got : {A : Type 0} (e : StreamError) (place : ℕ) (ahead : Option ℕ) (left : Option Text) (bs rest : Text) (f : Text → Read A) (value : A) (P : Text → Type 0) → IsLocal f → f bs ≡ got value place rest
     → ahead ≡ None → Stands place ahead left rest → (IsHindrance e → ⊥) → EndsEarly e left bs P
 breaks_got {A} e place ahead left bs rest f value P local is none s other =
     let one = local bs (record { value = value; place = place; rest = rest }) is in
     record { front = one.one; rest = rest; split = one.split; left_is = left_own place ahead left rest none s; cut = λ fault. absurd (other fault) }
 
--- the same where memory was wanting behind it
+-- the same if memory ran out after it
 pub breaks_read : {A : Type 0} (e : StreamError) (place : ℕ) (ahead : Option ℕ) (left : Option Text) (bs rest : Text) (f : Text → Read A) (value : A) (P : Text → Type 0) → IsLocal f → f bs ≡ got value place rest
     → ahead ≡ None → Stands place ahead left rest → ((front : Text) → f front ≡ got value place [] → P front) → EndsEarly e left bs P
 breaks_read {A} e place ahead left bs rest f value P local is none s all =
     let one = local bs (record { value = value; place = place; rest = rest }) is in
     record { front = one.one; rest = rest; split = one.split; left_is = left_own place ahead left rest none s; cut = λ h. all one.one (ap f (sym (append-nil one.one)) ∙ one.all []) }
 
--- a length was read, and nothing behind it
+-- a length was read, and nothing after it
 pub length_unfinished : (start limit n p : ℕ) (front : Text) → length_at start limit 0 0 start front ≡ got n p [] → IsUnfinished (content_at start limit front)
 length_unfinished start limit n p front is = go (eqb n 0) refl
   where
@@ -102,7 +102,7 @@ length_unfinished start limit n p front is = go (eqb n 0) refl
     go true z = inr ([], p + 0, ap (λ (r : Read ℕ). and_then r (bytes_at start)) (is ∙ ap (λ (m : ℕ). got m p []) (eqb-true n 0 z)))
     go false z = inl (Short start, content_short start limit p n front [] is (omega (arith, eqb-false n 0 z)))
 
--- an element isn't read whose content isn't finished
+-- an element isn't read if its content isn't finished
 pub element_unfinished : {X : Type 0} (limit start : ℕ) (read : Text → Option X) (t : Text) → IsUnfinished (content_at start limit t) → Fails (element_at limit read start t)
 element_unfinished {X} limit start read t u = ⊎_elim
     (λ f. (f.0, ap (λ (r : Read Text). and_then r (λ content. closed start (read content.value) content.place content.rest)) f.1))
@@ -128,17 +128,13 @@ breaks_content e start limit p n size ahead left after bs own is none s same c =
       cut = λ fault. inl (Short start, content_short start limit p n (one.one ++ c.front) c.front (one.all c.front) (omega (arith, c.few, same)));
     }
 
--- a content was read, and the comma behind it wasn't
+-- a content was read, but the comma after it wasn't
 pub breaks_comma : {X : Type 0} (e : StreamError) (limit start p : ℕ) (read : Text → Option X) (left : Option Text) (bs content own : Text) (x : X) → content_at start limit bs ≡ got content p own → read content ≡ Some x
     → EndsEarly e left own (λ t. Fails (comma_at start p t)) → EndsEarly e left bs (λ t. Fails (element_at limit read start t))
 breaks_comma {X} e limit start p read left bs content own x is value b =
     breaks_then e left bs own (λ t. content_at start limit t) (λ found. closed start (read found.value) found.place found.rest) content p (content_local start limit) is
     (breaks_map e left own (λ t. Fails (comma_at start p t)) (λ t. Fails (closed start (read content) p t)) b
     (λ t f. (f.0, ap (λ (o : Option X). closed start o p t) value ∙ ap (λ (r : Read (Unit {0})). and_then r (λ comma. got x comma.place comma.rest)) f.1)))
-
--- a length was read in part
-pub length_cut : (start limit count n place old : ℕ) (front : Text) → ((more : Text) → length_at start limit count n place more ≡ length_at start limit 0 0 old (front ++ more)) → Fails (length_at start limit 0 0 old front)
-length_cut start limit count n place old front same = (Short start, ap (length_at start limit 0 0 old) (sym (append-nil front)) ∙ sym (same []))
 
 -- the elements of an item were read in part
 pub breaks_item : (e : StreamError) (p place b : ℕ) (letter : Letter) (left : Option Text) (bs rest : Text) → bs ≡ b ∷ rest → letter_of b ≡ Some letter → place ≡ p + 1 → EndsEarly e left rest (λ t. Fails (elements_at letter place t)) → EndsEarly e left bs (IsNoItem p)

@@ -1,4 +1,4 @@
--- Elements of the stream, from their parts.
+-- Elements of the stream, put together from their parts.
 use Rattle.std.proofs.Common.{◌≡◌, ◌≢◌, ℕ, ◌+◌, ◌-◌, ◌^◌, ◌<◌, min, Bool, true, false, List, [], ◌∷◌, ◌++◌, if◌then◌else◌, length, take, drop, Option, Some, None, Ok, Err, Result, ap, sym, ◌∙◌, arith, length-append}
 use Rattle.std.specs.Option.{option_to_list}
 use Rattle.std.proofs.lemmas.Bool.Decides.{when_true, when_false, nat_tests}
@@ -24,7 +24,7 @@ comma_some start place b bs e = grind (arith, nat_tests)
 pub comma_bad : (start place b : ℕ) (bs : List ℕ) → b ≢ 44 → comma_at start place (b ∷ bs) ≡ Err (Bad start)
 comma_bad start place b bs e = grind (arith, nat_tests)
 
--- what is left is the source's own where no byte was read ahead
+-- what is left is what the source has left, if no byte was read ahead
 pub own_is : (place : ℕ) (ahead : Option ℕ) (left : Option (List ℕ)) (bs : List ℕ) → ahead ≡ None → (s : Stands place ahead left bs) → bs ≡ s.own
 own_is place ahead left bs none s = s.is_all ∙ ap (λ a. option_to_list a ++ s.own) none
 
@@ -58,7 +58,7 @@ element_ok limit start p place read bs content own rest x e is comma =
     ap (λ r. and_then r (λ got. closed start (read got.value) got.place got.rest)) e ∙ ap (λ o. closed start o p own) is
     ∙ ap (λ r. and_then r (λ got. Ok (record { value = x; place = got.place; rest = got.rest }))) comma
 
--- the content, from what filling a buffer of its length tells
+-- the content, from what filling a buffer of its length says
 pub content_filled : (start limit p n new : ℕ) (bs left_own buf : List ℕ) (full : Bool) (ahead : Option ℕ) (left after : Option (List ℕ))
     → length_at start limit 0 0 start bs ≡ Ok (record { value = n; place = p; rest = left_own }) → (s : Stands p ahead left left_own) → ahead ≡ None → length buf ≡ n → Fills left after buf full → full ≡ true
     → new ≡ min (p + n) (2 ^ 64 - 1)
@@ -108,7 +108,7 @@ rekey_ok p p1 bs r1 key a = ap (λ r. and_then r (λ key. got (Rekey key.value) 
 pub sent_ok : (p p1 : ℕ) (bs r1 : List ℕ) (id : ℕ) → element_at 16 id_of p bs ≡ got id p1 r1 → sent_at p bs ≡ got (Sent id) p1 r1
 sent_ok p p1 bs r1 id a = ap (λ r. and_then r (λ id. got (Sent id.value) id.place id.rest)) a
 
--- a delivery, behind its sender, and behind its recipient
+-- a delivery after its sender, and after its recipient
 abbrev pub sender_then : Got Text → Read Act
 sender_then sender =
     and_then (element_at 1000 any_bytes sender.place sender.rest) (λ recipient.
@@ -143,7 +143,7 @@ item_end p place o bs rest e r none is =
     ap (item_at p) e ∙ ap (λ q. let x : Read (Option Item) = got None q [] in x) (sym same)
     ∙ ap (λ q. let x : Read (Option Item) = got None place q in x) (sym r)
 
--- an error that tells of one reading tells of another that fails so too
+-- an error that describes one reading describes another that fails in the same way
 pub tells_too : {Y Z : Type 0} (e : StreamError) (one : Result (Got Y) StreamError) (two : Result (Got Z) StreamError) → ((x : StreamError) → one ≡ Err x → two ≡ Err x) → Tells e one → Tells e two
 tells_too (Bad at) one two f h = f (Bad at) h
 tells_too (Short at) one two f h = f (Short at) h

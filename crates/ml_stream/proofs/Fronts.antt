@@ -1,10 +1,10 @@
--- Texts that grow at their end.
+-- Texts that grow at the end.
 use Rattle.std.proofs.Common.{◌≡◌, ◌++◌, length, take, drop, sym, ap, ◌∙◌, append_assoc}
 use Rattle.std.proofs.lemmas.List.{take-append-drop}
 use Rattle.std.proofs.Math.Seq.{take-append_seam}
 use Rattle.ml_base.specs.Bytes.{Text}
 
--- a text that begins with another one, which grew out of a first, begins with that too
+-- old grew into mid, and new begins with mid: then new begins with old
 pub still_front : (old more mid new : Text) → mid ≡ old ++ more → take (length mid) new ≡ mid → take (length old) new ≡ old
 still_front old more mid new grown front =
     let rest : Text = drop (length mid) new in

@@ -1,4 +1,4 @@
--- Reading looks at no byte behind what it gets.
+-- Reading an item looks at no byte after the item.
 use Rattle.std.proofs.Common.{◌≡◌, ℕ, suc, ◌+◌, ◌-◌, ◌*◌, ◌≤◌, Bool, true, false, ◌==◌, nat_lt, if◌then◌else◌, [], ◌∷◌, ◌++◌, length, take, drop, Option, Some, None, Ok, Err, ap, sym, refl, ◌∙◌, arith, append_assoc}
 use Rattle.std.proofs.lemmas.List.{take-append-drop, length-take-le}
 use Rattle.std.proofs.lemmas.Bool.Decides.{nat_tests}
@@ -17,7 +17,7 @@ use Rattle.ml_stream.specs.declared.stream.StreamError.TheVariants.{Bad, Short}
 use Rattle.ml_stream.specs.Stream.{Got, Read, got, and_then, length_at, bytes_at, content_at, comma_at, closed, element_at, item_number_of, moment_of, floor_of, id_of, key_of, any_bytes, member_at, deliver_at, act_at, elements_at, item_at, letter_of, behind_letter, some_item}
 use Rattle.ml_stream.proofs.Elements.{content_full, sender_then, recipient_then, message_then}
 
--- the bytes from the front that were read: the same is got whatever is behind them
+-- the bytes that were read, at the beginning: whatever comes after them, the same is got
 pub record ReadsFront {X : Type 0} (f : Text → Read X) (bs : Text) (g : Got X) : Type 0 where
   pub one : Text
   pub split : bs ≡ one ++ g.rest
@@ -50,7 +50,7 @@ byte_local {X} f b bs g value place each is =
       all = λ more. each more ∙ ap (λ (x : Got X). got x.value x.place more) same;
     }
 
--- a byte is read, and then so on
+-- one byte is read, and then what the rest gives
 byte_more : {X : Type 0} (f h : Text → Read X) (b : ℕ) (bs : Text) (g : Got X) → ((more : Text) → f (b ∷ more) ≡ h more) → ReadsFront h bs g → ReadsFront f (b ∷ bs) g
 byte_more f h b bs g each r = record { one = b ∷ r.one; split = ap (λ (t : Text). b ∷ t) r.split; all = λ more. each (r.one ++ more) ∙ r.all more }
 
@@ -89,7 +89,7 @@ length_local start limit count n place (b ∷ bs) g is =
     byte_more (λ bs. length_at start limit count n place bs) (λ bs. digit start limit count n place b (b == 58) (count == 0) (is_next_digit limit count n b) bs) b bs g (λ more. refl)
     (digit_local start limit count n place b bs g (b == 58) (count == 0) (is_next_digit limit count n b) (λ e. length_local start limit (suc count) (10 * n + (b - 48)) (place + 1) bs g e) is)
 
--- so many bytes
+-- as many bytes as a length says
 bytes_local : (start limit : ℕ) (bs : Text) (l : Got ℕ) (g : Got Text) → length_at start limit 0 0 start bs ≡ Ok l → bytes_at start l ≡ Ok g → ReadsFront (λ bs. content_at start limit bs) bs g
 bytes_local start limit bs l g first is = go (nat_lt (length l.rest) l.value) refl is
   where

@@ -1,4 +1,4 @@
--- What is written of acts is read again.
+-- Reading what was written of numbered acts gives these acts.
 use Rattle.std.proofs.Common.{◌≡◌, ℕ, ◌+◌, List, [], ◌∷◌, ◌++◌, length, refl, ap, sym, ◌∙◌, arith, append-nil}
 use Rattle.std.proofs.lemmas.List.Concat.{flat_map-cons, flat_map-append}
 use Rattle.std.specs.List.{AllByRecursion}
@@ -24,14 +24,14 @@ acts_read place first now (act ∷ more) moment numbers good = (
     item : Item
     item = record { number = first; moment = now; act = act }
 
--- one item more
+-- one more item
 numbered_last : (first now : ℕ) (acts : List Act) (act : Act) → numbered first now (acts ++ act ∷ []) ≡ numbered first now acts ++ record { number = first + length acts; moment = now; act = act } ∷ []
 numbered_last first now [] act = let same : first ≡ first + 0 = omega arith in ap (λ (n : ℕ). record { number = n; moment = now; act = act } ∷ []) same
 numbered_last first now (a ∷ acts) act =
     let same : first + 1 + length acts ≡ first + length (a ∷ acts) = omega arith in
     ap (λ (l : List Item). record { number = first; moment = now; act = a } ∷ l) (numbered_last (first + 1) now acts act ∙ ap (λ (n : ℕ). numbered (first + 1) now acts ++ record { number = n; moment = now; act = act } ∷ []) same)
 
--- the text of one item more
+-- the text of one more item
 pub written_last : (first now : ℕ) (acts : List Act) (act : Act) → stream_text (numbered first now acts) ++ spelled_item (record { number = first + length acts; moment = now; act = act })
     ≡ stream_text (numbered first now (acts ++ act ∷ []))
 written_last first now acts act =

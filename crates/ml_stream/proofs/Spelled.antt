@@ -1,4 +1,4 @@
--- What is written of an item is read again.
+-- Reading what was written of an item gives this item.
 use Rattle.std.proofs.Common.{◌≡◌, ℕ, suc, ◌+◌, ◌-◌, ◌*◌, ◌<◌, ◌≤◌, ◌^◌, Bool, true, false, nat_lt, [], ◌∷◌, ◌++◌, length, Option, Some, None, Ok, Err, ap, refl, ◌∙◌, arith, eqb, if◌then◌else◌, append_assoc, length-append}
 use Rattle.std.specs.Fmt.{decimal}
 use Rattle.std.proofs.lemmas.Bool.Decides.{nat_tests}
@@ -82,7 +82,7 @@ address_short who a = go (nat_lt 400 (length who)) refl
 number_short : (n : ℕ) → n ≤ 999_999_999_999 → length (decimal n) ≤ 12
 number_short n small = length-decimal-le 12 n (omega arith) (omega arith) (omega arith)
 
--- the place behind two pieces
+-- the place after two pieces
 places : (place : ℕ) (a b : Text) → place + length a + length b ≡ place + length (a ++ b)
 places place a b = omega (arith, length-append a b)
 

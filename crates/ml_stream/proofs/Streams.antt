@@ -1,4 +1,4 @@
--- Every row of bytes is a stream, of one list of items.
+-- Any bytes are a stream, of exactly one list of items.
 use Rattle.std.proofs.Common.{◌≡◌, ℕ, suc, zero, ◌+◌, ◌-◌, ◌*◌, ◌<◌, ◌≤◌, Bool, true, false, ◌==◌, nat_lt, if◌then◌else◌, List, [], ◌∷◌, length, take, drop, Option, Some, None, Ok, Err, ap, sym, refl, ◌∙◌, arith, length-drop}
 use Rattle.ml_base.specs.Bytes.{Text}
 use Rattle.ml_base.specs.Numbers.{is_next_digit}
@@ -129,7 +129,7 @@ streams_by n place [] le = ([], End, refl)
 streams_by zero place (b ∷ bs) le = absurd (omega arith)
 streams_by (suc n) place (b ∷ bs) le = on_letter n place bs (b ∷ bs) (letter_of b) (omega arith) (λ p rest s. streams_by n p rest (omega (arith, s))) refl
 
--- every row of bytes is a stream of some items
+-- any bytes are a stream of some items
 pub streams : (place : ℕ) (bs : Text) → (items : List Item) × (ending : StreamEnd) × IsStream place bs items ending
 streams place bs = streams_by (length bs) place bs (omega arith)
 

@@ -1,4 +1,4 @@
--- What a reader of items has left, and what it answers.
+-- What an `Items` still has to read, and what it answers.
 use Rattle.std.specs.Prelude.{◌≡◌, ℕ, Option, Result, Ok, Err}
 use Rattle.ml_base.specs.Bytes.{Text}
 use Rattle.ml_plain.specs.declared.Item.{Item}
@@ -11,7 +11,7 @@ use Rattle.ml_stream.specs.declared.stream.StreamError.{StreamError}
 abbrev pub place_of : Items → ℕ
 place_of items = items.reader.place
 
--- the byte that it read ahead, if there is one
+-- the byte that it has read ahead, if any
 abbrev pub ahead_of : Items → Option ℕ
 ahead_of items = items.reader.ahead
 
@@ -19,11 +19,11 @@ ahead_of items = items.reader.ahead
 abbrev pub error_of : Items → Option StreamError
 error_of items = items.failed
 
--- these bytes are left to it, where the source has these left
+-- what it has yet to read is bs, if the source has `left` left
 abbrev pub HasLeft : Items → Option Text → Text → Type 0
 HasLeft items left bs = Stands items.reader.place items.reader.ahead left bs
 
--- what it answered is what reading gives, and it stands behind that
+-- it answered what reading gives, and it now stands after that
 abbrev pub NextRead : Result (Option Item) StreamError → Items → Option Text → Read (Option Item) → Type 0
 NextRead (Ok item) items left read = (rest : Text) × (read ≡ got item (place_of items) rest) × HasLeft items left rest
 NextRead (Err e) items left read = Tells e read

@@ -1,4 +1,4 @@
--- What a reader has left of its stream, and what it reads.
+-- What a reader has left of its stream, and how far it gets when it fails.
 use Rattle.std.specs.Prelude.{◌≡◌, ◌⊎◌, ℕ, ◌+◌, ◌^◌, ◌<◌, [], ◌++◌, length, Option, Some, None, Result, Ok, Err}
 use Rattle.std.specs.Option.{option_to_list}
 use Rattle.ml_base.specs.Bytes.{Text}
@@ -6,14 +6,14 @@ use Rattle.ml_stream.specs.Stream.{Read, StreamEnd, IsStream, got}
 use Rattle.ml_stream.specs.declared.stream.StreamError.{StreamError}
 use Rattle.ml_stream.specs.declared.stream.StreamError.TheVariants.{Bad, Short, Fault, Memory}
 
--- These bytes are left from a place on, the byte read ahead among them, and their places fit 64 bits.
+-- These bytes are left from this place on, including the byte read ahead, and their places fit in 64 bits.
 pub record Stands (place : ℕ) (ahead : Option ℕ) (left : Option Text) (bs : Text) : Type 0 where
   pub own : Text
   pub is_left : left ≡ Some own
   pub is_all : bs ≡ option_to_list ahead ++ own
   pub room : place + length bs < 2 ^ 64
 
--- an error that tells of the stream is the one that reading gives
+-- an error that says something of the stream is the one that reading gives
 abbrev pub Tells : {Y : Type 0} → StreamError → Read Y → Type 0
 Tells (Bad at) read = read ≡ Err (Bad at)
 Tells (Short at) read = read ≡ Err (Short at)
@@ -25,7 +25,7 @@ abbrev pub Reads : {X : Type 0} → Result X StreamError → ℕ → Option ℕ 
 Reads (Ok x) place ahead left read = (rest : Text) × (read ≡ Ok (record { value = x; place = place; rest = rest })) × Stands place ahead left rest
 Reads (Err e) place ahead left read = Tells e read
 
--- a byte was taken from the front, or none, and then there is none
+-- one byte was taken from the beginning, or none because none is left
 pub record Steps (old place : ℕ) (ahead : Option ℕ) (left : Option Text) (bs : Text) (b : Option ℕ) : Type 0 where
   pub rest : Text
   pub is_all : bs ≡ option_to_list b ++ rest
@@ -33,7 +33,7 @@ pub record Steps (old place : ℕ) (ahead : Option ℕ) (left : Option Text) (bs
   pub place_is : place ≡ old + length (option_to_list b)
   pub end : b ≡ None → rest ≡ []
 
--- fewer bytes than these were taken from the front
+-- fewer than `size` bytes were taken from the beginning
 pub record IsCut (size : ℕ) (bs : Text) (left : Option Text) : Type 0 where
   pub front : Text
   pub rest : Text
@@ -45,19 +45,19 @@ pub record IsCut (size : ℕ) (bs : Text) (left : Option Text) : Type 0 where
 abbrev pub Fails : {X : Type 0} → Read X → Type 0
 Fails read = (e : StreamError) × (read ≡ Err e)
 
--- no value is read, or one behind which no byte is left
+-- no value is read, or one after which no byte is left
 abbrev pub IsUnfinished : {X : Type 0} → Read X → Type 0
 IsUnfinished {X} read = Fails read ⊎ ((value : X) × (place : ℕ) × (read ≡ got value place []))
 
--- no whole item is at the front of these bytes
+-- these bytes don't begin with a whole item
 abbrev pub IsNoItem : ℕ → Text → Type 0
 IsNoItem place bs = (ending : StreamEnd) × IsStream place bs [] ending
 
--- an error that doesn't tell of the stream: the source failed, or memory was wanting
+-- an error that says nothing of the stream: the source failed, or memory ran out
 abbrev pub IsHindrance : StreamError → Type 0
 IsHindrance e = (e ≡ Fault) ⊎ (e ≡ Memory)
 
--- An error was answered: some bytes were taken from the front, and where it doesn't tell of the stream, this holds of these alone.
+-- An error was answered and some first bytes were taken. If the error says nothing of the stream, P holds of these bytes alone.
 pub record EndsEarly (e : StreamError) (left : Option Text) (bs : Text) (P : Text → Type 0) : Type 0 where
   pub front : Text
   pub rest : Text

@@ -1,4 +1,4 @@
--- The stream: items as a letter and netstrings, and where it goes on no further.
+-- The grammar of the stream: items as a letter and netstrings, where each begins, and where it is bad or cut short.
 use Rattle.std.specs.Prelude.{◌≡◌, ℕ, suc, ◌+◌, ◌-◌, ◌*◌, true, false, ◌==◌, nat_lt, if◌then◌else◌, List, [], ◌∷◌, length, take, drop, Option, Some, None, Result, Ok, Err}
 use Rattle.std.specs.Str.{bytes_eq}
 use Rattle.hex.specs.Hex.{decode_sized, encode_lower}
@@ -16,7 +16,7 @@ use Rattle.ml_stream.specs.declared.reader.Letter.TheVariants as letters
 use Rattle.ml_stream.specs.declared.stream.StreamError.{StreamError}
 use Rattle.ml_stream.specs.declared.stream.StreamError.TheVariants.{Bad, Short}
 
--- a value that was read, the place behind it, and the bytes from there on
+-- a value that was read, the place after it, and the bytes from there on
 pub record Got (X : Type 0) : Type 0 where
   pub value : X
   pub place : ℕ
@@ -29,12 +29,12 @@ Read X = Result (Got X) StreamError
 abbrev pub got : {X : Type 0} → X → ℕ → Text → Read X
 got value place rest = Ok (record { value = value; place = place; rest = rest })
 
--- what is read next, behind what was got
+-- goes on reading after what was got
 abbrev pub and_then : {A B : Type 0} → Read A → (Got A → Read B) → Read B
 and_then (Ok found) next = next found
 and_then (Err e) next = Err e
 
--- The length of the netstring that begins at start, up to its colon; so many digits of this value stand before the place.
+-- The length of the netstring that begins at start, up to its colon; `count` digits, of value n, were read before this place.
 -- It is bad as soon as its digits are.
 abbrev pub length_at : ℕ → ℕ → ℕ → ℕ → ℕ → Text → Read ℕ
 length_at start limit count n place [] = Err (Short start)
@@ -44,25 +44,25 @@ length_at start limit count n place (b ∷ bs) =
       | false ↦ elim (is_next_digit limit count n b) [ true ↦ length_at start limit (suc count) (10 * n + (b - 48)) (place + 1) bs | false ↦ Err (Bad start) ]
     ]
 
--- so many bytes of a content
+-- as many bytes of content as the length says
 abbrev pub bytes_at : ℕ → Got ℕ → Read Text
 bytes_at start l = if nat_lt (length l.rest) l.value then Err (Short start) else got (take l.value l.rest) (l.place + l.value) (drop l.value l.rest)
 
--- the content of the netstring that begins at start, without the comma behind it
+-- the content of the netstring that begins at start, without the comma after it
 abbrev pub content_at : ℕ → ℕ → Text → Read Text
 content_at start limit bs = and_then (length_at start limit 0 0 start bs) (bytes_at start)
 
--- the comma behind a content
+-- the comma after a content
 abbrev pub comma_at : ℕ → ℕ → Text → Read (Unit {0})
 comma_at start place [] = Err (Short start)
 comma_at start place (b ∷ bs) = if b == comma then got tt (place + 1) bs else Err (Bad start)
 
--- a content that is allowed, and a comma
+-- a content that is allowed, and its comma
 abbrev pub closed : {X : Type 0} → ℕ → Option X → ℕ → Text → Read X
 closed start None place bs = Err (Bad start)
 closed start (Some x) place bs = and_then (comma_at start place bs) (λ behind. got x behind.place behind.rest)
 
--- an element: a netstring whose length is within the limit, and whose content is read so
+-- an element: a netstring whose length is within the limit and whose content `read` accepts
 abbrev pub element_at : {X : Type 0} → ℕ → (Text → Option X) → ℕ → Text → Read X
 element_at limit read start bs = and_then (content_at start limit bs) (λ content. closed start (read content.value) content.place content.rest)
 
@@ -95,7 +95,7 @@ id_of text = positive_within 1_000_000_000_000_000 text
 abbrev pub any_bytes : Text → Option Text
 any_bytes text = Some text
 
--- a key of 32 bytes, whose 64 digits in lower case are the text
+-- a key of 32 bytes, spelled by 64 hexadecimal digits in lower case
 abbrev pub some_key : Text → Result Text FromHexError → Option Text
 some_key text (Ok key) = if bytes_eq (encode_lower key) text then Some key else None
 some_key text (Err e) = None
@@ -103,7 +103,7 @@ some_key text (Err e) = None
 abbrev pub key_of : Text → Option Text
 key_of text = some_key text (decode_sized text 32)
 
--- the kind of an item by its first byte
+-- the kind of an item, from its first byte
 abbrev pub letter_of : ℕ → Option Letter
 letter_of b =
     if b == 65 then Some letters.Add else (
@@ -147,7 +147,7 @@ deliver_at place bs =
 abbrev pub sent_at : ℕ → Text → Read Act
 sent_at place bs = and_then (element_at 16 id_of place bs) (λ id. got (acts.Sent id.value) id.place id.rest)
 
--- the elements of an act behind number and moment
+-- the elements of an act, after number and moment
 abbrev pub act_at : Letter → ℕ → Text → Read Act
 act_at letters.Add place bs = add_at place bs
 act_at letters.Deliver place bs = deliver_at place bs
@@ -157,7 +157,7 @@ act_at letters.Remove place bs = remove_at place bs
 act_at letters.Sent place bs = sent_at place bs
 act_at letters.Timed place bs = got acts.Timed place bs
 
--- the elements of an item behind its letter
+-- the elements of an item after its letter
 unfoldable pub elements_at : Letter → ℕ → Text → Read Item
 elements_at letter place bs =
     and_then (element_at 12 item_number_of place bs) (λ number.
@@ -177,12 +177,12 @@ abbrev pub item_at : ℕ → Text → Read (Option Item)
 item_at place [] = got None place []
 item_at place (b ∷ bs) = behind_letter place (letter_of b) bs
 
--- how the bytes go on behind the whole items: they end, or an element is bad or cut short
+-- what comes after the whole items: the end, or an element that is bad or cut short
 pub data StreamEnd : Type 0 where
   End : StreamEnd
   Broken : StreamError → StreamEnd
 
--- the bytes from a place on are these items, and then go on so
+-- the bytes from a place on are these items, and then this end
 abbrev pub IsStream : ℕ → Text → List Item → StreamEnd → Type 0
 IsStream place bs [] End = item_at place bs ≡ got None place []
 IsStream place bs [] (Broken e) = item_at place bs ≡ Err e

@@ -1,4 +1,4 @@
--- An item as a stream spells it.
+-- How a stream spells an item.
 use Rattle.std.specs.Prelude.{◌≡◌, ℕ, List, ◌∷◌, [], ◌++◌, length}
 use Rattle.std.specs.List.{flat_map}
 use Rattle.std.specs.Fmt.{decimal}
@@ -22,7 +22,7 @@ letter (Sent id) = 83
 letter (Rekey key) = 75
 letter (Floor at) = 70
 
--- what an act is about
+-- the elements of an act
 abbrev pub spelled_act : Act → Text
 spelled_act (Deliver sender recipient message) = ns sender ++ ns recipient ++ ns message
 spelled_act Timed = []
@@ -32,7 +32,7 @@ spelled_act (Sent id) = ns (decimal id)
 spelled_act (Rekey key) = ns (encode_lower key)
 spelled_act (Floor at) = ns (decimal at)
 
--- the letter, the number, the moment, and what the act is about
+-- the letter, the number, the moment, and the elements of the act
 abbrev pub spelled_item : Item → Text
 spelled_item item = letter item.act ∷ ns (decimal item.number) ++ ns (decimal item.moment) ++ spelled_act item.act
 
@@ -40,7 +40,7 @@ spelled_item item = letter item.act ∷ ns (decimal item.number) ++ ns (decimal 
 abbrev pub stream_text : List Item → Text
 stream_text items = flat_map spelled_item items
 
--- what holds of the parts of an act by their types: of an address, and of the 32 bytes of a key
+-- what the types say of an act: that an address is one, and that a key has 32 bytes
 abbrev pub IsTyped : Act → Type 0
 IsTyped (Deliver sender recipient message) = Unit {0}
 IsTyped Timed = Unit {0}

@@ -1,4 +1,4 @@
-// Items, one at a time.
+// Reads a stream one item at a time.
 ghost use Rattle.std.specs.Prelude.{◌≡◌, ◌↔◌, ◌<◌, ◌≤◌, ◌^◌, ℕ, List, Option, Some, None, Ok, true, not, IsTrue, IsSome, IfSome, IfOk, OnOk, OnErr, IfErr, IsErrOf, length};
 ghost use Rattle.ml_base.specs.Faults.{Rose, HasCause};
 ghost use Rattle.ml_base.specs.Bytes.{Text, is_empty};
@@ -14,7 +14,7 @@ use ml_plain::Item;
 use ml_site::{Failed, Source};
 use std::alloc::Global;
 
-/// A reader of items: the place in the stream, at most one byte that was read ahead, and an error once there was one.
+/// A reader of items: the place in the stream, at most one byte that was read ahead, and the error if there was one.
 #[derive(Drop)]
 pub struct Items {
     reader: Reader,
@@ -22,7 +22,7 @@ pub struct Items {
 }
 
 impl Items {
-    /// A reader at the front of a stream. It takes no memory.
+    /// A reader at the beginning of a stream. It takes no memory.
     pub fn new() -> Items
         ensures left { (bs : Text) → length bs < 2 ^ 64 → HasLeft result (Some bs) bs }
         ensures place { place_of result ≡ 0 }
@@ -38,10 +38,11 @@ impl Items {
         }
     }
 
-    /// The next item, which is in its ranges, or None at the end of the stream. It takes no byte behind the item from the
+    /// The next item, which is in its ranges, or None at the end of the stream. It takes no byte after the item from the
     /// source, and memory for each of its parts as large as the part's length says, up to 32 MiB for a message.
-    /// After an error it answers that error again and reads no more. `Bad` and `Short` come only where the stream is
-    /// so, and `Fault` only where the source's count of faults rose. `Memory` is free. With these two no whole item was taken.
+    /// After an error it answers that error again and reads no more. `Bad` and `Short` come only if the stream is bad or
+    /// short there, and `Fault` only if the source's count of faults rose. `Memory` may come at any time. After `Fault` and
+    /// `Memory` no whole item was taken.
     pub fn next<I: Source>(
         &mut self,
         alloc: Global,
@@ -70,9 +71,9 @@ impl Items {
         found
     }
 
-    /// Whether a further byte is there. It takes one byte from the source at most, with which the next item begins,
-    /// and none where one was taken so before. `Failed` comes only where the source's count of faults rose; no byte was
-    /// taken then, and it may be asked again.
+    /// Whether another byte is there. It takes at most one byte from the source, the first of the next item, and none if
+    /// it has taken that already. `Failed` comes only if the source's count of faults rose; no byte was taken then, and it
+    /// may be asked again.
     pub fn more<I: Source>(&mut self, input: &mut I) -> Result<bool, Failed>
         requires { error_of self.old ≡ None }
         ensures more { (bs : Text) → HasLeft self.old (I.left input.old) bs → IfOk result (λ more. more ≡ not (is_empty bs)) }

@@ -9,7 +9,7 @@ ghost use Rattle.ml_stream.specs.Stream.{StreamEnd, IsStream, End, item_at, got}
 ghost use Rattle.ml_plain.specs.Items.{IsItem, AreNumbers, numbered};
 ghost use Rattle.ml_stream.specs.Writing.{IsTyped, IsGood, spelled_item, stream_text};
 
-/// Every row of bytes is a stream of some items, with some end, and of no others.
+/// Any bytes are a stream of some items with some end, and of no others.
 pub fn law_streams()
     ensures some { (place : ℕ) (bytes : Text) → (items : List TheItem) × (ending : StreamEnd) × IsStream place bytes items ending }
     ensures one { (place : ℕ) (bytes : Text) (items others : List TheItem) (ending other : StreamEnd) →
@@ -22,14 +22,13 @@ pub fn law_items()
         item_at place (spelled_item item ++ rest) ≡ got (Some item) (place + length (spelled_item item)) rest }
 {}
 
-/// An item is read of its own bytes, whatever follows them.
+/// Reading an item depends on its own bytes alone, whatever follows them.
 pub fn law_fronts()
     ensures { (place next : ℕ) (bytes rest : Text) (item : TheItem) → item_at place bytes ≡ got (Some item) next rest →
         (front : Text) × (bytes ≡ front ++ rest) × ((more : Text) → item_at place (front ++ more) ≡ got (Some item) next more) }
 {}
 
-/// What is written of acts as items of one moment, numbered from a first number on, is a stream of exactly these items, and
-/// then ends.
+/// Acts, written as items of one moment with consecutive numbers, are a stream of exactly these items, and then it ends.
 pub fn law_numbered()
     ensures { (place first now : ℕ) (acts : List TheAct) → IsMoment now → AreNumbers first (length acts) → AllByRecursion IsGood acts →
         IsStream place (stream_text (numbered first now acts)) (numbered first now acts) End }

@@ -1,4 +1,4 @@
-//! The stream of items: read one at a time, and written.
+//! The stream of items: reads one item at a time, and writes items.
 #![tactic(auto)]
 
 mod items;

@@ -1,4 +1,4 @@
-// The elements of a stream, read from a source of bytes.
+// Reads the elements of the stream from a source of bytes.
 ghost use Rattle.std.specs.Prelude.{◌≡◌, ◌<◌, ◌≤◌, ◌++◌, ◌^◌, [], ℕ, List, Some, None, IfOk, IfSome, IfErr, OnOk, OnErr, IsErrOf, MatchBool, length};
 ghost use Rattle.ml_base.specs.Faults.{Rose, HasCause};
 ghost use Rattle.ml_base.specs.Bytes.{Text};
@@ -18,7 +18,7 @@ use ml_plain::{Act, Item};
 use ml_site::{Failed, Source};
 use std::alloc::{AllocError, Global};
 
-// The kinds of items, each of which begins with a letter of its own.
+// The kinds of items. Every kind begins with a letter of its own.
 #[derive(Clone, Copy)]
 pub(crate) enum Letter {
     Add,
@@ -52,7 +52,7 @@ pub(crate) struct Reader {
     pub(crate) ahead: Option<u8>,
 }
 
-// Fills the buffer, or answers false where the source ends before.
+// Fills the buffer, or answers false if the source ends before it is full.
 fn fill<I: Source>(input: &mut I, buf: &mut [u8]) -> Result<bool, Failed>
     ensures full { (bs : List ℕ) → I.left input.old ≡ Some bs → IfOk result (λ full. MatchBool full
         ((rest : List ℕ) × (bs ≡ buf.new ++ rest) × (I.left input.new ≡ Some rest))
@@ -131,8 +131,8 @@ impl Reader {
         }
     }
 
-    // The content of the netstring that begins here, without the comma behind it. Its memory is taken once, as large as
-    // its length says, and the source fills it in pieces as large as it likes.
+    // The content of the netstring that begins here, without the comma after it. Its memory is taken at once, as large as
+    // its length says, and the source fills it in pieces of any size.
     fn content<I: Source>(
         &mut self,
         alloc: Global,
@@ -159,7 +159,7 @@ impl Reader {
         Ok(Bytes::from_vec(bytes))
     }
 
-    // The comma behind a content.
+    // The comma after a content.
     fn comma<I: Source>(&mut self, input: &mut I, start: u64) -> Result<(), StreamError>
         ensures read { (bs : List ℕ) → Stands self.old.place self.old.ahead (I.left input.old) bs →
             Reads result self.new.place self.new.ahead (I.left input.new) (comma_at start self.old.place bs) }
@@ -289,7 +289,7 @@ impl Reader {
         Ok(Act::Remove { set, who })
     }
 
-    // An element that holds a number of so many digits at most, from 1 up to a largest one.
+    // An element that holds a number from 1 up to `most`, of at most `digits` digits.
     fn positive<I: Source>(
         &mut self,
         alloc: Global,
@@ -317,7 +317,7 @@ impl Reader {
         Ok(value)
     }
 
-    // An element that holds any bytes, up to so many.
+    // An element that holds any bytes, at most `limit` of them.
     fn text<I: Source>(
         &mut self,
         alloc: Global,
@@ -425,7 +425,7 @@ impl Reader {
         Ok(Act::Rekey { key })
     }
 
-    // The elements of an act behind number and moment.
+    // The elements of an act, after number and moment.
     fn act<I: Source>(
         &mut self,
         alloc: Global,
@@ -452,7 +452,7 @@ impl Reader {
         }
     }
 
-    // The elements of an item behind its letter.
+    // The elements of an item after its letter.
     #[tactic(auto, unfolding(crate::specs::Stream::elements_at))]
     fn elements<I: Source>(
         &mut self,
@@ -505,7 +505,7 @@ impl Reader {
     }
 }
 
-// The key that a text spells, or None where it spells none.
+// The key that a text spells, or None if it spells none.
 fn read_key(text: &[u8]) -> Option<[u8; 32]>
     ensures { result ≡ key_of text.now }
 {
@@ -524,7 +524,7 @@ fn read_key(text: &[u8]) -> Option<[u8; 32]>
     }
 }
 
-// The number from 1 up to a largest one that a text spells, or None where it spells none.
+// The number from 1 up to `most` that a text spells, or None if it spells none.
 fn read_positive(most: u64, text: &[u8]) -> Option<u64>
     requires { most < 10 ^ 18 }
     ensures value { result ≡ positive_within most text.now }
@@ -536,7 +536,7 @@ fn read_positive(most: u64, text: &[u8]) -> Option<u64>
     if n == 0 { None } else { Some(n) }
 }
 
-// The address that a text spells, or None where it spells none.
+// The address that a text spells, or None if it spells none.
 fn read_address(alloc: Global, text: &[u8]) -> Result<Option<Address>, AllocError>
     ensures { IfOk result (λ address. address ≡ address_of text.now) }
 {

@@ -1,4 +1,4 @@
-// Why a stream of items goes on no further.
+// Why reading a stream ended.
 use ml_site::Failed;
 use std::alloc::AllocError;
 use thiserror::Error;

@@ -1,4 +1,4 @@
-// Items, as a stream spells them.
+// Writes items as a stream spells them.
 ghost use Rattle.std.specs.Prelude.{◌≡◌, ◌++◌, take, length, IfOk, OnOk, OnErr};
 ghost use Rattle.hex.specs.Hex.{encode_lower};
 ghost use Rattle.ml_base.specs.Netstrings.{ns};
@@ -10,11 +10,11 @@ use ml_base::{Bytes, push_netstring, push_number_netstring};
 use ml_plain::{Act, Item};
 use std::alloc::{AllocError, Global};
 
-// The most bytes that a delivery has in a stream beside its sender, its recipient and its message: a letter, two numbers, and three
-// lengths, each of at most 20 digits.
+// The most bytes that a delivery has in a stream besides its sender, its recipient and its message: a letter, two numbers, and
+// three lengths, each of at most 20 digits.
 const BESIDE_TEXTS: usize = 115;
 
-/// The bytes that stand for an item in a stream. They are read again as that item where it is in its ranges: a number of at
+/// The bytes that stand for an item in a stream. They are read again as that item if it is in its ranges: a number of at
 /// most 12 digits, a moment in seconds since 1970 that is before the year 10000, a sender and a recipient of at most 1,000
 /// bytes each, a message of at most 33,554,432, an id of 1 to 10^15, and a floor of 1 to 999,999,999,999.
 pub fn write_item(alloc: Global, item: &Item) -> Result<Bytes, AllocError>
@@ -25,7 +25,7 @@ pub fn write_item(alloc: Global, item: &Item) -> Result<Bytes, AllocError>
     Ok(out)
 }
 
-/// Adds the bytes that stand for an item in a stream at the end of a text, as `write_item` has them. An error changes nothing.
+/// Adds the bytes that stand for an item at the end of a text, as `write_item` gives them. An error changes nothing.
 pub fn push_item(text: &mut Bytes, item: &Item) -> Result<(), AllocError>
     ensures ok { OnOk result (text.new ≡ text.old ++ spelled_item item.now) }
     ensures err { OnErr result (text.new ≡ text.old) }
@@ -50,7 +50,7 @@ fn add_item(text: &mut Bytes, item: &Item) -> Result<(), AllocError>
     push_act(text, &item.act)
 }
 
-// The room that an item takes in a stream: of a delivery the most that it can have.
+// The room that an item takes in a stream; for a delivery the most that it can take.
 fn room(act: &Act) -> usize {
     match act {
         Act::Deliver {
@@ -80,7 +80,7 @@ fn letter(act: &Act) -> u8
     }
 }
 
-// Adds what an act is about at the end. An error leaves a part of it there.
+// Adds the elements of an act at the end. An error leaves a part of them there.
 fn push_act(out: &mut Bytes, act: &Act) -> Result<(), AllocError>
     ensures ok { OnOk result (out.new ≡ out.old ++ spelled_act act.now) }
     ensures front { take (length out.old) out.new ≡ out.old }

@@ -1,4 +1,4 @@
--- Worked examples.
+-- Worked examples: hashes, files, lists and names.
 use Rattle.std.proofs.Common.{◌≡◌, true, false, List, [], ◌∷◌, ◌++◌, Some, None, refl, codes}
 use Rattle.std.specs.Fmt.{digits}
 use Rattle.ml_base.specs.Address.{key}

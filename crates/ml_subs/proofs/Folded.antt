@@ -1,4 +1,4 @@
--- Texts without a capital letter.
+-- A text without a capital letter is the same in lower case, so such an address is its own key.
 use Rattle.std.proofs.Common.{◌≡◌, Bool, true, false, not, refl, sym, ◌∙◌}
 use Rattle.std.specs.List.{list_any}
 use Rattle.std.specs.Char.{is_ascii_uppercase}

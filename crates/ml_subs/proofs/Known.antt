@@ -1,4 +1,4 @@
--- Where a key stands among members that are known to be spelled in order.
+-- The search for a key among members that are known to be spelled in order: it needs to check nothing.
 use Rattle.std.proofs.Common.{◌≡◌, ℕ, ◌+◌, ◌<◌, true, false, List, [], ◌∷◌, ◌++◌, length, take, drop, ◌-◌, refl, sym, ap, ◌∙◌, subst, arith}
 use Rattle.std.proofs.lemmas.List.{length-drop, take_all}
 use Rattle.ml_base.specs.Bytes.{Text}
@@ -11,7 +11,7 @@ use Rattle.ml_subs.specs.Reading.{AreRead, AreSkipped, BeginsWith, Leads, Passed
 use Rattle.ml_subs.proofs.Spelled.{leads_more, leads_start, read_first}
 use Rattle.ml_subs.proofs.Placed.{all_push, floor_below, skipped}
 
--- the address of the record that bytes begin with, and what is behind it
+-- the address of the record that bytes begin with, and what comes after the record
 abbrev pub IsSplit : Layout → Text → Text → Text → Type 0
 IsSplit layout text who more = (m : Member) (rest : Text) → BeginsWith layout text m rest → (who ≡ m.who) × (more ≡ rest)
 
@@ -19,16 +19,16 @@ IsSplit layout text who more = (m : Member) (rest : Text) → BeginsWith layout 
 pub rest_at : (at : ℕ) (text : Text) → take (length text - at) (drop at text) ≡ drop at text
 rest_at at text = take_all (length text - at) (drop at text) (let left = length-drop at text in omega (arith, left))
 
--- nobody was read yet
+-- nobody has been read yet
 pub passed_none : (layout : Layout) (n : ℕ) (who text : Text) → IsAddress who → Passed layout n who text text
 passed_none layout n who text is = record { done = []; last = []; leads = leads_start layout n [] text; lower = refl; under = floor_below who is }
 
 module _ (layout : Layout) (n : ℕ) (who text left : Text) (before : Passed layout n who text left) where
-  -- who else was read
+  -- the members that are left to read
   others : (all : List Member) → AreRead layout n [] text all → (ms : List Member) × AreRead layout n before.last left ms
   others all is = let rest = before.leads.only all is in (rest.0, rest.2)
 
-  -- one more, who is below it
+  -- one more is read, whose key is below the one that is looked for
   pub passed_more : (next more : Text) → IsSplit layout left next more → is_below next who ≡ true → length more < length left → (all : List Member) → AreRead layout n [] text all → Passed layout n who text more
   passed_more next more split below shorter all is = let rest = others all is in go rest.0 rest.1
     where
@@ -46,7 +46,7 @@ module _ (layout : Layout) (n : ℕ) (who text left : Text) (before : Passed lay
             under = low;
           }
 
-  -- the next isn't below it
+  -- the next one isn't below it, so the search ends here
   pub passed_here : (next more : Text) (size : ℕ) → IsSplit layout left next more → is_below next who ≡ false → size + length left ≡ length text → AreSkipped layout n who text size
   passed_here next more size split above e =
       skipped layout n who text before.done before.last left size before.leads before.lower before.under e
@@ -55,7 +55,7 @@ module _ (layout : Layout) (n : ℕ) (who text left : Text) (before : Passed lay
       let same = split m (records layout ms) first.begins in
       ap (λ t. is_below t who) (sym same.0) ∙ above)
 
-  -- nobody is next
+  -- nobody is left, so the search ends here
   pub passed_all : (size : ℕ) → ((m : Member) (more : Text) → BeginsWith layout left m more → ⊥) → size + length left ≡ length text → AreSkipped layout n who text size
   passed_all size none e =
       skipped layout n who text before.done before.last left size before.leads before.lower before.under e

@@ -1,9 +1,9 @@
--- What a `None` leaves to be shown, and whether bytes are left.
+-- Small lemmas: clauses about an optional value, and whether bytes are left.
 use Rattle.std.proofs.Common.{◌≡◌, ◌<◌, true, false, ◌==◌, [], ◌∷◌, length, Option, Some, None, IfSome, IfNone, refl, arith}
 use Rattle.std.proofs.lemmas.Bool.{eqb-true}
 use Rattle.ml_base.specs.Bytes.{Text}
 
--- nothing is to be shown of a value
+-- of a value, a clause about `None` says nothing
 pub if_none : {A : Type 0} (o : Option A) (P : Type 0) → P → IfNone o P
 if_none None P p = p
 if_none (Some x) P p = tt

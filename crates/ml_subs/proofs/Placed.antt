@@ -1,4 +1,4 @@
--- Where a key stands among members that are read.
+-- Where a key stands among members that are read and checked.
 use Rattle.std.proofs.Common.{◌≡◌, ℕ, ◌+◌, ◌<◌, Bool, true, false, List, [], ◌∷◌, ◌++◌, length, take, drop, get_or, Option, Some, None, refl, sym, ap, ◌∙◌, subst, arith, length-append}
 use Rattle.std.proofs.lemmas.Bool.{and_parts, and_from}
 use Rattle.std.proofs.lemmas.List.{take_at, drop_at}
@@ -19,7 +19,7 @@ use Rattle.ml_base.proofs.BelowLemmas.{below_then, above_else}
 use Rattle.ml_keyed.proofs.Keys.{rising_ordered, ordered_rising}
 use Rattle.ml_subs.proofs.Spelled.{read_first, read_more, read_behind, record_one, record_parts}
 
--- the key of an address is above no bytes
+-- the key of an address is above the empty one
 pub floor_below : (a : Text) → IsAddress a → is_below [] a ≡ true
 floor_below a is = ap (λ t. is_lt (byte_cmp [] (key t))) (address_parts a is).0 ∙ front (local_of a) (host_of a)
   where
@@ -33,7 +33,7 @@ all_floor layout n (m ∷ ms) all =
     let first : IsMember layout n m = all.0 in
     and_from _ _ (floor_below m.who first.address) (all_floor layout n ms all.1)
 
--- members are read from another address on, where the first is above that
+-- members that were read with one floor are read with another, if the first of them is above that
 refloor : (layout : Layout) (n : ℕ) (floor other : Text) (text : Text) (ms : List Member) → AreRead layout n floor text ms → ((m : Member) (more : List Member) → ms ≡ m ∷ more → is_below other m.who ≡ true) → AreRead layout n other text ms
 refloor layout n floor other text [] is above = record { each = is.each; rising = refl; spelled = is.spelled }
 refloor layout n floor other text (m ∷ ms) is above =
@@ -43,16 +43,16 @@ refloor layout n floor other text (m ∷ ms) is above =
 first_above : (layout : Layout) (n : ℕ) (floor : Text) (text : Text) (ms : List Member) → AreRead layout n floor text ms → (m : Member) (more : List Member) → ms ≡ m ∷ more → is_below floor m.who ≡ true
 first_above layout n floor text ms is m more e = let there : AreRead layout n floor text (m ∷ more) = subst (AreRead layout n floor text) e is in (read_first layout n floor text m more there).above
 
--- from a lower one
+-- with a lower floor
 lower_floor : (layout : Layout) (n : ℕ) (floor other : Text) (text : Text) (ms : List Member) → is_below other floor ≡ true → AreRead layout n floor text ms → AreRead layout n other text ms
 lower_floor layout n floor other text ms below is = refloor layout n floor other text ms is (λ m more e. below_then other floor m.who below (first_above layout n floor text ms is m more e))
 
--- from one of the same key
+-- with a floor of the same key
 same_floor : (layout : Layout) (n : ℕ) (floor other : Text) (text : Text) (ms : List Member) → key floor ≡ key other → AreRead layout n floor text ms → AreRead layout n other text ms
 same_floor layout n floor other text ms same is =
     refloor layout n floor other text ms is (λ m more e. ap (λ k. is_lt (byte_cmp k (key m.who))) (sym same) ∙ first_above layout n floor text ms is m more e)
 
--- from none
+-- with no floor
 no_floor : (layout : Layout) (n : ℕ) (floor : Text) (text : Text) (ms : List Member) → AreRead layout n floor text ms → AreRead layout n [] text ms
 no_floor layout n floor text [] is = record { each = tt; rising = refl; spelled = is.spelled }
 no_floor layout n floor text (m ∷ ms) is = refloor layout n floor [] text (m ∷ ms) is (λ a more e. let first = read_first layout n floor text m ms is in subst (λ (l : List Member). head_below l) e (floor_below m.who first.member.address))
@@ -61,7 +61,7 @@ no_floor layout n floor text (m ∷ ms) is = refloor layout n floor [] text (m �
     head_below [] = Unit {0}
     head_below (m ∷ ms) = is_below [] m.who ≡ true
 
--- what was skipped
+-- the members that were passed are those that are skipped
 pub skipped : (layout : Layout) (n : ℕ) (who : Text) (text : Text) (done : List Member) (last left : Text) (size : ℕ) → Leads layout n [] text done last left → list_all (λ m. is_below m.who who) done ≡ true
     → is_below last who ≡ true → size + length left ≡ length text → ((m : Member) (ms : List Member) → AreRead layout n last left (m ∷ ms) → is_below m.who who ≡ false) → AreSkipped layout n who text size
 skipped layout n who text done last left size before lower under e stops =
@@ -87,7 +87,7 @@ each_record layout n (m ∷ ms) all =
     (record { address = first.address; since = first.since }, each_record layout n ms all.1)
 
 module _ (layout : Layout) (n : ℕ) (who text : Text) (size : ℕ) (skip : AreSkipped layout n who text size) where
-  -- the place of a key, once those behind it are read
+  -- the place of a key, once the members after it are read
   pub place_found : (before behind : Text) (here : Option Member) (above : List Member) → before ≡ take size text → IsSameKey layout n who (drop size text) here behind → AreRead layout n who behind above
       → (s : Sides layout who before here behind) × AreRead layout n [] text (all_members s)
   place_found before behind (Some m) above front same read =
@@ -121,7 +121,7 @@ module _ (layout : Layout) (n : ℕ) (who text : Text) (size : ℕ) (skip : AreS
         all,
       )
 
-  -- where the whole is read, so is what is behind the place
+  -- if the whole is read, so is what comes after the place
   pub place_rest : (behind : Text) (here : Option Member) → IsSameKey layout n who (drop size text) here behind → (all : List Member) → AreRead layout n [] text all → (above : List Member) × AreRead layout n who behind above
   place_rest behind (Some m) same all is =
       let rest = skip.leads.only all is in
@@ -139,11 +139,11 @@ module _ (layout : Layout) (n : ℕ) (who text : Text) (size : ℕ) (skip : AreS
           let first = read_first layout n skip.last (drop size text) m ms read in
           read_more layout n who (drop size text) m (records layout ms) ms first.begins first.member above first.more
 
-  -- and where that isn't, nor is the whole
+  -- and if that isn't read, nor is the whole
   pub place_nowhere : (behind : Text) (here : Option Member) → IsSameKey layout n who (drop size text) here behind → ((ms : List Member) → AreRead layout n who behind ms → ⊥) → (all : List Member) → AreRead layout n [] text all → ⊥
   place_nowhere behind here same none all is = let rest = place_rest behind here same all is in none rest.0 rest.1
 
--- the text of a bucket by its layout
+-- the text of a bucket from its layout and its records
 pub layout_only : (text : Text) (layout : Layout) (body : Text) → IsFront text layout body → (n : ℕ) (ms : List Member) → IsBucket n text ms → AreRead layout n [] body ms
 layout_only text layout body front n [] is = let some = is.some in absurd (omega arith)
 layout_only text layout body front n (m ∷ ms) is = go layout front is.layout is.each is.spelled
@@ -174,7 +174,7 @@ layout_makes text layout body front some n (m ∷ ms) is = record {
     go Dated front e = front ∙ ap (λ t. layout_line Dated ++ t) e
     go Undated front e = sym front.0 ∙ e
 
--- a text with nothing behind its line is no bucket's
+-- a text with nothing after its line is not a bucket's
 pub no_records : (text : Text) (layout : Layout) (body : Text) → IsFront text layout body → length body ≡ 0 → (n : ℕ) (ms : List Member) → IsBucket n text ms → ⊥
 no_records text layout body front none n [] is = let some = is.some in omega arith
 no_records text layout body front none n (m ∷ ms) is =
@@ -182,14 +182,14 @@ no_records text layout body front none n (m ∷ ms) is =
     let long = ap length (read.spelled ∙ record_parts layout m (records layout ms)) in
     omega (arith, none, long)
 
--- bytes whose first member has another key don't begin with a member of this one
+-- bytes whose first member has another key don't begin with a member of this key
 pub other_key : (layout : Layout) (n : ℕ) (who text : Text) (a : Member) (more : Text) → BeginsWith layout text a more → (key a.who ≡ key who → ⊥) → (m : Member) (ms : List Member) → AreRead layout n [] text (m ∷ ms) → key m.who ≡ key who → ⊥
 other_key layout n who text a more begins apart m ms is e =
     let first = read_first layout n [] text m ms is in
     let one = record_one layout text m a (records layout ms) more first.begins begins in
     apart (ap (λ (p : Member). key p.who) (sym one.0) ∙ e)
 
--- who is read first is the member that the bytes begin with
+-- the first member that is read is the one that the bytes begin with
 pub first_is : (layout : Layout) (n : ℕ) (floor text : Text) (a : Member) (more : Text) (P : Member → Type 0) → BeginsWith layout text a more → P a → (m : Member) (ms : List Member) → AreRead layout n floor text (m ∷ ms) → P m
 first_is layout n floor text a more P begins p m ms is =
     let first = read_first layout n floor text m ms is in

@@ -1,4 +1,4 @@
--- What the files of a set stand for.
+-- What the files of a set stand for: one list at most, and how a change of two files changes it.
 use Rattle.std.proofs.Common.{◌≡◌, ◌≢◌, ℕ, zero, suc, ◌+◌, ◌<◌, ◌≤◌, Bool, true, false, not, cond, ◌==◌, ◌&&◌, ◌||◌, nat_lt, List, [], ◌∷◌, ◌++◌, length, get_or, Option, Some, None, is_some, refl, sym, ap, ap₂, ◌∙◌, subst, arith, inl, inr}
 use Rattle.std.proofs.lemmas.Bool.Decides.{nat_tests}
 use Rattle.std.proofs.lemmas.Bool.{and_parts, and_from, or_parts, or_left, or_from, eqb-true, eq-eqb, ne_eqb, lt-ltb}
@@ -39,7 +39,7 @@ read_one layout n floor text (m ∷ ms) ns is other =
     let rest = read_behind layout n floor text m (records layout ms) ns first.begins other in
     ap (λ l. m ∷ l) (read_one layout n m.who (records layout ms) ms rest.0 first.more rest.2) ∙ sym rest.1
 
--- a bucket's own layout
+-- a bucket's text has one layout only
 own_front : (n : ℕ) (text : Text) (ms : List Member) (is : IsBucket n text ms) → IsFront text is.layout (records is.layout ms)
 own_front n text [] is = absurd (let some = is.some in omega arith)
 own_front n text (m ∷ ms) is = go is.layout is.spelled
@@ -58,7 +58,7 @@ pub bucket_ordered : (n : ℕ) (file : Option Text) (ms : List Member) → IsBuc
 bucket_ordered n None ms is = subst IsOrdered (sym is) refl
 bucket_ordered n (Some text) ms is = is.ordered
 
--- each member of a bucket can stand in layout 2
+-- every member of a bucket can be spelled in layout 2
 dated : (layout : Layout) (n : ℕ) (ms : List Member) → AllByRecursion (IsMember layout n) ms → AllByRecursion (IsMember Dated n) ms
 dated layout n [] all = tt
 dated layout n (m ∷ ms) all = (one layout all.0, dated layout n ms all.1)
@@ -78,7 +78,7 @@ bucket_hashed n file ms is = go ms (bucket_each n file ms is)
     go [] all = tt
     go (m ∷ ms) all = let first : IsMember Dated n m = all.0 in (first.hashed, go ms all.1)
 
--- the file that a change leaves is the bucket's
+-- the file that a change leaves is in the bucket's grammar
 pub bucket_made : (n : ℕ) (ms : List Member) → IsOrdered ms → AllByRecursion (IsMember Dated n) ms → IsBucketFile n (bucket_file ms) ms
 bucket_made n [] ordered all = refl
 bucket_made n (m ∷ ms) ordered all = record { some = omega arith; ordered = ordered; layout = Dated; each = all; spelled = refl }
@@ -186,7 +186,7 @@ module _ (dir : Dir) (set : Set) (b : ℕ) (bytes : Option Text) (count : ℕ) w
   count_at : after (count_name set) ≡ Some (count_text count)
   count_at = rw (eq-eqb (set_number set) (set_number set) refl) refl
 
--- the bucket of a member with him
+-- the bucket of a member's key with the member added
 pub bucket_with : (m : Member) (file : Option Text) (bucket : List Member) → IsAddress m.who → IsMoment m.since → IsBucketFile (bucket_of (member_key m)) file bucket
     → IsBucketFile (bucket_of (member_key m)) (bucket_file (with_member m bucket)) (with_member m bucket)
 bucket_with m file bucket address moment is =
@@ -194,15 +194,11 @@ bucket_with m file bucket address moment is =
     bucket_made n (with_member m bucket) (sorted_with byte_cmp member_key same_bytes bytes_total m bucket (bucket_ordered n file bucket is))
     (each_with byte_cmp member_key (IsMember Dated n) m bucket (record { address = address; since = moment; hashed = refl }) (bucket_each n file bucket is))
 
--- the bucket of a key without it
+-- the bucket of a key with its member removed
 pub bucket_without : (n : ℕ) (k : Text) (file : Option Text) (bucket : List Member) → IsBucketFile n file bucket → IsBucketFile n (bucket_file (without_member k bucket)) (without_member k bucket)
 bucket_without n k file bucket is =
     bucket_made n (without_member k bucket) (sorted_without byte_cmp member_key same_bytes bytes_total k bucket (bucket_ordered n file bucket is))
     (each_without byte_cmp member_key (IsMember Dated n) k bucket (bucket_each n file bucket is))
-
-none_of : (o : Option Member) → is_some o ≡ false → o ≡ None
-none_of None e = refl
-none_of (Some m) e = cc
 
 pub added : (dir : Dir) (set : Set) (ms bucket : List Member) (m : Member) → AreSubscribers dir set ms → IsAddress m.who → IsMoment m.since → has_key (member_key m) ms ≡ false → length ms < 100_000
     → IsBucketOf dir set (member_key m) bucket
@@ -241,7 +237,7 @@ removed dir set ms bucket k count is there one file =
       counted = count_at dir set n bytes count ∙ ap (λ n. Some (count_text n)) (sym size);
     }
 
--- the set of a number
+-- the set whose number is given
 abbrev set_at : ℕ → Set
 set_at zero = sets.List
 set_at (suc zero) = sets.Digest
@@ -273,7 +269,7 @@ false_and : (a b : Bool) → b ≡ false → (a && b) ≡ false
 false_and true b e = e
 false_and false b e = refl
 
--- a file of another set is not touched
+-- a change of one set touches no file of another
 other_files : (set other : Set) (k : Text) (name : Name) → other ≢ set → is_of_set other name ≡ true → is_touched set k name ≡ false
 other_files set other k name apart own = go (name.kind == set_kind other) refl
   where
@@ -297,7 +293,7 @@ other_files set other k name apart own = go (name.kind == set_kind other) refl
         let at = eqb-true name.at (set_number other) parts.1 in
         or_from _ _ (and_false _ _ (ne_eqb name.kind (set_kind set) (λ f. omega (arith, f, kind, one)))) (false_and (name.kind == 8) _ (ne_eqb name.at (set_number set) (λ f. numbers (omega (arith, f, at)))))
 
--- a file that is touched is the set's
+-- a file that a change touches belongs to its set
 touched_own : (set : Set) (k : Text) (name : Name) → is_of_set set name ≡ false → is_touched set k name ≡ false
 touched_own set k name not =
     let parts = or_parts ((name.kind == set_kind set) && nat_lt name.at 53) (same_name name (count_name set)) not in
@@ -318,7 +314,7 @@ kept_elsewhere dir set k puts name only not = left_alone (is_touched set k) dir 
 pub others_kept : (dir : Dir) (set other : Set) (k : Text) (puts : List Put) (ms : List Member) → other ≢ set → touches_only (is_touched set k) puts ≡ true → AreSubscribers dir other ms → AreSubscribers (with_puts dir puts) other ms
 others_kept dir set other k puts ms apart only is = own_files dir (with_puts dir puts) other ms (λ name own. left_alone (is_touched set k) dir puts name only (other_files set other k name apart own)) is
 
--- buckets that are in their grammar, with their count, stand for members
+-- if the buckets are in their grammar and the count agrees, the files stand for a list
 pub made_of : (dir : Dir) (set : Set) (buckets : ℕ → List Member) (n : ℕ) → AreBuckets dir set buckets → dir (count_name set) ≡ Some (count_text n) → n ≡ counted buckets 53 → n ≤ 100_000 → (ms : List Member) × AreSubscribers dir set ms
 made_of dir set buckets n files there size few =
     let long = length_of member_key IsBucketFile bucket_hashed bucket_ordered (λ i. dir (bucket_name set i)) buckets files in (
@@ -330,7 +326,7 @@ made_of dir set buckets n files there size few =
       },
     )
 
--- and have as many members as any list for which they stand
+-- and that list has as many members as any that the files stand for
 pub counted_one : (dir : Dir) (set : Set) (buckets : ℕ → List Member) (ms : List Member) → AreBuckets dir set buckets → AreSubscribers dir set ms → length ms ≡ counted buckets 53
 counted_one dir set buckets ms files is =
     ap length (joined_one dir set ms (merged member_key buckets 53) is.members (union_of member_key IsBucketFile bucket_hashed bucket_ordered (λ i. dir (bucket_name set i)) buckets files))

@@ -1,4 +1,4 @@
--- Texts that are written anew.
+-- How the text of a bucket is written anew, in layout 2, and how a count is written.
 use Rattle.std.proofs.Common.{◌≡◌, ℕ, ◌≤◌, ◌<◌, List, [], ◌∷◌, ◌++◌, length, Option, Some, None, refl, sym, ap, ◌∙◌, arith, append_assoc}
 use Rattle.std.proofs.lemmas.List.{append_cancel_right}
 use Rattle.std.specs.List.{AllByRecursion}
@@ -33,7 +33,7 @@ no_seconds : decimal 0 ≡ 48 ∷ []
 unfolding digits
 no_seconds = refl
 
--- a turn: a record was written with its moment
+-- one turn: a record was written with its moment
 pub dated_turn : (ms : List Member) (piece more out : Text) → AllByRecursion (IsRecord Undated) ms → two piece more ≡ split_first 0 (records Undated ms)
     → (left : List Member) × AllByRecursion (IsRecord Undated) left × (more ≡ records Undated left) × (((out ++ piece) ++ (0 ∷ 48 ∷ 0 ∷ [])) ++ records Dated left ≡ out ++ records Dated ms)
 dated_turn [] piece more out all cut = absurd (let bad : two piece more ≡ None = cut in cc)
@@ -73,7 +73,7 @@ written_without front low out below above f l o =
     ∙ append_assoc (layout_line Dated) (records Dated below) (records Dated above)
     ∙ ap (λ x. layout_line Dated ++ x) (sym (records_append Dated below above))
 
--- no bytes spell nobody
+-- no bytes spell no members
 pub nobody : (layout : Layout) (text : Text) (ms : List Member) → text ≡ records layout ms → length text ≡ 0 → ms ≡ []
 nobody layout text [] e none = refl
 nobody layout text (m ∷ ms) e none = absurd (let long = ap length (e ∙ record_parts layout m (records layout ms)) in omega (arith, none, long))
@@ -81,7 +81,7 @@ nobody layout text (m ∷ ms) e none = absurd (let long = ap length (e ∙ recor
 pub somebody : (layout : Layout) (text : Text) (ms : List Member) → text ≡ records layout ms → 0 < length text → ms ≡ [] → ⊥
 somebody layout text ms e some none = let short = ap length (e ∙ ap (records layout) none) in omega (arith, some, short)
 
--- the file of somebody
+-- the file of one member or more
 pub file_of : (ms : List Member) → (ms ≡ [] → ⊥) → Some (bucket_text Dated ms) ≡ bucket_file ms
 file_of [] some = absurd (some refl)
 file_of (m ∷ ms) some = refl

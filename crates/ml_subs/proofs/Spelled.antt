@@ -1,4 +1,4 @@
--- The records of a bucket's text.
+-- How the records of a bucket's text are read back as its members.
 use Rattle.std.proofs.Common.{◌≡◌, ℕ, ◌+◌, ◌-◌, ◌<◌, ◌≤◌, ◌^◌, Bool, true, false, ◌==◌, List, [], ◌∷◌, ◌++◌, length, take, drop, get_or, Option, Some, None, refl, sym, ap, ap₂, ◌∙◌, subst, arith, append_assoc, append-nil, length-append}
 use Rattle.std.proofs.lemmas.Bool.{and_parts, and_from, or_from, eqb-true}
 use Rattle.std.proofs.lemmas.List.{take_all}
@@ -59,7 +59,7 @@ abbrev behind_first : Text → Text
 behind_first [] = []
 behind_first (b ∷ bs) = bs
 
--- a member is read from the bytes that his record begins
+-- bytes begin with the record of at most one member
 pub record_one : (layout : Layout) (text : Text) (m n : Member) (a b : Text) → BeginsWith layout text m a → BeginsWith layout text n b → (m ≡ n) × (a ≡ b)
 record_one layout text m n a b one other =
     let first = first_written 0 m.who (moment_text layout m.since ++ a) (address_clean m.who one.is.address) in
@@ -73,16 +73,12 @@ record_one layout text m n a b one other =
     both : (v w : Text) (s t : ℕ) → v ≡ w → s ≡ t → member_by v s ≡ member_by w t
     both v w s t e f = ap₂ member_by e f
 
--- nobody is read from no bytes
-pub read_nobody : (layout : Layout) (n : ℕ) (floor : Text) → AreRead layout n floor [] []
-read_nobody layout n floor = record { each = tt; rising = refl; spelled = refl }
-
--- and nobody else
+-- no bytes are read as no members
 pub read_empty : (layout : Layout) (n : ℕ) (floor : Text) (text : Text) (ms : List Member) → length text ≡ 0 → AreRead layout n floor text ms → ms ≡ []
 read_empty layout n floor text [] e is = refl
 read_empty layout n floor text (m ∷ ms) e is = absurd (let long = ap length (is.spelled ∙ record_parts layout m (records layout ms)) in omega arith)
 
--- the first who is read, and the others
+-- the first member that is read, and the others
 pub record First (layout : Layout) (n : ℕ) (floor : Text) (text : Text) (m : Member) (ms : List Member) : Type 0 where
   pub begins : BeginsWith layout text m (records layout ms)
   pub member : IsMember layout n m
@@ -108,7 +104,7 @@ read_more layout n floor text m more ms begins member above rest = record {
   spelled = begins.spelled ∙ ap (λ t. record_text layout m ++ t) rest.spelled;
 }
 
--- where bytes begin with a member, whoever is read is he and others
+-- if bytes begin with a member, whoever is read from them is that member and then others
 pub read_behind : (layout : Layout) (n : ℕ) (floor : Text) (text : Text) (m : Member) (more : Text) (all : List Member) → BeginsWith layout text m more → AreRead layout n floor text all
     → (ms : List Member) × (all ≡ m ∷ ms) × AreRead layout n m.who more ms
 read_behind layout n floor text m more [] begins is = absurd (let long = ap length (sym is.spelled ∙ begins.spelled ∙ record_parts layout m more) in omega arith)
@@ -117,7 +113,7 @@ read_behind layout n floor text m more (a ∷ ms) begins is =
     let one = record_one layout text a m (records layout ms) more first.begins begins in
     (ms, ap (λ x. x ∷ ms) one.0, subst (λ (p : Member). AreRead layout n p.who more ms) one.0 (subst (λ t. AreRead layout n a.who t ms) one.1 first.more))
 
--- nothing was read
+-- nothing was read yet
 pub leads_start : (layout : Layout) (n : ℕ) (floor : Text) (text : Text) → Leads layout n floor text [] floor text
 leads_start layout n floor text = record { front = refl; each = tt; whole = λ ms is. is; only = λ all is. (all, refl, is) }
 
@@ -129,7 +125,7 @@ records_push : (layout : Layout) (ms : List Member) (m : Member) → records lay
 records_push layout [] m = append-nil (record_text layout m)
 records_push layout (a ∷ ms) m = ap (λ t. record_text layout a ++ t) (records_push layout ms m) ∙ sym (append_assoc (record_text layout a) (records layout ms) (record_text layout m))
 
--- one more was read
+-- one more member was read
 pub leads_more : (layout : Layout) (n : ℕ) (floor : Text) (text : Text) (done : List Member) (last : Text) (left : Text) (m : Member) (more : Text) → Leads layout n floor text done last left
     → BeginsWith layout left m more → IsMember layout n m → is_below last m.who ≡ true → Leads layout n floor text (done ++ m ∷ []) m.who more
 leads_more layout n floor text done last left m more before begins member above = record {
@@ -142,7 +138,7 @@ leads_more layout n floor text done last left m more before begins member above 
       (rest.0, some.1 ∙ ap (λ t. done ++ t) rest.1 ∙ sym (append_assoc done (m ∷ []) rest.0), rest.2);
 }
 
--- all was read
+-- everything was read
 pub leads_end : (layout : Layout) (n : ℕ) (floor : Text) (text : Text) (done : List Member) (last : Text) (left : Text) → Leads layout n floor text done last left → length left ≡ 0 → AreRead layout n floor text done
 leads_end layout n floor text done last left before e =
     subst (AreRead layout n floor text) (append-nil done) (before.whole [] (record { each = tt; rising = refl; spelled = nothing left e }))
@@ -151,7 +147,7 @@ leads_end layout n floor text done last left before e =
     nothing [] e = refl
     nothing (b ∷ bs) e = absurd (omega arith)
 
--- nothing more is read
+-- no more can be read
 pub leads_nowhere : (layout : Layout) (n : ℕ) (floor : Text) (text : Text) (done : List Member) (last : Text) (left : Text) → Leads layout n floor text done last left → 0 < length left
     → ((m : Member) (ms : List Member) → ¬ AreRead layout n last left (m ∷ ms)) → (all : List Member) → ¬ AreRead layout n floor text all
 leads_nowhere layout n floor text done last left before some none all is = let rest = before.only all is in go rest.0 rest.2
@@ -160,14 +156,14 @@ leads_nowhere layout n floor text done last left before some none all is = let r
     go [] is = let short = ap length is.spelled in omega arith
     go (m ∷ ms) is = none m ms is
 
--- bytes without a NUL begin with no moment of layout 2
+-- bytes without a NUL don't begin with a moment of layout 2
 pub no_digits : (layout : Layout) (text : Text) → layout ≡ Dated → None ≡ split_first 0 text → (since : ℕ) (more : Text) → IsMomentIn layout since → text ≡ moment_text layout since ++ more → ⊥
 no_digits Undated text is none since more moment e = cc
 no_digits Dated text is none since more moment e =
     let bad : None ≡ two (decimal since) more = none ∙ ap (split_first 0) (e ∙ append_assoc (decimal since) (0 ∷ []) more) ∙ first_written 0 (decimal since) more (decimal_clean since (omega arith)) in
     cc
 
--- nor do those whose first text is no number up to the last moment
+-- nor do those whose text before the first NUL is no number up to the last moment
 pub no_number : (layout : Layout) (text digits rest : Text) → layout ≡ Dated → two digits rest ≡ split_first 0 text → number_within 253_402_300_799 digits ≡ None
     → (since : ℕ) (more : Text) → IsMomentIn layout since → text ≡ moment_text layout since ++ more → ⊥
 no_number Undated text digits rest is cut none since more moment e = cc
@@ -197,34 +193,30 @@ body_is layout text m more is = behind_one text ∙ ap behind_first (is.spelled 
 cut_is : (layout : Layout) (text : Text) (m : Member) (more : Text) → BeginsWith layout text m more → split_first 0 (body text) ≡ two m.who (moment_text layout m.since ++ more)
 cut_is layout text m more is = ap (split_first 0) (body_is layout text m more is) ∙ first_written 0 m.who (moment_text layout m.since ++ more) (address_clean m.who is.is.address)
 
--- bytes that begin with no `T` begin with no record
-pub no_letter : (layout : Layout) (text : Text) (m : Member) (more : Text) → (get_or text 0 0 ≡ 84 → ⊥) → BeginsWith layout text m more → ⊥
-no_letter layout text m more apart is = apart (ap (λ t. get_or t 0 0) (is.spelled ∙ record_parts layout m more))
-
--- nor do those without a NUL
+-- bytes without a NUL don't begin with a record
 pub no_nul : (layout : Layout) (text : Text) → None ≡ split_first 0 (body text) → (m : Member) (more : Text) → BeginsWith layout text m more → ⊥
 no_nul layout text none m more is = let bad : None ≡ two m.who (moment_text layout m.since ++ more) = none ∙ cut_is layout text m more is in cc
 
--- nor those whose first text is no address
+-- nor do those whose text before the first NUL is no address
 pub no_address : (layout : Layout) (text who rest : Text) → two who rest ≡ split_first 0 (body text) → (IsAddress who → ⊥) → (m : Member) (more : Text) → BeginsWith layout text m more → ⊥
 no_address layout text who rest cut none m more is =
     let same : two who rest ≡ two m.who (moment_text layout m.since ++ more) = cut ∙ cut_is layout text m more is in
     none (subst IsAddress (sym (ap before_at same)) is.is.address)
 
--- nor those with no moment behind the address
+-- nor do those with no moment after the address
 pub no_moment : (layout : Layout) (text who rest : Text) → two who rest ≡ split_first 0 (body text) → ((since : ℕ) (more : Text) → IsMomentIn layout since → rest ≡ moment_text layout since ++ more → ⊥)
     → (m : Member) (more : Text) → BeginsWith layout text m more → ⊥
 no_moment layout text who rest cut none m more is =
     let same : two who rest ≡ two m.who (moment_text layout m.since ++ more) = cut ∙ cut_is layout text m more is in
     none m.since more is.is.since (ap behind_at same)
 
--- nor those of layout 2 with no NUL behind the address's
+-- nor, in layout 2, do those with no NUL after the one that ends the address
 pub no_second : (layout : Layout) (text who rest : Text) → layout ≡ Dated → two who rest ≡ split_first 0 (body text) → None ≡ split_first 0 rest → (m : Member) (more : Text) → BeginsWith layout text m more → ⊥
 no_second layout text who rest dated cut none m more is =
     let same : two who rest ≡ two m.who (moment_text layout m.since ++ more) = cut ∙ cut_is layout text m more is in
     no_digits layout rest dated none m.since more is.is.since (ap behind_at same)
 
--- the address of a record, and what is behind it, by its NULs
+-- the address of a record, and what comes after the record, found by its NULs
 pub split_undated : (layout : Layout) (text who rest : Text) → layout ≡ Undated → two who rest ≡ split_first 0 (body text) → (m : Member) (more : Text) → BeginsWith layout text m more → (who ≡ m.who) × (rest ≡ more)
 split_undated Dated text who rest is cut m more begins = cc
 split_undated Undated text who rest is cut m more begins =
@@ -253,11 +245,7 @@ record_read layout text who rest since more some first cut is moment e = record 
     front [] some first = absurd (omega arith)
     front (b ∷ bs) some first = ap (λ b. b ∷ bs) first
 
--- a record is the front of a text that is read, whoever stands behind it
-pub begun : (layout : Layout) (n : ℕ) (floor : Text) (text : Text) (m : Member) (ms : List Member) → ((m : Member) (more : Text) → BeginsWith layout text m more → ⊥) → AreRead layout n floor text (m ∷ ms) → ⊥
-begun layout n floor text m ms none is = none m (records layout ms) (read_first layout n floor text m ms is).begins
-
--- a record is no member's where its key doesn't rise, or is that of another bucket
+-- a record doesn't continue a bucket if its key doesn't rise or belongs to another bucket
 pub no_member : (layout : Layout) (n : ℕ) (floor : Text) (text : Text) (a : Member) (more : Text) → BeginsWith layout text a more → ((is_below floor a.who ≡ true) → bucket_of (key a.who) ≡ n → ⊥)
     → (m : Member) (ms : List Member) → AreRead layout n floor text (m ∷ ms) → ⊥
 no_member layout n floor text a more begins apart m ms is =
@@ -265,7 +253,7 @@ no_member layout n floor text a more begins apart m ms is =
     let one = record_one layout text m a (records layout ms) more first.begins begins in
     apart (ap (λ (p : Member). is_below floor p.who) (sym one.0) ∙ first.above) (ap (λ (p : Member). bucket_of (key p.who)) (sym one.0) ∙ first.member.hashed)
 
--- members take as many bytes at least as they are
+-- members take at least as many bytes as there are members
 pub records_long : (layout : Layout) (ms : List Member) → length ms ≤ length (records layout ms)
 records_long layout [] = omega arith
 records_long layout (m ∷ ms) =
@@ -275,7 +263,7 @@ records_long layout (m ∷ ms) =
     let last = length-append (moment_text layout m.since) (records layout ms) in
     omega (arith, more, long, tail, last)
 
--- so one more is no more than there are bytes
+-- so one more member is no more than there are bytes
 pub leads_room : (layout : Layout) (n : ℕ) (floor : Text) (text : Text) (done : List Member) (last : Text) (left : Text) → Leads layout n floor text done last left → 0 < length left → length done + 1 ≤ length text
 leads_room layout n floor text done last left before some =
     let whole = ap length before.front in
@@ -290,6 +278,6 @@ leads_rest layout n floor text done last left before =
     let parts = length-append (records layout done) left in
     omega (arith, whole, parts)
 
--- nobody is read first from no bytes
+-- nobody is read from no bytes
 pub read_nowhere : (layout : Layout) (n : ℕ) (floor : Text) (text : Text) (m : Member) (ms : List Member) → length text ≡ 0 → AreRead layout n floor text (m ∷ ms) → ⊥
 read_nowhere layout n floor text m ms none is = let long = ap length (is.spelled ∙ record_parts layout m (records layout ms)) in omega (arith, none, long)

@@ -1,4 +1,4 @@
--- Where a record begins, by the bytes round it.
+-- Where a record begins, seen from the bytes around it: the letter `T` after a NUL.
 use Rattle.std.proofs.Common.{◌≡◌, ℕ, ◌+◌, ◌<◌, ◌≤◌, Bool, true, false, not, ◌&&◌, ◌||◌, ◌==◌, ◌^◌, List, [], ◌∷◌, ◌++◌, length, take, drop, get_or, length-append, ◌⊎◌, inl, inr, refl, sym, ap, ap₂, ◌∙◌, subst, arith, append_assoc, append-nil}
 use Rattle.std.proofs.lemmas.Bool.{and_parts, and_from, eqb-true}
 use Rattle.std.proofs.lemmas.List.{drop_at, length-take-le, take-append-drop}
@@ -28,12 +28,12 @@ abbrev has_letter : Text → Bool
 has_letter [] = false
 has_letter (b ∷ bs) = b == 84
 
--- whether no NUL has that letter behind it
+-- whether no NUL has that letter after it
 abbrev no_start : Text → Bool
 no_start [] = true
 no_start (b ∷ bs) = not ((b == 0) && has_letter bs) && no_start bs
 
--- a NUL with the letter behind it is the one that ends such bytes, or stands behind it
+-- a NUL with the letter after it is the NUL that ends these bytes, or comes after that
 cut_at : (r t a b : Text) → no_start r ≡ true → a ++ 0 ∷ 84 ∷ b ≡ r ++ 0 ∷ t → ((a ≡ r) × (84 ∷ b ≡ t)) ⊎ ((more : Text) × (a ≡ r ++ 0 ∷ more) × (more ++ 0 ∷ 84 ∷ b ≡ t))
 cut_at [] t [] b clean e = inl (refl, ap behind e)
 cut_at [] t (x ∷ a) b clean e = inr (a, ap (λ h. h ∷ a) (ap (λ l. get_or l 0 0) e), ap behind e)
@@ -89,7 +89,7 @@ front_clean n m is =
     let second : no_start (0 ∷ decimal m.since) ≡ true = and_from _ _ (ap (λ t. not t) (no_digit (decimal m.since) (all_digits m.since small))) digits in
     clean_start m.who (0 ∷ decimal m.since) (address_clean m.who is.address) second
 
--- the members before a record that begins in the midst of others, and those from it on
+-- the members before a record that begins in the middle of others, and those from it on
 record Parted (ms : List Member) (a b : Text) : Type 0 where
   done : List Member
   rest : List Member
@@ -120,12 +120,12 @@ parted n (m ∷ ms) a b each e = go (cut_at (front_of m) (records Dated ms) a b 
           back = next.back;
         }
 
--- the address of the last of members, or the one above which they rise
+-- the address of the last of some members, or their floor if there are none
 abbrev last_of : Text → List Member → Text
 last_of floor [] = floor
 last_of floor (m ∷ ms) = last_of m.who ms
 
--- the first of members that are read lead to the others
+-- the members up to a place lead to the others
 leads_of : (n : ℕ) (text : Text) (before : List Member) (last left : Text) → Leads Dated n [] text before last left → (done rest : List Member) → AreRead Dated n last left (done ++ rest)
     → Leads Dated n [] text (before ++ done) (last_of last done) (records Dated rest)
 leads_of n text before last left leads [] rest is =
@@ -152,7 +152,7 @@ all_under who floor (d ∷ done) m rest rising low =
     let next = all_under who d.who done m rest parts.1 low in
     record { floor_under = below_then floor d.who who parts.0 next.floor_under; lower = and_from _ _ next.floor_under next.lower; under = next.under }
 
--- a record begins behind a NUL, and its key is below an address's: so are those before it
+-- a record begins after a NUL, and its key is below that of an address: so are the keys before it
 pub passed_start : (n : ℕ) (who text a b other more : Text) → text ≡ a ++ 0 ∷ 84 ∷ b → IsSplit Dated (84 ∷ b) other more → is_below other who ≡ true → (ms : List Member) → AreRead Dated n [] text ms → Passed Dated n who text (84 ∷ b)
 passed_start n who text a b other more e split below ms is = let p = parted n ms a b is.each (sym e ∙ is.spelled) in go p.done p.rest p.all p.back
   where
@@ -181,7 +181,7 @@ passed_start n who text a b other more e split below ms is = let p = parted n ms
             go2 [] floor t r = subst (λ (x : Text). AreRead Dated n floor x (m ∷ rest)) r.spelled r
             go2 (x ∷ d) floor t r = go2 d x.who (records Dated (d ++ m ∷ rest)) (read_first Dated n floor t x (d ++ m ∷ rest) r).more
 
--- the same of a text in the midst of which it was looked for
+-- the same, if the search was in the middle of a text
 module _ (who text : Text) (from size at : ℕ) (a b : Text) (fits : from ≤ length text) (cut : take size (drop from text) ≡ a ++ 0 ∷ 84 ∷ b) (is_at : at ≡ length a + 1) where
   abbrev front : Text
   front = take from text ++ a

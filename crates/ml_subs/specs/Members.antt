@@ -1,4 +1,4 @@
--- Members of a set, in the order of their keys.
+-- The members of a set as a list in order of key, and what adding and removing make of it.
 use Rattle.std.specs.Prelude.{Bool, List, Option, is_some}
 use Rattle.ml_base.specs.Bytes.{Text}
 use Rattle.ml_base.specs.Address.{key}
@@ -7,7 +7,7 @@ use Rattle.ml_keyed.specs.Buckets.{found}
 use Rattle.ml_keyed.specs.Buckets as keyed
 use Rattle.ml_subs.specs.declared.member_list.Member.{Member}
 
--- the key of a member: that of his address
+-- the key of a member is that of his address
 abbrev pub member_key : Member → Text
 member_key m = key m.who
 
@@ -15,7 +15,7 @@ member_key m = key m.who
 abbrev pub IsOrdered : List Member → Type 0
 IsOrdered ms = keyed.IsOrdered member_key ms
 
--- the member of a key, as he is spelled in the list, or None where there is none
+-- the member of a key, as the list has him, or None if there is none
 abbrev pub member_of : Text → List Member → Option Member
 member_of k ms = found member_key k ms
 

@@ -1,4 +1,4 @@
-// Where a key stands in a bucket whose text was checked before.
+// Finds where a key stands in a bucket, without checking its text again if that was checked before.
 ghost use Rattle.std.specs.Prelude.{◌≡◌, ◌<◌, ◌≤◌, ◌+◌, ◌∷◌, ◌++◌, ℕ, List, [], Some, None, IsTrue, IfSome, IfNone, drop, length};
 ghost use Rattle.std.specs.Option.{option_map};
 ghost use Rattle.ml_base.specs.Address.{IsAddress};
@@ -14,11 +14,11 @@ use crate::records::Layout;
 use ml_base::{Address, Bytes, is_below, split_first};
 use std::alloc::Global;
 
-// How many bytes are gone through record by record, at the end of a search by halves.
+// How many bytes are searched record by record, once halving has come this near.
 const NEAR: usize = 128;
 
-// The address of the record that bytes begin with, where they begin with one, and what is behind the record. Nothing is
-// checked that such bytes have.
+// The address of the record that bytes begin with, and what comes after the record. It trusts that bytes which look
+// like a record are one.
 fn split_record(layout: Layout, text: &[u8]) -> Option<(&[u8], &[u8])>
     ensures some { IfSome result (λ r. (m : Member) (more : Text) → BeginsWith layout text.now m more → (r.0.now ≡ m.who) × (r.1.now ≡ more)) }
     ensures none { IfNone result ((m : Member) (more : Text) → ¬ BeginsWith layout text.now m more) }
@@ -47,7 +47,7 @@ fn has_letter(text: &[u8]) -> bool
     }
 }
 
-// The place behind one of the first two NULs of bytes, where the letter of a record stands.
+// The place after one of the first two NULs of bytes, if a record's letter stands there.
 fn next_start(text: &[u8]) -> Option<usize>
     ensures { IfSome result (λ at. (a b : Text) × (text.now ≡ a ++ 0 ∷ 84 ∷ b) × (at ≡ length a + 1)) }
 {
@@ -62,7 +62,7 @@ fn next_start(text: &[u8]) -> Option<usize>
     None
 }
 
-// The place of a record of layout 2 that begins between two places and has a key below that of an address.
+// The place of a record of layout 2 that begins between two places and whose key is below that of an address.
 fn lower_start(address: &[u8], text: &[u8], from: usize, to: usize) -> Option<usize>
     requires within { (from ≤ to) × (to ≤ length text.now) }
     ensures within { IfSome result (λ at. (from < at) × (at ≤ to)) }
@@ -77,8 +77,8 @@ fn lower_start(address: &[u8], text: &[u8], from: usize, to: usize) -> Option<us
     }
 }
 
-// The length of a front of records whose keys are below that of an address, which is found by halves: where members of a bucket
-// are spelled in order. It is none in layout 1.
+// The length of some first records whose keys are below that of an address, found by halving. The text must spell the
+// members of a bucket in order. In layout 1 it is 0.
 fn skip_far(layout: Layout, address: &[u8], text: &[u8]) -> usize
     requires { IsAddress address.now }
     ensures within { result ≤ length text.now }
@@ -99,7 +99,8 @@ fn skip_far(layout: Layout, address: &[u8], text: &[u8]) -> usize
     low
 }
 
-// The length of the records whose keys are below that of an address, where members of a bucket are spelled in order.
+// The length of the records whose keys are below that of an address, in a text that spells members of a bucket in
+// order.
 fn skip_known(layout: Layout, who: &Address, text: &[u8]) -> usize
     ensures within { result ≤ length text.now }
     ensures skipped { (n : ℕ) (ms : List Member) → AreRead layout n [] text.now ms → AreSkipped layout n who.now text.now result }
@@ -115,7 +116,7 @@ fn skip_known(layout: Layout, who: &Address, text: &[u8]) -> usize
     text.len() - rest.len()
 }
 
-// Where an address stands in the records of a bucket, where members are spelled in order.
+// Where an address stands in the records of a bucket, if they spell members in order.
 fn place_known<'a>(layout: Layout, n: u8, who: &Address, text: &'a [u8]) -> Place<'a>
     ensures { (ms : List Member) → AreRead layout n [] text.now ms → (s : Sides result.layout who.now result.before.now (option_map as_member result.here) result.behind.now) × AreRead layout n [] text.now (all_members s) }
 {
@@ -129,8 +130,8 @@ fn place_known<'a>(layout: Layout, n: u8, who: &Address, text: &'a [u8]) -> Plac
     }
 }
 
-// Where an address stands in a bucket's file, or None where the file is outside its grammar. A text that is remembered isn't
-// checked again, and another is remembered.
+// Where an address stands in a bucket's file, or None if the file is outside its grammar. A text that is remembered
+// isn't checked again; another one is checked and then remembered.
 pub(crate) fn find_again<'a>(
     alloc: Global,
     checked: &mut Checked,

@@ -1,4 +1,4 @@
-// Whether each set stands for a list of members.
+// Checks whether the files of every set stand for a list of members.
 ghost use Rattle.std.specs.Prelude.{◌≡◌, ◌<◌, ◌≤◌, true, List, ℕ, Option, Some, None, IsTrue, IfOk, IfErr, IfSome, IfNone, OnOk, IsErrOf, length, min, ◌^◌, ◌-◌};
 ghost use Rattle.ml_base.specs.declared.names.Set.{Set};
 ghost use Rattle.ml_base.specs.PartErrors.{OnDamaged};
@@ -16,7 +16,7 @@ use crate::records::count_members;
 use ml_base::{Bytes, Files, Name, PartError, Set};
 use std::alloc::Global;
 
-// How many members a bucket's file has, or None where it is outside its grammar.
+// How many members a bucket's file has, or None if it is outside its grammar.
 fn count_bucket(n: u8, file: &Option<Bytes>) -> Option<usize>
     ensures some { IfSome result (λ count. (ms : List Member) × IsBucketFile n file.now ms × (count ≡ length ms)) }
     ensures none { IfNone result ((ms : List Member) → ¬ IsBucketFile n file.now ms) }
@@ -45,7 +45,7 @@ fn audit_bucket<F: Files>(alloc: Global, files: &mut F, set: Set, n: u8) -> Resu
     }
 }
 
-// How many members the buckets of a set have, as far as 64 bits count.
+// How many members the buckets of a set have, at most 2^64 - 1.
 fn audit_buckets<F: Files>(alloc: Global, files: &mut F, set: Set) -> Result<u64, PartError>
     ensures value { IsTrue F.tells → IfOk result (λ count. (buckets : ℕ → List Member) × AreBuckets (F.map files.old) set buckets × (count ≡ min (counted buckets 53) (2 ^ 64 - 1))) }
     ensures names { NamesDamaged ⟦<F as Files>⟧ (IsBucketName set) (IsBadBucket (F.map files.old) set) result }
@@ -73,8 +73,9 @@ fn audit_set<F: Files>(alloc: Global, files: &mut F, set: Set) -> Result<(), Par
     }
 }
 
-/// Whether the files of each set stand for a list of members: each bucket is in its grammar, and the count is how many
-/// members the buckets have. It reads all files of the five sets, in their order, and names the first that breaks this.
+/// Whether the files of every set stand for a list of members: each bucket is in its grammar, and the count is the
+/// number of members in the buckets. It reads all files of the five sets, in their order, and names the first that is
+/// wrong.
 pub fn audit<F: Files>(alloc: Global, files: &mut F) -> Result<(), PartError>
     ensures ok { IsTrue F.tells → OnOk result ((set : Set) → (ms : List Member) × AreSubscribers (F.map files.old) set ms) }
     ensures names { NamesDamaged ⟦<F as Files>⟧ (λ name. (set : Set) × (is_of_set set name ≡ true)) (λ name. (set : Set) × Breaks (F.map files.old) set name) result }

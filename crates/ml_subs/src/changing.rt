@@ -1,4 +1,4 @@
-// What adding and removing answers.
+// What adding an address answers, and the two puts that a change of a set makes.
 ghost use Rattle.std.specs.Prelude.{◌≡◌, IfOk, Some};
 ghost use Rattle.std.specs.Option.{option_map};
 ghost use Rattle.ml_subs.specs.Answers as answers;
@@ -10,15 +10,15 @@ use std::alloc::{AllocError, Global};
 /// What adding an address to a set answers.
 #[derive(Drop)]
 pub enum AddAnswer {
-    /// These puts add it.
+    /// The set doesn't have it, and these puts add it.
     Added(Txn),
-    /// The set has it, maybe in another spelling.
+    /// The set already has it, maybe in another spelling.
     Already,
     /// The set doesn't have it, and has 100,000 members.
     Full,
 }
 
-// The puts that make a bucket's file and the count of its set these.
+// The puts that give a bucket's file and the count of its set these contents.
 pub(crate) fn changes(
     alloc: Global,
     set: Set,

@@ -1,4 +1,4 @@
-// Texts of buckets that are known to be in their grammar.
+// Remembers texts of buckets that are known to be in their grammar, so that they aren't checked again.
 ghost use Rattle.std.specs.Prelude.{IsTrue, List};
 ghost use Rattle.ml_subs.specs.declared.member_list.Member.{Member};
 ghost use Rattle.ml_subs.specs.Buckets.{IsBucket, IsBucketFile};
@@ -7,10 +7,10 @@ use ml_base::{Bytes, Row};
 use std::alloc::Global;
 use std::marker::Model;
 
-// The longest text that is remembered, in bytes: all 53 take 1.7 MiB at most.
+// The longest text that is remembered, in bytes. All 53 together take 1.7 MiB at most.
 const LONGEST: usize = 32_768;
 
-// A text of the bucket with this number.
+// A text that is known to be right for the bucket with this number.
 #[derive(Drop)]
 struct Known {
     n: u8,
@@ -30,7 +30,7 @@ impl Model for Known {
 }
 
 impl Known {
-    // A text of the bucket with a number, or None where it is too long or memory is wanting.
+    // A text of the bucket with a number, or None if it is too long or memory is lacking.
     fn new(alloc: Global, n: u8, text: &[u8]) -> Option<Known>
         requires { (ms : List Member) × IsBucket n text.now ms }
     {
@@ -41,7 +41,7 @@ impl Known {
         Some(Known { n, text })
     }
 
-    // Whether a text is this one, and so one of the bucket with a number.
+    // Whether a text is this one, and so is right for the bucket with this number.
     fn is(&self, n: u8, text: &[u8]) -> bool
         ensures { IsTrue result → (ms : List Member) × IsBucket n text.now ms }
     {
@@ -49,22 +49,22 @@ impl Known {
     }
 }
 
-/// The text of each bucket that was last found to be in its grammar, or that a change made: a file that reads so isn't checked
-/// again. A text of more than 32 KiB isn't remembered. No answer shows what it holds.
+/// For every bucket the text that was last found to be in its grammar, or that a change made: a file with the same
+/// bytes isn't checked again. A text of more than 32 KiB isn't remembered. No answer depends on what it holds.
 #[derive(Drop)]
 pub struct Checked {
     last: Row<Option<Known>>,
 }
 
 impl Checked {
-    /// Nothing yet. It takes no memory.
+    /// Remembers nothing yet. It takes no memory.
     pub fn new(alloc: Global) -> Checked {
         Checked {
             last: Row::new(alloc),
         }
     }
 
-    // Whether a text is remembered as one of the bucket with a number.
+    // Whether a text is remembered as that of the bucket with a number.
     pub(crate) fn has(&self, n: u8, text: &[u8]) -> bool
         ensures { IsTrue result → (ms : List Member) × IsBucket n text.now ms }
     {
@@ -74,7 +74,8 @@ impl Checked {
         }
     }
 
-    // Remembers a text of the bucket with a number in place of the one before, where it is short and there is memory for it.
+    // Remembers a text of the bucket with a number instead of the earlier one, if it is short and there is memory for
+    // it.
     pub(crate) fn note(&mut self, alloc: Global, n: u8, text: &[u8])
         requires { (ms : List Member) × IsBucket n text.now ms }
     {
@@ -86,7 +87,7 @@ impl Checked {
         self.last.replace(n as usize, Known::new(alloc, n, text));
     }
 
-    // Remembers what a change leaves of a bucket's file.
+    // Remembers the file that a change leaves of a bucket.
     pub(crate) fn note_left(&mut self, alloc: Global, n: u8, file: &Option<Bytes>)
         requires { (ms : List Member) × IsBucketFile n file.now ms }
     {

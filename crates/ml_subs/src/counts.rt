@@ -1,4 +1,4 @@
-// The count of a set.
+// Reads and writes the count of a set, the number of its members.
 ghost use Rattle.std.specs.Prelude.{◌≡◌, ◌≢◌, ◌≤◌, ℕ, Some, None, IsTrue, IfOk, IfErr, IfSome, IfNone, IsErrOf};
 ghost use Rattle.ml_base.specs.ReadFiles.{IsReading, NamesDamaged};
 ghost use Rattle.ml_subs.specs.Subscribers.{count_text, IsNoCount};
@@ -9,7 +9,7 @@ use std::alloc::{AllocError, Global};
 
 pub(crate) const MAX_MEMBERS: u64 = 100_000;
 
-// The number that a count's file spells, or None where it spells none up to 100,000.
+// The number that a count's file spells, or None if it spells none up to 100,000.
 pub(crate) fn read_count(file: &Option<Bytes>) -> Option<u64>
     ensures some { IfSome result (λ n. (n ≤ 100_000) × (file.now ≡ Some (count_text n))) }
     ensures none { IfNone result ((n : ℕ) → n ≤ 100_000 → file.now ≢ Some (count_text n)) }
@@ -23,7 +23,7 @@ pub(crate) fn read_count(file: &Option<Bytes>) -> Option<u64>
     number_within(MAX_MEMBERS, digits)
 }
 
-// The text of a count.
+// The text of a count's file.
 pub(crate) fn write_count(alloc: Global, n: u64) -> Result<Bytes, AllocError>
     ensures { IfOk result (λ bytes. bytes ≡ count_text n) }
 {
@@ -34,7 +34,7 @@ pub(crate) fn write_count(alloc: Global, n: u64) -> Result<Bytes, AllocError>
     Ok(out)
 }
 
-// The count of a set, which is at least `least`.
+// The count of a set, which has to be `least` at least.
 pub(crate) fn count_of<F: Files>(
     alloc: Global,
     files: &mut F,

@@ -1,4 +1,4 @@
-// Members where a bucket's text spells them, which are sorted before their addresses are copied.
+// Members that point into a bucket's text. They are put in order of key before their addresses are copied.
 ghost use Rattle.std.specs.Prelude.{◌≡◌, IfOk};
 ghost use Rattle.std.specs.Char.{is_ascii_uppercase};
 ghost use Rattle.std.specs.List.{list_any};
@@ -14,7 +14,7 @@ use std::alloc::{AllocError, Global};
 use std::cmp::Ordering;
 use std::marker::Model;
 
-// A member's record, and whether his address is its own key. Contracts see the member.
+// A member's record, and whether his address is its own key. In contracts it stands for the member.
 #[derive(Drop)]
 pub(crate) struct Keyed<'a> {
     record: Record<'a>,
@@ -51,7 +51,7 @@ impl<'a> Keyed<'a> {
         }
     }
 
-    // How the keys of two members stand. Those that are spelled as they are need no folding.
+    // The order of the keys of two members. Addresses that are their own keys are compared without folding.
     pub(crate) fn compare(&self, other: &Keyed<'_>) -> Ordering
         ensures { result ≡ byte_cmp (member_key self.now) (member_key other.now) }
     {
@@ -62,7 +62,7 @@ impl<'a> Keyed<'a> {
         }
     }
 
-    // The member, with his address in memory of its own.
+    // The member, with a copy of his address.
     pub(crate) fn member(&self, alloc: Global) -> Result<Member, AllocError>
         ensures { IfOk result (λ m. m ≡ self.now) }
     {

@@ -1,4 +1,4 @@
-// What holds of the files of a set, apart from the code.
+// Laws of the files of a set: what they stand for, and how a change of them changes it.
 ghost use Rattle.std.specs.Prelude.{◌≡◌, ◌≢◌, ◌↔◌, ◌<◌, ◌≤◌, ◌+◌, Bool, true, false, [], List, ℕ, Option, Some, None, length};
 ghost use Rattle.std.specs.List.{AllByRecursion};
 ghost use Rattle.ml_base.specs.Bytes.{Text};
@@ -17,15 +17,16 @@ ghost use Rattle.ml_subs.specs.Buckets.{bucket_of, bucket_file, IsBucketFile};
 ghost use Rattle.ml_subs.specs.Subscribers.{AreJoined, AreSubscribers, IsBucketOf, Breaks, IsUnread, bucket_name, count_name, count_text, is_of_set, is_touched};
 ghost use Rattle.ml_subs.specs.Answers.{changes};
 
-/// Neither of two addresses comes before the other exactly where their keys are equal, and so where `Address::same` holds
-/// of them: the order in which members stand tells addresses apart as the list does.
+/// Neither of two addresses comes before the other exactly if their keys are equal, that is, if `Address::same` holds
+/// of them. So the order of members tells addresses apart just as the list does.
 pub fn law_order()
     ensures { (a b : Text) → (byte_cmp (key a) (key b) ≡ Equal) ↔ (key a ≡ key b) }
 {}
 
-/// A bucket's file has one list of members at most, and so have the files of a set. Which it is depends on the set's own
-/// files alone. Where one of them breaks it, or can't be read for a change, there is none. Each is a name of the table. Files that are absent, with a count of 0, have nobody. Each
-/// member has an address and a moment.
+/// A bucket's file has at most one list of members, and so have the files of a set. The list depends on the set's own
+/// files alone. If one of them breaks the set, or can't be read for a change, there is no list. All of them are names
+/// of the table. If all buckets are absent and the count is 0, the set is empty. Every member has an address and a
+/// moment.
 pub fn law_sets()
     ensures bucket { (n : ℕ) (file : Option Text) (ms others : List Member) → IsBucketFile n file ms → IsBucketFile n file others → ms ≡ others }
     ensures union { (dir : Dir) (set : Set) (ms others : List Member) → AreJoined dir set ms → AreJoined dir set others → ms ≡ others }
@@ -38,8 +39,8 @@ pub fn law_sets()
     ensures each { (dir : Dir) (set : Set) (ms : List Member) → AreSubscribers dir set ms → AllByRecursion (λ m. IsAddress m.who × IsMoment m.since) ms }
 {}
 
-/// A member is added to a set by his bucket with him and one more in the count, and a key is removed by its bucket
-/// without it and one less. Either leaves every file that isn't the set's as it is, and so the other sets.
+/// To add a member to a set, add him to his bucket and one to the count; to remove a key, remove it from its bucket
+/// and one from the count. Both leave every file that isn't the set's as it is, and so the other sets.
 pub fn law_changes()
     ensures added { (dir : Dir) (set : Set) (ms bucket : List Member) (m : Member) → AreSubscribers dir set ms → IsAddress m.who → IsMoment m.since → has_key (member_key m) ms ≡ false → length ms < 100_000 →
         IsBucketOf dir set (member_key m) bucket →

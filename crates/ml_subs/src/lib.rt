@@ -1,4 +1,5 @@
-//! Sets of subscribers, each spread over 53 files by a hash of the address, and kept as a list in order of key.
+//! Sets of subscribers. The addresses of a set are spread over 53 files by a hash, each a list in order of key, with
+//! their number in another file. Here they are found, listed, added, removed and checked.
 #![tactic(auto)]
 
 mod again;

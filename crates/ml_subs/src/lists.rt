@@ -1,4 +1,4 @@
-// All members of a set, in the order of their keys.
+// Lists all members of a set, in the order of their keys.
 ghost use Rattle.std.specs.Prelude.{◌≡◌, ◌<◌, ◌≤◌, ◌++◌, [], map, true, false, List, ℕ, Bool, Option, Some, None, IsTrue, IfOk, IfErr, IfSome, OnOk, IsErrOf, length};
 ghost use Rattle.std.specs.List.Sorted.{IsPermutation, IsSortedByKey};
 ghost use Rattle.ml_base.specs.Address.{key};
@@ -20,7 +20,7 @@ use crate::{Member, MemberList};
 use ml_base::{AddressList, Bytes, Files, Name, PartError, Row, Set};
 use std::alloc::{AllocError, Global};
 
-// Adds the members that bytes spell. False where they spell none of the bucket in order.
+// Adds the members that bytes spell. False if the bytes don't spell members of the bucket in order.
 fn add_members<'a>(
     layout: Layout,
     n: u8,
@@ -42,7 +42,7 @@ fn add_members<'a>(
     Ok(true)
 }
 
-// Adds the members of a bucket's file. False where it is outside its grammar.
+// Adds the members of a bucket's file. False if it is outside its grammar.
 fn add_bucket<'a>(
     n: u8,
     file: &'a Option<Bytes>,
@@ -59,7 +59,7 @@ fn add_bucket<'a>(
     }
 }
 
-// The files of a set's buckets.
+// Reads the files of a set's buckets.
 fn read_files<F: Files>(
     alloc: Global,
     files: &mut F,
@@ -78,7 +78,7 @@ fn read_files<F: Files>(
     Ok(texts)
 }
 
-// The members that the files of a set's buckets spell, one bucket behind the other.
+// The members that the files of a set's buckets spell, bucket after bucket.
 fn spelled_members<'a>(
     alloc: Global,
     set: Set,
@@ -99,7 +99,7 @@ fn spelled_members<'a>(
     Ok(found)
 }
 
-// The members in the order of their keys. Each bucket's come in that order, and the sort merges such rows.
+// The members in the order of their keys. Those of one bucket are in order already, and the sort merges such rows.
 fn in_order<'a>(list: Row<Keyed<'a>>) -> Result<Row<Keyed<'a>>, AllocError>
     ensures permutation { IfOk result (IsPermutation list.entry) }
     ensures sorted { IfOk result (IsSortedByKey member_key byte_cmp) }
@@ -109,7 +109,7 @@ fn in_order<'a>(list: Row<Keyed<'a>>) -> Result<Row<Keyed<'a>>, AllocError>
     Ok(Row::from_vec(items))
 }
 
-// The members, with their addresses in memory of their own.
+// The members, with copies of their addresses.
 fn copied_members(alloc: Global, list: &Row<Keyed<'_>>) -> Result<MemberList, AllocError>
     ensures { IfOk result (λ members. members ≡ list.now) }
 {
@@ -161,7 +161,7 @@ fn addresses_of(alloc: Global, list: MemberList) -> Result<AddressList, AllocErr
     Ok(Row::from_vec(addresses))
 }
 
-// Whether two files have the same bytes, or both aren't there.
+// Whether two files have the same bytes, or are both absent.
 fn is_same(one: &Option<Bytes>, other: &Option<Bytes>) -> bool
     ensures { IsTrue result → one.now ≡ other.now }
 {
@@ -172,7 +172,7 @@ fn is_same(one: &Option<Bytes>, other: &Option<Bytes>) -> bool
     }
 }
 
-// Whether so many files have the same bytes as others.
+// Whether files have the same bytes as others, file by file.
 fn are_same(one: &[Option<Bytes>], other: &[Option<Bytes>]) -> bool
     ensures { IsTrue result → one.now ≡ other.now }
 {
@@ -188,13 +188,14 @@ fn are_same(one: &[Option<Bytes>], other: &[Option<Bytes>]) -> bool
 /// The files of a set's buckets, and the addresses that they spell.
 #[derive(Drop)]
 pub struct Spelling {
-    /// The bytes of the 53 files, None where one isn't there.
+    /// The bytes of the 53 files, None for one that is absent.
     pub texts: Row<Option<Bytes>>,
     /// The addresses, in ascending order of key.
     pub addresses: AddressList,
 }
 
-// The files of a set's buckets with the addresses that they spell. Where they read as they did before, what they spelled then is taken.
+// The files of a set's buckets, with the addresses that they spell. If their bytes are those of `before`, its
+// addresses are taken.
 fn spelled_again<F: Files>(
     alloc: Global,
     files: &mut F,
@@ -219,8 +220,8 @@ fn spelled_again<F: Files>(
     Ok(Spelling { texts, addresses })
 }
 
-/// The addresses of a set's members, in ascending order of key, with the files that spell them. It reads the set's 53 files and not its
-/// count. Where they read as they did before, it takes what they spelled then.
+/// The addresses of a set's members, in ascending order of key, with the files that spell them. It reads the set's 53
+/// files and not its count. If their bytes are those of `before`, its addresses are taken.
 pub fn all_again<F: Files>(
     alloc: Global,
     files: &mut F,

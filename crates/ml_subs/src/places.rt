@@ -1,4 +1,4 @@
-// Where a key stands in a bucket's text.
+// Finds where a key stands in a bucket's text, and checks the whole text.
 ghost use Rattle.std.specs.Prelude.{◌≡◌, ℕ, List, Option, Some, None, IfSome, IfNone, [], ◌∷◌};
 ghost use Rattle.ml_subs.specs.declared.member_list.Member.{Member};
 ghost use Rattle.ml_subs.specs.Buckets.{IsBucketFile, IsBucket};
@@ -11,7 +11,7 @@ use ml_base::{Address, Bytes, is_below};
 // The line that a bucket of layout 2 begins with.
 pub(crate) const DATED_LINE: &[u8] = b"layout 2\n";
 
-// Where a key stands in a bucket: the records below it, its own, where there is one, and the records above.
+// Where a key stands in a bucket: the records below it, its own, if there is one, and the records above it.
 #[derive(Clone, Copy)]
 pub(crate) struct Place<'a> {
     pub layout: Layout,
@@ -20,7 +20,7 @@ pub(crate) struct Place<'a> {
     pub behind: &'a [u8],
 }
 
-// The layout of a text, and what stands behind its line.
+// The layout of a text, and what comes after its line.
 fn split_line(text: &[u8]) -> (Layout, &[u8])
     ensures { IsFront text.now result.0 result.1.now }
 {
@@ -30,7 +30,7 @@ fn split_line(text: &[u8]) -> (Layout, &[u8])
     }
 }
 
-// The layout of a bucket's text, and its records. None where there is no record.
+// The layout of a bucket's text, and its records. None if there are no records.
 pub(crate) fn split_layout(text: &[u8]) -> Option<(Layout, &[u8])>
     ensures some { IfSome result (λ r. IsLayoutOf text.now r.0 r.1.now) }
     ensures none { IfNone result ((n : ℕ) (ms : List Member) → ¬ IsBucket n text.now ms) }
@@ -42,7 +42,7 @@ pub(crate) fn split_layout(text: &[u8]) -> Option<(Layout, &[u8])>
     Some((layout, body))
 }
 
-// The length of the records whose keys are below that of an address, or None where they are no members of the bucket in
+// The length of the records whose keys are below that of an address, or None if they aren't members of the bucket in
 // order.
 fn skip_lower(layout: Layout, n: u8, who: &Address, text: &[u8]) -> Option<usize>
     ensures some { IfSome result (λ size. AreSkipped layout n who.now text.now size) }
@@ -64,7 +64,7 @@ fn skip_lower(layout: Layout, n: u8, who: &Address, text: &[u8]) -> Option<usize
     Some(text.len())
 }
 
-// The record of an address's key with which bytes begin, and what is behind it, or none and all of them.
+// The record of an address's key, if bytes begin with it, and what comes after it; or None, and all of the bytes.
 pub(crate) fn same_key<'a>(
     layout: Layout,
     n: u8,
@@ -82,7 +82,7 @@ pub(crate) fn same_key<'a>(
     (None, text)
 }
 
-// Where an address stands in the records of a bucket, or None where they are no members of the bucket in order.
+// Where an address stands in the records of a bucket, or None if they aren't members of the bucket in order.
 fn place_in<'a>(layout: Layout, n: u8, who: &Address, text: &'a [u8]) -> Option<Place<'a>>
     ensures some { IfSome result (λ p. (s : Sides p.layout who.now p.before.now (option_map as_member p.here) p.behind.now) × AreRead layout n [] text.now (all_members s)) }
     ensures none { IfNone result ((ms : List Member) → ¬ AreRead layout n [] text.now ms) }
@@ -98,7 +98,7 @@ fn place_in<'a>(layout: Layout, n: u8, who: &Address, text: &'a [u8]) -> Option<
     })
 }
 
-// Where an address stands in a bucket's file, or None where the file is outside its grammar.
+// Where an address stands in a bucket's file, or None if the file is outside its grammar.
 pub(crate) fn find_place<'a>(n: u8, file: &'a Option<Bytes>, who: &Address) -> Option<Place<'a>>
     ensures some { IfSome result (λ p. (s : Sides p.layout who.now p.before.now (option_map as_member p.here) p.behind.now) × IsBucketFile n file.now (all_members s)) }
     ensures none { IfNone result ((ms : List Member) → ¬ IsBucketFile n file.now ms) }

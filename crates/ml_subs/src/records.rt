@@ -1,4 +1,4 @@
-// The records of a bucket's text.
+// Reads the records of a bucket's text: an address, and in layout 2 a moment.
 ghost use Rattle.std.specs.Prelude.{◌≡◌, ◌≢◌, ◌<◌, ◌≤◌, ◌↔◌, true, ◌++◌, ◌∷◌, List, ℕ, IsTrue, IfOk, IfSome, IfNone, length};
 ghost use Rattle.ml_base.specs.Bytes.{Text};
 ghost use Rattle.ml_base.specs.Address.{IsAddress};
@@ -12,7 +12,7 @@ use ml_base::{Address, LAST_MOMENT, is_below, is_kept, number_within, split_firs
 use ml_keyed::place_of_lower;
 use std::alloc::{AllocError, Global};
 
-// How a bucket's records are spelled: layout 1 has addresses alone, and layout 2 their moments too.
+// How a bucket's records are spelled: in layout 1 only addresses, in layout 2 their moments too.
 #[derive(Clone, Copy)]
 pub(crate) enum Layout {
     Undated,
@@ -26,7 +26,7 @@ pub(crate) struct Record<'a> {
     pub since: u64,
 }
 
-// The moment that bytes begin with in a layout, and what is behind it.
+// The moment that bytes begin with in a layout, and what comes after it.
 fn next_moment(layout: Layout, text: &[u8]) -> Option<(u64, &[u8])>
     ensures some { IfSome result (λ r. IsMomentIn layout r.0 × (text.now ≡ moment_text layout r.0 ++ r.1.now)) }
     ensures none { IfNone result ((since : ℕ) (more : Text) → IsMomentIn layout since → text.now ≢ moment_text layout since ++ more) }
@@ -52,7 +52,7 @@ pub(crate) fn member_from(alloc: Global, found: Record<'_>) -> Result<Member, Al
     })
 }
 
-// The record that bytes begin with, and what is behind it, or None where none does.
+// The record that bytes begin with, and what comes after it, or None if they begin with none.
 pub(crate) fn next_record(layout: Layout, text: &[u8]) -> Option<(Record<'_>, &[u8])>
     ensures some { IfSome result (λ r. BeginsWith layout text.now (as_member r.0) r.1.now) }
     ensures none { IfNone result ((m : Member) (more : Text) → ¬ BeginsWith layout text.now m more) }
@@ -71,8 +71,8 @@ pub(crate) fn next_record(layout: Layout, text: &[u8]) -> Option<(Record<'_>, &[
     Some((Record { who, since }, more))
 }
 
-// The record that bytes begin with, and what is behind it, or None where none does whose address belongs to the bucket
-// and has a key above that of `floor`.
+// The record that bytes begin with, and what comes after it, or None if they begin with none whose address belongs to
+// the bucket and has a key above that of `floor`.
 pub(crate) fn next_member<'a>(
     layout: Layout,
     n: u8,
@@ -93,8 +93,8 @@ pub(crate) fn next_member<'a>(
     Some((record, more))
 }
 
-// How many members bytes spell, all of the bucket, with keys that rise above that of `floor`; or None where they spell
-// none such.
+// How many members bytes spell, all of the bucket and with rising keys above that of `floor`, or None if they don't
+// spell such members.
 pub(crate) fn count_members(layout: Layout, n: u8, floor: &[u8], text: &[u8]) -> Option<usize>
     ensures some { IfSome result (λ count. (ms : List Member) × AreRead layout n floor.now text.now ms × (count ≡ length ms)) }
     ensures none { IfNone result ((ms : List Member) → ¬ AreRead layout n floor.now text.now ms) }

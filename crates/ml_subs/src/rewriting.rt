@@ -1,4 +1,4 @@
-// New texts of buckets, in layout 2.
+// Writes new texts of buckets, in layout 2, after a change of one member.
 ghost use Rattle.std.specs.Prelude.{◌≡◌, ◌++◌, ◌∷◌, [], ◌<◌, List, Option, Some, None, IfOk, OnOk};
 ghost use Rattle.std.specs.List.{AllByRecursion};
 ghost use Rattle.ml_base.specs.Address.{IsAddress};
@@ -28,7 +28,7 @@ fn add_record(out: &mut Bytes, who: &[u8], since: u64) -> Result<(), AllocError>
     out.push(0)
 }
 
-// Adds the records of a bucket of layout 1, each with the moment 0.
+// Adds the records of a bucket of layout 1, all with the moment 0.
 fn add_dated(out: &mut Bytes, text: &[u8]) -> Result<(), AllocError>
     ensures { (ms : List Member) → AllByRecursion (IsRecord Undated) ms → text.now ≡ records Undated ms → OnOk result (out.new ≡ out.old ++ records Dated ms) }
 {
@@ -51,7 +51,7 @@ fn add_records(out: &mut Bytes, layout: Layout, text: &[u8]) -> Result<(), Alloc
     }
 }
 
-// The line of a new text, with room for the records round a place, and for more.
+// Begins a new text with its line, with room for the records around a place and for `more` bytes.
 fn begun(alloc: Global, place: &Place<'_>, more: usize) -> Result<Bytes, AllocError>
     ensures { IfOk result (λ bytes. bytes ≡ layout_line Dated) }
 {
@@ -62,7 +62,7 @@ fn begun(alloc: Global, place: &Place<'_>, more: usize) -> Result<Bytes, AllocEr
     Ok(out)
 }
 
-// The text of a bucket with one more member in his place.
+// The text of a bucket with one more member, at his place.
 pub(crate) fn text_with(
     alloc: Global,
     place: &Place<'_>,
@@ -80,7 +80,7 @@ pub(crate) fn text_with(
     Ok(out)
 }
 
-// The text of a bucket without the member of the place, or None where nobody is left.
+// The text of a bucket without the member of the place, or None if nobody is left.
 pub(crate) fn text_without(alloc: Global, place: &Place<'_>) -> Result<Option<Bytes>, AllocError>
     ensures { (below above : List Member) → AreAround place.now.layout place.now.before.now place.now.behind.now below above → IfOk result (λ bytes. bytes ≡ bucket_file (below ++ above)) }
 {

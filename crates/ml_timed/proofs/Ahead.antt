@@ -11,7 +11,7 @@ use Rattle.ml_plain.proofs.Ledgers.{Elem, elem_filter, elem_found, elem_take}
 use Rattle.ml_timed.specs.Ahead.{AreIn}
 
 module _ {E : Type 0} (test : E → Bool) where
-  -- what holds of each holds of each that passes, and of the first of them
+  -- what holds of all holds of those that pass, and of the first of them
   all_filter : (p : E → Bool) (es : List E) → list_all p es ≡ true → list_all p (filter test es) ≡ true
   all_filter p [] all = refl
   all_filter p (e ∷ es) all = let parts = and_parts (p e) (list_all p es) all in go (test e) parts.0 (all_filter p es parts.1)
@@ -48,7 +48,7 @@ rising_take (suc n) (e ∷ es) rising =
     let parts = and_parts (list_all (above e) es) (is_sorted byte_cmp (λ f. f.key) es) rising in
     and_from (list_all (above e) (take n es)) (is_sorted byte_cmp (λ f. f.key) (take n es)) (all_take (above e) n es parts.0) (rising_take n es parts.1)
 
--- what holds of each that is among them
+-- what holds of everything that is in a row holds of the whole row
 each_among : {E : Type 0} (P : E → Type 0) (es : List E) → ((e : E) → Elem e es → P e) → AllByRecursion P es
 each_among P [] f = tt
 each_among P (e ∷ es) f = (f e (inl refl), each_among P es (λ g among. f g (inr among)))

@@ -1,4 +1,4 @@
--- Amid the entries that are followed up.
+-- What holds while entries are followed up, after some and before others.
 use Rattle.std.proofs.Common.{◌≡◌, ◌≤◌, ◌+◌, ℕ, true, List, [], ◌∷◌, ◌++◌, Option, Some, None, map, fold, length, refl, sym, ap, ◌∙◌, subst, arith}
 use Rattle.ml_base.specs.Dir.{Dir, with_puts}
 use Rattle.ml_base.specs.declared.names.Set.{Set}
@@ -35,7 +35,7 @@ beside_self set p = record { config = refl; keys = refl; digest = λ is. refl }
 beside_then : (set : Set) (p q r : Plain) → Beside set p q → Beside set q r → Beside set p r
 beside_then set p q r a b = record { config = b.config ∙ a.config; keys = b.keys ∙ a.keys; digest = λ is. b.digest is ∙ a.digest is }
 
--- mail changes the queue alone, and a ledger is its set's
+-- mail changes only the queue, and a ledger belongs to its set
 ledger_beside : (set : Set) (p q : Plain) (ledger : Ledger) → Beside set p q → Beside set p (with_ledger_of set ledger q)
 ledger_beside sets.List p q ledger b = record { config = b.config; keys = b.keys; digest = b.digest }
 ledger_beside sets.Digest p q ledger b = record { config = b.config; keys = b.keys; digest = λ is. absurd (cc) }
@@ -63,7 +63,7 @@ pub followed_beside : (now : ℕ) (set : Set) (es : Ledger) (p : Plain) → Besi
 followed_beside now set [] p = beside_self set p
 followed_beside now set (e ∷ es) p = beside_then set p (follow_up now p (set, e)) _ (beside_at now set e p e.stage) (followed_beside now set es (follow_up now p (set, e)))
 
--- amid the entries of a row: the list so far, and the entries that are still ahead
+-- in the middle of a row of entries: the list so far, and the entries that are still to come
 pub record IsAmid (now : ℕ) (dir : Dir) (c : Config) (keys : Keys) (set : Set) (actions : List Action) (p : Plain) (es : Ledger) : Type 0 where
   pub reached : Plain
   pub left : Ledger
@@ -126,7 +126,7 @@ ids_first dir n some has low next is = let up = has.up_to low next is in omega (
 pub ids_more : (dir : Dir) (n : ℕ) → HasIdsFor dir n → HasIdsFor dir (n + 0)
 ids_more dir n has = record { most = has.most; up_to = has.up_to; fits = omega (arith, has.fits) }
 
--- where all were put, what is left
+-- what is left once all were put
 pub ids_left : (dir : Dir) → HasIdsFor dir 0 → HasIdsUpTo dir 1_000_000_000_000_001
 ids_left dir has low next counted =
     let up = has.up_to low next counted in

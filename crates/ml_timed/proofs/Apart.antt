@@ -1,4 +1,4 @@
--- What a timed run's parts read, on every directory that has the same files of those that they look at.
+-- What a timed run's parts read is the same on every directory that has the files that they look at.
 use Rattle.std.proofs.Common.{◌≡◌, ◌⊎◌, inl, inr, ◌&&◌, ◌||◌, ◌<◌, ℕ, Bool, true, cond, List, [], ◌∷◌, length, Option, Some, None, IsTrue, nat_le, refl, sym, ap, ◌∙◌, subst, arith}
 use Rattle.std.proofs.lemmas.Bool.{and_from, and_parts, eq-eqb, leb-true, lt-ltb, or_cases, or_left, or_right}
 use Rattle.std.proofs.lemmas.Nat.{mod_below}
@@ -134,7 +134,7 @@ posts_back old dir posts alike is = record {
   counted = subst (λ (f : Option Text). IsNumberFile f (length posts)) (alike number_name refl) is.counted;
 }
 
--- what is looked at where a digest is made
+-- what is looked at when a digest is made
 pub told_digesting : (name : Name) → is_of_posts_told name ≡ true → is_of_digesting name ≡ true
 told_digesting name e = or_left (is_of_progress name || is_of_posts_told name) (is_of_issue name) (or_right (is_of_progress name) (is_of_posts_told name) e)
 
@@ -156,7 +156,7 @@ progress_there old dir p mark count alike is marked counted = (
   counted_is dir p.posts (is.archive).filed count (subst (λ (f : Option Text). IsNumberFile f count) (sym (alike number_name refl)) counted),
 )
 
--- what each part looks at is of the run
+-- what each part looks at, the run looks at
 module _ (digests : Bool) where
   timed_seen : (name : Name) → is_of_timed digests name ≡ true → is_seen_in_timed digests name ≡ true
   timed_seen name e = or_left (is_of_timed digests name) (digests && is_post_file name) e

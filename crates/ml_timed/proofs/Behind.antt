@@ -1,4 +1,4 @@
--- The posts behind a number, as the indexes of two groups tell of them.
+-- The posts after a number, by the indexes of two groups.
 use Rattle.std.proofs.Common.{◌≡◌, ◌≢◌, ℕ, zero, suc, ◌+◌, ◌-◌, ◌*◌, ◌/◌, ◌<◌, ◌≤◌, Bool, true, false, ◌==◌, nat_lt, cond, List, [], ◌∷◌, ◌++◌, length, map, take, drop, Some, refl, sym, ap, ap₂, ◌∙◌, arith}
 use Rattle.std.proofs.Math.Seq.{take-add, take-nil, drop-nil}
 use Rattle.std.proofs.lemmas.Bool.{eq-eqb, ne_eqb, le-leb, leb-true, leb-false}
@@ -60,12 +60,12 @@ group_past g k (y ∷ ys) low = go (λ up. group_past g (k + 1) ys up) (nat_lt k
         let all : (100 * g + 100) - k ≡ 100 = omega (arith, here) in
         group_from g k (y ∷ ys) (omega (arith, here)) ∙ ap₂ (λ (n a : ℕ). enumerate_from a (take n (y ∷ ys))) all here ∙ sym (ap (λ n. enumerate_from (100 * g) (take 100 (drop n (y ∷ ys)))) none)
 
--- all are behind a number that is below the first
+-- all come after a number that is below the first
 all_after : (last k : ℕ) (ys : List Post) → last < k → filter (after last) (enumerate_from k ys) ≡ enumerate_from k ys
 all_after last k [] up = refl
 all_after last k (y ∷ ys) up = ap₂ (λ b r. cond b ((k, y) ∷ r) r) (le-leb (suc last) k (omega (arith, up))) (all_after last (k + 1) ys (omega (arith, up)))
 
--- those behind a number
+-- those after a number
 those_after : (last k : ℕ) (ys : List Post) → k ≤ last + 1 → filter (after last) (enumerate_from k ys) ≡ enumerate_from (last + 1) (drop ((last + 1) - k) ys)
 those_after last k [] low = sym (ap (λ (t : List Post). enumerate_from (last + 1) t) (drop-nil ((last + 1) - k)))
 those_after last k (y ∷ ys) low = go (λ up. those_after last (k + 1) ys up) (nat_lt last k) refl
@@ -106,7 +106,7 @@ filter_map f p (x ∷ xs) = go (p (f x)) (filter_map f p xs)
     go true more = ap (λ t. f x ∷ t) more
     go false more = more
 
--- the entries of a group behind a number are those of the group among the posts behind it
+-- the entries of a group after a number are those of the group among the posts after it
 entries_after : (last g : ℕ) (posts : List Post) → filter (λ (e : Entry). nat_lt last e.number) (index_of g posts) ≡ map entry (filter (in_group g) (enumerate_from (last + 1) (drop last posts)))
 entries_after last g posts =
     let one : (last + 1) - 1 ≡ last = omega arith in
@@ -124,7 +124,7 @@ sizes_first last g posts e =
     ap (map (λ (e : Entry). e.size)) (entries_after last g posts ∙ ap (map entry) (group_from g (last + 1) (drop last posts) (omega (arith, e))))
     ∙ sizes_are (last + 1) (take few (drop last posts)) ∙ sym (take-map bytes_of few (drop last posts))
 
--- and in the one behind it
+-- and in the one after it
 sizes_second : (last g : ℕ) (posts : List Post) → g ≡ (last + 1) / 100 + 1 → sizes_behind last (index_of g posts) ≡ take 100 (drop (100 * g - (last + 1)) (map bytes_of (drop last posts)))
 sizes_second last g posts e =
     let few = 100 * g - (last + 1) in
@@ -137,7 +137,7 @@ front_of_front (suc n) zero xs low = absurd (omega (arith, low))
 front_of_front (suc n) (suc m) [] low = refl
 front_of_front (suc n) (suc m) (x ∷ xs) low = ap (λ t. x ∷ t) (front_of_front n m xs (omega (arith, low)))
 
--- both tell of the first hundred
+-- both together have the first hundred
 pub sizes_of_both : (last g : ℕ) (posts : List Post) (sizes : List ℕ) → g ≡ (last + 1) / 100 → sizes ≡ sizes_behind last (index_of g posts) ++ sizes_behind last (index_of (g + 1) posts)
     → take 100 sizes ≡ take 100 (map bytes_of (drop last posts))
 sizes_of_both last g posts sizes e is =
@@ -177,7 +177,7 @@ moment_in_first last g posts e =
     ∙ ap head_moment (entries_after last g posts ∙ ap (map entry) (group_from g (last + 1) (drop last posts) (omega (arith, e)) ∙ ap (λ n. enumerate_from (last + 1) (take n (drop last posts))) some))
     ∙ head_is (last + 1) (few - 1) (drop last posts)
 
--- no post is in a group behind the last one
+-- no post is in a group after that of the last one
 none_in : (g k : ℕ) (posts : List Post) → k + length posts ≤ 100 * g → filter (in_group g) (enumerate_from k posts) ≡ []
 none_in g k [] le = refl
 none_in g k (p ∷ ps) le =

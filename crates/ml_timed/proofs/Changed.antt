@@ -47,7 +47,7 @@ use Rattle.ml_timed.proofs.Entries.{found_lowered, mail_ledger}
 abbrev pub is_key_file : Set → Text → Name → Bool
 is_key_file set k name = same_name name (key_file set k)
 
--- is none of the queue's
+-- it isn't the queue's
 file_beside : (set : Set) (k : Text) → has_ledger set ≡ true → is_of_queue (key_file set k) ≡ false
 file_beside sets.List k has = refl
 file_beside sets.Digest k has = refl
@@ -61,10 +61,6 @@ ids_beside sets.Digest k has = refl
 ids_beside sets.Allow k has = absurd (false≢true has)
 ids_beside sets.Deny k has = absurd (false≢true has)
 ids_beside sets.Moderators k has = absurd (false≢true has)
-
--- time changes it
-timed_kind : (kind : ℕ) → 15 ≤ kind → kind ≤ 18 → (leb 15 kind && leb kind 18) ≡ true
-timed_kind kind least most = and_from (leb 15 kind) (leb kind 18) (le-leb 15 kind least) (le-leb kind 18 most)
 
 pub file_timed : (set : Set) (k : Text) → has_ledger set ≡ true → (name : Name) → is_key_file set k name ≡ true → is_followed_up name ≡ true
 file_timed sets.List k has name e = ap (λ kind. leb 15 kind && leb kind 18) (entry_kind sets.List k name e)
@@ -109,7 +105,7 @@ draws_none old set k puts has only spelled = record {
   spelled = spelled;
 }
 
--- puts of the queue, and behind them those of such a file
+-- puts of the queue, and after them those of such a file
 module _ (dir : Dir) (set : Set) (k : Text) (txn more done : List Put) (has : has_ledger set ≡ true) (queue : touches_only is_of_queue txn ≡ true)
     (only : touches_only (is_key_file set k) more ≡ true) (joined : done ≡ txn ++ more) where
   laid_two : (old : Dir) → with_puts old done ≡ with_puts (with_puts old txn) more
@@ -149,7 +145,7 @@ same_key e a is = ap action_key (sym is) ∙ go e.stage refl
 at_stage : (e : LedgerEntry) (a : Action) (s : Stage) → e.stage ≡ s → action_of e ≡ a → action_at s e ≡ a
 at_stage e a s is same = ap (λ t. action_at t e) (sym is) ∙ same
 
--- whose entry is followed up by a warning
+-- an entry is followed up by a warning
 record IsWarned (e : LedgerEntry) (to : Text) (missed : List ℕ) : Type 0 where
   pub stage : e.stage ≡ Unwarned
   pub key_is : e.key ≡ to
@@ -200,7 +196,7 @@ module _ (dir : Dir) (p : Plain) (set : Set) (e : LedgerEntry) (has : has_ledger
   same_member : (to : Text) (m : Option Member) → e.key ≡ to → m ≡ member_of (key to) (p.sets set) → member_of e.key (p.sets set) ≡ m
   same_member to m e_is m_is = ap (λ k. member_of k (p.sets set)) (sym key_itself ∙ ap key e_is) ∙ sym m_is
 
-  -- where the key is no member's
+  -- if the key is no member's
   dropped_is : (to : Text) → e.key ≡ to → drop_entry set e p ≡ without_entry set to p
   dropped_is to e_is = ap (λ k. with_ledger_of set (forget k (ledger_of p set)) p) (sym key_itself ∙ ap key e_is)
 
@@ -214,7 +210,7 @@ module _ (dir : Dir) (p : Plain) (set : Set) (e : LedgerEntry) (has : has_ledger
       let w = probed_is e to same in
       ap (follow_at now set e p) w.stage ∙ ap (probe_member now set e p) (same_member to None w.key_is none) ∙ dropped_is to w.key_is
 
-  -- and where it is
+  -- and if it is
   warned_some : (now : ℕ) (to : Text) (missed : List ℕ) (m : Member) → action_of e ≡ Warn to missed → Some m ≡ member_of (key to) (p.sets set)
       → follow_up now p (set, e) ≡ change_entry now set e (bounce_mail (codes "warn") set m.who now (mails.Warn m.who set m.who missed) p)
   warned_some now to missed m same some =
@@ -240,7 +236,7 @@ module _ (dir : Dir) (p : Plain) (set : Set) (e : LedgerEntry) (has : has_ledger
   informed_some now (Probe t) to m same mailed is some = probed_some now t m same (some ∙ ap (λ (w : Text). member_of (key w) (p.sets set)) (sym is))
   informed_some now (Lapse t) to m same mailed is some = absurd (false≢true mailed)
 
--- the mail to a member, of a path, a body and a recipient that are its
+-- the mail to a member, by its path, its body and its recipient
 pub told : (dir : Dir) (c : Config) (kind : Text) (set : Set) (who : Text) (now : ℕ) (mail : Mail) (p : Plain) (way : Path) (k body : Text) (to : List Text) → way ≡ bounce_path p kind set k now → k ≡ key who
     → body ≡ mail_text c mail now → to ≡ who ∷ [] → p.config ≡ c → IsList dir (send way body to p) → IsList dir (bounce_mail kind set who now mail p)
 told dir c kind set who now mail p way k body to way_is k_is body_is to_is same is =

@@ -1,4 +1,4 @@
--- An entry above the number of posts: in the last one's group alone, and in no archive.
+-- An entry above the number of posts is only in the group of the last one, and never in an archive.
 use Rattle.std.proofs.Common.{◌≡◌, ◌∙◌, ◌+◌, ◌-◌, ◌*◌, ◌/◌, ◌<◌, ◌≤◌, inl, inr, ⊎_elim, max, ℕ, suc, Bool, true, false, cond, nat_lt, ◌||◌, Option, List, [], ◌∷◌, length, map, drop, get_or, refl, sym, ap, ap₂, subst, arith}
 use Rattle.std.proofs.lemmas.Bool.{false≢true, leb-true, lt-leb, or_cases}
 use Rattle.std.specs.List.{enumerate_from, filter, range_with_len}
@@ -20,7 +20,7 @@ use Rattle.ml_acts.specs.Damaged as damage
 use Rattle.ml_timed.specs.Digesting.{AgreesIfRead}
 use Rattle.ml_timed.proofs.Behind.{in_group}
 
--- entries of numbers from one on, one of which is above another number: they go beyond it
+-- if one of the entries from a number on is above another number, they go beyond that
 goes_beyond : (n k : ℕ) (es : List Entry) → map (λ (e : Entry). e.number) es ≡ range_with_len k (length es) → has_above n es ≡ true → n + 1 < k + length es
 goes_beyond n k [] numbers above = absurd (false≢true above)
 goes_beyond n k (e ∷ es) numbers above =
@@ -77,7 +77,7 @@ module _ (dir : Dir) (g count : ℕ) (es : List Entry) (low : g ≤ count / 100)
   pub small_damaged : IsDamaged dir number_name
   small_damaged = damage.append (inl (refl, inr (count, counted, other))) (λ prefix posts is. no_posts posts is.filed)
 
--- where no entry of its group is above it, it isn't
+-- if no entry of its group is above it, it isn't
 pub none_small : (dir : Dir) (g count : ℕ) (es : List Entry) → IsNumberFile (dir number_name) count → IsIndexFile g (dir (index_name g)) es → has_above count es ≡ false → g ≡ count / 100 → ¬ IsTooSmall dir
 none_small dir g count es counted index none last (n, other, fs, there, above) =
     let same = count_one (dir number_name) n count other counted in
@@ -94,7 +94,7 @@ agrees_by dir mark count marked counted agrees m n is other some near =
     let last = ap (λ (k : Mark). k.last) one in
     agrees (omega (arith, some, last, same)) (omega (arith, near, last, same))
 
--- of files of which these are the same
+-- the same on other files in which these are the same
 pub agrees_same : (dir later : Dir) → later mark_name ≡ dir mark_name → later number_name ≡ dir number_name → ((g : ℕ) → later (index_name g) ≡ dir (index_name g)) → AgreesIfRead later → AgreesIfRead dir
 agrees_same dir later mark number index agrees m n is counted some near small =
     agrees m n (record { last = is.last; issue = is.issue; text = mark ∙ is.text }) (subst (λ (f : Option Text). IsNumberFile f n) (sym number) counted) some near

@@ -100,7 +100,7 @@ module _ (k : Text) (e : LedgerEntry) (apart : eq_by_cmp byte_cmp k e.key ≡ fa
     followed_else : (p : Plain) → find_entry k (ledger_of (follow_up now p (set, e)) set) ≡ find_entry k (ledger_of p set)
     followed_else p = followed_at p e.stage
 
--- the entries behind the one that is followed up are there still
+-- the entries after the one that is followed up are still there
 pub behind_in : (now : ℕ) (set : Set) → has_ledger set ≡ true → (p : Plain) (e : LedgerEntry) (es : Ledger) → AreIn (ledger_of p set) (e ∷ es) → AreIn (ledger_of (follow_up now p (set, e)) set) es
 behind_in now set has p e es are =
     let parts = and_parts (list_all (λ f. is_lt (byte_cmp e.key f.key)) es) (is_sorted byte_cmp (λ f. f.key) es) are.sorted in

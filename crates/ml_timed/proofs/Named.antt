@@ -1,4 +1,4 @@
--- Which files are named as damaged where bounces are followed up.
+-- Which files are named as damaged when bounces are followed up.
 use Rattle.std.proofs.Common.{◌≡◌, ◌<◌, true, false, eqb, ltb, ◌||◌, Result, IfErr, IsTrue, refl, sym, subst, arith}
 use Rattle.std.proofs.lemmas.Bool.{and_parts, and_from, eq-eqb, eqb-true, lt-ltb, or_left, or_right}
 use Rattle.std.proofs.lemmas.Nat.{mod_below}

@@ -1,4 +1,4 @@
--- The posts of a digest, one behind the other, and which files tell of them.
+-- The posts of a digest, one after another, and which files are read for them.
 use Rattle.std.proofs.Common.{◌≡◌, inl, inr, ⊎_elim, ◌≤◌, ◌+◌, ◌-◌, ◌/◌, ℕ, zero, suc, true, List, [], ◌∷◌, ◌++◌, map, take, drop, Option, Some, None, refl, sym, ap, ap₂, ◌∙◌, subst, arith}
 use Rattle.std.specs.Prelude.{slice_get}
 use Rattle.std.proofs.lemmas.Bool.{or_right}
@@ -37,7 +37,7 @@ taken_more zero (suc i) (y ∷ ys) x e = let z : suc i ≡ 0 + suc i = omega ari
 taken_more (suc k) i [] x e = absurd (let bad : ◌≡◌ {A = Option _} None (Some x) = e in cc)
 taken_more (suc k) i (y ∷ ys) x e = let z : suc (k + i) ≡ suc k + i = omega arith in taken_more k i ys x (ap (slice_get (y ∷ ys)) z ∙ e)
 
--- one post more
+-- one more post
 pub one_more : (posts : List Post) (first number : ℕ) (row new : List DigestPost) (found : DigestPost) → 1 ≤ first → first ≤ number → row ≡ map digest_post (take (number - first) (drop (first - 1) posts))
     → ((post : Post) × (post_at posts number ≡ Some post) × (found ≡ digest_post post)) → new ≡ row ++ found ∷ [] → new ≡ map digest_post (take ((number + 1) - first) (drop (first - 1) posts))
 one_more posts first zero row new found low up before is e = absurd (omega (arith, low, up))

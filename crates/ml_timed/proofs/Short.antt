@@ -20,7 +20,7 @@ pub index_short : (dir : Dir) (g : ℕ) (es : List Entry) → IsIndexByFiles dir
 index_short dir g es (inl (less, file)) = entries_short es file.each
 index_short dir g es (inr (far, e)) = ap are_short e
 
--- of two rows, of a front, and of the entries behind a number
+-- of two rows, of a front, and of the entries after a number
 pub short_joined : (a b : List ℕ) → list_all is_short a ≡ true → list_all is_short b ≡ true → list_all is_short (a ++ b) ≡ true
 short_joined [] b e f = f
 short_joined (x ∷ a) b e f = let parts = and_parts (is_short x) (list_all is_short a) e in and_from (is_short x) (list_all is_short (a ++ b)) parts.0 (short_joined a b parts.1 f)

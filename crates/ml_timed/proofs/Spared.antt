@@ -1,4 +1,4 @@
--- No file is damaged that a timed run looks at, on a directory that has the files that a list has there.
+-- No file that a timed run looks at is damaged in a directory that has, of these files, those that a list has.
 use Rattle.std.proofs.Common.{◌≡◌, ◌⊎◌, inl, inr, ◌==◌, ◌&&◌, ◌||◌, ◌≤◌, ◌/◌, ℕ, Bool, true, List, [], length, Option, refl, sym, ap, ◌∙◌, subst, arith}
 use Rattle.std.specs.Prelude.{nat_lt}
 use Rattle.std.proofs.lemmas.Bool.{and_from, and_parts, eqb-true, ltb-true, or_cases}
@@ -100,7 +100,7 @@ module _ (dir : Dir) (name : Name) (held : name.kind ≡ 13) where
   held_breaks (damage.append (inr (inl bad)) empty) = no_index bad.0 bad.2
   held_breaks (damage.append (inr (inr bad)) empty) = no_threads bad.0 bad.2
 
--- of an archive none is damaged for the posts in no digest
+-- none of an archive's files is damaged for the posts in no digest
 module _ (dir : Dir) (posts : List Post) (are : ArePosts dir posts) where
   counts : (count : ℕ) → IsNumberFile (dir number_name) count → count ≡ length posts
   counts count file = counted_is dir posts are count file

@@ -1,4 +1,4 @@
--- What is due in both ledgers, followed up.
+-- What is due in both ledgers is followed up.
 use Rattle.std.proofs.Common.{◌≡◌, ◌≤◌, ◌-◌, ℕ, List, [], ◌∷◌, ◌++◌, map, take, fold, length, zero, suc, refl, sym, ap, ap₂, ◌∙◌, subst, arith}
 use Rattle.std.proofs.lemmas.List.Sums.{fold-append}
 use Rattle.ml_base.specs.Dir.{Dir}
@@ -23,7 +23,7 @@ take_short zero xs = omega arith
 take_short (suc n) [] = omega arith
 take_short (suc n) (x ∷ xs) = omega (arith, take_short n xs)
 
--- so many are due at most
+-- at most so many are due
 pub few_due : (now max : ℕ) (ledger : Ledger) (actions : List Action) → actions ≡ first_due now max ledger → length actions ≤ max
 few_due now max ledger actions is = omega (arith, ap length is, map_length action_of (take max (due_entries now ledger)), take_short max (due_entries now ledger))
 
@@ -59,7 +59,7 @@ module _ (now max left : ℕ) (p : Plain) (list digest : List Action) (list_is :
   pub in_two : fold (follow_up now) p (take max (due_of now sets.List p ++ due_of now sets.Digest p)) ≡ fold (follow_up now) halfway (of_set sets.Digest digest_due)
   in_two = ap (fold (follow_up now) p) all_due ∙ fold-append (follow_up now) p (of_set sets.List list_due) (of_set sets.Digest digest_due)
 
-  -- where nothing is due
+  -- if nothing is due
   pub in_none : list ≡ [] → digest ≡ [] → fold (follow_up now) p (take max (due_of now sets.List p ++ due_of now sets.Digest p)) ≡ p
   in_none no_list no_digest =
       ap (fold (follow_up now) p) all_due

@@ -1,4 +1,4 @@
--- Which damaged files are those of posts in no digest.
+-- Which damaged files are damaged for the posts in no digest.
 use Rattle.std.proofs.Common.{◌≡◌, ◌≤◌, ◌+◌, ◌*◌, ◌/◌, ◌==◌, nat_lt, ◌∙◌, inl, inr, ⊎_elim, ℕ, true, false, ◌||◌, refl, sym, ap, subst, arith}
 use Rattle.std.proofs.lemmas.Bool.{and_parts, or_cases}
 use Rattle.ml_base.specs.Dir.{Dir, same_name}
@@ -42,7 +42,7 @@ within_more dir n a b name low high bad = record {
       (own.0, omega (arith, low, from), omega (arith, to, high), own.3);
 }
 
--- where the posts are those behind the mark
+-- if the posts are those after the mark
 pub within_undigested : (dir : Dir) (mark : Mark) (count a b : ℕ) (name : Name) → IsMark dir mark → IsNumberFile (dir number_name) count → mark.last + 1 ≤ a → b ≤ count → IsDamagedWithin dir a b name → IsDamagedOf dir Undigested name
 within_undigested dir mark count a b name is counted from to bad = record {
   damaged = bad.damaged;
@@ -60,7 +60,7 @@ behind_undigested dir mark count name is counted bad = record {
   own = λ of. ⊎_elim (λ within. inr (mark, is, count, counted, within)) (λ small. inl (small.0, inr small.1)) (bad.own of);
 }
 
--- what the other parts of a run read is none of the archive
+-- what the other parts of a run read isn't of the archive
 module _ (name : Name) where
   pub issue_other : is_of_issue name ≡ true → is_of_archive name ≡ true → ⊥
   issue_other e of = ⊎_elim (λ a. buckets_other name sets.Digest a of) (λ b. ids_other name b of) (or_cases (is_bucket sets.Digest name) (same_name name ids_name) e)

@@ -1,4 +1,4 @@
--- What lies ahead while entries are followed up, one behind the other.
+-- What is still to be done while entries are followed up, one after another.
 use Rattle.std.specs.Prelude.{◌≡◌, ◌≤◌, ◌+◌, ℕ, true, List, map, Some}
 use Rattle.std.specs.List.{AllByRecursion}
 use Rattle.ml_base.specs.Dir.{Dir}

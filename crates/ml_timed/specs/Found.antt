@@ -14,11 +14,11 @@ use Rattle.ml_timed.specs.Giving.{is_given}
 abbrev pub is_followed_up : Name → Bool
 is_followed_up name = nat_le bounces_kind name.kind && nat_le name.kind ids_kind
 
--- An issue: the mark is put, and one entry of the queue to exactly the addresses that the 53 buckets of the digest set spell.
+-- An issue: the mark is put, and one entry of the queue, whose recipients are exactly the addresses that the 53 buckets of the digest set spell.
 abbrev pub FoundToIssue : Dir → List Put → Type 0
 FoundToIssue dir puts = (mark : Mark) × AddsMailToSet dir sets.Digest (mark_put mark ∷ []) puts
 
--- there is none, or an issue
+-- there is no issue, or one
 abbrev pub FoundToDigest : Dir → List Put → Type 0
 FoundToDigest dir puts = (puts ≡ []) ⊎ FoundToIssue dir puts
 
@@ -28,8 +28,8 @@ pub record FoundInLayer (dir : Dir) (old new : List Put) : Type 0 where
   pub is : new ≡ old ++ digest
   pub made : FoundToDigest (with_puts dir old) digest
 
--- The puts that a run lays over others: posts go back, a digest is made over what that left, and bounces are followed up. The first and the last
--- put no mark, so a mark is put only with an issue.
+-- The puts that a run lays over others: posts go back, a digest is made on what that left, and bounces are followed up. The first and the
+-- last part put no mark, so a mark is put only with an issue.
 pub record FoundInRun (dir : Dir) (old new : List Put) : Type 0 where
   pub before : List Put
   pub digest : List Put

@@ -1,4 +1,4 @@
--- A held post goes back.
+-- What is answered when a held post goes back to its sender.
 use Rattle.std.specs.Prelude.{◌≡◌, ◌<◌, ℕ, Bool, ◌||◌, length, List, [], Option, Some, None}
 use Rattle.ml_base.specs.Dir.{Dir, with_puts}
 use Rattle.ml_base.specs.declared.names.Name.{Name}
@@ -10,8 +10,8 @@ use Rattle.ml_plain.specs.Plain.{Plain}
 use Rattle.ml_plain.specs.Timing.{give_back}
 use Rattle.ml_acts.specs.Doing.{is_of_queue}
 
--- What giving back the post of a ticket answers where there is room for so many bytes: how many its message has, and puts by which the files
--- stand for the list that gave it back. None where it has more bytes, or isn't there.
+-- What giving back the post of a ticket answers if there is room for so many bytes: how many its message has, and puts by which the files
+-- stand for the list that gave it back. None if it has more bytes, or isn't there.
 abbrev pub GivesBack : Dir → ℕ → ℕ → ℕ → Plain → Option (ℕ × List Put) → Type 0
 GivesBack dir now ticket room p None = (held : Held) → held_post ticket p.held ≡ Some held → room < length held.message
 GivesBack dir now ticket room p (Some r) =

@@ -1,4 +1,4 @@
--- Which files a timed run may read.
+-- Which files a timed run may read, and which it looks at.
 use Rattle.std.specs.Prelude.{Bool, ◌&&◌, ◌||◌, ◌==◌, nat_lt}
 use Rattle.ml_base.specs.Dir.{same_name}
 use Rattle.ml_base.specs.Kinds.{post_kind}
@@ -18,7 +18,7 @@ use Rattle.ml_acts.specs.Doing.{is_bucket, is_held_post, is_index}
 abbrev pub is_waiting : Name → Bool
 is_waiting name = is_held_post name || same_name name tickets_name
 
--- what giving posts back reads: the counter of ids beside them
+-- what giving posts back reads: these, and the counter of ids
 abbrev pub is_of_giving_back : Name → Bool
 is_of_giving_back name = is_waiting name || same_name name ids_name
 
@@ -34,7 +34,7 @@ is_of_posts_told name = same_name name number_name || is_index name
 abbrev pub is_post_file : Name → Bool
 is_post_file name = name.kind == post_kind && is_post_number name.at
 
--- The number of posts, their indexes, and the posts. Where a post's file isn't as its index tells, the index is named, and never the post.
+-- The number of posts, their indexes, and the posts. If a post's file isn't as its index says, the index is named, and never the post.
 abbrev pub is_of_posts_seen : Name → Bool
 is_of_posts_seen name = is_of_posts_told name || is_post_file name
 
@@ -62,7 +62,7 @@ is_followed_by set name = is_ledger set name || is_bucket set name || same_name 
 abbrev pub is_of_following : Name → Bool
 is_of_following name = same_name name key_name || is_followed_by sets.List name || is_followed_by sets.Digest name
 
--- what a timed run reads, of a list with digests or without: what making a digest reads only where there are digests
+-- what a timed run reads, of a list with digests or without: only on a list with digests what making one reads
 abbrev pub is_of_timed : Bool → Name → Bool
 is_of_timed digests name = is_of_giving_back name || (digests && is_of_digesting name) || is_of_following name
 

@@ -1,4 +1,4 @@
--- The mail that a member gets of what is due for his entry.
+-- The mail that a member gets when his entry in a ledger is due.
 use Rattle.std.specs.Prelude.{Bool, true, false, codes}
 use Rattle.ml_base.specs.Bytes.{Text}
 use Rattle.ml_base.specs.declared.names.Set.{Set}
@@ -7,13 +7,13 @@ use Rattle.ml_bounce.specs.declared.actions.Action.TheVariants.{Warn, Probe, Lap
 use Rattle.ml_reply.specs.declared.mails.Mail.{Mail}
 use Rattle.ml_reply.specs.declared.mails.Mail.TheVariants as mails
 
--- an action of which the member gets a mail
+-- an action by which the member gets a mail
 abbrev pub is_mailed : Action → Bool
 is_mailed (Warn to missed) = true
 is_mailed (Probe to) = true
 is_mailed (Lapse to) = false
 
--- a warning of the numbers that he missed, or a probe
+-- a warning with the numbers that he missed, or a probe
 abbrev pub mail_for : Set → Action → Text → Mail
 mail_for set (Warn to missed) who = mails.Warn who set who missed
 mail_for set _ who = mails.Probe who set who

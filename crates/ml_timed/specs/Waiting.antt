@@ -1,10 +1,10 @@
--- Posts that are in no digest yet, as indexes tell of them.
+-- Posts that are in no digest yet, by the entries of the indexes.
 use Rattle.std.specs.Prelude.{ℕ, Bool, nat_lt, List, map, filter, find}
 use Rattle.std.specs.List.{list_all}
 use Rattle.std.specs.Option.{option_map_or}
 use Rattle.ml_filing.specs.declared.posts.Entry.{Entry}
 
--- the sizes of the posts behind a number
+-- the sizes of the posts after a number
 abbrev pub sizes_behind : ℕ → List Entry → List ℕ
 sizes_behind last entries = map (λ e. e.size) (filter (λ e. nat_lt last e.number) entries)
 

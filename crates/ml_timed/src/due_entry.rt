@@ -1,4 +1,4 @@
-// What follows for one due entry.
+// What is done about one due entry of a ledger.
 ghost use Rattle.std.specs.Prelude.{◌≡◌, true, Some, IsTrue, IfOk};
 ghost use Rattle.ml_base.specs.Address.{key};
 ghost use Rattle.ml_base.specs.Dir.{Dir, are_files, touches_only, with_puts};
@@ -24,7 +24,7 @@ use ml_config::{Config, Keys};
 use ml_subs::find;
 use std::alloc::Global;
 
-// The puts of what follows for the entry of an action.
+// The puts of what an action does about its entry.
 pub(crate) fn follow_up<F: Files>(
     alloc: Global,
     files: &mut F,
@@ -50,7 +50,7 @@ pub(crate) fn follow_up<F: Files>(
     }
 }
 
-// A member gets the mail of an action that is no lapse; where the address is no member's, its entry goes.
+// A member gets the mail of an action that isn't a lapse; if the address is no member's, its entry goes.
 fn inform<F: Files>(
     alloc: Global,
     files: &mut F,
@@ -90,7 +90,7 @@ fn inform<F: Files>(
     change(alloc, files, set, action, now, txn)
 }
 
-// These puts of the queue, and behind them what becomes of the entry of an action.
+// These puts of the queue, and after them those that change the entry of an action.
 fn change<F: Files>(
     alloc: Global,
     files: &mut F,
@@ -115,7 +115,7 @@ fn change<F: Files>(
     Ok(txn)
 }
 
-// The puts by which the entry of an address that is no member goes.
+// The puts that remove the entry of an address that is no member's.
 fn drop_entry<F: Files>(
     alloc: Global,
     files: &mut F,

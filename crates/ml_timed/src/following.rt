@@ -1,4 +1,4 @@
-// Bounces are followed up.
+// Following bounces up: what is done about the due entries of both ledgers.
 ghost use Rattle.std.specs.Prelude.{◌≡◌, ◌+◌, ℕ, true, fold, length, Some, IsTrue, IfOk, OnErr};
 ghost use Rattle.ml_base.specs.Dir.{Dir, with_puts};
 ghost use Rattle.ml_base.specs.Layers.{files_below, puts_over};
@@ -25,16 +25,16 @@ use ml_bounce::{Action, due};
 use ml_config::{Config, Keys, key};
 use std::alloc::Global;
 
-// How many due entries a timed run follows up.
+// How many due entries a timed run follows up at most.
 const MOST_DUE: u64 = 1000;
 
-// Follows up what is due in the ledgers of the sets list and digest, at most 1,000 entries, over the puts that lie over the files,
-// and lays what it does over them: members are warned or probed, stages lapse, entries whose address is no member go. `now` is in
+// Follows up what is due in the ledgers of the sets list and digest, at most 1,000 entries, over the files with the puts that are laid over
+// them, and lays what it does over these: members are warned or probed, stages lapse, entries whose address is no member's go. `now` is in
 // seconds since 1970.
 //
-// Entries go in ascending order of key, those of the list before those of the digest; what is due is found before anything is done.
-// It reads both ledgers, and where something is due the keys, the counter of ids, and the bucket of each member who is warned or
-// probed. After an error what was done for the entries before it lies over the files.
+// Entries are taken in ascending order of key, those of list before those of digest; what is due is found before anything is done.
+// It reads both ledgers and, if something is due, the keys, the counter of ids, and the bucket of every member who is warned or
+// probed. After an error, what was done for the entries before it stays laid over the files.
 pub(crate) fn follow_all_up<F: Files>(
     alloc: Global,
     files: &mut Layer<F>,
@@ -68,7 +68,7 @@ pub(crate) fn follow_all_up<F: Files>(
     )
 }
 
-// Follows up the entries of these actions, one behind the other.
+// Follows up the entries of these actions, one after another.
 fn follow_each<F: Files>(
     alloc: Global,
     files: &mut Layer<F>,
@@ -95,7 +95,7 @@ fn follow_each<F: Files>(
     Ok(())
 }
 
-// Follows up the entry of an action, over the puts that lie over the files. An error changes nothing.
+// Follows up the entry of an action, over the files with the puts that are laid over them. An error changes nothing.
 fn follow_one<F: Files>(
     alloc: Global,
     files: &mut Layer<F>,

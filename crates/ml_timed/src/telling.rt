@@ -1,4 +1,4 @@
-// Members are warned and probed, each by one entry of the queue.
+// The mails by which members are warned and probed, each of which is one entry of the queue.
 ghost use Rattle.std.specs.Prelude.{◌≡◌, ◌∷◌, [], true, IsTrue, IfOk};
 ghost use Rattle.ml_base.specs.Address.{key};
 ghost use Rattle.ml_base.specs.Dir.{Dir, are_files, same_name, touches_only, with_puts};
@@ -19,7 +19,7 @@ use ml_config::{Config, Keys};
 use ml_reply::Mail;
 use std::alloc::{AllocError, Global};
 
-// The mail that a member gets of an action: a warning of the numbers that he missed, or a probe.
+// The mail that a member gets by an action: a warning with the numbers that he missed, or a probe.
 pub(crate) fn mail_for(
     alloc: Global,
     set: Set,

@@ -1,4 +1,4 @@
-// The posts that are in no digest yet, as the indexes tell of them.
+// The posts that are in no digest yet, by the entries of the indexes.
 ghost use Rattle.std.specs.Option.{option_copied};
 ghost use Rattle.std.specs.Prelude.{◌≡◌, find, nat_lt, ◌<◌, ◌≤◌, ◌+◌, ◌/◌, ◌++◌, true, take, drop, map, length, IsTrue, IfOk, OnOk};
 ghost use Rattle.ml_base.specs.Dir.{Dir};
@@ -21,16 +21,16 @@ use ml_base::{Files, LONGEST_POST, Name, Numbers, PartError};
 use ml_filing::{Entries, Entry, index};
 use std::alloc::{AllocError, Global};
 
-// The posts that are in no digest yet, as far as one may take them.
+// The posts that are in no digest yet, as far as one digest may take them.
 #[derive(Drop)]
 pub(crate) struct Undigested {
-    // Their sizes in bytes, of the first 100 at least.
+    // Their sizes in bytes, at least of the first 100.
     pub(crate) sizes: Numbers,
     // When the first of them was posted, in seconds since 1970.
     pub(crate) oldest: u64,
 }
 
-// The posts behind the last one that is in a digest, of so many. It reads one index, or two.
+// The posts after the last one that is in a digest. `count` is the number of posts. It reads one index, or two.
 pub(crate) fn posts_behind<F: Files>(
     alloc: Global,
     files: &mut F,
@@ -59,8 +59,8 @@ pub(crate) fn posts_behind<F: Files>(
     })
 }
 
-// The index of a group, of so many posts. It reads none behind the group of the last one. Where it has an entry above their number, that is
-// too small.
+// The index of a group. `count` is the number of posts. For a group after that of the last post it reads nothing, and answers none. If the
+// index has an entry above `count`, the number of posts is too small, and its file is damaged.
 fn group_of<F: Files>(
     alloc: Global,
     files: &mut F,
@@ -88,7 +88,7 @@ fn group_of<F: Files>(
     Ok(entries)
 }
 
-// Whether each entry has a size that a post may have.
+// Whether every entry has a size that a post may have.
 fn are_short(entries: &[Entry]) -> bool
     ensures { result ≡ waiting.are_short entries.now }
 {
@@ -102,7 +102,7 @@ fn has_above(entries: &[Entry], number: u64) -> bool
     entries.iter().any(|entry| entry.number > number)
 }
 
-// Adds the sizes of the posts of an index behind a number.
+// Adds the sizes of the posts of an index after a number.
 fn add_sizes(sizes: &mut Numbers, entries: &[Entry], last: u64) -> Result<(), AllocError>
     ensures { OnOk result (sizes.new ≡ sizes.old ++ sizes_behind last entries.now) }
 {
@@ -114,7 +114,7 @@ fn add_sizes(sizes: &mut Numbers, entries: &[Entry], last: u64) -> Result<(), Al
     Ok(())
 }
 
-// When the first post of an index behind a number was posted.
+// When the first post of an index after a number was posted.
 fn oldest(entries: &[Entry], last: u64) -> u64
     ensures { result ≡ moment_behind last entries.now }
 {
@@ -124,7 +124,7 @@ fn oldest(entries: &[Entry], last: u64) -> u64
     }
 }
 
-// The first entry of an index behind a number.
+// The first entry of an index after a number.
 fn first_behind(entries: &[Entry], last: u64) -> Option<&Entry>
     ensures { option_copied result ≡ find (λ e. nat_lt last e.number) entries.now }
 {

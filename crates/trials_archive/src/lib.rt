@@ -1,4 +1,4 @@
-//! Tests of the public calls on messages' subjects, on the archive, on its audit and on its pages, as rows.
+//! Tests of the public calls on messages' subjects, on the archive, its audit and its pages, as tables.
 #![tactic(auto)]
 
 #[cfg(test)]

@@ -1,4 +1,4 @@
-// Posts that are appended, the files that stand for them, and what is answered of them.
+// Posts that are appended, the files that stand for them, and what is answered about them.
 pub(crate) const TABLE: &str = r"
 let hello Subject: hello\n\nhi\n
 let answer Subject: Re: [list] Hello\n\nhi\n

@@ -1,7 +1,7 @@
 // The calls of the tables, as words over the files of an archive. Of posts: `count`, `post NUMBER`, `index GROUP`, `range FIRST LAST`, `thread
-// PREFIX NUMBER`, `append PREFIX TIMES` and `audit PREFIX`. Of pages: `months`, `listing`, `month YEAR MONTH PAGE` and `page FIRST PAGE`, that of
-// the thread that begins with this post. Of the input: `key PREFIX`, `subject` and `escape`. And `indexes COUNT`, which makes the indexes
-// of so many posts, whose entries are all the input. The number `last` is the greatest that there is.
+// PREFIX NUMBER`, `append PREFIX TIMES` and `audit PREFIX`. Of pages: `months`, `listing`, `month YEAR MONTH PAGE` and `page FIRST PAGE`, a page
+// of the thread that begins with post FIRST. Of the input: `key PREFIX`, `subject` and `escape`. And `indexes COUNT`, which makes the indexes
+// of COUNT posts, whose entries are all the input. The number `last` is the greatest that there is.
 use crate::{audits, damage, pages, posts, subjects};
 use ml_archive::audit;
 use ml_base::{Address, Bytes, Layer, Name, PartError, Txn, is_moment, read_number};
@@ -39,7 +39,7 @@ fn number(words: &[String], at: usize) -> u64 {
     }
 }
 
-// A line for each number.
+// A line for every number.
 fn lines(alloc: Global, numbers: &[u64]) -> Answer {
     let mut out = Bytes::new(alloc);
     for number in numbers {
@@ -65,7 +65,7 @@ fn posted(alloc: Global, archive: &mut Archive, number: u64) -> Answer {
     Ok(Some(out))
 }
 
-// A line for each entry of a group: its number, size, moment, sender and subject.
+// A line for every entry of a group: its number, size, moment, sender and subject.
 fn indexed(alloc: Global, archive: &mut Archive, group: u64) -> Answer {
     let mut out = Bytes::new(alloc);
     for entry in index(alloc, archive, group)?.as_slice() {
@@ -79,7 +79,7 @@ fn indexed(alloc: Global, archive: &mut Archive, group: u64) -> Answer {
     Ok(Some(out))
 }
 
-// Appends posts of `g@h`, so many times the texts of the input, which have a NUL between two. The answer is the last number, or `full`.
+// Appends posts of `g@h`: the texts of the input, with a NUL between two, TIMES times over. The answer is the last number, or `full`.
 fn appended(
     alloc: Global,
     archive: &mut Archive,
@@ -112,7 +112,7 @@ fn appended(
 const CONFIG: &[u8] =
     b"flags BDFGHJKLMpRSTU\nlocal list\nhost ex.org\nowner o@own.org\nprefix [l]\nmax 1048576\n";
 
-// The list of months, that of months and threads, or a page; `-` if the page isn't there.
+// The list of months, that of months and threads, or a page; `-` if there is no such page.
 fn paged(alloc: Global, archive: &mut Archive, verb: &str, words: &[String]) -> Answer {
     let Some(config) = read_config(alloc, CONFIG)? else {
         return Ok(None);
@@ -139,7 +139,7 @@ fn paged(alloc: Global, archive: &mut Archive, verb: &str, words: &[String]) -> 
     }
 }
 
-// Of a text: its key with a prefix, followed by the key of that key if it is another one; the subject of a message; or how HTML has it.
+// Of a text: its key with a prefix, and then the key of that key if it is a different one; the subject of a message; or its HTML.
 fn of_text(
     alloc: Global,
     verb: &str,

@@ -1,4 +1,4 @@
-// Subjects and their keys, and texts as HTML has them, written by hand.
+// Subjects and their keys, and texts in HTML, written by hand.
 pub(crate) const TABLE: &str = r"
 # Keys of subjects, the same again.
 input hello | run key '' => 0 hello

@@ -1,5 +1,5 @@
-// A damaged file of each kind, and the answer to an item of each letter: the file is named under the item's number, and the list stays as it
-// was; an item that doesn't read it is done.
+// A damaged file of every kind, and the answer to an item of every letter. If the item reads the file, it is named under the item's number and
+// the list stays as it was; otherwise the item is done.
 use crate::program::Whole;
 use std::test::Fail;
 use trials_scripts::hold;

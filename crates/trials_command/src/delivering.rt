@@ -1,4 +1,4 @@
-// Mail that commands take in and give out.
+// Commands that take in mail, and commands that give mail out.
 use crate::program::Whole;
 use std::test::Fail;
 use trials_scripts::hold;

@@ -1,4 +1,4 @@
-// Sets divided by the rules of the input, and the streams that move their parts.
+// Sets divided by the rules in the input, and the streams that move their parts.
 use crate::program::Whole;
 use std::test::Fail;
 use trials_scripts::hold;
@@ -70,7 +70,7 @@ fn a_set_is_divided_by_the_input_s_rules(rt: HostRuntime) -> Result<(), Fail> {
     hold::<Whole>(rt.alloc(), "sets divided", PARTS)
 }
 
-// Each call fails in turn: the store is opened by two, the configuration is read by one and the set by 53, and the last gives the text.
+// Every call fails in turn: the store is opened by two, the configuration is read by one and the set by 53, and the last gives the text.
 const FAILING: &str = r"
 let key 000102030405060708090a0b0c0d0e0f101112131415161718191a1b1c1d1e1f
 let three A1:1,10:1000000000,4:list,3:a@b,A1:2,10:1000000000,4:list,3:c@d,A1:3,10:1000000000,4:list,3:e@f,

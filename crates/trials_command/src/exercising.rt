@@ -1,4 +1,4 @@
-// An exercise: items that are made from a count, and a look at the list after them.
+// Exercises, and what is found in the list after them.
 use crate::program::Whole;
 use std::test::Fail;
 use trials_scripts::hold;
@@ -83,7 +83,7 @@ fn a_long_exercise_ends_with_a_whole_list(rt: HostRuntime) -> Result<(), Fail> {
     hold::<Whole>(rt.alloc(), "long exercises", LONG)
 }
 
-// Each call of the last reading fails in turn, on a new list. Before it 24 calls find the configuration, run the item, and close the store; the
+// Every call of the last reading fails in turn, on a new list. Before it 24 calls find the configuration, run the item, and close the store; the
 // 25th gives the line of the items. The list is opened again by 2, and the configuration and the key are read by 2. Each set has 53 buckets and
 // a count: 270. The archive is its number, 256 thread files, and the number again: 258. Then the mark, twice the tickets, 106 files of ledgers,
 // twice the next id, and the floor: 112. The 265 buckets are read again for their sizes, and the last call gives the line.

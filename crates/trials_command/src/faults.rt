@@ -1,4 +1,4 @@
-// Commands in which each call fails in turn, and which are then given again: they are done once.
+// Commands in which every call fails in turn, and which are then given again: they are done once.
 use crate::program::Whole;
 use std::test::Fail;
 use trials_scripts::hold;

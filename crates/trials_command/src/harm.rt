@@ -1,11 +1,11 @@
-// A file of each kind damaged, and an item of each letter: one that reads it is refused and changes nothing, and every other is answered
-// as on the sound list and leaves what it leaves there.
+// A file of every kind is damaged, and an item of every letter comes. An item that reads the file is refused and changes nothing; any other is
+// answered as on the sound list and changes what it changes there.
 use crate::program::Whole;
 use std::alloc::Global;
 use std::test::Fail;
 use trials_scripts::hold;
 
-// The list: a post, a held one, an entry of the queue, and somebody in each ledger who was warned a hundred seconds ago.
+// The list: a post, a held one, an entry of the queue, and in each ledger one member who was warned a hundred seconds ago.
 const LIST: &str = r"
 let key 000102030405060708090a0b0c0d0e0f101112131415161718191a1b1c1d1e1f
 let message 45:From: a@b\nTo: list@ex.org\nSubject: hello\n\nhi\n,
@@ -35,7 +35,7 @@ list run make -d --key {key} list ex.org o@own.org => 0 made list@ex.org\n | inp
 run check => 0 ok 1 3 1 0 0 0 1 1\n | same
 ";
 
-// Each file that is damaged, the bytes that it gets, and what an item that reads it says of it.
+// Each damaged file, the bytes that it gets, and what an item that reads it says of it.
 const DAMAGED: &str = r"log \x01x => - 75 log
 config x => - 75 config
 key x => 30 75 key
@@ -71,7 +71,7 @@ archive/threads/161 x => 30 75 archive/threads/161
 floor x => 30 75 floor
 ";
 
-// The items: which of these files each reads, and in the next line its answer and what it changes on the sound list.
+// The items: which of these files an item reads, and in the next line its answer and what it changes on the sound list.
 const ITEMS: &str = r"reads log config floor done/0 subscribers/] counts/list
 input A2:30,10:1000000200,4:list,3:a@5, | run spool => 0 30 0 subscribed\n | gets subscribers/] layout 2\nTa@5\01000000200\0Ta@b\01000000000\0 | gets counts/list 4\n | gets done/0 {before}\x04{1..8:\0}{after}
 reads log config floor done/0 subscribers/] counts/list bounce/]
@@ -106,7 +106,7 @@ fn is_among(path: &str, paths: &str) -> bool {
     false
 }
 
-// The table of an item: on the sound list, and on a list for each damaged file.
+// The table of an item: on the sound list, and on one list for each damaged file.
 fn table_of(alloc: Global, reads: &str, row: &str) -> Result<String, Fail> {
     let mut table = format!(in alloc; "{LIST}{row} | same\n")?;
     let (input, _) = row.split_once(" | ").unwrap_or((row, ""));
@@ -123,7 +123,7 @@ fn table_of(alloc: Global, reads: &str, row: &str) -> Result<String, Fail> {
     Ok(table)
 }
 
-// Tries an item on the sound list, and on a list for each damaged file.
+// Tries an item on the sound list, and on one list for each damaged file.
 fn hold_item(alloc: Global, reads: &str, row: &str) -> Result<(), Fail> {
     let (name, _) = row.split_once(" => ").unwrap_or((row, ""));
     let table = table_of(alloc, reads, row)?;

@@ -1,9 +1,9 @@
-// Each kind of file of a list removed, emptied, cut by a byte, a byte longer, and replaced by its neighbour's: what `check` says.
+// Every kind of file of a list removed, emptied, cut by a byte, a byte longer, and replaced by its neighbour's: what `check` says.
 use crate::program::Whole;
 use std::test::Fail;
 use trials_scripts::hold;
 
-// The list that is changed: its sets have 3, 1, 2, 1 and 1 members; of three posts two have the same key, and the first two the same size;
+// The list that is changed: its sets have 3, 1, 2, 1 and 1 members; two of its three posts have the same key, and the first two the same size;
 // two posts are held, and two entries queued, with gaps.
 const KINDS: &str = r"
 let ok 0 ok 3 3 1 2 1 1 2 2\n

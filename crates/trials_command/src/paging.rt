@@ -1,4 +1,4 @@
-// The pages of an archive.
+// Commands that give pages of an archive, or list its months and threads.
 use crate::program::Whole;
 use std::test::Fail;
 use trials_scripts::hold;
@@ -61,7 +61,7 @@ fn pages_are_given(rt: HostRuntime) -> Result<(), Fail> {
     hold::<Whole>(rt.alloc(), "pages", PAGES)
 }
 
-// Each call fails in turn: the store is opened by two and the configuration read by one; then come the number of posts and the index, with the
+// Every call fails in turn: the store is opened by two and the configuration read by one; then come the number of posts and the index, with the
 // 256 thread files for the list, and for a thread's page its thread file and the index again; and the last call gives the text.
 const FAILING: &str = r#"
 let key 000102030405060708090a0b0c0d0e0f101112131415161718191a1b1c1d1e1f

@@ -1,9 +1,9 @@
-// Posts that go out as a mailbox, and mailboxes that come in as a stream.
+// Commands that give posts as a mailbox, and commands that make a stream of a mailbox.
 use crate::program::Whole;
 use std::test::Fail;
 use trials_scripts::hold;
 
-// A list of two posts, the second of which has lines like the first one of a mail.
+// A list of two posts; the second has lines like the first one of a mail.
 const OUT: &str = r"
 let disk 111 - 111 disk\n
 let num 75 - 75 num\n
@@ -67,7 +67,7 @@ fn posts_go_out_as_a_mailbox(rt: HostRuntime) -> Result<(), Fail> {
     hold::<Whole>(rt.alloc(), "mailboxes out", OUT)
 }
 
-// A mailbox of one post, 356 bytes, and its delivery, whose message has 229. What is read first is reported first.
+// A mailbox of one post, 356 bytes, and its delivery, whose message has 229. Of several faults the one that is met first is reported.
 const IN: &str = r"
 let disk 111 - 111 disk\n
 let clock 69 - 69 clock\n

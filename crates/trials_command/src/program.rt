@@ -1,4 +1,4 @@
-// The whole program over a list in memory.
+// Runs the whole program over a list in memory, for the tables.
 use ml_command::ezmlm_main;
 use ml_site::{MemClock, MemSite, MemSource};
 use std::alloc::Global;

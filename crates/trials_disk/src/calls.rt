@@ -1,5 +1,5 @@
 // The steps on a site. Each answers a line: `done`, `failed`, or the bytes that it reads, with `-` for a file that is absent. A step is a verb
-// and what stands after it, with `=` between them. A file is named by its kind and its place, as `3.29`.
+// and what it is given, with `=` between them. A file is named by its kind and its place, as `3.29`.
 use ml_base::{Bytes, Name, read_number, split_first};
 use ml_site::{Failed, Fill, Image, MemSite, Site, SiteError, Unfailing};
 use std::alloc::{AllocError, Global};
@@ -8,7 +8,7 @@ use trials_lists::text_of;
 // The key and a bucket.
 const SHOWN: [Name; 2] = [Name { kind: 2, at: 0 }, Name { kind: 3, at: 1 }];
 
-// The parts of a step that `=` stands between: the first, and what is behind it.
+// The parts of a step before and after the first `=`.
 pub(crate) fn parts(step: &[u8]) -> (&[u8], &[u8]) {
     split_first(b'=', step).unwrap_or((step, &[]))
 }
@@ -18,7 +18,7 @@ pub(crate) fn number(text: &[u8]) -> u64 {
     read_number(text).unwrap_or(0)
 }
 
-// The file of a kind and a place. The log stands for what is none.
+// The file of a kind and a place. A text that names no file gives the log.
 pub(crate) fn name(text: &[u8]) -> Name {
     let (kind, at) = split_first(b'.', text).unwrap_or((&[], &[]));
     Name {
@@ -35,7 +35,7 @@ fn push_error(error: SiteError, out: &mut Bytes) -> Result<(), AllocError> {
     }
 }
 
-// Adds what a call answers that changes something and takes memory.
+// Adds the answer of a call that changes something and takes memory.
 fn push_changed(changed: Result<(), SiteError>, out: &mut Bytes) -> Result<(), AllocError> {
     match changed {
         Ok(()) => out.extend(b"done"),
@@ -43,7 +43,7 @@ fn push_changed(changed: Result<(), SiteError>, out: &mut Bytes) -> Result<(), A
     }
 }
 
-// Adds what a call answers that takes no memory.
+// Adds the answer of a call that takes no memory.
 pub(crate) fn push_done(done: Result<(), Failed>, out: &mut Bytes) -> Result<(), AllocError> {
     match done {
         Ok(()) => out.extend(b"done"),
@@ -60,7 +60,7 @@ fn push_read(found: Result<Option<Bytes>, SiteError>, out: &mut Bytes) -> Result
     }
 }
 
-// Adds what a call on a file answers, if there is one of this name.
+// Adds what a call on a file answers, if there is a file of this name.
 fn on_file<S: Site>(
     alloc: Global,
     site: &mut S,
@@ -81,13 +81,13 @@ fn on_file<S: Site>(
     }
 }
 
-// Writes to the log where it has so many bytes, or else at its end.
+// Writes to the log at this place, or at its end if it is shorter.
 fn write_at<S: Site>(alloc: Global, site: &mut S, at: u64, bytes: &[u8]) -> Result<(), SiteError> {
     let size = site.read_log(alloc)?.len() as u64;
     site.write_log(alloc, size.min(at), bytes)
 }
 
-// Cuts the log to so many bytes, if it has more.
+// Cuts the log to this size, if it is longer.
 fn cut_to<S: Site>(alloc: Global, site: &mut S, size: u64) -> Result<(), SiteError> {
     let len = site.read_log(alloc)?.len() as u64;
     match site.cut_log(len.min(size)) {
@@ -149,7 +149,7 @@ pub(crate) fn push_answer<S: Site>(
     }
 }
 
-// What a crash leaves of what no sync has settled: `old`, `new`, or the byte of this number in its place.
+// What a crash leaves in place of what no sync has settled: `old`, `new`, or the byte of this number.
 pub(crate) fn fill(text: &[u8]) -> Fill {
     if text == b"old".as_slice() {
         Fill::Old
@@ -170,7 +170,7 @@ pub(crate) fn push_image(image: &Image, names: &[Name], out: &mut Bytes) -> Resu
     Ok(())
 }
 
-// Adds the log, the key and a bucket, as a crash leaves them: `MOMENT=FILL`.
+// Adds the log, the key and a bucket, as a crash leaves them: the text is `MOMENT=FILL`.
 fn push_crash(
     alloc: Global,
     site: &MemSite,
@@ -182,7 +182,7 @@ fn push_crash(
     push_image(&image, &SHOWN, out)
 }
 
-// Adds what a step answers that the site in memory has beside its calls, or a call.
+// Adds the answer of a step that only a site in memory has, or of a call.
 fn push_step(
     alloc: Global,
     site: &mut MemSite,
@@ -202,7 +202,7 @@ fn push_step(
     }
 }
 
-// Adds what steps on a site in memory answer, a line each.
+// Adds the answers of steps on a site in memory, a line each.
 pub(crate) fn on_mem_site(
     alloc: Global,
     site: &mut MemSite,

@@ -1,4 +1,4 @@
-// What a disk is asked, as words: `site`, `unfailing` and `store` with steps in the input, one a line, `source` and `clock`.
+// The calls of the tables, as words: `site`, `unfailing` and `store` with steps in the input, one a line, `source` and `clock`.
 use crate::calls::{on_mem_site, on_unfailing};
 use crate::storing::on_stores;
 use ml_base::{Bytes, Numbers, read_number};
@@ -9,7 +9,7 @@ use trials_scripts::{Program, ended_with, read_whole};
 
 pub(crate) struct Disk;
 
-// Adds what five reads of two bytes answer, a line each: how many bytes came, and what the two are then.
+// Adds what five reads of two bytes answer, a line each: how many bytes came, and what the two bytes are then.
 fn pairs(source: &mut MemSource, out: &mut Bytes) -> Result<(), AllocError> {
     let mut buf = [0u8; 2];
     for _ in 0..5 {
@@ -24,7 +24,7 @@ fn pairs(source: &mut MemSource, out: &mut Bytes) -> Result<(), AllocError> {
     Ok(())
 }
 
-// Adds what a clock answers that is read four times, a line each.
+// Adds what four readings of a clock answer, a line each.
 fn moments(clock: &mut MemClock, out: &mut Bytes) -> Result<(), AllocError> {
     for _ in 0..4 {
         match clock.now() {
@@ -36,7 +36,7 @@ fn moments(clock: &mut MemClock, out: &mut Bytes) -> Result<(), AllocError> {
     Ok(())
 }
 
-// A clock that shows the first of these numbers, and whose readings of the others' numbers fail.
+// A clock that shows the first of these numbers. Its readings with the other numbers fail.
 fn clock_of(alloc: Global, words: &[String]) -> Result<MemClock, AllocError> {
     let mut numbers = Numbers::new(alloc);
     for word in words {

@@ -1,4 +1,4 @@
-// Logs written by hand: what a store shows that is opened over each, and what it leaves of it.
+// Logs written by hand: what a store that is opened over each of them shows, and what it leaves of the log.
 use crate::disk::Disk;
 use crate::storing::on_stores;
 use ml_base::{Bytes, push_netstring};
@@ -9,7 +9,7 @@ use std::test::Fail;
 use trials_lists::same;
 use trials_scripts::hold;
 
-// What a store shows of a bucket that held `b` and a floor that held `f`. It leaves one closed gate.
+// What a store shows of a bucket that held `b` and of a floor that held `f`. It leaves one closed gate.
 const FOUND: &str = r"
 let opened open\nshow=3.29,21.0\nread_log
 list put subscribers/] b | put floor f
@@ -54,7 +54,7 @@ fn a_store_is_opened_over_each_log(rt: HostRuntime) -> Result<(), Fail> {
     hold::<Disk>(rt.alloc(), "logs", FOUND)
 }
 
-// Whether a log is read that removes a file at the place before the first of its kind, if there is one, at the first, at the last, and at
+// Whether a log is read that removes a file: at the place before the first of its kind, if there is one, at the first, at the last, and at
 // the one after it.
 const KINDS: &str = r"
 put log \x019:X1:1,1:0,, | calls 20 | room 0 | input open | run store => 0 done\n | put log \x019:X1:1,1:0,, | calls 20 | room 0 | input open | run store => 0 done\n | put log \x019:X1:1,1:1,, | calls 20 | room 0 | input open | run store => 0 the log is damaged\n
@@ -115,7 +115,7 @@ fn long_log(alloc: Global) -> Result<Bytes, AllocError> {
     Ok(log)
 }
 
-// Adds the steps that show the first of 250 files, and so on.
+// Adds the steps that show the first of 250 files, the second, and so on.
 fn push_steps(steps: &mut Bytes) -> Result<(), AllocError> {
     steps.extend(b"open\nshow=20.0")?;
     for at in 1..250u64 {
@@ -125,7 +125,7 @@ fn push_steps(steps: &mut Bytes) -> Result<(), AllocError> {
     Ok(())
 }
 
-// Adds what is shown then: the last record of a file counts, which is one of the numbers 750 to 999.
+// Adds what is shown then: the last record of a file counts, so these are the numbers 750 to 999.
 fn push_wanted(wanted: &mut Bytes) -> Result<(), AllocError> {
     wanted.extend(b"done\n")?;
     for at in 0..250u64 {
@@ -135,7 +135,7 @@ fn push_wanted(wanted: &mut Bytes) -> Result<(), AllocError> {
     wanted.push(b'\n')
 }
 
-// Adds what a store answers to steps that is opened over a log.
+// Adds what a store that is opened over a log answers to steps.
 fn push_shown(alloc: Global, log: Bytes, steps: &[u8], out: &mut Bytes) -> Result<(), Fail> {
     let files = BTreeMap::new(alloc);
     let site = MemSite::new(alloc, Image { log, files }, 1_000, 0)?;

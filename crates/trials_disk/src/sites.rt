@@ -1,4 +1,4 @@
-// Each call of a site, a source and a clock in memory, as it is done and as it fails.
+// Every call of a site, a source and a clock in memory, as it is done and as it fails.
 use crate::disk::Disk;
 use std::test::Fail;
 use trials_scripts::hold;

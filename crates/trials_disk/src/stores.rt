@@ -6,8 +6,8 @@ use trials_lists::same;
 use trials_scripts::hold;
 
 // An opening makes two calls. A commit writes its record, syncs, writes its gate and syncs; a gate that is written and not synced counts
-// when it is read again. Contents of 64 KiB, of a byte less and of a byte more: what is gathered of a record has less room, so each goes to
-// the log by itself, between a write of what stands before it and one of what stands behind it. A gate is open if it has a byte that opens it.
+// when it is read again. Contents of 64 KiB, of a byte less and of a byte more: the part of a record that is gathered has less room, so each goes
+// to the log by itself, between a write of what comes before it and one of what comes after it. A gate is open if it has a byte that opens it.
 const TABLE: &str = r"
 let posts show=9.1,9.2,9.3
 let one commit=9.1=one

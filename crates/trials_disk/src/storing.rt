@@ -1,5 +1,5 @@
-// The steps on a store over a site. Each answers a line: `done`, an error in its words, or what it shows. What is asked of a store answers
-// `no store` unless one is open.
+// The steps on a store over a site. Each answers a line: `done`, an error in its words, or what it shows. A step on a store answers `no store`
+// if none is open.
 ghost use Rattle.std.specs.Prelude.{IsTrue, IfOk};
 ghost use Rattle.ml_base.specs.Dir.{are_files};
 
@@ -24,7 +24,7 @@ enum Held {
     Site(MemSite),
 }
 
-// Adds that something is done, or an error in its words.
+// Adds that something was done, or an error in its words.
 fn push_ended<E: Display>(
     alloc: Global,
     ended: &Result<(), E>,
@@ -39,7 +39,7 @@ fn push_ended<E: Display>(
     }
 }
 
-// What is held after a site is opened, and how that ended.
+// What there is after opening a store over a site, and how that ended.
 fn opened(alloc: Global, site: MemSite) -> (Held, Result<(), OpenError>) {
     match Store::open(alloc, site) {
         Ok(store) => (Held::Store(store), Ok(())),
@@ -47,7 +47,7 @@ fn opened(alloc: Global, site: MemSite) -> (Held, Result<(), OpenError>) {
     }
 }
 
-// The site is opened, also that of a store that is left.
+// Opens a store over the site, or over the site of the store that was open.
 fn open(alloc: Global, held: Held, out: &mut Bytes) -> Result<Held, AllocError> {
     let site = match held {
         Held::Store(store) => store.leave(),
@@ -58,7 +58,7 @@ fn open(alloc: Global, held: Held, out: &mut Bytes) -> Result<Held, AllocError> 
     Ok(held)
 }
 
-// A txn with a put after the others, if its name is a file's: a text, or a removal by `-`.
+// A txn with one more put after the others, if its name is a file's: a text, or a removal by `-`.
 fn with_put(alloc: Global, txn: Txn, name: Name, text: &[u8]) -> Result<Txn, AllocError>
     requires { IsTrue (are_files txn) }
     ensures { IfOk result (λ txn. IsTrue (are_files txn)) }
@@ -87,7 +87,7 @@ fn txn_of(alloc: Global, puts: &[u8]) -> Result<Txn, AllocError>
     with_put(alloc, txn, name(second), last)
 }
 
-// What is held after a commit, and how that ended.
+// What there is after a commit, and how that ended.
 fn settled(
     done: Result<Store<MemSite>, (CommitError, MemSite)>,
 ) -> (Held, Result<(), CommitError>) {
@@ -97,7 +97,7 @@ fn settled(
     }
 }
 
-// Puts are committed in a txn that is given away.
+// Commits puts in a txn that is given away.
 fn commit(
     alloc: Global,
     store: Store<MemSite>,
@@ -110,7 +110,7 @@ fn commit(
     Ok(held)
 }
 
-// Puts are committed in a txn that is lent.
+// Commits puts in a txn that is lent.
 fn lend(
     alloc: Global,
     store: Store<MemSite>,
@@ -129,7 +129,7 @@ fn close(alloc: Global, store: Store<MemSite>, out: &mut Bytes) -> Result<Held, 
     Ok(Held::Site(site))
 }
 
-// Adds the bytes of files of a store, each with a bar behind it, and `-` for one that is absent: `NAME,NAME`.
+// Adds the bytes of files of a store, each with a bar after it, and `-` for one that is absent: `NAME,NAME`.
 fn show(
     alloc: Global,
     store: &mut Store<MemSite>,
@@ -158,7 +158,7 @@ fn is_of_store(verb: &[u8]) -> bool {
         || verb == b"give".as_slice()
 }
 
-// Shows files of a store, or gives.
+// Shows files of a store, or gives bytes.
 fn show_or_give(
     alloc: Global,
     store: &mut Store<MemSite>,
@@ -173,7 +173,7 @@ fn show_or_give(
     }
 }
 
-// What is held after a step on a store: `commit` of puts in a txn that is given away, `lend` of puts in one that is lent, `close`, `show`
+// What there is after a step on a store: `commit` of puts in a txn that is given away, `lend` of puts in one that is lent, `close`, `show`
 // of files, or `give`.
 fn on_store(
     alloc: Global,
@@ -215,8 +215,8 @@ fn crashed(alloc: Global, site: &MemSite, moment: u64, left: &[u8]) -> Result<Me
     MemSite::new(alloc, image, 60, 0)
 }
 
-// Does a step on a site: `left` tells what a crash leaves, and after `crash` there is a site with that in place of the site. These
-// take after how many calls it comes, and what it leaves of what no sync has settled.
+// Does a step on a site: `left` shows what a crash leaves, and `crash` replaces the site by one with that. Both take the number of calls
+// after which the crash comes, and what it leaves in place of what no sync has settled.
 fn step_on_site(
     alloc: Global,
     site: &mut MemSite,
@@ -252,7 +252,7 @@ fn on_site(
     Ok(Held::Site(site))
 }
 
-// What is held after a step.
+// What there is after a step.
 fn stepped(alloc: Global, held: Held, step: &[u8], out: &mut Bytes) -> Result<Held, Fail> {
     let (verb, rest) = parts(step);
     if verb == b"open".as_slice() {
@@ -270,7 +270,7 @@ fn stepped(alloc: Global, held: Held, step: &[u8], out: &mut Bytes) -> Result<He
     }
 }
 
-// Adds what steps over a site answer, a line each.
+// Adds the answers of steps over a site, a line each.
 pub(crate) fn on_stores(
     alloc: Global,
     site: MemSite,

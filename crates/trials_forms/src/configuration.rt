@@ -1,4 +1,4 @@
-// The configuration's file, the keys' file and the words of `make`, each call that takes memory once, and failing reads handed on.
+// The configuration's file, the keys' file and the words of `make`: each call that takes memory once, and failing reads passed on.
 use crate::told::{push_bool, push_debug};
 use ml_base::{Bytes, Files, Layer, MapFiles, Name, Numbers, PartError, Put};
 use ml_config::{
@@ -10,11 +10,10 @@ use std::collections::BTreeMap;
 use std::test::Fail;
 use trials_scripts::OnSite;
 
-// Adds what a call answers, or answers false if it isn't one of these: `load` the configuration of the files and the file that is written of it,
-// `zeroed` the first byte of a file of this text that may be 0 with the file not damaged, `is_read` whether a text is read as a
-// configuration, `absent` configuration and keys twice, `key` the keys, `set_keys` the keys that are read of those that were set, `make` the
-// configuration's file by these words, `taken` whether these are words of `make`, `files` the files of a new list by them, and the words of
-// errors.
+// Adds what a call answers, or answers false if it isn't one of these: `load` the configuration of the files, and the file that is written of
+// it; `zeroed` the first byte of a file of this text that can be 0 without damage; `is_read` whether a text is read as a configuration;
+// `absent` configuration and keys, twice; `key` the keys; `set_keys` the keys that are read after they were set; `make` the configuration's
+// file by these words; `taken` whether these are words of `make`; `files` the files of a new list by them; and the words of errors.
 pub(crate) fn told(
     alloc: Global,
     verb: &str,
@@ -34,7 +33,7 @@ pub(crate) fn told(
     Ok(true)
 }
 
-// The same of a call that goes over no files.
+// The same for a call that needs no files.
 fn told_of_words(
     alloc: Global,
     verb: &str,
@@ -210,7 +209,7 @@ fn push_initial(
     push_puts(out, puts.as_slice())
 }
 
-// Adds the kind, place and text of each file.
+// Adds the kind, place and text of every file.
 fn push_puts(out: &mut Bytes, puts: &[Put]) -> Result<(), AllocError> {
     for put in puts {
         out.push_number(put.name.kind as u64)?;

@@ -1,4 +1,4 @@
-// The calls of the tables, as words: a verb and what it is given. Those of configurations go over the files.
+// The calls of the tables, as words: a verb and what it is given. Those on configurations need the files.
 use crate::{configuration, texts};
 use ml_base::Bytes;
 use ml_site::{Fill, Image, MemClock, MemSite, MemSource};
@@ -15,7 +15,7 @@ fn on_site(alloc: Global, site: MemSite, image: &Image) -> Result<OnSite, Fail> 
     Ok(OnSite { site, files })
 }
 
-// What a call on the files of a site answers, or one on words alone.
+// What a call on the files of a site answers, or one on words only.
 fn answered(alloc: Global, words: &[String], files: &mut OnSite) -> Result<Bytes, Fail> {
     let [verb, words @ ..] = words else {
         return Err(Fail::new("no call"));

@@ -1,4 +1,4 @@
-// Puts laid over files, and a failing read handed on.
+// Puts laid over files, and a failing read passed on.
 ghost use Rattle.std.specs.Prelude.{◌≡◌, ◌≤◌, ◌&&◌, IsTrue, IfOk, IsErrOf, is_some};
 ghost use Rattle.ml_base.specs.Name.{is_file};
 ghost use Rattle.ml_base.specs.Dir.{with_puts};
@@ -18,7 +18,7 @@ const LIST: Name = Name { kind: 3, at: 1 };
 
 const COUNT: Name = Name { kind: 11, at: 0 };
 
-// A file, and its text from now on, or None where it is removed.
+// A file and its text from now on, or None if it is removed.
 type Change = (Name, Option<&'static [u8]>);
 
 // The bucket is written twice.
@@ -34,7 +34,7 @@ const IN_PLACE: [Change; 3] = [
     (LIST, Some(b"two")),
 ];
 
-// Files with a key and a count, of which the reads of these numbers fail.
+// Files with a key and a count. Their reads with these numbers fail.
 fn files(alloc: Global, failing: &[u64]) -> Result<MapFiles, AllocError> {
     let files = [(2, 0, b"key".as_slice()), (11, 0, b"7".as_slice())];
     memory(alloc, &texts(alloc, &files)?, failing)
@@ -51,7 +51,7 @@ fn put(alloc: Global, change: Change) -> Result<Put, AllocError> {
     })
 }
 
-// The changes, each pushed behind those before it or laid over them.
+// The changes, each pushed after those before it or laid over them.
 fn txn(alloc: Global, changes: &[Change], lays: bool) -> Result<Txn, AllocError> {
     let mut txn = Txn::new(alloc);
     for change in changes {
@@ -128,7 +128,7 @@ fn both_there_laid<F: Files>(
     (files, txn, found)
 }
 
-// The files with the changes laid over them, of which the reads of these numbers fail.
+// The files with the changes laid over them. Reads of the files with these numbers fail.
 fn changed(alloc: Global, failing: &[u64]) -> Result<Layer<MapFiles>, AllocError> {
     let changes = changes(alloc)?;
     Ok(Layer::new(files(alloc, failing)?, changes))
@@ -154,7 +154,7 @@ pub(crate) fn layered(alloc: Global, out: &mut Bytes) -> Result<(), Fail> {
     show_both(alloc, Layer::new(below, written), out)
 }
 
-// Adds what was found of two files, and what stands between two of these.
+// Adds what was found of two files, and a `; `.
 fn push_found(
     alloc: Global,
     out: &mut Bytes,
@@ -164,7 +164,7 @@ fn push_found(
     out.extend(b"; ")
 }
 
-// Adds whether the count and the bucket are there, the same where the second read fails, whether the count and the key are
+// Adds whether the count and the bucket are there, the same when the second read fails, whether the count and the key are
 // there, and how many puts there are then.
 pub(crate) fn failing(alloc: Global, out: &mut Bytes) -> Result<(), AllocError> {
     let mut layer = changed(alloc, &[2])?;
@@ -179,7 +179,7 @@ pub(crate) fn failing(alloc: Global, out: &mut Bytes) -> Result<(), AllocError> 
     out.push_number(count)
 }
 
-// Adds how many puts are left of those that are laid in place, and what they show.
+// Adds how many puts are left of those that are laid over one another, and what they show.
 pub(crate) fn in_place(alloc: Global, out: &mut Bytes) -> Result<(), Fail> {
     let puts = txn(alloc, &IN_PLACE, true)?;
     out.push_number(puts.as_slice().len() as u64)?;

@@ -1,4 +1,4 @@
-//! Tests of the calls that write and read forms: texts by hand, configurations and words, codes, and layers.
+//! Tests of the calls that write and read forms: texts written by hand, configurations and words, codes, and layers.
 #![tactic(auto)]
 
 #[cfg(test)]

@@ -47,7 +47,7 @@ run code 35 => 0 stale 100 false
 run code 36 => 0 badfloor 100 false
 ";
 
-// What is either so or not, and what is told as a text.
+// What is true or false, and what is answered as a text.
 const TEXTS: &str = r"
 run own list@ex.org => 0 true
 run own LIST@EX.ORG => 0 true

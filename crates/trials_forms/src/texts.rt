@@ -1,4 +1,4 @@
-// Codes, names, numbers, netstrings, addresses and byte strings, each call that takes memory once.
+// Codes, names, numbers, netstrings, addresses and byte strings: each call that takes memory once.
 use crate::layers::{failing, in_place, layered};
 use crate::told::{push_bool, push_debug, push_pair, push_texts};
 use ml_base::{
@@ -34,8 +34,8 @@ fn are_same(alloc: Global, first: &[u8], second: &[u8]) -> Result<bool, Fail> {
     Ok(first.same(&second))
 }
 
-// What is either so or not: whether a recipient is one of the addresses of the list List@ex.Org, a text is kept, a local part and a host make
-// an address, two addresses are the same, and a number is a moment, one of a post, or one that is drawn.
+// Calls that answer true or false: whether a recipient is one of the addresses of the list List@ex.Org, a text is kept, a local part and a
+// host make an address, two addresses are the same, and a number is a moment, one of a post, or one that is drawn.
 fn is_so(alloc: Global, verb: &str, first: &[u8], second: &[u8]) -> Result<bool, Fail> {
     if verb == "own" {
         Ok(is_own(b"List", b"ex.Org", first))
@@ -175,7 +175,7 @@ fn push_address(alloc: Global, out: &mut Bytes, found: &Address) -> Result<(), A
     )
 }
 
-// Adds the addresses of a list, one after the other.
+// Adds the addresses of a list, one after another.
 fn addresses(alloc: Global, words: &[String], out: &mut Bytes) -> Result<(), Fail> {
     let mut list = AddressList::new(alloc);
     for word in words {

@@ -1,4 +1,4 @@
-// What calls answer, added to a text. These functions own nothing, so that what fails in them leaves nothing to be dropped.
+// Adds what calls answer to a text. These functions own nothing, so if something in them fails, nothing is left to be dropped.
 use ml_base::Bytes;
 use std::alloc::{AllocError, Global};
 use std::fmt::Debug;
@@ -13,7 +13,7 @@ pub(crate) fn push_debug<T: Debug>(
     out.extend(text.as_bytes())
 }
 
-/// Adds whether something is so.
+/// Adds `true` or `false`.
 pub(crate) fn push_bool(out: &mut Bytes, is_so: bool) -> Result<(), AllocError> {
     if is_so {
         out.extend(b"true")

@@ -18,14 +18,14 @@ pub const KEY: [u8; 32] = [
     26, 27, 28, 29, 30, 31,
 ];
 
-/// The files of a table. Of two rows of one name the later one counts, and a file whose text is `-` is absent.
+/// The files of a table. If two rows have one name the later one counts, and a file whose text is `-` is absent.
 pub fn texts(alloc: Global, files: &[File<'_>]) -> Result<Texts, AllocError> {
     let mut texts = BTreeMap::new(alloc);
     set(alloc, &mut texts, files)?;
     Ok(texts)
 }
 
-/// Puts the files of a table in the place of others.
+/// Puts the files of a table in place of others.
 pub fn set(alloc: Global, texts: &mut Texts, files: &[File<'_>]) -> Result<(), AllocError> {
     for (kind, at, text) in files {
         let name = Name {
@@ -41,7 +41,7 @@ pub fn set(alloc: Global, texts: &mut Texts, files: &[File<'_>]) -> Result<(), A
     Ok(())
 }
 
-/// Adds bytes at the end of a file, which is made where it is absent.
+/// Adds bytes at the end of a file, which is made if it is absent.
 pub fn add(alloc: Global, texts: &mut Texts, name: Name, bytes: &[u8]) -> Result<(), AllocError> {
     let mut text = match texts.remove(&name) {
         Some(text) => text,
@@ -67,7 +67,7 @@ pub fn lay(alloc: Global, texts: &mut Texts, puts: &Txn) -> Result<(), AllocErro
     Ok(())
 }
 
-/// The text of a file, or `-` where it is absent.
+/// The text of a file, or `-` if it is absent.
 pub fn text_of(texts: &Texts, name: Name) -> &[u8] {
     match texts.get(&name) {
         Some(text) => text.as_slice(),
@@ -75,7 +75,7 @@ pub fn text_of(texts: &Texts, name: Name) -> &[u8] {
     }
 }
 
-/// These files in memory, without those of the text `-`. Their reads of these numbers, counted from 1, fail.
+/// These files in memory, without those whose text is `-`. Their reads with these numbers, counted from 1, fail.
 pub fn memory(alloc: Global, texts: &Texts, failing: &[u64]) -> Result<MapFiles, AllocError> {
     let mut files = BTreeMap::new(alloc);
     for (name, text) in texts.iter() {

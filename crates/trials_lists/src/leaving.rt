@@ -1,11 +1,11 @@
-// What a call leaves.
+// Compares the files that a call left with those that it should leave.
 use crate::{Made, Texts, make, same, text_of};
 use ml_base::Bytes;
 use std::alloc::{AllocError, Global};
 use std::collections::BTreeMap;
 use std::test::Fail;
 
-/// What a call is to leave.
+/// What a call should leave.
 #[derive(Clone, Copy)]
 pub enum Left<'a> {
     /// These files, and all others as they were.
@@ -23,7 +23,7 @@ pub fn copy(alloc: Global, texts: &Texts) -> Result<Texts, AllocError> {
     Ok(copy)
 }
 
-// Fails where one of the files that are wanted did not come so.
+// Fails if one of the wanted files is missing or has another text.
 fn each_came(
     alloc: Global,
     table: &str,
@@ -41,7 +41,7 @@ fn each_came(
     Ok(())
 }
 
-// Fails where a file came that is not wanted so.
+// Fails if a file is there that isn't wanted, or has another text.
 fn none_else(
     alloc: Global,
     table: &str,
@@ -59,7 +59,7 @@ fn none_else(
     Ok(())
 }
 
-/// Fails where a row did not leave what it is to leave of the files before it.
+/// Fails if a row, given the files before it, didn't leave what it should.
 pub fn check_left(
     alloc: Global,
     table: &str,

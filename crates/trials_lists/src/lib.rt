@@ -1,4 +1,4 @@
-//! The making of lists for trials: files in memory, configurations, members, and what a row tells that doesn't hold.
+//! Makes lists for trials: files in memory, configurations, members, and the message when a row fails.
 #![tactic(auto)]
 
 mod files;

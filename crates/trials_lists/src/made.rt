@@ -1,31 +1,31 @@
-// Files that are made by rules: texts many times, numbered files, buckets, and the queue's entries.
+// Makes files by rules: texts many times, numbered files, buckets, and the queue's entries.
 use crate::{Texts, add, text_of};
 use ml_base::{Bytes, Name, hash_lower, push_netstring, write_number};
 use std::alloc::{AllocError, Global};
 
 const QUEUE: u8 = 17;
 
-/// What is made of files. A `%` in a text stands for a number.
+/// What files are made. A `%` in a text stands for a number.
 #[derive(Clone, Copy)]
 pub enum Made<'a> {
-    /// The file of a kind and a place has this text. One of the text `-` is absent.
+    /// The file of a kind and a place has this text. If the text is `-` it is absent.
     Text(u8, u64, &'a [u8]),
-    /// A file gets so many times this text at its end.
+    /// A file gets this text at its end, this many times.
     Times(u8, u64, u64, &'a [u8]),
-    /// A file gets texts at its end, each so many times, for each number from one to another.
+    /// A file gets texts at its end, each this many times, once for every number from the first to the second.
     Count(u8, u64, (u64, u64), &'a [(u64, &'a [u8])]),
-    /// The file at each place from one to another has these texts, each so many times.
+    /// The file at every place from the first to the second has these texts, each this many times.
     Each(u8, (u64, u64), &'a [(u64, &'a [u8])]),
-    /// For each number from one to another, a text at the end of the bucket of an address: the address, and the text.
+    /// For every number from the first to the second, a text at the end of the bucket of an address: the address, and the text.
     Buckets(u8, (u64, u64), &'a [u8], &'a [u8]),
-    /// The queue's entry of an id is a mail with what the file had as its text.
+    /// The queue's entry with this id is a mail, whose text ends with what the file had.
     Mail(u64, Mail<'a>),
-    /// The queue's entry of an id has what the file had as its body: the base of its path, its way, and whom it goes to.
+    /// The queue's entry with this id has what the file had as its body: the base of its path, its way, and its recipients.
     Entry(u64, &'a [u8], &'a [u8], &'a [&'a [u8]]),
 }
 
 /// A mail that the list `list@ex.org` writes: to whom, the address that answers go to unless it is empty, its date and subject, what its text
-/// begins with, and whom it goes to.
+/// begins with, and its recipients.
 #[derive(Clone, Copy)]
 pub struct Mail<'a> {
     pub to: &'a [u8],
@@ -58,7 +58,7 @@ fn repeated(alloc: Global, times: u64, text: &[u8]) -> Result<Bytes, AllocError>
     Ok(out)
 }
 
-// Adds texts with the number in them, each so many times.
+// Adds texts with the number in them, each this many times.
 fn add_pieces(
     alloc: Global,
     out: &mut Bytes,
@@ -161,7 +161,7 @@ fn entry(
     Ok(out)
 }
 
-// What the entry of an id had as its text, or nothing.
+// The text that the file of an entry had before, or nothing.
 fn begun(texts: &Texts, name: Name) -> &[u8] {
     if texts.contains_key(&name) {
         text_of(texts, name)
@@ -242,7 +242,7 @@ fn make_one(alloc: Global, texts: &mut Texts, made: &Made<'_>) -> Result<(), All
     }
 }
 
-/// Makes these of files, one behind the other.
+/// Makes these files, one after another.
 pub fn make(alloc: Global, texts: &mut Texts, made: &[Made<'_>]) -> Result<(), AllocError> {
     for one in made {
         make_one(alloc, texts, one)?;

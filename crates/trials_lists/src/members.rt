@@ -13,7 +13,7 @@ pub fn numbered(alloc: Global, number: u64) -> Result<Bytes, AllocError> {
     Ok(address)
 }
 
-/// Adds the record of a member to its bucket, behind those that are there. The count stays as it is.
+/// Adds the record of a member to its bucket, after those that are there. The count stays as it is.
 pub fn add_member(
     alloc: Global,
     texts: &mut Texts,
@@ -30,7 +30,7 @@ pub fn add_member(
     add(alloc, texts, bucket, record.as_slice())
 }
 
-/// Adds the addresses of the numbers below this one to a set.
+/// Adds the addresses of all numbers below this one to a set.
 pub fn add_members(alloc: Global, texts: &mut Texts, set: Set, end: u64) -> Result<(), AllocError> {
     for number in 0..end {
         add_member(alloc, texts, set, numbered(alloc, number)?.as_slice())?;

@@ -1,4 +1,4 @@
-// Configurations from a few words.
+// Makes configurations from a few words.
 ghost use Rattle.std.specs.Prelude.{IfOk};
 ghost use Rattle.ml_config.specs.Configuration.{IsConfig};
 
@@ -7,7 +7,7 @@ use ml_config::{Config, read_config};
 use std::alloc::{AllocError, Global};
 use std::test::Fail;
 
-// An option is set where its letter is among these; `p` is set but where `P` is among them.
+// An option is set if its letter is among these; `p` is set unless `P` is among them.
 fn option(letters: &[u8], lower: u8, upper: u8) -> u8 {
     if letters.contains(&lower) || (lower == b'p' && !letters.contains(&b'P')) {
         lower
@@ -33,7 +33,7 @@ fn spelled(alloc: Global, letters: &[u8], prefix: &[u8], max: u64) -> Result<Byt
 }
 
 /// The configuration of the list `list@ex.org`, which `o@own.org` owns: the letters of the options that are set, the prefix of subjects,
-/// and the most bytes of a post. Of the options `p` is set but where there is a `P`.
+/// and the most bytes of a post. The option `p` is set unless there is a `P`.
 pub fn config(alloc: Global, letters: &[u8], prefix: &[u8], max: u64) -> Result<Config, Fail>
     ensures { IfOk result IsConfig }
 {

@@ -1,4 +1,4 @@
-// What is answered, as text, and what a row tells that doesn't hold.
+// What is answered, as text, and the message when a row fails.
 use ml_base::{Bytes, PartError};
 use std::alloc::{AllocError, Global};
 use std::test::Fail;
@@ -37,8 +37,8 @@ fn shown(alloc: Global, text: &[u8], from: usize) -> Result<String, AllocError> 
     String::from_utf8_lossy(alloc, &rest[..rest.len().min(100)])
 }
 
-/// Fails where what came is not what was to come, and tells which row of which table it was, the place of the first byte that differs, and
-/// up to 100 bytes of both from 20 bytes before it on.
+/// Fails if what came isn't what was wanted, and says which row of which table it was, the place of the first byte that differs, and up
+/// to 100 bytes of both from 20 bytes before that on.
 pub fn same(
     alloc: Global,
     table: &str,

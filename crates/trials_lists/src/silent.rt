@@ -1,4 +1,4 @@
-// Files that tell nothing.
+// Files in memory that tell nothing.
 ghost use Rattle.std.specs.Prelude.{false};
 ghost use Rattle.ml_base.specs.FilesInMemory.{map_dir, map_faults, IsMapKept};
 ghost use Rattle.ml_base.specs.KeptMaps.{map_kept_self, map_kept_then};
@@ -6,7 +6,7 @@ ghost use Rattle.ml_base.specs.KeptMaps.{map_kept_self, map_kept_then};
 use ml_base::{Bytes, Files, FilesError, MapFiles, Name};
 use std::alloc::Global;
 
-/// Files in memory that tell nothing of themselves, as the real disk does.
+/// Files in memory that don't tell what they hold, as the real disk doesn't.
 #[derive(Drop)]
 pub struct Silent {
     pub files: MapFiles,

@@ -82,7 +82,7 @@ fn push_request(
     }
 }
 
-// The same of a request that has a cookie, or that comes from a copy's sender.
+// The same for a request that has a cookie, or that comes from a copy's sender.
 fn push_signed(alloc: Global, out: &mut Bytes, request: Request<'_>) -> Result<(), AllocError> {
     match request {
         Request::Confirm {
@@ -131,7 +131,7 @@ fn push_of_set(
     push_two(alloc, out, b"", cookie, &who)
 }
 
-// Adds a line of what is written of a request.
+// Adds a line with a request as it is written.
 fn push_written(alloc: Global, out: &mut Bytes, request: &Request) -> Result<(), AllocError>
     requires { IsTrue (is_in_range (request_view request.now)) }
 {
@@ -140,7 +140,7 @@ fn push_written(alloc: Global, out: &mut Bytes, request: &Request) -> Result<(),
     out.extend(text.as_slice())
 }
 
-// Adds what is written of requests, a line each.
+// Adds requests as they are written, a line each.
 fn push_all_written(alloc: Global, out: &mut Bytes) -> Result<(), AllocError> {
     let leave = Request::Unsubscribe {
         set: Set::List,
@@ -169,11 +169,11 @@ fn number(words: &[String], at: usize) -> u64 {
     }
 }
 
-// Adds what a call answers: `ask RECIPIENT` what a recipient of the list list@ex.org asks, `written` what is written of requests, `sender BASE HOST
-// WAY TO` the sender of a mail, which names its recipient where the way is `each`, `unverp TEXT` the place of the `=` that stands for an `@`,
-// `mac SIZE LEN` so many bytes of the code of a text, where the input is a key of so many bytes and the text, in one piece and in two, `cookie
-// KIND SET MOMENT TEXT` by the input as the key, `ok LETTERS NOW` whether letters are good, and `good FORMER CHANGED MOMENT LETTERS NOW` the
-// same of a moment's letters, with the former key if that is `key`, and the moment of its change.
+// Adds what a call answers: `ask RECIPIENT` what a recipient of the list list@ex.org asks for, `written` requests as they are written, `sender BASE
+// HOST WAY TO` the sender of a mail, which names its recipient if the way is `each`, `unverp TEXT` the place of the `=` that stands for an `@`,
+// `mac SIZE LEN` the first LEN bytes of the code of a text, in one piece and in two, where the input is a key of SIZE bytes and then the text,
+// `cookie KIND SET MOMENT TEXT` with the input as the key, `ok LETTERS NOW` whether letters are good, and `good FORMER CHANGED MOMENT LETTERS
+// NOW` the same for a moment's letters, with the former key if that is `key`, and the moment of its change.
 pub(crate) fn told(
     alloc: Global,
     verb: &str,

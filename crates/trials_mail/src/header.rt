@@ -1,4 +1,4 @@
-// Messages: their fields, bodies, unfolded values and sent texts.
+// Messages: their fields, bodies, unfolded values, and what is sent of them.
 use crate::program::word;
 use crate::told::push_bool;
 use ml_base::Bytes;
@@ -6,7 +6,7 @@ use ml_header::Message;
 use std::alloc::{AllocError, Global};
 use std::test::Fail;
 
-// What the list list@ex.org puts in front of its messages, of 276 bytes.
+// What the list list@ex.org puts before its messages: 276 bytes.
 const ADDED: &[u8] = b"Mailing-List: contact list-help@ex.org; run by ezmlm
 Precedence: bulk
 List-Post: <mailto:list@ex.org>
@@ -27,9 +27,9 @@ list-unsubscribe
 list-subscribe
 ";
 
-// Adds what a call answers about the message in the input: `fields` the name, value and lines of each field in brackets, and the body, `whole`
-// the message itself, `field NAME` the value of the first field of a name, `subject` the unfolded subject, `long` how many fields there are, and
-// whether it is sent as it is; and of what is sent: `sent` what the list list@ex.org sends of a post, `sent_trailed` the same with a trailer,
+// Adds what a call answers about the message in the input: `fields` the name, value and lines of each field in brackets, and the body; `whole`
+// the message itself; `field NAME` the value of the first field of a name; `subject` the unfolded subject; `long` how many fields there are, and
+// whether it is sent as it is. And what is sent of it: `sent` what the list list@ex.org sends of a post, `sent_trailed` the same with a trailer,
 // `without NAMES` without these fields, `prefixed PREFIX` with this prefix, and `trailed` with a trailer.
 pub(crate) fn told(
     alloc: Global,

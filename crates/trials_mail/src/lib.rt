@@ -1,4 +1,4 @@
-//! Tests of the public calls of the crates that hold messages, requests with senders and cookies, and mails.
+//! Tests of the public calls on messages, on requests with senders and cookies, and on the mails that a list writes.
 #![tactic(auto)]
 
 #[cfg(test)]

@@ -1,5 +1,5 @@
-// The calls of the tables, as words: `address`, `header` or `reply`, and what each of these modules takes behind it. Where the last word
-// is `size` it is told how many bytes the answer has.
+// The calls of the tables, as words: `address`, `header` or `reply`, and what each of these modules takes after it. If the last word
+// is `size`, only the size of the answer is given.
 use crate::{address, header, reply};
 use ml_base::Bytes;
 use ml_site::{Clock, Fill, Image, MemClock, MemSite, MemSource};

@@ -1,4 +1,4 @@
-// Mails, and dates.
+// Mails that a list writes, and dates.
 ghost use Rattle.std.specs.Prelude.{◌<◌};
 
 use crate::program::word;
@@ -62,7 +62,7 @@ fn asked(kind: &str, to: Bytes, reply: Bytes, set: Set, who: Bytes) -> Mail {
     }
 }
 
-// A mail about an address of a set that tells something.
+// A mail about an address of a set that only says something.
 fn telling(kind: &str, to: Bytes, set: Set, who: Bytes) -> Mail {
     if kind == "welcome" {
         Mail::Welcome { to, set, who }

@@ -6,8 +6,8 @@ use ml_reply::law_dates;
 use std::test::Fail;
 use trials_scripts::hold;
 
-// Recipients, and what each of them asks: each row of the grammar with its words in mixed, lower and upper case, more requests in lower case,
-// what no row has, and what is not the list's.
+// Recipients, and what each of them asks for: every row of the grammar with its words in mixed, lower and upper case, more requests in lower
+// case, what no row has, and what is not the list's.
 const REQUESTS: &str = r"
 let letters [97, 98, 99, 100, 101, 102, 103, 104, 105, 106, 107, 108, 109, 110, 111, 112, 97, 98, 99, 100]
 let who Who \x7B local: [97], host: [98] \x7D

@@ -1,4 +1,4 @@
-// What calls answer, added to a text. These functions own little, so that little is to be dropped where something in them fails.
+// Adds what calls answer to a text. These functions own little, so if something in them fails, little is left to be dropped.
 use ml_base::Bytes;
 use std::alloc::{AllocError, Global};
 use std::fmt::Debug;
@@ -37,7 +37,7 @@ pub(crate) fn push_two<T: Debug, U: Debug>(
     push_one(alloc, out, b"", second)
 }
 
-/// Adds whether something is so.
+/// Adds `true` or `false`.
 pub(crate) fn push_bool(out: &mut Bytes, is_so: bool) -> Result<(), AllocError> {
     if is_so {
         out.extend(b"true")

@@ -1,4 +1,4 @@
-// Mails written into mailboxes, read from them and delivered. What is read or delivered is reported as netstrings.
+// Mails written into mailboxes, read from them and delivered. What is read or delivered is given as netstrings.
 ghost use Rattle.std.specs.Prelude.{◌<◌};
 
 use ml_base::{Bytes, push_netstring};
@@ -12,7 +12,7 @@ use std::alloc::{AllocError, Global};
 use std::test::Fail;
 use trials_lists::config;
 
-// The sender and the message of each mail of a text, or `none` if it is no mailbox.
+// The sender and the message of each mail of a text, or `none` if it isn't a mailbox.
 fn read(alloc: Global, text: &[u8]) -> Result<Bytes, AllocError> {
     let Some(mails) = read_mbox(alloc, text)? else {
         return Bytes::from_slice(alloc, b"none");
@@ -25,7 +25,7 @@ fn read(alloc: Global, text: &[u8]) -> Result<Bytes, AllocError> {
     Ok(out)
 }
 
-// The senders of the mails of a text, read one after the other, or `no` if it is no mailbox.
+// The senders of the mails of a text, read one after another, or `no` if it isn't a mailbox.
 fn senders(alloc: Global, text: &[u8]) -> Result<Bytes, AllocError> {
     let Some(mut left) = Mails::open(text) else {
         return Bytes::from_slice(alloc, b"no");
@@ -73,7 +73,7 @@ fn deliveries(alloc: Global, acts: &[Act]) -> Result<Bytes, AllocError> {
     Ok(out)
 }
 
-// How a text is delivered to a list with digests: a message from `a@b`, each mail of a mailbox, or a mailbox as a stream from 900 on.
+// How a text is delivered to a list with digests: a message from `a@b`, each mail of a mailbox, or a mailbox as a stream from number 900 on.
 fn delivered(alloc: Global, verb: &[u8], text: &[u8], moment: u64) -> Result<Bytes, Fail> {
     let config = config(alloc, b"d", b"", 1_048_576)?;
     if verb == b"delivery".as_slice() {

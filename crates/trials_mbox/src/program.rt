@@ -1,5 +1,5 @@
-// The calls of the tables, as words, with a text in the input and a moment on the clock: `out FIRST LAST` asks the list for these posts as a
-// mailbox, and `import` for the text as a stream from 900 on, over the files. `mails` has the calls without files.
+// The calls of the tables, as words, with a text in the input and a moment on the clock. Over the files, `out FIRST LAST` asks the list for these
+// posts as a mailbox, and `import` for the text as a stream from number 900 on. `mails` has the calls without files.
 ghost use Rattle.std.specs.Prelude.{◌<◌};
 
 use crate::mails;

@@ -200,7 +200,7 @@ list at 1000000000
 run out 1 1 => 0 damaged 11 0
 ";
 
-// Mailboxes as streams from 900 on: by the call on a text, and by an import, which reads no file.
+// Mailboxes as streams from number 900 on: by the call on a text, and by an import, which reads no file.
 const STREAMS: &str = r"
 let line From a@b Sun Sep  9 01:48:20 2001\n
 let fields Precedence: bulk\nList-Post: <mailto:list@ex.org>\nList-Help: <mailto:list-help@ex.org>\nList-Unsubscribe: <mailto:list-unsubscribe@ex.org>\nList-Subscribe: <mailto:list-subscribe@ex.org>\n

@@ -1,4 +1,4 @@
--- Addresses are in order where each key was found above the one before.
+-- Addresses are in order if each key was found to be above the one before.
 use Rattle.std.proofs.Common.{◌≡◌, ◌<◌, true, List, [], ◌∷◌, length, refl, arith}
 use Rattle.ml_base.specs.Address.{key}
 use Rattle.ml_base.specs.Bytes.{Text}

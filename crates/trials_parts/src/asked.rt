@@ -1,8 +1,8 @@
-// A call as it is asked for.
+// One call of a table: its verb, words, moment and input.
 use ml_base::{Address, Bytes, PartError, read_number};
 use std::alloc::{AllocError, Global};
 
-/// A call: its verb with what stands behind it, the moment that the clock shows, and its input.
+/// A call: its verb and the words after it, the moment that the clock shows, and its input.
 #[derive(Drop)]
 pub(crate) struct Asked<'a> {
     pub(crate) verb: &'a str,
@@ -11,7 +11,7 @@ pub(crate) struct Asked<'a> {
     pub(crate) input: Bytes,
 }
 
-/// Why a call gave no answer: there is none of these words, or one that may not be made, or a part gave an error.
+/// Why a call gave no answer: there is no call of these words, or it may not be made, or a part gave an error.
 #[derive(Drop)]
 pub(crate) enum NoAnswer {
     NoCall,
@@ -31,7 +31,7 @@ impl From<AllocError> for NoAnswer {
 }
 
 impl Asked<'_> {
-    /// The word at a place behind the verb. Where there are fewer it is empty.
+    /// The word at a place after the verb. If there are fewer it is empty.
     pub(crate) fn word(&self, at: usize) -> &[u8] {
         match self.words.get(at) {
             Some(word) => word.as_bytes(),
@@ -39,12 +39,12 @@ impl Asked<'_> {
         }
     }
 
-    /// The number at a place behind the verb.
+    /// The number at a place after the verb.
     pub(crate) fn number(&self, at: usize) -> Result<u64, NoAnswer> {
         read_number(self.word(at)).ok_or(NoAnswer::NoCall)
     }
 
-    /// The address at a place behind the verb.
+    /// The address at a place after the verb.
     pub(crate) fn address(&self, alloc: Global, at: usize) -> Result<Address, NoAnswer> {
         match Address::parse(alloc, self.word(at)) {
             Ok(address) => Ok(address),

@@ -74,7 +74,7 @@ fn size_and_count(word: &[u8]) -> Option<(u64, u64)> {
     Some((read_number(size)?, read_number(count)?))
 }
 
-// The digest that is due, asked for where the sizes are those of posts.
+// The digest that is due. It is asked for only if the sizes can be those of posts.
 fn range_due(last: u64, sizes: &[u64], oldest: u64, now: u64) -> Result<Option<Range>, NoAnswer> {
     if last > 99_999_999 || sizes.len() > 100 || !sizes.iter().all(|size| *size < 4_294_967_296) {
         return Err(NoAnswer::NoCall);
@@ -82,8 +82,8 @@ fn range_due(last: u64, sizes: &[u64], oldest: u64, now: u64) -> Result<Option<R
     Ok(due(&Mark { last, issue: 1 }, sizes, oldest, now))
 }
 
-// For the last post of a digest, when the first behind it came, and the sizes of those, at the clock's moment: the first and the last post of
-// the digest that is due, or `none`.
+// Given the last post of a digest, when the first one after it came, and the sizes of those after it, at the clock's moment: the first and the
+// last post of the digest that is due, or `none`.
 fn chosen(alloc: Global, asked: &Asked<'_>) -> Result<Bytes, NoAnswer> {
     let sizes = sizes_of(alloc, asked.words.get(2..).unwrap_or(&[]))?;
     let (last, oldest) = (asked.number(0)?, asked.number(1)?);

@@ -11,8 +11,8 @@ use std::test::Fail;
 use trials_lists::same;
 use trials_scripts::{OnSite, hold as hold_rows};
 
-/// What a call answers: `hold SENDER` a message and the clock's moment, `look TICKET`, `take TICKET` behind which the files still stand for
-/// held posts, `next` the next ticket, `older MAX` the tickets of those that are held for 432,000 seconds, and `audit`.
+/// What a call answers: `hold SENDER` a message at the clock's moment, `look TICKET`, `take TICKET` after which the files still stand for
+/// held posts, `next` the next ticket, `older MAX` the tickets of posts held for 432,000 seconds, and `audit`.
 pub(crate) fn answer(
     alloc: Global,
     parts: &mut Parts,
@@ -52,7 +52,7 @@ fn held(alloc: Global, parts: &mut Parts, asked: &Asked<'_>) -> Result<Bytes, No
     drawn(alloc, parts, ticket, txn)
 }
 
-// The moment and the sender of a held post in a line, and its message; `-` where there is none.
+// The moment and the sender of a held post in a line, and its message; `-` if there is none.
 fn told(alloc: Global, post: Option<Held>) -> Result<Bytes, NoAnswer> {
     let Some(post) = post else {
         return word(alloc, b"-");
@@ -130,7 +130,7 @@ fn held_posts(rt: HostRuntime) -> Result<(), Fail> {
     hold_rows::<Calls>(rt.alloc(), "held posts", TABLE)
 }
 
-// No files.
+// A list without files.
 fn no_files(alloc: Global) -> Result<Parts, Fail> {
     let image = Image {
         log: Bytes::new(alloc),
@@ -141,7 +141,7 @@ fn no_files(alloc: Global) -> Result<Parts, Fail> {
     Ok(Layer::new(OnSite { site, files }, Txn::new(alloc)))
 }
 
-// A text with so many times `x` in it.
+// A text, `count` times `x`, and another text.
 fn large(alloc: Global, before: &[u8], count: usize, behind: &[u8]) -> Result<Bytes, AllocError> {
     let mut out = Bytes::from_slice(alloc, before)?;
     out.extend(&vec![in alloc; b'x'; count]?)?;
@@ -149,7 +149,7 @@ fn large(alloc: Global, before: &[u8], count: usize, behind: &[u8]) -> Result<By
     Ok(out)
 }
 
-// Fails where a call of one word isn't answered so.
+// Fails if a call of one word has another answer.
 fn answers(
     alloc: Global,
     parts: &mut Parts,
@@ -190,14 +190,14 @@ fn is_found(alloc: Global, parts: &mut Parts) -> Result<(), Fail> {
     answers(alloc, parts, "look", "1", Bytes::new(alloc), &wanted)
 }
 
-// Puts a held post of a message that is too large by a byte.
+// Puts a held post whose message is too large by a byte.
 fn put_larger(alloc: Global, parts: &mut Parts) -> Result<(), Fail> {
     let text = large(alloc, b"10:1000000000,3:g@h,33554433:", LARGEST + 1, b",")?;
     lay_text(alloc, parts, Name { kind: 13, at: 1 }, text)?;
     Ok(())
 }
 
-// These stand in no table: each command of one copies its files several times.
+// These are in no table: every command of a table copies its files several times.
 #[test]
 fn the_largest_message(rt: HostRuntime) -> Result<(), Fail> {
     let alloc = rt.alloc();

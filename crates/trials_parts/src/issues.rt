@@ -1,4 +1,4 @@
-// Issues: their text, written by hand, and what an issue has of each post.
+// Issues: their text, written by hand, and what an issue has of every post.
 use crate::asked::{Asked, NoAnswer};
 use crate::reading::told;
 use ml_base::Bytes;
@@ -6,9 +6,9 @@ use ml_config::read_config;
 use ml_digest::{DigestPost, digest_text};
 use std::alloc::{AllocError, Global};
 
-/// What a call answers: `write ISSUE FIRST` the text of an issue with the number of its first post, of an input that has each post behind its
-/// subject, with a NUL between two texts; `burst ISSUE FIRST COUNT SHORT` what an issue of so many times the input as its posts is read as, so
-/// many bytes short of its end.
+/// What a call answers: `write ISSUE FIRST` the text of an issue with the number of its first post, of an input that has each post after its
+/// subject, with a NUL between two texts; `burst ISSUE FIRST COUNT SHORT` what is read of an issue whose posts are COUNT times the input, SHORT
+/// bytes short of its end.
 pub(crate) fn answer(alloc: Global, asked: &Asked<'_>) -> Result<Bytes, NoAnswer> {
     let (issue, first) = (asked.number(0)?, asked.number(1)?);
     if asked.verb == "write" {

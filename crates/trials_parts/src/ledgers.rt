@@ -1,5 +1,5 @@
 // The ledgers of bounces, with texts written by hand: an address's course at its exact moments and a second before each, and the
-// ends of each range.
+// limits of each range.
 use crate::asked::{Asked, NoAnswer};
 use crate::parts::{Parts, file, push_number, word};
 use crate::program::Calls;
@@ -26,9 +26,9 @@ pub(crate) fn answer(
     }
 }
 
-// The puts of what happens at the clock's moment, or None where that changes nothing: mail of a number to an address bounces, `bounced
-// ADDRESS NUMBER`, also mail of the digest, `digest ADDRESS NUMBER`; the warning or the probe of a moment does, `warning ADDRESS MOMENT` and
-// `probe ADDRESS MOMENT`; the first action that is due is done, `served`; and an address is forgotten, `forgotten ADDRESS`.
+// The puts of what happens at the clock's moment, or None if that changes nothing: mail with a number to an address bounces, `bounced ADDRESS
+// NUMBER`, or mail of the digest, `digest ADDRESS NUMBER`; the warning or the probe of a moment bounces, `warning ADDRESS MOMENT` and `probe
+// ADDRESS MOMENT`; the first action that is due is done, `served`; and an address is forgotten, `forgotten ADDRESS`.
 fn changes(alloc: Global, parts: &mut Parts, asked: &Asked<'_>) -> Result<Option<Txn>, NoAnswer> {
     let verb = asked.verb;
     if verb == "bounced" || verb == "digest" {
@@ -51,7 +51,7 @@ fn changes(alloc: Global, parts: &mut Parts, asked: &Asked<'_>) -> Result<Option
     }
 }
 
-// What becomes of a number that bounced.
+// The puts after a number has bounced.
 fn noted(alloc: Global, parts: &mut Parts, asked: &Asked<'_>) -> Result<Option<Txn>, NoAnswer> {
     let (who, number, now) = (asked.address(alloc, 0)?, asked.number(1)?, asked.moment);
     if !is_post_number(number) || !is_moment(now) {
@@ -64,7 +64,7 @@ fn noted(alloc: Global, parts: &mut Parts, asked: &Asked<'_>) -> Result<Option<T
     }
 }
 
-// The puts of the first action that is due, or None where none is.
+// The puts of the first action that is due, or None if none is.
 fn served(alloc: Global, parts: &mut Parts, now: u64) -> Result<Option<Txn>, NoAnswer> {
     if !is_moment(now) {
         return Err(NoAnswer::NoCall);
@@ -86,7 +86,7 @@ fn after(alloc: Global, parts: &mut Parts, asked: &Asked<'_>) -> Result<Bytes, N
     file(alloc, parts, Name { kind, at: 29 })
 }
 
-// A line for each action, with the numbers that were missed.
+// A line for every action, with the numbers that were missed.
 fn listed(alloc: Global, parts: &mut Parts, now: u64, max: u64) -> Result<Bytes, NoAnswer> {
     let actions = due(alloc, parts, Set::List, now, max)?;
     let mut out = Bytes::new(alloc);

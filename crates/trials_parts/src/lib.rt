@@ -1,5 +1,5 @@
-//! Tests of the public calls on a list's sets, held posts, the outgoing queue, the ledgers of bounces and the digests, as tables that are
-//! texts.
+//! Tests of the public calls on a list's sets, held posts, the outgoing queue, the ledgers of bounces and the digests, as tables of
+//! text.
 #![tactic(auto)]
 
 #[cfg(test)]

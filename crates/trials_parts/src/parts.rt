@@ -1,10 +1,10 @@
-// The files that calls go over, and what is told of them.
+// The files that calls go over, and the texts of what they answer.
 use crate::asked::NoAnswer;
 use ml_base::{Bytes, Files, Layer, Name, Put, Txn};
 use std::alloc::{AllocError, Global};
 use trials_scripts::OnSite;
 
-/// The files of a site in memory, under the puts of the calls before.
+/// The files of a site in memory, under the puts of the calls so far.
 pub(crate) type Parts = Layer<OnSite>;
 
 /// Lays another text over a file.
@@ -34,18 +34,18 @@ pub(crate) fn file(alloc: Global, parts: &mut Parts, name: Name) -> Result<Bytes
     }
 }
 
-/// A text as it stands.
+/// A text as it is.
 pub(crate) fn word(alloc: Global, word: &[u8]) -> Result<Bytes, NoAnswer> {
     Ok(Bytes::from_slice(alloc, word)?)
 }
 
-/// Adds the digits of a number, and a byte behind them.
+/// Adds the digits of a number, and a byte after them.
 pub(crate) fn push_number(out: &mut Bytes, number: u64, behind: u8) -> Result<(), AllocError> {
     out.push_number(number)?;
     out.push(behind)
 }
 
-/// A number on a line of its own, and behind it each put in a line, with its file's kind and place. The puts are laid.
+/// A number on a line of its own, and then every put on a line, with its file's kind and place. The puts are laid.
 pub(crate) fn drawn(
     alloc: Global,
     parts: &mut Parts,
@@ -71,7 +71,7 @@ fn push_put(out: &mut Bytes, put: &Put) -> Result<(), AllocError> {
     out.push(b'\n')
 }
 
-/// A line for each number.
+/// A line for every number.
 pub(crate) fn lines(alloc: Global, numbers: &[u64]) -> Result<Bytes, NoAnswer> {
     let mut out = Bytes::new(alloc);
     for number in numbers {

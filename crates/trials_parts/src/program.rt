@@ -1,5 +1,5 @@
 // The calls of the parts, as words: `held`, `queue`, `ledgers` or `digests`, and what each of these modules takes after it; or `sets steps`,
-// where the input has the steps. `made entries` makes a thousand entries of a ledger.
+// with the steps in the input. `made entries` makes a thousand entries of a ledger.
 use crate::asked::{Asked, NoAnswer};
 use crate::parts::Parts;
 use crate::{digests, held, ledgers, queue, sets};
@@ -73,7 +73,7 @@ fn laid(alloc: Global, parts: Parts, image: Image) -> Result<Image, AllocError> 
     Ok(image)
 }
 
-// How the steps of the sets end, which leave the files as they were.
+// How the steps on the sets end. They leave the files as they were.
 fn stepped(
     alloc: Global,
     site: MemSite,

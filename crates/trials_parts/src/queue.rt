@@ -13,7 +13,7 @@ use std::alloc::{AllocError, Global};
 use std::test::Fail;
 use trials_scripts::hold;
 
-/// What a call answers: `put WAY RECIPIENTS` a mail, `entry ID`, `sent ID` the counter behind it where the files still stand for a queue,
+/// What a call answers: `put WAY RECIPIENTS` a mail, `entry ID`, `sent ID` the counter after it if the files still stand for a queue,
 /// `next` the next id, `ids` and `audit`.
 pub(crate) fn answer(
     alloc: Global,
@@ -99,7 +99,7 @@ fn queued(alloc: Global, parts: &mut Parts, asked: &Asked<'_>) -> Result<Bytes, 
     drawn(alloc, parts, id, txn)
 }
 
-// Each recipient with his envelope sender in a line, and the mail; `-` where the entry isn't there.
+// Every recipient with the envelope sender in a line, and the mail; `-` if there is no such entry.
 fn entered(alloc: Global, parts: &mut Parts, id: u64) -> Result<Bytes, NoAnswer> {
     match entry(alloc, parts, id)? {
         Some(out) => Ok(told(alloc, &out)?),

@@ -1,12 +1,12 @@
-// The reader of digests: a digest with each line in turn left out or spoiled, and texts at the ends of the grammar.
+// The reader of digests: a digest with each line in turn left out or spoiled, and texts at the limits of the grammar.
 use crate::asked::{Asked, NoAnswer};
 use crate::parts::{push_number, word};
 use ml_base::Bytes;
 use ml_digest::read_digest;
 use std::alloc::{AllocError, Global};
 
-/// What a call answers: `read` what the input is as a digest, `without N` what it is without its line of this number, counted from 0, and
-/// `spoiled N` with a byte more at the end of that line.
+/// What a call answers: `read` what the input is as a digest, `without N` what it is without its line N, counted from 0, and `spoiled N` what
+/// it is with one more byte at the end of that line.
 pub(crate) fn answer(alloc: Global, asked: &Asked<'_>) -> Result<Bytes, NoAnswer> {
     let text = asked.input.as_slice();
     if asked.verb == "read" {
@@ -22,7 +22,7 @@ pub(crate) fn answer(alloc: Global, asked: &Asked<'_>) -> Result<Bytes, NoAnswer
     }
 }
 
-/// What a text is as a digest: its number, and each message behind `|`; or `none`.
+/// What a text is as a digest: its number, and each message after a `|`; or `none`.
 pub(crate) fn told(alloc: Global, text: &[u8]) -> Result<Bytes, NoAnswer> {
     let Some(burst) = read_digest(alloc, text)? else {
         return word(alloc, b"none");
@@ -36,7 +36,7 @@ pub(crate) fn told(alloc: Global, text: &[u8]) -> Result<Bytes, NoAnswer> {
     Ok(out)
 }
 
-// A text without one of its lines, or with a byte more at its end. The last line is what is behind the last LF.
+// A text without one of its lines, or with one more byte at the end of that line. The last line is what comes after the last LF.
 fn with_line(
     alloc: Global,
     text: &[u8],

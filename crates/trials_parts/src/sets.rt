@@ -1,4 +1,4 @@
-// The set list, with texts written by hand, each call that takes memory once, failing reads, and the ends of a set's size.
+// The set list, with texts written by hand: each call that takes memory once, failing reads, and the limits of a set's size.
 use crate::asked::NoAnswer;
 use crate::parts::{Parts, push_number};
 use crate::program::Calls;
@@ -23,7 +23,7 @@ const COUNT: Name = Name { kind: 8, at: 0 };
 
 const NOW: u64 = 1_000_000_400;
 
-// What stands before and after the first `=`.
+// The parts of a text before and after the first `=`.
 fn parts(text: &[u8]) -> (&[u8], &[u8]) {
     split_first(b'=', text).unwrap_or((text, &[]))
 }
@@ -69,7 +69,7 @@ fn lay_members(alloc: Global, files: &mut Parts, addresses: &[u8]) -> Result<(),
     files.lay(txn)
 }
 
-// The puts of a change, or the word for why nothing is changed. A change that is `noted` is made with a memo.
+// The puts of a change, or the word for why nothing changes. A `noted` change is made with a memo.
 fn change(
     alloc: Global,
     files: &mut Parts,
@@ -198,7 +198,7 @@ fn push_set(
     Ok(None)
 }
 
-// Adds what a call on an address answers, unless it is a change that is made, which answers its puts.
+// Adds what a call on an address answers, unless it is a change that is made: then its puts are answered.
 fn push_answer(
     alloc: Global,
     files: &mut Parts,
@@ -240,7 +240,7 @@ fn lay_step(
     }
 }
 
-// Adds what a call answers, or its error, unless it is a change that is made, which answers its puts.
+// Adds what a call answers, or its error, unless it is a change that is made: then its puts are answered.
 fn push_call(
     alloc: Global,
     files: &mut Parts,
@@ -264,7 +264,7 @@ fn push_call(
     }
 }
 
-// Does a step. `files` and `members` lay files. Any other adds what it answers, or its error, and ends the line.
+// Does a step. `files` and `members` lay files. Any other step adds what it answers, or its error, and ends the line.
 fn step(
     alloc: Global,
     files: Parts,
@@ -284,7 +284,7 @@ fn step(
     Ok(files)
 }
 
-/// What the steps of the input answer, which have `;` between them, a line each. They share a memo. `files=TEXT=TEXT=TEXT` and
+/// What the steps in the input answer, a line each; there is a `;` between two steps. They share a memo. `files=TEXT=TEXT=TEXT` and
 /// `members=ADDRESSES` lay files. What is read is `size`, `list` (the members), `all` (their addresses), `order` (how many there are, and
 /// whether their keys rise), `audit`, `bucket=ADDRESS`, `has=ADDRESS` and `find=ADDRESS`. The changes `add=ADDRESS` and `remove=ADDRESS` are
 /// made without the memo, `noted_add=ADDRESS` and `noted_remove=ADDRESS` with it.

@@ -1,4 +1,4 @@
-// A question that is made of an input: what is read before the list, in which order, and what is told of each.
+// A question that is made of an input: what is read before the list, in which order, and what is answered if one of these fails.
 use crate::program::Reading;
 use std::test::Fail;
 use trials_scripts::hold;

@@ -1,4 +1,4 @@
-// A question that is made of all that a command may read: a name, the clock's moment and an input. It is answered by the number of posts.
+// A question that is made of all that a command may read: a name, the clock's moment and an input. Its answer has the number of posts.
 ghost use Rattle.std.specs.Prelude.{◌≡◌, IfOk, OnOk, ◌++◌, ◌∷◌, Ok, true, false};
 ghost use Rattle.std.specs.Fmt.{decimal};
 ghost use Rattle.trials_reading.specs.Notes.{made_of, note, note_meaning, note_text};
@@ -10,7 +10,7 @@ use ml_input::{FromInput, InputError};
 use ml_reading::{Answer, Question};
 use std::alloc::{AllocError, Global};
 
-// What is noted. The clock is read where `CLOCK` says so.
+// What is noted. The clock is read if `CLOCK` is true.
 #[derive(Drop)]
 pub(crate) struct Noted<const CLOCK: bool> {
     name: Bytes,
@@ -32,7 +32,7 @@ impl<const CLOCK: bool> Question for Noted<CLOCK> {
     }
 }
 
-// What is answered of so many posts.
+// The answer for this number of posts.
 fn told_of(
     alloc: Global,
     name: &Bytes,

@@ -1,5 +1,5 @@
-// What is asked of a list, as words: `members [-t] SET`, `queue`, `out ID` and `show N` of queries; `note NAME` and `timed NAME` of the
-// question that reads an input, the second one with the clock. A list is made by `make` and by the items of an input, `spool`.
+// The calls of the tables, as words: the queries `members [-t] SET`, `queue`, `out ID` and `show N`; and `note NAME` and `timed NAME`, the question
+// that reads an input, without and with the clock. `make` makes a list, and `spool` gives it the items in the input.
 use crate::noted::Noted;
 use ml_base::{Bytes, Set, read_number};
 use ml_input::ask;

@@ -1,4 +1,4 @@
-// The rows: each step, and what it answers.
+// The rows for the real disk: each step, and what it answers.
 use super::steps::{Runs, Step};
 use ml_real::{RealClock, StdSource};
 use ml_site::{Clock, Source};
@@ -333,7 +333,7 @@ static STEPS: [(Step, &str); 272] = [
     (Step::Sync, "failed"),
 ];
 
-// Folders on the way to files, walks over a folder, and what is read once.
+// Folders on the way to files, walks over a folder, and files that are read only once.
 static FOLDERS: [(Step, &str); 169] = [
     (Step::Row("a folder on the way: subscribers"), "ok"),
     (Step::MakeFolder("real/list"), "ok"),
@@ -543,7 +543,7 @@ fn each_folder_is_found(rt: HostRuntime) -> Result<(), Fail> {
     Ok(())
 }
 
-// The first step of a table that answers something else, and what.
+// The first step of a table that answers something else, and its answer.
 fn first_wrong(rt: &HostRuntime, steps: &[(Step, &str)]) -> Result<Option<String>, Fail> {
     let mut runs = Runs::new(rt);
     let mut row = "";

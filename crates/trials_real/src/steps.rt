@@ -11,7 +11,7 @@ use std::os::unix::fs::{PermissionsExt, symlink};
 use std::test::Fail;
 use std::{fs, io};
 
-// Files stand by kind and place.
+// A step. Files are given by kind and place.
 #[derive(Clone, Copy)]
 pub(crate) enum Step {
     // A row of this name begins, with an empty folder `real`.
@@ -21,12 +21,12 @@ pub(crate) enum Step {
     MakeFile(&'static str, &'static str),
     MakeLink(&'static str, &'static str),
     RemoveLink(&'static str),
-    // What stands at a path, or `none`, and who may do what with it.
+    // What is at a path, or `none`, and who may do what with it.
     Bytes(&'static str),
     Mode(&'static str),
     // A run begins on the list in this folder, and the one before it ends.
     Run(&'static str),
-    // The other run goes on, of two.
+    // Of two runs the other one goes on.
     Other,
     // A run ends.
     End,
@@ -37,10 +37,10 @@ pub(crate) enum Step {
     CutLog(u64),
     Read(u8, u64),
     Write(u8, u64, &'static str),
-    // All files of a kind from a place on and before another.
+    // All files of a kind, from one place up to but not including another.
     WriteAll(u8, u64, u64, &'static str),
     Remove(u8, u64),
-    // The place of a kind that a walk from one place on and before another may go on at.
+    // The place where a walk over a kind, from one place up to another, may go on.
     Skip(u8, u64, u64),
     // How many of its calls have failed.
     Failures,
@@ -63,7 +63,7 @@ impl<'a> Runs<'a> {
         }
     }
 
-    // Does a step, and tells what it answered.
+    // Does a step, and gives what it answered.
     pub(crate) fn answer(&mut self, step: Step) -> Result<Bytes, Fail> {
         match step {
             Step::Run(dir) => self.run = Some(RealSite::new(self.rt, dir)),
@@ -90,7 +90,7 @@ impl<'a> Runs<'a> {
     }
 }
 
-// What another program's step answers, or None where it is none of these.
+// What a step of another program answers, or None if the step isn't one of these.
 fn beside(rt: &HostRuntime, step: Step) -> io::Result<Option<Bytes>> {
     match step {
         Step::Row(_) => {
@@ -118,7 +118,7 @@ fn bytes_of(rt: &HostRuntime, path: &str) -> io::Result<Bytes> {
     }
 }
 
-// In octal digits.
+// The mode, in octal digits.
 fn mode_of(rt: &HostRuntime, path: &str) -> io::Result<Bytes> {
     let mode = fs::metadata(rt, path)?.permissions().mode() & 0o777;
     let text = format!(in rt.alloc(); "{mode:o}")?;
@@ -173,7 +173,7 @@ fn call_on_file(alloc: Global, site: &mut RealSite<'_>, step: Step) -> Result<By
     Ok(Bytes::from_slice(alloc, b"ok")?)
 }
 
-// Whether a site's calls take the name.
+// Whether a site's calls accept the name.
 fn is_file(name: Name) -> bool
     ensures { result ≡ spec.is_file name }
 {

@@ -1,4 +1,4 @@
-// Answers from the archive: what they are, and to whom the archive is open.
+// Mail that asks for the archive: the answers, and to whom the archive is open.
 pub(crate) const TABLE: &str = r"
 let m From: g@h\n\nhi\n
 let none No such posts.\n

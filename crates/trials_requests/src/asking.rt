@@ -1,4 +1,4 @@
-// What a list in memory is asked, and the text of what it answers.
+// Calls on a list in memory, and the text of what they answer.
 ghost use Rattle.ml_config.specs.Configuration.{IsConfig};
 
 use ml_address::read_request;
@@ -27,7 +27,7 @@ fn told(alloc: Global, answer: Result<(Txn, Reply), PartError>) -> Result<Told, 
     }
 }
 
-/// What is found of a sender's message.
+/// Gives what is found of a sender's message.
 pub(crate) fn found(
     alloc: Global,
     files: &mut OnSite,
@@ -64,7 +64,7 @@ pub(crate) fn posted(
     told(alloc, post(alloc, files, config, now, sender, message))
 }
 
-/// A moderator answers about a ticket with these letters: he accepts, or he rejects.
+/// A moderator answers with the letters for a ticket, and accepts or rejects it.
 pub(crate) fn answered(
     alloc: Global,
     files: &mut OnSite,

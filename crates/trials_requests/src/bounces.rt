@@ -1,5 +1,5 @@
-// Bounces: an address from its first bounce to the end, bounces that change nothing, and those of the digest. The letters of the cookies are
-// those that the key of the bytes 0 to 31 makes.
+// Bounces: an address from its first bounce to the end, bounces that change nothing, and bounces of the digest. The letters of the cookies
+// are made with the key of the bytes 0 to 31.
 pub(crate) const TABLE: &str = r"
 let m Mailing-List: x\n\n
 let noted 28:3:a@b,10:1000010000,1:n,1:1,,

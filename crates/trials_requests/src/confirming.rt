@@ -1,4 +1,4 @@
-// Confirmations of joining and of leaving.
+// Mail that confirms joining or leaving.
 pub(crate) const TABLE: &str = r"
 # What the entry of each mail begins with.
 let mail 12:list-return-,6:ex.org,1:p,

@@ -1,4 +1,4 @@
-// Held posts that no moderator answered.
+// Held posts that no moderator answered go back to their authors.
 use ml_base::{Bytes, Name};
 use ml_timed::timed;
 use std::alloc::Global;
@@ -57,7 +57,7 @@ fn after(alloc: Global, texts: &Texts) -> Result<(Texts, Bytes), Fail> {
     Ok((after, reply_text(alloc, reply.code, reply.number)?))
 }
 
-// These runs are in no table: each command of a table copies its files several times. Each run has its answer, the second and the third held
+// These runs are in no table: every command of a table copies its files several times. Each run has its answer, the second and the third held
 // post, and the tickets.
 #[test]
 fn messages_of_33_554_432_bytes_go_back_at_once(rt: HostRuntime) -> Result<(), Fail> {

@@ -1,6 +1,6 @@
-// What a list in memory is asked, as words. `new` makes a list. The calls are `verdict SENDER`, `post SENDER`, `mail SENDER RECIPIENT`, `due`,
+// The calls of the tables, as words. `new` makes a list. The calls are `verdict SENDER`, `post SENDER`, `mail SENDER RECIPIENT`, `due`,
 // `answer TICKET LETTERS` with `accept` or `reject`, and `timed`. Letters of options may follow a call, and the most bytes of a post. `bounced`
-// gives the list 1,002 members, for each of whom mail bounced.
+// gives the list 1,002 members, and mail to each of them has bounced.
 ghost use Rattle.std.specs.Prelude.{IfOk};
 ghost use Rattle.ml_config.specs.Configuration.{IsConfig};
 
@@ -19,7 +19,7 @@ use trials_scripts::{OnSite, Program, ended_with, hold, read_whole};
 
 pub(crate) struct Requests;
 
-// The most bytes of a post if no word says it.
+// The most bytes of a post, if no word gives it.
 const MAX: u64 = 1_048_576;
 
 // A closed gate.
@@ -65,7 +65,7 @@ fn configured(alloc: Global, letters: &str, max: &str) -> Result<Config, Fail>
     config(alloc, letters, prefix, max)
 }
 
-// What a list is asked at a moment, with the input as the message.
+// What a call on a list answers at a moment, with the input as the message.
 fn called(
     alloc: Global,
     words: &[String],
@@ -122,7 +122,7 @@ fn made(alloc: Global, words: &[String], image: &mut Image) -> Result<bool, Fail
     Ok(verb == "new" || verb == "bounced")
 }
 
-// The files after a call, and what it tells.
+// The files after a call, and its answer.
 fn called_on(
     alloc: Global,
     words: &[String],

@@ -1,4 +1,4 @@
-// The rules in their order, help, the owner's mail, and the members of a set.
+// Rules for mail in their order: help, mail to the owner, and lists of a set's members.
 pub(crate) const TABLE: &str = r"
 let m From: g@h\n\nhi\n
 let looped MAILING-list: x\n\n

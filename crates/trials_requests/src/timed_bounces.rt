@@ -1,4 +1,4 @@
-// Following up mail that bounced.
+// Timed runs that follow up bounces.
 pub(crate) const TABLE: &str = r"
 # The ledger.
 let noted 28:3:a@b,10:1000010000,1:n,1:1,,

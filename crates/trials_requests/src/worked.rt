@@ -1,5 +1,5 @@
 // Worked examples: a question and what may follow it, a member who is asked, the archive of three posts, and a thread. Mails and
-// letters of cookies were made with another program.
+// cookies were made with another program.
 pub(crate) const TABLE: &str = r"
 let m From: g@h\n\nhi\n
 # What the entry of each mail begins with.

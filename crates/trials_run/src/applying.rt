@@ -11,7 +11,7 @@ use std::test::Fail;
 use trials_lists::{copy, error_text, lay, reply_text, text_of};
 use trials_scripts::{OnSite, ended_with};
 
-// The files, and what the items before have made of them.
+// The files, with the puts of the items so far over them.
 type List = Layer<OnSite>;
 
 // The code and the number of a reply, whose puts are laid over the list, or an error.
@@ -34,7 +34,7 @@ fn push_line(out: &mut Bytes, text: &[u8]) -> Result<(), AllocError> {
     out.push(b'\n')
 }
 
-// The list after an item, whose answer is added as a line: the code and the number of its reply, or an error.
+// The list after an item. The item's answer is added as a line: the code and the number of its reply, or an error.
 fn applied(alloc: Global, list: List, item: &Item, out: &mut Bytes) -> Result<List, Fail>
     requires { IsItem item.now }
 {
@@ -44,7 +44,7 @@ fn applied(alloc: Global, list: List, item: &Item, out: &mut Bytes) -> Result<Li
     Ok(list)
 }
 
-// The list after the items of a stream, one applied over the other.
+// The list after the items of a stream, one after another.
 fn all_applied(
     alloc: Global,
     list: List,
@@ -127,7 +127,7 @@ fn laid(alloc: Global, list: List, image: Image) -> Result<Image, AllocError> {
     Ok(image)
 }
 
-// What is read of a list.
+// What is read from a list.
 fn looked_at(alloc: Global, list: &mut List, verb: &str) -> Result<Bytes, Fail> {
     if verb == "floor" {
         Ok(floor_text(alloc, list)?)
@@ -138,7 +138,7 @@ fn looked_at(alloc: Global, list: &mut List, verb: &str) -> Result<Bytes, Fail> 
     }
 }
 
-// The list after a call, and what that answers.
+// The list after a call, and what the call answers.
 fn called(
     alloc: Global,
     list: List,

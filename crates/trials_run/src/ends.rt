@@ -3,7 +3,7 @@ use crate::program::Calls;
 use std::test::Fail;
 use trials_scripts::hold;
 
-// Streams, each with how many whole items it has and what is after them. A sender and a recipient have at most 1,000 bytes.
+// Streams, each with the number of its whole items and what comes after them. A sender and a recipient have at most 1,000 bytes.
 const ENDS: &str = r"
 # Letters, numbers and moments.
 input T1:7,10:1000000000,T1:8,1:0, | run ends => 0 2 end

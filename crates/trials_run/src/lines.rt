@@ -1,4 +1,4 @@
-// Lines of answers and of endings.
+// The lines that answer items and end runs.
 use ml_base::{Bytes, Name};
 use ml_ending::{Why, stop_line};
 use ml_plain::Reply;

@@ -11,7 +11,7 @@ use trials_scripts::{Program, ended_with};
 
 pub(crate) struct Calls;
 
-// What a call tells of a site, or of its input alone.
+// What a call answers about a site, or about its input alone.
 fn text_of(
     alloc: Global,
     site: &MemSite,
@@ -49,7 +49,7 @@ fn is_told(verb: &str) -> bool {
     verb == "longest" || verb == "gate" || verb == "read" || verb == "ends"
 }
 
-// The number at the head of these words, if there is one.
+// The first of these words as a number, if it is one.
 fn first_number(words: &[String]) -> Option<u64> {
     read_number(words.first()?.as_bytes())
 }

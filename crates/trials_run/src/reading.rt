@@ -11,7 +11,7 @@ use std::alloc::{AllocError, Global};
 use std::test::Fail;
 use trials_scripts::{hold, read_whole};
 
-// An error is answered again, and nothing more is read. A failed look ahead takes nothing. Then an item of each letter, and a delivery whose
+// An error is answered again, and nothing more is read. A failed look ahead takes nothing. Then an item of every letter, and a delivery whose
 // sender, recipient and message each have every byte once.
 const TABLE: &str = r"
 let every D1:7,10:1000000000,{0..2:256:\0\x01\x02\x03\x04\x05\x06\x07\x08\x09\n\x0B\x0C\x0D\x0E\x0F\x10\x11\x12\x13\x14\x15\x16\x17\x18\x19\x1A\x1B\x1C\x1D\x1E\x1F !\x22#$%&'()*+,-./0123456789:;<=>?@ABCDEFGHIJKLMNOPQRSTUVWXYZ[\x5C]^_`abcdefghijklmnopqrstuvwxyz\x7B|\x7D~\x7F\x80\x81\x82\x83\x84\x85\x86\x87\x88\x89\x8A\x8B\x8C\x8D\x8E\x8F\x90\x91\x92\x93\x94\x95\x96\x97\x98\x99\x9A\x9B\x9C\x9D\x9E\x9F\xA0\xA1\xA2\xA3\xA4\xA5\xA6\xA7\xA8\xA9\xAA\xAB\xAC\xAD\xAE\xAF\xB0\xB1\xB2\xB3\xB4\xB5\xB6\xB7\xB8\xB9\xBA\xBB\xBC\xBD\xBE\xBF\xC0\xC1\xC2\xC3\xC4\xC5\xC6\xC7\xC8\xC9\xCA\xCB\xCC\xCD\xCE\xCF\xD0\xD1\xD2\xD3\xD4\xD5\xD6\xD7\xD8\xD9\xDA\xDB\xDC\xDD\xDE\xDF\xE0\xE1\xE2\xE3\xE4\xE5\xE6\xE7\xE8\xE9\xEA\xEB\xEC\xED\xEE\xEF\xF0\xF1\xF2\xF3\xF4\xF5\xF6\xF7\xF8\xF9\xFA\xFB\xFC\xFD\xFE\xFF,}
@@ -98,7 +98,7 @@ fn error_words(alloc: Global, error: StreamError) -> Result<String, AllocError> 
     }
 }
 
-// The reader after an item is asked for.
+// The reader after the next item is asked for.
 fn next(
     alloc: Global,
     reader: Reader,
@@ -121,7 +121,7 @@ fn next(
     Ok(Reader::Sound(Sound { items }))
 }
 
-// The reader after it is asked for more. One that has met an error is not asked.
+// The reader after it is asked whether there is more. One that has met an error isn't asked.
 fn more(reader: Reader, input: &mut MemSource, out: &mut Bytes) -> Result<Reader, AllocError> {
     match reader {
         Reader::Sound(Sound { mut items }) => {
@@ -136,7 +136,7 @@ fn more(reader: Reader, input: &mut MemSource, out: &mut Bytes) -> Result<Reader
     }
 }
 
-// Adds what a source gives into two bytes.
+// Adds what a source gives for a buffer of two bytes.
 fn push_read(alloc: Global, input: &mut MemSource, out: &mut Bytes) -> Result<(), AllocError> {
     let mut buf = [0u8; 2];
     match input.read(&mut buf) {
@@ -148,7 +148,7 @@ fn push_read(alloc: Global, input: &mut MemSource, out: &mut Bytes) -> Result<()
     }
 }
 
-// The reader after it is asked for one of the following.
+// The reader after it is asked one of the questions below.
 fn asked(
     alloc: Global,
     reader: Reader,
@@ -166,7 +166,7 @@ fn asked(
     }
 }
 
-// The answers, a line each, to these questions: `more`, whether there is a further byte; `next`, the next item with its number, its moment, its
+// The answers, a line each, to these questions: `more`, whether there is another byte; `next`, the next item with its number, its moment, its
 // act and its bytes as they are written; `written`, these bytes alone; and `read`, two bytes of the source itself, with how many it gives.
 pub(crate) fn answers(
     alloc: Global,
@@ -184,7 +184,7 @@ pub(crate) fn answers(
     Ok(out)
 }
 
-// How many items a stream has, cut to so many bytes if there is a number, and what comes after them. No stream here has more than ten.
+// How many items a stream has, cut to this many bytes if a number is given, and what comes after them. No stream here has more than ten.
 pub(crate) fn ending(
     alloc: Global,
     size: Option<u64>,

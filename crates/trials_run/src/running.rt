@@ -1,4 +1,4 @@
-// Runs over a list on a site.
+// Runs over a list on a site in memory.
 use ml_base::{Bytes, Name, Numbers, Set, read_number};
 use ml_run::{make, run};
 use ml_site::{Fill, MemSite, MemSource, Site};
@@ -58,7 +58,7 @@ pub(crate) fn with_members(
     ended_with(alloc, 0, image, b"")
 }
 
-// The gate of a log that has a record after it, or `-`.
+// The gate of a log with a record after it, more than 4,608 bytes in all; or `-`.
 pub(crate) fn gate(alloc: Global, site: &MemSite) -> Result<Bytes, AllocError> {
     let image = site.crash(alloc, 0, Fill::Old)?;
     match image.log.as_slice() {
@@ -67,8 +67,8 @@ pub(crate) fn gate(alloc: Global, site: &MemSite) -> Result<Bytes, AllocError> {
     }
 }
 
-// Whether the longest log that a run has at some moment is longer than the first of these numbers and shorter than the second; otherwise how
-// long it is.
+// Whether the longest log that a run has at any moment is longer than the first of these numbers and shorter than the second; otherwise its
+// length.
 pub(crate) fn longest(
     alloc: Global,
     site: &MemSite,

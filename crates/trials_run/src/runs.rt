@@ -62,8 +62,8 @@ run make => 0 made list@ex.org\n | run members 99840 => 0 | input {199840..19999
 run make => 0 made list@ex.org\n | put subscribers/W T | input {four} | run spool => 75 1 0 subscribed\n2 0 subscribed\n3 75 subscribers/W\n2 answered | has subscribers/] layout 2\nTa@b\01000000000\0 | has subscribers/L layout 2\nTc@d\01000000000\0 | has subscribers/W T | has counts/list 2\n | has log \0
 ";
 
-// The lengths between which the longest log lies that a run of so many neighbours leaves at some moment. A file of kept replies has 4,608 bytes,
-// and sixteen buckets of one member each have fewer than 100 with their names, and each file is put once.
+// Limits for the length of the longest log that a run of these many neighbours leaves at any moment. A file of kept replies has 4,608 bytes, and
+// sixteen buckets of one member each have fewer than 100 with their names, and each file is put once.
 const LOGS: &str = r"
 run make => 0 made list@ex.org\n | input {10..25:A2:%,10:1000000000,4:list,4:b@%,} | run longest 4608 6208 => 0 between
 run make => 0 made list@ex.org\n | input {10..26:A2:%,10:1000000000,4:list,4:b@%,} | run longest 9216 12416 => 0 between

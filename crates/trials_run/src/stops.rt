@@ -1,10 +1,10 @@
-// Runs that are stopped: by the end of their stream, by a call that fails, or by a crash.
+// Runs that are stopped by the end of their stream, by a call that fails, or by a crash.
 use crate::program::Calls;
 use std::test::Fail;
 use trials_scripts::hold;
 
-// An item of each letter, cut after so many bytes, and the answers. They end before 32, 64, 87 and 175. The elements of the items begin at 0, 1,
-// 5, 19 and 26; at 32, 33, 37, 51 and 58; at 64, 65, 69 and 83; at 87, 88, 93 and 107. There is no byte after the 175.
+// An item of every letter, cut after a number of bytes, and the answers. They end before 32, 64, 87 and 175. The elements of the items begin at
+// 0, 1, 5, 19 and 26; at 32, 33, 37, 51 and 58; at 64, 65, 69 and 83; at 87, 88, 93 and 107. There is no byte after the 175.
 const CUTS: &str = r"
 let each A1:7,10:1000000000,4:list,3:a@b,R1:8,10:1000000001,4:list,3:A@B,F1:9,10:1000000002,1:5,K2:10,10:1000000003,64:{1..64:f},
 list run make => 0 made list@ex.org\n

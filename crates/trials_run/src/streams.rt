@@ -3,7 +3,7 @@ use crate::program::Calls;
 use std::test::Fail;
 use trials_scripts::hold;
 
-// Runs of at most so many items, or of at most a million.
+// Runs of at most this many items, or of at most a million.
 const TABLE: &str = r"
 list run make => 0 made list@ex.org\n
 # Whole streams.

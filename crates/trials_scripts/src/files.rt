@@ -9,7 +9,7 @@ use ml_site::{MemSite, Site, SiteError};
 use std::alloc::Global;
 use trials_lists::Texts;
 
-/// The files of a site in memory. They tell nothing of themselves, as those of the real disk do. Each read is a call of the site.
+/// The files of a site in memory. They don't tell what they hold, as those of the real disk don't. Each read is a call of the site.
 #[derive(Drop)]
 pub struct OnSite {
     pub site: MemSite,

@@ -1,4 +1,4 @@
-//! Tables of trials that are texts: the steps of their rows, over a list in memory.
+//! Runs tables of trials: a table is a text, and each row has steps over a list in memory.
 #![tactic(auto)]
 
 mod files;

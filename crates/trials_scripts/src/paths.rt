@@ -1,8 +1,8 @@
-// Names of files by their paths.
+// Finds the name of a file from its path.
 use ml_base::{Name, Set, read_number, split_last};
 use std::test::Fail;
 
-/// The name of the file of a path.
+/// The name of the file with this path.
 pub(crate) fn name_of(path: &str) -> Result<Name, Fail> {
     let name = match split_last(b'/', path.as_bytes()) {
         Some((folder, leaf)) => in_folder(folder, leaf),
@@ -69,7 +69,7 @@ fn place(kind: u8, leaf: &[u8]) -> Option<u64> {
     }
 }
 
-// The number of these digits, of which the first may be zeros.
+// The number of these digits, which may begin with zeros.
 fn leading(digits: &[u8]) -> Option<u64> {
     let mut rest = digits;
     for _ in 0..2 {

@@ -1,4 +1,4 @@
-// The lines of a table.
+// Reads a table line by line, and tries its rows.
 use crate::stage::{Program, Stage, beginning, empty, run};
 use crate::steps::step;
 use crate::texts::{Named, keep, number_of, push_named};
@@ -6,7 +6,7 @@ use ml_base::Bytes;
 use std::alloc::Global;
 use std::test::Fail;
 
-// What the lines so far have made: the texts that have names, the list that rows begin with, and how the last row ended.
+// What the lines so far have made: the texts that have names, the list with which rows begin, and how the last row ended.
 #[derive(Drop)]
 struct Known {
     named: Named,
@@ -28,7 +28,7 @@ fn numbered_step<P: Program>(
     step::<P>(alloc, named, place.as_str(), stage, text, turn)
 }
 
-// Does the steps of a row, one after the other.
+// Does the steps of a row, one after another.
 fn row<P: Program>(
     alloc: Global,
     named: &Named,
@@ -43,7 +43,7 @@ fn row<P: Program>(
     Ok(())
 }
 
-// Does the steps of a row over a copy of a list, which nothing sees after it.
+// Does the steps of a row over a copy of a list. What they leave isn't kept.
 fn row_apart<P: Program>(
     alloc: Global,
     named: &Named,
@@ -56,7 +56,7 @@ fn row_apart<P: Program>(
     row::<P>(alloc, named, name, &mut stage, steps, turn)
 }
 
-// Does a row in one turn of its loop. The digits of the turn are the text `turn` in it.
+// Does a row in one turn of its loop. In the row the text `turn` is the digits of the turn.
 fn in_turn<P: Program>(
     alloc: Global,
     known: &mut Known,
@@ -72,7 +72,7 @@ fn in_turn<P: Program>(
     Ok(())
 }
 
-// Does a row once for each number of its loop: `FIRST LAST | STEPS`.
+// Does a row once for every number of its loop: `FIRST LAST | STEPS`.
 fn turns<P: Program>(alloc: Global, known: &mut Known, name: &str, text: &str) -> Result<(), Fail> {
     let Some((range, steps)) = text.split_once(" | ") else {
         return Err(Fail::new(format_args!("{name}: no steps")));
@@ -105,7 +105,7 @@ fn keep_output<P: Program>(alloc: Global, known: &mut Known, text: &str) -> Resu
     push_named(alloc, &mut known.named, name, output)
 }
 
-// Makes the list that the rows after it begin with.
+// Makes the list with which the rows after it begin.
 fn make_list<P: Program>(
     alloc: Global,
     known: &mut Known,
@@ -127,7 +127,7 @@ fn row_anew<P: Program>(
     row::<P>(alloc, &known.named, name, &mut known.last, steps, 0)
 }
 
-// Does what a line says that isn't empty and no comment.
+// Does what a line says, if it isn't empty and no comment.
 fn said<P: Program>(alloc: Global, known: &mut Known, name: &str, line: &str) -> Result<(), Fail> {
     if let Some(text) = line.strip_prefix("let ") {
         keep(alloc, &mut known.named, text)
@@ -159,11 +159,11 @@ fn hold_line<P: Program>(
     said::<P>(alloc, known, name.as_str(), line)
 }
 
-/// Tries the rows of a table, and fails at the first that doesn't come out as it says, with the number of its line from 0, of its step and
+/// Tries the rows of a table, and fails at the first that doesn't end as it says, with the number of its line from 0, of its step and
 /// of its turn.
 ///
-/// Each line is a row, but for empty ones and those that begin with `#`. `let NAME TEXT` keeps a text, and `list STEPS` makes the list that
-/// the rows after it begin with. `told NAME WORDS` keeps what a command puts out over that list. `then STEPS` goes on where the row before
+/// Every line is a row, except for empty ones and those that begin with `#`. `let NAME TEXT` keeps a text, and `list STEPS` makes the list with
+/// which the rows after it begin. `told NAME WORDS` keeps what a command puts out over that list. `then STEPS` goes on where the row before
 /// ended, and `turns FIRST LAST | STEPS` is tried once for each of these numbers.
 pub fn hold<P: Program>(alloc: Global, table: &str, text: &str) -> Result<(), Fail> {
     let mut known = Known {

@@ -1,4 +1,4 @@
-// A list in memory, and one command over it.
+// A list in memory, and running one command over it.
 use crate::texts::{Named, spelled_with};
 use ml_base::{Bytes, Numbers};
 use ml_site::{Fill, Image, MemClock, MemSite, MemSource, Site, Source};
@@ -19,8 +19,8 @@ pub trait Program {
     ) -> Result<(u8, MemSite), Fail>;
 }
 
-// What the next command meets: the moment that the clock shows, if it does, the input, the reads of it that fail, the calls that fail, the
-// room for calls and for its output, the call after which it is stopped, and what is left then of what no sync has settled.
+// What the next command meets: the moment that the clock shows, if any, the input, the reads of it that fail, the calls that fail, the
+// room for calls and for its output, the call after which it is stopped, and what is left then in place of what no sync has settled.
 #[derive(Drop)]
 pub(crate) struct Next {
     pub(crate) moment: Option<u64>,
@@ -33,7 +33,7 @@ pub(crate) struct Next {
     pub(crate) fill: Fill,
 }
 
-/// A list as it stands at a step, as it stood before the last command, how many bytes that one left of its input, and what the next one
+/// A list as it is at a step, the list as it was before the last command, how many bytes that command left of its input, and what the next one
 /// meets.
 #[derive(Drop)]
 pub(crate) struct Stage {
@@ -85,7 +85,7 @@ fn copied(alloc: Global, image: &Image) -> Result<Image, AllocError> {
     })
 }
 
-/// The same list, whose next command meets the same moment and input.
+/// The same list, with the same moment and input for the next command.
 pub(crate) fn beginning(alloc: Global, stage: &Stage) -> Result<Stage, AllocError> {
     let image = copied(alloc, &stage.image)?;
     let input = Bytes::from_slice(alloc, stage.next.input.as_slice())?;
@@ -171,7 +171,7 @@ pub fn ended_with(
     Ok((status, site))
 }
 
-// A site with these files, whose calls fail as the next command is to meet them.
+// A site with these files, whose calls fail as the next command should meet them.
 fn site(alloc: Global, image: &Image, next: &Next) -> Result<MemSite, Fail> {
     let image = copied(alloc, image)?;
     let mut site = MemSite::new(alloc, image, next.calls, next.room)?;
@@ -179,7 +179,7 @@ fn site(alloc: Global, image: &Image, next: &Next) -> Result<MemSite, Fail> {
     Ok(site)
 }
 
-// How the program ends with these words on a site: its status, the site, and how many bytes are left of its input.
+// How the program ends when it is run with these words on a site: its status, the site, and how many bytes are left of its input.
 fn ended<P: Program>(
     alloc: Global,
     words: &[String],
@@ -192,7 +192,7 @@ fn ended<P: Program>(
     Ok((status, site, unread(&mut input)))
 }
 
-// Takes what a command leaves on its site as the list.
+// Takes what a command left on its site as the list.
 fn take_left(alloc: Global, stage: &mut Stage, site: &MemSite) -> Result<(), Fail> {
     stage.before = copied(alloc, &stage.image)?;
     stage.image = site.crash(alloc, stage.next.stop, stage.next.fill)?;

@@ -1,4 +1,4 @@
-// The steps of a row.
+// Does the steps of a row.
 use crate::paths::name_of;
 use crate::stage::{Program, Stage, run};
 use crate::texts::{Named, number_of, spelled_with};
@@ -8,7 +8,7 @@ use std::alloc::Global;
 use std::test::Fail;
 use trials_lists::{Left, add_members, check_left, same, text_of};
 
-// The number of a step, or that of the row's loop.
+// The number that a step gives, or that of the row's loop.
 fn number_or(text: &str, turn: u64) -> Result<u64, Fail> {
     if text.is_empty() {
         Ok(turn)
@@ -17,7 +17,7 @@ fn number_or(text: &str, turn: u64) -> Result<u64, Fail> {
     }
 }
 
-// The numbers of a step, with single spaces between them, or that of the row's loop.
+// The numbers that a step gives, with single spaces between them, or that of the row's loop.
 fn numbers_or(alloc: Global, text: &str, turn: u64) -> Result<Numbers, Fail> {
     let mut numbers = Numbers::new(alloc);
     for number in text.split(' ') {
@@ -26,7 +26,7 @@ fn numbers_or(alloc: Global, text: &str, turn: u64) -> Result<Numbers, Fail> {
     Ok(numbers)
 }
 
-// What is left of what no sync has settled: `old`, `new`, or the byte of this number in its place.
+// What is left in place of what no sync has settled: `old`, `new`, or the byte of this number.
 fn fill_of(text: &str) -> Result<Fill, Fail> {
     if text == "old" {
         Ok(Fill::Old)
@@ -87,7 +87,7 @@ fn put(image: &mut Image, name: Name, text: Bytes) -> Result<(), Fail> {
     Ok(())
 }
 
-// The bytes but the last.
+// All bytes except the last.
 fn without_last(bytes: &[u8]) -> &[u8] {
     match bytes {
         [rest @ .., _] => rest,
@@ -95,15 +95,15 @@ fn without_last(bytes: &[u8]) -> &[u8] {
     }
 }
 
-// A text after another.
+// One text after another.
 fn joined(alloc: Global, first: &[u8], second: &[u8]) -> Result<Bytes, Fail> {
     let mut bytes = Bytes::from_slice(alloc, first)?;
     bytes.extend(second)?;
     Ok(bytes)
 }
 
-// What a file is changed to: `put` gives it a text, `cut` takes its last byte, `grow` adds a text at its end, and `take` gives it what
-// another file has.
+// The new text of a file: `put` gives it a text, `cut` takes its last byte away, `grow` adds a text at its end, and `take` gives it the text of
+// another file.
 fn changed(
     alloc: Global,
     named: &Named,
@@ -128,7 +128,7 @@ fn changed(
     }
 }
 
-// Fails where a file hasn't this text, or isn't absent where it is to `lack` or the command to `lose` it.
+// Fails if a file doesn't have this text (`has`, `gets`), or isn't absent (`lacks`, `loses`).
 fn compare(
     alloc: Global,
     named: &Named,
@@ -148,7 +148,7 @@ fn compare(
     same(alloc, place, 0, file_of(image, name), wanted.as_slice())
 }
 
-// Takes a file that the last command was to change as one that was so before it: `gets` and `loses`.
+// Counts a file that the last command had to change, `gets` or `loses`, as one that was already so before it.
 fn allow(alloc: Global, stage: &mut Stage, verb: &str, name: Name) -> Result<(), Fail> {
     if verb == "loses" {
         let _ = stage.before.files.remove(&name);
@@ -159,7 +159,7 @@ fn allow(alloc: Global, stage: &mut Stage, verb: &str, name: Name) -> Result<(),
     Ok(())
 }
 
-// Gives the file of a number in a folder a text.
+// Gives a text to the file with this number in a folder.
 fn put_numbered(
     alloc: Global,
     named: &Named,
@@ -173,7 +173,7 @@ fn put_numbered(
     put(image, name_of(path.as_str())?, text)
 }
 
-// Gives the files of some numbers in a folder a text: `each FIRST LAST FOLDER TEXT`.
+// Gives a text to the files with these numbers in a folder: `each FIRST LAST FOLDER TEXT`.
 fn put_each(alloc: Global, named: &Named, image: &mut Image, rest: &str) -> Result<(), Fail> {
     let (first, rest) = rest.split_once(' ').unwrap_or((rest, ""));
     let (last, rest) = rest.split_once(' ').unwrap_or((rest, ""));
@@ -184,7 +184,7 @@ fn put_each(alloc: Global, named: &Named, image: &mut Image, rest: &str) -> Resu
     Ok(())
 }
 
-// Does a step of a file: the changes above, `drop` and the comparisons.
+// Does a step on a file: one of the changes above, `drop`, or a comparison.
 fn of_file(
     alloc: Global,
     named: &Named,
@@ -208,7 +208,7 @@ fn of_file(
     }
 }
 
-// A status, and an output behind a space if there is one.
+// A status, and after a space the output if there is any.
 fn told(alloc: Global, status: u8, output: &[u8]) -> Result<Bytes, Fail> {
     let head = format!(in alloc; "{status}")?;
     let mut text = Bytes::from_slice(alloc, head.as_bytes())?;
@@ -219,8 +219,8 @@ fn told(alloc: Global, status: u8, output: &[u8]) -> Result<Bytes, Fail> {
     Ok(text)
 }
 
-// Whether an output ends behind some first lines of an answer as that of a command does of which a call failed: by 73 and nothing more, or
-// by a stop line of 111, alone or under the number of the line in whose place it stands.
+// Whether an output is some first lines of an answer and then ends as for a command of which a call failed: with 73 and nothing more, or
+// with a stop line of 111, alone or under the number of the line that it replaces.
 fn says_so(status: u8, output: &[u8], answer: &[u8]) -> bool {
     let mut rest = output;
     for line in answer.split(|byte| *byte == b'\n') {
@@ -240,7 +240,7 @@ fn is_stop(status: u8, rest: &[u8], line: &[u8]) -> bool {
                 || rest.strip_prefix(number) == Some(b" 111 disk\n".as_slice())))
 }
 
-// Whether a text is these pieces in order, of which a `*` between two stands for any bytes.
+// Whether a text is these pieces in order; each `*` between two of them stands for any bytes.
 fn is_like(text: &[u8], pattern: &[u8]) -> bool {
     let Some((first, behind)) = split_first(b'*', pattern) else {
         return text == pattern;
@@ -259,7 +259,7 @@ fn is_like(text: &[u8], pattern: &[u8]) -> bool {
     rest.is_empty() || text.ends_with(last)
 }
 
-// What is behind the first place at which a text has this piece.
+// What comes after the first place at which a text has this piece.
 fn behind_piece<'a>(text: &'a [u8], piece: &[u8]) -> Option<&'a [u8]> {
     for from in 0..=text.len() {
         if let Some(rest) = text[from..].strip_prefix(piece) {
@@ -269,8 +269,8 @@ fn behind_piece<'a>(text: &'a [u8], piece: &[u8]) -> Option<&'a [u8]> {
     None
 }
 
-// Whether a command ended as a text says, by the verb before it: `run` as it stands, `like` with any bytes for each `*`, and `may` also as
-// one of which a call failed. `came` is its status with its output.
+// Whether a command ended as a text says. With the verb `run` the text has to be the same, with `like` each `*` stands for any bytes, and with
+// `may` the command may also end as if a call failed. `came` is its status with its output.
 fn is_ending(verb: &str, status: u8, output: &[u8], came: &[u8], wanted: &[u8]) -> bool {
     let answer = match split_first(b' ', wanted) {
         Some((_, answer)) => answer,
@@ -281,7 +281,7 @@ fn is_ending(verb: &str, status: u8, output: &[u8], came: &[u8], wanted: &[u8]) 
         || (verb == "may" && says_so(status, output, answer))
 }
 
-// Whether a command ended as one of the endings says that have `||` between them.
+// Whether a command ended as one of these endings says. They have `||` between them.
 fn is_one_of(
     alloc: Global,
     named: &Named,
@@ -300,7 +300,7 @@ fn is_one_of(
     Ok(false)
 }
 
-// Fails with what came beside the last of these endings.
+// Fails with what came and the last of these endings.
 fn differs(
     alloc: Global,
     named: &Named,
@@ -316,7 +316,7 @@ fn differs(
     Err(Fail::new(format_args!("{place}: no such ending")))
 }
 
-// Fails where a command didn't end as one of these endings says.
+// Fails if a command didn't end as one of these endings says.
 fn ends_so(
     alloc: Global,
     named: &Named,
@@ -333,7 +333,7 @@ fn ends_so(
     differs(alloc, named, place, endings, came.as_slice())
 }
 
-// Fails where a command doesn't end as it is to: `run WORDS => STATUS OUTPUT`, with further endings after `||`; `like` and `may` for other
+// Fails if a command doesn't end as it should: `run WORDS => STATUS OUTPUT`, with further endings after `||`; `like` and `may` allow other
 // endings too.
 fn command<P: Program>(
     alloc: Global,
@@ -358,7 +358,7 @@ fn command<P: Program>(
     )
 }
 
-// Fails where the last command left a list that isn't as it was.
+// Fails if the last command left a list that isn't as it was before.
 fn is_as_before(alloc: Global, place: &str, stage: &Stage) -> Result<(), Fail> {
     let (before, image) = (&stage.before, &stage.image);
     same(alloc, place, 0, image.log.as_slice(), before.log.as_slice())?;
@@ -372,13 +372,13 @@ fn is_as_before(alloc: Global, place: &str, stage: &Stage) -> Result<(), Fail> {
     )
 }
 
-// Fails unless a number is this one: `unread` of the bytes that the last command left of its input, and `files` of the files that are there.
+// Fails unless this number is right: for `unread` the bytes that the last command left of its input, and for `files` the files that are there.
 fn is_count(alloc: Global, place: &str, count: usize, rest: &str) -> Result<(), Fail> {
     let count = format!(in alloc; "{count}")?;
     same(alloc, place, 0, count.as_bytes(), rest.as_bytes())
 }
 
-/// Does a step, in this turn of its row's loop, and fails where it doesn't come out as it says.
+/// Does a step, in this turn of its row's loop, and fails if it doesn't end as it says.
 pub(crate) fn step<P: Program>(
     alloc: Global,
     named: &Named,

@@ -1,4 +1,4 @@
-// The bytes that texts of tables stand for.
+// The bytes for which texts of tables stand.
 ghost use Rattle.std.specs.Prelude.{◌≤◌};
 
 use ml_base::{Bytes, read_number, write_number};
@@ -23,8 +23,8 @@ pub fn spelled(alloc: Global, text: &str) -> Result<Bytes, Fail> {
     Ok(out)
 }
 
-/// The bytes of a text in which besides `{NAME}` is a text of this name, and `{A..B:TEXT}` is TEXT once for each number from A to B, with
-/// its digits for each `%`. `{A..B NAME}` is so the text of this name.
+/// The bytes of a text in which also `{NAME}` is the text of this name, and `{A..B:TEXT}` is TEXT once for every number from A to B, with
+/// its digits for each `%`. `{A..B NAME}` does the same with the text of this name.
 pub(crate) fn spelled_with(alloc: Global, named: &Named, text: &str) -> Result<Bytes, Fail> {
     let mut out = Bytes::new(alloc);
     for (at, piece) in text.split('{').enumerate() {
@@ -55,7 +55,7 @@ pub(crate) fn keep(alloc: Global, named: &mut Named, text: &str) -> Result<(), F
     push_named(alloc, named, name, text)
 }
 
-// Adds what braces stand for that a text begins with, and what is behind them.
+// Adds what the braces at the beginning of a text stand for, and then what comes after them.
 fn add_braced(alloc: Global, named: &Named, out: &mut Bytes, text: &str) -> Result<(), Fail> {
     let Some((inner, behind)) = text.split_once('}') else {
         return Err(Fail::new(format_args!("no brace closes: {text}")));
@@ -121,7 +121,7 @@ fn add_plain(out: &mut Bytes, text: &str) -> Result<(), Fail> {
     Ok(())
 }
 
-// Adds what the letter behind a backslash stands for, and what is behind it.
+// Adds what the letter after a backslash stands for, and then what comes after that.
 fn add_escaped(out: &mut Bytes, text: &[u8]) -> Result<(), Fail> {
     let (byte, rest) = match text {
         [b'n', rest @ ..] => (b'\n', rest),

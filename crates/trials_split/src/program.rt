@@ -25,7 +25,7 @@ fn word(words: &[String], at: usize) -> &[u8] {
     }
 }
 
-// The addresses of a word.
+// The addresses in a word.
 fn people(alloc: Global, word: &[u8]) -> Result<AddressList, Fail> {
     let mut list = AddressList::new(alloc);
     for text in word.split(|byte| *byte == b',') {
@@ -36,7 +36,7 @@ fn people(alloc: Global, word: &[u8]) -> Result<AddressList, Fail> {
     Ok(list)
 }
 
-// How many rules there are, or the place of the first line that is no rule.
+// How many rules there are, or the place of the first line that isn't a rule.
 fn spelled(alloc: Global, rules: Result<Rules, RulesError>) -> Result<String, Fail> {
     match rules {
         Ok(rules) => Ok(format!(in alloc; "{}", rules.as_slice().len())?),
@@ -53,7 +53,7 @@ fn assigned(alloc: Global, rules: &Rules, address: &[u8]) -> Result<String, Fail
     }
 }
 
-// Adds the addresses to which parts are joined, each followed by a space.
+// Adds the addresses that joining the parts gives, each followed by a space.
 fn add_joined(alloc: Global, out: &mut Bytes, parts: &Parts) -> Result<(), AllocError> {
     for address in join(alloc, parts)?.as_slice() {
         out.extend(address.bytes())?;
@@ -62,7 +62,7 @@ fn add_joined(alloc: Global, out: &mut Bytes, parts: &Parts) -> Result<(), Alloc
     Ok(())
 }
 
-// The text of a division, `=`, and the addresses to which its parts are joined.
+// The text of a division, `=`, and the addresses that joining its parts gives.
 fn divided(alloc: Global, rules: &Rules, set: &AddressList) -> Result<Bytes, AllocError> {
     let parts = split(alloc, rules, set)?;
     let mut out = write_parts(alloc, &parts)?;
@@ -71,7 +71,7 @@ fn divided(alloc: Global, rules: &Rules, set: &AddressList) -> Result<Bytes, All
     Ok(out)
 }
 
-// What parts that no rules made are joined to. All have the same name.
+// The addresses that joining parts gives, here parts that no rules made. All have the same name.
 fn joined(alloc: Global, words: &[String]) -> Result<Bytes, Fail> {
     let mut parts = Parts::new(alloc);
     for word in words {
@@ -85,7 +85,7 @@ fn joined(alloc: Global, words: &[String]) -> Result<Bytes, Fail> {
     Ok(out)
 }
 
-// How many acts move the part of a name of some addresses, and their stream from item 500 on.
+// Divides addresses: how many acts move the part with this name, and their stream from item 500 on.
 fn moved(alloc: Global, rules: &Rules, words: &[String]) -> Result<Bytes, Fail> {
     let parts = split(alloc, rules, &people(alloc, word(words, 3))?)?;
     let set = Set::of_word(word(words, 1)).ok_or("no set")?;

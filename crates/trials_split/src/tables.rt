@@ -5,7 +5,7 @@ use ml_split::{law_rules, law_split};
 use std::test::Fail;
 use trials_scripts::hold;
 
-// Rules in every form that is taken or refused, and the first one that takes an address.
+// Rules in every form that is accepted or refused, and the first rule that takes an address.
 const RULES: &str = r"
 # How many rules a text spells, or the place of the first line that is no rule.
 run rules => 0 0
@@ -58,7 +58,7 @@ run assign e@f => 0 none
 input  | run assign a@b => 0 none
 ";
 
-// Whole divisions, what their parts are joined to, and the acts and streams that move them.
+// Whole divisions, what joining their parts gives, and the acts and streams that move them.
 const PARTS: &str = r"
 # The buckets of `a@b`, `c@d` and `e@f` are 29, 12 and 23.
 input b:0:52:one\n:0:20:two\n | run split a@b,c@d,e@f => 0 one 1\na@b\ntwo 1\nc@d\n- 1\ne@f\n=a@b c@d e@f\x20

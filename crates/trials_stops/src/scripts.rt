@@ -1,4 +1,4 @@
-// Scripts: items, each with its answer, and the words that make the list that they are run on.
+// Scripts: items, each with its answer, and the words that make the list for them.
 
 // Items, each with its answer on a new list after the items before it: the first thirty of an exercise, and a floor under their numbers.
 pub(crate) const EXERCISE: &str = r"
@@ -35,7 +35,7 @@ T2:30,10:1000030000, => 30 0 timed 0
 F2:31,10:1000000500,2:20, => 31 0 floored 20
 ";
 
-// Other sets, keys, addresses of one file, and some of the numbers again with other acts.
+// Other sets, keys, addresses in one file, and some of the numbers again with other acts.
 pub(crate) const SETTINGS: &str = r"
 A1:1,10:1000000001,4:list,3:a@b, => 1 0 subscribed
 A1:2,10:1000000002,3:mod,3:m@o, => 2 0 subscribed

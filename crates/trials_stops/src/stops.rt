@@ -19,7 +19,7 @@ const CLOSED: &[u8] = &[0];
 // The answers to items, each with its LF.
 type Answers = Vec<Bytes>;
 
-// A site over an image.
+// A site that begins with an image.
 fn site(alloc: Global, image: Image) -> Result<MemSite, AllocError> {
     MemSite::new(alloc, image, CALLS as usize, OUTPUT)
 }
@@ -91,7 +91,7 @@ fn is_cut_off(rest: &[u8], answer: &[u8]) -> bool {
         || deferral == Some(b" 111 disk\n".as_slice())
 }
 
-// Whether an output is some first answers, and after them some first bytes of the next one or a stop line.
+// Whether an output is the first answers, and after them some first bytes of the next one or a stop line.
 fn is_front(answers: &Answers, output: &[u8]) -> bool {
     let mut rest = output;
     for answer in answers.iter() {
@@ -113,7 +113,7 @@ fn floor_in(image: &Image) -> u64 {
     }
 }
 
-// A site that holds the same.
+// A site that holds the same as another.
 fn copy_of(alloc: Global, found: &MemSite) -> Result<MemSite, AllocError> {
     site(alloc, held(alloc, found)?)
 }
@@ -225,7 +225,7 @@ fn trial_of(alloc: Global, start: MemSite, script: &str, most: usize) -> Result<
     })
 }
 
-// The floor of the list on a site, if there is one in what the plain run leaves.
+// The floor of the list on a site, if the plain run leaves one.
 fn floor_before(alloc: Global, trial: &Trial, found: &MemSite) -> Result<u64, AllocError> {
     if floor_in(&trial.end) == 0 {
         Ok(0)
@@ -248,8 +248,8 @@ fn leaves_all(alloc: Global, trial: &Trial, again: &MemSite) -> Result<bool, All
     Ok(is_same(&left, &trial.end) && left.log.as_slice() == CLOSED)
 }
 
-// Whether the next run over a site, after a first one that put this out, answers all and leaves the files of the plain run. Numbers below a
-// floor are refused exactly if the floor stands then, and it does if its answer is out. What the site had put out before that run is in front of
+// Whether the next run over a site, after a first one that put this out, answers everything and leaves the files of the plain run. Numbers below a
+// floor are refused exactly if the floor is there by then, and it is if its answer is out. What the site had put out before that run comes before
 // its answers.
 fn is_made_good(
     alloc: Global,
@@ -269,7 +269,7 @@ fn is_made_good(
     leaves_all(alloc, trial, &again)
 }
 
-// What becomes of what no sync has settled when the program stops: it is what was there before, or what was written, or these bytes.
+// What is left, when the program stops, in place of what no sync has settled: what was there before, or what was written, or these bytes.
 const FILLS: [Fill; 5] = [
     Fill::Old,
     Fill::New,
@@ -285,7 +285,7 @@ struct Left {
     first: Bytes,
 }
 
-// What a stop after so many calls left with a fill.
+// What a stop after this many calls left with a fill.
 fn left_by(alloc: Global, stopped: &MemSite, calls: u64, fill: Fill) -> Result<Left, AllocError> {
     let image = stopped.crash(alloc, calls, fill)?;
     let first = Bytes::from_slice(alloc, stopped.output())?;
@@ -317,7 +317,7 @@ fn is_good_stop(
     is_made_good(alloc, trial, first, b"", next)
 }
 
-// Fails if the next run doesn't make good a stop after so many calls with a fill, and says so. If the stop before it left the same, it isn't
+// Fails if the next run doesn't make good a stop after this many calls with a fill, and says so. If the stop before it left the same, it isn't
 // tried.
 fn hold_fill(
     alloc: Global,
@@ -334,7 +334,7 @@ fn hold_fill(
     Ok(left)
 }
 
-// Fails if the next run doesn't make good a stop after so many calls. Answers whether the run was at its end by then. What a fill left after the
+// Fails if the next run doesn't make good a stop after this many calls. Answers whether the run was at its end by then. What a fill left after the
 // call before, in BEFORE, isn't tried again.
 fn hold_stop(
     alloc: Global,
@@ -378,8 +378,8 @@ fn hold_failure(alloc: Global, trial: &Trial, call: u64) -> Result<(), Fail> {
     Ok(())
 }
 
-// Fails if the next run doesn't make good a stop after so many calls, from FIRST on and before LAST or the end of the run, or a failure of the
-// call after it. It is an error if the run has no end before the room for calls is used up.
+// Fails if the next run doesn't make good a stop after this many calls, from FIRST on and before LAST or the end of the run, or a failure of the
+// call after it. It is an error if the run doesn't end before the room for calls is used up.
 fn hold_calls(alloc: Global, trial: Trial, first: u64, last: u64) -> Result<(), Fail> {
     let mut left = Vec::new(alloc);
     for calls in first..last {
@@ -419,7 +419,7 @@ const UNREAD: [Name; 8] = [
     Name { kind: 20, at: 161 },
 ];
 
-// What these files hold on a damaged list: no such file is spelled so.
+// What these files hold on a damaged list: none of them is spelled in this way.
 const DAMAGE: &[u8] = b"x";
 
 // The list with these files damaged.

@@ -18,7 +18,6 @@ use Rattle.ml_post.specs.Posting.{is_posted_by}
 use Rattle.ml_post.specs.Publishing.{sent_key}
 use Rattle.ml_acts.specs.Asked.{IsDamagedOf, Next}
 use Rattle.ml_acts.specs.Damaged.{IsDamaged}
-use Rattle.ml_acts.proofs.HeldConfig.{listed}
 use Rattle.ml_acts.specs.Acting.{AnswersAct}
 use Rattle.ml_acts.proofs.OfActs.{act_held, act_so, act_wider}
 use Rattle.ml_acts.proofs.Queued.{posting_beside, touches_weaker}
@@ -110,7 +109,7 @@ returns-in_default-clause-sound g c told dir p alike is same =
     c.manage.ensures.spared told dir p
     (other_alike c.args.config.now c.args.sender.now c.args.message.now c.args.request.now (g.F.Files.map c.args.files.now) dir c.in_default.not-Post c.in_default.not-Accept c.in_default.not-Reject alike) is same
 
--- what is named of a request
+-- what a request names as damaged
 abbrev IsAsked : Dir → Config → Text → Text → Request → Name → Type 0
 IsAsked dir c sender m r name = IsDamaged dir name × IsRequested dir c sender m (Some (request_view r)) name
 

@@ -7,7 +7,7 @@ use Rattle.ml_generated.proofs.Streams.{item_size, room}
 use Rattle.ml_generated.proofs.Turning.{turned}
 use Rattle.ml_generated.proofs.generated.Generated.turn.Goals as goal
 
--- the next item is short
+-- the next item fits into the buffer
 next_short : (g : Generated) (fresh : Text) → 0 < g.ahead → fresh ≡ spelled_item (item g.local g.host g.next) → length fresh ≤ 1024
 next_short g fresh some is = let size = item_size g.local g.host g.next g.local_fits g.host_fits (let all = g.few in omega (arith, all, some)) in omega (arith, size, ap length is)
 
