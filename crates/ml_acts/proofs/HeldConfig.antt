@@ -17,7 +17,6 @@ use Rattle.ml_acts.specs.Doing.{DoesList}
 use Rattle.ml_acts.proofs.UnderConfig.{config_held}
 
 module _ (c : Config) (dir : Dir) where
-
   -- and what is named
   pub named_held : {F T : Type 0} (told : Ghosts F) (May : Name → Type 0) (Bad : Dir → Name → Type 0) (r : Result T PartError) → (IsTrue told.tells → IsConfigFile (dir config_name) c)
       → NamesDamaged told May (Bad (with_config c dir)) r → NamesDamaged told May (Bad dir) r

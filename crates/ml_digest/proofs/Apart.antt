@@ -56,7 +56,6 @@ config_plain c is =
     }
 
 module _ (c : Config) (issue first : ℕ) (posts : List DigestPost) (date : Text) (is : IsConfig c) (can : AreDigested issue first posts) (day : has_byte 10 date ≡ false) where
-
   abbrev topics : List Text
   topics = map topic (enumerate_from first posts)
 

@@ -86,7 +86,6 @@ all_with P t (u ∷ us) is all = go (byte_cmp t.key u.key) (all_with P t us is a
 
 module _ (dir : Dir) (prefix : Text) (posts : List Post) (p : Post) (threads : List Thread) (is : IsArchive dir prefix posts) (can : CanAppend posts p)
     (file : IsThreadFile (thread_place (key_of prefix p)) (dir (thread_name (thread_place (key_of prefix p)))) threads) where
-
   abbrev k : Text
   k = key_of prefix p
 

@@ -13,7 +13,6 @@ use Rattle.ml_journal.specs.declared.writer.LogWriter.{LogWriter}
 use Rattle.ml_journal.proofs.Handed.{hands_on, hands_cut, with_long, ok_then}
 
 module _ {S : Type 0} (told : Ghosts S) where
-
   -- all of it was handed to the log
   pub buffers_all : (result : Result (Unit {0}) SiteError) (text : Text) (before after : LogWriter) (old new : S) → OnOk result ((after.buffered ≡ []) × (after.at ≡ before.at + length (before.buffered ++ text)))
       → Hands told result before.at (before.buffered ++ text) old new → Buffers told result text before after old new

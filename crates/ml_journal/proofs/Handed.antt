@@ -104,7 +104,6 @@ ok_then (Ok u) f p = f p
 ok_then (Err e) f p = tt
 
 module _ {S : Type 0} (told : Ghosts S) where
-
   -- one write
   pub hands_one : (result : Result (Unit {0}) SiteError) (at : ℕ) (text : Text) (old new : S)
       → ChangesPart told.tells_reads told.tells_all told.disk result (Range at (length text)) (log_with (told.disk old).reads at text) old new

@@ -34,8 +34,6 @@ module _ (start : Disk) (calls : List Call) (call : Call) (longer : List Call) w
       | false ↦ λ none. ap (λ (cs : List Call). f (after start cs)) none
     ] is
 
-    ] is
-
     pub given_same : size_given call ≡ 0 → given longer ≡ given calls
     given_same quiet = elim b as (λ v. longer ≡ cond v (calls ++ call ∷ []) calls → given longer ≡ given calls) [
       | true ↦ λ more. omega (arith, given_more more, quiet)
