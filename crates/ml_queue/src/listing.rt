@@ -4,7 +4,7 @@ ghost use Rattle.ml_base.specs.PartErrors.{OnDamaged};
 ghost use Rattle.ml_base.specs.ReadFiles.{IsReading, NamesDamaged};
 ghost use Rattle.ml_queue.specs.Queue.{Queue};
 ghost use Rattle.ml_queue.specs.Queue as spec;
-ghost use Rattle.ml_queue.specs.Answers.{BreaksCounted, IsCountedQueue, IsQueueName, ids_name};
+ghost use Rattle.ml_queue.specs.Answers.{BreaksCounted, IsCountedQueue, IsQueueName, ListsBy, ids_name};
 
 use crate::Out;
 use ml_base::{Files, Numbers, PartError};
@@ -15,6 +15,7 @@ use std::alloc::Global;
 /// without reading whether it is there.
 pub fn ids<F: Files>(alloc: Global, files: &mut F) -> Result<Numbers, PartError>
     ensures value { IsTrue F.tells → IfOk result (λ ids. (queue : Queue) → IsCountedQueue (F.map files.old) queue → ids ≡ spec.ids queue) }
+    ensures read { IsTrue F.tells → IfOk result (ListsBy (F.map files.old)) }
     ensures names { NamesDamaged ⟦<F as Files>⟧ (λ name. name ≡ ids_name) (BreaksCounted (F.map files.old)) result }
     ensures sound { IsTrue F.tells → (queue : Queue) → IsCountedQueue (F.map files.old) queue → IfErr result (λ e. OnDamaged e (λ _. ⊥)) }
     ensures reads { IsReading ⟦<F as Files>⟧ files.old files.new result }
