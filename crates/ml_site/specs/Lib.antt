@@ -1,5 +1,6 @@
 pub mod Disk
 pub mod Clauses
+pub mod Errors
 pub mod Failing
 pub mod Source
 pub mod Images

@@ -3,12 +3,13 @@ ghost use Rattle.std.specs.Prelude.{◌≡◌, ◌≤◌, ◌+◌, ◌++◌, ℕ
 ghost use Rattle.ml_base.specs.Absent.{NoneOf};
 ghost use Rattle.ml_base.specs.Name.{is_file};
 ghost use Rattle.ml_base.specs.declared.names.Name.{Name};
+ghost use Rattle.ml_site.specs.Errors.{files_error};
 ghost use Rattle.ml_site.specs.declared.site.SiteError.TheVariants.{Memory, Failed as FailedCall};
 ghost use Rattle.ml_site.specs.Clauses.{SameDisk, ChangesPart, OnDisk, LooksOnce, SameNumbers};
 ghost use Rattle.ml_site.specs.Disk.{Contents, Disk, Range, Cut, File, IsImage, Now, Giving, Elapses, IsAtRest, log_with, log_cut, file_with};
 ghost use Rattle.ml_base.specs.Faults.{Rose};
 
-use ml_base::{Bytes, Name};
+use ml_base::{Bytes, FilesError, Name};
 use std::alloc::{AllocError, AllocFailed, Global};
 use thiserror::Error;
 
@@ -41,6 +42,25 @@ impl<T: Drop> From<AllocFailed<T>> for SiteError {
 
     fn from(_: AllocFailed<T>) -> Self {
         SiteError::Memory
+    }
+}
+
+impl From<Failed> for SiteError {
+    ghost from_gives = { λ _ e. e ≡ FailedCall };
+
+    fn from(_: Failed) -> Self {
+        SiteError::Failed
+    }
+}
+
+impl From<SiteError> for FilesError {
+    ghost from_gives = { λ error e. e ≡ files_error error };
+
+    fn from(error: SiteError) -> Self {
+        match error {
+            SiteError::Failed => FilesError::Fault,
+            SiteError::Memory => FilesError::Memory,
+        }
     }
 }
 

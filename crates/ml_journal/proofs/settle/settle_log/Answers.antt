@@ -11,8 +11,8 @@ returns-in_err-write_log-clause-settles g c = record {
       c.args.site.now c.write_log.new.self (c.requires.rest told) (c.write_log.ensures.change.pends told) (c.write_log.ensures.keeps.output told) (c.write_log.ensures.keeps.time told);
 }
 
-pub returns-in-Ok-clause-settles : goal.returns-in-Ok-clause-settles
-returns-in-Ok-clause-settles g c = record {
+pub returns-clause-settles : goal.returns-clause-settles
+returns-clause-settles g c = record {
   reads = search rules;
   rest = search rules;
   moments = λ told. after_both g.S.Site.moment g.S.Site.left_since g.S.Site.disk g.S.Site.output (λ site left out l. g.met.S.Site.only_now site left out told l) c.write_log.result (Range c.args.at (length c.args.bytes.now))
@@ -20,8 +20,8 @@ returns-in-Ok-clause-settles g c = record {
       (c.sync.ensures.crash told) (c.sync.ensures.keeps.output told) (c.sync.ensures.keeps.time told);
 }
 
-pub returns-in-Err-clause-settles : goal.returns-in-Err-clause-settles
-returns-in-Err-clause-settles g c = record {
+pub returns-in_err-sync-clause-settles : goal.returns-in_err-sync-clause-settles
+returns-in_err-sync-clause-settles g c = record {
   reads = search rules;
   rest = search rules;
   moments = λ told. after_both g.S.Site.moment g.S.Site.left_since g.S.Site.disk g.S.Site.output (λ site left out l. g.met.S.Site.only_now site left out told l) c.write_log.result (Range c.args.at (length c.args.bytes.now))

@@ -10,16 +10,16 @@ returns-in_err-write_record-clause-settles g c = record {
   moments = λ told. hands_leave g.S.Site g.met.S.Site.only_now c.write_record.result c.args.at (spelled_record c.args.puts.now ++ 0 ∷ []) c.args.site.now c.write_record.new.site told (c.requires.rest told) c.write_record.ensures;
 }
 
-pub returns-in-Ok-clause-settles : goal.returns-in-Ok-clause-settles
-returns-in-Ok-clause-settles g c = record {
+pub returns-clause-settles : goal.returns-clause-settles
+returns-clause-settles g c = record {
   reads = search rules;
   rest = search rules;
   moments = λ told. synced_leave g.S.Site g.met.S.Site.only_now c.write_record.result c.args.at (spelled_record c.args.puts.now ++ 0 ∷ []) c.args.site.now c.write_record.new.site c.sync.new.self told (c.requires.rest told) c.write_record.ensures
       (c.sync.ensures.crash told) (c.sync.ensures.keeps.output told) (c.sync.ensures.keeps.time told);
 }
 
-pub returns-in-Err-clause-settles : goal.returns-in-Err-clause-settles
-returns-in-Err-clause-settles g c = record {
+pub returns-in_err-sync-clause-settles : goal.returns-in_err-sync-clause-settles
+returns-in_err-sync-clause-settles g c = record {
   reads = search rules;
   rest = search rules;
   moments = λ told. synced_leave g.S.Site g.met.S.Site.only_now c.write_record.result c.args.at (spelled_record c.args.puts.now ++ 0 ∷ []) c.args.site.now c.write_record.new.site c.sync.new.self told (c.requires.rest told) c.write_record.ensures
