@@ -3,14 +3,13 @@ ghost use Rattle.std.specs.Prelude.{◌≡◌, ◌<◌, ◌++◌, [], ◌∷◌,
 ghost use Rattle.std.specs.Option.{option_copied};
 ghost use Rattle.ml_base.specs.Dir.{Dir, are_files, with_put, with_puts};
 ghost use Rattle.ml_base.specs.Name.{is_file};
-ghost use Rattle.ml_base.specs.Netstrings.{netstring_at};
 ghost use Rattle.ml_journal.specs.Found.{put_of, puts_found};
 ghost use Rattle.ml_journal.specs.Table.{newest_over};
 ghost use Rattle.ml_journal.specs.Log.{log_puts, laid_over};
 ghost use Rattle.ml_journal.specs.Records.{number_at, name_at, write_at, removal_at, put_at, puts_of};
 
 use crate::newest::Newest;
-use ml_base::{Bytes, Name, read_netstring, read_number};
+use ml_base::{Bytes, Name, read_number, split_netstring};
 use std::alloc::{AllocError, Global};
 
 /// The newest put of every file that the records of a log name, or None if no record follows an open gate that isn't the
@@ -77,7 +76,7 @@ pub(crate) fn puts_in<'a>(
     let mut found = Vec::new(alloc);
     let mut rest = log;
     while let Some(text) = behind_open_gate(rest) {
-        let Some((puts, behind)) = first_netstring(text) else {
+        let Some((puts, behind)) = split_netstring(text) else {
             return Ok(None);
         };
         if !add_puts_of(&mut found, puts)? {
@@ -137,7 +136,7 @@ fn first_write(text: &[u8]) -> Option<(FoundPut<'_>, &[u8])>
     ensures { option_map (λ r. (put_of r.0, r.1.now)) result ≡ write_at text.now }
 {
     let (name, rest) = first_name(text)?;
-    let (bytes, behind) = first_netstring(rest)?;
+    let (bytes, behind) = split_netstring(rest)?;
     let put = FoundPut {
         name,
         bytes: Some(bytes),
@@ -166,15 +165,7 @@ fn first_name(text: &[u8]) -> Option<(Name, &[u8])>
 fn first_number(text: &[u8]) -> Option<(u64, &[u8])>
     ensures { option_map (λ r. (r.0, r.1.now)) result ≡ number_at text.now }
 {
-    let (digits, behind) = first_netstring(text)?;
+    let (digits, behind) = split_netstring(text)?;
     let number = read_number(digits)?;
     Some((number, behind))
-}
-
-// The content of the netstring that a text begins with, and what follows it.
-fn first_netstring(text: &[u8]) -> Option<(&[u8], &[u8])>
-    ensures { option_map (λ r. (r.0.now, r.1.now)) result ≡ netstring_at text.now }
-{
-    let span = read_netstring(text, 0)?;
-    Some((&text[span.from..span.to], &text[span.next..]))
 }
