@@ -3,7 +3,7 @@ ghost use Rattle.std.specs.Prelude.{◌≡◌, ◌++◌, ◌∷◌, IfOk, IsTrue
 ghost use Rattle.std.specs.Fmt.{decimal};
 ghost use Rattle.ml_base.specs.Address.{IsAddress, key};
 ghost use Rattle.ml_base.specs.Texts.{list_address};
-ghost use Rattle.ml_address.specs.Requests.{is_asked, set_front as front_of, word_text};
+ghost use Rattle.ml_address.specs.Requests.{is_asked};
 ghost use Rattle.ml_address.specs.Writing.{ticket_text};
 ghost use Rattle.ml_config.specs.Configuration.{IsConfig};
 ghost use Rattle.ml_plain.specs.Mailing as spec;
@@ -11,7 +11,7 @@ ghost use Rattle.ml_plain.specs.Plain.{Plain};
 ghost use Rattle.ml_acts.specs.Cookies.{bounce_base, cookie_of};
 
 use crate::{Moment, new_cookie};
-use ml_address::{Path, Request, Who, Word, write_request};
+use ml_address::{Path, Request, Who, Word, set_front, word_text, write_request};
 use ml_base::{Address, Bytes, Set, write_number};
 use ml_config::{Config, Keys};
 use std::alloc::{AllocError, Global};
@@ -115,19 +115,6 @@ fn bounced_base(
     Ok(base)
 }
 
-// What comes before the words of requests for a set.
-fn set_front(set: Set) -> &'static [u8]
-    ensures { result.now ≡ front_of set }
-{
-    match set {
-        Set::List => b"",
-        Set::Digest => b"digest-",
-        Set::Allow => b"allow-",
-        Set::Deny => b"deny-",
-        Set::Moderators => b"mod-",
-    }
-}
-
 /// What follows `To:` in mails to the moderators.
 pub fn owner_address(alloc: Global, config: &Config) -> Result<Bytes, AllocError>
     ensures { IfOk result (λ address. address ≡ spec.owner_address config.now) }
@@ -136,17 +123,6 @@ pub fn owner_address(alloc: Global, config: &Config) -> Result<Bytes, AllocError
     out.extend(b"-owner@")?;
     out.extend(config.host.as_slice())?;
     Ok(out)
-}
-
-// The word of a confirmation, which is also the kind of its cookie.
-pub fn word_kind(word: Word) -> &'static [u8]
-    ensures { result.now ≡ word_text word }
-{
-    match word {
-        Word::Sc => b"sc",
-        Word::Uc => b"uc",
-        Word::Tc => b"tc",
-    }
 }
 
 /// The address that confirms this of an address, made now. The set is one that requests name: any except the moderators'.
@@ -164,7 +140,7 @@ pub fn confirm_address(
     ensures { IfOk result (λ address. (p : Plain) → p.config ≡ config.now → p.keys ≡ keys.now → address ≡ spec.confirm_address p word set x.now now.seconds) }
 {
     let who = key_of(alloc, x)?;
-    let cookie = new_cookie(keys, word_kind(word), set, now.seconds, who.as_slice());
+    let cookie = new_cookie(keys, word_text(word), set, now.seconds, who.as_slice());
     let request = Request::Confirm {
         word,
         set,

@@ -31,8 +31,8 @@ use crate::deciding::{Facts, confirmed_joining, confirmed_leaving, joining, leav
 use crate::joining::joined;
 use crate::leaving::left;
 use crate::subjects::{Subject, find_subject, moderates};
-use ml_acts::{Configured, Moment, is_good as good_cookie, key_of, word_kind};
-use ml_address::{Who, Word};
+use ml_acts::{Configured, Moment, is_good as good_cookie, key_of};
+use ml_address::{Who, Word, word_text};
 use ml_base::{Address, Files, PartError, Set, Txn};
 use ml_config::{Config, key as load_keys};
 use ml_plain::Reply;
@@ -320,7 +320,7 @@ fn is_signed<F: Files>(
 {
     let keys = load_keys(alloc, files)?;
     let what = key_of(alloc, x)?;
-    let kind = word_kind(word);
+    let kind = word_text(word);
     Ok(good_cookie(&keys, kind, set, time, what.as_slice(), cookie, now))
 }
 
