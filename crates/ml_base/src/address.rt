@@ -52,7 +52,8 @@ fn is_local_byte(byte: u8) -> bool
     33 <= byte && byte <= 126 && byte != b'@'
 }
 
-fn is_host_byte(byte: u8) -> bool
+/// Whether a byte is one that a host has: a letter, a digit, `-`, `_` or `.`.
+pub fn is_host_byte(byte: u8) -> bool
     ensures { result ≡ spec.is_host_byte byte }
 {
     byte.is_ascii_alphabetic()

@@ -23,7 +23,7 @@ mod ranges;
 mod row;
 mod splits;
 
-pub use address::{Address, AddressError, AddressFault, is_kept, make_address};
+pub use address::{Address, AddressError, AddressFault, is_host_byte, is_kept, make_address};
 pub use bytes::{Bytes, copied};
 pub use files::{Files, FilesError};
 pub use hashing::{hash, hash_lower};
@@ -43,7 +43,7 @@ pub use part::PartError;
 pub use paths::path;
 pub use pieces::{put_number, put_piece};
 pub use plan::FaultPlan;
-pub use puts::{AddressList, Put, Txn};
+pub use puts::{AddressList, Put, Txn, newest_place};
 pub use ranges::{
     LARGEST_READ, LAST_DRAWN, LAST_ITEM, LAST_MOMENT, LAST_POST_NUMBER, LONGEST_MESSAGE,
     LONGEST_PATH, LONGEST_POST, is_drawn, is_moment, is_post_number,

@@ -39,8 +39,8 @@ impl Row<Put> {
     }
 }
 
-// The place of the newest put of a file.
-fn newest_place(puts: &[Put], name: Name) -> Option<usize>
+/// The place of the newest put of a file, or None if no put is of it.
+pub fn newest_place(puts: &[Put], name: Name) -> Option<usize>
     ensures { MatchOption result (touches puts.now name ≡ false) (IsNewestAt puts.now name) }
 {
     let mut at = puts.len();

@@ -5,7 +5,7 @@ ghost use Rattle.ml_base.specs.Laying.{laid_in, IsNewestAt};
 ghost use Rattle.ml_base.specs.declared.puts.Put.{Put as ThePut};
 ghost use Rattle.ml_run.specs.Groups.{laid_all};
 
-use ml_base::{Name, Put, Txn};
+use ml_base::{Put, Txn, newest_place};
 
 // Lays the puts of a row from a place on over those before them: each replaces the newest one of its file, or goes after them if there is none.
 // It takes no memory.
@@ -44,18 +44,4 @@ fn lay_one(puts: &mut [Put], kept: usize, at: usize, place: Option<usize>) -> us
             kept + 1
         }
     }
-}
-
-// The place of the newest put of a file.
-fn newest_place(puts: &[Put], name: Name) -> Option<usize>
-    ensures { MatchOption result (touches puts.now name ≡ false) (IsNewestAt puts.now name) }
-{
-    let mut at = puts.len();
-    while at > 0 {
-        at -= 1;
-        if puts[at].name == name {
-            return Some(at);
-        }
-    }
-    None
 }
