@@ -184,6 +184,17 @@ impl Address {
         })
     }
 
+    /// The address that a text spells, its host in lower case, or None if it spells none.
+    pub fn read(alloc: Global, text: &[u8]) -> Result<Option<Address>, AllocError>
+        ensures { IfOk result (λ found. found ≡ address_of text.now) }
+    {
+        match Address::parse(alloc, text) {
+            Ok(address) => Ok(Some(address)),
+            Err(AddressError::Fault(_)) => Ok(None),
+            Err(AddressError::Memory) => Err(AllocError),
+        }
+    }
+
     /// The address that a text is. The text is spelled as it is kept, as `is_kept` finds; it isn't checked again.
     pub fn from_kept(alloc: Global, text: &[u8]) -> Result<Address, AllocError>
         requires { IsAddress text.now }

@@ -1,12 +1,11 @@
 // Whether values are in the ranges that a configuration allows.
 ghost use Rattle.std.specs.Prelude.{◌≡◌, IfOk};
 ghost use Rattle.std.specs.List.{list_all};
-ghost use Rattle.ml_base.specs.Address.{address_of};
 ghost use Rattle.ml_base.specs.Bytes.{lower};
 ghost use Rattle.ml_config.specs.Configuration as spec;
 
 use crate::{Config, Flags};
-use ml_base::{Address, AddressError, Bytes, is_own};
+use ml_base::{Address, Bytes, is_own};
 use std::alloc::{AllocError, Global};
 
 const MAX_LOCAL: usize = 60;
@@ -65,17 +64,6 @@ fn is_list(alloc: Global, local: &[u8], host: &[u8]) -> Result<bool, AllocError>
     Ok(Address::check(text.as_slice()).is_ok())
 }
 
-// The address that a text spells, or None if it spells none.
-fn address(alloc: Global, text: &[u8]) -> Result<Option<Address>, AllocError>
-    ensures { IfOk result (λ found. found ≡ address_of text.now) }
-{
-    match Address::parse(alloc, text) {
-        Ok(address) => Ok(Some(address)),
-        Err(AddressError::Fault(_)) => Ok(None),
-        Err(AddressError::Memory) => Err(AllocError),
-    }
-}
-
 // A text in lower case.
 fn lowered(alloc: Global, text: &[u8]) -> Result<Bytes, AllocError>
     ensures { IfOk result (λ bytes. bytes ≡ lower text.now) }
@@ -100,7 +88,7 @@ pub(crate) fn checked(
         return Ok(None);
     }
     let config_host = lowered(alloc, host)?;
-    let Some(owner) = address(alloc, owner)? else {
+    let Some(owner) = Address::read(alloc, owner)? else {
         return Ok(None);
     };
     if is_own(local, config_host.as_slice(), owner.bytes()) {
