@@ -31,12 +31,12 @@ use crate::members::members;
 use crate::naming::named;
 use ml_acts::{Configured, Moment};
 use ml_address::{Request, Who};
-use ml_base::{Address, AddressError, Files, PartError, Set, Txn};
+use ml_base::{Address, Files, PartError, Set, Txn};
 use ml_config::Config;
 use ml_header::Message;
 use ml_joining::{confirm, subscribe, unsubscribe};
 use ml_plain::Reply;
-use std::alloc::{AllocError, Global};
+use std::alloc::Global;
 
 /// What a request does that mail to one of the list's addresses makes, with this envelope sender and this message: the puts, and the
 /// reply. The request is neither a post nor a moderator's answer, and its parts are in their ranges; `now` is in seconds since 1970. What
@@ -186,24 +186,13 @@ fn by_sender<F: Files>(
     ensures found { IsTrue F.tells → IfOk result (FoundBySender (F.map files.old) config.now (address_of sender.now) message.now (request_view request.now)) }
     ensures act { AnswersWithin (is_written_for (address_of sender.now) (request_view request.now)) ⟦<F as Files>⟧ (λ name. is_read_for config.now (address_of sender.now) (request_view request.now) name ≡ true) (IsDamagedFor (F.map files.old) config.now (request_view request.now)) files.old files.new result }
 {
-    let Some(who) = usable(alloc, sender)? else {
+    let Some(who) = Address::read(alloc, sender)? else {
         return Ok((Txn::new(alloc), Reply::plain(Reply::NOSENDER)));
     };
     if is_from_list(message) {
         return Ok((Txn::new(alloc), Reply::plain(Reply::LOOPED)));
     }
     managed(alloc, files, config, now, &who, request)
-}
-
-// The address of an envelope sender, or None if it isn't one.
-fn usable(alloc: Global, sender: &[u8]) -> Result<Option<Address>, AllocError>
-    ensures { IfOk result (λ found. found ≡ address_of sender.now) }
-{
-    match Address::parse(alloc, sender) {
-        Ok(address) => Ok(Some(address)),
-        Err(AddressError::Fault(_)) => Ok(None),
-        Err(AddressError::Memory) => Err(AllocError),
-    }
 }
 
 // Whether a message came from a list.

@@ -11,12 +11,12 @@ ghost use Rattle.ml_plain.specs.Items.{IsAct, IsItem};
 use crate::StreamError;
 use hex::{decode_to_slice, encode_to_slice};
 use ml_base::{
-    Address, AddressError, Bytes, LAST_DRAWN, LAST_ITEM, LAST_MOMENT, LONGEST_MESSAGE,
-    LONGEST_PATH, Set, is_next_digit, number_within,
+    Address, Bytes, LAST_DRAWN, LAST_ITEM, LAST_MOMENT, LONGEST_MESSAGE, LONGEST_PATH, Set,
+    is_next_digit, number_within,
 };
 use ml_plain::{Act, Item};
 use ml_site::{Failed, Source};
-use std::alloc::{AllocError, Global};
+use std::alloc::Global;
 
 // The kinds of items. Every kind begins with a letter of its own.
 #[derive(Clone, Copy)]
@@ -250,7 +250,7 @@ impl Reader {
     {
         let start = self.place;
         let text = self.content(alloc, input, 400)?;
-        let Some(value) = read_address(alloc, text.as_slice())? else {
+        let Some(value) = Address::read(alloc, text.as_slice())? else {
             return Err(StreamError::Bad { at: start });
         };
         self.comma(input, start)?;
@@ -534,15 +534,4 @@ fn read_positive(most: u64, text: &[u8]) -> Option<u64>
         return None;
     };
     if n == 0 { None } else { Some(n) }
-}
-
-// The address that a text spells, or None if it spells none.
-fn read_address(alloc: Global, text: &[u8]) -> Result<Option<Address>, AllocError>
-    ensures { IfOk result (λ address. address ≡ address_of text.now) }
-{
-    match Address::parse(alloc, text) {
-        Ok(address) => Ok(Some(address)),
-        Err(AddressError::Fault(_)) => Ok(None),
-        Err(AddressError::Memory) => Err(AllocError),
-    }
 }
