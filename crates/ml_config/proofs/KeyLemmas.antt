@@ -38,13 +38,13 @@ former_read bytes key rest digits end changed f cut value is e =
     )
 
 -- what is cut off a text of bytes consists of bytes
-small_take : (n : ℕ) (xs : Text) → ((i : ℕ) → get_or xs i 0 < 256) → (i : ℕ) → get_or (take n xs) i 0 < 256
+pub small_take : (n : ℕ) (xs : Text) → ((i : ℕ) → get_or xs i 0 < 256) → (i : ℕ) → get_or (take n xs) i 0 < 256
 small_take zero xs h i = omega arith
 small_take (suc n) [] h i = omega arith
 small_take (suc n) (x ∷ xs) h zero = h 0
 small_take (suc n) (x ∷ xs) h (suc i) = small_take n xs (λ j. h (suc j)) i
 
-small_drop : (n : ℕ) (xs : Text) → ((i : ℕ) → get_or xs i 0 < 256) → (i : ℕ) → get_or (drop n xs) i 0 < 256
+pub small_drop : (n : ℕ) (xs : Text) → ((i : ℕ) → get_or xs i 0 < 256) → (i : ℕ) → get_or (drop n xs) i 0 < 256
 small_drop zero xs h i = h i
 small_drop (suc n) [] h i = omega arith
 small_drop (suc n) (x ∷ xs) h i = small_drop n xs (λ j. h (suc j)) i

@@ -7,6 +7,7 @@ use Rattle.std.specs.Int.{from_be_bytes, to_be_bytes, w64}
 use Rattle.ml_base.specs.Bytes.{Text}
 use Rattle.ml_base.specs.Dir.{Dir}
 use Rattle.ml_base.specs.declared.puts.Put.{Put}
+use Rattle.ml_config.proofs.KeyLemmas.{small_drop, small_take}
 use Rattle.ml_plain.specs.declared.Reply.{Reply}
 use Rattle.ml_plain.specs.Answers.{stale}
 use Rattle.ml_plain.specs.KeptFiles.{IsFloorFile, IsSlot, floor_name, is_kept, replies_name, slot_text}
@@ -66,17 +67,6 @@ pub found_slot : (dir : Dir) (number floor : ℕ) (reply : Option Reply) → IsF
 found_slot dir number floor reply file high some fits holds = record { floor = floor; floor_is = file; found = inr (record { from = high; fits = slot_of number reply some fits; spelled = holds }) }
 
 -- the bytes of a slot, by its code and its number
-small_take : (n : ℕ) (xs : Text) → ((i : ℕ) → get_or xs i 0 < 256) → (i : ℕ) → get_or (take n xs) i 0 < 256
-small_take zero xs h i = omega arith
-small_take (suc n) [] h i = omega arith
-small_take (suc n) (x ∷ xs) h zero = h 0
-small_take (suc n) (x ∷ xs) h (suc i) = small_take n xs (λ j. h (suc j)) i
-
-small_drop : (n : ℕ) (xs : Text) → ((i : ℕ) → get_or xs i 0 < 256) → (i : ℕ) → get_or (drop n xs) i 0 < 256
-small_drop zero xs h i = h i
-small_drop (suc n) [] h i = omega arith
-small_drop (suc n) (x ∷ xs) h i = small_drop n xs (λ j. h (suc j)) i
-
 pub small_digits : (bytes head rest digits : Text) → Cut bytes head rest digits → ((i : ℕ) → get_or bytes i 0 < 256) → (i : ℕ) → get_or digits i 0 < 256
 small_digits bytes head rest digits cut small =
     subst (λ (t : Text). (i : ℕ) → get_or t i 0 < 256) (sym (cut.number ∙ ap (λ (t : Text). take 8 t) cut.back)) (small_take 8 (drop 1 bytes) (small_drop 1 bytes small))
