@@ -4,6 +4,7 @@ use Rattle.std.proofs.Math.Seq.{take-add}
 use Rattle.std.proofs.lemmas.List.{take-take}
 use Rattle.std.proofs.lemmas.Nat.{be_bytes_8}
 use Rattle.std.specs.Int.{from_be_bytes, to_be_bytes, w64}
+use Rattle.std.proofs.lemmas.Option.{same_Some}
 use Rattle.ml_base.specs.Bytes.{Text}
 use Rattle.ml_base.specs.Dir.{Dir}
 use Rattle.ml_base.specs.declared.puts.Put.{Put}
@@ -18,9 +19,6 @@ use Rattle.ml_list.proofs.Reading.{Cut}
 
 none_some : (r : Reply) → None ≡ Some r → ⊥
 none_some r e = cc
-
-some_same : (a b : Reply) → Some a ≡ Some b → a ≡ b
-some_same a b e = cc
 
 -- a slot spells at most one reply
 holds_one : (file : Option Text) (n slot : ℕ) (a b : Option Reply) → IsSlot n a → IsSlot n b → HoldsReply file slot a → HoldsReply file slot b → a ≡ b
@@ -44,7 +42,7 @@ module _ (dir : Dir) (number : ℕ) (a b : Option Reply) where
 pub again_once : (dir : Dir) (number : ℕ) (reply : Reply) (puts : List Put) → puts ≡ [] → (number ≢ 0 → IsAgain dir number (Some reply)) → CountsOnce dir number (puts, reply)
 again_once dir number reply puts none found = record {
   looked = λ some. (Some reply, found some);
-  once = λ other some is. (none, some_same reply other (again_one dir number (Some reply) (Some other) (found some) is));
+  once = λ other some is. (none, same_Some reply other (again_one dir number (Some reply) (Some other) (found some) is));
 }
 
 -- an item that counts

@@ -3,6 +3,7 @@ use Rattle.std.proofs.Common.{◌≡◌, ◌<◌, ◌≤◌, ℕ, Bool, true, fa
 use Rattle.std.proofs.lemmas.Bool.{leb-false, lt-leb}
 use Rattle.std.proofs.lemmas.List.{append_cancel_right}
 use Rattle.std.specs.Fmt.{decimal}
+use Rattle.std.proofs.lemmas.Option.{same_Some}
 use Rattle.ml_base.specs.Bytes.{Text}
 use Rattle.ml_base.specs.Numbers.{number_within}
 use Rattle.ml_base.proofs.NumberLaws.{number_read, number_spelled}
@@ -16,9 +17,6 @@ floor_file_is n up = floor_by n false (lt-leb n 1 up)
 
 none_some : (text : Text) → None ≡ Some text → ⊥
 none_some text e = cc
-
-some_same : (a b : Text) → Some a ≡ Some b → a ≡ b
-some_same a b e = cc
 
 pub floor_read : (file : Option Text) (text digits : Text) (n : ℕ) → file ≡ Some text → text ≡ digits ++ 10 ∷ [] → number_within 999_999_999_999 digits ≡ Some n → 2 ≤ n → IsFloorFile file n
 floor_read file text digits n is whole read up =
@@ -41,7 +39,7 @@ floor_digits file text digits floor is whole h = go (leb floor 1) refl
     go true e = absurd (none_some text (sym (there ∙ floor_by floor true e)))
     go false e =
         let low = leb-false floor 1 e in
-        let same : digits ≡ decimal floor = append_cancel_right digits (decimal floor) (10 ∷ []) (sym whole ∙ some_same text _ (there ∙ floor_by floor false e)) in
+        let same : digits ≡ decimal floor = append_cancel_right digits (decimal floor) (10 ∷ []) (sym whole ∙ same_Some text _ (there ∙ floor_by floor false e)) in
         let fits = h.most in
         (omega (arith, low), ap (number_within 999_999_999_999) same ∙ number_read 999_999_999_999 floor (omega arith) fits)
 

@@ -1,6 +1,7 @@
 -- What a verdict says of the rows before the one that was found.
 use Rattle.std.proofs.Common.{◌≡◌, ◌+◌, ℕ, Bool, true, false, cond, List, [], length, refl, sym, ap, ◌∙◌, subst}
 use Rattle.std.specs.Prelude.{codes, nat_lt, not, ◌&&◌, Some, None}
+use Rattle.std.proofs.lemmas.Option.{same_Some}
 use Rattle.ml_base.specs.Address.{as_address, address_of}
 use Rattle.ml_base.specs.Bytes.{Text, is_empty, lower}
 use Rattle.ml_base.specs.Dir.{Dir, with_puts}
@@ -140,11 +141,8 @@ does_nothing dir done p reply step is e f list =
     })
 
 -- the sender is kept as a checked address
-some_same : (a b : Text) → Some a ≡ Some b → a ≡ b
-some_same a b e = cc
-
 pub sender_is : (sender who : Text) → is_usable sender ≡ true → address_of sender ≡ Some who → who ≡ as_address sender
-sender_is sender who usable e = some_same who (as_address sender) (sym e ∙ ap (λ (t : Bool). cond t (Some (as_address sender)) None) usable)
+sender_is sender who usable e = same_Some who (as_address sender) (sym e ∙ ap (λ (t : Bool). cond t (Some (as_address sender)) None) usable)
 
 -- an answer by which a message was posted
 pub posts : (dir : Dir) (p : Plain) (now : ℕ) (sender m : Text) (answer : Appended) (done : List Put × Reply) → Publishes dir now sender m p answer → is_archive_full p ≡ false → done.0 ≡ puts_of answer → done.1 ≡ reply_of answer

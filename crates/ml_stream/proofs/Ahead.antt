@@ -1,5 +1,6 @@
 -- What is left of a stream is its next item, an error or the end.
 use Rattle.std.proofs.Common.{◌≡◌, ◌≢◌, ◌⊎◌, inl, inr, ℕ, ◌+◌, true, false, List, [], ◌∷◌, Option, Some, None, Result, Ok, Err, ap, sym, refl, subst, ◌∙◌}
+use Rattle.std.proofs.lemmas.Option.{same_Some}
 use Rattle.ml_base.specs.Bytes.{Text, is_empty}
 use Rattle.ml_plain.specs.declared.Item.{Item}
 use Rattle.ml_stream.specs.declared.reader.Letter.{Letter}
@@ -26,9 +27,6 @@ rest_in (Err e) = []
 some_none : (i : Item) → Some i ≡ None → ⊥
 some_none i e = cc
 
-some_same : (i j : Item) → Some i ≡ Some j → i ≡ j
-some_same i j e = cc
-
 err_ok : {X Y : Type 0} (x : X) (y : Y) → ◌≡◌ {A = Result Y X} (Err x) (Ok y) → ⊥
 err_ok x y e = cc
 
@@ -53,7 +51,7 @@ stream_item place p bs r i [] (Broken x) h e = absurd (err_ok x _ (sym h ∙ e))
 stream_item place p bs r i (j ∷ js) ending h e =
     let same = sym h.2 ∙ e in (
       js,
-      ap (λ k. k ∷ js) (some_same j i (ap value_in same)),
+      ap (λ k. k ∷ js) (same_Some j i (ap value_in same)),
       subst (λ q. IsStream q r js ending) (ap place_in same) (subst (λ q. IsStream h.0 q js ending) (ap rest_in same) h.3),
     )
 
