@@ -1,10 +1,11 @@
 // How a text is split: at a byte, or into lines.
-ghost use Rattle.std.specs.Prelude.{◌≡◌, ◌≤◌, ◌+◌, ◌<◌, [], ◌∷◌, length, take, drop, IfSome, MatchOption};
+ghost use Rattle.std.specs.Prelude.{◌≡◌, ◌+◌, ◌<◌, [], ◌∷◌, length, IfSome, MatchOption};
 ghost use Rattle.std.specs.Option.{option_map};
 ghost use Rattle.ml_base.specs.Bytes as bytes;
 ghost use Rattle.ml_base.specs.Splits.{lines};
 ghost use Rattle.ml_base.specs.Splits as splits;
 
+use bstr::ByteSlice;
 use memchr::{memchr, memrchr};
 
 /// The parts before and after the first place of a byte, or None if it isn't there.
@@ -34,21 +35,8 @@ pub fn split_line(text: &[u8]) -> Option<(&[u8], &[u8])>
     ensures value { MatchOption result (text.now ≡ []) (λ p. lines text.now ≡ p.0.now ∷ lines p.1.now) }
     ensures lengths { IfSome result (λ p. (0 < length p.0.now) × (length p.0.now + length p.1.now ≡ length text.now)) }
 {
-    if text.is_empty() {
-        return None;
-    }
-    Some(text.split_at(line_len(text)))
-}
-
-// The length of the first line, its LF included.
-fn line_len(text: &[u8]) -> usize
-    requires { 0 < length text.now }
-    ensures some { 0 < result }
-    ensures within { result ≤ length text.now }
-    ensures line { lines text.now ≡ take result text.now ∷ lines (drop result text.now) }
-{
-    match memchr(b'\n', text) {
-        None => text.len(),
-        Some(at) => at + 1,
+    match text.lines_with_terminator().next() {
+        None => None,
+        Some(line) => Some(text.split_at(line.len())),
     }
 }
