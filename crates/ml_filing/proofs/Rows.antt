@@ -11,6 +11,7 @@ use Rattle.ml_filing.specs.Archive.{IsIndexFile, index_name}
 use Rattle.ml_filing.specs.Threads.{entry_at}
 use Rattle.ml_filing.specs.declared.lookups.Index.{Index}
 use Rattle.ml_filing.specs.declared.posts.Entry.{Entry}
+use Rattle.ml_filing.proofs.Looking.{entry_named}
 
 pub number_of : (rest : List ℕ) → 1 ≤ length rest → rest ≡ get_or rest 0 0 ∷ take (length rest - 1) (drop 1 rest)
 number_of [] some = absurd (omega arith)
@@ -68,6 +69,10 @@ pub among_none : (dir : Dir) (n : ℕ) (indexes : List Index) (i : Index) (es : 
     → IfNone o (HasNoEntry dir n)
 among_none dir n indexes i es (Some e) all found is there = tt
 among_none dir n indexes i es None all found is there = (i.entries, index_is dir (n / 100) indexes i all (sym found), sym (there ∙ ap (entry_at n) is))
+
+pub among_named : (n : ℕ) (es : List Entry) (o : Option (Bor Entry)) → option_copied o ≡ entry_at n es → IfSome o (λ e. e.now.number ≡ n)
+among_named n es None there = tt
+among_named n es (Some e) there = entry_named n es e.now (sym there)
 
 pub among_absent : (dir : Dir) (n : ℕ) (indexes : List Index) → None ≡ of_group (n / 100) indexes → has_group (n / 100) indexes ≡ true → HasNoEntry dir n
 among_absent dir n indexes none has = absurd (no_group_none (n / 100) indexes (sym none) has)

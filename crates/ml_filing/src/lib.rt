@@ -16,6 +16,7 @@ mod threads;
 
 pub use appending::append;
 pub use laws::{law_append, law_archive, law_archive_files, law_cut, law_threads};
+pub use lookups::{Index, Indexes, entry_among, read_alone};
 pub use posting::{count, index, message_of, post};
 pub use posts::{Appended, Entries, Entry, Post, Thread, Threads};
 pub use ranges::range;

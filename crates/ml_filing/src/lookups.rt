@@ -1,13 +1,16 @@
 // Looks up a row of posts in their indexes, and cuts the row to what one answer may have.
-ghost use Rattle.std.specs.Prelude.{◌≡◌, ◌<◌, ◌≤◌, ◌/◌, ◌==◌, true, find, length, take, IsTrue, IfOk, IfSome, IfNone, OnOk};
+ghost use Rattle.std.specs.Prelude.{◌≡◌, ◌<◌, ◌≤◌, ◌/◌, ◌==◌, true, List, find, length, take, IsTrue, IfErr, IfOk, IfSome, IfNone, OnOk};
 ghost use Rattle.std.specs.List.{AllByRecursion};
 ghost use Rattle.std.specs.Option.{option_copied};
 ghost use Rattle.ml_base.specs.Cuts.{within, one_or_within};
 ghost use Rattle.ml_base.specs.Dir.{Dir};
+ghost use Rattle.ml_base.specs.PartErrors.{OnDamaged};
 ghost use Rattle.ml_base.specs.ReadFiles.{IsReading, NamesDamaged};
 ghost use Rattle.ml_filing.specs.Answers.{AreIndexes, AreSizes, HasNoEntry, IsEntryByFiles, IsNoIndex, IsBadForRow, has_group};
 ghost use Rattle.ml_filing.specs.Archive as archive;
+ghost use Rattle.ml_filing.specs.Archive.{ArePosts};
 ghost use Rattle.ml_filing.specs.Reads.{IsOfRow};
+ghost use Rattle.ml_filing.specs.declared.posts.Post.{Post as ThePost};
 
 use crate::files::read_index;
 use crate::reading::entry_for;
@@ -20,15 +23,17 @@ pub(crate) const MAX_POSTS: usize = 100;
 
 const MAX_BYTES: u64 = 4_194_304;
 
-// An index that was read.
+/// An index that was read.
 #[derive(Drop)]
-pub(crate) struct Index {
-    pub(crate) group: u64,
-    pub(crate) entries: Entries,
+pub struct Index {
+    /// The number of the group: n / 100 for each post n of it.
+    pub group: u64,
+    /// What the index says of the group's posts.
+    pub entries: Entries,
 }
 
-// The indexes that a call has read, each of them once.
-pub(crate) type Indexes = Row<Index>;
+/// Indexes that were read, each of them once.
+pub type Indexes = Row<Index>;
 
 // Whether the index of a group was read.
 fn was_read(indexes: &[Index], group: u64) -> bool
@@ -58,6 +63,30 @@ pub(crate) fn read_once<F: Files>(
     Ok(indexes.push(Index { group, entries })?)
 }
 
+/// Reads the index of a group, unless it is among those that were read. If it has to be read, it is the only one that is kept. So a call that goes
+/// over posts in order reads each index once, and holds one at a time. The group is that of a post, and so below 1,000,000.
+pub fn read_alone<F: Files>(
+    alloc: Global,
+    files: &mut F,
+    indexes: &mut Indexes,
+    group: u64,
+) -> Result<(), PartError>
+    requires { group < 1_000_000 }
+    ensures known { IsTrue F.tells → AreIndexes (F.map files.old) indexes.old → AreIndexes (F.map files.old) indexes.new }
+    ensures there { OnOk result (has_group group indexes.new ≡ true) }
+    ensures kept { has_group group indexes.old ≡ true → indexes.new ≡ indexes.old }
+    ensures names { NamesDamaged ⟦<F as Files>⟧ (λ name. name ≡ archive.index_name group) (λ _. IsNoIndex (F.map files.old) group) result }
+    ensures sound { IsTrue F.tells → (posts : List ThePost) → ArePosts (F.map files.old) posts → IfErr result (λ e. OnDamaged e (λ _. ⊥)) }
+    ensures reads { IsReading ⟦<F as Files>⟧ files.old files.new result }
+{
+    if was_read(indexes.as_slice(), group) {
+        return Ok(());
+    }
+    *indexes = Indexes::new(alloc);
+    let entries = read_index(alloc, files, group)?;
+    Ok(indexes.push(Index { group, entries })?)
+}
+
 // The index of a group among those that were read.
 fn index_for(indexes: &[Index], group: u64) -> Option<&Index>
     ensures { option_copied result ≡ find (λ i. i.group == group) indexes.now }
@@ -65,8 +94,9 @@ fn index_for(indexes: &[Index], group: u64) -> Option<&Index>
     indexes.iter().find(|index| index.group == group)
 }
 
-// The entry of a post in the indexes that were read.
-pub(crate) fn entry_among(indexes: &[Index], number: u64) -> Option<&Entry>
+/// The entry of a post in the indexes that were read. None if that of its group has none, or wasn't read. It takes no memory.
+pub fn entry_among(indexes: &[Index], number: u64) -> Option<&Entry>
+    ensures number { IfSome result (λ e. e.now.number ≡ number) }
     ensures some { (dir : Dir) → AreIndexes dir indexes.now → IfSome result (λ e. IsEntryByFiles dir number e.now) }
     ensures none { (dir : Dir) → AreIndexes dir indexes.now → has_group (number / 100) indexes.now ≡ true → IfNone result (HasNoEntry dir number) }
 {
