@@ -130,46 +130,51 @@ pub fn thread<F: Files>(
     known_thread(alloc, files, prefix, n)
 }
 
-// The whole thread of a post that is there.
+// The whole thread of a post that is there. The index of its group is added to those that were read, unless it is among them.
 fn known_whole_thread<F: Files>(
     alloc: Global,
     files: &mut F,
+    indexes: &mut Indexes,
     prefix: &[u8],
     n: u64,
 ) -> Result<Thread, PartError>
-    requires { n ≤ 99_999_999 }
+    requires few { n ≤ 99_999_999 }
+    requires known { IsTrue F.tells → AreIndexes (F.map files.old) indexes.old }
     ensures value { IsTrue F.tells → IfOk result (IsWholeByFiles (F.map files.old) prefix.now n) }
     ensures few { IfOk result (λ t. AllByRecursion (λ m. m ≤ 99_999_999) t.numbers) }
+    ensures known { IsTrue F.tells → OnOk result (AreIndexes (F.map files.old) indexes.new) }
     ensures names { NamesDamaged ⟦<F as Files>⟧ IsThreadName (IsBadForKnown (F.map files.old) prefix.now n) result }
     ensures reads { IsReading ⟦<F as Files>⟧ files.old files.new result }
 {
-    let mut indexes = Indexes::new(alloc);
-    let key = key_for(alloc, files, &mut indexes, prefix, n)?;
+    let key = key_for(alloc, files, indexes, prefix, n)?;
     let numbers = numbers_with(alloc, files, key.as_slice(), n)?;
     Ok(Thread { key, numbers })
 }
 
 /// The thread of post n, on a list with this prefix: the key of its subject, and the numbers of all posts whose subject
 /// has that key, in order. None if n is 0 or above the number of posts. It reads the number of posts, one index and one
-/// thread file.
+/// thread file, and leaves the index in `indexes`, alone, if it read it.
 pub fn whole_thread<F: Files>(
     alloc: Global,
     files: &mut F,
+    indexes: &mut Indexes,
     prefix: &[u8],
     n: u64,
 ) -> Result<Option<Thread>, PartError>
     ensures value { IsTrue F.tells → (list : List ThePost) → IsArchive (F.map files.old) prefix.now list → IfOk result (λ found. found ≡ threads.whole_thread prefix.now n list) }
     ensures read { IsTrue F.tells → IfOk result (IsWholeAnswer (F.map files.old) prefix.now n) }
     ensures few { IfOk result (λ found. IfSome found (λ t. AllByRecursion (λ m. m ≤ 99_999_999) t.numbers)) }
+    ensures known { IsTrue F.tells → OnOk result (AreIndexes (F.map files.old) indexes.new) }
     ensures names { NamesDamaged ⟦<F as Files>⟧ IsThreadName (IsBadForThread (F.map files.old) prefix.now n) result }
     ensures sound { IsTrue F.tells → (list : List ThePost) → IsArchive (F.map files.old) prefix.now list → IfErr result (λ e. OnDamaged e (λ _. ⊥)) }
     ensures reads { IsReading ⟦<F as Files>⟧ files.old files.new result }
 {
+    *indexes = Indexes::new(alloc);
     let count = read_count(alloc, files)?;
     if n == 0 || n > count {
         return Ok(None);
     }
-    Ok(Some(known_whole_thread(alloc, files, prefix, n)?))
+    Ok(Some(known_whole_thread(alloc, files, indexes, prefix, n)?))
 }
 
 /// The threads of the thread file with this number, in the order of their keys. It reads one file.

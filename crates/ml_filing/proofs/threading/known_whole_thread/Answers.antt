@@ -17,10 +17,10 @@ returns-in_err-key-clause-names g c =
     let n = c.args.n in
     let prefix = c.args.prefix.now in
     record {
-      named = let own : OnDamaged e IsThreadName = on_damaged e (IsPostName n) IsThreadName (λ name is. key_named n name c.requires is) failed.named in search rules;
+      named = let own : OnDamaged e IsThreadName = on_damaged e (IsPostName n) IsThreadName (λ name is. key_named n name c.requires.few is) failed.named in search rules;
       damaged = λ told.
           let dir = g.F.Files.map c.args.files.now in
-          let bad : OnDamaged e (IsBadForKnown dir prefix n) = on_damaged e (IsBadForEntry dir n) (IsBadForKnown dir prefix n) (λ name is. key_bad dir prefix n name c.requires is) (failed.damaged told) in
+          let bad : OnDamaged e (IsBadForKnown dir prefix n) = on_damaged e (IsBadForEntry dir n) (IsBadForKnown dir prefix n) (λ name is. key_bad dir prefix n name c.requires.few is) (failed.damaged told) in
           search rules;
     }
 

@@ -2,7 +2,7 @@ use Rattle.std.proofs.Common.{◌≡◌, arith, rules, subst, inl, inr}
 use Rattle.ml_base.specs.Dir.{Dir}
 use Rattle.ml_base.specs.PartErrors.{OnDamaged}
 use Rattle.ml_base.proofs.DamagedNames.{on_damaged, on_both}
-use Rattle.ml_filing.specs.Answers.{IsBadForKnown, IsWholeByFiles, IsBadForThread, IsNoNumber, IsThreadName}
+use Rattle.ml_filing.specs.Answers.{AreIndexes, IsBadForKnown, IsWholeByFiles, IsBadForThread, IsNoNumber, IsThreadName}
 use Rattle.ml_filing.proofs.Looking.{counted_is}
 use Rattle.ml_filing.proofs.Threaded.{no_bad_known, whole_is, whole_none, known_bad}
 use Rattle.ml_filing.specs.Archive.{number_name}
@@ -50,6 +50,11 @@ returns-clause-read g c told =
     let zero = c.if-n-eq0.false in
     let past = c.if-n-count.false in
     ((c.in_ok-count.count, c.in_ok-count.ensures.value told, omega (arith, zero), omega (arith, past)), subst (λ (d : Dir). IsWholeByFiles d c.args.prefix.now c.args.n t) same (c.in_ok-known_whole_thread.ensures.value told))
+
+pub returns-clause-known : goal.returns-clause-known
+returns-clause-known g c told =
+    let same = g.met.F.Files.kept_map c.args.files.now c.read_count.new.files told c.read_count.ensures.reads.kept in
+    subst (λ (d : Dir). AreIndexes d c.known_whole_thread.new.indexes) same (c.in_ok-known_whole_thread.ensures.known told)
 
 pub returns-in_err-known_whole_thread-clause-reads : goal.returns-in_err-known_whole_thread-clause-reads
 returns-in_err-known_whole_thread-clause-reads g c =
