@@ -1,14 +1,15 @@
 -- Adding one post to a mailbox, by the files.
-use Rattle.std.proofs.Common.{◌≡◌, ◌≤◌, ◌+◌, ◌/◌, min, ℕ, Bool, true, false, cond, ◌==◌, ◌&&◌, List, [], ◌∷◌, ◌++◌, map, Some, None, sym, ap, ap₂, ◌∙◌, subst, arith, inl, inr}
+use Rattle.std.proofs.Common.{◌≡◌, ◌<◌, ◌≤◌, ◌+◌, ◌/◌, min, ℕ, Bool, true, false, cond, ◌==◌, ◌&&◌, List, [], ◌∷◌, ◌++◌, map, Some, None, sym, ap, ap₂, ◌∙◌, subst, arith, inl, inr}
 use Rattle.std.specs.List.{AllByRecursion, AllZip, flat_map, range_with_len}
 use Rattle.std.proofs.lemmas.Bool.{le-leb, ltb-true}
+use Rattle.std.proofs.lemmas.Nat.{div_below}
 use Rattle.std.proofs.lemmas.List.{append-nil, map-append}
 use Rattle.std.proofs.lemmas.List.Concat.{flat_map-append}
 use Rattle.ml_base.specs.Bytes.{Text}
 use Rattle.ml_base.specs.Dir.{Dir}
 use Rattle.ml_base.specs.declared.names.Name.{Name}
-use Rattle.ml_filing.specs.Answers.{IsBadForPost, IsIndexByFiles, IsPostByFiles, IsPostName}
-use Rattle.ml_filing.specs.Archive.{IsEntry, IsIndexFile, IsNumberFile, index_name, number_name}
+use Rattle.ml_filing.specs.Answers.{IsBadForPost, IsPostByFiles, IsPostName}
+use Rattle.ml_filing.specs.Archive.{IsEntry, IsNumberFile, index_name, number_name}
 use Rattle.ml_filing.specs.Threads.{entry_at}
 use Rattle.ml_filing.specs.declared.posts.Entry.{Entry}
 use Rattle.ml_filing.specs.declared.posts.Post.{Post}
@@ -16,7 +17,7 @@ use Rattle.ml_filing.proofs.Looking.{post_by_files}
 use Rattle.ml_filing.proofs.OneMore.{range_on_end}
 use Rattle.ml_mbox.specs.Mbox.{mail_text}
 use Rattle.ml_porting.specs.Mailboxes.{IsBadForMailbox, IsMailbox, IsMailboxName, mail_of, mailbox}
-use Rattle.ml_porting.specs.Steps.{AddsMail, IsBadAmong}
+use Rattle.ml_porting.specs.Steps.{AddsMail, IsBadIndexed}
 
 one_entry : (e f : Entry) → Some e ≡ Some f → e ≡ f
 one_entry e f is = cc
@@ -44,18 +45,17 @@ mailbox_on : (ps : List Post) (p : Post) → mailbox (ps ++ p ∷ []) ≡ mailbo
 mailbox_on ps p =
     ap (flat_map mail_text) (map-append mail_of ps (p ∷ [])) ∙ flat_map-append mail_text (map mail_of ps) (mail_of p ∷ []) ∙ ap (λ (t : Text). mailbox ps ++ t) (append-nil (mail_text (mail_of p)))
 
--- the index of the group of a post
-pub file_of : (dir : Dir) (n : ℕ) (es : List Entry) → n ≤ 99_999_999 → IsIndexByFiles dir (n / 100) es → IsIndexFile (n / 100) (dir (index_name (n / 100))) es
-file_of dir n es few (inl file) = file.1
-file_of dir n es few (inr none) = absurd (let past = none.0 in omega (arith, few, past))
+-- the group of a post
+pub group_few : (n : ℕ) → n ≤ 99_999_999 → n / 100 < 1_000_000
+group_few n few = div_below n 100 1_000_000 (omega arith) (omega (arith, few))
 
-module _ (dir : Dir) (n count : ℕ) (es : List Entry) (counted : IsNumberFile (dir number_name) count) (low : 1 ≤ n) (high : n ≤ count) (by : IsIndexFile (n / 100) (dir (index_name (n / 100))) es) where
-  pub one_more : (a k m : ℕ) (old new : Text) → n ≡ a + k → m ≡ k + 1 → IsMailbox dir (range_with_len a k) old → AddsMail dir es n old new → IsMailbox dir (range_with_len a m) new
+module _ (dir : Dir) (n count : ℕ) (counted : IsNumberFile (dir number_name) count) (low : 1 ≤ n) (high : n ≤ count) where
+  pub one_more : (a k m : ℕ) (old new : Text) → n ≡ a + k → m ≡ k + 1 → IsMailbox dir (range_with_len a k) old → AddsMail dir n old new → IsMailbox dir (range_with_len a m) new
   one_more a k m old new at one box adds =
       let e = adds.entry in
       let post : Post = record { sender = e.sender; moment = e.moment; subject = e.subject; bytes = adds.bytes } in
-      let is = post_by_files dir n count e adds.bytes counted low high (es, by, adds.found) adds.there adds.size in
-      let entry_is = found_has IsEntry n es e by.each adds.found in
+      let is = post_by_files dir n count e adds.bytes counted low high adds.found adds.there adds.size in
+      let entry_is = found_has IsEntry n adds.found.0 e adds.found.1.each adds.found.2 in
       let time = ltb-true e.moment 253_402_300_800 entry_is.moment in
       let moment : min e.moment 253_402_300_799 ≡ e.moment = omega (arith, time) in
       let row : range_with_len a k ++ n ∷ [] ≡ range_with_len a m = ap (λ (n : ℕ). range_with_len a k ++ n ∷ []) at ∙ sym (range_on_end a k) ∙ ap (range_with_len a) (sym one) in
@@ -65,9 +65,9 @@ module _ (dir : Dir) (n count : ℕ) (es : List Entry) (counted : IsNumberFile (
         text_is = adds.added ∙ ap₂ (λ (t : Text) (m : ℕ). t ++ mail_text (record { sender = e.sender; moment = m; message = adds.bytes })) box.text_is moment ∙ sym (mailbox_on box.posts post);
       }
 
-  pub bad_post : (name : Name) → IsBadAmong dir es n name → IsBadForPost dir n name
-  bad_post name (inl (named, lacks)) = inl (named, inr (record { count = count; counted = counted; low = low; high = high; entries = es; index = by; lacks = lacks }))
-  bad_post name (inr (named, (e, found, other))) = inr (named, inr (record { entries = es; index = by; entry = e; found = found; lacks = other }))
+  pub bad_post : (name : Name) → IsBadIndexed dir n name → IsBadForPost dir n name
+  bad_post name (inl (named, lacks)) = inl (named, inr (record { count = count; counted = counted; low = low; high = high; entries = lacks.0; index = lacks.1; lacks = lacks.2 }))
+  bad_post name (inr (named, lacks)) = inr (named, inr lacks)
 
 -- a file that is damaged for a post of the range is damaged for the mailbox
 pub bad_one : (dir : Dir) (a b n count : ℕ) (name : Name) → a ≤ n → n ≤ b → IsNumberFile (dir number_name) count → 1 ≤ n → n ≤ count → IsBadForPost dir n name → IsBadForMailbox dir a b name
