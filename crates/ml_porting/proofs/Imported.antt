@@ -6,7 +6,7 @@ use Rattle.std.proofs.lemmas.List.Elements.{All-from_recursion}
 use Rattle.std.proofs.lemmas.List.Folds.{list_any_none, list_any-from_Any}
 use Rattle.ml_base.specs.Bytes.{Text}
 use Rattle.ml_config.specs.declared.configuration.Config.{Config}
-use Rattle.ml_import.specs.Import.{Fits, IsLong, is_long}
+use Rattle.ml_porting.specs.Import.{Fits, IsLong, is_long}
 use Rattle.ml_mbox.specs.Importing.{act_of, acts_of}
 use Rattle.ml_mbox.specs.Reading.{read}
 use Rattle.ml_mbox.specs.declared.mails.Boxed.{Boxed}

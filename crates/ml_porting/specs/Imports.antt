@@ -3,7 +3,7 @@ use Rattle.std.specs.Prelude.{ℕ, List, [], unwrap_or, if◌then◌else◌}
 use Rattle.std.specs.List.{list_any}
 use Rattle.ml_base.specs.Bytes.{Text}
 use Rattle.ml_config.specs.declared.configuration.Config.{Config}
-use Rattle.ml_import.specs.Import.{is_long}
+use Rattle.ml_porting.specs.Import.{is_long}
 use Rattle.ml_mbox.specs.Importing.{acts_of}
 use Rattle.ml_mbox.specs.Reading.{read}
 use Rattle.ml_mbox.specs.declared.mails.Boxed.{Boxed}

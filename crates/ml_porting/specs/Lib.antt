@@ -1,3 +1,4 @@
+pub mod Import
 pub mod Imports
 pub mod Mailboxes
 pub mod Numbers

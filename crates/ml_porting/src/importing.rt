@@ -4,9 +4,10 @@ ghost use Rattle.ml_mbox.specs.Reading.{read};
 ghost use Rattle.ml_porting.specs.Questions.{import_first, importing_meaning, importing_of};
 ghost use Rattle.ml_porting.specs.Imports.{import_answer, mails_of};
 
+use crate::error::ImportError;
+use crate::stream::import_text;
 use ml_base::{Bytes, Files, PartError};
 use ml_config::Config;
-use ml_import::{ImportError, import_text};
 use ml_input::{FromInput, InputError};
 use ml_mbox::Mails;
 use ml_reading::{Answer, Question};

@@ -1,5 +1,5 @@
 // Laws of every stream that an import gives.
-ghost use Rattle.std.specs.Prelude.{◌≡◌, ◌≤◌, ℕ, List, Some, Ok, length};
+ghost use Rattle.std.specs.Prelude.{◌≡◌, ◌≤◌, ℕ, List, Some, Ok, length, All};
 ghost use Rattle.ml_base.specs.Bytes.{Text};
 ghost use Rattle.ml_base.specs.Dir.{Dir};
 ghost use Rattle.ml_base.specs.Ranges.{IsMoment};
@@ -14,8 +14,16 @@ ghost use Rattle.ml_stream.specs.Stream.{IsStream, End};
 ghost use Rattle.ml_porting.specs.Numbers.{IsFirst};
 ghost use Rattle.ml_porting.specs.Questions.{importing_meaning, importing_of};
 ghost use Rattle.ml_porting.specs.declared.importing.Importing.{Importing as TheImporting};
+ghost use Rattle.ml_stream.specs.Writing.{stream_text};
+ghost use Rattle.ml_porting.specs.Import.{Fits};
 
-use ml_import::law_import;
+/// The stream of a mailbox of at most 268,435,456 bytes has exactly the deliveries of its mails, in order, and then ends. Their
+/// numbers rise by one from `first` on, which is at most 999,900,000,000.
+pub fn law_import()
+    ensures { (c : Config) (first moment : ℕ) (text : Text) (mails : List Boxed) → IsConfig c → first ≤ 999_900_000_000 → IsMoment moment → length text ≤ 268_435_456
+        → read text ≡ Some mails → All (Fits c) mails
+        → IsStream 0 (stream_text (numbered first moment (acts_of c mails))) (numbered first moment (acts_of c mails)) End }
+{}
 
 /// The input that a question of an import was made of is a mailbox. A text that answers the question, whatever the files hold, is by the grammar
 /// of streams exactly the deliveries of the mailbox's mails, in order, numbered from the first number on, and then ends.
