@@ -1,6 +1,5 @@
 -- What a run does on any directory, step by step.
-use Rattle.std.proofs.Common.{◌≡◌, ◌⊎◌, inl, inr, ⊎_elim, ℕ, ◌+◌, ◌-◌, IsTrue, List, [], ◌∷◌, ◌++◌, length, take, drop, Option, Some, None, ap, sym, refl, subst, ◌∙◌, arith, append_assoc, length-append}
-use Rattle.std.specs.Prelude.{IsSome}
+use Rattle.std.proofs.Common.{◌≡◌, ◌⊎◌, inl, inr, ⊎_elim, ℕ, ◌+◌, IsTrue, List, [], ◌∷◌, ◌++◌, length, take, drop, Option, Some, None, ap, sym, refl, subst, ◌∙◌, arith, append_assoc, length-append}
 use Rattle.std.proofs.lemmas.List.{append-nil, take-append-drop}
 use Rattle.ml_base.specs.Bytes.{Text}
 use Rattle.ml_base.specs.Dir.{Dir, with_puts}
@@ -10,10 +9,11 @@ use Rattle.ml_site.specs.Moments.{LeavesOnly, FromFirstSync}
 use Rattle.ml_site.specs.declared.site.Site.{Ghosts}
 use Rattle.ml_site.proofs.Steps.{first_weaker, joins, weaker, rest_contents}
 use Rattle.ml_journal.specs.Calls.{Leaves}
-use Rattle.ml_journal.specs.Kept.{IsStill}
+use Rattle.ml_journal.specs.Kept.{IsKept, IsStill}
 use Rattle.ml_journal.specs.Log.{directory}
 use Rattle.ml_journal.specs.Moments.{with_txn, IsOld}
-use Rattle.ml_journal.specs.Stores.{the_dir}
+use Rattle.ml_journal.specs.Stores.{site_of, the_dir}
+use Rattle.ml_journal.specs.declared.store.Store.{Store}
 use Rattle.ml_plain.specs.declared.Item.{Item}
 use Rattle.ml_plain.specs.Replies.{line}
 use Rattle.ml_ending.specs.declared.lines.Why.{Why}
@@ -24,6 +24,7 @@ use Rattle.ml_ending.proofs.Leaving.{said_leaves}
 use Rattle.ml_run.specs.declared.groups.Group.{Group}
 use Rattle.ml_run.specs.Groups.{IsEmptyGroup}
 use Rattle.ml_run.specs.Leaving.{IsSettling}
+use Rattle.ml_run.specs.Settling.{IsSettled, IsUnsettled, LeavesSettling}
 use Rattle.ml_run.specs.Anywhere.{Done, items_of, answers_of, after, IsDone, AreDone, Adds, HoldsDone, IsAfterFirst, HasDone, AtEachMoment}
 use Rattle.ml_run.proofs.LaidPuts.{laid_over}
 
@@ -153,30 +154,27 @@ module _ {S : Type 0} (told : Ghosts S) where
   }
 
   -- the moments of a group that was read, and of its commit and answers
-  pub settling_moments : (files : Dir) (start old read new : S) (done more : List Done) (g : Group) (lines : Text) → (IsTrue told.tells_all → IsTrue told.tells_reads)
-      → HasDone told files start old done → HoldsDone (after files done) g more → lines ≡ g.lines → (IsTrue told.tells_reads → (told.disk read).reads ≡ (told.disk old).reads)
-      → (IsTrue told.tells_all → told.output read ≡ told.output old) → Leaves told old read (IsStill told old)
-      → Leaves told read new (IsSettling (directory (told.disk read).reads) g.txn lines (told.output read)) → Leaves told start new (IsAfterFirst files (done ++ more) (told.output start))
-  settling_moments files start old read new done more g lines reads s h is same put still time t =
+  pub settling_moments : (files : Dir) (start : S) (old read : Store S told) (new : S) (done more : List Done) (g : Group) (lines : Text) → (IsTrue told.tells_all → IsTrue told.tells_reads)
+      → HasDone told files start (site_of old) done → HoldsDone (after files done) g more → lines ≡ g.lines → IsKept old read → LeavesSettling told g.txn lines (site_of read) new → Leaves told start new (IsAfterFirst files (done ++ more) (told.output start))
+  settling_moments files start old read new done more g lines reads s h is kept time t =
       let P = IsAfterFirst files (done ++ more) (told.output start) in
-      let one = joins told.moment told.left_since told.disk told.output start old read (IsAfterFirst files done (told.output start)) (IsStill told old) P (s.moments t) (still t)
+      let dir = directory (told.disk (site_of read)).reads in
+      let one = joins told.moment told.left_since told.disk told.output start (site_of old) (site_of read) (IsAfterFirst files done (told.output start)) (IsStill told (site_of old)) P (s.moments t) (kept.moments t)
       (λ left out p. first_wider files done more (told.output start) out left p)
       (λ left out p. all_answered files done more (told.output start) out left (ap directory p.0 ∙ s.dir) (p.1 ∙ s.put t)) in
-      joins told.moment told.left_since told.disk told.output start read new P (IsSettling (directory (told.disk read).reads) g.txn lines (told.output read)) P one (time t) (λ left out p. p)
-      (λ left out p. settling_done files done more g (told.output start) (told.output read) lines (directory (told.disk read).reads) left out (ap directory (same (reads t)) ∙ s.dir) h is (put t ∙ s.put t) p)
+      joins told.moment told.left_since told.disk told.output start (site_of read) new P (IsSettling dir g.txn lines (told.output (site_of read))) P one (time t) (λ left out p. p)
+      (λ left out p. settling_done files done more g (told.output start) (told.output (site_of read)) lines dir left out (ap directory (kept.reads (reads t)) ∙ s.dir) h is (kept.output_is t ∙ s.put t) p)
 
   -- a group was committed and answered
-  pub next_done : (files : Dir) (start old read new : S) (done more : List Done) (g : Group) (lines : Text) → (IsTrue told.tells_all → IsTrue told.tells_reads) → IsTrue told.tells_reads
-      → HasDone told files start old done → HoldsDone (after files done) g more → lines ≡ g.lines → (IsTrue told.tells_reads → (told.disk read).reads ≡ (told.disk old).reads)
-      → (IsTrue told.tells_all → told.output read ≡ told.output old) → Leaves told old read (IsStill told old)
-      → directory (told.disk new).reads ≡ with_txn g.txn (directory (told.disk read).reads) → (IsTrue told.tells_all → told.output new ≡ told.output read ++ lines)
-      → Leaves told read new (IsSettling (directory (told.disk read).reads) g.txn lines (told.output read)) → HasDone told files start new (done ++ more)
-  next_done files start old read new done more g lines reads r s h is same put still committed answered time = record {
+  pub next_done : (files : Dir) (start : S) (old read : Store S told) (new : S) (done more : List Done) (g : Group) (lines : Text) → (IsTrue told.tells_all → IsTrue told.tells_reads) → IsTrue told.tells_reads
+      → HasDone told files start (site_of old) done → HoldsDone (after files done) g more → lines ≡ g.lines → IsKept old read → IsSettled told g.txn lines (site_of read) new → LeavesSettling told g.txn lines (site_of read) new
+      → HasDone told files start new (done ++ more)
+  next_done files start old read new done more g lines reads r s h is kept ends time = record {
     are = done_joined files done more s.are h.are;
-    dir = committed ∙ with_group files done more g (directory (told.disk read).reads) (ap directory (same r) ∙ s.dir) h;
-    put = λ t. answered t ∙ ap (λ (o : Text). o ++ lines) (put t ∙ s.put t) ∙ ap (λ (l : Text). (told.output start ++ answers_of done) ++ l) (is ∙ h.lines)
+    dir = ends.dir r ∙ with_group files done more g (directory (told.disk (site_of read)).reads) (ap directory (kept.reads r) ∙ s.dir) h;
+    put = λ t. ends.put t ∙ ap (λ (o : Text). o ++ lines) (kept.output_is t ∙ s.put t) ∙ ap (λ (l : Text). (told.output start ++ answers_of done) ++ l) (is ∙ h.lines)
         ∙ append_assoc (told.output start) (answers_of done) (answers_of more) ∙ ap (λ (l : Text). told.output start ++ l) (sym (answers_joined done more));
-    moments = settling_moments files start old read new done more g lines reads s h is same put still time;
+    moments = settling_moments files start old read new done more g lines reads s h is kept time;
   }
 
   -- a run whose store was closed: its directory, and its moments
@@ -217,27 +215,25 @@ module _ {S : Type 0} (told : Ghosts S) where
       stays None e = ap (λ (x : S). directory (told.disk x).reads) (f.quiet e).1
       stays (Some reason) e = ap directory ((f.said reason e).reads r)
 
-  pub refused_done : (files : Dir) (start old read mid new : S) (done more : List Done) (g : Group) (lines : Text) (first : Option ℕ) (why : Option Why) (status : ℕ) → (IsTrue told.tells_all → IsTrue told.tells_reads)
-      → HasDone told files start old done → HoldsDone (after files done) g more → lines ≡ g.lines → (IsTrue told.tells_reads → (told.disk read).reads ≡ (told.disk old).reads)
-      → (IsTrue told.tells_all → told.output read ≡ told.output old) → Leaves told old read (IsStill told old)
-      → (IsTrue told.tells_all → IsSome why → told.output mid ≡ told.output read)
-      → Leaves told read mid (IsSettling (directory (told.disk read).reads) g.txn lines (told.output read)) → Refuses told mid new first why status
-      → Leaves told start new (IsAfterFirst files (done ++ more) (told.output start))
-  refused_done files start old read mid new done more g lines first None status reads s h is same put still quiet time f t =
+  pub refused_done : (files : Dir) (start : S) (old read : Store S told) (mid new : S) (done more : List Done) (g : Group) (lines : Text) (first : Option ℕ) (why : Option Why) (status : ℕ) → (IsTrue told.tells_all → IsTrue told.tells_reads)
+      → HasDone told files start (site_of old) done → HoldsDone (after files done) g more → lines ≡ g.lines → IsKept old read → IsUnsettled told g.txn lines why (site_of read) mid → LeavesSettling told g.txn lines (site_of read) mid
+      → Refuses told mid new first why status → Leaves told start new (IsAfterFirst files (done ++ more) (told.output start))
+  refused_done files start old read mid new done more g lines first None status reads s h is kept ends time f t =
       subst (λ (x : S). LeavesOnly told.moment told.left_since told.disk told.output start x (IsAfterFirst files (done ++ more) (told.output start))) (sym (f.quiet refl).1)
-      (settling_moments files start old read mid done more g lines reads s h is same put still time t)
-  refused_done files start old read mid new done more g lines first (Some reason) status reads s h is same put still quiet time f t =
+      (settling_moments files start old read mid done more g lines reads s h is kept time t)
+  refused_done files start old read mid new done more g lines first (Some reason) status reads s h is kept ends time f t =
       let P = IsAfterFirst files (done ++ more) (told.output start) in
-      let here : directory (told.disk read).reads ≡ Some (after files done) = ap directory (same (reads t)) ∙ s.dir in
+      let dir = directory (told.disk (site_of read)).reads in
+      let here : dir ≡ Some (after files done) = ap directory (kept.reads (reads t)) ∙ s.dir in
       let line = stop_text first (status_of_why reason) reason in
-      said_leaves told start mid new P status first reason (settling_moments files start old read mid done more g lines reads s h is same put still time t)
+      said_leaves told start mid new P status first reason (settling_moments files start old read mid done more g lines reads s h is kept time t)
       (λ left out n image e.
-      let put_is : out ≡ (told.output start ++ answers_of done) ++ take n line = e ∙ ap (λ (o : Text). o ++ take n line) (quiet t refl ∙ put t ∙ s.put t) in
+      let put_is : out ≡ (told.output start ++ answers_of done) ++ take n line = e ∙ ap (λ (o : Text). o ++ take n line) (ends.quiet t refl ∙ kept.output_is t ∙ s.put t) in
       ⊎_elim
       (λ before. subst (λ (l : List Done). IsAfterFirst files (l ++ more) (told.output start) left out) (append-nil done)
       (some_said files done [] more (told.output start) out left first reason n (before.0 ∙ here ∙ ap (λ (l : List Done). Some (after files l)) (sym (append-nil done))) put_is))
       (λ next. subst (λ (l : List Done). IsAfterFirst files l (told.output start) left out) (append-nil (done ++ more))
-      (some_said files done more [] (told.output start) out left first reason n (next.0 ∙ with_group files done more g (directory (told.disk read).reads) here h) put_is))
+      (some_said files done more [] (told.output start) out left first reason n (next.0 ∙ with_group files done more g dir here h) put_is))
       ((time t).now left image)) (f.said reason refl) t
 
   -- a store that was read from, and then a run over it

@@ -1,5 +1,5 @@
 -- Which statuses a run has, and which counts rose.
-use Rattle.std.proofs.Common.{◌≡◌, ⊎_elim, ℕ, ◌<◌, ◌≤◌, true, IsTrue, Option, Some, None, ap, sym, refl, subst, arith}
+use Rattle.std.proofs.Common.{◌≡◌, ◌⊎◌, inl, inr, ⊎_elim, ℕ, ◌<◌, ◌≤◌, true, IsTrue, Option, Some, None, ap, sym, refl, subst, arith}
 use Rattle.std.proofs.lemmas.Bool.Decides.{nat_tests}
 use Rattle.ml_base.specs.Faults.{Rose}
 use Rattle.ml_base.specs.declared.names.Name.{Name}
@@ -12,8 +12,8 @@ use Rattle.ml_run.specs.Stops.{is_run_status}
 use Rattle.ml_run.specs.declared.groups.GroupEnd.{GroupEnd}
 use Rattle.ml_run.specs.declared.groups.GroupEnd.TheVariants as ends
 use Rattle.ml_run.specs.Groups.{HasReason, EndsWithReason}
-use Rattle.ml_run.specs.Spending.{IsRefused}
-use Rattle.ml_ending.proofs.Finished.{rose_earlier, memory_status, disk_status}
+use Rattle.ml_run.specs.Settling.{IsRefused}
+use Rattle.ml_ending.proofs.Finished.{rose_earlier}
 use Rattle.ml_ending.specs.Endings.{Says, Refuses}
 use Rattle.ml_run.specs.Endings.{HasCauses}
 
@@ -79,37 +79,42 @@ module _ {S : Type 0} (told : Ghosts S) where
       (λ cut. subst P (sym cut.0) (cut_causes input (Rose d0 (told.disk_faults new)) (Rose o0 (told.output_faults new)) (rose_earlier o0 (told.output_faults mid) (told.output_faults new) le cut.1)))
       s.line
 
-  -- a refused group has one of the statuses 71, 73 and 111
-  pub refused_status : (mid new : S) (status : ℕ) (first : Option ℕ) (why : Option Why) (disk output : Type 0) → IsRefused why disk output → Refuses told mid new first why status
-      → (status ≡ 71 → ⊥) → (status ≡ 73 → ⊥) → (status ≡ 111 → ⊥) → ⊥
-  refused_status mid new status first None disk output refused f one two three = two (f.quiet refl).0
-  refused_status mid new status first (Some whys.Memory) disk output refused f one two three = memory_status told mid new status first whys.Memory (f.said whys.Memory refl) refl one two
-  refused_status mid new status first (Some whys.Disk) disk output refused f one two three = disk_status told mid new status first whys.Disk (f.said whys.Disk refl) refl three two
-  refused_status mid new status first (Some (whys.Bad at)) disk output refused f one two three = refused
-  refused_status mid new status first (Some (whys.Short at)) disk output refused f one two three = refused
-  refused_status mid new status first (Some whys.More) disk output refused f one two three = refused
-  refused_status mid new status first (Some whys.Input) disk output refused f one two three = refused
-  refused_status mid new status first (Some whys.Usage) disk output refused f one two three = refused
-  refused_status mid new status first (Some whys.Words) disk output refused f one two three = refused
-  refused_status mid new status first (Some whys.Long) disk output refused f one two three = refused
-  refused_status mid new status first (Some whys.Clock) disk output refused f one two three = refused
-  refused_status mid new status first (Some whys.NoList) disk output refused f one two three = refused
-  refused_status mid new status first (Some (whys.At name)) disk output refused f one two three = refused
-  refused_status mid new status first (Some whys.There) disk output refused f one two three = refused
-  refused_status mid new status first (Some whys.Absent) disk output refused f one two three = refused
+  -- a refused group has one of the statuses 71, 73 and 111, the last only if the disk failed
+  pub refused_by : (read mid new : S) (status : ℕ) (first : Option ℕ) (why : Option Why) → IsRefused told why read mid → Refuses told mid new first why status
+      → (status ≡ 71) ⊎ ((status ≡ 73) ⊎ ((status ≡ 111) × Rose (told.disk_faults read) (told.disk_faults new)))
+  refused_by read mid new status first None refused f = inr (inl (f.quiet refl).0)
+  refused_by read mid new status first (Some whys.Memory) refused f = ⊎_elim (λ whole. inl whole.0) (λ cut. inr (inl cut.0)) (f.said whys.Memory refl).line
+  refused_by read mid new status first (Some whys.Disk) refused f =
+      let s = f.said whys.Disk refl in
+      ⊎_elim (λ whole. inr (inr (whole.0, subst (λ (n : ℕ). Rose (told.disk_faults read) n) (sym s.disk_faults) refused))) (λ cut. inr (inl cut.0)) s.line
+  refused_by read mid new status first (Some (whys.Bad at)) refused f = absurd refused
+  refused_by read mid new status first (Some (whys.Short at)) refused f = absurd refused
+  refused_by read mid new status first (Some whys.More) refused f = absurd refused
+  refused_by read mid new status first (Some whys.Input) refused f = absurd refused
+  refused_by read mid new status first (Some whys.Usage) refused f = absurd refused
+  refused_by read mid new status first (Some whys.Words) refused f = absurd refused
+  refused_by read mid new status first (Some whys.Long) refused f = absurd refused
+  refused_by read mid new status first (Some whys.Clock) refused f = absurd refused
+  refused_by read mid new status first (Some whys.NoList) refused f = absurd refused
+  refused_by read mid new status first (Some (whys.At name)) refused f = absurd refused
+  refused_by read mid new status first (Some whys.There) refused f = absurd refused
+  refused_by read mid new status first (Some whys.Absent) refused f = absurd refused
+
+  pub refused_status : (read mid new : S) (status : ℕ) (first : Option ℕ) (why : Option Why) → IsRefused told why read mid → Refuses told mid new first why status → (status ≡ 71 → ⊥) → (status ≡ 73 → ⊥) → (status ≡ 111 → ⊥) → ⊥
+  refused_status read mid new status first why refused f one two three = ⊎_elim one (λ more. ⊎_elim two (λ disk. three disk.0) more) (refused_by read mid new status first why refused f)
 
   -- a group was refused
-  pub refused_causes : (mid new : S) (d0 o0 d1 o1 status : ℕ) (first : Option ℕ) (why : Option Why) (input : Type 0) → d0 ≤ d1 → o0 ≤ o1 → o0 ≤ told.output_faults mid → IsRefused why (Rose d1 (told.disk_faults mid)) (Rose o1 (told.output_faults mid)) → Refuses told mid new first why status
+  pub refused_causes : (read mid new : S) (d0 o0 status : ℕ) (first : Option ℕ) (why : Option Why) (input : Type 0) → d0 ≤ told.disk_faults read → o0 ≤ told.output_faults read → o0 ≤ told.output_faults mid → IsRefused told why read mid → Refuses told mid new first why status
       → HasCauses status input (Rose d0 (told.disk_faults new)) (Rose o0 (told.output_faults new))
-  refused_causes mid new d0 o0 d1 o1 status first None input dle ole mle refused f =
+  refused_causes read mid new d0 o0 status first None input dle ole mle refused f =
       let quiet = f.quiet refl in
       subst (λ (n : ℕ). HasCauses n input (Rose d0 (told.disk_faults new)) (Rose o0 (told.output_faults new))) (sym quiet.0)
-      (cut_causes input (Rose d0 (told.disk_faults new)) (Rose o0 (told.output_faults new)) (subst (λ (x : S). Rose o0 (told.output_faults x)) (sym quiet.1) (rose_earlier o0 o1 (told.output_faults mid) ole refused)))
-  refused_causes mid new d0 o0 d1 o1 status first (Some reason) input dle ole mle refused f =
+      (cut_causes input (Rose d0 (told.disk_faults new)) (Rose o0 (told.output_faults new)) (subst (λ (x : S). Rose o0 (told.output_faults x)) (sym quiet.1) (rose_earlier o0 (told.output_faults read) (told.output_faults mid) ole refused)))
+  refused_causes read mid new d0 o0 status first (Some reason) input dle ole mle refused f =
       said_causes mid new d0 o0 status first reason input (λ name. Unit {0}) mle (refused_reason reason input refused) (f.said reason refl)
     where
-      refused_reason : (reason : Why) (input : Type 0) → IsRefused (Some reason) (Rose d1 (told.disk_faults mid)) (Rose o1 (told.output_faults mid)) → HasReason reason input (Rose d0 (told.disk_faults mid)) (λ name. Unit {0})
-      refused_reason whys.Disk input r = rose_earlier d0 d1 (told.disk_faults mid) dle r
+      refused_reason : (reason : Why) (input : Type 0) → IsRefused told (Some reason) read mid → HasReason reason input (Rose d0 (told.disk_faults mid)) (λ name. Unit {0})
+      refused_reason whys.Disk input r = rose_earlier d0 (told.disk_faults read) (told.disk_faults mid) dle r
       refused_reason whys.Memory input r = tt
       refused_reason (whys.Bad at) input r = absurd r
       refused_reason (whys.Short at) input r = absurd r
@@ -134,21 +139,6 @@ module _ {S : Type 0} (told : Ghosts S) where
   refused_syncs mid new status first (Some reason) f t = ((f.said reason refl).syncs t, (f.said reason refl).log_bytes t)
 
   -- something is pending after a refused group only because of a fault, or because memory ran out, or because the output failed
-  pub refused_rest : (mid new : S) (d0 d1 status : ℕ) (first : Option ℕ) (why : Option Why) (output : Type 0) → d0 ≤ d1 → IsRefused why (Rose d1 (told.disk_faults mid)) output → Refuses told mid new first why status
+  pub refused_rest : (read mid new : S) (d0 status : ℕ) (first : Option ℕ) (why : Option Why) → d0 ≤ told.disk_faults read → IsRefused told why read mid → Refuses told mid new first why status
       → (Rose d0 (told.disk_faults new) → ⊥) → (status ≡ 71 → ⊥) → (status ≡ 73 → ⊥) → ⊥
-  refused_rest mid new d0 d1 status first None output dle refused f none one two = two (f.quiet refl).0
-  refused_rest mid new d0 d1 status first (Some whys.Memory) output dle refused f none one two = memory_status told mid new status first whys.Memory (f.said whys.Memory refl) refl one two
-  refused_rest mid new d0 d1 status first (Some whys.Disk) output dle refused f none one two =
-      none (subst (λ (n : ℕ). Rose d0 n) (sym (f.said whys.Disk refl).disk_faults) (rose_earlier d0 d1 (told.disk_faults mid) dle refused))
-  refused_rest mid new d0 d1 status first (Some (whys.Bad at)) output dle refused f none one two = refused
-  refused_rest mid new d0 d1 status first (Some (whys.Short at)) output dle refused f none one two = refused
-  refused_rest mid new d0 d1 status first (Some whys.More) output dle refused f none one two = refused
-  refused_rest mid new d0 d1 status first (Some whys.Input) output dle refused f none one two = refused
-  refused_rest mid new d0 d1 status first (Some whys.Usage) output dle refused f none one two = refused
-  refused_rest mid new d0 d1 status first (Some whys.Words) output dle refused f none one two = refused
-  refused_rest mid new d0 d1 status first (Some whys.Long) output dle refused f none one two = refused
-  refused_rest mid new d0 d1 status first (Some whys.Clock) output dle refused f none one two = refused
-  refused_rest mid new d0 d1 status first (Some whys.NoList) output dle refused f none one two = refused
-  refused_rest mid new d0 d1 status first (Some (whys.At name)) output dle refused f none one two = refused
-  refused_rest mid new d0 d1 status first (Some whys.There) output dle refused f none one two = refused
-  refused_rest mid new d0 d1 status first (Some whys.Absent) output dle refused f none one two = refused
+  refused_rest read mid new d0 status first why dle refused f none one two = ⊎_elim one (λ more. ⊎_elim two (λ disk. none (rose_earlier d0 (told.disk_faults read) (told.disk_faults new) dle disk.1)) more) (refused_by read mid new status first why refused f)

@@ -26,7 +26,7 @@ use Rattle.ml_base.specs.declared.part.PartError.{PartError}
 use Rattle.ml_base.specs.declared.part.PartError.TheVariants.{Fault, Memory, Damaged}
 use Rattle.ml_base.specs.PartErrors.{OnDamaged}
 use Rattle.ml_ending.specs.Stops.{why_of_part}
-use Rattle.ml_stream.specs.Stream.{StreamEnd, End}
+use Rattle.ml_stream.specs.Stream.{StreamEnd}
 use Rattle.ml_run.proofs.LaidPuts.{laid_over, laid_files, all_distinct}
 use Rattle.ml_run.specs.Groups.{laid_all, IsGroup, IsEmptyGroup, HasNext, Holds, IsFirst, first_number, IsAhead, Gathers, IsStop, IsNumberOf, HasReason, IsPartReason, HasRoom, IsJustFull, EndsInTime}
 
@@ -81,16 +81,6 @@ gathers_more dir last g new room reader next left left' ahead ending q item s la
   ends = a;
 }
 
--- the stream is at its end
-pub gathers_last : (dir : Dir) (last : ℕ) (g : Group) (room : ℕ) (reader new : Items) (left left' : Option Text) (ahead : List Item) (ending : StreamEnd) (q : State)
-    (s : Gathers dir last g ends.Full room reader left ahead ending q) → s.rest ≡ [] → ending ≡ End → Gathers dir last g ends.Last room new left' ahead ending q
-gathers_last dir last g room reader new left left' ahead ending q s none end = record { items = s.items; rest = s.rest; split = s.split; holds = s.holds; ends = (none, end) }
-
--- what is next was refused
-pub gathers_stop : (dir : Dir) (last : ℕ) (g : Group) (room : ℕ) (reader new : Items) (left left' : Option Text) (ahead : List Item) (ending : StreamEnd) (q : State) (who : Option ℕ) (why : Why)
-    (s : Gathers dir last g ends.Full room reader left ahead ending q) → IsStop why who (room - g.count) s.rest ending → Gathers dir last g (ends.Stopped who why) room new left' ahead ending q
-gathers_stop dir last g room reader new left left' ahead ending q who why s stop = record { items = s.items; rest = s.rest; split = s.split; holds = s.holds; ends = stop }
-
 -- the number of the item that is refused
 pub number_cut : (more : ℕ) (item : Item) (rest later : List Item) → 0 < more → rest ≡ item ∷ later → IsNumberOf (Some item.number) (take more rest)
 number_cut zero item rest later some is = absurd (omega (arith, some))
@@ -139,8 +129,8 @@ pub few_bytes : (g : Group) → IsGroup g → g.size < 4_194_304 → content_siz
 few_bytes g is low = omega (arith, is.size, low)
 
 -- a group without items has few bytes
-pub none_low : (g : Group) → IsGroup g → IsEmptyGroup g → g.size < 4_194_304
-none_low g is none = let zero : content_size g.txn ≡ 0 = ap content_size none.txn in omega (arith, is.size, zero)
+pub none_low : (g : Group) → IsEmptyGroup g → g.size < 4_194_304
+none_low g is = let zero : content_size g.txn ≡ 0 = ap content_size is.txn in omega (arith, is.group.size, zero)
 
 -- a group that ends for another reason than being full
 pub ended_in_time : (end : GroupEnd) (g : Group) → end ≢ ends.Full → HasRoom g → EndsInTime end g

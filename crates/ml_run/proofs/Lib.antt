@@ -3,6 +3,7 @@ pub mod LaidPuts
 pub mod Grouping
 pub mod ItemPaths
 pub mod Leaving
+pub mod Settled
 pub mod Served
 pub mod Spent
 pub mod Causes
@@ -20,3 +21,5 @@ pub mod Unfailing
 pub mod InHand
 pub mod Anywhere
 pub mod ServedAnywhere
+pub mod ServedList
+pub mod Gathered

@@ -17,7 +17,7 @@ use Rattle.ml_run.specs.Groups.{IsStop, IsFirst, IsNumberOf, HasReason}
 use Rattle.ml_journal.specs.Calls.{Leaves}
 use Rattle.ml_run.specs.Leaving.{HasState, IsAfterSome, IsServed, IsLeft, IsStopLine}
 use Rattle.ml_site.proofs.Steps.{weaker}
-use Rattle.ml_run.specs.Spending.{IsRefused}
+use Rattle.ml_run.specs.Settling.{IsRefused}
 use Rattle.ml_ending.specs.Endings.{Refuses}
 use Rattle.ml_run.specs.Endings.{EndsEarly, HasMore, Runs, IsLine}
 use Rattle.ml_run.proofs.Leaving.{take_split, same_state}
@@ -111,33 +111,33 @@ pub first_next : (first : Option ℕ) (items rest : List Item) → IsFirst first
 first_next first [] rest is some = subst (λ (o : Option ℕ). IsNumberOf o rest) (sym is) tt
 first_next first (x ∷ xs) rest is some = subst (λ (o : Option ℕ). IsNumberOf o (x ∷ xs ++ rest)) (sym is) refl
 
--- the stop line of a refused group says why the run ends early
-pub refused_line : (reason : Why) (first : Option ℕ) (disk output input : Type 0) (limit : ℕ) (held : Contents) (all : List Item) (ending : StreamEnd) (q : State) (done behind : List Item) → IsRefused (Some reason) disk output → IsNumberOf first behind → IsSome first
-    → IsLine (Some (first, reason)) input limit held all ending q done behind
-refused_line whys.Memory first disk output input limit held all ending q done behind r number some = number
-refused_line whys.Disk first disk output input limit held all ending q done behind r number some = (number, λ none. absurd (not_none first some none))
-refused_line (whys.Bad at) first disk output input limit held all ending q done behind r number some = absurd r
-refused_line (whys.Short at) first disk output input limit held all ending q done behind r number some = absurd r
-refused_line whys.More first disk output input limit held all ending q done behind r number some = absurd r
-refused_line whys.Input first disk output input limit held all ending q done behind r number some = absurd r
-refused_line whys.Usage first disk output input limit held all ending q done behind r number some = absurd r
-refused_line whys.Words first disk output input limit held all ending q done behind r number some = absurd r
-refused_line whys.Long first disk output input limit held all ending q done behind r number some = absurd r
-refused_line whys.Clock first disk output input limit held all ending q done behind r number some = absurd r
-refused_line whys.NoList first disk output input limit held all ending q done behind r number some = absurd r
-refused_line (whys.At name) first disk output input limit held all ending q done behind r number some = absurd r
-refused_line whys.There first disk output input limit held all ending q done behind r number some = absurd r
-refused_line whys.Absent first disk output input limit held all ending q done behind r number some = absurd r
-
 module _ {S : Type 0} (told : Ghosts S) where
+  -- the stop line of a refused group says why the run ends early
+  pub refused_line : (read mid : S) (reason : Why) (first : Option ℕ) (input : Type 0) (limit : ℕ) (held : Contents) (all : List Item) (ending : StreamEnd) (q : State) (done behind : List Item) → IsRefused told (Some reason) read mid → IsNumberOf first behind → IsSome first
+      → IsLine (Some (first, reason)) input limit held all ending q done behind
+  refused_line read mid whys.Memory first input limit held all ending q done behind r number some = number
+  refused_line read mid whys.Disk first input limit held all ending q done behind r number some = (number, λ none. absurd (not_none first some none))
+  refused_line read mid (whys.Bad at) first input limit held all ending q done behind r number some = absurd r
+  refused_line read mid (whys.Short at) first input limit held all ending q done behind r number some = absurd r
+  refused_line read mid whys.More first input limit held all ending q done behind r number some = absurd r
+  refused_line read mid whys.Input first input limit held all ending q done behind r number some = absurd r
+  refused_line read mid whys.Usage first input limit held all ending q done behind r number some = absurd r
+  refused_line read mid whys.Words first input limit held all ending q done behind r number some = absurd r
+  refused_line read mid whys.Long first input limit held all ending q done behind r number some = absurd r
+  refused_line read mid whys.Clock first input limit held all ending q done behind r number some = absurd r
+  refused_line read mid whys.NoList first input limit held all ending q done behind r number some = absurd r
+  refused_line read mid (whys.At name) first input limit held all ending q done behind r number some = absurd r
+  refused_line read mid whys.There first input limit held all ending q done behind r number some = absurd r
+  refused_line read mid whys.Absent first input limit held all ending q done behind r number some = absurd r
+
   -- a run whose group was refused
-  pub refused_runs : (start mid new : S) (q : State) (all : List Item) (ending : StreamEnd) (input disk output : Type 0) (limit answered status : ℕ) (done more rest : List Item) (first : Option ℕ) (why : Option Why) → IsTrue told.tells_reads
+  pub refused_runs : (start read mid new : S) (q : State) (all : List Item) (ending : StreamEnd) (input : Type 0) (limit answered status : ℕ) (done more rest : List Item) (first : Option ℕ) (why : Option Why) → IsTrue told.tells_reads
       → take limit all ≡ done ++ (more ++ rest) → answered ≡ length done → ((reason : Why) → why ≡ Some reason → IsLeft told start mid q (take limit all) done (more ++ rest))
       → (why ≡ None → HasState (directory (told.disk mid).reads) (fold q (done ++ more)))
       → (IsTrue told.tells_all → (n : ℕ) × (told.output mid ≡ (told.output start ++ text q done) ++ take n (text (fold q done) more)))
-      → IsNumberOf first (more ++ rest) → ((reason : Why) → why ≡ Some reason → IsSome first) → IsRefused why disk output → Refuses told mid new first why status
+      → IsNumberOf first (more ++ rest) → ((reason : Why) → why ≡ Some reason → IsSome first) → IsRefused told why read mid → Refuses told mid new first why status
       → Runs (IsTrue told.tells_all) input status limit answered (told.disk new).reads (told.output new) all ending q (told.output start)
-  refused_runs start mid new q all ending input disk output limit answered status done more rest first None r split count left state put number some refused f =
+  refused_runs start read mid new q all ending input limit answered status done more rest first None r split count left state put number some refused f =
       let quiet = f.quiet refl in
       inr (inr (record {
         status_is = quiet.0;
@@ -153,9 +153,9 @@ module _ {S : Type 0} (told : Ghosts S) where
           inl (more, rest, refl, same_state (directory (told.disk mid).reads) (directory (told.disk new).reads) (fold q (done ++ more)) (ap (λ (x : S). directory (told.disk x).reads) quiet.1) (state refl), take-append-drop p.0 (text (fold q done) more)),
         );
       }))
-  refused_runs start mid new q all ending input disk output limit answered status done more rest first (Some reason) r split count left state put number some refused f =
+  refused_runs start read mid new q all ending input limit answered status done more rest first (Some reason) r split count left state put number some refused f =
       said_runs told start mid new q all ending input limit answered status done (more ++ rest) first reason r (left reason refl) count
-      (refused_line reason first disk output input limit (told.disk new).reads all ending q done (more ++ rest) refused number (some reason refl)) (f.said reason refl)
+      (refused_line read mid reason first input limit (told.disk new).reads all ending q done (more ++ rest) refused number (some reason refl)) (f.said reason refl)
 
   -- and its moments
   pub refused_moments : (start mid new : S) (q : State) (items done more rest : List Item) (first : Option ℕ) (why : Option Why) (status : ℕ) → ((reason : Why) → why ≡ Some reason → IsLeft told start mid q items done (more ++ rest))

@@ -1,5 +1,6 @@
 -- A run group by group, and its end.
 use Rattle.std.proofs.Common.{◌≡◌, ◌⊎◌, inl, inr, ⊎_elim, ℕ, ◌≤◌, IsTrue, List, [], ◌∷◌, ◌++◌, length, take, drop, Option, Some, None, ap, sym, refl, subst, ◌∙◌, arith, append_assoc, length-append}
+use Rattle.std.specs.Prelude.{IsSome}
 use Rattle.std.proofs.lemmas.List.{length-take, take-append-drop}
 use Rattle.ml_base.specs.Bytes.{Text}
 use Rattle.ml_base.specs.Faults.{Rose}
@@ -11,8 +12,9 @@ use Rattle.ml_site.specs.declared.site.Site.{Ghosts}
 use Rattle.ml_site.proofs.Steps.{joins, goes_on}
 use Rattle.ml_journal.specs.Log.{directory}
 use Rattle.ml_journal.specs.Moments.{with_txn, IsOld}
-use Rattle.ml_journal.specs.Kept.{IsStill}
-use Rattle.ml_journal.specs.Stores.{the_dir}
+use Rattle.ml_journal.specs.Kept.{IsKept, IsStill}
+use Rattle.ml_journal.specs.Stores.{site_of, the_dir}
+use Rattle.ml_journal.specs.declared.store.Store.{Store}
 use Rattle.ml_plain.specs.declared.Item.{Item}
 use Rattle.ml_plain.specs.Directory.{IsState}
 use Rattle.ml_plain.specs.Histories.{State, fold, text, last_from}
@@ -25,42 +27,39 @@ use Rattle.ml_stream.specs.Stream.{StreamEnd, End}
 use Rattle.ml_ending.proofs.Said.{says_front, closes_who}
 use Rattle.ml_run.specs.Groups.{IsNumberOf}
 use Rattle.ml_journal.specs.Calls.{Leaves, IsClean}
-use Rattle.ml_run.specs.Leaving.{HasState, IsAfterSome, Reached, IsSettling, IsServed, IsLeft}
+use Rattle.ml_run.specs.Leaving.{dir_of, HasState, IsAfterSome, Reached, IsSettling, IsServed, IsLeft}
+use Rattle.ml_run.specs.Settling.{IsSettled, IsUnsettled, LeavesSettling}
 use Rattle.ml_ending.specs.Endings.{StopLine, Says, who_of, IsMemory, ClosesTo, Finishes}
 use Rattle.ml_run.specs.Endings.{Runs, IsLine}
 use Rattle.ml_run.proofs.Leaving.{same_state, other_list, txn_state, some_answered, settling, reached_none, reached_some, saying}
 
 module _ {S : Type 0} (told : Ghosts S) where
   -- the moments of a group that was read, and of its commit and answers
-  pub settling_moments : (start old read new : S) (q : State) (items done more rest : List Item) (txn : List Put) (lines : Text) (reads : IsTrue told.tells_all → IsTrue told.tells_reads)
-      → IsServed told start old q items done (more ++ rest) → (IsTrue told.tells_reads → (told.disk read).reads ≡ (told.disk old).reads)
-      → (IsTrue told.tells_all → told.output read ≡ told.output old) → Leaves told old read (IsStill told old)
-      → IsState (with_puts (the_dir (directory (told.disk old).reads)) txn) (fold (fold q done) more) → lines ≡ text (fold q done) more
-      → Leaves told read new (IsSettling (directory (told.disk read).reads) txn lines (told.output read)) → Leaves told start new (IsAfterSome q items (told.output start))
-  settling_moments start old read new q items done more rest txn lines reads s same put still stands is time t =
-      let dir = directory (told.disk old).reads in
+  pub settling_moments : (start : S) (old read : Store S told) (new : S) (q : State) (items done more rest : List Item) (txn : List Put) (lines : Text) → (IsTrue told.tells_all → IsTrue told.tells_reads)
+      → IsServed told start (site_of old) q items done (more ++ rest) → IsKept old read → IsState (with_puts (dir_of old) txn) (fold (fold q done) more) → lines ≡ text (fold q done) more
+      → LeavesSettling told txn lines (site_of read) new → Leaves told start new (IsAfterSome q items (told.output start))
+  settling_moments start old read new q items done more rest txn lines reads s kept stands is time t =
+      let dir = directory (told.disk (site_of old)).reads in
+      let mid = directory (told.disk (site_of read)).reads in
       let before = told.output start in
-      let now : directory (told.disk read).reads ≡ dir = ap directory (same (reads t)) in
-      let one = joins told.moment told.left_since told.disk told.output start old read (IsAfterSome q items before) (IsStill told old) (IsAfterSome q items before) (s.moments t) (still t) (λ left out p. p)
+      let now : mid ≡ dir = ap directory (kept.reads (reads t)) in
+      let one = joins told.moment told.left_since told.disk told.output start (site_of old) (site_of read) (IsAfterSome q items before) (IsStill told (site_of old)) (IsAfterSome q items before) (s.moments t) (kept.moments t) (λ left out p. p)
       (λ left out p. some_answered q items done (more ++ rest) before out left s.split (same_state dir (directory left) (fold q done) (ap directory p.0) s.state) (p.1 ∙ s.put t)) in
-      joins told.moment told.left_since told.disk told.output start read new (IsAfterSome q items before) (IsSettling (directory (told.disk read).reads) txn lines (told.output read)) (IsAfterSome q items before) one (time t) (λ left out p. p)
-      (λ left out p. settling q items done more rest before (told.output read) (directory (told.disk read).reads) txn lines left out s.split (same_state dir (directory (told.disk read).reads) (fold q done) now s.state)
-      (subst (λ (d : _). IsState (with_puts (the_dir d) txn) (fold (fold q done) more)) (sym now) stands) is (put t ∙ s.put t) p)
+      joins told.moment told.left_since told.disk told.output start (site_of read) new (IsAfterSome q items before) (IsSettling mid txn lines (told.output (site_of read))) (IsAfterSome q items before) one (time t) (λ left out p. p)
+      (λ left out p. settling q items done more rest before (told.output (site_of read)) mid txn lines left out s.split (same_state dir mid (fold q done) now s.state)
+      (subst (λ (d : Option Dir). IsState (with_puts (the_dir d) txn) (fold (fold q done) more)) (sym now) stands) is (kept.output_is t ∙ s.put t) p)
 
   -- a group was committed and answered
-  pub settled : (start old read new : S) (q : State) (items done more rest : List Item) (txn : List Put) (lines : Text) (reads : IsTrue told.tells_all → IsTrue told.tells_reads) → IsTrue told.tells_reads
-      → IsServed told start old q items done (more ++ rest) → (IsTrue told.tells_reads → (told.disk read).reads ≡ (told.disk old).reads)
-      → (IsTrue told.tells_all → told.output read ≡ told.output old) → Leaves told old read (IsStill told old)
-      → IsState (with_puts (the_dir (directory (told.disk old).reads)) txn) (fold (fold q done) more) → lines ≡ text (fold q done) more
-      → directory (told.disk new).reads ≡ with_txn txn (directory (told.disk read).reads) → (IsTrue told.tells_all → told.output new ≡ told.output read ++ lines)
-      → Leaves told read new (IsSettling (directory (told.disk read).reads) txn lines (told.output read)) → IsServed told start new q items (done ++ more) rest
-  settled start old read new q items done more rest txn lines reads r s same put still stands is committed answered time = record {
+  pub settled : (start : S) (old read : Store S told) (new : S) (q : State) (items done more rest : List Item) (txn : List Put) (lines : Text) → (IsTrue told.tells_all → IsTrue told.tells_reads) → IsTrue told.tells_reads
+      → IsServed told start (site_of old) q items done (more ++ rest) → IsKept old read → IsState (with_puts (dir_of old) txn) (fold (fold q done) more) → lines ≡ text (fold q done) more
+      → IsSettled told txn lines (site_of read) new → LeavesSettling told txn lines (site_of read) new → IsServed told start new q items (done ++ more) rest
+  settled start old read new q items done more rest txn lines reads r s kept stands is ends time = record {
     split = s.split ∙ sym (append_assoc done more rest);
     state = other_list (directory (told.disk new).reads) (fold (fold q done) more) (fold q (done ++ more)) (sym (fold-append q done more))
-        (txn_state (directory (told.disk old).reads) (directory (told.disk new).reads) txn (fold q done) (fold (fold q done) more) (committed ∙ ap (λ (c : Contents). with_txn txn (directory c)) (same r)) s.state stands);
-    put = λ t. answered t ∙ ap (λ (o : Text). o ++ lines) (put t ∙ s.put t) ∙ ap (λ (l : Text). (told.output start ++ text q done) ++ l) is
+        (txn_state (directory (told.disk (site_of old)).reads) (directory (told.disk new).reads) txn (fold q done) (fold (fold q done) more) (ends.dir r ∙ ap (λ (c : Contents). with_txn txn (directory c)) (kept.reads r)) s.state stands);
+    put = λ t. ends.put t ∙ ap (λ (o : Text). o ++ lines) (kept.output_is t ∙ s.put t) ∙ ap (λ (l : Text). (told.output start ++ text q done) ++ l) is
         ∙ append_assoc (told.output start) (text q done) (text (fold q done) more) ∙ ap (λ (l : Text). told.output start ++ l) (sym (text-append q done more));
-    moments = settling_moments start old read new q items done more rest txn lines reads s same put still stands is time;
+    moments = settling_moments start old read new q items done more rest txn lines reads s kept stands is time;
   }
 
   -- what the directory may be after its commit was refused
@@ -76,24 +75,20 @@ module _ {S : Type 0} (told : Ghosts S) where
   any_of old txn lines output left out s = ⊎_elim (λ e. inl e.0) (λ e. inr e.0) s
 
   -- a commit was refused
-  pub left_after : (start old read new : S) (q : State) (items done more rest : List Item) (txn : List Put) (lines : Text) (reads : IsTrue told.tells_all → IsTrue told.tells_reads) → IsTrue told.tells_reads
-      → IsServed told start old q items done (more ++ rest) → (IsTrue told.tells_reads → (told.disk read).reads ≡ (told.disk old).reads)
-      → (IsTrue told.tells_all → told.output read ≡ told.output old) → Leaves told old read (IsStill told old)
-      → IsState (with_puts (the_dir (directory (told.disk old).reads)) txn) (fold (fold q done) more) → lines ≡ text (fold q done) more
-      → (directory (told.disk new).reads ≡ directory (told.disk read).reads) ⊎ (directory (told.disk new).reads ≡ with_txn txn (directory (told.disk read).reads))
-      → (IsTrue told.tells_all → told.output new ≡ told.output read)
-      → Leaves told read new (IsSettling (directory (told.disk read).reads) txn lines (told.output read)) → IsLeft told start new q items done (more ++ rest)
-  left_after start old read new q items done more rest txn lines reads r s same put still stands is any quiet time =
-      let dir = directory (told.disk old).reads in
-      let now : directory (told.disk read).reads ≡ dir = ap directory (same r) in
-      let state : HasState (directory (told.disk read).reads) (fold q done) = same_state dir (directory (told.disk read).reads) (fold q done) now s.state in
-      let over : IsState (with_puts (the_dir (directory (told.disk read).reads)) txn) (fold (fold q done) more) = subst (λ (d : Option Dir). IsState (with_puts (the_dir d) txn) (fold (fold q done) more)) (sym now) stands in record {
+  pub left_after : (start : S) (old read : Store S told) (new : S) (q : State) (items done more rest : List Item) (txn : List Put) (lines : Text) (why : Option Why) → (IsTrue told.tells_all → IsTrue told.tells_reads) → IsTrue told.tells_reads
+      → IsServed told start (site_of old) q items done (more ++ rest) → IsKept old read → IsState (with_puts (dir_of old) txn) (fold (fold q done) more) → lines ≡ text (fold q done) more → IsSome why
+      → IsUnsettled told txn lines why (site_of read) new → LeavesSettling told txn lines (site_of read) new → IsLeft told start new q items done (more ++ rest)
+  left_after start old read new q items done more rest txn lines why reads r s kept stands is some ends time =
+      let dir = directory (told.disk (site_of old)).reads in
+      let mid = directory (told.disk (site_of read)).reads in
+      let now : mid ≡ dir = ap directory (kept.reads r) in
+      let state : HasState mid (fold q done) = same_state dir mid (fold q done) now s.state in
+      let over : IsState (with_puts (the_dir mid) txn) (fold (fold q done) more) = subst (λ (d : Option Dir). IsState (with_puts (the_dir d) txn) (fold (fold q done) more)) (sym now) stands in record {
         split = s.split;
-        reached = reached_any (directory (told.disk read).reads) (told.disk new).reads q done more rest txn state over any;
-        images = λ t left image. reached_any (directory (told.disk read).reads) left q done more rest txn state over
-            (any_of (directory (told.disk read).reads) txn lines (told.output read) left (told.output new) ((time t).now left image));
-        put = λ t. quiet t ∙ put t ∙ s.put t;
-        moments = settling_moments start old read new q items done more rest txn lines reads s same put still stands is time;
+        reached = reached_any mid (told.disk new).reads q done more rest txn state over (ends.any r);
+        images = λ t left image. reached_any mid left q done more rest txn state over (any_of mid txn lines (told.output (site_of read)) left (told.output new) ((time t).now left image));
+        put = λ t. ends.quiet t some ∙ kept.output_is t ∙ s.put t;
+        moments = settling_moments start old read new q items done more rest txn lines reads s kept stands is time;
       }
 
   -- the moments of a stop line

@@ -1,6 +1,5 @@
 -- The rounds of a run over any directory.
-use Rattle.std.proofs.Common.{◌≡◌, ◌≢◌, ◌⊎◌, inl, ⊎_elim, ℕ, ◌+◌, ◌-◌, ◌≤◌, true, false, IsTrue, List, [], ◌∷◌, ◌++◌, length, take, Option, Some, Result, Ok, Err, OnOk, ap, sym, refl, subst, ◌∙◌, arith, append_assoc, length-append}
-use Rattle.std.specs.Prelude.{IsSome}
+use Rattle.std.proofs.Common.{◌≡◌, ◌≢◌, inl, ⊎_elim, ℕ, ◌+◌, ◌-◌, ◌≤◌, true, false, IsTrue, List, [], ◌∷◌, ◌++◌, length, take, Option, Some, Result, Ok, Err, OnOk, ap, sym, refl, subst, ◌∙◌, arith, append_assoc, length-append}
 use Rattle.std.proofs.lemmas.List.{append-nil}
 use Rattle.ml_base.specs.Bytes.{Text}
 use Rattle.ml_base.specs.Dir.{Dir, are_files, touches_only, with_puts}
@@ -9,10 +8,10 @@ use Rattle.ml_base.specs.declared.puts.Put.{Put}
 use Rattle.ml_site.specs.Disk.{Contents}
 use Rattle.ml_site.specs.declared.site.Site.{Ghosts}
 use Rattle.ml_journal.specs.Calls.{Leaves}
-use Rattle.ml_journal.specs.Kept.{IsStill}
+use Rattle.ml_journal.specs.Kept.{IsKept}
 use Rattle.ml_journal.specs.Log.{directory}
-use Rattle.ml_journal.specs.Moments.{with_txn}
-use Rattle.ml_journal.specs.Stores.{the_dir}
+use Rattle.ml_journal.specs.Stores.{site_of}
+use Rattle.ml_journal.specs.declared.store.Store.{Store}
 use Rattle.ml_plain.specs.declared.Item.{Item}
 use Rattle.ml_plain.specs.declared.Reply.{Reply}
 use Rattle.ml_plain.specs.Directory.{IsState}
@@ -35,9 +34,9 @@ use Rattle.ml_run.specs.declared.groups.GroupEnd.{GroupEnd}
 use Rattle.ml_run.specs.declared.groups.GroupEnd.TheVariants as ends
 use Rattle.ml_run.specs.Groups.{HasNext, HasReason, IsAhead, IsGroup}
 use Rattle.ml_run.specs.Endings.{Brings}
-use Rattle.ml_run.specs.Leaving.{IsSettling}
+use Rattle.ml_run.specs.Leaving.{dir_of}
+use Rattle.ml_run.specs.Settling.{IsSettled, IsUnsettled, LeavesSettling}
 use Rattle.ml_run.specs.Single.{IsAlone}
-use Rattle.ml_run.specs.Spending.{IsRefused}
 use Rattle.ml_run.specs.Anywhere.{Done, items_of, answers_of, after, Adds, HoldsDone, GathersDone, GoesOn, IsAfterFirst, HasDone, HasServed, IsRow, DoesItems}
 use Rattle.ml_run.proofs.Anywhere.{items_joined, items_length, done_joined, one_done, group_here, next_done, finished_dir, finished_done, refused_dir, refused_done}
 use Rattle.ml_run.proofs.Causes.{refused_status}
@@ -107,15 +106,13 @@ not_answered why status input disk damaged reason same ok = let bad : true ≡ f
 
 module _ {S : Type 0} (told : Ghosts S) where
   -- the run goes on after a full group
-  pub served_next : (files : Dir) (start old read new : S) (answered : ℕ) (reader next : Items) (left left' before : Option Text) (g : Group) (lines : Text) → (IsTrue told.tells_all → IsTrue told.tells_reads) → IsTrue told.tells_reads
-      → HasServed told files start old answered reader left before → GathersDone (the_dir (directory (told.disk old).reads)) g ends.Full reader next left left' → lines ≡ g.lines
-      → (IsTrue told.tells_reads → (told.disk read).reads ≡ (told.disk old).reads) → (IsTrue told.tells_all → told.output read ≡ told.output old) → Leaves told old read (IsStill told old)
-      → directory (told.disk new).reads ≡ with_txn g.txn (directory (told.disk read).reads) → (IsTrue told.tells_all → told.output new ≡ told.output read ++ lines)
-      → Leaves told read new (IsSettling (directory (told.disk read).reads) g.txn lines (told.output read)) → HasServed told files start new (answered + g.count) next left' before
-  served_next files start old read new answered reader next left left' before g lines reads r a s is same put still committed out time =
-      let h = group_here files a.done s.done g (directory (told.disk old).reads) a.has.dir s.holds in record {
+  pub served_next : (files : Dir) (start : S) (old read : Store S told) (new : S) (answered : ℕ) (reader next : Items) (left left' before : Option Text) (g : Group) (lines : Text) → (IsTrue told.tells_all → IsTrue told.tells_reads) → IsTrue told.tells_reads
+      → HasServed told files start (site_of old) answered reader left before → GathersDone (dir_of old) g ends.Full reader next left left' → lines ≡ g.lines
+      → IsKept old read → IsSettled told g.txn lines (site_of read) new → LeavesSettling told g.txn lines (site_of read) new → HasServed told files start new (answered + g.count) next left' before
+  served_next files start old read new answered reader next left left' before g lines reads r a s is kept ends time =
+      let h = group_here files a.done s.done g (directory (told.disk (site_of old)).reads) a.has.dir s.holds in record {
         done = a.done ++ s.done;
-        has = next_done told files start old read new a.done s.done g lines reads r a.has h is same put still committed out time;
+        has = next_done told files start old read new a.done s.done g lines reads r a.has h is kept ends time;
         count = omega (arith, a.count, s.holds.count, length-append a.done s.done);
         items = λ all ending b.
             let i = a.items all ending b in
@@ -124,17 +121,15 @@ module _ {S : Type 0} (told : Ghosts S) where
       }
 
   -- the run ends after a group
-  pub served_last : (files : Dir) (start old read new end : S) (limit answered status total last : ℕ) (reader next : Items) (left left' before : Option Text) (g : Group) (stop : GroupEnd) (lines : Text) (line : StopLine) → (IsTrue told.tells_all → IsTrue told.tells_reads)
-      → IsTrue told.tells_reads → HasServed told files start old answered reader left before → GathersDone (the_dir (directory (told.disk old).reads)) g stop reader next left left' → lines ≡ g.lines
-      → (IsTrue told.tells_reads → (told.disk read).reads ≡ (told.disk old).reads) → (IsTrue told.tells_all → told.output read ≡ told.output old) → Leaves told old read (IsStill told old)
-      → directory (told.disk new).reads ≡ with_txn g.txn (directory (told.disk read).reads) → (IsTrue told.tells_all → told.output new ≡ told.output read ++ lines)
-      → Leaves told read new (IsSettling (directory (told.disk read).reads) g.txn lines (told.output read)) → Finishes told new end line status last
+  pub served_last : (files : Dir) (start : S) (old read : Store S told) (new end : S) (limit answered status total last : ℕ) (reader next : Items) (left left' before : Option Text) (g : Group) (stop : GroupEnd) (lines : Text) (line : StopLine) → (IsTrue told.tells_all → IsTrue told.tells_reads)
+      → IsTrue told.tells_reads → HasServed told files start (site_of old) answered reader left before → GathersDone (dir_of old) g stop reader next left left' → lines ≡ g.lines
+      → IsKept old read → IsSettled told g.txn lines (site_of read) new → LeavesSettling told g.txn lines (site_of read) new → Finishes told new end line status last
       → total ≡ answered + g.count → answered + g.count ≤ limit → (IsTrue (is_status status) → IsTrue told.tells_all → told.output end ≡ told.output new)
       → DoesItems told (Leaves told start end) (Brings before) limit status total start end files
-  served_last files start old read new end limit answered status total last reader next left left' before g stop lines line reads r a s is same put still committed out time f sum few quiet =
-      let h = group_here files a.done s.done g (directory (told.disk old).reads) a.has.dir s.holds in
+  served_last files start old read new end limit answered status total last reader next left left' before g stop lines line reads r a s is kept ends time f sum few quiet =
+      let h = group_here files a.done s.done g (directory (told.disk (site_of old)).reads) a.has.dir s.holds in
       let all_done = a.done ++ s.done in
-      let has : HasDone told files start new all_done = next_done told files start old read new a.done s.done g lines reads r a.has h is same put still committed out time in
+      let has : HasDone told files start new all_done = next_done told files start old read new a.done s.done g lines reads r a.has h is kept ends time in
       let size : answered + g.count ≡ length all_done = omega (arith, a.count, s.holds.count, length-append a.done s.done) in record {
         first = all_done;
         group = [];
@@ -156,16 +151,13 @@ module _ {S : Type 0} (told : Ghosts S) where
       }
 
   -- a group was refused
-  pub served_refused : (files : Dir) (start old read mid new : S) (limit answered status total : ℕ) (reader next : Items) (left left' before : Option Text) (g : Group) (stop : GroupEnd) (lines : Text) (why : Option Why) (disk output : Type 0) → (IsTrue told.tells_all → IsTrue told.tells_reads)
-      → IsTrue told.tells_reads → HasServed told files start old answered reader left before → GathersDone (the_dir (directory (told.disk old).reads)) g stop reader next left left' → IsGroup g → lines ≡ g.lines
-      → (IsTrue told.tells_reads → (told.disk read).reads ≡ (told.disk old).reads) → (IsTrue told.tells_all → told.output read ≡ told.output old) → Leaves told old read (IsStill told old)
-      → (directory (told.disk mid).reads ≡ directory (told.disk read).reads) ⊎ (directory (told.disk mid).reads ≡ with_txn g.txn (directory (told.disk read).reads))
-      → (IsTrue told.tells_all → IsSome why → told.output mid ≡ told.output read)
-      → Leaves told read mid (IsSettling (directory (told.disk read).reads) g.txn lines (told.output read)) → IsRefused why disk output → Refuses told mid new g.first why status
+  pub served_refused : (files : Dir) (start : S) (old read : Store S told) (mid new : S) (limit answered status total : ℕ) (reader next : Items) (left left' before : Option Text) (g : Group) (stop : GroupEnd) (lines : Text) (why : Option Why) → (IsTrue told.tells_all → IsTrue told.tells_reads)
+      → IsTrue told.tells_reads → HasServed told files start (site_of old) answered reader left before → GathersDone (dir_of old) g stop reader next left left' → IsGroup g → lines ≡ g.lines
+      → IsKept old read → IsUnsettled told g.txn lines why (site_of read) mid → LeavesSettling told g.txn lines (site_of read) mid → Refuses told mid new g.first why status
       → total ≡ answered → answered ≤ limit → g.count ≤ limit - answered → DoesItems told (Leaves told start new) (Brings before) limit status total start new files
-  served_refused files start old read mid new limit answered status total reader next left left' before g stop lines why disk output reads r a s group is same put still any quiet time refused f sum le few =
-      let h = group_here files a.done s.done g (directory (told.disk old).reads) a.has.dir s.holds in
-      let here : directory (told.disk read).reads ≡ Some (after files a.done) = ap directory (same r) ∙ a.has.dir in record {
+  served_refused files start old read mid new limit answered status total reader next left left' before g stop lines why reads r a s group is kept ends time f sum le few =
+      let h = group_here files a.done s.done g (directory (told.disk (site_of old)).reads) a.has.dir s.holds in
+      let here : directory (told.disk (site_of read)).reads ≡ Some (after files a.done) = ap directory (kept.reads r) ∙ a.has.dir in record {
         first = a.done;
         group = s.done;
         row = record {
@@ -180,11 +172,11 @@ module _ {S : Type 0} (told : Ghosts S) where
                 cut_split limit answered g.count all (items_of a.done) i.0 (items_of s.done) n.0 i.1 (a.count ∙ sym (items_length a.done)) le n.1 (s.holds.count ∙ sym (items_length s.done)) few
                     ∙ sym (append_assoc (items_of a.done) (items_of s.done) rest) ∙ ap (λ (l : List Item). l ++ rest) (sym (items_joined a.done s.done)),
               );
-          end = refused_dir told files read mid new a.done s.done g g.first why status r here h any f;
-          whole = λ one two three. absurd (refused_status told mid new status g.first why disk output refused f one two three);
+          end = refused_dir told files (site_of read) mid new a.done s.done g g.first why status r here h (ends.any r) f;
+          whole = λ one two three. absurd (refused_status told (site_of read) mid new status g.first why ends.refused f one two three);
         };
-        moments = refused_done told files start old read mid new a.done s.done g lines g.first why status reads a.has h is same put still quiet time f;
-        answers = λ ok t. absurd (refused_status told mid new status g.first why disk output refused f (λ e. settled_not status 71 refl ok e) (λ e. settled_not status 73 refl ok e) (λ e. settled_not status 111 refl ok e));
+        moments = refused_done told files start old read mid new a.done s.done g lines g.first why status reads a.has h is kept ends time f;
+        answers = λ ok t. absurd (refused_status told (site_of read) mid new status g.first why ends.refused f (λ e. settled_not status 71 refl ok e) (λ e. settled_not status 73 refl ok e) (λ e. settled_not status 111 refl ok e));
       }
 
   -- a run that ends before its items

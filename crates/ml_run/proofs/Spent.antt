@@ -1,13 +1,16 @@
 -- The bound on syncs.
-use Rattle.std.proofs.Common.{◌≡◌, ◌⊎◌, ⊎_elim, ℕ, ◌+◌, ◌-◌, ◌*◌, ◌/◌, ◌^◌, ◌≤◌, ◌<◌, min, List, length, ap, arith}
+use Rattle.std.proofs.Common.{◌≡◌, ◌⊎◌, ⊎_elim, ℕ, ◌+◌, ◌-◌, ◌*◌, ◌/◌, ◌^◌, ◌≤◌, ◌<◌, min, IsTrue, List, length, ap, arith}
 use Rattle.std.proofs.lemmas.Bool.{cases_lt}
+use Rattle.ml_base.specs.Bytes.{Text}
 use Rattle.ml_base.specs.declared.puts.Put.{Put}
 use Rattle.ml_journal.specs.Records.{content_size}
-use Rattle.ml_journal.specs.Stores.{grown}
-use Rattle.ml_journal.specs.Spending.{Spends}
+use Rattle.ml_journal.specs.Kept.{IsKept}
+use Rattle.ml_journal.specs.Stores.{site_of, grown}
+use Rattle.ml_journal.specs.declared.store.Store.{Store}
 use Rattle.ml_site.specs.Disk.{Contents}
 use Rattle.ml_site.specs.declared.site.Site.{Ghosts}
 use Rattle.ml_ending.specs.Endings.{CostsAtMost}
+use Rattle.ml_run.specs.Settling.{IsSettled}
 use Rattle.ml_run.specs.Spending.{Costs, HasSpent}
 
 -- nothing is spent at the start, on a log of one gate
@@ -73,12 +76,14 @@ spent_bound s0 s1 s2 b0 b1 b2 log answered others more h last =
     heavy_groups heavy laid bytes one two = omega (arith, one, two)
 
 -- what a group cost if its store was only read before
-pub costs_of : {S : Type 0} (told : Ghosts S) (old read new : S) (txn : List Put) → (told.disk read).reads ≡ (told.disk old).reads → told.syncs read ≡ told.syncs old → told.log_bytes read ≡ told.log_bytes old
-    → Spends told (grown (length (told.disk read).reads.log) txn) (content_size txn) read new
-    → Costs (told.syncs old) (told.syncs new) (told.log_bytes old) (told.log_bytes new) (length (told.disk old).reads.log) (length (told.disk new).reads.log) txn
-costs_of {S} told old read new txn same syncs bytes s =
-    let log : length (told.disk read).reads.log ≡ length (told.disk old).reads.log = ap (λ (held : Contents). length held.log) same in
-    let size : grown (length (told.disk read).reads.log) txn ≡ grown (length (told.disk old).reads.log) txn = ap (λ n. grown n txn) log in record {
+pub costs_of : {S : Type 0} (told : Ghosts S) (old read : Store S told) (new : S) (txn : List Put) (lines : Text) → IsTrue told.tells_all → IsTrue told.tells_reads → IsKept old read → IsSettled told txn lines (site_of read) new
+    → Costs (told.syncs (site_of old)) (told.syncs new) (told.log_bytes (site_of old)) (told.log_bytes new) (length (told.disk (site_of old)).reads.log) (length (told.disk new).reads.log) txn
+costs_of {S} told old read new txn lines t r kept ends =
+    let s = ends.spends t in
+    let syncs = kept.syncs_are t in
+    let bytes = kept.log_bytes_are t in
+    let log : length (told.disk (site_of read)).reads.log ≡ length (told.disk (site_of old)).reads.log = ap (λ (held : Contents). length held.log) (kept.reads r) in
+    let size : grown (length (told.disk (site_of read)).reads.log) txn ≡ grown (length (told.disk (site_of old)).reads.log) txn = ap (λ n. grown n txn) log in record {
       content = omega (arith, s.handed, bytes);
       few = λ le. ⊎_elim (λ a. (omega (arith, a.1.syncs, syncs), omega (arith, a.1.grows, bytes, log))) (λ b. absurd (omega (arith, le, b.0, size))) s.cost;
       many = λ lt. ⊎_elim (λ a. absurd (omega (arith, lt, a.0, size))) (λ b. (omega (arith, b.1.syncs, syncs), b.1.short, omega (arith, b.1.paid, bytes, log))) s.cost;

@@ -213,12 +213,6 @@ module _ {S : Type 0} (told : Ghosts S) where
       said.3.line)
       f.said
 
-  pub finished_quiet : (now new : S) (status last : ℕ) → Finishes told now new None status last → is_status last ≡ true → status ≡ 74 → ⊥
-  finished_quiet now new status last f sound is = let h = finished_input now new None status last f sound is in none_line (h.0, whys.Input) h.1
-    where
-      none_line : (line : Option ℕ × Why) → ◌≡◌ {A = StopLine} None (Some line) → ⊥
-      none_line line e = cc
-
   pub finished_other : (now new : S) (who : Option ℕ) (why : Why) (status last : ℕ) → Finishes told now new (Some (who, why)) status last → is_status last ≡ true → status ≡ 74 → why ≡ whys.Input
   finished_other now new who why status last f sound is = let h = finished_input now new (Some (who, why)) status last f sound is in some_why h.0 h.1
     where

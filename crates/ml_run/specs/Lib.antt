@@ -4,8 +4,11 @@ pub mod Leaving
 pub mod Endings
 pub mod Making
 pub mod Spending
+pub mod Settling
 pub mod Feeds
 pub mod Held
 pub mod Clauses
+pub mod Serving
 pub mod Anywhere
+pub mod Gathering
 pub mod Single

@@ -1,23 +1,14 @@
--- How many syncs a run makes, and why its calls are refused.
-use Rattle.std.specs.Prelude.{◌≡◌, ℕ, ◌+◌, ◌*◌, ◌≤◌, ◌<◌, List, Option, Some, None}
+-- How many syncs a run makes.
+use Rattle.std.specs.Prelude.{◌≡◌, ℕ, ◌+◌, ◌*◌, ◌≤◌, ◌<◌, List}
 use Rattle.ml_base.specs.declared.puts.Put.{Put}
 use Rattle.ml_journal.specs.Records.{content_size}
 use Rattle.ml_journal.specs.Stores.{grown}
-use Rattle.ml_ending.specs.declared.lines.Why.{Why}
-use Rattle.ml_ending.specs.declared.lines.Why.TheVariants as whys
 
 -- what a group costs: two syncs if the log stays within its length and otherwise three more, and the bytes that it adds to the log
 pub record Costs (syncs syncs' bytes bytes' log log' : ℕ) (txn : List Put) : Type 0 where
   pub content : bytes + content_size txn ≤ bytes'
   pub few : grown log txn ≤ 8_388_608 → (syncs' ≤ syncs + 2) × (log' + bytes ≤ log + bytes')
   pub many : 8_388_608 < grown log txn → (syncs' ≤ syncs + 5) × (log' ≡ 1) × (8_388_608 + bytes < log + bytes')
-
--- why a group was refused: the output's count rose, or the disk's, or memory ran out
-abbrev pub IsRefused : Option Why → Type 0 → Type 0 → Type 0
-IsRefused None disk output = output
-IsRefused (Some whys.Disk) disk output = disk
-IsRefused (Some whys.Memory) disk output = Unit {0}
-IsRefused (Some _) disk output = ⊥
 
 -- What a run has spent: syncs for full groups, for groups that gave many bytes, for laying down, and a few others.
 pub record HasSpent (syncs syncs' bytes bytes' log answered others : ℕ) : Type 0 where

@@ -42,7 +42,6 @@ pub(crate) enum GroupEnd {
 pub(crate) fn empty_group(alloc: Global, buffer: Bytes, last: u8) -> Group
     requires { IsTrue (is_status last) }
     ensures empty { IsEmptyGroup result }
-    ensures group { IsGroup result }
     ensures last { result.last ≡ last }
 {
     let mut lines = buffer;

@@ -1,46 +1,58 @@
-use Rattle.std.proofs.Common.{◌≡◌, ◌∙◌, sym, subst}
-use Rattle.std.proofs.lemmas.List.{append-nil}
-use Rattle.std.proofs.lemmas.Result.{IfOk-weaker, IfErr-weaker}
-use Rattle.ml_site.specs.Moments.{LeavesOnly}
-use Rattle.ml_site.proofs.Steps.{joins, weaker}
+use Rattle.std.proofs.Common.{◌≡◌, ◌∙◌, ◌++◌, Some, None, ap, sym, subst}
+use Rattle.std.specs.Prelude.{IsErrAnd, IsOkAnd}
+use Rattle.ml_base.specs.Bytes.{Text}
+use Rattle.ml_journal.specs.Calls.{ChangesDirectory, Keeps}
 use Rattle.ml_journal.specs.Log.{directory}
-use Rattle.ml_journal.specs.Moments.{IsOldOrNew, IsGiving}
-use Rattle.ml_journal.specs.Stores.{site_of, site_after}
-use Rattle.ml_run.specs.Leaving.{IsSettling}
-use Rattle.ml_run.proofs.Leaving.{committing, answering}
+use Rattle.ml_journal.specs.Stores.{site_of}
+use Rattle.ml_journal.specs.declared.errors.CommitError.TheVariants as commits
+use Rattle.ml_ending.specs.declared.lines.Why.{Why}
+use Rattle.ml_ending.proofs.Said.{at_site}
+use Rattle.ml_run.specs.Settling.{IsRefused, IsUnsettled, LeavesSettling}
+use Rattle.ml_run.proofs.Leaving.{answers_leave, commit_leaves}
+use Rattle.ml_run.proofs.Settled.{answers_refused, commit_cause, commit_refused, spends_on}
 use Rattle.ml_run.proofs.settling.settle.Goals as goal
 
-pub returns-in-Ok-clause-moments : goal.returns-in-Ok-clause-moments
-returns-in-Ok-clause-moments g c =
-    let old = site_of c.args.store in
-    let mid = site_of c.in-Ok.committed in
-    let dir = directory (g.S.Site.disk old).reads in
-    let before = g.S.Site.output old in
-    IfOk-weaker c.answer.result _ _ (λ settled time told.
-    joins g.S.Site.moment g.S.Site.left_since g.S.Site.disk g.S.Site.output old mid (site_of settled) (IsOldOrNew dir c.args.txn before) (IsGiving (directory (g.S.Site.disk mid).reads) (g.S.Site.output mid) c.args.lines.now) (IsSettling dir c.args.txn c.args.lines.now before)
-    (subst (λ r. LeavesOnly g.S.Site.moment g.S.Site.left_since g.S.Site.disk g.S.Site.output old (site_after r) (IsOldOrNew dir c.args.txn before)) c.in-Ok.is (c.commit_owned.ensures.directory.moments told)) (time told) (committing dir c.args.txn c.args.lines.now before)
-    (λ left out p. answering dir (directory (g.S.Site.disk mid).reads) c.args.txn c.args.lines.now before (g.S.Site.output mid) left out (c.in-Ok.ensures.done (g.met.S.Site.all_has_reads told)) (subst (λ r. g.S.Site.output (site_after r) ≡ before) c.in-Ok.is (c.commit_owned.ensures.keeps.output told)) p))
-    c.answer.ensures.moments
+pub returns-in-Ok-give-clause-done : goal.returns-in-Ok-give-clause-done
+returns-in-Ok-give-clause-done g c =
+    let start = site_of c.args.store in record {
+      dir = λ t. ap directory (c.give.ensures.disk.reads t) ∙ c.in-Ok.ensures.done t;
+      put = λ t. c.in-Ok-give.ensures.ok t ∙ ap (λ (o : Text). o ++ c.args.lines.now) (at_site (λ s. g.S.Site.output s ≡ g.S.Site.output start) c.commit_owned.result _ c.in-Ok.is (c.commit_owned.ensures.keeps.output t));
+      spends = λ t. spends_on g.S.Site _ _ start (site_of c.in-Ok.committed) (site_of c.give.new.self) t (g.met.S.Site.all_has_reads t) (c.in-Ok.ensures.spends t) c.give.ensures.disk;
+    }
 
-pub returns-in-Ok-clause-moments_err : goal.returns-in-Ok-clause-moments_err
-returns-in-Ok-clause-moments_err g c =
-    let old = site_of c.args.store in
-    let mid = site_of c.in-Ok.committed in
-    let dir = directory (g.S.Site.disk old).reads in
-    let before = g.S.Site.output old in
-    IfErr-weaker c.answer.result _ _ (λ e time told.
-    joins g.S.Site.moment g.S.Site.left_since g.S.Site.disk g.S.Site.output old mid e.1 (IsOldOrNew dir c.args.txn before) (IsGiving (directory (g.S.Site.disk mid).reads) (g.S.Site.output mid) c.args.lines.now) (IsSettling dir c.args.txn c.args.lines.now before)
-    (subst (λ r. LeavesOnly g.S.Site.moment g.S.Site.left_since g.S.Site.disk g.S.Site.output old (site_after r) (IsOldOrNew dir c.args.txn before)) c.in-Ok.is (c.commit_owned.ensures.directory.moments told)) (time told) (committing dir c.args.txn c.args.lines.now before)
-    (λ left out p. answering dir (directory (g.S.Site.disk mid).reads) c.args.txn c.args.lines.now before (g.S.Site.output mid) left out (c.in-Ok.ensures.done (g.met.S.Site.all_has_reads told)) (subst (λ r. g.S.Site.output (site_after r) ≡ before) c.in-Ok.is (c.commit_owned.ensures.keeps.output told)) p))
-    c.answer.ensures.moments_err
+pub returns-in-Ok-give-clause-moments : goal.returns-in-Ok-give-clause-moments
+returns-in-Ok-give-clause-moments g c =
+    let start = site_of c.args.store in
+    answers_leave g.S.Site start (site_of c.in-Ok.committed) (site_of c.give.new.self) c.args.txn c.args.lines.now g.met.S.Site.all_has_reads
+    (at_site (ChangesDirectory g.S.Site c.args.txn start) c.commit_owned.result _ c.in-Ok.is c.commit_owned.ensures.directory) c.in-Ok.ensures.done
+    (λ t. at_site (λ s. g.S.Site.output s ≡ g.S.Site.output start) c.commit_owned.result _ c.in-Ok.is (c.commit_owned.ensures.keeps.output t)) c.give.ensures.moments
 
-pub returns-in-Err-clause-moments_err : goal.returns-in-Err-clause-moments_err
-returns-in-Err-clause-moments_err g c told =
-    let old = site_of c.args.store in
-    let dir = directory (g.S.Site.disk old).reads in
-    let before = g.S.Site.output old in
-    weaker g.S.Site.moment g.S.Site.left_since g.S.Site.disk g.S.Site.output old c.in-Err.site (IsOldOrNew dir c.args.txn before) (IsSettling dir c.args.txn c.args.lines.now before)
-    (subst (λ r. LeavesOnly g.S.Site.moment g.S.Site.left_since g.S.Site.disk g.S.Site.output old (site_after r) (IsOldOrNew dir c.args.txn before)) c.in-Err.is (c.commit_owned.ensures.directory.moments told)) (committing dir c.args.txn c.args.lines.now before)
+pub returns-in-Err-give-clause-refused : goal.returns-in-Err-give-clause-refused
+returns-in-Err-give-clause-refused g c =
+    let start = site_of c.args.store in
+    subst (IsUnsettled g.S.Site c.args.txn c.args.lines.now None start) (sym c.leave.ensures.site)
+    (answers_refused g.S.Site _ start (site_of c.in-Ok.committed) (site_of c.give.new.self) c.args.txn c.args.lines.now c.in-Ok.ensures.done
+    (at_site (Keeps g.S.Site 5 _ start) c.commit_owned.result _ c.in-Ok.is c.commit_owned.ensures.keeps) c.give.ensures.disk c.in-Err-give.ensures.err c.in-Err-give.ensures.cause)
 
-pub returns-in-Err-clause-cut : goal.returns-in-Err-clause-cut
-returns-in-Err-clause-cut g c told = (0, subst (λ r. g.S.Site.output (site_after r) ≡ g.S.Site.output (site_of c.args.store)) c.in-Err.is (c.commit_owned.ensures.keeps.output told) ∙ sym (append-nil (g.S.Site.output (site_of c.args.store))))
+pub returns-in-Err-give-clause-moments : goal.returns-in-Err-give-clause-moments
+returns-in-Err-give-clause-moments g c =
+    let start = site_of c.args.store in
+    subst (LeavesSettling g.S.Site c.args.txn c.args.lines.now start) (sym c.leave.ensures.site)
+    (answers_leave g.S.Site start (site_of c.in-Ok.committed) (site_of c.give.new.self) c.args.txn c.args.lines.now g.met.S.Site.all_has_reads
+    (at_site (ChangesDirectory g.S.Site c.args.txn start) c.commit_owned.result _ c.in-Ok.is c.commit_owned.ensures.directory) c.in-Ok.ensures.done
+    (λ t. at_site (λ s. g.S.Site.output s ≡ g.S.Site.output start) c.commit_owned.result _ c.in-Ok.is (c.commit_owned.ensures.keeps.output t)) c.give.ensures.moments)
+
+pub returns-in-Err-clause-refused : goal.returns-in-Err-clause-refused
+returns-in-Err-clause-refused g c =
+    let start = site_of c.args.store in
+    let keeps = at_site (Keeps g.S.Site 5 _ start) c.commit_owned.result _ c.in-Err.is c.commit_owned.ensures.keeps in
+    commit_refused g.S.Site _ start c.in-Err.site c.args.txn c.args.lines.now c.why_refused.result
+    (at_site (ChangesDirectory g.S.Site c.args.txn start) c.commit_owned.result _ c.in-Err.is c.commit_owned.ensures.directory) keeps
+    (subst (λ (w : Why). IsRefused g.S.Site (Some w) start c.in-Err.site) (sym c.why_refused.ensures)
+    (commit_cause g.S.Site c.in-Err.error start c.in-Err.site (λ e. keeps.cause (subst (λ r. IsErrAnd r (λ x. x.0 ≡ commits.Fault)) (sym c.in-Err.is) e))))
+    (λ none. subst (λ r. IsOkAnd r (λ store. site_of store ≡ start)) c.in-Err.is (c.commit_owned.ensures.empty none))
+
+pub returns-in-Err-clause-moments : goal.returns-in-Err-clause-moments
+returns-in-Err-clause-moments g c =
+    let start = site_of c.args.store in
+    commit_leaves g.S.Site start c.in-Err.site c.args.txn c.args.lines.now (at_site (ChangesDirectory g.S.Site c.args.txn start) c.commit_owned.result _ c.in-Err.is c.commit_owned.ensures.directory)
