@@ -1,6 +1,6 @@
 -- A post in the archive and in the queue.
 use Rattle.std.proofs.Common.{◌≡◌, ◌⊎◌, inl, inr, ◌<◌, ◌+◌, ◌/◌, ℕ, Bool, true, false, eqb, ◌||◌, not, List, [], ◌∷◌, ◌++◌, length, length-append, Option, refl, sym, ap, ◌∙◌, subst, arith}
-use Rattle.std.proofs.lemmas.Bool.{or_cases, or_left, or_right, eqb-true, lt-leb, le-leb}
+use Rattle.std.proofs.lemmas.Bool.{or_cases, or_left, or_right, eqb-true, lt-leb}
 use Rattle.ml_base.specs.Bytes.{Text}
 use Rattle.ml_base.specs.Dir.{Dir, same_name, with_puts, touches_only}
 use Rattle.ml_base.specs.declared.names.Name.{Name}
@@ -15,14 +15,14 @@ use Rattle.ml_filing.specs.Reads.{IsOfNext}
 use Rattle.ml_filing.specs.Subjects.{subject, subject_key}
 use Rattle.ml_filing.specs.Threads.{IsArchive, is_of_archive, thread_name, thread_place}
 use Rattle.ml_filing.specs.declared.posts.Appended.{Appended}
-use Rattle.ml_filing.specs.declared.posts.Appended.TheVariants.{At, Full}
+use Rattle.ml_filing.specs.declared.posts.Appended.TheVariants.{At}
 use Rattle.ml_filing.specs.declared.posts.Post.{Post}
 use Rattle.ml_filing.proofs.Lengthened.{no_bad_next}
 use Rattle.ml_filing.proofs.Looking.{counted_is, no_bad_index}
 use Rattle.ml_config.specs.declared.configuration.Config.{Config}
 use Rattle.ml_plain.specs.Directory.{IsList, archive_kinds, held_kinds}
 use Rattle.ml_plain.specs.Mailing.{post_path, send}
-use Rattle.ml_plain.specs.Plain.{Plain, addresses, is_archive_full}
+use Rattle.ml_plain.specs.Plain.{Plain, addresses}
 use Rattle.ml_plain.specs.Posting.{sent_text, with_text}
 use Rattle.ml_plain.proofs.PartChanges.{posts_changed}
 use Rattle.ml_acts.specs.Doing.{Alike, is_index, is_mailed_by, is_of_posting, is_of_queue, is_thread_file, is_with_queue}
@@ -82,15 +82,7 @@ needs_no_post name e = both_ways (is_of_archive name) (is_with_queue sets.List n
 pub needs_none_held : (set : Set) (name : Name) → is_with_queue set name ≡ true → is_beside_held name ≡ true
 needs_none_held set name e = ap not (both_ways (held_kinds name.kind) (is_with_queue set name) (held_apart set name) e)
 
--- appending reads the same if all files except the held posts are the same
-pub reads_beside : (old dir : Dir) (p : Plain) (c : Config) (now : ℕ) (sender text : Text) → Alike is_beside_held old dir → ReadsAlike old dir c.prefix (new_post sender now text) p.posts
-reads_beside old dir p c now sender text alike = record {
-  number = alike number_name refl;
-  index = alike (index_name (next_number p.posts / 100)) refl;
-  thread = alike (post_thread c.prefix (new_post sender now text)) refl;
-}
-
--- and if the files of the post's own place are
+-- appending reads the same if the files of the post's own place are the same
 pub reads_placed : (old dir : Dir) (p : Plain) (c : Config) (now : ℕ) (sender text m : Text) (count : ℕ) → ((name : Name) → IsOfNext old (sent_key c m) name → dir name ≡ old name) → text ≡ sent_text c m
     → IsNumberFile (old number_name) count → count < 99_999_999 → IsList dir p → ReadsAlike old dir c.prefix (new_post sender now text) p.posts
 reads_placed old dir p c now sender text m count placed same file less is = record {
@@ -118,11 +110,6 @@ module _ (old dir : Dir) (p : Plain) (c : Config) (now : ℕ) (sender text : Tex
     where
       archive : IsArchive dir c.prefix p.posts
       archive = subst (λ (d : Config). IsArchive dir d.prefix p.posts) same is.archive
-
-  -- no number is left
-  pub full_here : ((dir : Dir) (posts : List Post) → IsArchive dir c.prefix posts → ReadsAlike old dir c.prefix (new_post sender now text) posts → AppendsTo dir c.prefix posts (new_post sender now text) Full)
-      → is_archive_full p ≡ true
-  full_here appends = let all = appended_here Full appends in le-leb 99_999_999 (length p.posts) (omega (arith, all))
 
   abbrev after : Plain
   after = record p { posts = p.posts ++ new_post sender now text ∷ [] }
@@ -167,16 +154,7 @@ no_archive dir name count file less (inl (e, inr (k, counted, other))) prefix po
 no_archive dir name count file less (inr (inl bad)) prefix posts is = no_bad_index dir posts is.filed bad.0 bad.1 bad.3
 no_archive dir name count file less (inr (inr bad)) prefix posts is = bad.3 (is.threaded.threads bad.0) (is.threaded.files bad.0 bad.1)
 
--- a mail to the set list after the puts of the archive
-pub mailed_behind : (old dir : Dir) (p : Plain) (c : Config) (number : ℕ) (text : Text) (txn mail done : List Put) → Alike (is_with_queue sets.List) old dir → touches_only is_of_archive txn ≡ true → p.config ≡ c
-    → done ≡ txn ++ mail → ((dir : Dir) (p : Plain) → Alike (is_with_queue sets.List) old dir → IsList dir p → p.config ≡ c → IsList (with_puts dir mail) (send (post_path c number) text (addresses p sets.List) p))
-    → IsList (with_puts dir txn) p → IsList (with_puts dir done) (send (post_path p.config number) text (addresses p sets.List) p)
-mailed_behind old dir p c number text txn mail done alike only same e mails is =
-    subst (λ (d : Config). IsList (with_puts dir done) (send (post_path d number) text (addresses p sets.List) p)) (sym same)
-    (subst (λ (d : Dir). IsList d (send (post_path c number) text (addresses p sets.List) p)) (sym (ap (λ (t : List Put). with_puts dir t) e ∙ laid_joined dir txn mail))
-    (mails (with_puts dir txn) p (λ name needs. left_alone is_of_archive dir txn name only (needs_no_post name needs) ∙ alike name needs) is same))
-
--- the same, if the files that the mail looks at are the same
+-- a mail to the set list after the puts of the archive, if the files that it looks at are the same
 pub mailed_apart : (old dir : Dir) (p : Plain) (c : Config) (number : ℕ) (text : Text) (txn mail done : List Put) → Alike (is_mailed_by sets.List) old dir → touches_only is_of_archive txn ≡ true → p.config ≡ c
     → done ≡ txn ++ mail → ((dir : Dir) (p : Plain) → Alike (is_mailed_by sets.List) old dir → IsList dir p → p.config ≡ c → IsList (with_puts dir mail) (send (post_path c number) text (addresses p sets.List) p))
     → IsList (with_puts dir txn) p → IsList (with_puts dir done) (send (post_path p.config number) text (addresses p sets.List) p)

@@ -13,7 +13,7 @@ ghost use Rattle.ml_reply.specs.declared.mails.Mail.TheVariants as mails;
 ghost use Rattle.ml_plain.specs.Directory.{IsList, held_kinds};
 ghost use Rattle.ml_plain.specs.Mailing as mailing;
 ghost use Rattle.ml_plain.specs.Managing as spec;
-ghost use Rattle.ml_plain.specs.Plain.{Plain, is_archive_full};
+ghost use Rattle.ml_plain.specs.Plain.{Plain};
 ghost use Rattle.ml_config.specs.Configuration.{IsConfig};
 ghost use Rattle.ml_config.specs.KeyFile.{key_name};
 ghost use Rattle.ml_acts.specs.Acting.{AnswersPost as AnswersAct};
@@ -113,7 +113,7 @@ pub fn decide<F: Files>(
     ensures found { IsTrue F.tells → IfOk result (FoundByDecision (with_config config.now (F.map files.old)) config.now ticket (accepts decision)) }
     ensures act { AnswersAct ⟦<F as Files>⟧ (λ name. is_answered_by ticket (accepts decision) name ≡ true) (IsDamagedOfTicket (with_config config.now (F.map files.old)) config.now ticket letters.now (accepts decision)) files.old files.new result }
 {
-    let mut under = Configured::new(files, config);
+    let mut under = Configured { files, config };
     answer_ticket(
         alloc,
         &mut under,
@@ -136,7 +136,6 @@ fn answer_ticket<F: Files>(
     decision: Decision,
 ) -> Result<(Txn, Reply), PartError>
     requires room { IsTrue F.tells → HasIds (F.map files.now) }
-    ensures value { IsTrue F.tells → IfOk result (λ done. (p : Plain) → IsList (F.map files.old) p → p.config ≡ config.now → DoesList (F.map files.old) done (spec.answer now.seconds ticket letters.now (accepts decision) p)) }
     ensures apart { IsTrue F.tells → IfOk result (λ done. (dir : Dir) (p : Plain) → AlikeForAnswer config.now ticket (accepts decision) (F.map files.old) dir → IsList dir p → p.config ≡ config.now → DoesList dir done (spec.answer now.seconds ticket letters.now (accepts decision) p)) }
     ensures spared { IsTrue F.tells → (dir : Dir) (p : Plain) → AlikeForAnswer config.now ticket (accepts decision) (F.map files.old) dir → IsList dir p → IfErr result (λ e. OnDamaged e (λ _. ⊥)) }
     ensures found { IsTrue F.tells → IfOk result (FoundByDecision (F.map files.old) config.now ticket (accepts decision)) }
@@ -161,7 +160,6 @@ fn answer_held<F: Files>(
 ) -> Result<(Txn, Reply), PartError>
     requires drawn { IsTrue (is_drawn ticket) }
     requires room { IsTrue F.tells → HasIds (F.map files.now) }
-    ensures value { IsTrue F.tells → IfOk result (λ done. (p : Plain) → IsList (F.map files.old) p → p.config ≡ config.now → held_post ticket p.held ≡ Some held.now → DoesList (F.map files.old) done (spec.answer_held now.seconds ticket letters.now p (accepts decision) (Some held.now))) }
     ensures apart { IsTrue F.tells → IfOk result (λ done. (dir : Dir) (p : Plain) → dir key_name ≡ F.map files.old key_name → AlikeToFollow config.now ticket held.now.message (accepts decision) (F.map files.old) dir → IsList dir p → p.config ≡ config.now → held_post ticket p.held ≡ Some held.now → DoesList dir done (spec.answer_held now.seconds ticket letters.now p (accepts decision) (Some held.now))) }
     ensures spared { IsTrue F.tells → (dir : Dir) (p : Plain) → dir key_name ≡ F.map files.old key_name → AlikeToFollow config.now ticket held.now.message (accepts decision) (F.map files.old) dir → IsList dir p → IfErr result (λ e. OnDamaged e (λ _. ⊥)) }
     ensures found { IsTrue F.tells → IfOk result (FoundOfHeld (F.map files.old) config.now ticket (accepts decision)) }
@@ -203,7 +201,6 @@ fn follow<F: Files>(
 ) -> Result<(Txn, Reply), PartError>
     requires drawn { IsTrue (is_drawn ticket) }
     requires room { IsTrue F.tells → HasIds (F.map files.now) }
-    ensures value { IsTrue F.tells → IfOk result (λ done. (p : Plain) → IsList (F.map files.old) p → p.config ≡ config.now → held_post ticket p.held ≡ Some held.now → DoesList (F.map files.old) done (spec.answered now.seconds ticket held.now p (accepts decision))) }
     ensures apart { IsTrue F.tells → IfOk result (λ done. (dir : Dir) (p : Plain) → AlikeToFollow config.now ticket held.now.message (accepts decision) (F.map files.old) dir → IsList dir p → p.config ≡ config.now → held_post ticket p.held ≡ Some held.now → DoesList dir done (spec.answered now.seconds ticket held.now p (accepts decision))) }
     ensures spared { IsTrue F.tells → (dir : Dir) (p : Plain) → AlikeToFollow config.now ticket held.now.message (accepts decision) (F.map files.old) dir → IsList dir p → IfErr result (λ e. OnDamaged e (λ _. ⊥)) }
     ensures found { IsTrue F.tells → IfOk result (FoundToDecide (F.map files.old) config.now ticket (accepts decision)) }
@@ -226,7 +223,6 @@ fn accepted<F: Files>(
 ) -> Result<(Txn, Reply), PartError>
     requires drawn { IsTrue (is_drawn ticket) }
     requires room { IsTrue F.tells → HasIds (F.map files.now) }
-    ensures value { IsTrue F.tells → IfOk result (λ done. (p : Plain) → IsList (F.map files.old) p → p.config ≡ config.now → held_post ticket p.held ≡ Some held.now → DoesList (F.map files.old) done (spec.accepted now.seconds ticket held.now p (is_archive_full p))) }
     ensures apart { IsTrue F.tells → IfOk result (λ done. (dir : Dir) (p : Plain) → AlikeToFollow config.now ticket held.now.message true (F.map files.old) dir → IsList dir p → p.config ≡ config.now → held_post ticket p.held ≡ Some held.now → DoesList dir done (spec.answered now.seconds ticket held.now p true)) }
     ensures spared { IsTrue F.tells → (dir : Dir) (p : Plain) → AlikeToFollow config.now ticket held.now.message true (F.map files.old) dir → IsList dir p → IfErr result (λ e. OnDamaged e (λ _. ⊥)) }
     ensures found { IsTrue F.tells → IfOk result (FoundToAccept (F.map files.old) config.now ticket) }
@@ -264,7 +260,6 @@ fn rejected<F: Files>(
 ) -> Result<(Txn, Reply), PartError>
     requires drawn { IsTrue (is_drawn ticket) }
     requires room { IsTrue F.tells → HasIds (F.map files.now) }
-    ensures value { IsTrue F.tells → IfOk result (λ done. (p : Plain) → IsList (F.map files.old) p → p.config ≡ config.now → held_post ticket p.held ≡ Some held.now → DoesList (F.map files.old) done (spec.answered now.seconds ticket held.now p false)) }
     ensures apart { IsTrue F.tells → IfOk result (λ done. (dir : Dir) (p : Plain) → AlikeToFollow config.now ticket held.now.message false (F.map files.old) dir → IsList dir p → p.config ≡ config.now → held_post ticket p.held ≡ Some held.now → DoesList dir done (spec.answered now.seconds ticket held.now p false)) }
     ensures spared { IsTrue F.tells → (dir : Dir) (p : Plain) → AlikeToFollow config.now ticket held.now.message false (F.map files.old) dir → IsList dir p → IfErr result (λ e. OnDamaged e (λ _. ⊥)) }
     ensures found { IsTrue F.tells → IfOk result (FoundToReject (F.map files.old) ticket) }
@@ -288,7 +283,6 @@ fn rejection(alloc: Global, held: &Held) -> Result<Mail, AllocError>
 // The puts after which the post of a ticket waits no longer.
 fn taken<F: Files>(alloc: Global, files: &mut F, ticket: u64) -> Result<Txn, PartError>
     requires { IsTrue (is_drawn ticket) }
-    ensures value { IsTrue F.tells → IfOk result (λ txn. (p : Plain) (held : TheHeld) → IsList (F.map files.old) p → held_post ticket p.held ≡ Some held → IsList (with_puts (F.map files.old) txn) (record p { held = without_ticket ticket p.held })) }
     ensures apart { IsTrue F.tells → IfOk result (λ txn. (dir : Dir) (p : Plain) (held : TheHeld) → AlikeToTake ticket (F.map files.old) dir → IsList dir p → held_post ticket p.held ≡ Some held → IsList (with_puts dir txn) (record p { held = without_ticket ticket p.held })) }
     ensures spared { IsTrue F.tells → (dir : Dir) (p : Plain) → AlikeToTake ticket (F.map files.old) dir → IsList dir p → IfErr result (λ e. OnDamaged e (λ _. ⊥)) }
     ensures found { IsTrue F.tells → IfOk result (IsTaking (F.map files.old) Tickets ticket) }

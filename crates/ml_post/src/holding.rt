@@ -45,7 +45,6 @@ pub(crate) fn hold_post<F: Files>(
     requires config { IsConfig config.now }
     requires size { length message.now ≤ 33_554_432 }
     requires room { IsTrue F.tells → HasRoom (F.map files.now) }
-    ensures value { IsTrue F.tells → IfOk result (λ done. (p : Plain) → IsList (F.map files.old) p → p.config ≡ config.now → DoesList (F.map files.old) done (spec.held_now now.seconds sender message.now p)) }
     ensures apart { IsTrue F.tells → IfOk result (λ done. (dir : Dir) (p : Plain) → IsAddress sender → Alike is_held_by (F.map files.old) dir → IsList dir p → p.config ≡ config.now → DoesList dir done (spec.held_now now.seconds sender message.now p)) }
     ensures found { IsTrue F.tells → IfOk result (FoundToHold (F.map files.old)) }
     ensures act { AnswersAct ⟦<F as Files>⟧ (λ name. is_held_by name ≡ true) (IsDamaged (F.map files.old)) files.old files.new result }
@@ -77,7 +76,6 @@ fn ask<F: Files>(
     requires room { IsTrue F.tells → HasIds (F.map files.now) }
     requires own { touches_only (is_of_series Tickets) txn ≡ true }
     requires files { IsTrue (are_files txn) }
-    ensures value { IsTrue F.tells → IfOk result (λ done. (p : Plain) → IsList (with_puts (F.map files.old) txn) p → p.config ≡ config.now → DoesList (F.map files.old) done (mailing.mail_moderators now.seconds (mailing.moderate_mail p ticket now.seconds message) p, answers.held ticket)) }
     ensures apart { IsTrue F.tells → IfOk result (λ done. (dir : Dir) (p : Plain) → Alike is_asked_by (F.map files.old) dir → IsList (with_puts dir txn) p → p.config ≡ config.now → DoesList dir done (mailing.mail_moderators now.seconds (mailing.moderate_mail p ticket now.seconds message) p, answers.held ticket)) }
     ensures found { IsTrue F.tells → IfOk result (λ done. TellsKeys (F.map files.old) × AddsMailToSet (F.map files.old) sets.Moderators txn done.0 × (done.1 ≡ answers.held ticket)) }
     ensures act { AnswersAct ⟦<F as Files>⟧ (λ name. is_asked_by name ≡ true) (IsDamaged (F.map files.old)) files.old files.new result }

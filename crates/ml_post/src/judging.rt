@@ -5,7 +5,7 @@ ghost use Rattle.ml_base.specs.Bytes.{lower};
 ghost use Rattle.ml_base.specs.PartErrors.{OnDamaged};
 ghost use Rattle.ml_base.specs.ReadFiles.{IsReading, NamesDamaged};
 ghost use Rattle.ml_plain.specs.Directory.{IsList};
-ghost use Rattle.ml_plain.specs.Plain.{Plain, is_in};
+ghost use Rattle.ml_plain.specs.Plain.{Plain};
 ghost use Rattle.ml_plain.specs.Verdicts as spec;
 ghost use Rattle.ml_filing.specs.Archive.{number_name};
 ghost use Rattle.ml_base.specs.Dir.{Dir, same_name};
@@ -52,7 +52,7 @@ pub fn verdict<F: Files>(
     ensures found { IsTrue F.tells → IfOk result (FoundOfPost (with_config config.now (F.map files.old)) config.now sender.now message.now) }
     ensures reads { IsReading ⟦<F as Files>⟧ files.old files.new result }
 {
-    let mut under = Configured::new(files, config);
+    let mut under = Configured { files, config };
     judged(alloc, &mut under, config, sender, message)
 }
 
@@ -64,7 +64,6 @@ pub(crate) fn judged<F: Files>(
     sender: &[u8],
     message: &Message<'_>,
 ) -> Result<Verdict, PartError>
-    ensures value { IsTrue F.tells → IfOk result (λ found. (p : Plain) → IsList (F.map files.old) p → p.config ≡ config.now → row_of found ≡ spec.verdict p sender.now message.now) }
     ensures apart { IsTrue F.tells → IfOk result (λ found. (dir : Dir) (p : Plain) → Alike (is_judged_by config.now sender.now) (F.map files.old) dir → IsList dir p → p.config ≡ config.now → row_of found ≡ spec.verdict p sender.now message.now) }
     ensures moderated { IfOk result (λ found. may_be_found config.now.flags.m found ≡ true) }
     ensures fits { IfOk result (λ found. found ≢ TooBig → length message.now ≤ config.now.max) }
@@ -103,7 +102,6 @@ fn of_sender<F: Files>(
     who: &Address,
     message: &Message<'_>,
 ) -> Result<Verdict, PartError>
-    ensures value { IsTrue F.tells → IfOk result (λ found. (p : Plain) → IsList (F.map files.old) p → p.config ≡ config.now → row_of found ≡ rows.of_sender p who.now message.now) }
     ensures apart { IsTrue F.tells → IfOk result (λ found. (dir : Dir) (p : Plain) → Alike (is_judged_by config.now who.now) (F.map files.old) dir → IsList dir p → p.config ≡ config.now → row_of found ≡ rows.of_sender p who.now message.now) }
     ensures moderated { IfOk result (λ found. may_be_found config.now.flags.m found ≡ true) }
     ensures names { NamesDamaged ⟦<F as Files>⟧ (λ name. is_judged_by config.now who.now name ≡ true) (IsDamagedOf (F.map files.old) Count) result }
@@ -123,7 +121,6 @@ fn is_denied<F: Files>(
     config: &Config,
     who: &Address,
 ) -> Result<bool, PartError>
-    ensures value { IsTrue F.tells → IfOk result (λ is. (p : Plain) → IsList (F.map files.old) p → p.config ≡ config.now → is ≡ (p.config.flags.k && is_in p sets.Deny who.now)) }
     ensures names { NamesDamaged ⟦<F as Files>⟧ (λ name. is_judged_by config.now who.now name ≡ true) (IsDamagedOf (F.map files.old) Count) result }
     ensures found { IsTrue F.tells → IfOk result (TellsDenied (F.map files.old) config.now (key who.now)) }
     ensures reads { IsReading ⟦<F as Files>⟧ files.old files.new result }
@@ -142,7 +139,6 @@ fn of_text<F: Files>(
     who: &Address,
     message: &Message<'_>,
 ) -> Result<Verdict, PartError>
-    ensures value { IsTrue F.tells → IfOk result (λ found. (p : Plain) → IsList (F.map files.old) p → p.config ≡ config.now → row_of found ≡ rows.of_text p who.now message.now) }
     ensures apart { IsTrue F.tells → IfOk result (λ found. (dir : Dir) (p : Plain) → Alike (is_judged_by config.now who.now) (F.map files.old) dir → IsList dir p → p.config ≡ config.now → row_of found ≡ rows.of_text p who.now message.now) }
     ensures moderated { IfOk result (λ found. may_be_found config.now.flags.m found ≡ true) }
     ensures names { NamesDamaged ⟦<F as Files>⟧ (λ name. is_judged_by config.now who.now name ≡ true) (IsDamagedOf (F.map files.old) Count) result }
@@ -180,7 +176,6 @@ fn of_user<F: Files>(
     config: &Config,
     who: &Address,
 ) -> Result<Verdict, PartError>
-    ensures value { IsTrue F.tells → IfOk result (λ found. (p : Plain) → IsList (F.map files.old) p → p.config ≡ config.now → row_of found ≡ rows.of_user p who.now) }
     ensures moderated { IfOk result (λ found. may_be_found config.now.flags.m found ≡ true) }
     ensures names { NamesDamaged ⟦<F as Files>⟧ (λ name. is_judged_by config.now who.now name ≡ true) (IsDamagedOf (F.map files.old) Count) result }
     ensures found { IsTrue F.tells → IfOk result (FoundOfUser (F.map files.old) config.now (key who.now)) }
@@ -199,7 +194,6 @@ fn is_stranger<F: Files>(
     config: &Config,
     who: &Address,
 ) -> Result<bool, PartError>
-    ensures value { IsTrue F.tells → IfOk result (λ is. (p : Plain) → IsList (F.map files.old) p → p.config ≡ config.now → is ≡ (p.config.flags.u && not (spec.is_user p who.now))) }
     ensures names { NamesDamaged ⟦<F as Files>⟧ (λ name. is_judged_by config.now who.now name ≡ true) (IsDamagedOf (F.map files.old) Count) result }
     ensures found { IsTrue F.tells → IfOk result (TellsStranger (F.map files.old) config.now (key who.now)) }
     ensures reads { IsReading ⟦<F as Files>⟧ files.old files.new result }
@@ -213,7 +207,6 @@ fn is_stranger<F: Files>(
 
 // Whether an address is in one of the sets whose members are users.
 fn is_user<F: Files>(alloc: Global, files: &mut F, who: &Address) -> Result<bool, PartError>
-    ensures value { IsTrue F.tells → IfOk result (λ is. (p : Plain) → IsList (F.map files.old) p → is ≡ (spec.is_user p who.now)) }
     ensures names { NamesDamaged ⟦<F as Files>⟧ (λ name. is_of_user who.now name ≡ true) (IsDamagedOf (F.map files.old) Count) result }
     ensures found { IsTrue F.tells → IfOk result (TellsUser (F.map files.old) (key who.now)) }
     ensures reads { IsReading ⟦<F as Files>⟧ files.old files.new result }
@@ -232,7 +225,6 @@ fn is_in_either<F: Files>(
     second: Set,
     who: &Address,
 ) -> Result<bool, PartError>
-    ensures value { IsTrue F.tells → IfOk result (λ is. (p : Plain) → IsList (F.map files.old) p → is ≡ (is_in p first who.now || is_in p second who.now)) }
     ensures names { NamesDamaged ⟦<F as Files>⟧ (λ name. (is_bucket_of first who.now name || is_bucket_of second who.now name) ≡ true) (IsDamagedOf (F.map files.old) Count) result }
     ensures found { IsTrue F.tells → IfOk result (EitherTells (TellsMember (F.map files.old) first (key who.now)) (TellsMember (F.map files.old) second (key who.now))) }
     ensures reads { IsReading ⟦<F as Files>⟧ files.old files.new result }
@@ -250,7 +242,6 @@ fn is_member<F: Files>(
     set: Set,
     who: &Address,
 ) -> Result<bool, PartError>
-    ensures value { IsTrue F.tells → IfOk result (λ is. (p : Plain) → IsList (F.map files.old) p → is ≡ (is_in p set who.now)) }
     ensures names { NamesDamaged ⟦<F as Files>⟧ (λ name. is_bucket_of set who.now name ≡ true) (IsDamagedOf (F.map files.old) Count) result }
     ensures found { IsTrue F.tells → IfOk result (TellsMember (F.map files.old) set (key who.now)) }
     ensures reads { IsReading ⟦<F as Files>⟧ files.old files.new result }
@@ -260,7 +251,6 @@ fn is_member<F: Files>(
 
 // The verdict on a post that its sender may send: whether it waits, and whether there is room for it.
 fn of_room<F: Files>(alloc: Global, files: &mut F, config: &Config) -> Result<Verdict, PartError>
-    ensures value { IsTrue F.tells → IfOk result (λ found. (p : Plain) → IsList (F.map files.old) p → p.config ≡ config.now → row_of found ≡ rows.of_room p) }
     ensures moderated { IfOk result (λ found. may_be_found config.now.flags.m found ≡ true) }
     ensures names { NamesDamaged ⟦<F as Files>⟧ (λ name. (not config.now.flags.m && same_name name number_name) ≡ true) (IsDamagedOf (F.map files.old) Count) result }
     ensures found { IsTrue F.tells → IfOk result (FoundOfRoom (F.map files.old) config.now) }

@@ -79,7 +79,7 @@ pub fn post_with_memo<F: Files>(
     ensures found { IsTrue F.tells → IfOk result (FoundByPost (with_config config.now (F.map files.old)) config.now sender.now message.now) }
     ensures act { AnswersAct ⟦<F as Files>⟧ (λ name. is_posted_by config.now sender.now name ≡ true) (IsDamagedOf (with_config config.now (F.map files.old)) (Next (sent_key config.now message.now))) files.old files.new result }
 {
-    let mut under = Configured::new(files, config);
+    let mut under = Configured { files, config };
     post_judged(
         alloc,
         &mut under,
@@ -103,7 +103,6 @@ fn post_judged<F: Files>(
 ) -> Result<(Txn, Reply), PartError>
     requires config { IsConfig config.now }
     requires room { IsTrue F.tells → HasRoom (F.map files.now) }
-    ensures value { IsTrue F.tells → IfOk result (λ done. (p : Plain) → IsList (F.map files.old) p → p.config ≡ config.now → DoesList (F.map files.old) done (spec.post now.seconds sender.now message.now p)) }
     ensures apart { IsTrue F.tells → IfOk result (λ done. (dir : Dir) (p : Plain) → AlikeForPost config.now sender.now message.now (F.map files.old) dir → IsList dir p → p.config ≡ config.now → DoesList dir done (spec.post now.seconds sender.now message.now p)) }
     ensures spared { IsTrue F.tells → (dir : Dir) (p : Plain) → AlikeForPost config.now sender.now message.now (F.map files.old) dir → IsList dir p → IfErr result (λ e. OnDamaged e (λ _. ⊥)) }
     ensures found { IsTrue F.tells → IfOk result (FoundByPost (F.map files.old) config.now sender.now message.now) }
@@ -156,7 +155,6 @@ fn hold_message<F: Files>(
     requires config { IsConfig config.now }
     requires size { length message.now ≤ 33_554_432 }
     requires room { IsTrue F.tells → HasRoom (F.map files.now) }
-    ensures value { IsTrue F.tells → IfOk result (λ done. (p : Plain) → IsList (F.map files.old) p → p.config ≡ config.now → verdicts.is_usable sender.now ≡ true → DoesList (F.map files.old) done (spec.held_now now.seconds (as_address sender.now) message.now p)) }
     ensures apart { IsTrue F.tells → IfOk result (λ done. (dir : Dir) (p : Plain) → Alike is_held_by (F.map files.old) dir → IsList dir p → p.config ≡ config.now → verdicts.is_usable sender.now ≡ true → DoesList dir done (spec.held_now now.seconds (as_address sender.now) message.now p)) }
     ensures found { IsTrue F.tells → IfOk result (λ done. verdicts.is_usable sender.now ≡ true → FoundToHold (F.map files.old) done) }
     ensures act { AnswersAct ⟦<F as Files>⟧ (λ name. is_held_by name ≡ true) (IsDamaged (F.map files.old)) files.old files.new result }
@@ -178,7 +176,6 @@ fn post_message<F: Files>(
     message: &[u8],
 ) -> Result<(Txn, Reply), PartError>
     requires room { IsTrue F.tells → HasIds (F.map files.now) }
-    ensures value { IsTrue F.tells → IfOk result (λ done. (p : Plain) → IsList (F.map files.old) p → p.config ≡ config.now → verdicts.is_usable sender.now ≡ true → is_archive_full p ≡ false → DoesList (F.map files.old) done (spec.posted_now now.seconds (as_address sender.now) message.now p)) }
     ensures apart { IsTrue F.tells → IfOk result (λ done. (dir : Dir) (p : Plain) → AlikeToPublish config.now message.now (F.map files.old) dir → IsList dir p → p.config ≡ config.now → verdicts.is_usable sender.now ≡ true → is_archive_full p ≡ false → DoesList dir done (spec.posted_now now.seconds (as_address sender.now) message.now p)) }
     ensures spared { IsTrue F.tells → (dir : Dir) (p : Plain) → AlikeToPublish config.now message.now (F.map files.old) dir → IsList dir p → IfErr result (λ e. OnDamaged e (λ _. ⊥)) }
     ensures found { IsTrue F.tells → IfOk result (λ done. verdicts.is_usable sender.now ≡ true → FoundToTake (F.map files.old) config.now.prefix done) }

@@ -12,11 +12,11 @@ ghost use Rattle.ml_plain.specs.Plain.{Plain, addresses};
 ghost use Rattle.ml_plain.specs.Posting as spec;
 ghost use Rattle.ml_acts.specs.Asked.{IsDamagedOf, Next};
 ghost use Rattle.ml_acts.specs.Damaged.{IsDamaged};
-ghost use Rattle.ml_acts.specs.Doing.{Alike, HasIds, is_mailed_by, is_of_posting, is_of_queue, is_with_queue};
+ghost use Rattle.ml_acts.specs.Doing.{Alike, HasIds, is_mailed_by, is_of_posting, is_of_queue};
 ghost use Rattle.ml_acts.specs.Found.{AddsMailToSet, QueuesToSet};
 ghost use Rattle.ml_post.specs.Alike.{AlikeToPublish};
 ghost use Rattle.ml_post.specs.Found.{FoundToPublish};
-ghost use Rattle.ml_post.specs.Publishing.{Publishes, is_beside_held, is_published_by, number_of, sent_key};
+ghost use Rattle.ml_post.specs.Publishing.{Publishes, is_published_by, number_of, sent_key};
 
 use crate::sending::sent_text;
 use ml_acts::{MailMemo, Moment, post_path, send_to_list};
@@ -37,7 +37,6 @@ pub(crate) fn publish<F: Files>(
     message: &[u8],
 ) -> Result<Appended, PartError>
     requires room { IsTrue F.tells → HasIds (F.map files.now) }
-    ensures value { IsTrue F.tells → IfOk result (λ answer. (dir : Dir) (p : Plain) → Alike is_beside_held (F.map files.old) dir → IsList dir p → p.config ≡ config.now → Publishes dir now.seconds sender.now message.now p answer) }
     ensures apart { IsTrue F.tells → IfOk result (λ answer. (dir : Dir) (p : Plain) → AlikeToPublish config.now message.now (F.map files.old) dir → IsList dir p → p.config ≡ config.now → Publishes dir now.seconds sender.now message.now p answer) }
     ensures spared { IsTrue F.tells → (dir : Dir) (p : Plain) → AlikeToPublish config.now message.now (F.map files.old) dir → IsList dir p → IfErr result (λ e. OnDamaged e (λ _. ⊥)) }
     ensures own { IfOk result (λ answer. touches_only is_of_posting (puts_of answer) ≡ true) }
@@ -75,7 +74,6 @@ fn with_mail<F: Files>(
     requires own { touches_only is_of_archive txn ≡ true }
     requires files { IsTrue (are_files txn) }
     requires room { IsTrue F.tells → HasIds (F.map files.now) }
-    ensures value { IsTrue F.tells → IfOk result (λ done. (dir : Dir) (p : Plain) → Alike (is_with_queue sets.List) (F.map files.old) dir → IsList (with_puts dir txn) p → p.config ≡ config.now → IsList (with_puts dir done) (mailing.send (mailing.post_path p.config number) text (addresses p sets.List) p)) }
     ensures apart { IsTrue F.tells → IfOk result (λ done. (dir : Dir) (p : Plain) → Alike (is_mailed_by sets.List) (F.map files.old) dir → IsList (with_puts dir txn) p → p.config ≡ config.now → IsList (with_puts dir done) (mailing.send (mailing.post_path p.config number) text (addresses p sets.List) p)) }
     ensures own { IfOk result (λ done. touches_only is_of_posting done ≡ true) }
     ensures files { IfOk result (λ done. IsTrue (are_files done)) }
@@ -111,7 +109,6 @@ fn mail_members<F: Files>(
     text: Bytes,
 ) -> Result<Txn, PartError>
     requires room { IsTrue F.tells → HasIds (F.map files.now) }
-    ensures value { IsTrue F.tells → IfOk result (λ txn. (dir : Dir) (p : Plain) → Alike (is_with_queue sets.List) (F.map files.old) dir → IsList dir p → p.config ≡ config.now → IsList (with_puts dir txn) (mailing.send (mailing.post_path config.now number) text (addresses p sets.List) p)) }
     ensures apart { IsTrue F.tells → IfOk result (λ txn. (dir : Dir) (p : Plain) → Alike (is_mailed_by sets.List) (F.map files.old) dir → IsList dir p → p.config ≡ config.now → IsList (with_puts dir txn) (mailing.send (mailing.post_path config.now number) text (addresses p sets.List) p)) }
     ensures own { IfOk result (λ txn. touches_only is_of_queue txn ≡ true) }
     ensures files { IfOk result (λ txn. IsTrue (are_files txn)) }

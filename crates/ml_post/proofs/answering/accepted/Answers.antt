@@ -10,7 +10,7 @@ use Rattle.ml_filing.specs.declared.posts.Appended.{Appended}
 use Rattle.ml_filing.specs.declared.posts.Appended.TheVariants.{At, Full}
 use Rattle.ml_hold.specs.Answers.{Breaks}
 use Rattle.ml_hold.specs.Held.{without_ticket}
-use Rattle.ml_plain.specs.Directory.{IsList, held_kinds}
+use Rattle.ml_plain.specs.Directory.{held_kinds}
 use Rattle.ml_plain.specs.Plain.{Plain, is_archive_full}
 use Rattle.ml_acts.specs.Asked.{IsDamagedOf, Next}
 use Rattle.ml_acts.specs.Damaged.{waiting}
@@ -21,7 +21,7 @@ use Rattle.ml_post.specs.Answering.{is_accepted_by, is_taken_by}
 use Rattle.ml_post.specs.Publishing.{Publishes, is_published_by, sent_key}
 use Rattle.ml_post.proofs.Beside.{taken_other}
 use Rattle.ml_post.proofs.Moderated.{accepts}
-use Rattle.ml_post.proofs.Waiting.{beside_held, held_posting}
+use Rattle.ml_post.proofs.Waiting.{held_posting}
 use Rattle.ml_drawn.specs.Answers.{IsTaking}
 use Rattle.ml_drawn.specs.declared.series.Series.TheVariants.{Tickets}
 use Rattle.ml_post.specs.Found.{FoundToPublish}
@@ -79,21 +79,6 @@ returns-in_ok-join-in-At-clause-act g c =
           (kept_read g.F.Files c.args.files.now c.publish.new.files c.publish.result c.publish.ensures.reads)
           (kept_read g.F.Files c.publish.new.files c.taken.new.files c.taken.result c.taken.ensures.reads));
     }
-
-pub returns-in_ok-join-in-At-clause-value : goal.returns-in_ok-join-in-At-clause-value
-returns-in_ok-join-in-At-clause-value g c told p is same found =
-    let dir = g.F.Files.map c.args.files.now in
-    let held = c.args.held.now in
-    let txn = c.in_ok-txn-in-At.txn in
-    let kept = g.met.F.Files.kept_map c.args.files.now c.publish.new.files told c.publish.ensures.reads.kept in
-    let after : Plain = record p { held = without_ticket c.args.ticket p.held } in
-    let stands =
-    subst (λ (d : Dir). IsList (with_puts d txn) after) kept (c.in_ok-txn-in-At.ensures.value told p held (subst (λ (d : Dir). IsList d p) (sym kept) is) found) in
-    let posted = c.in_ok-answer.ensures.value told (with_puts dir txn) after (beside_held dir txn c.in_ok-txn-in-At.ensures.own) stands same in
-    accepts dir p c.args.now.seconds c.args.ticket held c.in-At.number txn c.in-At.more (c.join.new.self, c.posted.result)
-    (subst (λ (m : Text). Publishes (with_puts dir txn) c.args.now.seconds held.sender m after (At c.in-At.number c.in-At.more)) c.as_slice-message.ensures
-    (subst (λ (a : Appended). Publishes (with_puts dir txn) c.args.now.seconds held.sender c.as_slice-message.result.now after a) c.in-At.is posted))
-    c.in_ok-join-in-At.ensures.ok c.posted.ensures
 
 pub returns-in_err-join-in-At-clause-act : goal.returns-in_err-join-in-At-clause-act
 returns-in_err-join-in-At-clause-act g c =

@@ -1,12 +1,9 @@
-use Rattle.std.proofs.Common.{◌≡◌, true, IfOk, Option, Some, refl, ap, subst, sym, rules, None, inl, inr, ◌∙◌}
+use Rattle.std.proofs.Common.{◌≡◌, true, Option, Some, refl, ap, subst, sym, rules, None, inl, inr, ◌∙◌}
 use Rattle.ml_base.specs.Dir.{Dir}
 use Rattle.ml_hold.specs.Answers.{Breaks, IsPostName, LooksBy, post_name}
-use Rattle.ml_hold.specs.Held.{held_post}
 use Rattle.ml_hold.specs.declared.posts.Held.{Held}
 use Rattle.ml_plain.specs.Answers.{gone}
-use Rattle.ml_plain.specs.Directory.{IsList}
 use Rattle.ml_plain.specs.Managing.{answer, answer_held}
-use Rattle.ml_plain.specs.Plain.{Plain}
 use Rattle.ml_acts.specs.Damaged.{waiting}
 use Rattle.ml_acts.specs.Doing.{DoesList}
 use Rattle.ml_acts.proofs.Asked.{named_as, other_name}
@@ -24,26 +21,6 @@ use Rattle.ml_base.specs.declared.names.Name.{Name}
 use Rattle.ml_base.proofs.DamagedNames.{on_both}
 use Rattle.ml_post.proofs.Spared.{breaks_spared}
 use Rattle.ml_post.proofs.answering.answer_ticket.Goals as goal
-
-pub returns-in_default-clause-value : goal.returns-in_default-clause-value
-returns-in_default-clause-value g c told p is same =
-    let found = subst (λ (o : Option Held). o ≡ held_post c.args.ticket p.held) c.in_default.is (c.in_ok-held.ensures.value told p.held is.held) in
-    does_nothing (g.F.Files.map c.args.files.now) (c.new.result, c.plain.result) p gone (answer c.args.now.seconds c.args.ticket c.args.letters.now (accepts c.args.decision) p)
-    (ap (answer_held c.args.now.seconds c.args.ticket c.args.letters.now p (accepts c.args.decision)) (sym found)) c.new.ensures c.plain.ensures is
-
-pub returns-clause-value : goal.returns-clause-value
-returns-clause-value g c told =
-    let dir = g.F.Files.map c.args.files.now in
-    let config = c.args.config.now in
-    let letters = c.args.letters.now in
-    let held = c.in-Some.held in
-    let kept = g.met.F.Files.kept_map c.args.files.now c.look.new.files told c.look.ensures.reads.kept in
-    let value =
-    subst (λ (d : Dir). IfOk c.answer_held.result (λ done. (p : Plain) → IsList d p → p.config ≡ config → held_post c.args.ticket p.held ≡ Some held → DoesList d done (answer_held c.args.now.seconds c.args.ticket letters p (accepts c.args.decision) (Some held)))) kept
-    (c.answer_held.ensures.value told) in
-    ok_then c.answer_held.result (λ done does p is same.
-    let found = subst (λ (o : Option Held). o ≡ held_post c.args.ticket p.held) c.in-Some.is (c.in_ok-held.ensures.value told p.held is.held) in
-    subst (λ (o : Option Held). DoesList dir done (answer_held c.args.now.seconds c.args.ticket letters p (accepts c.args.decision) o)) found (does p is same (sym found))) value
 
 pub returns-in_err-held-clause-act : goal.returns-in_err-held-clause-act
 returns-in_err-held-clause-act g c =

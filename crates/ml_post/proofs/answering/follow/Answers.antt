@@ -10,16 +10,6 @@ use Rattle.ml_base.specs.Dir.{Dir}
 use Rattle.ml_post.specs.Alike.{AlikeToFollow}
 use Rattle.ml_post.proofs.answering.follow.Goals as goal
 
-pub returns-in-Accept-clause-value : goal.returns-in-Accept-clause-value
-returns-in-Accept-clause-value g c told =
-    subst (λ (b : Bool). IfOk c.accepted.result (λ done. (p : Plain) → IsList (g.F.Files.map c.args.files.now) p → p.config ≡ c.args.config.now → held_post c.args.ticket p.held ≡ Some c.args.held.now
-    → DoesList (g.F.Files.map c.args.files.now) done (answered c.args.now.seconds c.args.ticket c.args.held.now p b))) (ap accepts (sym c.in-Accept.is)) (c.accepted.ensures.value told)
-
-pub returns-in-Reject-clause-value : goal.returns-in-Reject-clause-value
-returns-in-Reject-clause-value g c told =
-    subst (λ (b : Bool). IfOk c.rejected.result (λ done. (p : Plain) → IsList (g.F.Files.map c.args.files.now) p → p.config ≡ c.args.config.now → held_post c.args.ticket p.held ≡ Some c.args.held.now
-    → DoesList (g.F.Files.map c.args.files.now) done (answered c.args.now.seconds c.args.ticket c.args.held.now p b))) (ap accepts (sym c.in-Reject.is)) (c.rejected.ensures.value told)
-
 pub returns-in-Accept-clause-found : goal.returns-in-Accept-clause-found
 returns-in-Accept-clause-found g c told =
     subst (λ (b : Bool). IfOk c.accepted.result (FoundToDecide (g.F.Files.map c.args.files.now) c.args.config.now c.args.ticket b)) (ap accepts (sym c.in-Accept.is)) (c.accepted.ensures.found told)

@@ -1,4 +1,4 @@
-use Rattle.std.proofs.Common.{◌≡◌, true, IfOk, nat_le, refl, ap, ◌∙◌, subst, sym, rules}
+use Rattle.std.proofs.Common.{◌≡◌, true, nat_le, refl, ap, ◌∙◌, subst, sym, rules}
 use Rattle.std.proofs.lemmas.Bool.{and_parts, or_left, or_right}
 use Rattle.ml_base.specs.Dir.{Dir, same_name, with_puts}
 use Rattle.ml_base.specs.declared.names.Set.TheVariants as sets
@@ -8,10 +8,8 @@ use Rattle.ml_drawn.specs.Names.{is_of_series}
 use Rattle.ml_drawn.specs.declared.series.Series.TheVariants.{Tickets}
 use Rattle.ml_plain.specs.declared.Reply.{Reply}
 use Rattle.ml_plain.specs.Answers as answers
-use Rattle.ml_plain.specs.Directory.{IsList}
 use Rattle.ml_plain.specs.KeptFiles.{is_kept}
 use Rattle.ml_plain.specs.Mailing.{mail_moderators}
-use Rattle.ml_plain.specs.Plain.{Plain}
 use Rattle.ml_acts.specs.Damaged.{IsDamaged}
 use Rattle.ml_acts.specs.Doing.{DoesList, HasIds, is_mailed_by, is_of_posting}
 use Rattle.ml_acts.proofs.Damages.{keys_named, ok_then, same_self}
@@ -34,21 +32,6 @@ with_mail_to_moderators-requires-clause-room g c told =
 
 pub with_mail_to_moderators-requires-clause-others : goal.with_mail_to_moderators-requires-clause-others
 with_mail_to_moderators-requires-clause-others g c = held_beside_mail c.args.txn c.requires.own
-
-pub returns-clause-value : goal.returns-clause-value
-returns-clause-value g c told =
-    let dir = g.F.Files.map c.args.files.now in
-    let config = c.args.config.now in
-    let txn = c.args.txn in
-    let mail = c.in_ok-mail.mail in
-    let kept = g.met.F.Files.kept_map c.args.files.now c.list_keys.new.files told c.list_keys.ensures.reads.kept in
-    let value =
-    subst (λ (d : Dir). IfOk c.with_mail_to_moderators.result (λ done. (p : Plain) → IsList (with_puts d txn) p → p.config ≡ config → DoesList d done (mail_moderators c.args.now.seconds mail p, answers.held c.args.ticket))) kept
-    (subst (λ (r : Reply). IfOk c.with_mail_to_moderators.result (λ done. (p : Plain) → IsList (with_puts (g.F.Files.map c.list_keys.new.files) txn) p → p.config ≡ config → DoesList (g.F.Files.map c.list_keys.new.files) done (mail_moderators c.args.now.seconds mail p, r))) c.held.ensures
-    (c.with_mail_to_moderators.ensures.value told)) in
-    ok_then c.with_mail_to_moderators.result (λ done does p is same.
-    asks dir p config c.in_ok-keys.keys c.args.now.seconds c.args.ticket c.args.message mail txn done same
-    (c.in_ok-keys.ensures.value told (with_puts dir txn) p (left_alone (is_of_series Tickets) dir txn key_name c.requires.own refl) is) c.in_ok-mail.ensures (does p is same)) value
 
 pub returns-clause-act : goal.returns-clause-act
 returns-clause-act g c =

@@ -1,25 +1,13 @@
-use Rattle.std.proofs.Common.{◌≡◌, ◌∙◌, ◌||◌, Bool, true, ap, subst, sym, refl, false}
+use Rattle.std.proofs.Common.{◌≡◌, ◌||◌, Bool, true, subst, refl, false}
 use Rattle.std.proofs.lemmas.Bool.{or_right}
-use Rattle.ml_base.specs.Dir.{Dir}
 use Rattle.ml_base.proofs.ReadingLemmas.{kept_read, reading_then}
-use Rattle.ml_plain.specs.Directory.{IsList}
-use Rattle.ml_plain.specs.Plain.{is_in}
 use Rattle.ml_acts.specs.Asked.{Count, IsDamagedOf}
 use Rattle.ml_acts.specs.Doing.{is_bucket_of}
 use Rattle.ml_acts.proofs.Asked.{named_as}
-use Rattle.ml_acts.proofs.Damages.{ok_then}
 use Rattle.ml_base.specs.Address.{key}
 use Rattle.ml_acts.specs.Found.{EitherTells, TellsMember}
 use Rattle.ml_acts.proofs.Found.{either_first, either_second, found_then}
 use Rattle.ml_post.proofs.judging.is_in_either.Goals as goal
-
-pub returns-clause-value : goal.returns-clause-value
-returns-clause-value g c told =
-    let who = c.args.who.now in
-    let same = g.met.F.Files.kept_map c.args.files.now c.is_member.new.files told c.is_member.ensures.reads.kept in
-    ok_then c.is_member-2.result
-    (λ is so p list. so p (subst (λ (d : Dir). IsList d p) (sym same) list)
-    ∙ sym (ap (λ (b : Bool). b || is_in p c.args.second who) (sym (c.in_ok-is_member.ensures.value told p list) ∙ c.if-branch.false))) (c.is_member-2.ensures.value told)
 
 pub returns-clause-names : goal.returns-clause-names
 returns-clause-names g c =

@@ -21,48 +21,6 @@ use Rattle.ml_post.proofs.judging.judged.Goals as goal
 abbrev IsFound : Text → Option Text → Type 0
 IsFound sender found = MatchOption found (is_usable sender ≡ false) (λ who. (is_usable sender ≡ true) × (address_of sender ≡ Some who))
 
-pub returns-then-bytes-config-clause-value : goal.returns-then-bytes-config-clause-value
-unfolding verdict
-returns-then-bytes-config-clause-value g c told p is same =
-    let m = c.args.message.now in
-    let sender = c.args.sender.now in
-    let big : nat_lt c.args.config.now.max (length m) ≡ true = search rules in
-    sym (row_first (nat_lt p.config.max (length m)) (not (is_usable sender)) (has_field (codes "mailing-list") m) TooBig BounceSender Looped (rows.of_sender p sender m)
-    (ap (λ (a : Config). nat_lt a.max (length m)) same ∙ big))
-
-pub returns-in_default-clause-value : goal.returns-in_default-clause-value
-unfolding verdict
-returns-in_default-clause-value g c told p is same =
-    let m = c.args.message.now in
-    let sender = c.args.sender.now in
-    let small : nat_lt c.args.config.now.max (length m) ≡ false = le-ltb c.args.config.now.max (length m) (subst (λ (t : Text). length t ≤ c.args.config.now.max) c.bytes.ensures c.if-bytes-config.false) in
-    let none : is_usable sender ≡ false = subst (IsFound sender) c.in_default.is (c.in_ok-who.ensures) in
-    sym (row_second (nat_lt p.config.max (length m)) (not (is_usable sender)) (has_field (codes "mailing-list") m) TooBig BounceSender Looped (rows.of_sender p sender m)
-    (ap (λ (a : Config). nat_lt a.max (length m)) same ∙ small) (ap not none))
-
-pub returns-then-is_some-clause-value : goal.returns-then-is_some-clause-value
-unfolding verdict
-returns-then-is_some-clause-value g c told p is same =
-    let m = c.args.message.now in
-    let sender = c.args.sender.now in
-    let small : nat_lt c.args.config.now.max (length m) ≡ false = le-ltb c.args.config.now.max (length m) (subst (λ (t : Text). length t ≤ c.args.config.now.max) c.bytes.ensures c.if-bytes-config.false) in
-    let usable : is_usable sender ≡ true = (subst (IsFound sender) c.in-Some.is (c.in_ok-who.ensures)).0 in
-    let looped : has_field (codes "mailing-list") m ≡ true = has_some text_of (codes "mailing-list") m c.field.result c.is_some.result c.field.ensures c.is_some.ensures ∙ c.if-is_some.true in
-    sym (row_third (nat_lt p.config.max (length m)) (not (is_usable sender)) (has_field (codes "mailing-list") m) TooBig BounceSender Looped (rows.of_sender p sender m)
-    (ap (λ (a : Config). nat_lt a.max (length m)) same ∙ small) (ap not usable) looped)
-
-pub returns-clause-value : goal.returns-clause-value
-unfolding verdict
-returns-clause-value g c told =
-    let m = c.args.message.now in
-    let sender = c.args.sender.now in
-    let small : nat_lt c.args.config.now.max (length m) ≡ false = le-ltb c.args.config.now.max (length m) (subst (λ (t : Text). length t ≤ c.args.config.now.max) c.bytes.ensures c.if-bytes-config.false) in
-    let usable = subst (IsFound sender) c.in-Some.is (c.in_ok-who.ensures) in
-    let fresh : has_field (codes "mailing-list") m ≡ false = has_some text_of (codes "mailing-list") m c.field.result c.is_some.result c.field.ensures c.is_some.ensures ∙ c.if-is_some.false in
-    ok_then c.of_sender.result (λ found value p is same. value p is same ∙ same_sender p c.in-Some.who sender m (key_checked sender c.in-Some.who usable.1)
-    ∙ sym (no_row (nat_lt p.config.max (length m)) (not (is_usable sender)) (has_field (codes "mailing-list") m) TooBig BounceSender Looped (rows.of_sender p sender m)
-    (ap (λ (a : Config). nat_lt a.max (length m)) same ∙ small) (ap not usable.0) fresh)) (c.of_sender.ensures.value told)
-
 pub returns-clause-names : goal.returns-clause-names
 returns-clause-names g c =
     let sender = c.args.sender.now in

@@ -12,29 +12,6 @@ use Rattle.ml_post.proofs.Finding.{text_then}
 use Rattle.ml_post.proofs.Judged.{user_row}
 use Rattle.ml_post.proofs.judging.of_text.Goals as goal
 
-pub returns-then-is_command-clause-value : goal.returns-then-is_command-clause-value
-returns-then-is_command-clause-value g c told p is same =
-    let m = c.args.message.now in
-    let text : is_empty (subject m) ≡ false = filled (subject m) c.in_ok-subject.subject c.is_empty.result c.in_ok-subject.ensures.value c.is_empty.ensures c.if-is_empty.false in
-    let command : spec.is_command (lower (subject m)) ≡ true = search rules in
-    sym (row_second (is_empty (subject m)) (spec.is_command (lower (subject m))) (not (spec.is_addressed p.config m)) spec.NoSubject spec.CommandSubject spec.NotAddressed (rows.of_user p c.args.who.now) text command)
-
-pub returns-then-not-branch-clause-value : goal.returns-then-not-branch-clause-value
-returns-then-not-branch-clause-value g c told p is same =
-    let m = c.args.message.now in
-    let text : is_empty (subject m) ≡ false = filled (subject m) c.in_ok-subject.subject c.is_empty.result c.in_ok-subject.ensures.value c.is_empty.ensures c.if-is_empty.false in
-    let command : spec.is_command (lower (subject m)) ≡ false = search rules in
-    let named : not (spec.is_addressed c.args.config.now m) ≡ true = search rules in
-    sym (row_third (is_empty (subject m)) (spec.is_command (lower (subject m))) (not (spec.is_addressed p.config m)) spec.NoSubject spec.CommandSubject spec.NotAddressed (rows.of_user p c.args.who.now) text command (ap (λ (a : Config). not (spec.is_addressed a m)) same ∙ named))
-
-pub returns-clause-value : goal.returns-clause-value
-returns-clause-value g c told =
-    let m = c.args.message.now in
-    let text : is_empty (subject m) ≡ false = filled (subject m) c.in_ok-subject.subject c.is_empty.result c.in_ok-subject.ensures.value c.is_empty.ensures c.if-is_empty.false in
-    let command : spec.is_command (lower (subject m)) ≡ false = search rules in
-    let named : not (spec.is_addressed c.args.config.now m) ≡ false = search rules in
-    ok_then c.of_user.result (λ found value p is same. value p is same ∙ sym (no_row (is_empty (subject m)) (spec.is_command (lower (subject m))) (not (spec.is_addressed p.config m)) spec.NoSubject spec.CommandSubject spec.NotAddressed (rows.of_user p c.args.who.now) text command (ap (λ (a : Config). not (spec.is_addressed a m)) same ∙ named))) (c.of_user.ensures.value told)
-
 pub returns-clause-found : goal.returns-clause-found
 returns-clause-found g c told =
     ok_then c.of_user.result (λ v user. text_then (g.F.Files.map c.args.files.now) c.args.config.now (key c.args.who.now) c.args.message.now v user) (c.of_user.ensures.found told)

@@ -15,19 +15,6 @@ use Rattle.ml_post.proofs.posting.hold_message.Goals as goal
 abbrev IsFound : Text → Option Text → Type 0
 IsFound sender found = MatchOption found (is_usable sender ≡ false) (λ who. (is_usable sender ≡ true) × (address_of sender ≡ Some who))
 
-pub returns-in-Some-clause-value : goal.returns-in-Some-clause-value
-returns-in-Some-clause-value g c told =
-    let sender = c.args.sender.now in
-    let found = subst (IsFound sender) c.in-Some.is c.in_ok-who.ensures in
-    ok_then c.hold_post.result
-    (λ done does p list same usable.
-    subst (λ (s : Text). DoesList (g.F.Files.map c.args.files.now) done (held_now c.args.now.seconds s c.args.message.now p)) (sender_is sender c.in-Some.who usable found.1) (does p list same)) (c.hold_post.ensures.value told)
-
-pub returns-in-None-clause-value : goal.returns-in-None-clause-value
-returns-in-None-clause-value g c told p list same usable =
-    let found = subst (IsFound c.args.sender.now) c.in-None.is c.in_ok-who.ensures in
-    absurd (false≢true (sym found ∙ usable))
-
 pub returns-in-Some-clause-found : goal.returns-in-Some-clause-found
 returns-in-Some-clause-found g c told = ok_then c.hold_post.result (λ done is usable. is) (c.hold_post.ensures.found told)
 

@@ -1,15 +1,10 @@
-use Rattle.std.proofs.Common.{◌≡◌, ◌≤◌, length, true, false, IfOk, refl, ap, ◌∙◌, subst, sym, rules, IfErr}
+use Rattle.std.proofs.Common.{◌≡◌, ◌≤◌, length, true, refl, ap, ◌∙◌, subst, sym, rules, IfErr}
 use Rattle.std.specs.Prelude.{not}
-use Rattle.ml_base.specs.Address.{as_address}
 use Rattle.ml_base.specs.Bytes.{Text}
 use Rattle.ml_base.specs.Dir.{Dir}
-use Rattle.ml_plain.specs.Directory.{IsList}
-use Rattle.ml_plain.specs.Plain.{Plain, is_archive_full}
-use Rattle.ml_plain.specs.Posting.{held_now, posted_now}
 use Rattle.ml_plain.specs.Verdicts.{is_usable, verdict}
 use Rattle.ml_acts.specs.Asked.{Count, IsDamagedOf, Next}
 use Rattle.ml_acts.specs.Damaged.{IsDamaged}
-use Rattle.ml_acts.specs.Doing.{DoesList}
 use Rattle.ml_acts.proofs.Asked.{asked_as, count_next, named_as}
 use Rattle.ml_post.specs.Judging.{is_judged_by}
 use Rattle.ml_post.specs.Posting.{is_posted_by}
@@ -31,18 +26,6 @@ use Rattle.ml_post.proofs.Apart.{held_alike, judged_alike, publish_alike, publis
 use Rattle.ml_post.proofs.Spared.{held_spared, judged_spared}
 use Rattle.ml_post.proofs.posting.post_judged.Goals as goal
 
-pub returns-in-Held-clause-value : goal.returns-in-Held-clause-value
-returns-in-Held-clause-value g c told =
-    let dir = g.F.Files.map c.args.files.now in
-    let config = c.args.config.now in
-    let sender = c.args.sender.now in
-    let message = c.args.message.now in
-    let kept = g.met.F.Files.kept_map c.args.files.now c.judged.new.files told c.judged.ensures.reads.kept in
-    let value =
-    subst (λ (d : Dir). IfOk c.hold_message.result (λ done. (p : Plain) → IsList d p → p.config ≡ config → is_usable sender ≡ true → DoesList d done (held_now c.args.now.seconds (as_address sender) message p))) kept (c.hold_message.ensures.value told) in
-    ok_then c.hold_message.result (λ done does p is same.
-    follows_held dir p c.args.now.seconds sender message c.in_ok-found.found done (sym c.follows.ensures ∙ c.in-Held.is) (c.in_ok-found.ensures.value told p is same ∙ ap (verdict p sender) c.scan.ensures) (does p is same)) value
-
 pub returns-in_err-found-clause-act : goal.returns-in_err-found-clause-act
 returns-in_err-found-clause-act g c =
     let dir = g.F.Files.map c.args.files.now in
@@ -60,18 +43,6 @@ returns-in-Held-clause-act g c =
     let waits : config.flags.m ≡ true = held_waits config.flags.m c.in_ok-found.found (sym c.follows.ensures ∙ c.in-Held.is) c.in_ok-found.ensures.moderated in
     act_behind g.F.Files IsDamaged g.met.F.Files.kept_then g.met.F.Files.kept_map c.judged.ensures.reads c.hold_message.ensures.act (λ name e. of_held config c.args.sender.now name waits e)
     (λ told name e bad. record { damaged = bad; own = λ of. absurd (held_other name e of) })
-
-pub returns-in-Posted-clause-value : goal.returns-in-Posted-clause-value
-returns-in-Posted-clause-value g c told =
-    let dir = g.F.Files.map c.args.files.now in
-    let config = c.args.config.now in
-    let sender = c.args.sender.now in
-    let message = c.args.message.now in
-    let kept = g.met.F.Files.kept_map c.args.files.now c.judged.new.files told c.judged.ensures.reads.kept in
-    let value =
-    subst (λ (d : Dir). IfOk c.post_message.result (λ done. (p : Plain) → IsList d p → p.config ≡ config → is_usable sender ≡ true → is_archive_full p ≡ false → DoesList d done (posted_now c.args.now.seconds (as_address sender) message p))) kept (c.post_message.ensures.value told) in
-    ok_then c.post_message.result (λ done does p is same.
-    follows_posted dir p c.args.now.seconds sender message c.in_ok-found.found done (sym c.follows.ensures ∙ c.in-Posted.is) (c.in_ok-found.ensures.value told p is same ∙ ap (verdict p sender) c.scan.ensures) (does p is same)) value
 
 pub returns-in-Posted-clause-act : goal.returns-in-Posted-clause-act
 returns-in-Posted-clause-act g c =

@@ -1,4 +1,4 @@
-use Rattle.std.proofs.Common.{◌≡◌, true, false, Option, Some, refl, subst, ◌∙◌, sym}
+use Rattle.std.proofs.Common.{◌≡◌, true, false, Option, Some, subst, ◌∙◌, sym}
 use Rattle.std.specs.Option.{MatchOption}
 use Rattle.ml_base.specs.Address.{address_of}
 use Rattle.ml_base.specs.Bytes.{Text}
@@ -12,15 +12,6 @@ use Rattle.ml_post.proofs.posting.post_message.Goals as goal
 -- whether a sender is an address, by what was read of him
 abbrev IsFound : Text → Option Text → Type 0
 IsFound sender found = MatchOption found (is_usable sender ≡ false) (λ who. (is_usable sender ≡ true) × (address_of sender ≡ Some who))
-
-pub returns-clause-value : goal.returns-clause-value
-returns-clause-value g c told p is same usable room =
-    let dir = g.F.Files.map c.args.files.now in
-    let sender = c.args.sender.now in
-    let message = c.args.message.now in
-    let found = subst (IsFound sender) c.in-Some.is c.in_ok-who.ensures in
-    subst (λ (s : Text). DoesList dir c.done_by.result (posted_now c.args.now.seconds s message p)) (sender_is sender c.in-Some.who usable found.1)
-    (posts dir p c.args.now.seconds c.in-Some.who message c.in_ok-answer.answer c.done_by.result (c.in_ok-answer.ensures.value told dir p (λ name e. refl) is same) room c.done_by.ensures.puts c.done_by.ensures.reply)
 
 pub returns-in_default-clause-found : goal.returns-in_default-clause-found
 returns-in_default-clause-found g c told usable =

@@ -12,14 +12,14 @@ use Rattle.ml_filing.specs.Reads.{IsOfNext}
 use Rattle.ml_filing.specs.Subjects.{subject, subject_key}
 use Rattle.ml_filing.specs.Threads.{is_of_archive}
 use Rattle.ml_filing.specs.declared.posts.Appended.{Appended}
-use Rattle.ml_filing.specs.declared.posts.Appended.TheVariants.{At, Full}
+use Rattle.ml_filing.specs.declared.posts.Appended.TheVariants.{At}
 use Rattle.ml_acts.specs.Asked.{IsDamagedOf, Next}
 use Rattle.ml_acts.specs.Damaged.{IsDamaged, append, number}
 use Rattle.ml_acts.proofs.Spared.{mailed_spared}
 use Rattle.ml_acts.specs.Doing.{is_index, is_mailed_by, is_thread_file}
 use Rattle.ml_acts.proofs.Asked.{count_next, mailed_other, named_as, named_beside}
 use Rattle.ml_post.specs.Publishing.{is_published_by, sent_key}
-use Rattle.ml_post.proofs.Posts.{append_read, appends_so, full_here, needs_none_held, no_archive, publishes, reads_beside, reads_placed}
+use Rattle.ml_post.proofs.Posts.{append_read, appends_so, no_archive, publishes, reads_placed}
 use Rattle.ml_acts.specs.Found.{AddsMailToSet}
 use Rattle.ml_post.proofs.Judged.{is_full_apart}
 use Rattle.ml_post.proofs.Spared.{next_spared, number_spared}
@@ -68,28 +68,6 @@ returns-in_err-txn-in-At-clause-names g c =
     (or_left (mailed name || same_name name number_name) (is_index name) (or_left (mailed name) (same_name name number_name) e)))
     (λ name e of. mailed_other name sets.List e of) c.in_err-txn-in-At.ensures.names in
     search rules
-
-pub returns-in-Full-clause-value : goal.returns-in-Full-clause-value
-returns-in-Full-clause-value g c told dir p alike is same =
-    let old = g.F.Files.map c.args.files.now in
-    let config = c.args.config.now in
-    let kept = g.met.F.Files.kept_map c.args.files.now c.count.new.files told c.count.ensures.reads.kept in
-    full_here old dir p config c.args.now.seconds c.args.sender.now c.in_ok-text.text (reads_beside old dir p config c.args.now.seconds c.args.sender.now c.in_ok-text.text alike) is same
-    (appends_so c.args.now.seconds c.args.sender.now old (g.F.Files.map c.count.new.files) c.as_slice-prefix.result.now config.prefix c.as_slice.result.now c.in_ok-text.text c.in_ok-append.field-0 Full kept c.as_slice-prefix.ensures c.as_slice.ensures c.in-Full.is
-    (c.in_ok-append.ensures.value told))
-
-pub returns-in_ok-txn-in-At-clause-value : goal.returns-in_ok-txn-in-At-clause-value
-returns-in_ok-txn-in-At-clause-value g c told dir p alike is same =
-    let old = g.F.Files.map c.args.files.now in
-    let config = c.args.config.now in
-    let kept = g.met.F.Files.kept_map c.args.files.now c.count.new.files told c.count.ensures.reads.kept in
-    let kept2 = g.met.F.Files.kept_map c.count.new.files c.append.new.files told c.append.ensures.reads.kept in
-    let only = subst (λ (a : Appended). touches_only is_of_archive (puts_of a) ≡ true) c.in-At.is c.in_ok-append.ensures.others in
-    publishes old dir p config c.args.now.seconds c.args.sender.now c.in_ok-text.text (reads_beside old dir p config c.args.now.seconds c.args.sender.now c.in_ok-text.text alike) is same c.args.message.now c.in_ok-count.count c.in-At.field-0 c.in-At.txn c.in_ok-txn-in-At.txn
-    (c.in_ok-count.ensures.read told) c.in_ok-text.ensures.text only
-    (appends_so c.args.now.seconds c.args.sender.now old (g.F.Files.map c.count.new.files) c.as_slice-prefix.result.now config.prefix c.as_slice.result.now c.in_ok-text.text c.in_ok-append.field-0 (At c.in-At.field-0 c.in-At.txn) kept c.as_slice-prefix.ensures c.as_slice.ensures c.in-At.is
-    (c.in_ok-append.ensures.value told))
-    (λ q stands own. c.in_ok-txn-in-At.ensures.value told dir q (λ name needs. alike name (needs_none_held sets.List name needs) ∙ sym (ap (λ (d : Dir). d name) (kept2 ∙ kept))) stands own)
 
 pub returns-in_ok-txn-in-At-clause-reads : goal.returns-in_ok-txn-in-At-clause-reads
 returns-in_ok-txn-in-At-clause-reads g c =
