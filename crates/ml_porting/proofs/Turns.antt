@@ -9,7 +9,7 @@ use Rattle.ml_base.specs.Bytes.{Text}
 use Rattle.ml_base.specs.Dir.{Dir}
 use Rattle.ml_base.specs.declared.names.Name.{Name}
 use Rattle.ml_filing.specs.Answers.{IsBadForPost, IsPostByFiles, IsPostName}
-use Rattle.ml_filing.specs.Archive.{IsEntry, IsNumberFile, index_name, number_name}
+use Rattle.ml_filing.specs.Archive.{IsEntry, IsNumberFile, number_name}
 use Rattle.ml_filing.specs.Threads.{entry_at}
 use Rattle.ml_filing.specs.declared.posts.Entry.{Entry}
 use Rattle.ml_filing.specs.declared.posts.Post.{Post}

@@ -1,4 +1,4 @@
-use Rattle.std.proofs.Common.{◌≡◌, ◌≤◌, ◌+◌, ◌-◌, ◌/◌, ◌∙◌, min, max, IsErrOf, List, sym, subst, ap, inl, inr, arith, rules}
+use Rattle.std.proofs.Common.{◌≡◌, ◌≤◌, ◌+◌, ◌-◌, ◌/◌, ◌∙◌, min, max, IsErrOf, List, sym, subst, ap, arith, rules}
 use Rattle.ml_base.specs.Dir.{Dir}
 use Rattle.ml_base.specs.PartErrors.{OnDamaged}
 use Rattle.ml_base.specs.declared.part.PartError.TheVariants.{Fault}

@@ -1,4 +1,4 @@
-use Rattle.std.proofs.Common.{◌≡◌, ◌≤◌, ◌/◌, ◌++◌, ◌∙◌, min, ℕ, ap, sym, subst, inl, inr, refl, arith, rules}
+use Rattle.std.proofs.Common.{◌≡◌, ◌/◌, ◌++◌, ◌∙◌, min, ℕ, ap, sym, subst, inl, inr, refl, arith, rules}
 use Rattle.ml_base.specs.PartErrors.{OnDamaged}
 use Rattle.ml_base.specs.declared.names.Name.{Name}
 use Rattle.ml_base.proofs.DamagedNames.{on_both, on_damaged}
@@ -15,10 +15,10 @@ message_of-requires-clause-low g c = let named = c.in-Some.ensures.number in let
 pub message_of-requires-clause-high : goal.message_of-requires-clause-high
 message_of-requires-clause-high g c = let named = c.in-Some.ensures.number in let high = c.requires.high in omega (arith, named, high)
 
-pub returns-in_default-entry_among-clause-names : goal.returns-in_default-entry_among-clause-names
-returns-in_default-entry_among-clause-names g c = record {
+pub returns-in_default-clause-names : goal.returns-in_default-clause-names
+returns-in_default-clause-names g c = record {
   named = inl refl;
-  damaged = λ told. inl (refl, c.in_default-entry_among.ensures.none (g.F.Files.map c.args.files.now) (c.requires.known told) c.requires.there);
+  damaged = λ told. inl (refl, c.in_default.ensures.none (g.F.Files.map c.args.files.now) (c.requires.known told) c.requires.there);
 }
 
 pub returns-in_err-message-clause-names : goal.returns-in_err-message-clause-names
