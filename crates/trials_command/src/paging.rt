@@ -62,7 +62,7 @@ fn pages_are_given(rt: HostRuntime) -> Result<(), Fail> {
 }
 
 // Every call fails in turn: the store is opened by two and the configuration read by one; then come the number of posts and the index, with the
-// 256 thread files for the list, and for a thread's page its thread file and the index again; and the last call gives the text.
+// 256 thread files for the list, and for a thread's page its thread file; and the last call gives the text.
 const FAILING: &str = r#"
 let key 000102030405060708090a0b0c0d0e0f101112131415161718191a1b1c1d1e1f
 let hello D1:1,10:1000000100,3:a@b,11:list@ex.org,45:From: a@b\nTo: list@ex.org\nSubject: hello\n\nhi\n,
@@ -74,8 +74,8 @@ turns 1 5 | fail | run pages month 2001-09 1 => 111 - 111 disk\n | same
 fail 6 | run pages month 2001-09 1 => 73 | same
 turns 1 5 | fail | run pages month 2001-08 1 => 111 - 111 disk\n | same
 fail 6 | run pages month 2001-08 1 => 73 | same
-turns 1 7 | fail | run pages thread 1 1 => 111 - 111 disk\n | same
-fail 8 | run pages thread 1 1 => 73 | same
+turns 1 6 | fail | run pages thread 1 1 => 111 - 111 disk\n | same
+fail 7 | run pages thread 1 1 => 73 | same
 "#;
 
 #[test]
