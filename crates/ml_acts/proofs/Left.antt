@@ -65,8 +65,8 @@ removed_is sets.Moderators who p = refl
 -- the puts that leave the set without an address, and those after them
 pub removed_list : (dir : Dir) (p : Plain) (set : Set) (who : Text) (txn done : List Put) → IsList dir p → AreSubscribers (with_puts dir txn) set (without_member (key who) (p.sets set))
     → touches_only (is_touched set (key who)) txn ≡ true → ((r : Plain) → IsList (with_puts dir txn) r → IsList (with_puts dir done) (without_entry set who r)) → IsList (with_puts dir done) (removed set who p)
-removed_list dir p set who txn done is now only behind =
-    subst (λ (q : Plain). IsList (with_puts dir done) q) (removed_is set who p) (behind (left_by set who p) (members_changed dir p set (key who) txn (without_member (key who) (p.sets set)) is only now))
+removed_list dir p set who txn done is now only after =
+    subst (λ (q : Plain). IsList (with_puts dir done) q) (removed_is set who p) (after (left_by set who p) (members_changed dir p set (key who) txn (without_member (key who) (p.sets set)) is only now))
 
 -- the files of a set's ledger that are touched are the list's
 pub entry_kind : (set : Set) (k : Text) (name : Name) → same_name name (key_file set k) ≡ true → name.kind ≡ ledger_kind set

@@ -50,9 +50,9 @@ module _ {F : Type 0} (told : Ghosts F) (r : Result (List Put × Reply) PartErro
   }
 
 -- both: damaged in the files as they were before the read
-pub act_behind : {F T : Type 0} {may_write : Name → Bool} {first second third : F} {May Few Worse : Name → Type 0} {r : Result (List Put × Reply) PartError} {found : Result T PartError} (told : Ghosts F) (Bad : Dir → Name → Type 0) → KeepsOn told → KeepsMap told → IsReading told first second found
+pub act_after : {F T : Type 0} {may_write : Name → Bool} {first second third : F} {May Few Worse : Name → Type 0} {r : Result (List Put × Reply) PartError} {found : Result T PartError} (told : Ghosts F) (Bad : Dir → Name → Type 0) → KeepsOn told → KeepsMap told → IsReading told first second found
     → AnswersWithin may_write told Few (Bad (told.map second)) second third r → ((name : Name) → Few name → May name) → (IsTrue told.tells → (name : Name) → Few name → Bad (told.map first) name → Worse name) → AnswersWithin may_write told May Worse first third r
-act_behind {first = first} {second = second} {third = third} {May = May} {Few = Few} {Worse = Worse} {r = r} {found = found} told Bad on maps read is may worse = record {
+act_after {first = first} {second = second} {third = third} {May = May} {Few = Few} {Worse = Worse} {r = r} {found = found} told Bad on maps read is may worse = record {
   own = is.own;
   files = is.files;
   reply = is.reply;
@@ -66,7 +66,7 @@ act_behind {first = first} {second = second} {third = third} {May = May} {Few = 
 -- the same of the list's files
 pub act_kept : {F T : Type 0} {may_write : Name → Bool} {told : Ghosts F} {first second third : F} {May Few : Name → Type 0} {r : Result (List Put × Reply) PartError} {found : Result T PartError} → KeepsOn told → KeepsMap told → IsReading told first second found
     → AnswersWithin may_write told Few (IsDamaged (told.map second)) second third r → ((name : Name) → Few name → May name) → AnswersWithin may_write told May (IsDamaged (told.map first)) first third r
-act_kept {told = told} on maps read act may = act_behind told IsDamaged on maps read act may (λ t name few bad. bad)
+act_kept {told = told} on maps read act may = act_after told IsDamaged on maps read act may (λ t name few bad. bad)
 
 -- an act that names none of the archive's files, after a call that only read
 pub act_beside : {F : Type 0} {may_write : Name → Bool} {first second third : F} {May Few : Name → Type 0} {r : Result (List Put × Reply) PartError} (told : Ghosts F) (asked : Asked) → KeepsOn told → AreKept told first second → (IsTrue told.tells → told.map second ≡ told.map first)

@@ -35,8 +35,8 @@ IsBadAmong dir row name = (n : ℕ) × IsAmong row n × IsBadForPost dir n name
 abbrev pub IsBadWithin : Dir → ℕ → ℕ → Name → Type 0
 IsBadWithin dir a b name = (n : ℕ) × (a ≤ n) × (n ≤ b) × IsBadForPost dir n name
 
-abbrev pub IsBadBehind : Dir → Name → Type 0
-IsBadBehind dir name = (mark : Mark) × IsMark dir mark × (count : ℕ) × IsNumberFile (dir number_name) count × IsBadWithin dir (mark.last + 1) count name
+abbrev pub IsBadAfter : Dir → Name → Type 0
+IsBadAfter dir name = (mark : Mark) × IsMark dir mark × (count : ℕ) × IsNumberFile (dir number_name) count × IsBadWithin dir (mark.last + 1) count name
 
 -- whether an entry is of a post above a number
 abbrev pub has_above : ℕ → List Entry → Bool
@@ -55,7 +55,7 @@ IsBadFor dir (Range a b) name = IsBadForRange dir a b name ⊎ ((row : List ℕ)
 IsBadFor dir (Group g) name = (name ≡ index_name g) × IsNoIndex dir g
 IsBadFor dir (ThreadOf prefix n) name = IsOfThread dir prefix n name × (IsBadForThread dir prefix n name ⊎ ((row : List ℕ) × IsThreadAnswer dir prefix n row × IsBadAmong dir row name))
 IsBadFor dir (Next key) name = IsOfNext dir key name × IsBadForAppend dir name
-IsBadFor dir Undigested name = ((name ≡ number_name) × (IsNoNumber dir ⊎ IsTooSmall dir)) ⊎ IsBadBehind dir name
+IsBadFor dir Undigested name = ((name ≡ number_name) × (IsNoNumber dir ⊎ IsTooSmall dir)) ⊎ IsBadAfter dir name
 
 -- a damaged file; if it is one of the archive, it is damaged for what is asked
 pub record IsDamagedOf (dir : Dir) (asked : Asked) (name : Name) : Type 0 where

@@ -17,8 +17,8 @@ use Rattle.ml_base.proofs.Bools.{both as parts_of}
 use Rattle.ml_base.proofs.NumberLaws.{all_digits, number_read}
 use Rattle.ml_base.proofs.SplitLaws.{first_written, first_absent, last_written}
 use Rattle.ml_address.specs.Requests.{PlainWho, Signed, PlainRequest, Get, is_who, is_cookie, is_signed, if_post_number}
-use Rattle.ml_address.specs.Reading.{only_if, both, read_both, post_number, ticket_number, moment_number, cookie_letters, who_of, who_behind, signature, signed_of, after_word, get_of, answer_of}
-use Rattle.ml_address.specs.Writing.{who_text, ticket_text, signed_text, behind_underscore}
+use Rattle.ml_address.specs.Reading.{only_if, both, read_both, post_number, ticket_number, moment_number, cookie_letters, who_of, who_after, signature, signed_of, after_word, get_of, answer_of}
+use Rattle.ml_address.specs.Writing.{who_text, ticket_text, signed_text, after_underscore}
 use Rattle.ml_address.proofs.Tables.{length-lower}
 use Rattle.ml_base.proofs.AddressParts.{who_parts}
 
@@ -29,8 +29,8 @@ word_alike word spelled rest e =
     let long : nat_lt (length (spelled ++ rest)) (length word) ≡ false = le-ltb (length (spelled ++ rest)) (length word) (omega (arith, same, length-append spelled rest)) in
     let front : take (length word) (spelled ++ rest) ≡ spelled = take_at spelled rest (length word) same in
     let alike : str_eq_ignore_ascii_case spelled word ≡ true = (bytes_decides _ _).1 e in
-    let behind : drop (length word) (spelled ++ rest) ≡ rest = drop_at spelled rest (length word) same in
-    rw (long, front, alike, behind)
+    let after : drop (length word) (spelled ++ rest) ≡ rest = drop_at spelled rest (length word) same in
+    rw (long, front, alike, after)
 
 passes : {A : Type 0} (test : A → Bool) (a : A) → test a ≡ true → only_if test a ≡ Some a
 passes test a e = ap (λ t. cond t (Some a) None) e
@@ -105,12 +105,12 @@ signed_read s e =
     let tail = 45 ∷ who_text s.who in
     let twenty : length s.cookie ≡ 20 = eqb-true (length s.cookie) 20 (parts_of (length s.cookie == 20) _ one.1).0 in
     let front : take 20 (s.cookie ++ tail) ≡ s.cookie = take_at s.cookie tail 20 twenty in
-    let behind : drop 20 (s.cookie ++ tail) ≡ tail = drop_at s.cookie tail 20 twenty in
+    let after : drop 20 (s.cookie ++ tail) ≡ tail = drop_at s.cookie tail 20 twenty in
     ap signed_of (append_assoc (decimal s.time) (46 ∷ s.cookie) tail)
     ∙ ap (option_and_then (λ (parts : Text × Text). option_and_then (λ time. signature time parts.1) (moment_number parts.0)))
     (first_written 46 (decimal s.time) (s.cookie ++ tail) (no_byte_of 46 s.time refl (moment_small s.time one.0)))
     ∙ ap (option_and_then (λ time. signature time (s.cookie ++ tail))) (moment_read s.time one.0)
-    ∙ ap₂ (λ c w. both (λ cookie who. record { time = s.time; cookie = cookie; who = who }) (cookie_letters c) (who_behind w)) front behind
+    ∙ ap₂ (λ c w. both (λ cookie who. record { time = s.time; cookie = cookie; who = who }) (cookie_letters c) (who_after w)) front after
     ∙ ap₂ (λ c w. both (λ cookie who. record { time = s.time; cookie = cookie; who = who }) c w) (letters_read s.cookie one.1) (who_read s.who two.1)
 
 pub answer_read : (f : ℕ → Text → PlainRequest) (ticket : ℕ) (cookie : Text) → is_drawn ticket ≡ true → is_cookie cookie ≡ true → answer_of f (ticket_text ticket cookie) ≡ Some (f ticket cookie)
@@ -119,7 +119,7 @@ answer_read f ticket cookie t c =
     ∙ ap₂ (λ a b. both f a b) (ticket_read ticket t) (letters_read cookie c)
 
 pub get_read : (from : ℕ) (to : Option ℕ) → is_post_number from ≡ true → if_post_number to ≡ true
-    → get_of (decimal from ++ behind_underscore to) (split_first 95 (decimal from ++ behind_underscore to)) ≡ Some (Get from to)
+    → get_of (decimal from ++ after_underscore to) (split_first 95 (decimal from ++ after_underscore to)) ≡ Some (Get from to)
 get_read from None f t =
     let whole = append-nil (decimal from) in
     ap (λ text. get_of text (split_first 95 text)) whole

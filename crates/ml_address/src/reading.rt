@@ -40,16 +40,16 @@ pub fn read_request<'a>(local: &[u8], host: &[u8], recipient: &'a [u8]) -> Optio
 fn found_request<'a>(local: &[u8], host: &[u8], recipient: &'a [u8]) -> Option<Request<'a>>
     ensures { option_map request_view result ≡ request_of local.now host.now recipient.now }
 {
-    let (before, behind) = split_last(b'@', recipient)?;
-    let rest = local_rest(local, host, before, behind)?;
+    let (before, after) = split_last(b'@', recipient)?;
+    let rest = local_rest(local, host, before, after)?;
     rest_request(rest)
 }
 
 // What comes between LOCAL and the `@`, if HOST comes after that.
-fn local_rest<'a>(local: &[u8], host: &[u8], before: &'a [u8], behind: &[u8]) -> Option<&'a [u8]>
-    ensures { option_copied result ≡ spec.local_rest local.now host.now (before.now, behind.now) }
+fn local_rest<'a>(local: &[u8], host: &[u8], before: &'a [u8], after: &[u8]) -> Option<&'a [u8]>
+    ensures { option_copied result ≡ spec.local_rest local.now host.now (before.now, after.now) }
 {
-    if behind.eq_ignore_ascii_case(host) {
+    if after.eq_ignore_ascii_case(host) {
         after_word(local, before)
     } else {
         None
@@ -168,7 +168,7 @@ fn subscribe(set: Set, text: &[u8]) -> Option<Request<'_>>
     if text.is_empty() {
         return Some(Request::Subscribe { set, who: None });
     }
-    let who = who_behind(text)?;
+    let who = who_after(text)?;
     Some(Request::Subscribe {
         set,
         who: Some(who),
@@ -182,7 +182,7 @@ fn unsubscribe(set: Set, text: &[u8]) -> Option<Request<'_>>
     if text.is_empty() {
         return Some(Request::Unsubscribe { set, who: None });
     }
-    let who = who_behind(text)?;
+    let who = who_after(text)?;
     Some(Request::Unsubscribe {
         set,
         who: Some(who),
@@ -373,8 +373,8 @@ pub(crate) fn who_of(text: &[u8]) -> Option<Who<'_>>
 }
 
 // A hyphen and then an address.
-fn who_behind(text: &[u8]) -> Option<Who<'_>>
-    ensures { option_map who_view result ≡ spec.who_behind text.now }
+fn who_after(text: &[u8]) -> Option<Who<'_>>
+    ensures { option_map who_view result ≡ spec.who_after text.now }
 {
     match text {
         [b'-', rest @ ..] => who_of(rest),
@@ -391,7 +391,7 @@ fn signature(time: u64, text: &[u8]) -> Option<Signed<'_>>
     }
     let (letters, rest) = text.split_at(20);
     let cookie = cookie_letters(letters)?;
-    let who = who_behind(rest)?;
+    let who = who_after(rest)?;
     Some(Signed { time, cookie, who })
 }
 

@@ -6,7 +6,7 @@ use Rattle.std.proofs.lemmas.Grind.{common_steps}
 use Rattle.std.proofs.lemmas.List.{take-append-drop}
 use Rattle.ml_base.specs.Bytes.{Text, lower, is_empty}
 use Rattle.ml_header.specs.Lines.{begins_with}
-use Rattle.ml_filing.specs.Subjects.{is_space, squeezed, without_front, without_end, behind_word, behind_digits, behind_mark, stripped, subject_key}
+use Rattle.ml_filing.specs.Subjects.{is_space, squeezed, without_front, without_end, after_word, after_digits, after_mark, stripped, subject_key}
 use Rattle.ml_filing.proofs.KeyTurns.{turns_enough, strip_none, front_within, turn_of, step, front_lower, end_lower}
 
 abbrev space_first : Text → Bool
@@ -91,56 +91,56 @@ lower_rest : (b : ℕ) (bs : Text) → lower (b ∷ bs) ≡ b ∷ bs → lower b
 unfolding rest_of
 lower_rest b bs is = ap rest_of is
 
-tidy_behind : (front rest : Text) → IsTidy (front ++ rest) → IsTidy rest
-tidy_behind [] rest is = is
-tidy_behind (b ∷ bs) rest is = tidy_behind bs rest (is.0.1, end_rest b (bs ++ rest) is.1, lower_rest b (bs ++ rest) is.2)
+tidy_after : (front rest : Text) → IsTidy (front ++ rest) → IsTidy rest
+tidy_after [] rest is = is
+tidy_after (b ∷ bs) rest is = tidy_after bs rest (is.0.1, end_rest b (bs ++ rest) is.1, lower_rest b (bs ++ rest) is.2)
 
 -- what comes after a mark is the text without some bytes at its beginning
-abbrev IsBehind : Text → Option Text → Type 0
-IsBehind text None = Unit {0}
-IsBehind text (Some rest) = (front : Text) × (0 < length front) × (text ≡ front ++ rest)
+abbrev IsAfter : Text → Option Text → Type 0
+IsAfter text None = Unit {0}
+IsAfter text (Some rest) = (front : Text) × (0 < length front) × (text ≡ front ++ rest)
 
-word_behind : (word text : Text) → IsBehind text (behind_word word text)
-word_behind [] text = tt
-word_behind (w ∷ ws) [] = tt
-word_behind (w ∷ ws) (b ∷ bs) = go (begins_with (w ∷ ws) (b ∷ bs))
+word_after : (word text : Text) → IsAfter text (after_word word text)
+word_after [] text = tt
+word_after (w ∷ ws) [] = tt
+word_after (w ∷ ws) (b ∷ bs) = go (begins_with (w ∷ ws) (b ∷ bs))
   where
-    go : (t : Bool) → IsBehind (b ∷ bs) (cond t (Some (drop (length ws) bs)) None)
+    go : (t : Bool) → IsAfter (b ∷ bs) (cond t (Some (drop (length ws) bs)) None)
     go true = (b ∷ take (length ws) bs, omega arith, ap (λ t. b ∷ t) (sym (take-append-drop (length ws) bs)))
     go false = tt
 
-one_more : (b : ℕ) (bs : Text) (o : Option Text) → IsBehind bs o → IsBehind (b ∷ bs) o
+one_more : (b : ℕ) (bs : Text) (o : Option Text) → IsAfter bs o → IsAfter (b ∷ bs) o
 one_more b bs None is = tt
 one_more b bs (Some rest) (front, some, is) = (b ∷ front, omega arith, ap (λ t. b ∷ t) is)
 
-digits_behind : (some : Bool) (text : Text) → IsBehind text (behind_digits some text)
-digits_behind some [] = tt
-digits_behind some (b ∷ bs) = go (is_ascii_digit b) some (digits_behind true bs)
+digits_after : (some : Bool) (text : Text) → IsAfter text (after_digits some text)
+digits_after some [] = tt
+digits_after some (b ∷ bs) = go (is_ascii_digit b) some (digits_after true bs)
   where
-    go : (t u : Bool) → IsBehind bs (behind_digits true bs) → IsBehind (b ∷ bs) (cond t (behind_digits true bs) (cond u (behind_word (codes "]:") (b ∷ bs)) None))
-    go true u is = one_more b bs (behind_digits true bs) is
-    go false true is = word_behind (codes "]:") (b ∷ bs)
+    go : (t u : Bool) → IsAfter bs (after_digits true bs) → IsAfter (b ∷ bs) (cond t (after_digits true bs) (cond u (after_word (codes "]:") (b ∷ bs)) None))
+    go true u is = one_more b bs (after_digits true bs) is
+    go false true is = word_after (codes "]:") (b ∷ bs)
     go false false is = tt
 
-or_behind : (text : Text) (a b : Option Text) → IsBehind text a → IsBehind text b → IsBehind text (option_or a b)
-or_behind text None b p q = q
-or_behind text (Some t) b p q = p
+or_after : (text : Text) (a b : Option Text) → IsAfter text a → IsAfter text b → IsAfter text (option_or a b)
+or_after text None b p q = q
+or_after text (Some t) b p q = p
 
-then_behind : (text : Text) (o : Option Text) → IsBehind text o → IsBehind text (option_and_then (behind_digits false) o)
-then_behind text None is = tt
-then_behind text (Some t) (front, some, is) = go (behind_digits false t) (digits_behind false t)
+then_after : (text : Text) (o : Option Text) → IsAfter text o → IsAfter text (option_and_then (after_digits false) o)
+then_after text None is = tt
+then_after text (Some t) (front, some, is) = go (after_digits false t) (digits_after false t)
   where
-    go : (o : Option Text) → IsBehind t o → IsBehind text o
+    go : (o : Option Text) → IsAfter t o → IsAfter text o
     go None more = tt
     go (Some rest) (digits, _, more) = (front ++ digits, (let long = length-append front digits in omega (arith, long, some)), is ∙ ap (λ t. front ++ t) more ∙ sym (append_assoc front digits rest))
 
-mark_behind : (prefix text : Text) → IsBehind text (behind_mark prefix text)
-mark_behind prefix text =
-    or_behind text _ _ (word_behind (lower prefix) text)
-    (or_behind text _ _ (word_behind (codes "re:") text)
-    (or_behind text _ _ (word_behind (codes "fw:") text)
-    (or_behind text _ _ (word_behind (codes "fwd:") text)
-    (or_behind text _ _ (word_behind (codes "aw:") text) (then_behind text (behind_word (codes "re[") text) (word_behind (codes "re[") text))))))
+mark_after : (prefix text : Text) → IsAfter text (after_mark prefix text)
+mark_after prefix text =
+    or_after text _ _ (word_after (lower prefix) text)
+    (or_after text _ _ (word_after (codes "re:") text)
+    (or_after text _ _ (word_after (codes "fw:") text)
+    (or_after text _ _ (word_after (codes "fwd:") text)
+    (or_after text _ _ (word_after (codes "aw:") text) (then_after text (after_word (codes "re[") text) (word_after (codes "re[") text))))))
 
 front_twice : (text : Text) → without_front (without_front text) ≡ without_front text
 front_twice [] = refl
@@ -152,7 +152,7 @@ front_twice (b ∷ bs) = go (b == 32) refl (front_twice bs)
 
 front_tidy : (text : Text) → IsTidy text → IsTidy (without_front text)
 front_tidy [] is = is
-front_tidy (b ∷ bs) is = go (b == 32) (front_tidy bs (tidy_behind (b ∷ []) bs is))
+front_tidy (b ∷ bs) is = go (b == 32) (front_tidy bs (tidy_after (b ∷ []) bs is))
   where
     go : (t : Bool) → IsTidy (without_front bs) → IsTidy (cond t (without_front bs) (b ∷ bs))
     go true more = more
@@ -167,16 +167,16 @@ unfolding stripped
 stripped_key zero prefix [] le is front = (is, front, turns_enough 0 0 prefix [] le le)
 stripped_key zero prefix (b ∷ bs) le is front = absurd (omega (arith, le))
 stripped_key (suc turns) prefix text le is front =
-    subst (λ (k : Text). IsKey prefix k) (sym (step turns prefix text)) (go (behind_mark prefix text) refl (mark_behind prefix text) (λ rest. stripped_key turns prefix rest))
+    subst (λ (k : Text). IsKey prefix k) (sym (step turns prefix text)) (go (after_mark prefix text) refl (mark_after prefix text) (λ rest. stripped_key turns prefix rest))
   where
-    go : (o : Option Text) → behind_mark prefix text ≡ o → IsBehind text o → ((rest : Text) → length rest ≤ turns → IsTidy rest → without_front rest ≡ rest → IsKey prefix (stripped turns prefix rest))
+    go : (o : Option Text) → after_mark prefix text ≡ o → IsAfter text o → ((rest : Text) → length rest ≤ turns → IsTidy rest → without_front rest ≡ rest → IsKey prefix (stripped turns prefix rest))
         → IsKey prefix (turn_of (stripped turns prefix) text o)
-    go None none behind later = (is, front, sym (strip_none prefix (lower prefix) text refl (sym none)))
+    go None none after later = (is, front, sym (strip_none prefix (lower prefix) text refl (sym none)))
     go (Some rest) there (mark, some, cut) later =
         let long = length-append mark rest in
         let short = front_within rest in
         let whole : length text ≡ length (mark ++ rest) = ap length cut in
-        later (without_front rest) (omega (arith, long, short, whole, le, some)) (front_tidy rest (tidy_behind mark rest (subst (λ (t : Text). IsTidy t) cut is))) (front_twice rest)
+        later (without_front rest) (omega (arith, long, short, whole, le, some)) (front_tidy rest (tidy_after mark rest (subst (λ (t : Text). IsTidy t) cut is))) (front_twice rest)
 
 -- the text that marks are taken off from
 end_twice : (text : Text) → without_end (without_end text) ≡ without_end text

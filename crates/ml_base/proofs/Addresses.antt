@@ -8,7 +8,7 @@ use Rattle.std.specs.Char.{to_ascii_lowercase}
 use Rattle.ml_base.specs.Bytes.{Text, lower, is_empty, split_last, onto_split, is_nul}
 use Rattle.ml_base.specs.declared.address.AddressFault.{AddressFault}
 use Rattle.ml_base.specs.declared.address.AddressFault.TheVariants.{TooLong, NoAt, EmptyPart, BadByte}
-use Rattle.ml_base.specs.Address.{is_local_byte, is_host_byte, address_check, address_of, as_address, local_of, host_of, before_at, behind_at, IsAddress, IsAddressAt, key}
+use Rattle.ml_base.specs.Address.{is_local_byte, is_host_byte, address_check, address_of, as_address, local_of, host_of, before_at, past_at, IsAddress, IsAddressAt, key}
 use Rattle.ml_base.proofs.Bools.{both, neither}
 
 -- lower case keeps every byte that a host may have
@@ -66,10 +66,10 @@ cut_whole (b ∷ bs) local host e = go (cut_whole bs) (split_last 64 bs) refl (b
     go more (Some p) f is h =
         let same : Some (b ∷ p.0, p.1) ≡ Some (local, host) = ap (λ q. onto_split b (b == 64) bs q) (sym f) ∙ e in
         let rest = more p.0 p.1 f in
-        ap (λ t. b ∷ t) rest ∙ ap (λ (q : Option (Text × Text)). before_at q ++ 64 ∷ behind_at q) same
+        ap (λ t. b ∷ t) rest ∙ ap (λ (q : Option (Text × Text)). before_at q ++ 64 ∷ past_at q) same
     go more None f true h =
         let same : Some ([], bs) ≡ Some (local, host) = ap₂ (λ is q. onto_split b is bs q) (sym h) (sym f) ∙ e in
-        ap (λ c. c ∷ bs) (eqb-true b 64 h) ∙ ap (λ (q : Option (Text × Text)). before_at q ++ 64 ∷ behind_at q) same
+        ap (λ c. c ∷ bs) (eqb-true b 64 h) ∙ ap (λ (q : Option (Text × Text)). before_at q ++ 64 ∷ past_at q) same
     go more None f false h = let bad : uncut ≡ cut local host = ap₂ (λ is q. onto_split b is bs q) (sym h) (sym f) ∙ e in cc
 
 -- what a checked text consists of
@@ -131,7 +131,7 @@ kept_is text local host p =
     record {
       is = record {
         checks = checked all local (lower host) kept;
-        kept = ap (λ (q : Option (Text × Text)). before_at q ++ 64 ∷ lower (behind_at q)) cut ∙ ap (λ h. local ++ 64 ∷ h) (lower_again host);
+        kept = ap (λ (q : Option (Text × Text)). before_at q ++ 64 ∷ lower (past_at q)) cut ∙ ap (λ h. local ++ 64 ∷ h) (lower_again host);
       };
       within = omega (arith, length-append local (64 ∷ lower host));
       parts = cut ∙ ap₂ (λ l h. Some (l, h)) (sym (take_at local (64 ∷ lower host) (length local) refl))
@@ -140,7 +140,7 @@ kept_is text local host p =
 
 spelled : (text local host : Text) → Parted text local host → address_of text ≡ Some (local ++ 64 ∷ lower host)
 spelled text local host p =
-    ap (λ r. cond (is_ok r) (Some (as_address text)) None) (checked text local host p) ∙ ap (λ (q : Option (Text × Text)). Some (before_at q ++ 64 ∷ lower (behind_at q))) (p.cut)
+    ap (λ r. cond (is_ok r) (Some (as_address text)) None) (checked text local host p) ∙ ap (λ (q : Option (Text × Text)). Some (before_at q ++ 64 ∷ lower (past_at q))) (p.cut)
 
 -- the text up to its last `@`, and the rest in lower case, is the spelling that is kept
 pub kept_text : (text local host front out : Text) → address_check text ≡ Ok tt → Some (local, host) ≡ split_last 64 text → front ≡ take (length local + 1) text → out ≡ front ++ lower host
@@ -219,7 +219,7 @@ address_parts address a =
     let host = p.1 in
     let whole = cut_whole address local host (p.2).cut in
     let first : local_of address ≡ local = ap before_at (p.2).cut in
-    let last : host_of address ≡ host = ap behind_at (p.2).cut in
+    let last : host_of address ≡ host = ap past_at (p.2).cut in
     let same : local ++ 64 ∷ lower host ≡ local ++ 64 ∷ host = sym (ap₂ (λ l h. l ++ 64 ∷ lower h) first last) ∙ a.kept ∙ whole in
     let rests : 64 ∷ lower host ≡ 64 ∷ host = append_cancel_left local (64 ∷ lower host) (64 ∷ host) same in
     let lowered : lower host ≡ host = cc in
@@ -245,7 +245,7 @@ address_key address a =
     let k = key_parts address p.0 p.1 p.2 in
     record {
       checks = checked (lower address) (lower p.0) (lower p.1) k;
-      kept = ap (λ (q : Option (Text × Text)). before_at q ++ 64 ∷ lower (behind_at q)) k.cut ∙ ap (λ h. lower p.0 ++ 64 ∷ h) (lower_again p.1) ∙ sym (cut_whole (lower address) (lower p.0) (lower p.1) k.cut);
+      kept = ap (λ (q : Option (Text × Text)). before_at q ++ 64 ∷ lower (past_at q)) k.cut ∙ ap (λ h. lower p.0 ++ 64 ∷ h) (lower_again p.1) ∙ sym (cut_whole (lower address) (lower p.0) (lower p.1) k.cut);
     }
 
 -- no byte of an address is zero

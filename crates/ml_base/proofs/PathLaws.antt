@@ -7,7 +7,7 @@ use Rattle.std.proofs.lemmas.Bool.{eqb-true, eqb-false, leb-true}
 use Rattle.std.proofs.lemmas.Bool.Decides.{nat_tests}
 use Rattle.std.proofs.lemmas.Fmt.{decimal_injective}
 use Rattle.std.proofs.lemmas.List.{append_cancel_left}
-use Rattle.ml_base.specs.Address.{before_at, behind_at}
+use Rattle.ml_base.specs.Address.{before_at, past_at}
 use Rattle.ml_base.specs.Bytes.{Text}
 use Rattle.ml_base.specs.Name.{is_in_table, first_place, last_place, path_of, folder_of, leaf_of, two_digits, count_word}
 use Rattle.ml_base.specs.Splits.{has_byte, split_first}
@@ -88,7 +88,7 @@ two a b = Some (a, b)
 numbers : (x y : ℕ) (v w : Text) → x < 2 ^ 64 → y < 2 ^ 64 → decimal x ++ 47 ∷ v ≡ decimal y ++ 47 ∷ w → (x ≡ y) × (v ≡ w)
 numbers x y v w p q e =
     let both : two (decimal x) v ≡ two (decimal y) w = sym (cut x v p) ∙ ap (split_first 47) e ∙ cut y w q in
-    (decimal_injective x y p q (ap before_at both), ap behind_at both)
+    (decimal_injective x y p q (ap before_at both), ap past_at both)
 
 bucket : (x y : ℕ) → (64 + x) ∷ [] ≡ (64 + y) ∷ [] → x ≡ y
 bucket x y e = let first = ap (λ t. get_or t 0 0) e in omega (arith, first)

@@ -45,15 +45,15 @@ before_at None = []
 before_at (Some parts) = parts.0
 
 -- the part after the last `@`
-abbrev pub behind_at : Option (Text × Text) → Text
-behind_at None = []
-behind_at (Some parts) = parts.1
+abbrev pub past_at : Option (Text × Text) → Text
+past_at None = []
+past_at (Some parts) = parts.1
 
 abbrev pub local_of : Text → Text
 local_of address = before_at (split_last at_sign address)
 
 abbrev pub host_of : Text → Text
-host_of address = behind_at (split_last at_sign address)
+host_of address = past_at (split_last at_sign address)
 
 -- the spelling that is kept: the host in lower case
 abbrev pub as_address : Text → Text

@@ -21,7 +21,7 @@ pub enum AddressFault {
     TooLong,
     #[error("no `@`")]
     NoAt,
-    #[error("nothing before or behind the last `@`")]
+    #[error("nothing before or after the last `@`")]
     EmptyPart,
     #[error("a byte that no address has")]
     BadByte,

@@ -82,11 +82,11 @@ pub fn law_sorted_by_number<E>()
 /// A text that is split at a byte is its two parts with the byte between them. The first part, or the last, doesn't have the byte. What is
 /// put together like this is split there again, and a text without the byte isn't split.
 pub fn law_splits()
-    ensures first_read { (byte : ℕ) (text before behind : Text) → split_first byte text ≡ Some (before, behind) → (text ≡ before ++ byte ∷ behind) × (has_byte byte before ≡ false) }
-    ensures first_written { (byte : ℕ) (before behind : Text) → has_byte byte before ≡ false → split_first byte (before ++ byte ∷ behind) ≡ Some (before, behind) }
+    ensures first_read { (byte : ℕ) (text before after : Text) → split_first byte text ≡ Some (before, after) → (text ≡ before ++ byte ∷ after) × (has_byte byte before ≡ false) }
+    ensures first_written { (byte : ℕ) (before after : Text) → has_byte byte before ≡ false → split_first byte (before ++ byte ∷ after) ≡ Some (before, after) }
     ensures first_absent { (byte : ℕ) (text : Text) → has_byte byte text ≡ false → split_first byte text ≡ None }
-    ensures last_read { (byte : ℕ) (text before behind : Text) → split_last byte text ≡ Some (before, behind) → (text ≡ before ++ byte ∷ behind) × (has_byte byte behind ≡ false) }
-    ensures last_written { (byte : ℕ) (before behind : Text) → has_byte byte behind ≡ false → split_last byte (before ++ byte ∷ behind) ≡ Some (before, behind) }
+    ensures last_read { (byte : ℕ) (text before after : Text) → split_last byte text ≡ Some (before, after) → (text ≡ before ++ byte ∷ after) × (has_byte byte after ≡ false) }
+    ensures last_written { (byte : ℕ) (before after : Text) → has_byte byte after ≡ false → split_last byte (before ++ byte ∷ after) ≡ Some (before, after) }
     ensures last_absent { (byte : ℕ) (text : Text) → has_byte byte text ≡ false → split_last byte text ≡ None }
 {}
 

@@ -12,7 +12,7 @@ pub fn is_own(local: &[u8], host: &[u8], recipient: &[u8]) -> bool
 {
     match split_last(b'@', recipient) {
         None => false,
-        Some((before, behind)) => is_alike(host, behind) && is_own_local(local, before),
+        Some((before, after)) => is_alike(host, after) && is_own_local(local, before),
     }
 }
 

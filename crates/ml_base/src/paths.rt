@@ -45,7 +45,7 @@ fn put_path(name: Name, out: &mut [u8; 48]) -> usize
 fn put_post(out: &mut [u8; 48], at: usize, post: u64) -> usize
     requires { at ≤ 20 }
     ensures place { result ≤ at + 23 }
-    ensures behind { at ≤ result }
+    ensures after { at ≤ result }
     ensures text { take result out.new ≡ take at out.old ++ leaf_of 9 post }
     ensures rest { drop result out.new ≡ drop result out.old }
 {

@@ -261,15 +261,15 @@ content_written n e is =
 pub content_read : (n : ℕ) (text : Text) (e : LedgerEntry) → entry_of_content n text ≡ Some e → IsEntry n e × (text ≡ content_text e)
 content_read n text e h = go (netstrings_at 4 text) refl
   where
-    behind : (texts : List Text) (rest : Text) → netstrings_at 4 text ≡ Some (texts, rest) → ended n (texts, rest) ≡ Some e → IsEntry n e × (text ≡ content_text e)
-    behind texts (b ∷ bs) found is = absurd (none_some e is)
-    behind texts [] found is =
+    after : (texts : List Text) (rest : Text) → netstrings_at 4 text ≡ Some (texts, rest) → ended n (texts, rest) ≡ Some e → IsEntry n e × (text ≡ content_text e)
+    after texts (b ∷ bs) found is = absurd (none_some e is)
+    after texts [] found is =
         let entry = fields_read n texts e is in
         (entry.0, (netstrings_read 4 text texts [] found).2 ∙ ap (λ ts. ns_row ts ++ []) entry.1 ∙ sym (content_row e))
 
     go : (o : Option (List Text × Text)) → netstrings_at 4 text ≡ o → IsEntry n e × (text ≡ content_text e)
     go None found = absurd (none_some e (sym (ap (option_and_then (ended n)) found) ∙ h))
-    go (Some p) found = behind p.0 p.1 found (sym (ap (option_and_then (ended n)) found) ∙ h)
+    go (Some p) found = after p.0 p.1 found (sym (ap (option_and_then (ended n)) found) ∙ h)
 
 -- an entry at the beginning of a text
 abbrev with_rest : ℕ → Text × Text → Option (LedgerEntry × Text)
@@ -285,8 +285,8 @@ entry_written n place e rest is =
 pub entry_read : (n place : ℕ) (text : Text) (e : LedgerEntry) (rest : Text) → entry_at n place text ≡ Some (e, rest) → IsEntry n e × (text ≡ entry_text e ++ rest)
 entry_read n place text e rest h = go (netstring_at text) refl
   where
-    behind : (x after : Text) → netstring_at text ≡ Some (x, after) → with_rest n (x, after) ≡ Some (e, rest) → IsEntry n e × (text ≡ entry_text e ++ rest)
-    behind x after found is =
+    beyond : (x after : Text) → netstring_at text ≡ Some (x, after) → with_rest n (x, after) ≡ Some (e, rest) → IsEntry n e × (text ≡ entry_text e ++ rest)
+    beyond x after found is =
         let made = made_read (λ e. found_entry e after) (entry_of_content n x) (e, rest) is in
         let entry = content_read n x made.0 made.1 in
         let whole = (netstring_read text x after found).1 in
@@ -295,7 +295,7 @@ entry_read n place text e rest h = go (netstring_at text) refl
 
     go : (o : Option (Text × Text)) → netstring_at text ≡ o → IsEntry n e × (text ≡ entry_text e ++ rest)
     go None found = absurd (none_some (found_entry e rest) (sym (ap (option_and_then (with_rest n)) found) ∙ h))
-    go (Some p) found = behind p.0 p.1 found (sym (ap (option_and_then (with_rest n)) found) ∙ h)
+    go (Some p) found = beyond p.0 p.1 found (sym (ap (option_and_then (with_rest n)) found) ∙ h)
 
 pub entry_some : (e : LedgerEntry) → 0 < length (entry_text e)
 entry_some e = omega (arith, length-append (decimal (length (content_text e)) ++ (58 ∷ content_text e)) (44 ∷ []))

@@ -78,8 +78,8 @@ pub find_here : (r : Bool) (k a : Text) (rest more : Ledger) (e : LedgerEntry) �
 find_here r k a rest more e is test own h =
     ap (find_entry k) is ∙ ap (λ t. cond t (Some e) (find_entry k more)) (same_key k e.key ∙ ap (bytes_eq k) (sym own) ∙ sym test ∙ h)
 
-pub find_behind : (r : Bool) (k a : Text) (rest more : Ledger) (e : LedgerEntry) → rest ≡ e ∷ more → r ≡ bytes_eq k a → a ≡ e.key → r ≡ false → find_entry k rest ≡ find_entry k more
-find_behind r k a rest more e is test own h =
+pub find_after : (r : Bool) (k a : Text) (rest more : Ledger) (e : LedgerEntry) → rest ≡ e ∷ more → r ≡ bytes_eq k a → a ≡ e.key → r ≡ false → find_entry k rest ≡ find_entry k more
+find_after r k a rest more e is test own h =
     ap (find_entry k) is ∙ ap (λ t. cond t (Some e) (find_entry k more)) (same_key k e.key ∙ ap (bytes_eq k) (sym own) ∙ sym test ∙ h)
 
 -- a file that is read spells its entries, and one that isn't read spells none

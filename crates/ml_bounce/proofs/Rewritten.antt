@@ -15,7 +15,7 @@ use Rattle.ml_base.proofs.BelowLemmas.{less}
 use Rattle.ml_base.proofs.SortedLaws.{bytes_total, same_bytes}
 use Rattle.ml_bounce.specs.Files.{entry_text, ledger_file}
 use Rattle.ml_bounce.specs.Ledger.{Ledger, LedgerEntry, with_ledger, forget}
-use Rattle.ml_bounce.specs.Reading.{is_from, behind_key}
+use Rattle.ml_bounce.specs.Reading.{is_from, past_key}
 use Rattle.ml_bounce.proofs.Changed.{same_key}
 use Rattle.ml_bounce.proofs.Exact.{entry_some}
 
@@ -27,7 +27,7 @@ not_lt : (a b : Text) → bytes_eq b a ≡ true → byte_cmp a b ≡ Equal
 not_lt a b e = ap (byte_cmp a) ((bytes_eq-Decides b a).0 e) ∙ tied_itself bytes_total a
 
 -- and before the others, in place of the one with its key
-pub with_from : (e : LedgerEntry) (es : Ledger) → is_from e.key es ≡ true → with_ledger e es ≡ e ∷ behind_key e.key es
+pub with_from : (e : LedgerEntry) (es : Ledger) → is_from e.key es ≡ true → with_ledger e es ≡ e ∷ past_key e.key es
 with_from e [] from = refl
 with_from e (f ∷ fs) from = go (byte_cmp e.key f.key) refl (bytes_eq f.key e.key) refl
   where
@@ -53,7 +53,7 @@ with_turn out new e f rest more whole is lt made before =
     ∙ ap (λ es. out ++ texts es) (sym (with_below e f more lt) ∙ ap (with_ledger e) (sym is)) ∙ before
 
 -- the end: the entry and those after it were written
-pub with_end : (out front all : Text) (e : LedgerEntry) (rest tail whole : Ledger) → is_from e.key rest ≡ true → tail ≡ behind_key e.key rest → front ≡ out ++ entry_text e → all ≡ front ++ flat_map entry_text tail
+pub with_end : (out front all : Text) (e : LedgerEntry) (rest tail whole : Ledger) → is_from e.key rest ≡ true → tail ≡ past_key e.key rest → front ≡ out ++ entry_text e → all ≡ front ++ flat_map entry_text tail
     → out ++ flat_map entry_text (with_ledger e rest) ≡ flat_map entry_text (with_ledger e whole) → Some all ≡ ledger_file (with_ledger e whole)
 with_end out front all e rest tail whole from is first then before =
     let text : all ≡ texts (with_ledger e whole) =

@@ -64,6 +64,6 @@ is_from k [] = true
 is_from k (e ∷ es) = not (is_lt (byte_cmp e.key k))
 
 -- the entries without the first, if that has this key
-abbrev pub behind_key : Text → Ledger → Ledger
-behind_key k [] = []
-behind_key k (e ∷ es) = if bytes_eq e.key k then es else e ∷ es
+abbrev pub past_key : Text → Ledger → Ledger
+past_key k [] = []
+past_key k (e ∷ es) = if bytes_eq e.key k then es else e ∷ es

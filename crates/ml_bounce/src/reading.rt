@@ -79,8 +79,8 @@ fn texts_of(text: &[u8]) -> Option<Texts<'_>>
     ensures some { IfSome result (λ t. netstrings_at 4 text.now ≡ Some (t.key.now ∷ t.first.now ∷ t.stage.now ∷ t.missed.now ∷ [], [])) }
     ensures none { IfNone result ((n : ℕ) → entry_of_content n text.now ≡ None) }
 {
-    let (key, behind) = split_netstring(text)?;
-    let (first, later) = split_netstring(behind)?;
+    let (key, after) = split_netstring(text)?;
+    let (first, later) = split_netstring(after)?;
     let (stage, last) = split_netstring(later)?;
     let (missed, end) = split_netstring(last)?;
     if !end.is_empty() {

@@ -7,7 +7,7 @@ ghost use Rattle.ml_base.specs.Sorted.{byte_cmp};
 ghost use Rattle.ml_rows.specs.Values.{comma_text};
 ghost use Rattle.ml_bounce.specs.Files.{stage_text, content_text, entry_text, ledger_file};
 ghost use Rattle.ml_bounce.specs.Ledger.{with_ledger, forget};
-ghost use Rattle.ml_bounce.specs.Reading.{is_from, behind_key};
+ghost use Rattle.ml_bounce.specs.Reading.{is_from, past_key};
 
 use crate::reading::is_before;
 use crate::{LedgerEntry, Stage};
@@ -93,8 +93,8 @@ fn next_below<'a>(
 }
 
 // The entries without the first, if that has this key.
-fn behind<'a>(entries: &'a [LedgerEntry], key: &[u8]) -> &'a [LedgerEntry]
-    ensures { result.now ≡ behind_key key.now entries.now }
+fn after<'a>(entries: &'a [LedgerEntry], key: &[u8]) -> &'a [LedgerEntry]
+    ensures { result.now ≡ past_key key.now entries.now }
 {
     let [first, more @ ..] = entries else {
         return entries;
@@ -122,7 +122,7 @@ pub(crate) fn file_with(
         rest = more;
     }
     push_entry(alloc, &mut out, entry)?;
-    push_entries(alloc, &mut out, behind(rest, key))?;
+    push_entries(alloc, &mut out, after(rest, key))?;
     Ok(out)
 }
 

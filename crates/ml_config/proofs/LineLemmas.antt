@@ -10,14 +10,14 @@ use Rattle.ml_base.specs.Bytes.{Text}
 use Rattle.ml_base.specs.Splits.{has_byte, split_first}
 use Rattle.ml_base.proofs.SplitLaws.{first_read, first_written}
 use Rattle.ml_config.specs.ConfigFile.{Values, line, values_text}
-use Rattle.ml_config.specs.Reading.{behind, lines_of, value_at}
+use Rattle.ml_config.specs.Reading.{after, lines_of, value_at}
 use Rattle.ml_config.proofs.Small.{bound, tested}
 use Rattle.ml_config.proofs.Clean.{AreLines}
 
 pub value_read : (name text value rest : Text) → value_at name text ≡ Some (value, rest) → text ≡ line name value ++ rest
 unfolding value_at
 value_read name text value rest e =
-    let found = bound (behind name text) (split_first 10) (value, rest) e in
+    let found = bound (after name text) (split_first 10) (value, rest) e in
     let cut = tested (bytes_eq (take (length name) text) name) (drop (length name) text) found.0 found.1 in
     let front : take (length name) text ≡ name = (bytes_eq-Decides _ _).0 cut.0 in
     let back : drop (length name) text ≡ value ++ 10 ∷ rest = cut.1 ∙ (first_read 10 found.0 value rest found.2).0 in
@@ -28,7 +28,7 @@ unfolding value_at
 value_written name value rest clean =
     let whole : line name value ++ rest ≡ name ++ (value ++ 10 ∷ rest) = simp append_assoc in
     let front : bytes_eq (take (length name) (name ++ (value ++ 10 ∷ rest))) name ≡ true = (bytes_eq-Decides _ _).1 (take-append_seam name _) in
-    ap (λ t. option_and_then (split_first 10) (behind name t)) whole
+    ap (λ t. option_and_then (split_first 10) (after name t)) whole
     ∙ ap₂ (λ t u. option_and_then (split_first 10) (cond t (Some u) None)) front (drop-append_seam name (value ++ 10 ∷ rest))
     ∙ first_written 10 value rest clean
 

@@ -5,7 +5,7 @@ use Rattle.std.proofs.lemmas.Bool.Decides.{nat_tests}
 use Rattle.std.proofs.Common.{arith}
 use Rattle.std.specs.List.{list_all}
 use Rattle.ml_base.specs.Bytes.{Text, is_empty, lower, split_last}
-use Rattle.ml_base.specs.Address.{IsAddress, address_check, address_of, as_address, check_bytes, check_parts, behind_at, before_at, host_of, is_host_byte, is_local_byte}
+use Rattle.ml_base.specs.Address.{IsAddress, address_check, address_of, as_address, check_bytes, check_parts, past_at, before_at, host_of, is_host_byte, is_local_byte}
 use Rattle.ml_base.specs.Splits.{has_byte}
 use Rattle.ml_base.specs.declared.address.AddressFault.{AddressFault}
 use Rattle.ml_base.specs.declared.address.AddressFault.TheVariants.{TooLong, NoAt, EmptyPart, BadByte}
@@ -101,12 +101,12 @@ pub list_kept : (local host : Text) → address_check (local ++ 64 ∷ host) ≡
 list_kept local host e =
     let text = local ++ 64 ∷ host in
     let cut = cut_there local host e in
-    let kept : as_address text ≡ local ++ 64 ∷ lower host = ap (λ (o : Option (Text × Text)). before_at o ++ 64 ∷ lower (behind_at o)) cut in
+    let kept : as_address text ≡ local ++ 64 ∷ lower host = ap (λ (o : Option (Text × Text)). before_at o ++ 64 ∷ lower (past_at o)) cut in
     let found : address_of text ≡ Some (as_address text) = ap (λ (r : Checked). cond (is_ok r) (Some (as_address text)) None) e in
     subst IsAddress kept (address_read text (as_address text) found)
 
 -- if it is one as it is kept, its host is in lower case
 pub host_lower : (local host : Text) → IsAddress (local ++ 64 ∷ host) → lower host ≡ host
 host_lower local host is =
-    let host_is : host_of (local ++ 64 ∷ host) ≡ host = ap behind_at (cut_there local host is.checks) in
+    let host_is : host_of (local ++ 64 ∷ host) ≡ host = ap past_at (cut_there local host is.checks) in
     ap lower (sym host_is) ∙ (address_parts (local ++ 64 ∷ host) is).1 ∙ host_is

@@ -13,12 +13,12 @@ abbrev pub ◌>>=◌ : {A B : Type 0} → Option A → (A → Option B) → Opti
 o >>= f = option_and_then f o
 
 -- the text after a name, if it begins with that name
-abbrev pub behind : Text → Text → Option Text
-behind name text = if bytes_eq (take (length name) text) name then Some (drop (length name) text) else None
+abbrev pub after : Text → Text → Option Text
+after name text = if bytes_eq (take (length name) text) name then Some (drop (length name) text) else None
 
 -- the value of the line that a text begins with, if the line has this name, and the text after its LF
 unfoldable pub value_at : Text → Text → Option (Text × Text)
-value_at name text = option_and_then (split_first line_feed) (behind name text)
+value_at name text = option_and_then (split_first line_feed) (after name text)
 
 -- the six values, if no text is left after them
 abbrev pub with_end : Values → Text → Option Values

@@ -176,14 +176,14 @@ module _ (c : Config) (issue first : ℕ) (posts : List DigestPost) (date : Text
   messages_text [] = refl
   messages_text (p ∷ ps) = ap₂ (λ (t : Text) (ts : List Text). t ∷ ts) (message_set p.bytes).whole (messages_text ps)
 
-  abbrev behind : List Text
-  behind = [] ∷ message_rule ∷ [] ∷ []
+  abbrev after : List Text
+  after = [] ∷ message_rule ∷ [] ∷ []
 
   rules_text : (ps : List DigestPost) → lines_text (flat_map message_lines (map (λ (p : DigestPost). (message_set p.bytes).rows) ps)) ≡ flat_map with_rule ps
   rules_text [] = refl
   rules_text (p ∷ ps) =
       lines_both (message_lines (message_set p.bytes).rows) (flat_map message_lines (map (λ (p : DigestPost). (message_set p.bytes).rows) ps))
-      ∙ ap₂ (λ (a b : Text). a ++ b) (lines_both (message_set p.bytes).rows behind ∙ ap (λ t. t ++ lines_text behind) (sym (message_set p.bytes).whole)) (rules_text ps)
+      ∙ ap₂ (λ (a b : Text). a ++ b) (lines_both (message_set p.bytes).rows after ∙ ap (λ t. t ++ lines_text after) (sym (message_set p.bytes).whole)) (rules_text ps)
 
   abbrev last_lines : List Text
   last_lines = end_line c.local issue ∷ asterisks c.local issue ∷ []

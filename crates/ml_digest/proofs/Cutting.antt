@@ -4,7 +4,7 @@ use Rattle.std.specs.List.{AllByRecursion}
 use Rattle.std.specs.Str.{bytes_eq}
 use Rattle.std.proofs.lemmas.List.{take_at}
 use Rattle.std.proofs.lemmas.Slice.Eq.{bytes_eq-Decides}
-use Rattle.ml_base.specs.Address.{before_at, behind_at}
+use Rattle.ml_base.specs.Address.{before_at, past_at}
 use Rattle.ml_base.specs.Bytes.{Text}
 use Rattle.ml_base.specs.Splits.{has_byte, split_first, onto_first}
 use Rattle.ml_base.specs.Texts.{lf, lines_text}
@@ -23,7 +23,7 @@ no_two = None
 pub line_one : (x y a b : Text) → IsLine x → IsLine y → x ++ 10 ∷ a ≡ y ++ 10 ∷ b → (x ≡ y) × (a ≡ b)
 line_one x y a b p q e =
     let both : two x a ≡ two y b = sym (first_written 10 x a p) ∙ ap (split_first 10) e ∙ first_written 10 y b q in
-    (ap before_at both, ap behind_at both)
+    (ap before_at both, ap past_at both)
 
 pub lines_cons : (x : Text) (xs : List Text) (t : Text) → lines_text (x ∷ xs) ++ t ≡ x ++ 10 ∷ (lines_text xs ++ t)
 lines_cons x xs t = append_assoc (x ++ lf) (lines_text xs) t ∙ append_assoc x lf (lines_text xs ++ t)
@@ -42,19 +42,19 @@ all_right P [] ys all = all
 all_right P (x ∷ xs) ys all = all_right P xs ys all.1
 
 -- lines that were passed come before the line that is wanted
-pub record Onward (xs ys : List Text) (rest wanted behind : Text) : Type 0 where
+pub record Onward (xs ys : List Text) (rest wanted after : Text) : Type 0 where
   pub more : List Text
   pub all : ys ≡ xs ++ more
-  pub left : rest ≡ lines_text more ++ (wanted ++ 10 ∷ behind)
+  pub left : rest ≡ lines_text more ++ (wanted ++ 10 ∷ after)
 
-pub onward : (wanted : Text) (xs ys : List Text) (rest behind : Text) → IsLine wanted → AllByRecursion IsLine xs → AllByRecursion IsLine ys → HaveNo wanted xs
-    → lines_text xs ++ rest ≡ lines_text ys ++ (wanted ++ 10 ∷ behind) → Onward xs ys rest wanted behind
-onward wanted [] ys rest behind w a b none e = record { more = ys; all = refl; left = e }
-onward wanted (x ∷ xs) [] rest behind w a b none e =
-    absurd (none.0 (line_one x wanted (lines_text xs ++ rest) behind a.0 w (sym (lines_cons x xs rest) ∙ e)).0)
-onward wanted (x ∷ xs) (y ∷ ys) rest behind w a b none e =
-    let parts = line_one x y (lines_text xs ++ rest) (lines_text ys ++ (wanted ++ 10 ∷ behind)) a.0 b.0 (sym (lines_cons x xs rest) ∙ e ∙ lines_cons y ys (wanted ++ 10 ∷ behind)) in
-    let on = onward wanted xs ys rest behind w a.1 b.1 none.1 parts.1 in
+pub onward : (wanted : Text) (xs ys : List Text) (rest after : Text) → IsLine wanted → AllByRecursion IsLine xs → AllByRecursion IsLine ys → HaveNo wanted xs
+    → lines_text xs ++ rest ≡ lines_text ys ++ (wanted ++ 10 ∷ after) → Onward xs ys rest wanted after
+onward wanted [] ys rest after w a b none e = record { more = ys; all = refl; left = e }
+onward wanted (x ∷ xs) [] rest after w a b none e =
+    absurd (none.0 (line_one x wanted (lines_text xs ++ rest) after a.0 w (sym (lines_cons x xs rest) ∙ e)).0)
+onward wanted (x ∷ xs) (y ∷ ys) rest after w a b none e =
+    let parts = line_one x y (lines_text xs ++ rest) (lines_text ys ++ (wanted ++ 10 ∷ after)) a.0 b.0 (sym (lines_cons x xs rest) ∙ e ∙ lines_cons y ys (wanted ++ 10 ∷ after)) in
+    let on = onward wanted xs ys rest after w a.1 b.1 none.1 parts.1 in
     record { more = on.more; all = ap₂ (λ (t : Text) (ts : List Text). t ∷ ts) (sym parts.0) on.all; left = on.left }
 
 -- two cuts at the same line are the same
@@ -77,9 +77,9 @@ lf_in (x ∷ xs) b = ap (λ t. (x == 10) || t) (lf_in xs b) ∙ or_true (x == 10
     or_true true = refl
     or_true false = refl
 
-pub lf_behind : (xs : List Text) (v b : Text) → has_byte 10 (lines_text xs ++ (v ++ 10 ∷ b)) ≡ true
-lf_behind [] v b = lf_in v b
-lf_behind (x ∷ xs) v b = ap (has_byte 10) (lines_cons x xs (v ++ 10 ∷ b)) ∙ lf_in x (lines_text xs ++ (v ++ 10 ∷ b))
+pub lf_after : (xs : List Text) (v b : Text) → has_byte 10 (lines_text xs ++ (v ++ 10 ∷ b)) ≡ true
+lf_after [] v b = lf_in v b
+lf_after (x ∷ xs) v b = ap (has_byte 10) (lines_cons x xs (v ++ 10 ∷ b)) ∙ lf_in x (lines_text xs ++ (v ++ 10 ∷ b))
 
 -- one more line was passed
 pub passed_more : (wanted barred text rest line more : Text) → IsPassed wanted barred text rest → Some (line, more) ≡ split_first 10 rest → line ≢ wanted → line ≢ barred → IsPassed wanted barred text more
@@ -95,17 +95,17 @@ passed_more wanted barred text rest line more was cut other also =
 
 -- the barred line comes first
 pub barred_first : (wanted barred text rest line more : Text) → IsLine wanted → IsPassed wanted barred text rest → Some (line, more) ≡ split_first 10 rest → line ≢ wanted → line ≡ barred → HasNoCut wanted barred text
-barred_first wanted barred text rest line more w was cut other same before behind is =
-    let on = onward wanted was.rows is.rows rest behind w was.each is.each was.none_wanted (sym was.whole ∙ is.whole) in
+barred_first wanted barred text rest line more w was cut other same before after is =
+    let on = onward wanted was.rows is.rows rest after w was.each is.each was.none_wanted (sym was.whole ∙ is.whole) in
     let parts = first_read 10 rest line more (sym cut) in
     go on.more on.all (sym parts.0 ∙ on.left) parts.1
   where
-    go : (zs : List Text) → is.rows ≡ was.rows ++ zs → line ++ 10 ∷ more ≡ lines_text zs ++ (wanted ++ 10 ∷ behind) → IsLine line → ⊥
-    go [] all left is_line = other (line_one line wanted more behind is_line w left).0
+    go : (zs : List Text) → is.rows ≡ was.rows ++ zs → line ++ 10 ∷ more ≡ lines_text zs ++ (wanted ++ 10 ∷ after) → IsLine line → ⊥
+    go [] all left is_line = other (line_one line wanted more after is_line w left).0
     go (z ∷ zs) all left is_line =
         let each : AllByRecursion IsLine (z ∷ zs) = all_right IsLine was.rows (z ∷ zs) (subst (λ rows. AllByRecursion IsLine rows) all is.each) in
         let none : HaveNo barred (z ∷ zs) = all_right (λ l. l ≢ barred) was.rows (z ∷ zs) (subst (λ rows. HaveNo barred rows) all is.none_barred) in
-        none.0 (sym (line_one line z more (lines_text zs ++ (wanted ++ 10 ∷ behind)) is_line each.0 (left ∙ lines_cons z zs (wanted ++ 10 ∷ behind))).0 ∙ same)
+        none.0 (sym (line_one line z more (lines_text zs ++ (wanted ++ 10 ∷ after)) is_line each.0 (left ∙ lines_cons z zs (wanted ++ 10 ∷ after))).0 ∙ same)
 
 -- the wanted line is here
 pub cut_here : (wanted barred text rest line more : Text) → IsPassed wanted barred text rest → Some (line, more) ≡ split_first 10 rest → line ≡ wanted
@@ -150,9 +150,9 @@ not_same a b t e is = go (bytes_eq a b) refl
 
 -- no line is left
 pub no_lines_left : (wanted barred text rest : Text) → IsLine wanted → IsPassed wanted barred text rest → has_byte 10 rest ≡ false → HasNoCut wanted barred text
-no_lines_left wanted barred text rest w was none before behind is =
-    let on = onward wanted was.rows is.rows rest behind w was.each is.each was.none_wanted (sym was.whole ∙ is.whole) in
-    let bad : true ≡ false = sym (lf_behind on.more wanted behind) ∙ ap (has_byte 10) (sym on.left) ∙ none in
+no_lines_left wanted barred text rest w was none before after is =
+    let on = onward wanted was.rows is.rows rest after w was.each is.each was.none_wanted (sym was.whole ∙ is.whole) in
+    let bad : true ≡ false = sym (lf_after on.more wanted after) ∙ ap (has_byte 10) (sym on.left) ∙ none in
     cc
 
 -- two cuts of a text are the same

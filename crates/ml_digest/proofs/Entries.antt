@@ -12,7 +12,7 @@ use Rattle.ml_header.specs.Lines.{begins_with}
 use Rattle.ml_digest.specs.Burst.{IsLine, HaveNo, IsMessage, message_lines}
 use Rattle.ml_digest.specs.Digest.{message_rule}
 use Rattle.ml_digest.specs.Reading.{IsCut, HasNoCut, IsEnded, HasEmptyEnd, IsEntry, AreEntries, AreRead, last_of}
-use Rattle.ml_digest.proofs.Laid.{all_both, lines_both, last_behind, ended_line, at_middle}
+use Rattle.ml_digest.proofs.Laid.{all_both, lines_both, last_after, ended_line, at_middle}
 use Rattle.ml_digest.proofs.Cutting.{lines_cons, cut_one, cuts_one, all_left, all_right}
 use Rattle.ml_digest.proofs.Told.{Ending, ending}
 
@@ -51,7 +51,7 @@ empty_end rows front each is = go (ending rows (some rows is.whole)) refl
             append_assoc (lines_text before) (x ∷ xs) lf ∙ ap (λ t. lines_text before ++ t) (sym (append-nil ((x ∷ xs) ++ lf))) ∙ sym (lines_both before ((x ∷ xs) ∷ [])) ∙ ap lines_text (sym all) ∙ is.whole in
             let same : lines_text before ++ (x ∷ xs) ≡ front = append_cancel_right (lines_text before ++ (x ∷ xs)) front lf text in
             let longer : with_last_line_end front ≡ lines_text before ++ ((x ∷ xs) ++ lf) =
-            ap with_last_line_end (sym same) ∙ last_behind (lines_text before) (x ∷ xs) (omega arith) ∙ ap (λ t. lines_text before ++ t) (ended_line x xs line) in
+            ap with_last_line_end (sym same) ∙ last_after (lines_text before) (x ∷ xs) (omega arith) ∙ ap (λ t. lines_text before ++ t) (ended_line x xs line) in
             let bad : lines_text before ++ ((x ∷ xs) ++ lf) ≡ lines_text before ++ (x ∷ xs) = sym longer ∙ is.ended ∙ sym same in
             absurd (let n = ap length (append_cancel_left (lines_text before) ((x ∷ xs) ++ lf) (x ∷ xs) bad) in omega (arith, n, length-append (x ∷ xs) lf))
 
@@ -134,18 +134,18 @@ NoEntry text = (message rest : Text) → ¬ IsEntry text message rest
 pub no_fields : (text : Text) → HasNoCut [] message_rule text → NoEntry text
 no_fields text none message rest is = let cuts = cuts_of text rest is.rows is.is is.whole in none _ _ cuts.first
 
-module _ (text fields behind : Text) (first : IsCut [] message_rule text fields behind) where
-  second_of : (rest : Text) (m : List Text) (cuts : Cuts text rest m) → IsCut message_rule message_rule behind (lines_text ((cuts.at).rest ++ [] ∷ [])) (10 ∷ rest)
+module _ (text fields after : Text) (first : IsCut [] message_rule text fields after) where
+  second_of : (rest : Text) (m : List Text) (cuts : Cuts text rest m) → IsCut message_rule message_rule after (lines_text ((cuts.at).rest ++ [] ∷ [])) (10 ∷ rest)
   second_of rest m cuts =
       subst (λ (t : Text). IsCut message_rule message_rule t (lines_text ((cuts.at).rest ++ [] ∷ [])) (10 ∷ rest))
-      (sym (cuts_one [] message_rule text fields behind (lines_text (cuts.at).fields) (lines_text ((cuts.at).rest ++ [] ∷ []) ++ (message_rule ++ 10 ∷ 10 ∷ rest)) refl first cuts.first).1) cuts.second
+      (sym (cuts_one [] message_rule text fields after (lines_text (cuts.at).fields) (lines_text ((cuts.at).rest ++ [] ∷ []) ++ (message_rule ++ 10 ∷ 10 ∷ rest)) refl first cuts.first).1) cuts.second
 
-  pub no_body : HasNoCut message_rule message_rule behind → NoEntry text
+  pub no_body : HasNoCut message_rule message_rule after → NoEntry text
   no_body none message rest is = let cuts = cuts_of text rest is.rows is.is is.whole in none _ _ (second_of rest is.rows cuts)
 
-  module _ (body behind_rule : Text) (second : IsCut message_rule message_rule behind body behind_rule) where
-    told : (rest : Text) (m : List Text) (cuts : Cuts text rest m) → (body ≡ lines_text ((cuts.at).rest ++ [] ∷ [])) × (behind_rule ≡ 10 ∷ rest)
-    told rest m cuts = cuts_one message_rule message_rule behind body behind_rule (lines_text ((cuts.at).rest ++ [] ∷ [])) (10 ∷ rest) refl second (second_of rest m cuts)
+  module _ (body after_rule : Text) (second : IsCut message_rule message_rule after body after_rule) where
+    told : (rest : Text) (m : List Text) (cuts : Cuts text rest m) → (body ≡ lines_text ((cuts.at).rest ++ [] ∷ [])) × (after_rule ≡ 10 ∷ rest)
+    told rest m cuts = cuts_one message_rule message_rule after body after_rule (lines_text ((cuts.at).rest ++ [] ∷ [])) (10 ∷ rest) refl second (second_of rest m cuts)
 
     pub no_empty_end : ((front : Text) → ¬ HasEmptyEnd body front) → NoEntry text
     no_empty_end none message rest is =
@@ -155,13 +155,13 @@ module _ (text fields behind : Text) (first : IsCut [] message_rule text fields 
       where
         lines_ended : (rows : List Text) → IsEnded (lines_text rows)
         lines_ended [] = refl
-        lines_ended (x ∷ []) = ap with_last_line_end (append-nil (x ++ lf)) ∙ last_behind x lf (omega arith) ∙ sym (append-nil (x ++ lf))
-        lines_ended (x ∷ y ∷ ys) = last_behind (x ++ lf) (lines_text (y ∷ ys)) (omega (arith, length-append (y ++ lf) (lines_text ys), length-append y lf)) ∙ ap (λ t. (x ++ lf) ++ t) (lines_ended (y ∷ ys))
+        lines_ended (x ∷ []) = ap with_last_line_end (append-nil (x ++ lf)) ∙ last_after x lf (omega arith) ∙ sym (append-nil (x ++ lf))
+        lines_ended (x ∷ y ∷ ys) = last_after (x ++ lf) (lines_text (y ∷ ys)) (omega (arith, length-append (y ++ lf) (lines_text ys), length-append y lf)) ∙ ap (λ t. (x ++ lf) ++ t) (lines_ended (y ∷ ys))
 
-    pub no_line_behind : ((rest : Text) → behind_rule ≢ (10 ∷ []) ++ rest) → NoEntry text
-    no_line_behind none message rest is = let cuts = cuts_of text rest is.rows is.is is.whole in none rest (told rest is.rows cuts).1
+    pub no_line_after : ((rest : Text) → after_rule ≢ (10 ∷ []) ++ rest) → NoEntry text
+    no_line_after none message rest is = let cuts = cuts_of text rest is.rows is.is is.whole in none rest (told rest is.rows cuts).1
 
-    module _ (front rest : Text) (end : HasEmptyEnd body front) (line : behind_rule ≡ (10 ∷ []) ++ rest) where
+    module _ (front rest : Text) (end : HasEmptyEnd body front) (line : after_rule ≡ (10 ∷ []) ++ rest) where
       emptied : Emptied second.rows front
       emptied = empty_end second.rows front second.each (record { whole = sym second.front ∙ end.whole; ended = end.ended })
 
@@ -180,7 +180,7 @@ module _ (text fields behind : Text) (first : IsCut [] message_rule text fields 
       whole =
           first.whole
           ∙ ap (λ t. lines_text first.rows ++ 10 ∷ t)
-          (second.whole ∙ ap (λ rows. lines_text rows ++ (message_rule ++ 10 ∷ behind_rule)) emptied.all ∙ ap (λ t. lines_text (emptied.before ++ [] ∷ []) ++ (message_rule ++ 10 ∷ t)) line)
+          (second.whole ∙ ap (λ rows. lines_text rows ++ (message_rule ++ 10 ∷ after_rule)) emptied.all ∙ ap (λ t. lines_text (emptied.before ++ [] ∷ []) ++ (message_rule ++ 10 ∷ t)) line)
           ∙ sym (message_whole first.rows emptied.before rest)
 
       size : length (lines_text message_rows) ≡ length fields + 1 + length front

@@ -17,7 +17,7 @@ use Rattle.ml_header.specs.Fields.{FieldText, fields, body, fields_named, has_na
 use Rattle.ml_header.specs.Forms.{IsField, IsMadeOf, is_folded}
 use Rattle.ml_header.specs.Lines.{begins_blank, begins_with}
 use Rattle.ml_header.proofs.ReadForm.{read_all}
-use Rattle.ml_header.proofs.Rewrites.{ends_behind, line_end_behind}
+use Rattle.ml_header.proofs.Rewrites.{ends_after, line_end_after}
 use Rattle.ml_digest.specs.Burst.{IsLine, HaveNo, IsMessage}
 use Rattle.ml_digest.specs.Digest.{message_rule, quoted_line, kept_names, kept_fields, message_text}
 
@@ -63,7 +63,7 @@ ends_not x [] e = let parts = neither (x == 10) false e in go (x == 10) refl par
   where
     go : (t : Bool) → (x == 10) ≡ t → (x == 10) ≡ false → ends_with nat_eq (x ∷ []) lf ≡ false
     go t is other = ap (λ b. b && true) (ne_eqb 10 x (λ same. eqb-false x 10 other (sym same)))
-ends_not x (y ∷ ys) e = ends_behind (x ∷ []) (y ∷ ys) (omega arith) ∙ ends_not y ys (neither (x == 10) (has_byte 10 (y ∷ ys)) e).1
+ends_not x (y ∷ ys) e = ends_after (x ∷ []) (y ∷ ys) (omega arith) ∙ ends_not y ys (neither (x == 10) (has_byte 10 (y ∷ ys)) e).1
 
 abbrev end_when : Text → Bool → Text
 end_when text is = cond is text (text ++ lf)
@@ -72,7 +72,7 @@ pub ended_line : (x : ℕ) (xs : Text) → has_byte 10 (x ∷ xs) ≡ false → 
 ended_line x xs e = ap (end_when (x ∷ xs)) (ends_not x xs e)
 
 ended_already : (t : Text) → with_line_end (t ++ lf) ≡ t ++ lf
-ended_already t = line_end_behind t lf (omega arith)
+ended_already t = line_end_after t lf (omega arith)
 
 -- a line with a folded value after it
 folded_laid : (x : ℕ) (xs v : Text) → x ≢ 45 → has_byte 10 (x ∷ xs) ≡ false → is_folded v ≡ true → Laid (with_line_end ((x ∷ xs) ++ v))
@@ -112,7 +112,7 @@ folded_laid x xs (b ∷ y ∷ ys) other line fold =
         let second = next first.0 first.1 (rest_folded parts.1) in
         let ten : 10 ≡ b = sym (eqb-true b 10 is) in
         let split : with_line_end ((x ∷ xs) ++ 10 ∷ y ∷ ys) ≡ ((x ∷ xs) ++ lf) ++ with_line_end (y ∷ ys) =
-        ap with_line_end (sym (append_assoc (x ∷ xs) lf (y ∷ ys))) ∙ line_end_behind ((x ∷ xs) ++ lf) (y ∷ ys) (omega arith) in
+        ap with_line_end (sym (append_assoc (x ∷ xs) lf (y ∷ ys))) ∙ line_end_after ((x ∷ xs) ++ lf) (y ∷ ys) (omega arith) in
         subst (λ (c : ℕ). Laid (with_line_end ((x ∷ xs) ++ c ∷ y ∷ ys))) ten
         (subst (λ t. Laid t) (sym split) (laid_both ((x ∷ xs) ++ lf) (with_line_end (y ∷ ys)) (laid_line (x ∷ xs) line (no_hyphen (x ∷ xs) other)) second))
     go false is parts next same_line =
@@ -329,8 +329,8 @@ some_last : (t : Text) → 0 < length t → with_last_line_end t ≡ with_line_e
 some_last [] some = absurd (omega (arith, some))
 some_last (x ∷ xs) some = refl
 
-pub last_behind : (a b : Text) → 0 < length b → with_last_line_end (a ++ b) ≡ a ++ with_last_line_end b
-last_behind a b some = some_last (a ++ b) (omega (arith, some, length-append a b)) ∙ line_end_behind a b some ∙ ap (λ t. a ++ t) (sym (some_last b some))
+pub last_after : (a b : Text) → 0 < length b → with_last_line_end (a ++ b) ≡ a ++ with_last_line_end b
+last_after a b some = some_last (a ++ b) (omega (arith, some, length-append a b)) ∙ line_end_after a b some ∙ ap (λ t. a ++ t) (sym (some_last b some))
 
 rows_laid : (ls : List Text) → AreRows ls → Laid (with_last_line_end (flat_map quoted_line ls))
 rows_laid [] rows = laid_none
@@ -344,7 +344,7 @@ rows_laid (l ∷ []) (inr opened) =
     let whole : with_last_line_end (quoted_line l ++ []) ≡ with_line_end (quoted_line l) = ap with_last_line_end (append-nil (quoted_line l)) ∙ some_last (quoted_line l) (quoted_some l opened.1) in
     subst (λ t. Laid t) (sym whole) (row_laid (with_line_end (quoted_line l)) row)
 rows_laid (l ∷ m ∷ ms) rows =
-    subst (λ t. Laid t) (sym (last_behind (quoted_line l) (flat_map quoted_line (m ∷ ms)) (rows_some m ms rows.1)))
+    subst (λ t. Laid t) (sym (last_after (quoted_line l) (flat_map quoted_line (m ∷ ms)) (rows_some m ms rows.1)))
     (laid_both (quoted_line l) (with_last_line_end (flat_map quoted_line (m ∷ ms))) (row_laid (quoted_line l) (quoted_ended l rows.0)) (rows_laid (m ∷ ms) rows.1))
 
 pub body_laid : (m : Text) → Laid (with_last_line_end (flat_map quoted_line (lines (body m))))

@@ -31,8 +31,8 @@ record Spelled (bytes : Text) (mark : Mark) : Type 0 where
 mark_read : (text : Text) (mark : Mark) → mark_in text ≡ Some mark → Spelled text mark
 mark_read text mark e = go (split_first 58 text) refl
   where
-    behind : (before rest : Text) → split_first 58 text ≡ Some (before, rest) → of_parts (before, rest) ≡ Some mark → Spelled text mark
-    behind before rest split is =
+    after : (before rest : Text) → split_first 58 text ≡ Some (before, rest) → of_parts (before, rest) ≡ Some mark → Spelled text mark
+    after before rest split is =
         let made = made_read mark_of (both_of (number_within 99_999_999 before) (line_number 99_999_999 rest)) mark is in
         let n : ℕ × ℕ = made.0 in
         let parts = both_read (number_within 99_999_999 before) (line_number 99_999_999 rest) n.0 n.1 made.1 in
@@ -44,7 +44,7 @@ mark_read text mark e = go (split_first 58 text) refl
 
     go : (o : Option (Text × Text)) → split_first 58 text ≡ o → Spelled text mark
     go None split = absurd (none_some mark (sym (ap (option_and_then of_parts) split) ∙ e))
-    go (Some p) split = behind p.0 p.1 split (sym (ap (option_and_then of_parts) split) ∙ e)
+    go (Some p) split = after p.0 p.1 split (sym (ap (option_and_then of_parts) split) ∙ e)
 
 mark_written : (mark : Mark) → mark.last ≤ 99_999_999 → mark.issue ≤ 99_999_999 → mark_in (mark_text mark) ≡ Some mark
 mark_written mark p q =

@@ -6,7 +6,7 @@ use Rattle.std.specs.Fmt.{decimal}
 use Rattle.std.specs.List.{AllByRecursion, flat_map}
 use Rattle.std.proofs.lemmas.Fmt.{decimal_injective}
 use Rattle.std.proofs.lemmas.List.{append_cancel_right}
-use Rattle.ml_base.specs.Address.{before_at, behind_at}
+use Rattle.ml_base.specs.Address.{before_at, past_at}
 use Rattle.ml_base.specs.Bytes.{Text, split_last}
 use Rattle.ml_base.specs.Splits.{has_byte, split_first}
 use Rattle.ml_base.specs.Texts.{lf, lines_text}
@@ -33,7 +33,7 @@ lines_one [] (y ∷ ys) a b e = absurd (no_lines y ys e)
 lines_one (x ∷ xs) [] a b e = absurd (no_lines x xs (sym e))
 lines_one (x ∷ xs) (y ∷ ys) a b e =
     let both : two x (lines_text xs) ≡ two y (lines_text ys) = sym (cut_line x xs a.0) ∙ ap (split_first 10) e ∙ cut_line y ys b.0 in
-    ap₂ (λ (t : Text) (ts : List Text). t ∷ ts) (ap before_at both) (lines_one xs ys a.1 b.1 (ap behind_at both))
+    ap₂ (λ (t : Text) (ts : List Text). t ∷ ts) (ap before_at both) (lines_one xs ys a.1 b.1 (ap past_at both))
 
 -- a row of lines without this one
 abbrev pub Apart : Text → List Text → Type 0
@@ -66,7 +66,7 @@ title_cut name issue small =
 pub title_one : (a b : Text) (i j : ℕ) → i < 2 ^ 64 → j < 2 ^ 64 → issue_title a i ≡ issue_title b j → (a ≡ b) × (i ≡ j)
 title_one a b i j p q e =
     let both : two (a ++ codes " Digest Issue") (decimal i) ≡ two (b ++ codes " Digest Issue") (decimal j) = sym (title_cut a i p) ∙ ap (split_last 32) e ∙ title_cut b j q in
-    (append_cancel_right a b (codes " Digest Issue") (ap before_at both), decimal_injective i j p q (ap behind_at both))
+    (append_cancel_right a b (codes " Digest Issue") (ap before_at both), decimal_injective i j p q (ap past_at both))
 
 -- the last two lines of a digest, which come after its messages
 abbrev pub last_lines : Text → ℕ → List Text
@@ -135,25 +135,25 @@ each_line p are =
     (has_both 10 (codes "End of ") (issue_title p.name p.issue) refl title, (stars (length (end_line p.name p.issue)), tt))
 
 -- the lines of a digest in the order in which they are told apart
-abbrev pub behind_rule : Parts → List Text
-behind_rule p = [] ∷ (flat_map message_lines p.messages ++ last_lines p.name p.issue)
+abbrev pub after_rule : Parts → List Text
+after_rule p = [] ∷ (flat_map message_lines p.messages ++ last_lines p.name p.issue)
 
-pub in_turn : (p : Parts) → digest_lines p ≡ (p.head ++ subject_line p ∷ []) ++ [] ∷ (p.preface ++ preamble_rule ∷ behind_rule p)
+pub in_turn : (p : Parts) → digest_lines p ≡ (p.head ++ subject_line p ∷ []) ++ [] ∷ (p.preface ++ preamble_rule ∷ after_rule p)
 in_turn p =
     let m = flat_map message_lines p.messages in
     let z = last_lines p.name p.issue in
     append_assoc (p.head ++ subject_line p ∷ [] ∷ p.preface) (preamble_rule ∷ [] ∷ m) z
-    ∙ append_assoc p.head (subject_line p ∷ [] ∷ p.preface) (preamble_rule ∷ behind_rule p)
-    ∙ sym (append_assoc p.head (subject_line p ∷ []) ([] ∷ (p.preface ++ preamble_rule ∷ behind_rule p)))
+    ∙ append_assoc p.head (subject_line p ∷ [] ∷ p.preface) (preamble_rule ∷ after_rule p)
+    ∙ sym (append_assoc p.head (subject_line p ∷ []) ([] ∷ (p.preface ++ preamble_rule ∷ after_rule p)))
 
 parts_one : (p q : Parts) → AreParts p → AreParts q → lines_text (digest_lines p) ≡ lines_text (digest_lines q) → (p.issue ≡ q.issue) × (p.messages ≡ q.messages)
 parts_one p q a b e =
     let lines = sym (in_turn p) ∙ lines_one (digest_lines p) (digest_lines q) (each_line p a) (each_line q b) e ∙ in_turn q in
-    let heads = until_one [] (p.head ++ subject_line p ∷ []) (q.head ++ subject_line q ∷ []) (p.preface ++ preamble_rule ∷ behind_rule p) (q.preface ++ preamble_rule ∷ behind_rule q) (filled p a) (filled q b) lines in
+    let heads = until_one [] (p.head ++ subject_line p ∷ []) (q.head ++ subject_line q ∷ []) (p.preface ++ preamble_rule ∷ after_rule p) (q.preface ++ preamble_rule ∷ after_rule q) (filled p a) (filled q b) lines in
     let subjects = last_one p.head q.head (subject_line p) (subject_line q) heads.0 in
     let i = a.readable in let j = b.readable in
     let titles = title_one p.name q.name p.issue q.issue (omega (arith, i)) (omega (arith, j)) (ap (λ (t : Text). drop 9 t) subjects) in
-    let bodies = until_one preamble_rule p.preface q.preface (behind_rule p) (behind_rule q) a.rule b.rule heads.1 in
+    let bodies = until_one preamble_rule p.preface q.preface (after_rule p) (after_rule q) a.rule b.rule heads.1 in
     let rows : flat_map message_lines p.messages ++ last_lines p.name p.issue ≡ flat_map message_lines q.messages ++ last_lines q.name q.issue =
     (first_of [] [] (flat_map message_lines p.messages ++ last_lines p.name p.issue) (flat_map message_lines q.messages ++ last_lines q.name q.issue) bodies.1).1 in
     (titles.1, messages_one p.name p.issue p.messages q.messages a.messages b.messages (rows ∙ sym (ap₂ (λ (n : Text) (i : ℕ). flat_map message_lines q.messages ++ last_lines n i) titles.0 titles.1)))

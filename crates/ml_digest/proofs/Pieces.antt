@@ -6,7 +6,7 @@ use Rattle.ml_base.specs.Texts.{lf, lines_text, with_line_end, with_last_line_en
 use Rattle.ml_config.specs.declared.configuration.Config.{Config}
 use Rattle.ml_header.specs.Fields.{FieldText, has_name}
 use Rattle.ml_header.specs.Steps.{IsWhole}
-use Rattle.ml_header.proofs.Rewrites.{line_end_behind}
+use Rattle.ml_header.proofs.Rewrites.{line_end_after}
 use Rattle.ml_digest.specs.Digest.{issue_title, end_line, asterisks, topic, with_rule, digest_text, preamble_rule}
 use Rattle.ml_digest.specs.Steps.{first_text, header_text, topics_text, title_line, preface_text, named_text}
 use Rattle.ml_digest.specs.declared.posts.DigestPost.{DigestPost}
@@ -50,7 +50,7 @@ topic_pieces o t d a s = simp append_assoc refl
 pub named_turn : (name out new start : Text) (f : FieldText) (fs all : List FieldText) → all ≡ f ∷ fs → IsWhole f → has_name name f ≡ true → new ≡ with_line_end (out ++ f.lines)
     → out ++ named_text name all ≡ start → new ++ named_text name fs ≡ start
 named_turn name out new start f fs all is whole named text old =
-    ap (λ t. t ++ named_text name fs) (text ∙ line_end_behind out f.lines (some_field f whole)) ∙ append_assoc out (with_line_end f.lines) (named_text name fs)
+    ap (λ t. t ++ named_text name fs) (text ∙ line_end_after out f.lines (some_field f whole)) ∙ append_assoc out (with_line_end f.lines) (named_text name fs)
     ∙ ap (λ t. out ++ t) (sym (ap (λ b. flat_map (λ (f : FieldText). with_line_end f.lines) (cond b (f ∷ filter (has_name name) fs) (filter (has_name name) fs))) named))
     ∙ sym (ap (λ fs. out ++ named_text name fs) is) ∙ old
   where
@@ -59,9 +59,9 @@ named_turn name out new start f fs all is whole named text old =
 
 -- the end of a message
 pub message_ends : (o k b : Text) → with_line_end (o ++ k ++ lf ++ b) ≡ o ++ (k ++ lf ++ with_last_line_end b)
-message_ends o k [] = ap with_line_end (append-nil (o ++ k ++ lf)) ∙ line_end_behind (o ++ k) lf (omega arith) ∙ append_assoc o k lf ∙ ap (λ t. o ++ t) (sym (append-nil (k ++ lf)))
+message_ends o k [] = ap with_line_end (append-nil (o ++ k ++ lf)) ∙ line_end_after (o ++ k) lf (omega arith) ∙ append_assoc o k lf ∙ ap (λ t. o ++ t) (sym (append-nil (k ++ lf)))
 message_ends o k (x ∷ xs) =
-    line_end_behind (o ++ k ++ lf) (x ∷ xs) (omega arith) ∙ ap (λ t. t ++ with_line_end (x ∷ xs)) (append_assoc o k lf) ∙ append_assoc o (k ++ lf) (with_line_end (x ∷ xs))
+    line_end_after (o ++ k ++ lf) (x ∷ xs) (omega arith) ∙ ap (λ t. t ++ with_line_end (x ∷ xs)) (append_assoc o k lf) ∙ append_assoc o (k ++ lf) (with_line_end (x ∷ xs))
 
 -- all pieces of a digest
 pub digest_pieces : (c : Config) (issue first : ℕ) (posts : List DigestPost) (date : Text)

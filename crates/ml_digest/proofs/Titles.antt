@@ -3,7 +3,7 @@ use Rattle.std.proofs.Common.{◌≡◌, ◌≢◌, ◌<◌, ℕ, true, false, �
 use Rattle.std.specs.Fmt.{decimal}
 use Rattle.std.proofs.lemmas.List.{append_cancel_left, append_cancel_right}
 use Rattle.std.proofs.lemmas.Bool.{eqb-true}
-use Rattle.ml_base.specs.Address.{before_at, behind_at}
+use Rattle.ml_base.specs.Address.{before_at, past_at}
 use Rattle.ml_base.specs.Bytes.{Text, split_last}
 use Rattle.ml_base.specs.Numbers.{number_of}
 use Rattle.ml_base.proofs.NumberLaws.{number_spelled, number_read}
@@ -46,7 +46,7 @@ module _ (line title : Text) (front_is : line ≡ codes "Subject: " ++ title) wh
     front_told name issue is = ap before_at (let both : two front digits ≡ two (name ++ codes " Digest Issue") (decimal issue) = cut ∙ split name issue is in both)
 
     digits_told : (name : Text) (issue : ℕ) → IsTitle line name issue → digits ≡ decimal issue
-    digits_told name issue is = ap behind_at (let both : two front digits ≡ two (name ++ codes " Digest Issue") (decimal issue) = cut ∙ split name issue is in both)
+    digits_told name issue is = ap past_at (let both : two front digits ≡ two (name ++ codes " Digest Issue") (decimal issue) = cut ∙ split name issue is in both)
 
     number_told : (name : Text) (issue : ℕ) → IsTitle line name issue → number_of digits ≡ Some issue
     number_told name issue is = ap number_of (digits_told name issue is) ∙ number_read 999_999_999_999_999_999 issue (omega arith) is.readable

@@ -10,8 +10,8 @@ use Rattle.ml_digest.specs.Digest.{preamble_rule, issue_title}
 use Rattle.std.proofs.lemmas.Bool.{eqb-true}
 use Rattle.ml_digest.specs.Reading.{IsCut, HasNoCut, IsFilled, last_of, IsHeader, IsBegun, IsTitle, IsPreface, AreEntries}
 use Rattle.ml_digest.proofs.Laid.{all_both, lines_both, has_both}
-use Rattle.ml_digest.proofs.OneDigest.{title_one, head_each, head_filled, last_lines, in_turn, subject_line, behind_rule, title_line}
-use Rattle.ml_digest.proofs.Cutting.{lines_push, cut_one, onward, lf_behind}
+use Rattle.ml_digest.proofs.OneDigest.{title_one, head_each, head_filled, last_lines, in_turn, subject_line, after_rule, title_line}
+use Rattle.ml_digest.proofs.Cutting.{lines_push, cut_one, onward, lf_after}
 
 -- the last line of some lines
 pub last_push : (xs : List Text) (x : Text) → last_of (xs ++ x ∷ []) ≡ x
@@ -63,7 +63,7 @@ header_ends text last rest line more was cut none =
 pub no_header : (text last rest l r : Text) → IsBegun text last rest → has_byte 10 rest ≡ false → IsHeader text l r → ⊥
 no_header text last rest l r was none is =
     let on = onward [] was.rows is.rows rest r refl (head_each was.rows was.each) (head_each is.rows is.each) (head_filled was.rows was.each) (sym was.whole ∙ is.whole) in
-    let bad : true ≡ false = sym (lf_behind on.more [] r) ∙ ap (has_byte 10) (sym on.left) ∙ none in
+    let bad : true ≡ false = sym (lf_after on.more [] r) ∙ ap (has_byte 10) (sym on.left) ∙ none in
     cc
 
 pub none_there : (line : Text) → (length line == 0) ≡ true → line ≡ []
@@ -75,15 +75,15 @@ some_there [] e = absurd (let bad : true ≡ false = e in cc)
 some_there (x ∷ xs) e = omega arith
 
 -- a preface is found by a cut at its rule
-pub preface_by : (text front behind : Text) (r : Option (Bor Text)) → IsCut preamble_rule preamble_rule text front behind
-    → MatchOption r ((rest : Text) → behind ≢ (10 ∷ []) ++ rest) (λ x. behind ≡ (10 ∷ []) ++ x.now) → IfSome r (λ rest. IsPreface text rest.now)
-preface_by text front behind None is m = tt
-preface_by text front behind (Some rest) is m = record { rows = is.rows; each = is.each; none = is.none_wanted; whole = is.whole ∙ ap (λ t. lines_text is.rows ++ (preamble_rule ++ 10 ∷ t)) m }
+pub preface_by : (text front after : Text) (r : Option (Bor Text)) → IsCut preamble_rule preamble_rule text front after
+    → MatchOption r ((rest : Text) → after ≢ (10 ∷ []) ++ rest) (λ x. after ≡ (10 ∷ []) ++ x.now) → IfSome r (λ rest. IsPreface text rest.now)
+preface_by text front after None is m = tt
+preface_by text front after (Some rest) is m = record { rows = is.rows; each = is.each; none = is.none_wanted; whole = is.whole ∙ ap (λ t. lines_text is.rows ++ (preamble_rule ++ 10 ∷ t)) m }
 
-pub no_preface_by : (text front behind : Text) (r : Option (Bor Text)) → IsCut preamble_rule preamble_rule text front behind
-    → MatchOption r ((rest : Text) → behind ≢ (10 ∷ []) ++ rest) (λ x. behind ≡ (10 ∷ []) ++ x.now) → IfNone r ((rest : Text) → ¬ IsPreface text rest)
-no_preface_by text front behind (Some r) is m = tt
-no_preface_by text front behind None is m = λ rest also. m rest (cut_one preamble_rule is.rows also.rows behind (10 ∷ rest) refl is.each also.each is.none_wanted also.none (sym is.whole ∙ also.whole)).1
+pub no_preface_by : (text front after : Text) (r : Option (Bor Text)) → IsCut preamble_rule preamble_rule text front after
+    → MatchOption r ((rest : Text) → after ≢ (10 ∷ []) ++ rest) (λ x. after ≡ (10 ∷ []) ++ x.now) → IfNone r ((rest : Text) → ¬ IsPreface text rest)
+no_preface_by text front after (Some r) is m = tt
+no_preface_by text front after None is m = λ rest also. m rest (cut_one preamble_rule is.rows also.rows after (10 ∷ rest) refl is.each also.each is.none_wanted also.none (sym is.whole ∙ also.whole)).1
 
 pub no_preface : (text : Text) (r : Option (Bor Text)) → HasNoCut preamble_rule preamble_rule text → IfNone r ((rest : Text) → ¬ IsPreface text rest)
 no_preface text (Some r) lacks = tt
@@ -108,16 +108,16 @@ end_text name issue = lines_text (last_lines name issue)
 -- a digest as the steps find it
 pub record InSteps (text : Text) (issue : ℕ) (messages : List Text) : Type 0 where
   pub subject : Text
-  pub behind : Text
+  pub after : Text
   pub name : Text
   pub rest : Text
-  pub header : IsHeader text subject behind
+  pub header : IsHeader text subject after
   pub title : IsTitle subject name issue
-  pub preface : IsPreface behind rest
+  pub preface : IsPreface after rest
   pub entries : AreEntries rest (end_text name issue) messages
 
 abbrev below : Parts → List Text
-below p = p.preface ++ preamble_rule ∷ behind_rule p
+below p = p.preface ++ preamble_rule ∷ after_rule p
 
 subject_is : (p : Parts) → AreParts p → IsLine (subject_line p)
 subject_is p are = has_both 10 (codes "Subject: ") (issue_title p.name p.issue) refl (title_line p are)
@@ -125,7 +125,7 @@ subject_is p are = has_both 10 (codes "Subject: ") (issue_title p.name p.issue) 
 by_parts : (text : Text) (issue : ℕ) (messages : List Text) (p : Parts) → AreParts p → text ≡ lines_text (digest_lines p) → issue ≡ p.issue → messages ≡ map lines_text p.messages → InSteps text issue messages
 by_parts text issue messages p are spelled number each = record {
   subject = subject_line p;
-  behind = lines_text (below p);
+  after = lines_text (below p);
   name = p.name;
   rest = lines_text (flat_map message_lines p.messages) ++ end_text p.name p.issue;
   header = record {
@@ -144,7 +144,7 @@ by_parts text issue messages p are spelled number each = record {
     rows = p.preface;
     each = are.preface;
     none = are.rule;
-    whole = lines_both p.preface (preamble_rule ∷ behind_rule p) ∙ ap (λ t. lines_text p.preface ++ (preamble_rule ++ 10 ∷ 10 ∷ t)) (lines_both (flat_map message_lines p.messages) (last_lines p.name p.issue));
+    whole = lines_both p.preface (preamble_rule ∷ after_rule p) ∙ ap (λ t. lines_text p.preface ++ (preamble_rule ++ 10 ∷ 10 ∷ t)) (lines_both (flat_map message_lines p.messages) (last_lines p.name p.issue));
   };
   entries = record { rows = p.messages; are = are.messages; some = are.some; messages_are = each; whole = ap (λ n. lines_text (flat_map message_lines p.messages) ++ end_text p.name n) (sym number) };
 }

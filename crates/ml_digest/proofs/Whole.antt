@@ -11,7 +11,7 @@ use Rattle.ml_digest.specs.Digest.{preamble_rule, issue_title}
 use Rattle.ml_digest.specs.Reading.{IsFilled, last_of, IsHeader, IsTitle, IsPreface, AreEntries}
 use Rattle.ml_digest.specs.declared.posts.Burst.{Burst}
 use Rattle.ml_digest.proofs.Laid.{lines_both}
-use Rattle.ml_digest.proofs.OneDigest.{digest_one, in_turn, last_lines, subject_line, behind_rule}
+use Rattle.ml_digest.proofs.OneDigest.{digest_one, in_turn, last_lines, subject_line, after_rule}
 use Rattle.ml_digest.proofs.Told.{Ending, ending, header_one, title_told, preface_one, end_text, in_steps}
 use Rattle.ml_digest.proofs.Titles.{Untitled}
 
@@ -19,28 +19,28 @@ abbrev pub NoDigest : Text → Type 0
 NoDigest text = (issue : ℕ) (messages : List Text) → ¬ IsDigest text issue messages
 
 pub no_header_there : (text : Text) → ((last rest : Text) → ¬ IsHeader text last rest) → NoDigest text
-no_header_there text none issue messages is = let steps = in_steps text issue messages is in none steps.subject steps.behind steps.header
+no_header_there text none issue messages is = let steps = in_steps text issue messages is in none steps.subject steps.after steps.header
 
 module _ (text subject rest : Text) (header : IsHeader text subject rest) where
   pub untitled : Untitled subject → NoDigest text
   untitled none issue messages is =
       let steps = in_steps text issue messages is in
-      let one = header_one text subject rest steps.subject steps.behind header steps.header in
+      let one = header_one text subject rest steps.subject steps.after header steps.header in
       none steps.name issue (subst (λ t. IsTitle t steps.name issue) (sym one.0) steps.title)
 
-  pub no_preface_there : ((behind : Text) → ¬ IsPreface rest behind) → NoDigest text
+  pub no_preface_there : ((after : Text) → ¬ IsPreface rest after) → NoDigest text
   no_preface_there none issue messages is =
       let steps = in_steps text issue messages is in
-      let one = header_one text subject rest steps.subject steps.behind header steps.header in
+      let one = header_one text subject rest steps.subject steps.after header steps.header in
       none steps.rest (subst (λ t. IsPreface t steps.rest) (sym one.1) steps.preface)
 
-  module _ (name : Text) (issue : ℕ) (title : IsTitle subject name issue) (behind end : Text) (preface : IsPreface rest behind) (ends : end ≡ end_text name issue) where
-    pub no_entries_there : ((messages : List Text) → ¬ AreEntries behind end messages) → NoDigest text
+  module _ (name : Text) (issue : ℕ) (title : IsTitle subject name issue) (after end : Text) (preface : IsPreface rest after) (ends : end ≡ end_text name issue) where
+    pub no_entries_there : ((messages : List Text) → ¬ AreEntries after end messages) → NoDigest text
     no_entries_there none other messages is =
         let steps = in_steps text other messages is in
-        let one = header_one text subject rest steps.subject steps.behind header steps.header in
+        let one = header_one text subject rest steps.subject steps.after header steps.header in
         let told = title_told subject name steps.name issue other title (subst (λ t. IsTitle t steps.name other) (sym one.0) steps.title) in
-        let same = preface_one rest behind steps.rest preface (subst (λ t. IsPreface t steps.rest) (sym one.1) steps.preface) in
+        let same = preface_one rest after steps.rest preface (subst (λ t. IsPreface t steps.rest) (sym one.1) steps.preface) in
         let last : end ≡ end_text steps.name other = ends ∙ ap₂ (λ (n : Text) (i : ℕ). end_text n i) told.0 told.1 in
         none messages (subst (λ t. AreEntries t end messages) (sym same) (subst (λ t. AreEntries steps.rest t messages) (sym last) steps.entries))
 
@@ -69,7 +69,7 @@ module _ (text subject rest : Text) (header : IsHeader text subject rest) where
     abbrev parts_of : List Text → List (List Text) → Parts
     parts_of front rows = record { head = front; name = name; issue = issue; preface = preface.rows; messages = rows }
 
-    are_parts : (front : List Text) (messages : List Text) (entries : AreEntries behind end messages) → header.rows ≡ front ++ subject ∷ [] → AreParts (parts_of front entries.rows)
+    are_parts : (front : List Text) (messages : List Text) (entries : AreEntries after end messages) → header.rows ≡ front ++ subject ∷ [] → AreParts (parts_of front entries.rows)
     are_parts front messages entries all =
         let each = filled_front front (subject ∷ []) (subst (λ rows. AllByRecursion IsFilled rows) all header.each) in
         record {
@@ -84,17 +84,17 @@ module _ (text subject rest : Text) (header : IsHeader text subject rest) where
           messages = entries.are;
         }
 
-    is_spelled : (front : List Text) (messages : List Text) (entries : AreEntries behind end messages) → header.rows ≡ front ++ subject ∷ [] → text ≡ lines_text (digest_lines (parts_of front entries.rows))
+    is_spelled : (front : List Text) (messages : List Text) (entries : AreEntries after end messages) → header.rows ≡ front ++ subject ∷ [] → text ≡ lines_text (digest_lines (parts_of front entries.rows))
     is_spelled front messages entries all =
         let p = parts_of front entries.rows in
         header.whole ∙ ap (λ rows. lines_text rows ++ 10 ∷ rest) (all ∙ ap (λ (t : Text). front ++ t ∷ []) title.spelled)
         ∙ ap (λ t. lines_text (front ++ subject_line p ∷ []) ++ 10 ∷ t)
         (preface.whole
         ∙ ap (λ t. lines_text preface.rows ++ (preamble_rule ++ 10 ∷ 10 ∷ t)) (entries.whole ∙ ap (λ t. lines_text (flat_map message_lines entries.rows) ++ t) ends ∙ sym (lines_both (flat_map message_lines entries.rows) (last_lines name issue)))
-        ∙ sym (lines_both preface.rows (preamble_rule ∷ behind_rule p)))
-        ∙ sym (lines_both (front ++ subject_line p ∷ []) ([] ∷ (preface.rows ++ preamble_rule ∷ behind_rule p))) ∙ sym (ap lines_text (in_turn p))
+        ∙ sym (lines_both preface.rows (preamble_rule ∷ after_rule p)))
+        ∙ sym (lines_both (front ++ subject_line p ∷ []) ([] ∷ (preface.rows ++ preamble_rule ∷ after_rule p))) ∙ sym (ap lines_text (in_turn p))
 
-    pub is_digest : (messages : List Text) → AreEntries behind end messages → IsDigest text issue messages
+    pub is_digest : (messages : List Text) → AreEntries after end messages → IsDigest text issue messages
     is_digest messages entries = by (ending header.rows (some_header header.rows header.ends))
       where
         by : Ending header.rows → IsDigest text issue messages

@@ -7,17 +7,17 @@ use Rattle.ml_digest.specs.Burst.{IsLine, HaveNo, IsMessage, message_lines}
 use Rattle.ml_digest.specs.Digest.{issue_title, preamble_rule}
 
 -- A text is lines, none of which is the wanted or the barred one, then the wanted line, and then what comes after it.
-pub record IsCut (wanted barred text before behind : Text) : Type 0 where
+pub record IsCut (wanted barred text before after : Text) : Type 0 where
   pub rows : List Text
   pub each : AllByRecursion IsLine rows
   pub none_wanted : HaveNo wanted rows
   pub none_barred : HaveNo barred rows
   pub front : before ≡ lines_text rows
-  pub whole : text ≡ lines_text rows ++ (wanted ++ line_feed ∷ behind)
+  pub whole : text ≡ lines_text rows ++ (wanted ++ line_feed ∷ after)
 
 -- the wanted line doesn't come, or the barred line comes before it
 abbrev pub HasNoCut : Text → Text → Text → Type 0
-HasNoCut wanted barred text = (before behind : Text) → ¬ IsCut wanted barred text before behind
+HasNoCut wanted barred text = (before after : Text) → ¬ IsCut wanted barred text before after
 
 -- lines were passed, none of them wanted or barred, and this is left
 pub record IsPassed (wanted barred text rest : Text) : Type 0 where

@@ -100,8 +100,8 @@ fn split_message(text: &[u8]) -> Option<(&[u8], &[u8])>
     ensures none { IfNone result ((message rest : Text) → ¬ IsEntry text.now message rest) }
     ensures shorter { IfSome result (λ p. length p.1.now < length text.now) }
 {
-    let (fields, behind) = split_at_line(text, b"", MESSAGE_RULE)?;
-    let (body, rest) = split_at_line(behind, MESSAGE_RULE, MESSAGE_RULE)?;
+    let (fields, after) = split_at_line(text, b"", MESSAGE_RULE)?;
+    let (body, rest) = split_at_line(after, MESSAGE_RULE, MESSAGE_RULE)?;
     let body = without_empty_line(body)?;
     let rest = rest.strip_prefix(b"\n")?;
     let message = &text[..fields.len() + 1 + body.len()];

@@ -60,7 +60,7 @@ pub fn is_there<F: Files>(
 
 // The number to look at after one under which nothing is, in a walk that began at `from`: the next one, but at every 16th number one up
 // to which the files know that nothing is there. So a small gap doesn't search a whole folder, and a wide one takes few looks.
-fn number_behind<F: Files>(
+fn number_after<F: Files>(
     alloc: Global,
     files: &mut F,
     series: Series,
@@ -103,7 +103,7 @@ pub fn next_number<F: Files>(
         if is_there(alloc, files, series, number)? {
             return Ok(Some(number));
         }
-        number = number_behind(alloc, files, series, from, number, end)?;
+        number = number_after(alloc, files, series, from, number, end)?;
     }
     Ok(None)
 }
@@ -129,7 +129,7 @@ pub fn next_there<F: Files>(
         if let Some(bytes) = file_of(alloc, files, series, number)? {
             return Ok(Some(Found { number, bytes }));
         }
-        number = number_behind(alloc, files, series, from, number, end)?;
+        number = number_after(alloc, files, series, from, number, end)?;
     }
     Ok(None)
 }

@@ -25,7 +25,7 @@ use Rattle.ml_run.proofs.Anywhere.{nothing_done}
 use Rattle.ml_run.proofs.Leaving.{other_list, same_state, some_answered}
 use Rattle.ml_run.proofs.Missing.{misses_before}
 use Rattle.ml_stream.specs.Stream.{End}
-use Rattle.ml_exercise.specs.Exercising.{answered_all, behind, Ends, Exercises, ExercisesItems, ExercisesList, IsExercising, IsExercisingAt, IsOfItem, items_of}
+use Rattle.ml_exercise.specs.Exercising.{answered_all, state_after, Ends, Exercises, ExercisesItems, ExercisesList, IsExercising, IsExercisingAt, IsOfItem, items_of}
 use Rattle.ml_exercise.specs.Finding.{Finds}
 use Rattle.ml_exercise.proofs.SummedUp.{tells_before}
 
@@ -34,7 +34,7 @@ ends_before : (told : Type 0) (status answered : ℕ) (held : Contents) (output 
 ends_before told status answered held output q count old new same (inl done) = inl (record {
   all = done.all;
   state = done.state;
-  put = tells_before told status count (behind q count).plain (answered_all q count old) (answered_all q count new) output (λ t. ap (λ (b : Text). answered_all q count b) (same t)) done.put;
+  put = tells_before told status count (state_after q count).plain (answered_all q count old) (answered_all q count new) output (λ t. ap (λ (b : Text). answered_all q count b) (same t)) done.put;
 })
 ends_before told status answered held output q count old new same (inr early) = inr (record {
   end = ⊎_elim (λ s. inl (stopped s)) (λ c. inr (cut c)) early.end;
@@ -46,7 +46,7 @@ ends_before told status answered held output q count old new same (inr early) = 
       why = s.why;
       who = s.who;
       done = s.done;
-      behind = s.behind;
+      after = s.after;
       split = s.split;
       count = s.count;
       reached = s.reached;
@@ -59,7 +59,7 @@ ends_before told status answered held output q count old new same (inr early) = 
     cut c = record {
       status_is = c.status_is;
       done = c.done;
-      behind = c.behind;
+      after = c.after;
       split = c.split;
       count = c.count;
       reached = c.reached;

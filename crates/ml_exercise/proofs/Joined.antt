@@ -28,7 +28,7 @@ use Rattle.ml_run.proofs.ServedAnywhere.{row_brought, row_end}
 use Rattle.ml_run.proofs.Streamed.{settled_not}
 use Rattle.ml_stream.specs.Stream.{StreamEnd, End}
 use Rattle.ml_stream.specs.Writing.{stream_text}
-use Rattle.ml_exercise.specs.Exercising.{answered_all, behind, ExercisesList, IsExercised, IsExercising, IsExercisingAt, IsOfItem, items_of}
+use Rattle.ml_exercise.specs.Exercising.{answered_all, state_after, ExercisesList, IsExercised, IsExercising, IsExercisingAt, IsOfItem, items_of}
 use Rattle.ml_exercise.specs.Finding.{HasConfig}
 use Rattle.ml_exercise.specs.Running.{items_for, RunsItems}
 use Rattle.ml_exercise.specs.Summing.{IsLooking, IsLookingAt, IsSummingUp, IsToldOf, SumsUp}
@@ -72,7 +72,7 @@ item_named dir config count n files who name found range few is =
       has = found;
       item = is.item;
       before = next.0;
-      behind = next.1;
+      after = next.1;
       split = next.2;
       place = next.3;
       number = is.number;
@@ -143,26 +143,26 @@ module _ {S : Type 0} (told : Ghosts S) (reads_told : IsTrue told.tells_all → 
           let e = ended r q state in
           inl (record {
             all = e.count ∙ as_many r q state;
-            state = same_state (directory (told.disk mid).reads) (directory (told.disk new).reads) (behind q count) (sums.same r) e.state;
-            put = tells_before (IsTrue told.tells_all) status count (behind q count).plain (told.output mid) (answered_all q count (told.output old)) (told.output new) e.put (sums.given r (behind q count) e.state);
+            state = same_state (directory (told.disk mid).reads) (directory (told.disk new).reads) (state_after q count) (sums.same r) e.state;
+            put = tells_before (IsTrue told.tells_all) status count (state_after q count).plain (told.output mid) (answered_all q count (told.output old)) (told.output new) e.put (sums.given r (state_after q count) e.state);
           });
       at_rest = λ _ q state t.
           let e = ended (reads_told t) q state in
-          joins told.moment told.left_since told.disk told.output old mid new (IsAfterSome q (items_of q count) (told.output old)) (IsLooking (directory (told.disk mid).reads) count (behind q count).plain (told.output mid)) (IsExercising q count (told.output old))
-          (some_moments t q state t) (sums.at_rest (runs.closed.settled is t) (behind q count) e.state t) (λ left out p. inl p)
+          joins told.moment told.left_since told.disk told.output old mid new (IsAfterSome q (items_of q count) (told.output old)) (IsLooking (directory (told.disk mid).reads) count (state_after q count).plain (told.output mid)) (IsExercising q count (told.output old))
+          (some_moments t q state t) (sums.at_rest (runs.closed.settled is t) (state_after q count) e.state t) (λ left out p. inl p)
           (λ left out p. inr (record {
-            state = same_state (directory (told.disk mid).reads) (directory left) (behind q count) p.0 e.state;
-            put = subst (λ (b : Text). IsSummingUp count (behind q count).plain b out) (e.put t) p.1;
+            state = same_state (directory (told.disk mid).reads) (directory left) (state_after q count) p.0 e.state;
+            put = subst (λ (b : Text). IsSummingUp count (state_after q count).plain b out) (e.put t) p.1;
           }));
       anywhere = λ r files here.
           let d = (runs.anywhere r files here).0 in
           let none = d.row.whole (λ e. settled_not run 71 refl is e) (λ e. settled_not run 73 refl is e) (λ e. settled_not run 111 refl is e) in
-          let behind : directory (told.disk mid).reads ≡ Some (after files d.first) = row_end told (Brings (Some (stream_text (items_for config count)))) count run runs.answered mid files d.first d.group none d.row in
+          let beyond : directory (told.disk mid).reads ≡ Some (after files d.first) = row_end told (Brings (Some (stream_text (items_for config count)))) count run runs.answered mid files d.first d.group none d.row in
           let row = row_brought told (Brings (Some (stream_text (items_for config count)))) (IsExercised files count) count run runs.answered mid files d.first d.group (exercised r files here) d.row in
           record {
             first = d.first;
             group = d.group;
-            row = record { are = row.are; count = row.count; few = row.few; brought = row.brought; end = inl (sums.same r ∙ behind); whole = λ one two three. none };
+            row = record { are = row.are; count = row.count; few = row.few; brought = row.brought; end = inl (sums.same r ∙ beyond); whole = λ one two three. none };
             moments = λ now t.
                 let before = told.output old in
                 let P = IsExercisingAt files d.first d.group count before in
@@ -170,8 +170,8 @@ module _ {S : Type 0} (told : Ghosts S) (reads_told : IsTrue told.tells_all → 
                 (d.moments.1 now t) (sums.anywhere (runs.closed.settled is t) t) (λ left out p. inl p)
                 (λ left out p. inr (record {
                   all = sym (runs.all is) ∙ d.row.count;
-                  dir = p.0 ∙ behind;
-                  put = subst (λ (o : Option Dir). IsToldOf o count (before ++ answers_of d.first) out) behind (subst (λ (b : Text). IsToldOf (directory (told.disk mid).reads) count b out) (d.answers is t) p.1);
+                  dir = p.0 ∙ beyond;
+                  put = subst (λ (o : Option Dir). IsToldOf o count (before ++ answers_of d.first) out) beyond (subst (λ (b : Text). IsToldOf (directory (told.disk mid).reads) count b out) (d.answers is t) p.1);
                 }));
           };
       rest = λ none one two. sums.rest (λ rose. none (rose_earlier (told.disk_faults old) (told.disk_faults mid) (told.disk_faults new) runs.counts.disk_later rose)) one two;

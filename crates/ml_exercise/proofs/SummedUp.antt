@@ -47,8 +47,8 @@ front_longer line more before out front =
     (n, front.1 ∙ ap (λ (o : Text). before ++ o) (sym (take-append-le n line more few ∙ take_min front.0 line)))
 
 -- some first bytes after a text are, with the text, some first bytes of both
-front_behind : (line more before out : Text) → TellsAtMost more (before ++ line) out → TellsAtMost (line ++ more) before out
-front_behind line more before out front =
+front_after : (line more before out : Text) → TellsAtMost more (before ++ line) out → TellsAtMost (line ++ more) before out
+front_after line more before out front =
     (length line + front.0, front.1 ∙ append_assoc before line (take front.0 more) ∙ ap (λ (o : Text). before ++ o) (sym (take-append-add line more front.0)))
 
 nothing_out : (lines before out : Text) → out ≡ before → TellsAtMost lines before out
@@ -58,7 +58,7 @@ nothing_out lines before out is = (0, is ∙ sym (append-nil before))
 front_is : (dir : Option Dir) (q : State) (count : ℕ) (before now out : Text) → HasState dir q → now ≡ before ++ exercised_line count → IsFront check_meaning dir now out → IsSummingUp count q.plain before out
 front_is dir q count before now out state is front = ⊎_elim
     (λ said. inr (subst (λ (b : Text). SaysAtMost b out) is said))
-    (λ given. inl (front_behind (exercised_line count) (whole_line (sizes_of q.plain)) before out
+    (λ given. inl (front_after (exercised_line count) (whole_line (sizes_of q.plain)) before out
     (subst (λ (t : Text). TellsAtMost t (before ++ exercised_line count) out) (text_is dir q given.0 state given.1) (subst (λ (b : Text). TellsAtMost given.0 b out) is given.2))))
     front
 

@@ -29,8 +29,8 @@ abbrev pub items_of : State → ℕ → List Item
 items_of q count = generated q.plain.config.local q.plain.config.host count
 
 -- the list after the items
-abbrev pub behind : State → ℕ → State
-behind q count = fold q (items_of q count)
+abbrev pub state_after : State → ℕ → State
+state_after q count = fold q (items_of q count)
 
 -- what is out after all answers, with what was out before
 abbrev pub answered_all : State → ℕ → Text → Text
@@ -39,8 +39,8 @@ answered_all q count before = before ++ text q (items_of q count)
 -- All items are done and answered, and some first bytes of the two lines are out; or the first line is out, and some first bytes of one stop
 -- line instead of the second.
 pub record IsTelling (q : State) (count : ℕ) (before : Text) (left : Contents) (out : Text) : Type 0 where
-  pub state : HasState (directory left) (behind q count)
-  pub put : IsSummingUp count (behind q count).plain (answered_all q count before) out
+  pub state : HasState (directory left) (state_after q count)
+  pub put : IsSummingUp count (state_after q count).plain (answered_all q count before) out
 
 -- At every moment: as in a run of the items, or after all of them.
 abbrev pub IsExercising : State → ℕ → Text → Contents → Text → Type 0
@@ -50,8 +50,8 @@ IsExercising q count before left out = IsAfterSome q (items_of q count) before l
 -- second; or the output failed.
 pub record IsDone (told : Type 0) (status answered : ℕ) (held : Contents) (output : Text) (q : State) (count : ℕ) (before : Text) : Type 0 where
   pub all : answered ≡ count
-  pub state : HasState (directory held) (behind q count)
-  pub put : TellsOf told status count (behind q count).plain (answered_all q count before) output
+  pub state : HasState (directory held) (state_after q count)
+  pub put : TellsOf told status count (state_after q count).plain (answered_all q count before) output
 
 -- the run of the items ended early, after this many answers
 pub record EndsEarly (told : Type 0) (status answered : ℕ) (held : Contents) (output : Text) (q : State) (count : ℕ) (before : Text) : Type 0 where
@@ -69,8 +69,8 @@ pub record IsOfItem (dir : Option Dir) (count answered : ℕ) (files : Dir) (who
   pub has : HasConfig dir config
   pub item : Item
   pub before : List Item
-  pub behind : List Item
-  pub split : generated config.local config.host count ≡ before ++ item ∷ behind
+  pub after : List Item
+  pub split : generated config.local config.host count ≡ before ++ item ∷ after
   pub place : answered ≡ length before
   pub number : who ≡ Some item.number
   pub reads : is_read_by_item item name ≡ true

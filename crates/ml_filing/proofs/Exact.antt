@@ -23,7 +23,7 @@ use Rattle.ml_rows.specs.Values.{moment_in, address_in, comma_text, comma_number
 use Rattle.ml_rows.proofs.RowLaws.{one_some, none_some, only_read, only_there, made_read, both_read, both_there, netstrings_read, netstrings_written, row_read, row_written, row_goes_on}
 use Rattle.ml_rows.proofs.ValueLaws.{moment_read, moment_written, address_is, address_there, line_read, line_written, commas_read, commas_written, comma_length}
 use Rattle.ml_filing.specs.Archive.{IsIndexFile, IsNumberFile, IsEntry, entry_text}
-use Rattle.ml_filing.specs.Reading.{count_in, entry_with, entry_of_fields, behind_lf, entry_in_place, index_in, thread_with, fits, thread_of_fields, thread_at, threads_in}
+use Rattle.ml_filing.specs.Reading.{count_in, entry_with, entry_of_fields, after_lf, entry_in_place, index_in, thread_with, fits, thread_of_fields, thread_at, threads_in}
 use Rattle.ml_filing.specs.Threads.{Thread, IsThread, IsThreadFile, thread_place, thread_text}
 use Rattle.ml_filing.specs.declared.posts.Entry.{Entry}
 
@@ -116,7 +116,7 @@ text_row e rest =
     ∙ ap (λ t. t ++ 10 ∷ rest) (append_assoc (a ++ b) c d ∙ append_assoc a b (c ++ d) ∙ ap (λ t. a ++ (b ++ (c ++ t))) (sym (append-nil d)))
 
 abbrev ended : ℕ → List Text × Text → Option (Entry × Text)
-ended k found = both_of (entry_of_fields k found.0) (behind_lf found.1)
+ended k found = both_of (entry_of_fields k found.0) (after_lf found.1)
 
 abbrev if_here : ℕ → Text → Bool → Option (Entry × Text)
 if_here k text is = cond is (option_and_then (ended k) (netstrings_at 4 text)) None
@@ -128,7 +128,7 @@ entry_written g k e rest is =
     ∙ ap (option_and_then (ended k)) (netstrings_written (fields e) (10 ∷ rest) (fields_short e is.is))
     ∙ both_there (entry_of_fields k (fields e)) (Some rest) e rest (fields_written k e is.is is.number) refl
 
-lf_read : (text rest : Text) → behind_lf text ≡ Some rest → text ≡ 10 ∷ rest
+lf_read : (text rest : Text) → after_lf text ≡ Some rest → text ≡ 10 ∷ rest
 lf_read [] rest e = absurd (none_some rest e)
 lf_read (b ∷ bs) rest e = go (b == 10) refl
   where
@@ -142,16 +142,16 @@ found_entry e rest = (e, rest)
 entry_read : (g k : ℕ) (text : Text) (e : Entry) (rest : Text) → entry_in_place g k text ≡ Some (e, rest) → IsPlaced g k e × (text ≡ entry_text e ++ rest)
 entry_read g k text e rest h = go ((k / 100) == g) refl
   where
-    behind : k / 100 ≡ g → (texts : List Text) (after : Text) → netstrings_at 4 text ≡ Some (texts, after) → ended k (texts, after) ≡ Some (e, rest) → IsPlaced g k e × (text ≡ entry_text e ++ rest)
-    behind here texts after found is =
-        let parts = both_read (entry_of_fields k texts) (behind_lf after) e rest is in
+    beyond : k / 100 ≡ g → (texts : List Text) (after : Text) → netstrings_at 4 text ≡ Some (texts, after) → ended k (texts, after) ≡ Some (e, rest) → IsPlaced g k e × (text ≡ entry_text e ++ rest)
+    beyond here texts after found is =
+        let parts = both_read (entry_of_fields k texts) (after_lf after) e rest is in
         let whole = netstrings_read 4 text texts after found in
         let entry = fields_read k texts e whole.1 parts.0 in
         (record { is = entry.0; number = entry.1; here = here }, whole.2 ∙ ap₂ (λ (ts : List Text) (t : Text). ns_row ts ++ t) entry.2 (lf_read after rest parts.1) ∙ sym (text_row e rest))
 
     in_group : k / 100 ≡ g → (o : Option (List Text × Text)) → netstrings_at 4 text ≡ o → option_and_then (ended k) (netstrings_at 4 text) ≡ Some (e, rest) → IsPlaced g k e × (text ≡ entry_text e ++ rest)
     in_group here None found is = absurd (none_some (found_entry e rest) (sym (ap (option_and_then (ended k)) found) ∙ is))
-    in_group here (Some p) found is = behind here p.0 p.1 found (sym (ap (option_and_then (ended k)) found) ∙ is)
+    in_group here (Some p) found is = beyond here p.0 p.1 found (sym (ap (option_and_then (ended k)) found) ∙ is)
 
     go : (t : Bool) → ((k / 100) == g) ≡ t → IsPlaced g k e × (text ≡ entry_text e ++ rest)
     go true is = in_group (eqb-true (k / 100) g is) (netstrings_at 4 text) refl (sym (ap (if_here k text) is) ∙ h)
@@ -323,8 +323,8 @@ thread_written n place t rest is =
 thread_read : (n place : ℕ) (text : Text) (t : Thread) (rest : Text) → thread_at n place text ≡ Some (t, rest) → IsThread n t × (text ≡ thread_text t ++ rest)
 thread_read n place text t rest h = go (netstrings_at 2 text) refl
   where
-    behind : (texts : List Text) (after : Text) → netstrings_at 2 text ≡ Some (texts, after) → with_rest n (texts, after) ≡ Some (t, rest) → IsThread n t × (text ≡ thread_text t ++ rest)
-    behind texts after found is =
+    beyond : (texts : List Text) (after : Text) → netstrings_at 2 text ≡ Some (texts, after) → with_rest n (texts, after) ≡ Some (t, rest) → IsThread n t × (text ≡ thread_text t ++ rest)
+    beyond texts after found is =
         let made = made_read (λ t. found_thread t after) (thread_of_fields n texts) (t, rest) is in
         let whole = netstrings_read 2 text texts after found in
         let same : made.0 ≡ t = ap (λ (p : Thread × Text). p.0) made.2 in
@@ -333,7 +333,7 @@ thread_read n place text t rest h = go (netstrings_at 2 text) refl
 
     go : (o : Option (List Text × Text)) → netstrings_at 2 text ≡ o → IsThread n t × (text ≡ thread_text t ++ rest)
     go None found = absurd (none_some (found_thread t rest) (sym (ap (option_and_then (with_rest n)) found) ∙ h))
-    go (Some p) found = behind p.0 p.1 found (sym (ap (option_and_then (with_rest n)) found) ∙ h)
+    go (Some p) found = beyond p.0 p.1 found (sym (ap (option_and_then (with_rest n)) found) ∙ h)
 
 pub thread_some : (t : Thread) → 0 < length (thread_text t)
 thread_some t =

@@ -32,11 +32,11 @@ all_found P (t ∷ ts) is each =
     let parts = both (list_all (λ (u : Thread). is_lt (byte_cmp t.key u.key)) ts) (is_sorted byte_cmp (λ (t : Thread). t.key) ts) is in
     let above = all_true (λ (u : Thread). is_lt (byte_cmp t.key u.key)) ts parts.0 in (
       each t.key t (ap (λ o. cond (is_eq o) (Some t) (find t.key ts)) (tied_itself bytes_total t.key)),
-      all_found P ts parts.1 (λ k u there. each k u (behind k u above there)),
+      all_found P ts parts.1 (λ k u there. each k u (after k u above there)),
     )
   where
-    behind : (k : Text) (u : Thread) → AllByRecursion (λ (u : Thread). is_lt (byte_cmp t.key u.key) ≡ true) ts → find k ts ≡ Some u → find k (t ∷ ts) ≡ Some u
-    behind k u above there = go (byte_cmp k t.key) refl (found_is byte_cmp (λ (t : Thread). t.key) (λ (u : Thread). is_lt (byte_cmp t.key u.key) ≡ true) k u ts above there)
+    after : (k : Text) (u : Thread) → AllByRecursion (λ (u : Thread). is_lt (byte_cmp t.key u.key) ≡ true) ts → find k ts ≡ Some u → find k (t ∷ ts) ≡ Some u
+    after k u above there = go (byte_cmp k t.key) refl (found_is byte_cmp (λ (t : Thread). t.key) (λ (u : Thread). is_lt (byte_cmp t.key u.key) ≡ true) k u ts above there)
       where
         go : (o : Ordering) → byte_cmp k t.key ≡ o → (is_lt (byte_cmp t.key u.key) ≡ true) × (byte_cmp k u.key ≡ Equal) → cond (is_eq (byte_cmp k t.key)) (Some t) (find k ts) ≡ Some u
         go Less e is = ap (λ o. cond (is_eq o) (Some t) (find k ts)) e ∙ there

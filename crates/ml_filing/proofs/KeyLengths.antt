@@ -4,7 +4,7 @@ use Rattle.std.specs.Char.{to_ascii_lowercase}
 use Rattle.std.proofs.lemmas.List.{length-map}
 use Rattle.ml_base.specs.Bytes.{Text, lower, is_empty}
 use Rattle.ml_header.specs.Lines.{begins_with}
-use Rattle.ml_filing.specs.Subjects.{squeezed, without_front, without_end, behind_mark, stripped, subject_key, is_space}
+use Rattle.ml_filing.specs.Subjects.{squeezed, without_front, without_end, after_mark, stripped, subject_key, is_space}
 use Rattle.ml_filing.proofs.KeyTurns.{Below, front_within, mark_below}
 
 squeezed_short : (text : Text) → length (squeezed text) ≤ length text
@@ -33,13 +33,13 @@ weaker : (n : ℕ) (o : Option Text) → Below n o → AtMost n o
 weaker n None is = tt
 weaker n (Some text) is = omega (arith, is)
 
-mark_short : (prefix text : Text) → AtMost (length text) (behind_mark prefix text)
-mark_short prefix text = weaker (length text) (behind_mark prefix text) (mark_below prefix text)
+mark_short : (prefix text : Text) → AtMost (length text) (after_mark prefix text)
+mark_short prefix text = weaker (length text) (after_mark prefix text) (mark_below prefix text)
 
 stripped_short : (turns : ℕ) (prefix text : Text) → length (stripped turns prefix text) ≤ length text
 unfolding stripped
 stripped_short zero prefix text = omega arith
-stripped_short (suc turns) prefix text = go (behind_mark prefix text) (mark_short prefix text) (λ rest. stripped_short turns prefix rest)
+stripped_short (suc turns) prefix text = go (after_mark prefix text) (mark_short prefix text) (λ rest. stripped_short turns prefix rest)
   where
     go : (o : Option Text) → AtMost (length text) o → ((rest : Text) → length (stripped turns prefix rest) ≤ length rest)
         → length (elim o as (λ o. Text) [ None ↦ text | Some rest ↦ stripped turns prefix (without_front rest) ]) ≤ length text

@@ -6,14 +6,14 @@ use Rattle.std.specs.Option.{option_and_then, option_or}
 use Rattle.std.specs.Char.{is_ascii_digit, to_ascii_lowercase}
 use Rattle.ml_base.specs.Bytes.{Text, lower, is_empty}
 use Rattle.ml_header.specs.Lines.{begins_with}
-use Rattle.ml_filing.specs.Subjects.{squeezed, without_front, without_end, behind_word, behind_digits, behind_lower, behind_mark, stripped, subject_key}
+use Rattle.ml_filing.specs.Subjects.{squeezed, without_front, without_end, after_word, after_digits, after_lower, after_mark, stripped, subject_key}
 
 -- a text, if there is one, is shorter than so many bytes
 abbrev pub Below : ℕ → Option Text → Type 0
 Below n None = Unit {0}
 Below n (Some text) = length text < n
 
-word_below : (word text : Text) → Below (length text) (behind_word word text)
+word_below : (word text : Text) → Below (length text) (after_word word text)
 word_below [] text = tt
 word_below (w ∷ ws) [] = tt
 word_below (w ∷ ws) (b ∷ bs) = go (begins_with (w ∷ ws) (b ∷ bs))
@@ -26,12 +26,12 @@ wider : (n m : ℕ) (o : Option Text) → n ≤ m → Below n o → Below m o
 wider n m None le is = tt
 wider n m (Some text) le is = omega (arith, le, is)
 
-digits_below : (some : Bool) (text : Text) → Below (length text) (behind_digits some text)
+digits_below : (some : Bool) (text : Text) → Below (length text) (after_digits some text)
 digits_below some [] = tt
 digits_below some (b ∷ bs) = go (is_ascii_digit b) some (digits_below true bs)
   where
-    go : (t u : Bool) → Below (length bs) (behind_digits true bs) → Below (suc (length bs)) (cond t (behind_digits true bs) (cond u (behind_word (codes "]:") (b ∷ bs)) None))
-    go true u is = wider (length bs) (suc (length bs)) (behind_digits true bs) (omega arith) is
+    go : (t u : Bool) → Below (length bs) (after_digits true bs) → Below (suc (length bs)) (cond t (after_digits true bs) (cond u (after_word (codes "]:") (b ∷ bs)) None))
+    go true u is = wider (length bs) (suc (length bs)) (after_digits true bs) (omega arith) is
     go false true is = word_below (codes "]:") (b ∷ bs)
     go false false is = tt
 
@@ -39,18 +39,18 @@ or_below : (n : ℕ) (a b : Option Text) → Below n a → Below n b → Below n
 or_below n None b p q = q
 or_below n (Some t) b p q = p
 
-then_below : (n : ℕ) (o : Option Text) → Below n o → Below n (option_and_then (behind_digits false) o)
+then_below : (n : ℕ) (o : Option Text) → Below n o → Below n (option_and_then (after_digits false) o)
 then_below n None is = tt
-then_below n (Some t) is = wider (length t) n (behind_digits false t) (omega (arith, is)) (digits_below false t)
+then_below n (Some t) is = wider (length t) n (after_digits false t) (omega (arith, is)) (digits_below false t)
 
-pub mark_below : (prefix text : Text) → Below (length text) (behind_mark prefix text)
+pub mark_below : (prefix text : Text) → Below (length text) (after_mark prefix text)
 mark_below prefix text =
     let n = length text in
     or_below n _ _ (word_below (lower prefix) text)
     (or_below n _ _ (word_below (codes "re:") text)
     (or_below n _ _ (word_below (codes "fw:") text)
     (or_below n _ _ (word_below (codes "fwd:") text)
-    (or_below n _ _ (word_below (codes "aw:") text) (then_below n (behind_word (codes "re[") text) (word_below (codes "re[") text))))))
+    (or_below n _ _ (word_below (codes "aw:") text) (then_below n (after_word (codes "re[") text) (word_below (codes "re[") text))))))
 
 pub front_within : (text : Text) → length (without_front text) ≤ length text
 front_within [] = omega arith
@@ -64,18 +64,18 @@ abbrev pub turn_of : (Text → Text) → Text → Option Text → Text
 turn_of next text None = text
 turn_of next text (Some rest) = next (without_front rest)
 
-pub step : (turns : ℕ) (prefix text : Text) → stripped (suc turns) prefix text ≡ turn_of (stripped turns prefix) text (behind_mark prefix text)
+pub step : (turns : ℕ) (prefix text : Text) → stripped (suc turns) prefix text ≡ turn_of (stripped turns prefix) text (after_mark prefix text)
 unfolding stripped
-step turns prefix text = go (behind_mark prefix text)
+step turns prefix text = go (after_mark prefix text)
   where
     go : (o : Option Text) → elim o as (λ o. Text) [ None ↦ text | Some rest ↦ stripped turns prefix (without_front rest) ] ≡ turn_of (stripped turns prefix) text o
     go None = refl
     go (Some rest) = refl
 
-nothing : (prefix : Text) → behind_mark prefix [] ≡ None
-nothing prefix = go (behind_mark prefix []) refl (mark_below prefix [])
+nothing : (prefix : Text) → after_mark prefix [] ≡ None
+nothing prefix = go (after_mark prefix []) refl (mark_below prefix [])
   where
-    go : (o : Option Text) → behind_mark prefix [] ≡ o → Below 0 o → behind_mark prefix [] ≡ None
+    go : (o : Option Text) → after_mark prefix [] ≡ o → Below 0 o → after_mark prefix [] ≡ None
     go None is below = is
     go (Some t) is below = absurd (omega (arith, below))
 
@@ -88,7 +88,7 @@ turns_enough zero (suc b) prefix (x ∷ xs) p q = absurd (omega (arith, p))
 turns_enough (suc a) zero prefix [] p q = step a prefix [] ∙ ap (turn_of (stripped a prefix) []) (nothing prefix)
 turns_enough (suc a) zero prefix (x ∷ xs) p q = absurd (omega (arith, q))
 turns_enough (suc a) (suc b) prefix text p q =
-    step a prefix text ∙ go (behind_mark prefix text) (mark_below prefix text) (λ rest r s. turns_enough a b prefix rest r s) ∙ sym (step b prefix text)
+    step a prefix text ∙ go (after_mark prefix text) (mark_below prefix text) (λ rest r s. turns_enough a b prefix rest r s) ∙ sym (step b prefix text)
   where
     go : (o : Option Text) → Below (length text) o → ((rest : Text) → length rest ≤ a → length rest ≤ b → stripped a prefix rest ≡ stripped b prefix rest)
         → turn_of (stripped a prefix) text o ≡ turn_of (stripped b prefix) text o
@@ -96,25 +96,25 @@ turns_enough (suc a) (suc b) prefix text p q =
     go (Some rest) below later = let w = front_within rest in later (without_front rest) (omega (arith, w, below, p)) (omega (arith, w, below, q))
 
 -- one mark was taken off
-pub strip_more : (prefix low text more rest : Text) → low ≡ lower prefix → Some more ≡ behind_lower low text → rest ≡ without_front more → stripped (length rest) prefix rest ≡ stripped (length text) prefix text
-strip_more prefix low [] more rest is found then = absurd (let bad : Some more ≡ None = found ∙ ap (λ l. behind_lower l []) is ∙ nothing prefix in cc)
+pub strip_more : (prefix low text more rest : Text) → low ≡ lower prefix → Some more ≡ after_lower low text → rest ≡ without_front more → stripped (length rest) prefix rest ≡ stripped (length text) prefix text
+strip_more prefix low [] more rest is found then = absurd (let bad : Some more ≡ None = found ∙ ap (λ l. after_lower l []) is ∙ nothing prefix in cc)
 strip_more prefix low (b ∷ bs) more rest is found then =
-    let there : behind_mark prefix (b ∷ bs) ≡ Some more = sym (found ∙ ap (λ l. behind_lower l (b ∷ bs)) is) in
+    let there : after_mark prefix (b ∷ bs) ≡ Some more = sym (found ∙ ap (λ l. after_lower l (b ∷ bs)) is) in
     sym (step (length bs) prefix (b ∷ bs) ∙ ap (turn_of (stripped (length bs) prefix) (b ∷ bs)) there ∙ ap (stripped (length bs) prefix) (sym then)
     ∙ turns_enough (length bs) (length rest) prefix rest (below there) (omega arith))
   where
-    below : behind_mark prefix (b ∷ bs) ≡ Some more → length rest ≤ length bs
-    below there = go (behind_mark prefix (b ∷ bs)) there (mark_below prefix (b ∷ bs))
+    below : after_mark prefix (b ∷ bs) ≡ Some more → length rest ≤ length bs
+    below there = go (after_mark prefix (b ∷ bs)) there (mark_below prefix (b ∷ bs))
       where
         go : (o : Option Text) → o ≡ Some more → Below (suc (length bs)) o → length rest ≤ length bs
         go None is less = absurd (let bad : None ≡ Some more = is in cc)
         go (Some t) is less = let same : t ≡ more = cc in let w = front_within more in omega (arith, w, less, ap length then, ap length same)
 
 -- no mark is left
-pub strip_none : (prefix low text : Text) → low ≡ lower prefix → None ≡ behind_lower low text → text ≡ stripped (length text) prefix text
+pub strip_none : (prefix low text : Text) → low ≡ lower prefix → None ≡ after_lower low text → text ≡ stripped (length text) prefix text
 unfolding stripped
 strip_none prefix low [] is found = refl
-strip_none prefix low (b ∷ bs) is found = sym (step (length bs) prefix (b ∷ bs) ∙ ap (turn_of (stripped (length bs) prefix) (b ∷ bs)) (sym (found ∙ ap (λ l. behind_lower l (b ∷ bs)) is)))
+strip_none prefix low (b ∷ bs) is found = sym (step (length bs) prefix (b ∷ bs) ∙ ap (turn_of (stripped (length bs) prefix) (b ∷ bs)) (sym (found ∙ ap (λ l. after_lower l (b ∷ bs)) is)))
 
 -- spaces at the end
 end_space : (xs : Text) → without_end (xs ++ 32 ∷ []) ≡ without_end xs

@@ -63,15 +63,15 @@ entry_named n (f ∷ fs) e found = go (f.number == n) refl found (λ is. entry_n
     go false other is later = later is
 
 -- a group after the last post has no posts
-none_behind : (g k : ℕ) (posts : List Post) → k + length posts ≤ 100 * g → filter (λ (e : ℕ × Post). (e.0 / 100) == g) (enumerate_from k posts) ≡ []
-none_behind g k [] le = refl
-none_behind g k (p ∷ ps) le =
+none_after : (g k : ℕ) (posts : List Post) → k + length posts ≤ 100 * g → filter (λ (e : ℕ × Post). (e.0 / 100) == g) (enumerate_from k posts) ≡ []
+none_after g k [] le = refl
+none_after g k (p ∷ ps) le =
     let apart : k / 100 ≢ g = λ e. omega (arith, le, e) in
     ap (λ t. cond t ((k, p) ∷ filter (λ (e : ℕ × Post). (e.0 / 100) == g) (enumerate_from (k + 1) ps)) (filter (λ (e : ℕ × Post). (e.0 / 100) == g) (enumerate_from (k + 1) ps))) (ne_eqb (k / 100) g apart)
-    ∙ none_behind g (k + 1) ps (omega (arith, le))
+    ∙ none_after g (k + 1) ps (omega (arith, le))
 
 pub no_group : (g : ℕ) (posts : List Post) → length posts ≤ 99_999_999 → 1_000_000 ≤ g → [] ≡ index_of g posts
-no_group g posts few high = sym (ap (map entry) (none_behind g 1 posts (omega (arith, few, high))))
+no_group g posts few high = sym (ap (map entry) (none_after g 1 posts (omega (arith, few, high))))
 
 pub group_in_table : (g : ℕ) → g < 1_000_000 → IsTrue (is_in_table (index_name g))
 group_in_table g less = in_table 10 g 0 999_999 refl refl (omega arith) (omega (arith, less))

@@ -16,7 +16,7 @@ use Rattle.ml_base.specs.Bytes.{Text}
 use Rattle.ml_base.specs.Sorted.{byte_cmp, with_entry, entry_of}
 use Rattle.ml_base.proofs.BelowLemmas.{less}
 use Rattle.ml_base.proofs.SortedLaws.{bytes_total, same_bytes}
-use Rattle.ml_filing.specs.Answers.{is_from, behind_key}
+use Rattle.ml_filing.specs.Answers.{is_from, past_key}
 use Rattle.ml_filing.specs.Threads.{Thread, thread_text, numbers_under}
 
 abbrev Threads : Type 0
@@ -36,7 +36,7 @@ not_lt : (a b : Text) → bytes_eq b a ≡ true → byte_cmp a b ≡ Equal
 not_lt a b e = ap (byte_cmp a) ((bytes_eq-Decides b a).0 e) ∙ tied_itself bytes_total a
 
 -- and before the others, in place of the one with its key
-with_from : (e : Thread) (es : Threads) → is_from e.key es ≡ true → with_thread e es ≡ e ∷ behind_key e.key es
+with_from : (e : Thread) (es : Threads) → is_from e.key es ≡ true → with_thread e es ≡ e ∷ past_key e.key es
 with_from e [] from = refl
 with_from e (f ∷ fs) from = go (byte_cmp e.key f.key) refl (bytes_eq f.key e.key) refl
   where
@@ -58,7 +58,7 @@ with_turn out new e f rest more whole is lt made before =
     ∙ ap (λ es. out ++ texts es) (sym (with_below e f more lt) ∙ ap (with_thread e) (sym is)) ∙ before
 
 -- the end: the thread and those after it were written
-pub with_end : (out front all whole : Text) (e : Thread) (rest tail : Threads) → is_from e.key rest ≡ true → tail ≡ behind_key e.key rest → front ≡ out ++ thread_text e → all ≡ front ++ texts tail
+pub with_end : (out front all whole : Text) (e : Thread) (rest tail : Threads) → is_from e.key rest ≡ true → tail ≡ past_key e.key rest → front ≡ out ++ thread_text e → all ≡ front ++ texts tail
     → out ++ texts (with_thread e rest) ≡ whole → all ≡ whole
 with_end out front all whole e rest tail from is first then before =
     then ∙ ap (λ t. t ++ texts tail) first ∙ append_assoc out (thread_text e) (texts tail)
@@ -73,7 +73,7 @@ under_here r k a rest more e is test own h =
     sym (ap (numbers_under k) is ∙ under_first (eq_by_cmp byte_cmp k e.key) e (entry_of byte_cmp (λ (x : Thread). x.key) k more)
     ∙ ap (λ t. cond t e.numbers (numbers_under k more)) (same_key k e.key ∙ ap (bytes_eq k) (sym own) ∙ sym test ∙ h))
 
-pub under_behind : (r : Bool) (k a : Text) (rest more : Threads) (e : Thread) → rest ≡ e ∷ more → r ≡ bytes_eq k a → a ≡ e.key → r ≡ false → numbers_under k more ≡ numbers_under k rest
-under_behind r k a rest more e is test own h =
+pub under_after : (r : Bool) (k a : Text) (rest more : Threads) (e : Thread) → rest ≡ e ∷ more → r ≡ bytes_eq k a → a ≡ e.key → r ≡ false → numbers_under k more ≡ numbers_under k rest
+under_after r k a rest more e is test own h =
     sym (ap (numbers_under k) is ∙ under_first (eq_by_cmp byte_cmp k e.key) e (entry_of byte_cmp (λ (x : Thread). x.key) k more)
     ∙ ap (λ t. cond t e.numbers (numbers_under k more)) (same_key k e.key ∙ ap (bytes_eq k) (sym own) ∙ sym test ∙ h))

@@ -34,9 +34,9 @@ is_from k [] = true
 is_from k (t ∷ ts) = not (is_lt (byte_cmp t.key k))
 
 -- the threads without the first, if that has this key
-abbrev pub behind_key : Text → List Thread → List Thread
-behind_key k [] = []
-behind_key k (t ∷ ts) = if bytes_eq t.key k then ts else t ∷ ts
+abbrev pub past_key : Text → List Thread → List Thread
+past_key k [] = []
+past_key k (t ∷ ts) = if bytes_eq t.key k then ts else t ∷ ts
 
 -- files outside their grammar
 abbrev pub IsNoNumber : Dir → Type 0

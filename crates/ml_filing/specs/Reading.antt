@@ -27,15 +27,15 @@ entry_of_fields k (moment ∷ sender ∷ size ∷ subject ∷ []) =
 entry_of_fields k texts = None
 
 -- what comes after an LF
-abbrev pub behind_lf : Text → Option Text
-behind_lf [] = None
-behind_lf (b ∷ bs) = if b == line_feed then Some bs else None
+abbrev pub after_lf : Text → Option Text
+after_lf [] = None
+after_lf (b ∷ bs) = if b == line_feed then Some bs else None
 
 -- the entry of number k at the beginning of a text, in the index of group g, and what comes after it: four netstrings
 -- and an LF, if k is of the group
 abbrev pub entry_in_place : ℕ → ℕ → Text → Option (Entry × Text)
 entry_in_place g k text =
-    if k / 100 == g then option_and_then (λ found. both_of (entry_of_fields k found.0) (behind_lf found.1)) (netstrings_at 4 text) else None
+    if k / 100 == g then option_and_then (λ found. both_of (entry_of_fields k found.0) (after_lf found.1)) (netstrings_at 4 text) else None
 
 -- the entries in the index of group g, in a row from the group's first number on
 abbrev pub index_in : ℕ → Text → Option (List Entry)

@@ -43,8 +43,8 @@ fn texts_of(text: &[u8]) -> Option<Texts<'_>>
     ensures none { IfNone result (netstrings_at 4 text.now ≡ None) }
     ensures shorter { IfSome result (λ t. length t.rest.now < length text.now) }
 {
-    let (moment, behind) = split_netstring(text)?;
-    let (sender, later) = split_netstring(behind)?;
+    let (moment, after) = split_netstring(text)?;
+    let (sender, later) = split_netstring(after)?;
     let (size, last) = split_netstring(later)?;
     let (subject, rest) = split_netstring(last)?;
     Some(Texts {
@@ -57,8 +57,8 @@ fn texts_of(text: &[u8]) -> Option<Texts<'_>>
 }
 
 // What comes after an LF at the beginning of a text.
-fn behind_lf(text: &[u8]) -> Option<&[u8]>
-    ensures value { option_map (λ t. t.now) result ≡ spec.behind_lf text.now }
+fn after_lf(text: &[u8]) -> Option<&[u8]>
+    ensures value { option_map (λ t. t.now) result ≡ spec.after_lf text.now }
     ensures shorter { IfSome result (λ t. length t.now < length text.now) }
 {
     match text {
@@ -108,7 +108,7 @@ fn entry_at<'a>(
     let Some(texts) = texts_of(text) else {
         return Ok(None);
     };
-    let Some(rest) = behind_lf(texts.rest) else {
+    let Some(rest) = after_lf(texts.rest) else {
         return Ok(None);
     };
     match entry_of(alloc, number, texts)? {

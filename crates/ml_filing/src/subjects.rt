@@ -83,8 +83,8 @@ fn without_end(text: &[u8]) -> &[u8]
 }
 
 // What comes after a word at the beginning of a text, if the word isn't empty.
-fn behind_word<'a>(word: &[u8], text: &'a [u8]) -> Option<&'a [u8]>
-    ensures value { option_map (λ t. t.now) result ≡ spec.behind_word word.now text.now }
+fn after_word<'a>(word: &[u8], text: &'a [u8]) -> Option<&'a [u8]>
+    ensures value { option_map (λ t. t.now) result ≡ spec.after_word word.now text.now }
     ensures shorter { IfSome result (λ t. length t.now < length text.now) }
 {
     if word.is_empty() {
@@ -94,8 +94,8 @@ fn behind_word<'a>(word: &[u8], text: &'a [u8]) -> Option<&'a [u8]>
 }
 
 // What comes after one or more digits and `]:` at the beginning of a text.
-fn behind_digits(text: &[u8]) -> Option<&[u8]>
-    ensures value { option_map (λ t. t.now) result ≡ spec.behind_digits false text.now }
+fn after_digits(text: &[u8]) -> Option<&[u8]>
+    ensures value { option_map (λ t. t.now) result ≡ spec.after_digits false text.now }
     ensures shorter { IfSome result (λ t. length t.now < length text.now) }
 {
     let [first, more @ ..] = text else {
@@ -107,7 +107,7 @@ fn behind_digits(text: &[u8]) -> Option<&[u8]>
     let mut rest = more;
     while let [byte, more @ ..] = rest {
         if !byte.is_ascii_digit() {
-            return behind_word(b"]:", rest);
+            return after_word(b"]:", rest);
         }
         rest = more;
     }
@@ -115,24 +115,24 @@ fn behind_digits(text: &[u8]) -> Option<&[u8]>
 }
 
 // What comes after the mark of an answer that has a number, as `re[2]:`.
-fn behind_numbered(text: &[u8]) -> Option<&[u8]>
-    ensures value { option_map (λ t. t.now) result ≡ spec.behind_numbered text.now }
+fn after_numbered(text: &[u8]) -> Option<&[u8]>
+    ensures value { option_map (λ t. t.now) result ≡ spec.after_numbered text.now }
     ensures shorter { IfSome result (λ t. length t.now < length text.now) }
 {
-    behind_digits(behind_word(b"re[", text)?)
+    after_digits(after_word(b"re[", text)?)
 }
 
 // What comes after the first mark of an answer, or the prefix in lower case, at the beginning of a text.
-fn behind_mark<'a>(prefix: &[u8], text: &'a [u8]) -> Option<&'a [u8]>
-    ensures value { option_map (λ t. t.now) result ≡ spec.behind_lower prefix.now text.now }
+fn after_mark<'a>(prefix: &[u8], text: &'a [u8]) -> Option<&'a [u8]>
+    ensures value { option_map (λ t. t.now) result ≡ spec.after_lower prefix.now text.now }
     ensures shorter { IfSome result (λ t. length t.now < length text.now) }
 {
-    behind_word(prefix, text)
-        .or_else(|| behind_word(b"re:", text))
-        .or_else(|| behind_word(b"fw:", text))
-        .or_else(|| behind_word(b"fwd:", text))
-        .or_else(|| behind_word(b"aw:", text))
-        .or_else(|| behind_numbered(text))
+    after_word(prefix, text)
+        .or_else(|| after_word(b"re:", text))
+        .or_else(|| after_word(b"fw:", text))
+        .or_else(|| after_word(b"fwd:", text))
+        .or_else(|| after_word(b"aw:", text))
+        .or_else(|| after_numbered(text))
 }
 
 // A text without such marks and the spaces after them, as long as it begins with one.
@@ -140,7 +140,7 @@ fn stripped<'a>(prefix: &[u8], text: &'a [u8]) -> &'a [u8]
     ensures { (list : Text) → prefix.now ≡ lower list → result.now ≡ spec.stripped (length text.now) list text.now }
 {
     let mut rest = text;
-    while let Some(more) = behind_mark(prefix, rest) {
+    while let Some(more) = after_mark(prefix, rest) {
         rest = without_front(more);
     }
     rest

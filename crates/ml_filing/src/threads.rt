@@ -60,8 +60,8 @@ fn texts_of(text: &[u8]) -> Option<(&[u8], &[u8], &[u8])>
     ensures none { IfNone result (netstrings_at 2 text.now ≡ None) }
     ensures shorter { IfSome result (λ t. length t.2.now < length text.now) }
 {
-    let (key, behind) = split_netstring(text)?;
-    let (numbers, rest) = split_netstring(behind)?;
+    let (key, after) = split_netstring(text)?;
+    let (numbers, rest) = split_netstring(after)?;
     Some((key, numbers, rest))
 }
 
@@ -181,8 +181,8 @@ fn next_below<'a>(threads: &'a [Thread], key: &[u8]) -> Option<(&'a Thread, &'a 
 }
 
 // The threads without the first, if that has this key.
-fn behind<'a>(threads: &'a [Thread], key: &[u8]) -> &'a [Thread]
-    ensures { result.now ≡ answers.behind_key key.now threads.now }
+fn after<'a>(threads: &'a [Thread], key: &[u8]) -> &'a [Thread]
+    ensures { result.now ≡ answers.past_key key.now threads.now }
 {
     let [first, more @ ..] = threads else {
         return threads;
@@ -218,7 +218,7 @@ fn text_with(alloc: Global, threads: &[Thread], thread: &Thread) -> Result<Bytes
         rest = more;
     }
     push_thread(alloc, &mut out, thread)?;
-    push_threads(alloc, &mut out, behind(rest, key))?;
+    push_threads(alloc, &mut out, after(rest, key))?;
     Ok(out)
 }
 

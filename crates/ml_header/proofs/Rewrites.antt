@@ -111,16 +111,16 @@ drop_past : (a b : Text) (k : ℕ) → drop (length a + k) (a ++ b) ≡ drop k b
 drop_past [] b k = let e : 0 + k ≡ k = omega arith in ap (λ n. drop n b) e
 drop_past (x ∷ xs) b k = let e : length (x ∷ xs) + k ≡ suc (length xs + k) = omega arith in ap (λ n. drop n (x ∷ (xs ++ b))) e ∙ drop_past xs b k
 
-pub ends_behind : (a b : Text) → 0 < length b → ends_with nat_eq (a ++ b) lf ≡ ends_with nat_eq b lf
-ends_behind a b some =
+pub ends_after : (a b : Text) → 0 < length b → ends_with nat_eq (a ++ b) lf ≡ ends_with nat_eq b lf
+ends_after a b some =
     let n : length (a ++ b) - 1 ≡ length a + (length b - 1) = omega (arith, length-append a b) in
     ap (λ t. bytes_eq lf t) (ap (λ n. drop n (a ++ b)) n ∙ drop_past a b (length b - 1))
 
 abbrev ended : Text → Bool → Text
 ended text is = cond is text (text ++ lf)
 
-pub line_end_behind : (a b : Text) → 0 < length b → with_line_end (a ++ b) ≡ a ++ with_line_end b
-line_end_behind a b some = ap (ended (a ++ b)) (ends_behind a b some) ∙ go (ends_with nat_eq b lf)
+pub line_end_after : (a b : Text) → 0 < length b → with_line_end (a ++ b) ≡ a ++ with_line_end b
+line_end_after a b some = ap (ended (a ++ b)) (ends_after a b some) ∙ go (ends_with nat_eq b lf)
   where
     go : (t : Bool) → ended (a ++ b) t ≡ a ++ ended b t
     go true = refl
@@ -133,7 +133,7 @@ some_lines (Some prefix) f e =
 
 pub ended_body : (old body text new : Text) → (length body == 0) ≡ false → text ≡ old ++ body → new ≡ with_line_end text → new ≡ old ++ with_last_line_end body
 ended_body old [] text new some e f = absurd (let bad : true ≡ false = some in cc)
-ended_body old (b ∷ bs) text new some e f = f ∙ ap with_line_end e ∙ line_end_behind old (b ∷ bs) (omega arith)
+ended_body old (b ∷ bs) text new some e f = f ∙ ap with_line_end e ∙ line_end_after old (b ∷ bs) (omega arith)
 
 -- whether a search found a part
 pub is_found : (part text : Text) (r : Option ℕ) → FindsNeedle text part 0 r → is_some r ≡ has_part part text

@@ -11,7 +11,7 @@ use Rattle.ml_header.specs.Lines.{begins_blank}
 use Rattle.ml_header.specs.Fields.{FieldText, has_name, fields, body}
 use Rattle.ml_header.specs.Rewriting.{has_part, names_of, is_among, spaced, with_prefix, prefix_first, whole_subject, prefixed, trailed, rewritten}
 use Rattle.ml_header.specs.Forms.{EndsInLf, is_folded, IsField, AreEnded, Parted, Made, IsMadeOf, IsRow, ended_field, kept_fields}
-use Rattle.ml_header.proofs.Rewrites.{ends_behind, line_end_behind}
+use Rattle.ml_header.proofs.Rewrites.{ends_after, line_end_after}
 use Rattle.ml_header.proofs.OneForm.{all_lines, one_form}
 use Rattle.ml_header.proofs.ReadForm.{read_all}
 
@@ -49,7 +49,7 @@ folded_end (b ∷ []) e no_lf = go (b == 10) refl
     go false is = refl
 folded_end (b ∷ x ∷ xs) e no_lf =
     let parts = both (not (b == 10) || false || begins_blank (x ∷ xs)) (is_folded (x ∷ xs)) e in
-    ap₂ (λ p q. p && q) parts.0 (folded_end (x ∷ xs) parts.1 (sym (ends_behind (b ∷ []) (x ∷ xs) (omega arith)) ∙ no_lf))
+    ap₂ (λ p q. p && q) parts.0 (folded_end (x ∷ xs) parts.1 (sym (ends_after (b ∷ []) (x ∷ xs) (omega arith)) ∙ no_lf))
 
 folded_line : (v : Text) → is_folded v ≡ true → is_folded (with_line_end v) ≡ true
 folded_line v e = go (ends_with nat_eq v lf) refl
@@ -59,9 +59,9 @@ folded_line v e = go (ends_with nat_eq v lf) refl
     go false is = folded_end v e is
 
 whole_end : (name v : Text) → with_line_end (name ++ 58 ∷ v) ≡ name ++ 58 ∷ with_line_end v
-whole_end name [] = line_end_behind name (58 ∷ []) (omega arith)
+whole_end name [] = line_end_after name (58 ∷ []) (omega arith)
 whole_end name (x ∷ xs) =
-    ap with_line_end (sym (append_assoc name (58 ∷ []) (x ∷ xs))) ∙ line_end_behind (name ++ 58 ∷ []) (x ∷ xs) (omega arith) ∙ append_assoc name (58 ∷ []) (with_line_end (x ∷ xs))
+    ap with_line_end (sym (append_assoc name (58 ∷ []) (x ∷ xs))) ∙ line_end_after (name ++ 58 ∷ []) (x ∷ xs) (omega arith) ∙ append_assoc name (58 ∷ []) (with_line_end (x ∷ xs))
 
 field_end : (f : FieldText) → IsField f → IsField (ended_field f)
 field_end f is = record {
@@ -108,9 +108,9 @@ message_fields m = go (read_all m)
     go (inr all) = none (fields m) all.no_fields
 
 -- a folded value stays folded after a text without an LF
-folded_behind : (t v : Text) → has_byte 10 t ≡ false → is_folded v ≡ true → is_folded (t ++ v) ≡ true
-folded_behind [] v no_lf e = e
-folded_behind (b ∷ bs) v no_lf e = go (b == 10) refl no_lf (λ rest. folded_behind bs v rest e)
+folded_after : (t v : Text) → has_byte 10 t ≡ false → is_folded v ≡ true → is_folded (t ++ v) ≡ true
+folded_after [] v no_lf e = e
+folded_after (b ∷ bs) v no_lf e = go (b == 10) refl no_lf (λ rest. folded_after bs v rest e)
   where
     go : (s : Bool) → (b == 10) ≡ s → (s || has_byte 10 bs) ≡ false → (has_byte 10 bs ≡ false → is_folded (bs ++ v) ≡ true)
         → ((not (b == 10) || is_empty (bs ++ v) || begins_blank (bs ++ v)) && is_folded (bs ++ v)) ≡ true
@@ -129,7 +129,7 @@ prefix_field prefix f no_lf is = record {
   named = is.named;
   no_colon = is.no_colon;
   whole = refl;
-  folded = folded_behind (32 ∷ prefix) (spaced f.value) no_lf (spaced_folded f.value is.folded);
+  folded = folded_after (32 ∷ prefix) (spaced f.value) no_lf (spaced_folded f.value is.folded);
 }
 
 first_fields : (name prefix : Text) (fs : List FieldText) → has_byte 10 prefix ≡ false → AreFields fs → AreFields (prefix_first name prefix fs)
@@ -162,6 +162,6 @@ sent_form m remove add fs prefix trailer row no_lf =
           ∙ ap (λ t. (t ++ lf) ++ last) (sym (joined_lines fs kept)) ∙ append_assoc (all_lines all) lf last;
       are_fields = are_both fs (map ended_field kept) row.are_fields (fields_end (λ f. not (is_among (names_of remove) f)) (prefixed prefix m) (prefixed_fields prefix m no_lf));
       ended = all_end fs kept (lf ++ last) row.ended;
-      behind = inr (inl empty);
+      after = inr (inl empty);
     } in
     one_form (rewritten m remove add prefix trailer) all last (inl made)

@@ -46,8 +46,8 @@ pub record Unparted (rest body : Text) : Type 0 where
   pub no_fold : begins_blank line ≡ false
 
 -- what may follow the fields
-abbrev pub Behind : Text → Text → Type 0
-Behind rest body = ((rest ≡ []) × (body ≡ [])) ⊎ (Parted rest body ⊎ Unparted rest body)
+abbrev pub After : Text → Text → Type 0
+After rest body = ((rest ≡ []) × (body ≡ [])) ⊎ (Parted rest body ⊎ Unparted rest body)
 
 -- fields, and what follows them
 pub record Made (m : Text) (fs : List FieldText) (body : Text) : Type 0 where
@@ -55,7 +55,7 @@ pub record Made (m : Text) (fs : List FieldText) (body : Text) : Type 0 where
   pub whole : m ≡ flat_map (λ f. f.lines) fs ++ rest
   pub are_fields : AllByRecursion IsField fs
   pub ended : AreEnded fs rest
-  pub behind : Behind rest body
+  pub after : After rest body
 
 -- a message whose first line would continue a field is all body
 pub record AllBody (m : Text) (fs : List FieldText) (body : Text) : Type 0 where

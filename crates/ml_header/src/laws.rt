@@ -23,8 +23,8 @@ pub fn law_names()
 
 /// A text has a part exactly if it is that part with bytes before and after it.
 pub fn law_parts()
-    ensures read { (part text : Text) → has_part part text ≡ true → (before behind : Text) × (text ≡ before ++ (part ++ behind)) }
-    ensures written { (before part behind : Text) → has_part part (before ++ (part ++ behind)) ≡ true }
+    ensures read { (part text : Text) → has_part part text ≡ true → (before after : Text) × (text ≡ before ++ (part ++ after)) }
+    ensures written { (before part after : Text) → has_part part (before ++ (part ++ after)) ≡ true }
 {}
 
 /// An unfolded value has no LF, and no space or tab at its ends.

@@ -31,9 +31,9 @@ pub(crate) fn parts_of(text: &[u8]) -> Option<Parts<'_>>
     ensures some { IfSome result (λ p. IsSpelled text.now (told p)) }
     ensures none { IfNone result ((held : Held) → ¬ IsSpelled text.now held) }
 {
-    let (digits, behind) = split_netstring(text)?;
+    let (digits, after) = split_netstring(text)?;
     let moment = number_within(LAST_MOMENT, digits)?;
-    let (sender, last) = split_netstring(behind)?;
+    let (sender, last) = split_netstring(after)?;
     if !is_kept(sender) {
         return None;
     }

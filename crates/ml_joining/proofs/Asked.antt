@@ -1,7 +1,7 @@
 -- Whom a request is about, and where his key is found.
 use Rattle.std.proofs.Common.{◌≡◌, ◌∙◌, Bool, true, false, ◌++◌, ◌∷◌, cond, Option, Some, None, is_some, refl, sym, ap}
 use Rattle.std.specs.Option.{option_map_or}
-use Rattle.ml_base.specs.Address.{address_check, address_of, as_address, before_at, behind_at, key, make_address}
+use Rattle.ml_base.specs.Address.{address_check, address_of, as_address, before_at, past_at, key, make_address}
 use Rattle.ml_base.specs.Bytes.{Text, lower}
 use Rattle.ml_base.specs.declared.names.Set.{Set}
 use Rattle.ml_address.specs.Requests.{PlainWho}
@@ -19,7 +19,7 @@ pub named_is : (l h text address : Text) → make_address l h ≡ true → text 
 named_is l h text address fits spelled e =
     let t = l ++ 64 ∷ h in
     let cut = cut_there l h (is_ok_checks (address_check t) fits) in
-    let whole : as_address t ≡ l ++ 64 ∷ lower h = ap (λ (o : Option (Text × Text)). before_at o ++ 64 ∷ lower (behind_at o)) cut in
+    let whole : as_address t ≡ l ++ 64 ∷ lower h = ap (λ (o : Option (Text × Text)). before_at o ++ 64 ∷ lower (past_at o)) cut in
     let read : Some address ≡ Some (l ++ 64 ∷ lower h) = sym e ∙ ap address_of spelled ∙ ap (λ (b : Bool). cond b (Some (as_address t)) None) fits ∙ ap Some whole in
     cc
 

@@ -25,7 +25,7 @@ use Rattle.ml_acts.specs.Damaged.{IsDamaged}
 use Rattle.ml_acts.specs.Damaged as damage
 use Rattle.ml_acts.specs.Doing.{Alike, is_bucket, is_bucket_of, is_entry_of, is_left_by}
 use Rattle.ml_acts.proofs.Damages.{named_of, named_so}
-use Rattle.ml_acts.proofs.OfActs.{KeepsMap, act_behind, act_err, act_so}
+use Rattle.ml_acts.proofs.OfActs.{KeepsMap, act_after, act_err, act_so}
 use Rattle.ml_acts.proofs.SetsApart.{unread_there}
 use Rattle.ml_acts.proofs.Spared.{bucket_spared, buckets_spared, ids_spared, keys_spared}
 use Rattle.ml_joining.specs.Damaged.{AnswersLooking, IsDamagedAmong}
@@ -91,12 +91,12 @@ module _ (few more : Name → Bool) where
     pub read_more : {T : Type 0} {first second third : F} {found : Result T PartError} → KeepsOn told → KeepsMap told → IsReading told first second found → Within few more
         → AnswersLooking may_write told few second third r → AnswersLooking may_write told more first third r
     read_more {first = first} on maps read weak act =
-        act_behind told (IsDamagedAmong few) on maps read act weak (λ t name e bad. among_wider weak (told.map first) name bad)
+        act_after told (IsDamagedAmong few) on maps read act weak (λ t name e bad. among_wider weak (told.map first) name bad)
 
     pub read_alone : {T : Type 0} {first second third : F} {found : Result T PartError} → KeepsOn told → KeepsMap told → IsReading told first second found → AreAlone few → Within few more
         → AnswersWithin may_write told (λ name. few name ≡ true) (IsDamaged (told.map second)) second third r → AnswersLooking may_write told more first third r
     read_alone {first = first} on maps read alone weak act =
-        act_behind told IsDamaged on maps read act weak (λ t name e bad. among_alone alone weak (told.map first) name e bad)
+        act_after told IsDamaged on maps read act weak (λ t name e bad. among_alone alone weak (told.map first) name e bad)
 
     -- a read that failed
     pub read_failed : {T : Type 0} {old new : F} {e : PartError} → AreAlone few → Within few more → NamesDamaged {T = T} told (λ name. few name ≡ true) (IsDamaged (told.map old)) (Err e)

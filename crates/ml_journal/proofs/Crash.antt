@@ -6,7 +6,7 @@ use Rattle.ml_base.specs.Bytes.{Text}
 use Rattle.ml_base.specs.Dir.{Dir, with_puts}
 use Rattle.ml_base.specs.declared.puts.Put.{Put}
 use Rattle.ml_site.specs.Disk.{Contents, Range, MayLeave, log_with}
-use Rattle.ml_site.proofs.LogParts.{torn_behind, torn_byte, torn_log_files}
+use Rattle.ml_site.proofs.LogParts.{torn_after, torn_byte, torn_log_files}
 use Rattle.ml_journal.specs.Log.{log_puts, laid_over, directory}
 use Rattle.ml_journal.specs.Moments.{with_txn}
 use Rattle.ml_journal.specs.Rows.{IsRow, IsRecord, Rests, Staged}
@@ -37,9 +37,9 @@ closed_row row change gate rest is_row shut files = is_row (gate ∷ rest) files
 pub last_row : (row : Text) (change : Dir → Dir) (gate : ℕ) → IsRow row change → Counts (row ++ gate ∷ []) change
 last_row row change gate is_row files = is_row (gate ∷ []) files (omega arith) ∙ ap (laid_over (change files)) (log_end gate)
 
-row_then : (front behind : Text) (first second : Dir → Dir) → IsRow front first → IsRow behind second → IsRow (front ++ behind) (λ d. second (first d))
-row_then front behind first second a b rest files some =
-    ap (λ (l : Text). laid_over files (log_puts l)) (append_assoc front behind rest) ∙ a (behind ++ rest) files (omega (arith, length-append behind rest)) ∙ b rest (first files) some
+row_then : (front after : Text) (first second : Dir → Dir) → IsRow front first → IsRow after second → IsRow (front ++ after) (λ d. second (first d))
+row_then front after first second a b rest files some =
+    ap (λ (l : Text). laid_over files (log_puts l)) (append_assoc front after rest) ∙ a (after ++ rest) files (omega (arith, length-append after rest)) ∙ b rest (first files) some
 
 -- a record has at least one byte
 record_some : (body : Text) (txn : List Put) → IsRecord body txn → 0 < length body
@@ -57,11 +57,11 @@ pub rests_size : (log : Text) (end : ℕ) (change : Dir → Dir) → Rests log e
 rests_size log end change rests = omega (arith, ap length rests.split, length-append rests.row (0 ∷ []), rests.size)
 
 -- a record is written after the last gate
-pub behind_gate : (old : Contents) (end n : ℕ) (change : Dir → Dir) (left : Contents) → Rests old.log end change → MayLeave old (Range (end + 1) n ∷ []) left → directory left ≡ directory old
-behind_gate old end n change left rests may =
+pub after_gate : (old : Contents) (end n : ℕ) (change : Dir → Dir) (left : Contents) → Rests old.log end change → MayLeave old (Range (end + 1) n ∷ []) left → directory left ≡ directory old
+after_gate old end n change left rests may =
     let size = rests_size old.log end change rests in
     let junk = drop (length old.log) left.log in
-    let split : left.log ≡ rests.row ++ 0 ∷ junk = torn_behind old left n (subst (λ (k : ℕ). MayLeave old (Range k n ∷ []) left) (sym size) may) ∙ ap (λ (l : Text). l ++ junk) rests.split ∙ append_assoc rests.row (0 ∷ []) junk in
+    let split : left.log ≡ rests.row ++ 0 ∷ junk = torn_after old left n (subst (λ (k : ℕ). MayLeave old (Range k n ∷ []) left) (sym size) may) ∙ ap (λ (l : Text). l ++ junk) rests.split ∙ append_assoc rests.row (0 ∷ []) junk in
     same_directory old left change (rests_counts old.log end change rests)
     (counts_same _ left.log change split (closed_row rests.row change 0 junk rests.is_row (omega arith)))
     (torn_log_files old left (end + 1) n may)
@@ -119,7 +119,7 @@ at_gate old end body change txn left at reads may =
       | inr shut ↦ inl (same_directory old left change was (counts_same _ left.log change split (closed_row at.row change gate (body ++ 0 ∷ []) at.is_row shut)) files)
     ]
 
-first_of : (row body : Text) → (row ≡ []) ⊎ ((behind : Text) × (row ≡ 1 ∷ behind)) → (behind : Text) × (row ++ 1 ∷ body ≡ 1 ∷ behind)
+first_of : (row body : Text) → (row ≡ []) ⊎ ((after : Text) × (row ≡ 1 ∷ after)) → (after : Text) × (row ++ 1 ∷ body ≡ 1 ∷ after)
 first_of row body (inl none) = (body, ap (λ (l : Text). l ++ 1 ∷ body) none)
 first_of row body (inr some) = (some.0 ++ 1 ∷ body, ap (λ (l : Text). l ++ 1 ∷ body) some.1)
 

@@ -19,11 +19,11 @@ use Rattle.ml_journal.proofs.Crash.{rests_counts}
 row_size : (log : Text) (end : ℕ) → log ≡ take end log ++ 0 ∷ [] → length (take end log) ≡ end
 row_size log end split = omega (arith, ap length split, length-append (take end log) (0 ∷ []), length-take end log)
 
-begins_of : (row log : Text) (end : ℕ) → length row ≡ end → log ≡ row ++ 0 ∷ [] → (0 < end → get_or log 0 0 ≡ 1) → (row ≡ []) ⊎ ((behind : Text) × (row ≡ 1 ∷ behind))
+begins_of : (row log : Text) (end : ℕ) → length row ≡ end → log ≡ row ++ 0 ∷ [] → (0 < end → get_or log 0 0 ≡ 1) → (row ≡ []) ⊎ ((after : Text) × (row ≡ 1 ∷ after))
 begins_of [] log end size split begins = inl refl
-begins_of (h ∷ behind) log end size split begins =
+begins_of (h ∷ after) log end size split begins =
     let is_open : h ≡ 1 = sym (ap (λ (l : Text). get_or l 0 0) split) ∙ begins (omega arith) in
-    inr (behind, ap (λ (k : ℕ). k ∷ behind) is_open)
+    inr (after, ap (λ (k : ℕ). k ∷ after) is_open)
 
 pub rests_of : (log : Text) (end : ℕ) (change : Dir → Dir) → log ≡ take end log ++ 0 ∷ [] → (0 < end → get_or log 0 0 ≡ 1) → IsRow (take end log) change → Rests log end change
 rests_of log end change split begins row = record {
@@ -46,7 +46,7 @@ row_of_log log end change rests = subst (λ (l : Text). IsRow l change) (sym (ro
 pub first_of_log : (log : Text) (end : ℕ) (change : Dir → Dir) → Rests log end change → 0 < end → get_or log 0 0 ≡ 1
 first_of_log log end change rests some = begins rests.row rests.split rests.size rests.first
   where
-    begins : (row : Text) → log ≡ row ++ 0 ∷ [] → length row ≡ end → (row ≡ []) ⊎ ((behind : Text) × (row ≡ 1 ∷ behind)) → get_or log 0 0 ≡ 1
+    begins : (row : Text) → log ≡ row ++ 0 ∷ [] → length row ≡ end → (row ≡ []) ⊎ ((after : Text) × (row ≡ 1 ∷ after)) → get_or log 0 0 ≡ 1
     begins row split size (inl none) = absurd (omega (arith, ap length none, size, some))
     begins row split size (inr first) = ap (λ (l : Text). get_or l 0 0) (split ∙ ap (λ (l : Text). l ++ 0 ∷ []) first.1)
 

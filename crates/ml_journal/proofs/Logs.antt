@@ -68,9 +68,9 @@ row_of [] puts reads some rest files more = absurd (omega (arith, some))
 row_of (b ∷ text) puts reads some rest files more =
     ap (laid_over files) (log_opened b (text ++ rest) ∙ ap (record_and_more log_puts) (reads rest)) ∙ laid (log_puts rest)
   where
-    laid : (behind : Option (List Put)) → laid_over files (option_map (λ (more : List Put). puts ++ more) behind) ≡ laid_over (with_puts files puts) behind
+    laid : (after : Option (List Put)) → laid_over files (option_map (λ (more : List Put). puts ++ more) after) ≡ laid_over (with_puts files puts) after
     laid None = refl
-    laid (Some behind) = ap Some (laid_joined files puts behind)
+    laid (Some after) = ap Some (laid_joined files puts after)
 
 -- the puts of a log are of files
 files_joined : (first second : List Put) → are_files first ≡ true → are_files second ≡ true → are_files (first ++ second) ≡ true
@@ -87,15 +87,15 @@ log_files_within (suc n) [] puts e = let same : [] ≡ puts = cc in ap are_files
 log_files_within (suc n) (gate ∷ []) puts e = let same : [] ≡ puts = cc in ap are_files (sym same)
 log_files_within (suc n) (gate ∷ b ∷ rest) puts e = go (gate == 1) (record_at (b ∷ rest)) refl e (log_files_within n)
   where
-    behind : (first : List Put) (more : Option (List Put)) → are_files first ≡ true → option_map (λ (ps : List Put). first ++ ps) more ≡ Some puts → ((ps : List Put) → more ≡ Some ps → are_files ps ≡ true) → are_files puts ≡ true
-    behind first None files e' later = cc
-    behind first (Some ps) files e' later = let same : first ++ ps ≡ puts = cc in ap are_files (sym same) ∙ files_joined first ps files (later ps refl)
+    after : (first : List Put) (more : Option (List Put)) → are_files first ≡ true → option_map (λ (ps : List Put). first ++ ps) more ≡ Some puts → ((ps : List Put) → more ≡ Some ps → are_files ps ≡ true) → are_files puts ≡ true
+    after first None files e' later = cc
+    after first (Some ps) files e' later = let same : first ++ ps ≡ puts = cc in ap are_files (sym same) ∙ files_joined first ps files (later ps refl)
 
     go : (b' : Bool) (found : Option (List Put × Text)) → record_at (b ∷ rest) ≡ found → cond b' (record_and_more (log_puts_within n) found) (Some []) ≡ Some puts
         → ((text : Text) (ps : List Put) → log_puts_within n text ≡ Some ps → are_files ps ≡ true) → are_files puts ≡ true
     go false found is e' later = let same : [] ≡ puts = cc in ap are_files (sym same)
     go true None is e' later = cc
-    go true (Some found) is e' later = behind found.0 (log_puts_within n found.1) (record_found (b ∷ rest) found.0 found.1 is).0.0 e' (later found.1)
+    go true (Some found) is e' later = after found.0 (log_puts_within n found.1) (record_found (b ∷ rest) found.0 found.1 is).0.0 e' (later found.1)
 
 pub log_files : (log : Text) (puts : List Put) → log_puts log ≡ Some puts → are_files puts ≡ true
 log_files log puts e = log_files_within (length log) log puts e
@@ -151,13 +151,13 @@ split_within n [] le = alone [] (inl tt)
 split_within n (gate ∷ []) le = alone (gate ∷ []) (inl tt)
 split_within zero (gate ∷ b ∷ rest) le = absurd (omega (arith, le))
 split_within (suc n) (gate ∷ b ∷ rest) le = elim (cases_eq gate 1) [
-  | inl is_open ↦ behind (record_at (b ∷ rest)) refl is_open (split_within n)
+  | inl is_open ↦ after (record_at (b ∷ rest)) refl is_open (split_within n)
   | inr shut ↦ alone (gate ∷ b ∷ rest) (inl shut)
 ]
   where
-    behind : (found : Option (List Put × Text)) → record_at (b ∷ rest) ≡ found → gate ≡ 1 → ((text : Text) → length text ≤ n → Split text) → Split (gate ∷ b ∷ rest)
-    behind None e is_open more = alone (gate ∷ b ∷ rest) (inr (is_open, e))
-    behind (Some found) e is_open more =
+    after : (found : Option (List Put × Text)) → record_at (b ∷ rest) ≡ found → gate ≡ 1 → ((text : Text) → length text ≤ n → Split text) → Split (gate ∷ b ∷ rest)
+    after None e is_open more = alone (gate ∷ b ∷ rest) (inr (is_open, e))
+    after (Some found) e is_open more =
         let is = record_found (b ∷ rest) found.0 found.1 e in
         let later = more found.1 (omega (arith, record_shorter (b ∷ rest) found e, le)) in (
           found.0 ∷ later.0,

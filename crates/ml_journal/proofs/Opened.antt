@@ -30,8 +30,8 @@ module _ {S : Type 0} (told : Ghosts S) (only_now : OnlyNow told) (all_has_reads
       (λ left out now. (ap directory (rest_contents (told.disk old) left rest now.0), now.1))
 
   -- calls after it that keep the directory
-  behind : (old mid new : S) → Syncs old mid → KeepsDirectory told mid new → Leaves told mid new (IsOld (directory (told.disk old).reads) (told.output old))
-  behind old mid new syncs keeps t = weaker told.moment told.left_since told.disk told.output mid new (IsOld (directory (told.disk mid).reads) (told.output mid)) (IsOld (directory (told.disk old).reads) (told.output old))
+  after : (old mid new : S) → Syncs old mid → KeepsDirectory told mid new → Leaves told mid new (IsOld (directory (told.disk old).reads) (told.output old))
+  after old mid new syncs keeps t = weaker told.moment told.left_since told.disk told.output mid new (IsOld (directory (told.disk mid).reads) (told.output mid)) (IsOld (directory (told.disk old).reads) (told.output old))
       (keeps.moments t) (λ left out now. (now.0 ∙ ap directory (syncs.reads (all_has_reads t)), now.1 ∙ syncs.output t))
 
   pub opened : (old mid new : S) → Syncs old mid → (IsTrue told.tells_all → told.syncs mid ≡ told.syncs old + 1) → (IsTrue told.tells_all → IsAtRest (told.disk mid)) → KeepsDirectory told mid new → IsTrue told.tells_all
@@ -42,9 +42,9 @@ module _ {S : Type 0} (told : Ghosts S) (only_now : OnlyNow told) (all_has_reads
     rest = rest t;
     same = syncs.reads (all_has_reads t);
     until = synced old mid syncs t;
-    since = behind old mid new syncs keeps t;
+    since = after old mid new syncs keeps t;
   }
 
   pub opened_at_rest : (old mid new : S) → Syncs old mid → KeepsDirectory told mid new → IsAtRest (told.disk old) → Leaves told old new (IsOld (directory (told.disk old).reads) (told.output old))
   opened_at_rest old mid new syncs keeps rest t = joins told.moment told.left_since told.disk told.output old mid new (IsOld (directory (told.disk old).reads) (told.output old)) (IsOld (directory (told.disk old).reads) (told.output old)) (IsOld (directory (told.disk old).reads) (told.output old))
-      (synced_at_rest old mid syncs rest t) (behind old mid new syncs keeps t) (λ left out p. p) (λ left out p. p)
+      (synced_at_rest old mid syncs rest t) (after old mid new syncs keeps t) (λ left out p. p) (λ left out p. p)

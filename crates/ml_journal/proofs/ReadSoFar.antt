@@ -16,33 +16,33 @@ use Rattle.ml_journal.specs.Log.{log_puts, record_and_more}
 use Rattle.ml_journal.proofs.Records.{puts_next}
 use Rattle.ml_journal.proofs.Logs.{log_opened, log_closed}
 
-abbrev pub behind : List Put → Option (List Put) → Option (List Put)
-behind found more = option_map (λ (puts : List Put). found ++ puts) more
+abbrev pub after : List Put → Option (List Put) → Option (List Put)
+after found more = option_map (λ (puts : List Put). found ++ puts) more
 
-behind_both : (found more : List Put) (rest : Option (List Put)) → behind found (behind more rest) ≡ behind (found ++ more) rest
-behind_both found more None = refl
-behind_both found more (Some puts) = ap Some (sym (append_assoc found more puts))
+after_both : (found more : List Put) (rest : Option (List Put)) → after found (after more rest) ≡ after (found ++ more) rest
+after_both found more None = refl
+after_both found more (Some puts) = ap Some (sym (append_assoc found more puts))
 
 -- one more put was read
-pub put_read : (found : List Put) (text : Text) (put : Put) (rest : Text) → put_at text ≡ Some (put, rest) → behind found (puts_of text) ≡ behind (found ++ put ∷ []) (puts_of rest)
-put_read found text put rest e = ap (behind found) (puts_next text put rest e) ∙ behind_both found (put ∷ []) (puts_of rest)
+pub put_read : (found : List Put) (text : Text) (put : Put) (rest : Text) → put_at text ≡ Some (put, rest) → after found (puts_of text) ≡ after (found ++ put ∷ []) (puts_of rest)
+put_read found text put rest e = ap (after found) (puts_next text put rest e) ∙ after_both found (put ∷ []) (puts_of rest)
 
 -- the record that begins with a netstring of a row of puts
 pub record_read : (text content rest : Text) → netstring_at text ≡ Some (content, rest) → record_at text ≡ option_map (λ (puts : List Put). (puts, rest)) (puts_of content)
 record_read text content rest e = ap (option_and_then (λ (found : Text × Text). option_map (λ (puts : List Put). (puts, found.1)) (puts_of found.0))) e
 
 -- one more record was read
-pub log_read : (old new : List Put) (b : ℕ) (text content rest : Text) → netstring_at (b ∷ text) ≡ Some (content, rest) → behind old (puts_of content) ≡ Some new → behind old (log_puts (1 ∷ b ∷ text)) ≡ behind new (log_puts rest)
+pub log_read : (old new : List Put) (b : ℕ) (text content rest : Text) → netstring_at (b ∷ text) ≡ Some (content, rest) → after old (puts_of content) ≡ Some new → after old (log_puts (1 ∷ b ∷ text)) ≡ after new (log_puts rest)
 log_read old new b text content rest e is =
-    ap (behind old) (log_opened b text ∙ ap (record_and_more log_puts) (record_read (b ∷ text) content rest e)) ∙ go (puts_of content) is
+    ap (after old) (log_opened b text ∙ ap (record_and_more log_puts) (record_read (b ∷ text) content rest e)) ∙ go (puts_of content) is
   where
-    go : (puts : Option (List Put)) → behind old puts ≡ Some new → behind old (record_and_more log_puts (option_map (λ (ps : List Put). (ps, rest)) puts)) ≡ behind new (log_puts rest)
+    go : (puts : Option (List Put)) → after old puts ≡ Some new → after old (record_and_more log_puts (option_map (λ (ps : List Put). (ps, rest)) puts)) ≡ after new (log_puts rest)
     go None e' = cc
-    go (Some puts) e' = let same : old ++ puts ≡ new = cc in behind_both old puts (log_puts rest) ∙ ap (λ (l : List Put). behind l (log_puts rest)) same
+    go (Some puts) e' = let same : old ++ puts ≡ new = cc in after_both old puts (log_puts rest) ∙ ap (λ (l : List Put). after l (log_puts rest)) same
 
 -- no record follows an open gate
-pub log_broken : (old : List Put) (b : ℕ) (text : Text) → record_at (b ∷ text) ≡ None → behind old (log_puts (1 ∷ b ∷ text)) ≡ None
-log_broken old b text e = ap (behind old) (log_opened b text ∙ ap (record_and_more log_puts) e)
+pub log_broken : (old : List Put) (b : ℕ) (text : Text) → record_at (b ∷ text) ≡ None → after old (log_puts (1 ∷ b ∷ text)) ≡ None
+log_broken old b text e = ap (after old) (log_opened b text ∙ ap (record_and_more log_puts) e)
 
 -- a log that is empty, or whose first gate is closed or its last byte
 pub shut : (log : Text) → ((text : Text) → log ≡ 1 ∷ text → length text ≡ 0) → log_puts log ≡ Some []
@@ -56,27 +56,27 @@ found_more (first ∷ found) put = ap (λ (l : List Put). put_of first ∷ l) (f
 
 -- one more put was found
 pub next_put : (start : Option (List Put)) (found new : List FoundPut) (text : Text) (put : FoundPut) (rest : Text) → put_at text ≡ Some (put_of put, rest) → new ≡ found ++ put ∷ []
-    → behind (puts_found found) (puts_of text) ≡ start → behind (puts_found new) (puts_of rest) ≡ start
+    → after (puts_found found) (puts_of text) ≡ start → after (puts_found new) (puts_of rest) ≡ start
 next_put start found new text put rest e is so_far =
-    ap (λ (l : List FoundPut). behind (puts_found l) (puts_of rest)) is ∙ ap (λ (l : List Put). behind l (puts_of rest)) (found_more found put)
+    ap (λ (l : List FoundPut). after (puts_found l) (puts_of rest)) is ∙ ap (λ (l : List Put). after l (puts_of rest)) (found_more found put)
     ∙ sym (put_read (puts_found found) text (put_of put) rest e) ∙ so_far
 
 -- one more record was found
-pub next_record : (log text content rest : Text) (old new : List Put) (at : Text) → at ≡ 1 ∷ text → 0 < length text → netstring_at text ≡ Some (content, rest) → behind old (puts_of content) ≡ Some new
-    → behind old (log_puts at) ≡ log_puts log → behind new (log_puts rest) ≡ log_puts log
+pub next_record : (log text content rest : Text) (old new : List Put) (at : Text) → at ≡ 1 ∷ text → 0 < length text → netstring_at text ≡ Some (content, rest) → after old (puts_of content) ≡ Some new
+    → after old (log_puts at) ≡ log_puts log → after new (log_puts rest) ≡ log_puts log
 next_record log [] content rest old new at is some e row so_far = absurd (omega (arith, some))
-next_record log (b ∷ text) content rest old new at is some e row so_far = sym (log_read old new b text content rest e row) ∙ ap (λ (l : Text). behind old (log_puts l)) (sym is) ∙ so_far
+next_record log (b ∷ text) content rest old new at is some e row so_far = sym (log_read old new b text content rest e row) ∙ ap (λ (l : Text). after old (log_puts l)) (sym is) ∙ so_far
 
 -- no record follows the gate
-no_record : (log text : Text) (old : List Put) (at : Text) → at ≡ 1 ∷ text → 0 < length text → record_at text ≡ None → behind old (log_puts at) ≡ log_puts log → None ≡ log_puts log
+no_record : (log text : Text) (old : List Put) (at : Text) → at ≡ 1 ∷ text → 0 < length text → record_at text ≡ None → after old (log_puts at) ≡ log_puts log → None ≡ log_puts log
 no_record log [] old at is some e so_far = absurd (omega (arith, some))
-no_record log (b ∷ text) old at is some e so_far = sym (log_broken old b text e) ∙ ap (λ (l : Text). behind old (log_puts l)) (sym is) ∙ so_far
+no_record log (b ∷ text) old at is some e so_far = sym (log_broken old b text e) ∙ ap (λ (l : Text). after old (log_puts l)) (sym is) ∙ so_far
 
-pub no_row : (log text content rest : Text) (old : List Put) (at : Text) → at ≡ 1 ∷ text → 0 < length text → netstring_at text ≡ Some (content, rest) → behind old (puts_of content) ≡ None
-    → behind old (log_puts at) ≡ log_puts log → None ≡ log_puts log
+pub no_row : (log text content rest : Text) (old : List Put) (at : Text) → at ≡ 1 ∷ text → 0 < length text → netstring_at text ≡ Some (content, rest) → after old (puts_of content) ≡ None
+    → after old (log_puts at) ≡ log_puts log → None ≡ log_puts log
 no_row log text content rest old at is some e row so_far = no_record log text old at is some (record_read text content rest e ∙ none (puts_of content) row) so_far
   where
-    none : (puts : Option (List Put)) → behind old puts ≡ None → option_map {U = List Put × Text} (λ (ps : List Put). (ps, rest)) puts ≡ None
+    none : (puts : Option (List Put)) → after old puts ≡ None → option_map {U = List Put × Text} (λ (ps : List Put). (ps, rest)) puts ≡ None
     none None e' = refl
     none (Some puts) e' = cc
 

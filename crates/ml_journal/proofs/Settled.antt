@@ -14,7 +14,7 @@ use Rattle.ml_journal.specs.Laying.{laid_down, Beside, LaysFiles}
 use Rattle.ml_journal.specs.Newest.{with_newest}
 use Rattle.ml_journal.specs.Rows.{IsRecord, IsShut, Lays, Rests, Staged}
 use Rattle.ml_journal.proofs.Closing.{IsClosed, while_laid, while_closed, while_cut}
-use Rattle.ml_journal.proofs.Crash.{behind_gate, at_gate}
+use Rattle.ml_journal.proofs.Crash.{after_gate, at_gate}
 use Rattle.ml_journal.proofs.Keeping.{directory_by, directory_on, changes_by}
 use Rattle.ml_journal.proofs.Shut.{at_cut, at_one_gate, one_gate_log}
 
@@ -47,7 +47,7 @@ module _ {S : Type 0} (told : Ghosts S) where
   -- a record is written after the last gate
   pub record_step : {E : Type 0} (result : Result (Unit {0}) E) (done : Contents) (end n : ℕ) (change : IsTrue told.tells_reads → Dir → Dir) (old new : S) → (IsTrue told.tells_all → IsTrue told.tells_reads) → Settles told result (Range (end + 1) n) done old new
       → ((r : IsTrue told.tells_reads) → Rests (told.disk old).reads.log end (change r)) → KeepsDirectory told old new
-  record_step result done end n change old new all_has_reads settles rests = settled_same result (Range (end + 1) n) done old new all_has_reads settles (λ r left may. behind_gate (told.disk old).reads end n (change r) left (rests r) may)
+  record_step result done end n change old new all_has_reads settles rests = settled_same result (Range (end + 1) n) done old new all_has_reads settles (λ r left may. after_gate (told.disk old).reads end n (change r) left (rests r) may)
 
   -- its gate is opened
   pub gate_step : {E : Type 0} (result : Result (Unit {0}) E) (done : Contents) (end : ℕ) (body : Text) (txn : List Put) (change : IsTrue told.tells_reads → Dir → Dir) (old new : S) → (IsTrue told.tells_all → IsTrue told.tells_reads) → Settles told result (Range end 1) done old new

@@ -21,12 +21,12 @@ pub at_one_gate : (old left : Contents) → length old.log ≤ 1 → MayLeave ol
 at_one_gate old left short may = same_directory old left (λ d. d) (short_counts old.log short) (short_counts left.log (omega (arith, may.no_longer, short))) (torn_log_files old left 0 1 may)
 
 pub one_gate_log : (old : Contents) → length old.log ≤ 1 → (log_with old 0 (0 ∷ [])).log ≡ 0 ∷ []
-one_gate_log old short = ap (λ (l : Text). 0 ∷ l) (none_behind old.log short)
+one_gate_log old short = ap (λ (l : Text). 0 ∷ l) (none_after old.log short)
   where
-    none_behind : (log : Text) → length log ≤ 1 → drop 1 log ≡ []
-    none_behind [] le = refl
-    none_behind (g ∷ []) le = refl
-    none_behind (g ∷ b ∷ log) le = absurd (omega (arith, le))
+    none_after : (log : Text) → length log ≤ 1 → drop 1 log ≡ []
+    none_after [] le = refl
+    none_after (g ∷ []) le = refl
+    none_after (g ∷ b ∷ log) le = absurd (omega (arith, le))
 
 pub at_cut : (old left : Contents) → IsShut old.log → 2 ≤ length old.log → MayLeave old (Cut 1 ∷ []) left → directory left ≡ directory old
 at_cut old left (inl short) long may = absurd (omega (arith, short, long))

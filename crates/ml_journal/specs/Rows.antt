@@ -20,7 +20,7 @@ pub record Rests (log : Text) (end : ℕ) (change : Dir → Dir) : Type 0 where
   pub split : log ≡ row ++ nul ∷ []
   pub size : length row ≡ end
   pub is_row : IsRow row change
-  pub first : (row ≡ []) ⊎ ((behind : Text) × (row ≡ 1 ∷ behind))
+  pub first : (row ≡ []) ⊎ ((after : Text) × (row ≡ 1 ∷ after))
 
 -- the same with a whole record after the closed gate
 pub record Staged (log : Text) (end : ℕ) (body : Text) (change : Dir → Dir) : Type 0 where
@@ -28,16 +28,16 @@ pub record Staged (log : Text) (end : ℕ) (body : Text) (change : Dir → Dir) 
   pub split : log ≡ row ++ nul ∷ (body ++ nul ∷ [])
   pub size : length row ≡ end
   pub is_row : IsRow row change
-  pub first : (row ≡ []) ⊎ ((behind : Text) × (row ≡ 1 ∷ behind))
+  pub first : (row ≡ []) ⊎ ((after : Text) × (row ≡ 1 ∷ after))
 
 -- a log whose first gate is open or last, and whose records that count make this change
 pub record Lays (log : Text) (change : Dir → Dir) : Type 0 where
   pub counts : (files : Dir) → laid_over files (log_puts log) ≡ Some (change files)
   pub gate : ℕ
-  pub behind : Text
-  pub split : log ≡ gate ∷ behind
-  pub is_open : (behind ≡ []) ⊎ (gate ≡ 1)
+  pub after : Text
+  pub split : log ≡ gate ∷ after
+  pub is_open : (after ≡ []) ⊎ (gate ≡ 1)
 
 -- the first gate is closed, or last, or there is none
 abbrev pub IsShut : Text → Type 0
-IsShut log = (length log ≤ 1) ⊎ ((gate : ℕ) × (behind : Text) × (log ≡ gate ∷ behind) × (gate ≢ 1))
+IsShut log = (length log ≤ 1) ⊎ ((gate : ℕ) × (after : Text) × (log ≡ gate ∷ after) × (gate ≢ 1))

@@ -75,21 +75,21 @@ pub(crate) fn puts_in<'a>(
 {
     let mut found = Vec::new(alloc);
     let mut rest = log;
-    while let Some(text) = behind_open_gate(rest) {
-        let Some((puts, behind)) = split_netstring(text) else {
+    while let Some(text) = after_open_gate(rest) {
+        let Some((puts, after)) = split_netstring(text) else {
             return Ok(None);
         };
         if !add_puts_of(&mut found, puts)? {
             return Ok(None);
         }
-        rest = behind;
+        rest = after;
     }
     Ok(Some(found))
 }
 
 // What follows the gate of a log, if the gate is open and not the last byte.
 #[tactic(auto, using(crate::proofs::ReadSoFar::shut))]
-fn behind_open_gate(log: &[u8]) -> Option<&[u8]>
+fn after_open_gate(log: &[u8]) -> Option<&[u8]>
     ensures { MatchOption result (log_puts log.now ≡ Some []) (λ text. (log.now ≡ 1 ∷ text.now) × (0 < length text.now)) }
 {
     let [gate, text @ ..] = log else {
@@ -109,11 +109,11 @@ fn add_puts_of<'a>(found: &mut Vec<FoundPut<'a>>, text: &'a [u8]) -> Result<bool
 {
     let mut rest = text;
     while !rest.is_empty() {
-        let Some((put, behind)) = first_put(rest) else {
+        let Some((put, after)) = first_put(rest) else {
             return Ok(false);
         };
         found.push(put)?;
-        rest = behind;
+        rest = after;
     }
     Ok(true)
 }
@@ -136,19 +136,19 @@ fn first_write(text: &[u8]) -> Option<(FoundPut<'_>, &[u8])>
     ensures { option_map (λ r. (put_of r.0, r.1.now)) result ≡ write_at text.now }
 {
     let (name, rest) = first_name(text)?;
-    let (bytes, behind) = split_netstring(rest)?;
+    let (bytes, after) = split_netstring(rest)?;
     let put = FoundPut {
         name,
         bytes: Some(bytes),
     };
-    Some((put, behind))
+    Some((put, after))
 }
 
 fn first_removal(text: &[u8]) -> Option<(FoundPut<'_>, &[u8])>
     ensures { option_map (λ r. (put_of r.0, r.1.now)) result ≡ removal_at text.now }
 {
-    let (name, behind) = first_name(text)?;
-    Some((FoundPut { name, bytes: None }, behind))
+    let (name, after) = first_name(text)?;
+    Some((FoundPut { name, bytes: None }, after))
 }
 
 // The name that a text begins with, and what follows it.
@@ -156,16 +156,16 @@ fn first_name(text: &[u8]) -> Option<(Name, &[u8])>
     ensures { option_map (λ r. (r.0, r.1.now)) result ≡ name_at text.now }
 {
     let (kind, rest) = first_number(text)?;
-    let (at, behind) = first_number(rest)?;
+    let (at, after) = first_number(rest)?;
     let name = Name::file(kind, at)?;
-    Some((name, behind))
+    Some((name, after))
 }
 
 // The number whose netstring a text begins with, and what follows it.
 fn first_number(text: &[u8]) -> Option<(u64, &[u8])>
     ensures { option_map (λ r. (r.0, r.1.now)) result ≡ number_at text.now }
 {
-    let (digits, behind) = split_netstring(text)?;
+    let (digits, after) = split_netstring(text)?;
     let number = read_number(digits)?;
-    Some((number, behind))
+    Some((number, after))
 }

@@ -189,9 +189,9 @@ module _ {E : Type 0} (key_of : E → Text) where
   abbrev IsFound : Text → List E → E → Type 0
   IsFound k xs x = eq_by_cmp byte_cmp k (key_of x) ≡ true → found key_of k xs ≡ Some x
 
-  found_behind : (k : Text) (x : E) (xs ys : List E) → hits k (x ∷ xs) ≤ 1 → AllByRecursion (IsFound k xs) ys → AllByRecursion (IsFound k (x ∷ xs)) ys
-  found_behind k x xs [] once all = tt
-  found_behind k x xs (y ∷ ys) once all = (λ tie. go (eq_by_cmp byte_cmp k (key_of x)) refl (all.0 tie), found_behind k x xs ys once all.1)
+  found_after : (k : Text) (x : E) (xs ys : List E) → hits k (x ∷ xs) ≤ 1 → AllByRecursion (IsFound k xs) ys → AllByRecursion (IsFound k (x ∷ xs)) ys
+  found_after k x xs [] once all = tt
+  found_after k x xs (y ∷ ys) once all = (λ tie. go (eq_by_cmp byte_cmp k (key_of x)) refl (all.0 tie), found_after k x xs ys once all.1)
     where
       go : (t : Bool) → eq_by_cmp byte_cmp k (key_of x) ≡ t → found key_of k xs ≡ Some y → found key_of k (x ∷ xs) ≡ Some y
       go true is there =
@@ -202,7 +202,7 @@ module _ {E : Type 0} (key_of : E → Text) where
 
   each_once : (k : Text) (xs : List E) → hits k xs ≤ 1 → AllByRecursion (IsFound k xs) xs
   each_once k [] once = tt
-  each_once k (x ∷ xs) once = (λ tie. ap (λ t. cond t (Some x) (found key_of k xs)) tie, found_behind k x xs xs once (each_once k xs (omega (arith, sum_by-cons (hit k) x xs, once))))
+  each_once k (x ∷ xs) once = (λ tie. ap (λ t. cond t (Some x) (found key_of k xs)) tie, found_after k x xs xs once (each_once k xs (omega (arith, sum_by-cons (hit k) x xs, once))))
 
   -- what is found doesn't depend on the order if the key stands at most once
   found_moved : (k : Text) (xs ys : List E) → IsPermutation xs ys → hits k xs ≤ 1 → found key_of k ys ≡ found key_of k xs

@@ -298,13 +298,13 @@ fn with_reply_kept(
     if number == 0 {
         return Ok((txn, reply));
     }
-    let left = left_behind(alloc, &txn, replies_name(number), file)?;
+    let left = left_over(alloc, &txn, replies_name(number), file)?;
     let put = keep(alloc, left, number, reply)?;
     with_put(txn, put, reply)
 }
 
 // A file as puts leave it. `before` is what it was.
-fn left_behind(
+fn left_over(
     alloc: Global,
     txn: &Txn,
     name: Name,

@@ -6,7 +6,7 @@ use Rattle.std.specs.List.{list_all}
 use Rattle.ml_base.specs.Bytes.{Text, lower}
 use Rattle.ml_base.specs.Splits.{has_byte}
 use Rattle.ml_base.specs.declared.address.AddressFault.{AddressFault}
-use Rattle.ml_base.specs.Address.{is_host_byte, address_check, address_of, as_address, are_parts, make_address, before_at, behind_at}
+use Rattle.ml_base.specs.Address.{is_host_byte, address_check, address_of, as_address, are_parts, make_address, before_at, past_at}
 use Rattle.ml_base.proofs.AddressParts.{who_parts}
 use Rattle.ml_base.proofs.SplitLaws.{last_written}
 
@@ -25,7 +25,7 @@ who_read local host address e read =
     let parts : are_parts local host ≡ true = sym (who_parts local host) ∙ e in
     let hosts = (and_parts _ (list_all is_host_byte host) parts).1 in
     let cut = last_written 64 local host (no_at host hosts) in
-    let whole : as_address (local ++ 64 ∷ host) ≡ local ++ 64 ∷ lower host = ap (λ (q : Option (Text × Text)). before_at q ++ 64 ∷ lower (behind_at q)) cut in
+    let whole : as_address (local ++ 64 ∷ host) ≡ local ++ 64 ∷ lower host = ap (λ (q : Option (Text × Text)). before_at q ++ 64 ∷ lower (past_at q)) cut in
     let same : Some (as_address (local ++ 64 ∷ host)) ≡ Some address = sym (ap (λ (b : Bool). cond b (Some (as_address (local ++ 64 ∷ host))) None) e) ∙ read in
     let this : as_address (local ++ 64 ∷ host) ≡ address = cc in
     sym this ∙ whole

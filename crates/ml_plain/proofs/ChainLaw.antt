@@ -75,13 +75,13 @@ module _ (c : Config) (ck : Text) (set : Set) (k : Text) where
       go false t = subst Member (sym (take_all i (h ++ x ∷ []) (grind (arith, nat_tests, t, length-append h (x ∷ []))))) member
 
   since_now : (h : List Item) (x : Item) → Member h → Member (h ++ x ∷ []) → Since (h ++ x ∷ []) (length h)
-  since_now h x before behind i from to = go (nat_le i (length h)) refl
+  since_now h x before beyond i from to = go (nat_le i (length h)) refl
     where
       go : (t : Bool) → nat_le i (length h) ≡ t → Member (take i (h ++ x ∷ []))
       go true t =
           let is : length h ≡ i = grind (arith, nat_tests, t, from) in
           subst Member (sym (take_at h (x ∷ []) i is)) before
-      go false t = subst Member (sym (take_all i (h ++ x ∷ []) (grind (arith, nat_tests, t, length-append h (x ∷ []))))) behind
+      go false t = subst Member (sym (take_all i (h ++ x ∷ []) (grind (arith, nat_tests, t, length-append h (x ∷ []))))) beyond
 
   -- its mail bounced at this moment, and it was a member ever since
   record Bounced (h : List Item) (moment number : ℕ) : Type 0 where

@@ -286,11 +286,11 @@ digest_same p q issue r now c posts all =
 chosen_one : (c : Config) (i n : ℕ) (xs ys : List Out) (out : Out) → AllByRecursion (IsOfNoDigest c) xs → AllByRecursion (IsOfNoDigest c) ys
     → filter (λ e. bytes_eq e.thing.path.base (digest_path c i).base) (drawn_from n (xs ++ out ∷ ys))
     ≡ cond (bytes_eq out.path.base (digest_path c i).base) (record { number = n + length xs; thing = out } ∷ []) []
-chosen_one c i n xs ys out before behind =
+chosen_one c i n xs ys out before after =
     let test : Drawn Out → Bool = λ e. bytes_eq e.thing.path.base (digest_path c i).base in
     ap (filter test) (drawn-append n xs (out ∷ ys)) ∙ filter-append test (drawn_from n xs) (drawn_from (n + length xs) (out ∷ ys))
     ∙ ap (λ t. t ++ filter test (drawn_from (n + length xs) (out ∷ ys))) (none_for c i n xs before)
-    ∙ ap (λ t. cond (bytes_eq out.path.base (digest_path c i).base) (record { number = n + length xs; thing = out } ∷ t) t) (none_for c i (n + length xs + 1) ys behind)
+    ∙ ap (λ t. cond (bytes_eq out.path.base (digest_path c i).base) (record { number = n + length xs; thing = out } ∷ t) t) (none_for c i (n + length xs + 1) ys after)
 
 not_equal : (a b : Text) → (a ≡ b → ⊥) → bytes_eq a b ≡ false
 not_equal a b apart = go (bytes_eq a b) refl
@@ -302,25 +302,25 @@ not_equal a b apart = go (bytes_eq a b) refl
 -- a digest is made between silent steps
 issued_makes : (p back q : Plain) (now : ℕ) (r : Range) → Below p → Silent p back → back.posts ≡ p.posts → back.sets ≡ p.sets
     → timing.digest_due now back ≡ Some r → Silent (timing.issue now back (Some r)) q → Makes p q now
-issued_makes p back q now r below before posts all is behind =
+issued_makes p back q now r below before posts all is after =
     let issue = timing.issue now back (Some r) in
     let number = back.mark.issue + 1 in
     let out = digest_of back number r now in
     let same_mark : back.mark.issue ≡ p.mark.issue = ap (λ m. m.issue) before.mark in
     let next : IsNext p.mark.last p.posts r = subst (λ ps. IsNext p.mark.last ps r) posts (subst (λ m. IsNext m back.posts r) (ap (λ m. m.last) before.mark)
     (is_next back.mark.last (timing.moment_of_first (timing.undigested back)) now back.posts r is)) in
-    let ys : AllByRecursion (IsOfNoDigest p.config) behind.outs = subst (λ c. AllByRecursion (IsOfNoDigest c) behind.outs) before.config behind.bases in
-    let all_of : q.queue.all ≡ p.queue.all ++ drawn_from p.queue.next (before.outs ++ out ∷ behind.outs) =
-    behind.all
-    ∙ append_assoc back.queue.all (record { number = back.queue.next; thing = out } ∷ []) (drawn_from (back.queue.next + 1) behind.outs)
-    ∙ ap (λ t. t ++ drawn_from back.queue.next (out ∷ behind.outs)) before.all
-    ∙ ap (λ n. (p.queue.all ++ drawn_from p.queue.next before.outs) ++ drawn_from n (out ∷ behind.outs)) before.next
-    ∙ append_assoc p.queue.all (drawn_from p.queue.next before.outs) (drawn_from (p.queue.next + length before.outs) (out ∷ behind.outs))
-    ∙ ap (λ t. p.queue.all ++ t) (sym (drawn-append p.queue.next before.outs (out ∷ behind.outs))) in
-    let made_is : made p q ≡ drawn_from p.queue.next (before.outs ++ out ∷ behind.outs) = made_of p q (before.outs ++ out ∷ behind.outs) below all_of in
+    let ys : AllByRecursion (IsOfNoDigest p.config) after.outs = subst (λ c. AllByRecursion (IsOfNoDigest c) after.outs) before.config after.bases in
+    let all_of : q.queue.all ≡ p.queue.all ++ drawn_from p.queue.next (before.outs ++ out ∷ after.outs) =
+    after.all
+    ∙ append_assoc back.queue.all (record { number = back.queue.next; thing = out } ∷ []) (drawn_from (back.queue.next + 1) after.outs)
+    ∙ ap (λ t. t ++ drawn_from back.queue.next (out ∷ after.outs)) before.all
+    ∙ ap (λ n. (p.queue.all ++ drawn_from p.queue.next before.outs) ++ drawn_from n (out ∷ after.outs)) before.next
+    ∙ append_assoc p.queue.all (drawn_from p.queue.next before.outs) (drawn_from (p.queue.next + length before.outs) (out ∷ after.outs))
+    ∙ ap (λ t. p.queue.all ++ t) (sym (drawn-append p.queue.next before.outs (out ∷ after.outs))) in
+    let made_is : made p q ≡ drawn_from p.queue.next (before.outs ++ out ∷ after.outs) = made_of p q (before.outs ++ out ∷ after.outs) below all_of in
     let chosen : (i : ℕ) → made_for i p q ≡ cond (bytes_eq out.path.base (digest_path p.config i).base) (record { number = p.queue.next + length before.outs; thing = out } ∷ []) [] =
     λ i. ap (filter (λ e. bytes_eq e.thing.path.base (digest_path p.config i).base)) made_is
-    ∙ chosen_one p.config i p.queue.next before.outs behind.outs out before.bases ys in
+    ∙ chosen_one p.config i p.queue.next before.outs after.outs out before.bases ys in
     let own : out ≡ digest_of p (p.mark.issue + 1) r now = digest_same p back number r now before.config posts all ∙ ap (λ n. digest_of p (n + 1) r now) same_mark in
     let base : out.path.base ≡ (digest_path p.config (p.mark.issue + 1)).base = ap (λ o. o.path.base) own in
     inl (record {
@@ -328,7 +328,7 @@ issued_makes p back q now r below before posts all is behind =
       from = next.from;
       some = next.some;
       there = next.there;
-      moved = behind.mark ∙ ap (λ n. record { last = r.last; issue = n + 1 }) same_mark;
+      moved = after.mark ∙ ap (λ n. record { last = r.last; issue = n + 1 }) same_mark;
       id = p.queue.next + length before.outs;
       entry = chosen (p.mark.issue + 1)
           ∙ ap (λ t. cond t (record { number = p.queue.next + length before.outs; thing = out } ∷ []) []) ((bytes_eq-Decides out.path.base (digest_path p.config (p.mark.issue + 1)).base).1 base)

@@ -63,6 +63,6 @@ row_read ps text are =
       whole = whole ps text;
       are_fields = are_fields ps are;
       ended = are_ended ps (lf ++ text);
-      behind = inr (inl (record { line = lf; is_empty = refl; ended = inl ([], refl); whole = refl }));
+      after = inr (inl (record { line = lf; is_empty = refl; ended = inl ([], refl); whole = refl }));
     } in
     one_form (lines_text (map line_at ps ++ [] ∷ []) ++ text) (map field_at ps) text (inl made)

@@ -26,19 +26,19 @@ last_post last [] = last
 last_post last (x ∷ xs) = last_post x.range.last xs
 
 -- the first place after issues
-abbrev place_behind : ℕ → List Issue → ℕ
-place_behind place [] = place
-place_behind place (x ∷ xs) = place_behind (x.at + 1) xs
+abbrev place_after : ℕ → List Issue → ℕ
+place_after place [] = place
+place_after place (x ∷ xs) = place_after (x.at + 1) xs
 
 last_snoc : (last : ℕ) (xs : List Issue) (y : Issue) → last_post last (xs ++ y ∷ []) ≡ y.range.last
 last_snoc last [] y = refl
 last_snoc last (x ∷ xs) y = last_snoc x.range.last xs y
 
-behind_snoc : (place : ℕ) (xs : List Issue) (y : Issue) → place_behind place (xs ++ y ∷ []) ≡ y.at + 1
-behind_snoc place [] y = refl
-behind_snoc place (x ∷ xs) y = behind_snoc (x.at + 1) xs y
+after_snoc : (place : ℕ) (xs : List Issue) (y : Issue) → place_after place (xs ++ y ∷ []) ≡ y.at + 1
+after_snoc place [] y = refl
+after_snoc place (x ∷ xs) y = after_snoc (x.at + 1) xs y
 
-follow_snoc : (last place : ℕ) (xs : List Issue) (y : Issue) → Follow last place xs → y.range.first ≡ last_post last xs + 1 → y.range.first ≤ y.range.last → place_behind place xs ≤ y.at
+follow_snoc : (last place : ℕ) (xs : List Issue) (y : Issue) → Follow last place xs → y.range.first ≡ last_post last xs + 1 → y.range.first ≤ y.range.last → place_after place xs ≤ y.at
     → Follow last place (xs ++ y ∷ [])
 follow_snoc last place [] y h from some up = (from, some, up, tt)
 follow_snoc last place (x ∷ xs) y h from some up = (h.0, h.1, h.2, follow_snoc x.range.last (x.at + 1) xs y h.3 from some up)
@@ -109,7 +109,7 @@ module _ (c : Config) (key : Text) where
   -- the issues of a history so far
   record Issued (h : List Item) (issues : List Issue) : Type 0 where
     follow : Follow 0 0 issues
-    places : place_behind 0 issues ≤ length h
+    places : place_after 0 issues ≤ length h
     mark : (after c key h).mark ≡ record { last = last_post 0 issues; issue = length issues }
     made : (n : ℕ) (issue : Issue) → slice_get issues n ≡ Some issue → Happened c key h issue.at issue.moment (MakesIssue (n + 1) issue.range)
     others : (at number : ℕ) (item : Item) → slice_get h at ≡ Some item → made_at at number h item ⊎ IsOneOf c issues at number
@@ -131,15 +131,15 @@ module _ (c : Config) (key : Text) where
     | inr here ↦ subst (λ n. P n item) (sym here.0) (subst (P (length h)) (sym here.1) last)
   ]
 
-  mark_behind : (h : List Item) (x : Item) → (after c key (h ++ x ∷ [])).mark ≡ (step0 (after c key h) x).0.mark
-  mark_behind h x = ap (λ p. p.mark) (fold_snoc (new_list c key) h x)
+  mark_after : (h : List Item) (x : Item) → (after c key (h ++ x ∷ [])).mark ≡ (step0 (after c key h) x).0.mark
+  mark_after h x = ap (λ p. p.mark) (fold_snoc (new_list c key) h x)
 
   -- an item that makes none
   issued_same : (h : List Item) (x : Item) (issues : List Issue) → Issued h issues → MakesNoDigest (after c key h) (step0 (after c key h) x).0 → Issued (h ++ x ∷ []) issues
   issued_same h x issues i m = record {
     follow = i.follow;
     places = omega (arith, i.places, length-append h (x ∷ []));
-    mark = mark_behind h x ∙ m.same ∙ i.mark;
+    mark = mark_after h x ∙ m.same ∙ i.mark;
     made = λ n issue e. grown c key h x issue.at issue.moment (MakesIssue (n + 1) issue.range) (i.made n issue e);
     others = λ at number item e. each_place h x (λ at item. made_at at number (h ++ x ∷ []) item ⊎ IsOneOf c issues at number)
         (λ at item there. elim (i.others at number item there) [ inl none ↦ inl (made_front h x at number item there none) | inr one ↦ inr one ])
@@ -168,8 +168,8 @@ module _ (c : Config) (key : Text) where
       let many : length (issues ++ y ∷ []) ≡ length issues + 1 = length-append issues (y ∷ []) in
       record {
         follow = follow_snoc 0 0 issues y i.follow (m.from ∙ ap (λ n. n + 1) last_is) m.some i.places;
-        places = omega (arith, behind_snoc 0 issues y, length-append h (x ∷ []));
-        mark = mark_behind h x ∙ m.moved
+        places = omega (arith, after_snoc 0 issues y, length-append h (x ∷ []));
+        mark = mark_after h x ∙ m.moved
             ∙ ap₂ (λ a b. record { last = a; issue = b }) (sym (last_snoc 0 issues y)) (ap (λ n. n + 1) number_is ∙ sym many);
         made = λ n issue e. elim (get_either issues y n issue e) [
           | inl there ↦ grown c key h x issue.at issue.moment (MakesIssue (n + 1) issue.range) (i.made n issue there)

@@ -5,7 +5,7 @@ use Rattle.std.specs.List.{list_all, flat_map}
 use Rattle.std.specs.Char.{to_ascii_lowercase}
 use Rattle.std.proofs.lemmas.Bool.{eqb-true}
 use Rattle.std.proofs.lemmas.Bool.Decides.{nat_tests}
-use Rattle.ml_base.specs.Address.{IsAddress, address_check, as_address, make_address, are_parts, is_local_byte, is_host_byte, local_of, host_of, before_at, behind_at}
+use Rattle.ml_base.specs.Address.{IsAddress, address_check, as_address, make_address, are_parts, is_local_byte, is_host_byte, local_of, host_of, before_at, past_at}
 use Rattle.ml_base.specs.Bytes.{Text, lower, split_last, onto_split}
 use Rattle.ml_base.specs.Name.{set_word}
 use Rattle.ml_base.specs.Splits.{has_byte}
@@ -111,12 +111,12 @@ named_line w e =
     clean_both w.local (64 ∷ lower w.host) (parts_allowed w.local w.host e).0 (lower_line w.host hosts)
 
 -- the parts of a text before and after its last `@`
-split_line : (text : Text) → Clean text → Clean (before_at (split_last 64 text)) × Clean (behind_at (split_last 64 text))
+split_line : (text : Text) → Clean text → Clean (before_at (split_last 64 text)) × Clean (past_at (split_last 64 text))
 split_line [] e = (refl, refl)
 split_line (x ∷ xs) e = let parts = neither (x == 10) (has_byte 10 xs) e in go (x == 64) (split_last 64 xs) parts.0 parts.1 (split_line xs parts.1)
   where
-    go : (t : Bool) (o : Option (Text × Text)) → (x == 10) ≡ false → Clean xs → Clean (before_at o) × Clean (behind_at o)
-        → Clean (before_at (onto_split x t xs o)) × Clean (behind_at (onto_split x t xs o))
+    go : (t : Bool) (o : Option (Text × Text)) → (x == 10) ≡ false → Clean xs → Clean (before_at o) × Clean (past_at o)
+        → Clean (before_at (onto_split x t xs o)) × Clean (past_at (onto_split x t xs o))
     go t (Some p) is rest both = (ap₂ (λ s t. s || t) is both.0, both.1)
     go true None is rest both = (refl, rest)
     go false None is rest both = (refl, refl)

@@ -9,7 +9,7 @@ use Rattle.ml_plain.specs.Answers.{stale, floored, badfloor}
 use Rattle.ml_plain.specs.Plain.{Plain}
 use Rattle.ml_plain.specs.Steps.{step0, act_step}
 use Rattle.ml_plain.specs.Histories.{State, Kept, step, step_by, with_reply, effect, effect_by, with_floor, may_rise, floor_asked, kept_for, keep, is_below}
-use Rattle.ml_plain.specs.Once.{Past, has_number, is_live, floor_by, floor_behind, past_with, reply_by, own_reply}
+use Rattle.ml_plain.specs.Once.{Past, has_number, is_live, floor_by, floor_after, past_with, reply_by, own_reply}
 
 -- a step by the floor, and then by the reply that is kept
 pub step_stale : (q : State) (x : Item) → is_below q.floor x.number ≡ true → step q x ≡ (q, stale)
@@ -180,7 +180,7 @@ way_of past q x a = go (is_below q.floor x.number) refl (kept_for q x.number) re
 pub agrees_more : (past : Past) (q : State) (x : Item) → Agrees past q → Agrees (past_with past x) (step q x).0
 agrees_more past q x a = go (way_of past q x a)
   where
-    same_floor : is_live past x.number ≡ false → floor_behind past x ≡ past.floor
+    same_floor : is_live past x.number ≡ false → floor_after past x ≡ past.floor
     same_floor dead = ap (λ (b : Bool). cond b (floor_by past.floor x.number (floor_asked x.act)) past.floor) dead
 
     go : Way past q x → Agrees (past_with past x) (step q x).0
@@ -204,7 +204,7 @@ agrees_more past q x a = go (way_of past q x a)
         each n some le false z = a.kept n some le ∙ sym (number_more past.numbers x.number n (eqb-false x.number n z))
     go (counted e live is) =
         let moved = effect_moved q x in
-        let floor_now : (effect q x).0.floor ≡ floor_behind past x =
+        let floor_now : (effect q x).0.floor ≡ floor_after past x =
         moved.floor ∙ ap (λ f. floor_by f x.number (floor_asked x.act)) a.floor ∙ sym (ap (λ (b : Bool). cond b (floor_by past.floor x.number (floor_asked x.act)) past.floor) live) in record {
           floor = ap (λ (s : State × Reply). s.0.floor) is ∙ floor_now;
           kept = λ n some le.

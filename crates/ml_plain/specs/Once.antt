@@ -31,12 +31,12 @@ floor_by floor number None = floor
 floor_by floor number (Some at) = if may_rise floor number at then max floor at else floor
 
 -- the floor after an item: one that counts may raise it
-abbrev pub floor_behind : Past → Item → ℕ
-floor_behind past item = if is_live past item.number then floor_by past.floor item.number (floor_asked item.act) else past.floor
+abbrev pub floor_after : Past → Item → ℕ
+floor_after past item = if is_live past item.number then floor_by past.floor item.number (floor_asked item.act) else past.floor
 
 -- what a history with one item more says
 abbrev pub past_with : Past → Item → Past
-past_with past item = record { floor = floor_behind past item; numbers = item.number ∷ past.numbers }
+past_with past item = record { floor = floor_after past item; numbers = item.number ∷ past.numbers }
 
 -- what a history that continues another one says
 abbrev pub past_from : Past → List Item → Past

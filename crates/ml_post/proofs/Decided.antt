@@ -92,8 +92,8 @@ next_beside old key name (inr (inl at)) = ap is_beside_held at.3
 next_beside old key name (inr (inr e)) = ap is_beside_held e
 
 -- puts of held posts leave what taking a post reads
-pub publish_behind : (c : Config) (m : Text) (old dir : Dir) (txn : List Put) → touches_only (λ name. held_kinds name.kind) txn ≡ true → AlikeToPublish c m old dir → AlikeToPublish c m old (with_puts dir txn)
-publish_behind c m old dir txn own alike = record {
+pub publish_after : (c : Config) (m : Text) (old dir : Dir) (txn : List Put) → touches_only (λ name. held_kinds name.kind) txn ≡ true → AlikeToPublish c m old dir → AlikeToPublish c m old (with_puts dir txn)
+publish_after c m old dir txn own alike = record {
   mailed = λ name e. beside_held dir txn own name (needs_none_held sets.List name (mailed_with sets.List name e)) ∙ alike.mailed name e;
   placed = λ name next. beside_held dir txn own name (next_beside old (sent_key c m) name next) ∙ alike.placed name next;
 }

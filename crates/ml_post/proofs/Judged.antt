@@ -151,12 +151,12 @@ module _ (c : Config) (who : Text) where
     room_row found.UsersOnly none = absurd none
 
     -- after a row that doesn't hold
-    behind : (v : Found) → TellsStranger old c (key who) false → FoundOfRoom old c v → row_of v ≡ of_user p who
-    behind v may room = room_row v room ∙ ap (λ (x : Bool). first_row ((x, UsersOnly) ∷ []) (of_room p)) (stranger_is false may)
+    after : (v : Found) → TellsStranger old c (key who) false → FoundOfRoom old c v → row_of v ≡ of_user p who
+    after v may room = room_row v room ∙ ap (λ (x : Bool). first_row ((x, UsersOnly) ∷ []) (of_room p)) (stranger_is false may)
 
     pub user_row : (v : Found) → FoundOfUser old c (key who) v → row_of v ≡ of_user p who
     user_row found.UsersOnly tells = ap (λ (x : Bool). first_row ((x, UsersOnly) ∷ []) (of_room p)) (stranger_is true tells)
-    user_row v tells = behind v tells.0 tells.1
+    user_row v tells = after v tells.0 tells.1
 
     pub denied_row : (m : Text) → TellsDenied old c (key who) true → Denied ≡ of_sender p who m
     denied_row m tells = ap (λ (x : Bool). first_row ((x, Denied) ∷ []) (of_text p who m)) (denied_is true tells)

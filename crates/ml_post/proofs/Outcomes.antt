@@ -40,9 +40,9 @@ not_not false e = absurd (let bad : true ≡ false = e in cc)
 usable_by : (p : Plain) (sender m : Text) (v : verdicts.Verdict) → (verdicts.TooBig ≡ v → ⊥) → (verdicts.BounceSender ≡ v → ⊥) → verdict p sender m ≡ v → is_usable sender ≡ true
 unfolding verdict
 usable_by p sender m v apart apart2 e =
-    let behind = cond (has_field (codes "mailing-list") m) verdicts.Looped (rows.of_sender p sender m) in
-    let first = past (nat_lt p.config.max (length m)) verdicts.TooBig (cond (not (is_usable sender)) verdicts.BounceSender behind) v e apart in
-    not_not (is_usable sender) (past (not (is_usable sender)) verdicts.BounceSender behind v first.1 apart2).0
+    let after = cond (has_field (codes "mailing-list") m) verdicts.Looped (rows.of_sender p sender m) in
+    let first = past (nat_lt p.config.max (length m)) verdicts.TooBig (cond (not (is_usable sender)) verdicts.BounceSender after) v e apart in
+    not_not (is_usable sender) (past (not (is_usable sender)) verdicts.BounceSender after v first.1 apart2).0
 
 pub held_usable : (p : Plain) (sender m : Text) → verdict p sender m ≡ verdicts.Held → is_usable sender ≡ true
 held_usable p sender m e = usable_by p sender m verdicts.Held (λ bad. cc) (λ bad. cc) e

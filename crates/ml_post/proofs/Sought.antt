@@ -85,17 +85,17 @@ nowhere address before text none =
     ∙ ap (has_address address (byte_before before text (length text))) (drop_all text)
 
 -- what occurs at a place occurs at the front of what comes from there on
-occurs_behind : (text needle : Text) (k : ℕ) → OccursAt text needle k → OccursAt (drop k text) needle 0
-occurs_behind text needle k o = record {
+occurs_after : (text needle : Text) (k : ℕ) → OccursAt text needle k → OccursAt (drop k text) needle 0
+occurs_after text needle k o = record {
   fits = omega (arith, length-drop k text, o.fits);
   reads = λ j h. get_or-drop k text (0 + j) 0 ∙ (let e : k + (0 + j) ≡ k + j = omega arith in ap (λ i. get_or text i 0) e ∙ o.reads j h);
 }
 
 -- the byte at a place of what comes from a place on
-got_behind : (text : Text) (k i : ℕ) → slice_get (drop k text) i ≡ slice_get text (k + i)
-got_behind text zero i = let e : i ≡ zero + i = omega arith in ap (slice_get text) e
-got_behind [] (suc k) i = slice_get_past [] i (omega arith) ∙ sym (slice_get_past [] (suc k + i) (omega arith))
-got_behind (b ∷ bs) (suc k) i = got_behind bs k i ∙ (let e : suc (k + i) ≡ suc k + i = omega arith in ap (slice_get (b ∷ bs)) e)
+got_after : (text : Text) (k i : ℕ) → slice_get (drop k text) i ≡ slice_get text (k + i)
+got_after text zero i = let e : i ≡ zero + i = omega arith in ap (slice_get text) e
+got_after [] (suc k) i = slice_get_past [] i (omega arith) ∙ sym (slice_get_past [] (suc k + i) (omega arith))
+got_after (b ∷ bs) (suc k) i = got_after bs k i ∙ (let e : suc (k + i) ≡ suc k + i = omega arith in ap (slice_get (b ∷ bs)) e)
 
 -- The first place at which the address occurs decides, or what comes after its first byte.
 pub placed : (address : Text) (before : Option ℕ) (text : Text) (at : ℕ) → at < length text → ((k : ℕ) → k < at → OccursAt text address k → ⊥) → OccursAt text address at
@@ -105,22 +105,22 @@ placed address before text at h none o =
     let first = get_or text at 0 in
     let more = drop (suc at) text in
     let e : drop at text ≡ first ∷ more = drop-cons text at 0 h in
-    let stands = front_occurs address (first ∷ more) (subst (λ (t : Text). OccursAt t address 0) e (occurs_behind text address at o)) in
+    let stands = front_occurs address (first ∷ more) (subst (λ (t : Text). OccursAt t address 0) e (occurs_after text address at o)) in
     let left = is_free goes_on_left (byte_before before text at) in
     let right = λ (t : Text). is_free goes_on_right (slice_get t (length address)) in
-    let behind : right (first ∷ more) ≡ is_free goes_on_right (slice_get text (at + length address)) =
-    ap right (sym e) ∙ ap (is_free goes_on_right) (got_behind text at (length address)) in
+    let after : right (first ∷ more) ≡ is_free goes_on_right (slice_get text (at + length address)) =
+    ap right (sym e) ∙ ap (is_free goes_on_right) (got_after text at (length address)) in
     let one : suc at ≡ at + 1 = omega arith in
     skipped address before text at (omega arith) none
     ∙ (ap (has_address address (byte_before before text at)) e
     ∙ (or_here left _ (right (first ∷ more)) _ stands
-    ∙ (ap (λ r. (left && r) || has_address address (Some first) more) behind
+    ∙ (ap (λ r. (left && r) || has_address address (Some first) more) after
     ∙ ap (λ n. (left && is_free goes_on_right (slice_get text (at + length address))) || has_address address (Some first) (drop n text)) one)))
 
 -- what holds of the byte at a place and of what comes after it also holds of them as they are cut from the text
-pub cut_behind : (P : ℕ → Text → Type 0) (text : Text) (at : ℕ) → at < length text → P (get_or text at 0) (drop (at + 1) text)
+pub cut_after : (P : ℕ → Text → Type 0) (text : Text) (at : ℕ) → at < length text → P (get_or text at 0) (drop (at + 1) text)
     → let found = take (length text - at) (drop at text) in P (get_or found 0 0) (take (length found - 1) (drop 1 found))
-cut_behind P text at h holds =
+cut_after P text at h holds =
     let found : take (length text - at) (drop at text) ≡ drop at text = grind (arith, common_steps) in
     let first : get_or (drop at text) 0 0 ≡ get_or text at 0 = grind (arith, common_steps) in
     let more : take (length (drop at text) - 1) (drop 1 (drop at text)) ≡ drop (at + 1) text = grind (arith, common_steps) in

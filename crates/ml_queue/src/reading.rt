@@ -50,8 +50,8 @@ fn front_of(text: &[u8]) -> Option<Front<'_>>
     ensures some { IfSome result (λ front. IsFront text.now (told front)) }
     ensures none { IfNone result ((p : Parts) → ¬ IsFront text.now p) }
 {
-    let (base, behind) = split_netstring(text)?;
-    let (host, later) = split_netstring(behind)?;
+    let (base, after) = split_netstring(text)?;
+    let (host, later) = split_netstring(after)?;
     let (letter, last) = split_netstring(later)?;
     let each = read_letter(letter)?;
     let (body, row) = split_netstring(last)?;

@@ -29,18 +29,18 @@ lines_more (f ∷ fs) e = ap (λ (t : Text). (entry_line f.number f.thing ++ lf)
 -- that other id.
 pub record AreListed (dir : Dir) (low id : ℕ) (text : Text) : Type 0 where
   pub done : List (Drawn Out)
-  pub behind : ℕ
-  pub up : low ≤ behind
-  pub within : behind ≤ id
-  pub gap : NoneThere dir Ids behind id
-  pub walked : AreWalked IsOut out_text dir Ids low behind done
+  pub after : ℕ
+  pub up : low ≤ after
+  pub within : after ≤ id
+  pub gap : NoneThere dir Ids after id
+  pub walked : AreWalked IsOut out_text dir Ids low after done
   pub text_is : text ≡ entry_lines done
 
 -- none yet
 pub none_listed : (dir : Dir) (low : ℕ) → AreListed dir low low []
 none_listed dir low = record {
   done = [];
-  behind = low;
+  after = low;
   up = omega arith;
   within = omega arith;
   gap = λ n from below drawn. absurd (omega arith);
@@ -54,7 +54,7 @@ listed_more dir low id text new None before looks is =
     let within = before.within in
     record {
       done = before.done;
-      behind = before.behind;
+      after = before.after;
       up = before.up;
       within = omega (arith, within);
       gap = λ n from below drawn. elim (cases_eq n id) [
@@ -68,14 +68,14 @@ listed_more dir low id text new (Some out) before looks is =
     let up = before.up in
     let within = before.within in
     let found : Found = record { number = id; bytes = out_text out } in
-    let first : IsFirst dir Ids before.behind (id + 1) found = record { onward = within; below = omega arith; drawn = looks.0; before = before.gap; file = looks.1.spelled } in
+    let first : IsFirst dir Ids before.after (id + 1) found = record { onward = within; below = omega arith; drawn = looks.0; before = before.gap; file = looks.1.spelled } in
     record {
       done = before.done ++ under id out ∷ [];
-      behind = id + 1;
+      after = id + 1;
       up = omega (arith, up, within);
       within = omega arith;
       gap = λ n from below drawn. absurd (omega arith);
-      walked = walked_more IsOut out_text dir Ids low before.behind (id + 1) before.done found out up before.walked first looks.1.is refl;
+      walked = walked_more IsOut out_text dir Ids low before.after (id + 1) before.done found out up before.walked first looks.1.is refl;
       text_is = is ∙ ap (λ (t : Text). t ++ line_of id (Some out)) before.text_is ∙ sym (lines_more before.done (under id out));
     }
 
@@ -85,7 +85,7 @@ listed_on dir low from id text before up none =
     let within = before.within in
     record {
       done = before.done;
-      behind = before.behind;
+      after = before.after;
       up = before.up;
       within = omega (arith, within, up);
       gap = λ n on below drawn. elim (cases_lt n from) [
@@ -100,6 +100,6 @@ listed_on dir low from id text before up none =
 pub all_listed : (dir : Dir) (low next : ℕ) (text : Text) → IsCounter (dir ids_name) low next → AreListed dir low next text → IsQueueText dir text
 all_listed dir low next text counted are = (
   record { all = are.done; next = next },
-  walked_end IsOut out_text dir Ids low are.behind next are.done are.walked are.within are.gap counted,
+  walked_end IsOut out_text dir Ids low are.after next are.done are.walked are.within are.gap counted,
   are.text_is,
 )

@@ -149,14 +149,14 @@ netstrings_read zero text texts rest e =
     let same = one_some (pair_of [] text) (pair_of texts rest) e in
     let none : [] ≡ texts = ap (λ (p : List Text × Text). p.0) same in
     (sym (ap length none), subst (λ ts. AreShort ts) none tt, ap (λ (p : List Text × Text). p.1) same ∙ ap (λ ts. ns_row ts ++ rest) none)
-netstrings_read (suc n) text texts rest e = go (netstring_at text) refl (λ behind more after found. netstrings_read n behind more after found)
+netstrings_read (suc n) text texts rest e = go (netstring_at text) refl (λ beyond more after found. netstrings_read n beyond more after found)
   where
-    further : (x behind : Text) → netstring_at text ≡ Some (x, behind) → (o : Option (List Text × Text)) → netstrings_at n behind ≡ o → option_map (λ (more : List Text × Text). (x ∷ more.0, more.1)) o ≡ found_texts texts rest
-        → ((more : List Text) (after : Text) → netstrings_at n behind ≡ Some (more, after) → (length more ≡ n) × AreShort more × (behind ≡ ns_row more ++ after))
+    further : (x beyond : Text) → netstring_at text ≡ Some (x, beyond) → (o : Option (List Text × Text)) → netstrings_at n beyond ≡ o → option_map (λ (more : List Text × Text). (x ∷ more.0, more.1)) o ≡ found_texts texts rest
+        → ((more : List Text) (after : Text) → netstrings_at n beyond ≡ Some (more, after) → (length more ≡ n) × AreShort more × (beyond ≡ ns_row more ++ after))
         → (length texts ≡ suc n) × AreShort texts × (text ≡ ns_row texts ++ rest)
-    further x behind front None found same later = absurd (none_some (pair_of texts rest) same)
-    further x behind front (Some p) found same later =
-        let first = netstring_read text x behind front in
+    further x beyond front None found same later = absurd (none_some (pair_of texts rest) same)
+    further x beyond front (Some p) found same later =
+        let first = netstring_read text x beyond front in
         let more = later p.0 p.1 found in
         let all = one_some (pair_of (x ∷ p.0) p.1) (pair_of texts rest) same in
         let is : x ∷ p.0 ≡ texts = ap (λ (q : List Text × Text). q.0) all in
@@ -168,7 +168,7 @@ netstrings_read (suc n) text texts rest e = go (netstring_at text) refl (λ behi
         )
 
     go : (o : Option (Text × Text)) → netstring_at text ≡ o
-        → ((behind : Text) (more : List Text) (after : Text) → netstrings_at n behind ≡ Some (more, after) → (length more ≡ n) × AreShort more × (behind ≡ ns_row more ++ after))
+        → ((beyond : Text) (more : List Text) (after : Text) → netstrings_at n beyond ≡ Some (more, after) → (length more ≡ n) × AreShort more × (beyond ≡ ns_row more ++ after))
         → (length texts ≡ suc n) × AreShort texts × (text ≡ ns_row texts ++ rest)
     go None front later = absurd (none_some (pair_of texts rest) (sym (ap (option_and_then (λ (first : Text × Text). option_map (λ (more : List Text × Text). (first.0 ∷ more.0, more.1)) (netstrings_at n first.1))) front) ∙ e))
     go (Some p) front later =

@@ -71,15 +71,15 @@ address_there address is =
 pub line_read : (limit : ℕ) (text : Text) (n : ℕ) → limit < 2 ^ 64 → line_number limit text ≡ Some n → (n ≤ limit) × (text ≡ number_line n)
 line_read limit text n small e = go (split_first 10 text) refl
   where
-    behind : (before rest : Text) → split_first 10 text ≡ Some (before, rest) → if_last limit (before, rest) ≡ Some n → (n ≤ limit) × (text ≡ number_line n)
-    behind before [] split is =
+    after : (before rest : Text) → split_first 10 text ≡ Some (before, rest) → if_last limit (before, rest) ≡ Some n → (n ≤ limit) × (text ≡ number_line n)
+    after before [] split is =
         let number = number_spelled limit before n small is in
         (number.0, (first_read 10 text before [] split).0 ∙ ap (λ (t : Text). t ++ 10 ∷ []) number.1)
-    behind before (b ∷ bs) split is = absurd (none_some n is)
+    after before (b ∷ bs) split is = absurd (none_some n is)
 
     go : (o : Option (Text × Text)) → split_first 10 text ≡ o → (n ≤ limit) × (text ≡ number_line n)
     go None split = absurd (none_some n (sym (ap (option_and_then (if_last limit)) split) ∙ e))
-    go (Some p) split = behind p.0 p.1 split (sym (ap (option_and_then (if_last limit)) split) ∙ e)
+    go (Some p) split = after p.0 p.1 split (sym (ap (option_and_then (if_last limit)) split) ∙ e)
 
 pub line_written : (limit n : ℕ) → limit < 2 ^ 64 → n ≤ limit → line_number limit (number_line n) ≡ Some n
 line_written limit n small le =
@@ -93,12 +93,12 @@ abbrev AreAtMost : ℕ → List ℕ → Type 0
 AreAtMost limit numbers = AllByRecursion (λ n. n ≤ limit) numbers
 
 -- texts with a comma before each, and texts joined by commas
-abbrev behind_commas : List Text → Text
-behind_commas texts = flat_map (λ (t : Text). 44 ∷ t) texts
+abbrev after_commas : List Text → Text
+after_commas texts = flat_map (λ (t : Text). 44 ∷ t) texts
 
 abbrev comma_joined : List Text → Text
 comma_joined [] = []
-comma_joined (t ∷ ts) = t ++ behind_commas ts
+comma_joined (t ∷ ts) = t ++ after_commas ts
 
 onto_joined : (b : ℕ) (ts : List Text) → 0 < length ts → comma_joined (onto_line b ts) ≡ b ∷ comma_joined ts
 onto_joined b [] lt = absurd (omega arith)
@@ -133,9 +133,9 @@ split_joined (b ∷ bs) = go (b == 44) refl (split_joined bs)
     go false is more = onto_joined b (split_all 44 bs) (some_text bs) ∙ ap (λ t. b ∷ t) more
 
 -- a text without a comma is split off at the comma after it
-split_behind : (text rest : Text) → has_byte 44 text ≡ false → split_all 44 (text ++ 44 ∷ rest) ≡ text ∷ split_all 44 rest
-split_behind [] rest e = refl
-split_behind (b ∷ bs) rest e = let parts = neither (b == 44) (has_byte 44 bs) e in ap₂ (λ t more. split_at t b more) parts.0 (split_behind bs rest parts.1)
+split_after : (text rest : Text) → has_byte 44 text ≡ false → split_all 44 (text ++ 44 ∷ rest) ≡ text ∷ split_all 44 rest
+split_after [] rest e = refl
+split_after (b ∷ bs) rest e = let parts = neither (b == 44) (has_byte 44 bs) e in ap₂ (λ t more. split_at t b more) parts.0 (split_after bs rest parts.1)
 
 split_alone : (text : Text) → has_byte 44 text ≡ false → split_all 44 text ≡ text ∷ []
 split_alone [] e = refl
@@ -144,13 +144,13 @@ split_alone (b ∷ bs) e = let parts = neither (b == 44) (has_byte 44 bs) e in a
 abbrev decimals : List ℕ → List Text
 decimals numbers = map decimal numbers
 
-spelled_behind : (numbers : List ℕ) → behind_commas (decimals numbers) ≡ commas numbers
-spelled_behind [] = refl
-spelled_behind (n ∷ ns) = ap (λ t. (44 ∷ decimal n) ++ t) (spelled_behind ns)
+spelled_after : (numbers : List ℕ) → after_commas (decimals numbers) ≡ commas numbers
+spelled_after [] = refl
+spelled_after (n ∷ ns) = ap (λ t. (44 ∷ decimal n) ++ t) (spelled_after ns)
 
 spelled_joined : (numbers : List ℕ) → comma_joined (decimals numbers) ≡ comma_text numbers
 spelled_joined [] = refl
-spelled_joined (n ∷ ns) = ap (λ t. decimal n ++ t) (spelled_behind ns)
+spelled_joined (n ∷ ns) = ap (λ t. decimal n ++ t) (spelled_after ns)
 
 split_numbers : (limit n : ℕ) (ns : List ℕ) → limit < 2 ^ 64 → AreAtMost limit (n ∷ ns) → split_all 44 (comma_text (n ∷ ns)) ≡ decimals (n ∷ ns)
 split_numbers limit n [] small each =
@@ -158,7 +158,7 @@ split_numbers limit n [] small each =
     ap (split_all 44) (append-nil (decimal n)) ∙ split_alone (decimal n) (decimal_without 44 n refl (omega (arith, small, le)))
 split_numbers limit n (m ∷ ms) small each =
     let le = each.0 in
-    split_behind (decimal n) (comma_text (m ∷ ms)) (decimal_without 44 n refl (omega (arith, small, le))) ∙ ap (λ ts. decimal n ∷ ts) (split_numbers limit m ms small each.1)
+    split_after (decimal n) (comma_text (m ∷ ms)) (decimal_without 44 n refl (omega (arith, small, le))) ∙ ap (λ ts. decimal n ∷ ts) (split_numbers limit m ms small each.1)
 
 -- numbers are read as they are spelled
 all_written : (limit : ℕ) (numbers : List ℕ) → limit < 2 ^ 64 → AreAtMost limit numbers → all_numbers limit (decimals numbers) ≡ Some numbers

@@ -70,10 +70,10 @@ pub adds_over : (old new : Dir) (g next : Group) (d : Done) → new ≡ old → 
 adds_over old new g next d is a = subst (λ (f : Dir). Adds f g next d) is a
 
 -- all of these are done, and their answers are out
-pub all_answered : (files : Dir) (done behind : List Done) (before out : Text) (left : Contents) → directory left ≡ Some (after files done) → out ≡ before ++ answers_of done → IsAfterFirst files (done ++ behind) before left out
-all_answered files done behind before out left dir put = record {
+pub all_answered : (files : Dir) (done beyond : List Done) (before out : Text) (left : Contents) → directory left ≡ Some (after files done) → out ≡ before ++ answers_of done → IsAfterFirst files (done ++ beyond) before left out
+all_answered files done beyond before out left dir put = record {
   first = done;
-  rest = behind;
+  rest = beyond;
   split = refl;
   dir = dir;
   put = inl (answers_of done, [], sym (append-nil (answers_of done)), put);
@@ -97,11 +97,11 @@ some_answering files done more before out left n dir put = record {
 }
 
 -- the answers of some of them are out, and some first bytes of a stop line
-pub some_said : (files : Dir) (done more behind : List Done) (before out : Text) (left : Contents) (who : Option ℕ) (why : Why) (n : ℕ) → directory left ≡ Some (after files (done ++ more))
-    → out ≡ (before ++ answers_of done) ++ take n (stop_text who (status_of_why why) why) → IsAfterFirst files ((done ++ more) ++ behind) before left out
-some_said files done more behind before out left who why n dir put = record {
+pub some_said : (files : Dir) (done more beyond : List Done) (before out : Text) (left : Contents) (who : Option ℕ) (why : Why) (n : ℕ) → directory left ≡ Some (after files (done ++ more))
+    → out ≡ (before ++ answers_of done) ++ take n (stop_text who (status_of_why why) why) → IsAfterFirst files ((done ++ more) ++ beyond) before left out
+some_said files done more beyond before out left who why n dir put = record {
   first = done ++ more;
-  rest = behind;
+  rest = beyond;
   split = refl;
   dir = dir;
   put = inr (done, more, who, why, n, refl, put);

@@ -62,8 +62,8 @@ laid_swapped puts new kept at place put le lt here is e =
     ∙ ap (set (take kept puts) place) (get_or_from_slice_get puts at put put here)
     ∙ laid_there put (take kept puts) place is
 
-pub laid_behind : (puts new : List Put) (kept at : ℕ) (put : Put) → kept ≤ at → at < length puts → slice_get puts at ≡ Some put → touches (take kept puts) put.name ≡ false → new ≡ swap puts kept at → take (kept + 1) new ≡ laid_in put (take kept puts)
-laid_behind puts new kept at put le lt here free e =
+pub laid_after : (puts new : List Put) (kept at : ℕ) (put : Put) → kept ≤ at → at < length puts → slice_get puts at ≡ Some put → touches (take kept puts) put.name ≡ false → new ≡ swap puts kept at → take (kept + 1) new ≡ laid_in put (take kept puts)
+laid_after puts new kept at put le lt here free e =
     let is : get_or puts at put ≡ put = get_or_from_slice_get puts at put put here in
     ap (take (kept + 1)) (e ∙ sym (swap_is puts kept at put (omega (arith, le, lt)) lt)) ∙ ⊎_elim
     (λ low. take-set-le (kept + 1) (set puts kept (get_or puts at put)) at (get_or puts kept put) (omega (arith, low))

@@ -28,22 +28,22 @@ number_wider None xs ys is = tt
 number_wider (Some n) [] ys is = absurd is
 number_wider (Some n) (x ∷ xs) ys is = is
 
-line_wider : (waiting rest behind : List Item) (line : Text) → IsStopLine (waiting ++ rest) line → IsStopLine (waiting ++ (rest ++ behind)) line
-line_wider waiting rest behind line l = record {
+line_wider : (waiting rest after : List Item) (line : Text) → IsStopLine (waiting ++ rest) line → IsStopLine (waiting ++ (rest ++ after)) line
+line_wider waiting rest after line l = record {
   who = l.who;
   why = l.why;
-  number = subst (λ (items : List Item). IsNumberOf l.who items) (append_assoc waiting rest behind) (number_wider l.who (waiting ++ rest) behind l.number);
+  number = subst (λ (items : List Item). IsNumberOf l.who items) (append_assoc waiting rest after) (number_wider l.who (waiting ++ rest) after l.number);
   is = l.is;
 }
 
 -- what may be left of some items may be left of more
-pub after_wider : (q : State) (items done behind : List Item) (before out : Text) (left : Contents) → items ≡ done ++ behind → IsAfterSome q done before left out → IsAfterSome q items before left out
-after_wider q items done behind before out left split p = record {
+pub after_wider : (q : State) (items done after : List Item) (before out : Text) (left : Contents) → items ≡ done ++ after → IsAfterSome q done before left out → IsAfterSome q items before left out
+after_wider q items done after before out left split p = record {
   first = p.first;
-  rest = p.rest ++ behind;
-  split = split ∙ ap (λ (l : List Item). l ++ behind) p.split ∙ append_assoc p.first p.rest behind;
+  rest = p.rest ++ after;
+  split = split ∙ ap (λ (l : List Item). l ++ after) p.split ∙ append_assoc p.first p.rest after;
   state = p.state;
-  put = ⊎_elim (λ a. inl a) (λ l. inr (record { answered = l.answered; waiting = l.waiting; split = l.split; front = l.front; more = l.more; line = line_wider l.waiting p.rest behind (l.front ++ l.more) l.line; put = l.put })) p.put;
+  put = ⊎_elim (λ a. inl a) (λ l. inr (record { answered = l.answered; waiting = l.waiting; split = l.split; front = l.front; more = l.more; line = line_wider l.waiting p.rest after (l.front ++ l.more) l.line; put = l.put })) p.put;
 }
 
 -- a stream cut after this many items
@@ -56,13 +56,13 @@ cut_split limit answered count all done ahead items rest split count_is few next
 
 module _ {S : Type 0} (told : Ghosts S) where
   -- what is served of the items that are done is served of more
-  pub served_wider : (start now : S) (q : State) (items done behind : List Item) → items ≡ done ++ behind → IsServed told start now q done done [] → IsServed told start now q items done behind
-  served_wider start now q items done behind split s = record {
+  pub served_wider : (start now : S) (q : State) (items done after : List Item) → items ≡ done ++ after → IsServed told start now q done done [] → IsServed told start now q items done after
+  served_wider start now q items done after split s = record {
     split = split;
     state = s.state;
     put = s.put;
     moments = λ t. weaker told.moment told.left_since told.disk told.output start now (IsAfterSome q done (told.output start)) (IsAfterSome q items (told.output start)) (s.moments t)
-        (λ left out p. after_wider q items done behind (told.output start) out left split p);
+        (λ left out p. after_wider q items done after (told.output start) out left split p);
   }
 
 none_left : (all done rest : List Item) → all ≡ done ++ rest → rest ≡ [] → done ≡ all
@@ -76,8 +76,8 @@ more_left limit all done rest ending split is some = ⊎_elim (λ ne. inl (longe
     longer (x ∷ xs) split ne = omega (arith, is, ap length split, length-append done (x ∷ xs))
 
 -- the stream was at its end
-pub last_line : (rest : List Item) (ending : StreamEnd) (input : Type 0) (limit : ℕ) (held : Contents) (all : List Item) (q : State) (done behind : List Item) → all ≡ done ++ rest → rest ≡ [] → ending ≡ End → IsLine None input limit held all ending q done behind
-last_line rest ending input limit held all q done behind split none end = (end, none_left all done rest split none)
+pub last_line : (rest : List Item) (ending : StreamEnd) (input : Type 0) (limit : ℕ) (held : Contents) (all : List Item) (q : State) (done after : List Item) → all ≡ done ++ rest → rest ≡ [] → ending ≡ End → IsLine None input limit held all ending q done after
+last_line rest ending input limit held all q done after split none end = (end, none_left all done rest split none)
 
 some_not_none : (n : ℕ) → Some n ≡ None → ⊥
 some_not_none n e = cc
@@ -113,22 +113,22 @@ first_next first (x ∷ xs) rest is some = subst (λ (o : Option ℕ). IsNumberO
 
 module _ {S : Type 0} (told : Ghosts S) where
   -- the stop line of a refused group says why the run ends early
-  pub refused_line : (read mid : S) (reason : Why) (first : Option ℕ) (input : Type 0) (limit : ℕ) (held : Contents) (all : List Item) (ending : StreamEnd) (q : State) (done behind : List Item) → IsRefused told (Some reason) read mid → IsNumberOf first behind → IsSome first
-      → IsLine (Some (first, reason)) input limit held all ending q done behind
-  refused_line read mid whys.Memory first input limit held all ending q done behind r number some = number
-  refused_line read mid whys.Disk first input limit held all ending q done behind r number some = (number, λ none. absurd (not_none first some none))
-  refused_line read mid (whys.Bad at) first input limit held all ending q done behind r number some = absurd r
-  refused_line read mid (whys.Short at) first input limit held all ending q done behind r number some = absurd r
-  refused_line read mid whys.More first input limit held all ending q done behind r number some = absurd r
-  refused_line read mid whys.Input first input limit held all ending q done behind r number some = absurd r
-  refused_line read mid whys.Usage first input limit held all ending q done behind r number some = absurd r
-  refused_line read mid whys.Words first input limit held all ending q done behind r number some = absurd r
-  refused_line read mid whys.Long first input limit held all ending q done behind r number some = absurd r
-  refused_line read mid whys.Clock first input limit held all ending q done behind r number some = absurd r
-  refused_line read mid whys.NoList first input limit held all ending q done behind r number some = absurd r
-  refused_line read mid (whys.At name) first input limit held all ending q done behind r number some = absurd r
-  refused_line read mid whys.There first input limit held all ending q done behind r number some = absurd r
-  refused_line read mid whys.Absent first input limit held all ending q done behind r number some = absurd r
+  pub refused_line : (read mid : S) (reason : Why) (first : Option ℕ) (input : Type 0) (limit : ℕ) (held : Contents) (all : List Item) (ending : StreamEnd) (q : State) (done after : List Item) → IsRefused told (Some reason) read mid → IsNumberOf first after → IsSome first
+      → IsLine (Some (first, reason)) input limit held all ending q done after
+  refused_line read mid whys.Memory first input limit held all ending q done after r number some = number
+  refused_line read mid whys.Disk first input limit held all ending q done after r number some = (number, λ none. absurd (not_none first some none))
+  refused_line read mid (whys.Bad at) first input limit held all ending q done after r number some = absurd r
+  refused_line read mid (whys.Short at) first input limit held all ending q done after r number some = absurd r
+  refused_line read mid whys.More first input limit held all ending q done after r number some = absurd r
+  refused_line read mid whys.Input first input limit held all ending q done after r number some = absurd r
+  refused_line read mid whys.Usage first input limit held all ending q done after r number some = absurd r
+  refused_line read mid whys.Words first input limit held all ending q done after r number some = absurd r
+  refused_line read mid whys.Long first input limit held all ending q done after r number some = absurd r
+  refused_line read mid whys.Clock first input limit held all ending q done after r number some = absurd r
+  refused_line read mid whys.NoList first input limit held all ending q done after r number some = absurd r
+  refused_line read mid (whys.At name) first input limit held all ending q done after r number some = absurd r
+  refused_line read mid whys.There first input limit held all ending q done after r number some = absurd r
+  refused_line read mid whys.Absent first input limit held all ending q done after r number some = absurd r
 
   -- a run whose group was refused
   pub refused_runs : (start read mid new : S) (q : State) (all : List Item) (ending : StreamEnd) (input : Type 0) (limit answered status : ℕ) (done more rest : List Item) (first : Option ℕ) (why : Option Why) → IsTrue told.tells_reads
@@ -142,7 +142,7 @@ module _ {S : Type 0} (told : Ghosts S) where
       inr (inr (record {
         status_is = quiet.0;
         done = done;
-        behind = more ++ rest;
+        after = more ++ rest;
         split = split;
         count = count;
         reached = record { waiting = more; next = rest; split = refl; state = same_state (directory (told.disk mid).reads) (directory (told.disk new).reads) (fold q (done ++ more)) (ap (λ (x : S). directory (told.disk x).reads) quiet.1) (state refl) };

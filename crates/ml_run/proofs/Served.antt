@@ -92,121 +92,121 @@ module _ {S : Type 0} (told : Ghosts S) where
       }
 
   -- the moments of a stop line
-  pub said_moments : (start mid new : S) (q : State) (items done behind : List Item) (status : ℕ) (who : Option ℕ) (why : Why) → IsLeft told start mid q items done behind → IsNumberOf who behind → Says told mid new status who why
+  pub said_moments : (start mid new : S) (q : State) (items done after : List Item) (status : ℕ) (who : Option ℕ) (why : Why) → IsLeft told start mid q items done after → IsNumberOf who after → Says told mid new status who why
       → Leaves told start new (IsAfterSome q items (told.output start))
-  said_moments start mid new q items done behind status who why l number s t =
+  said_moments start mid new q items done after status who why l number s t =
       let line = stop_text who (status_of_why why) why in
       goes_on told.moment told.left_since told.disk told.output start mid new (IsAfterSome q items (told.output start)) (Giving (told.disk mid) (told.output mid) line) (l.moments t) (s.time t)
-      (λ left out g. saying q items done behind (told.output start) out line left who why g.1.0 l.split (l.images t left g.0) number refl (g.1.1 ∙ ap (λ (o : Text). o ++ take g.1.0 line) (l.put t)))
+      (λ left out g. saying q items done after (told.output start) out line left who why g.1.0 l.split (l.images t left g.0) number refl (g.1.1 ∙ ap (λ (o : Text). o ++ take g.1.0 line) (l.put t)))
       (λ left image. (subst (λ (d : Disk). IsImage d left) (s.disk_is t) image, says_front told mid new status who why s t))
 
   -- once the store is closed, the same items are done and answered
-  pub closed_left : (start now mid : S) (q : State) (items done behind : List Item) → IsTrue told.tells_reads → IsServed told start now q items done behind
+  pub closed_left : (start now mid : S) (q : State) (items done after : List Item) → IsTrue told.tells_reads → IsServed told start now q items done after
       → (IsTrue told.tells_reads → directory (told.disk mid).reads ≡ directory (told.disk now).reads) → (IsTrue told.tells_all → told.output mid ≡ told.output now)
-      → Leaves told now mid (IsOld (directory (told.disk now).reads) (told.output now)) → IsLeft told start mid q items done behind
-  closed_left start now mid q items done behind r s same put time =
+      → Leaves told now mid (IsOld (directory (told.disk now).reads) (told.output now)) → IsLeft told start mid q items done after
+  closed_left start now mid q items done after r s same put time =
       let dir = directory (told.disk now).reads in record {
         split = s.split;
-        reached = reached_none q done behind (told.disk mid).reads (same_state dir (directory (told.disk mid).reads) (fold q done) (same r) s.state);
-        images = λ t left image. reached_none q done behind left (same_state dir (directory left) (fold q done) ((time t).now left image).0 s.state);
+        reached = reached_none q done after (told.disk mid).reads (same_state dir (directory (told.disk mid).reads) (fold q done) (same r) s.state);
+        images = λ t left image. reached_none q done after left (same_state dir (directory left) (fold q done) ((time t).now left image).0 s.state);
         put = λ t. put t ∙ s.put t;
         moments = λ t. joins told.moment told.left_since told.disk told.output start now mid (IsAfterSome q items (told.output start)) (IsOld dir (told.output now)) (IsAfterSome q items (told.output start)) (s.moments t) (time t)
-            (λ left out p. p) (λ left out p. some_answered q items done behind (told.output start) out left s.split (same_state dir (directory left) (fold q done) p.0 s.state) (p.1 ∙ s.put t));
+            (λ left out p. p) (λ left out p. some_answered q items done after (told.output start) out left s.split (same_state dir (directory left) (fold q done) p.0 s.state) (p.1 ∙ s.put t));
       }
 
 -- a line begins with the number of the next item, or with `-`
-pub line_number : (line : StopLine) (input : Type 0) (limit : ℕ) (held : Contents) (all : List Item) (ending : StreamEnd) (q : State) (done behind : List Item) → IsLine line input limit held all ending q done behind → IsNumberOf (who_of line) behind
-line_number None input limit held all ending q done behind l = tt
-line_number (Some (who, whys.Bad at)) input limit held all ending q done behind l = subst (λ (o : Option ℕ). IsNumberOf o behind) (sym l.0) tt
-line_number (Some (who, whys.Short at)) input limit held all ending q done behind l = subst (λ (o : Option ℕ). IsNumberOf o behind) (sym l.0) tt
-line_number (Some (who, whys.More)) input limit held all ending q done behind l = subst (λ (o : Option ℕ). IsNumberOf o behind) (sym l.0) tt
-line_number (Some (who, whys.Input)) input limit held all ending q done behind l = subst (λ (o : Option ℕ). IsNumberOf o behind) (sym l.0) tt
-line_number (Some (who, whys.Memory)) input limit held all ending q done behind l = l
-line_number (Some (who, whys.Disk)) input limit held all ending q done behind l = l.0
-line_number (Some (who, whys.Usage)) input limit held all ending q done behind l = absurd l
-line_number (Some (who, whys.Words)) input limit held all ending q done behind l = absurd l
-line_number (Some (who, whys.Long)) input limit held all ending q done behind l = absurd l
-line_number (Some (who, whys.Clock)) input limit held all ending q done behind l = absurd l
-line_number (Some (who, whys.NoList)) input limit held all ending q done behind l = absurd l
-line_number (Some (who, whys.At name)) input limit held all ending q done behind l = absurd l
-line_number (Some (who, whys.There)) input limit held all ending q done behind l = absurd l
-line_number (Some (who, whys.Absent)) input limit held all ending q done behind l = absurd l
+pub line_number : (line : StopLine) (input : Type 0) (limit : ℕ) (held : Contents) (all : List Item) (ending : StreamEnd) (q : State) (done after : List Item) → IsLine line input limit held all ending q done after → IsNumberOf (who_of line) after
+line_number None input limit held all ending q done after l = tt
+line_number (Some (who, whys.Bad at)) input limit held all ending q done after l = subst (λ (o : Option ℕ). IsNumberOf o after) (sym l.0) tt
+line_number (Some (who, whys.Short at)) input limit held all ending q done after l = subst (λ (o : Option ℕ). IsNumberOf o after) (sym l.0) tt
+line_number (Some (who, whys.More)) input limit held all ending q done after l = subst (λ (o : Option ℕ). IsNumberOf o after) (sym l.0) tt
+line_number (Some (who, whys.Input)) input limit held all ending q done after l = subst (λ (o : Option ℕ). IsNumberOf o after) (sym l.0) tt
+line_number (Some (who, whys.Memory)) input limit held all ending q done after l = l
+line_number (Some (who, whys.Disk)) input limit held all ending q done after l = l.0
+line_number (Some (who, whys.Usage)) input limit held all ending q done after l = absurd l
+line_number (Some (who, whys.Words)) input limit held all ending q done after l = absurd l
+line_number (Some (who, whys.Long)) input limit held all ending q done after l = absurd l
+line_number (Some (who, whys.Clock)) input limit held all ending q done after l = absurd l
+line_number (Some (who, whys.NoList)) input limit held all ending q done after l = absurd l
+line_number (Some (who, whys.At name)) input limit held all ending q done after l = absurd l
+line_number (Some (who, whys.There)) input limit held all ending q done after l = absurd l
+line_number (Some (who, whys.Absent)) input limit held all ending q done after l = absurd l
 
-none_behind : (limit : ℕ) (all done behind : List Item) → take limit all ≡ done ++ behind → limit ≤ length done → behind ≡ []
-none_behind limit all done behind split le = empty behind (omega (arith, ap length split, length-append done behind, length-take limit all, le))
+none_after : (limit : ℕ) (all done after : List Item) → take limit all ≡ done ++ after → limit ≤ length done → after ≡ []
+none_after limit all done after split le = empty after (omega (arith, ap length split, length-append done after, length-take limit all, le))
   where
     empty : (l : List Item) → length l ≡ 0 → l ≡ []
     empty [] e = refl
     empty (x ∷ l) e = absurd (omega (arith, e))
 
-all_done : (limit : ℕ) (all done behind : List Item) → take limit all ≡ done ++ behind → done ≡ all → behind ≡ []
-all_done limit all done behind split is = empty behind (omega (arith, ap length split, length-append done behind, length-take limit all, ap length is))
+all_done : (limit : ℕ) (all done after : List Item) → take limit all ≡ done ++ after → done ≡ all → after ≡ []
+all_done limit all done after split is = empty after (omega (arith, ap length split, length-append done after, length-take limit all, ap length is))
   where
     empty : (l : List Item) → length l ≡ 0 → l ≡ []
     empty [] e = refl
     empty (x ∷ l) e = absurd (omega (arith, e))
 
 -- a line that has no number and isn't about memory comes before any item is done or after all of them, or the source failed
-pub line_dash : (line : StopLine) (input : Type 0) (limit : ℕ) (held : Contents) (all : List Item) (ending : StreamEnd) (q : State) (done behind : List Item) → take limit all ≡ done ++ behind → (IsMemory line → ⊥)
-    → IsLine line input limit held all ending q done behind → who_of line ≡ None → (done ≡ []) ⊎ ((behind ≡ []) ⊎ input)
-line_dash None input limit held all ending q done behind split other l who = inr (inl (all_done limit all done behind split l.1))
-line_dash (Some (w, whys.Bad at)) input limit held all ending q done behind split other l who = inr (inl (all_done limit all done behind split l.1))
-line_dash (Some (w, whys.Short at)) input limit held all ending q done behind split other l who = inr (inl (all_done limit all done behind split l.1))
-line_dash (Some (w, whys.More)) input limit held all ending q done behind split other l who = inr (inl (none_behind limit all done behind split (omega (arith, l.1))))
-line_dash (Some (w, whys.Input)) input limit held all ending q done behind split other l who = inr (inr l.1)
-line_dash (Some (w, whys.Memory)) input limit held all ending q done behind split other l who = absurd (other refl)
-line_dash (Some (w, whys.Disk)) input limit held all ending q done behind split other l who = l.1 who
-line_dash (Some (w, whys.Usage)) input limit held all ending q done behind split other l who = absurd l
-line_dash (Some (w, whys.Words)) input limit held all ending q done behind split other l who = absurd l
-line_dash (Some (w, whys.Long)) input limit held all ending q done behind split other l who = absurd l
-line_dash (Some (w, whys.Clock)) input limit held all ending q done behind split other l who = absurd l
-line_dash (Some (w, whys.NoList)) input limit held all ending q done behind split other l who = absurd l
-line_dash (Some (w, whys.At name)) input limit held all ending q done behind split other l who = absurd l
-line_dash (Some (w, whys.There)) input limit held all ending q done behind split other l who = absurd l
-line_dash (Some (w, whys.Absent)) input limit held all ending q done behind split other l who = absurd l
+pub line_dash : (line : StopLine) (input : Type 0) (limit : ℕ) (held : Contents) (all : List Item) (ending : StreamEnd) (q : State) (done after : List Item) → take limit all ≡ done ++ after → (IsMemory line → ⊥)
+    → IsLine line input limit held all ending q done after → who_of line ≡ None → (done ≡ []) ⊎ ((after ≡ []) ⊎ input)
+line_dash None input limit held all ending q done after split other l who = inr (inl (all_done limit all done after split l.1))
+line_dash (Some (w, whys.Bad at)) input limit held all ending q done after split other l who = inr (inl (all_done limit all done after split l.1))
+line_dash (Some (w, whys.Short at)) input limit held all ending q done after split other l who = inr (inl (all_done limit all done after split l.1))
+line_dash (Some (w, whys.More)) input limit held all ending q done after split other l who = inr (inl (none_after limit all done after split (omega (arith, l.1))))
+line_dash (Some (w, whys.Input)) input limit held all ending q done after split other l who = inr (inr l.1)
+line_dash (Some (w, whys.Memory)) input limit held all ending q done after split other l who = absurd (other refl)
+line_dash (Some (w, whys.Disk)) input limit held all ending q done after split other l who = l.1 who
+line_dash (Some (w, whys.Usage)) input limit held all ending q done after split other l who = absurd l
+line_dash (Some (w, whys.Words)) input limit held all ending q done after split other l who = absurd l
+line_dash (Some (w, whys.Long)) input limit held all ending q done after split other l who = absurd l
+line_dash (Some (w, whys.Clock)) input limit held all ending q done after split other l who = absurd l
+line_dash (Some (w, whys.NoList)) input limit held all ending q done after split other l who = absurd l
+line_dash (Some (w, whys.At name)) input limit held all ending q done after split other l who = absurd l
+line_dash (Some (w, whys.There)) input limit held all ending q done after split other l who = absurd l
+line_dash (Some (w, whys.Absent)) input limit held all ending q done after split other l who = absurd l
 
 -- the line that is said once the store is closed
-pub closes_line : (line final : StopLine) (rest disk input : Type 0) (limit : ℕ) (held : Contents) (all : List Item) (ending : StreamEnd) (q : State) (done behind : List Item) → take limit all ≡ done ++ behind
-    → ClosesTo line final rest disk → IsLine line input limit held all ending q done behind → IsLine final input limit held all ending q done behind
-closes_line line final rest disk input limit held all ending q done behind split c l =
-    let P : StopLine → Type 0 = λ f. IsLine f input limit held all ending q done behind in
-    let number = line_number line input limit held all ending q done behind l in
+pub closes_line : (line final : StopLine) (rest disk input : Type 0) (limit : ℕ) (held : Contents) (all : List Item) (ending : StreamEnd) (q : State) (done after : List Item) → take limit all ≡ done ++ after
+    → ClosesTo line final rest disk → IsLine line input limit held all ending q done after → IsLine final input limit held all ending q done after
+closes_line line final rest disk input limit held all ending q done after split c l =
+    let P : StopLine → Type 0 = λ f. IsLine f input limit held all ending q done after in
+    let number = line_number line input limit held all ending q done after l in
     ⊎_elim (λ same. subst P (sym same.0) l) (λ more. ⊎_elim (λ same. subst P (sym same.0) l) (λ other. ⊎_elim
     (λ m. subst P (sym m.0) number)
-    (λ d. subst P (sym d.0) (number, line_dash line input limit held all ending q done behind split d.1 l)) other) more) c
+    (λ d. subst P (sym d.0) (number, line_dash line input limit held all ending q done after split d.1 l)) other) more) c
 
 -- a line stays over what reads as the same directory
-pub line_held : (line : StopLine) (input : Type 0) (limit : ℕ) (held new : Contents) (all : List Item) (ending : StreamEnd) (q : State) (done behind : List Item) → directory new ≡ directory held
-    → IsLine line input limit held all ending q done behind → IsLine line input limit new all ending q done behind
-line_held None input limit held new all ending q done behind same l = l
-line_held (Some (w, whys.Bad at)) input limit held new all ending q done behind same l = (l.0, l.1, l.2, l.3, same_state (directory held) (directory new) (fold q done) same l.4)
-line_held (Some (w, whys.Short at)) input limit held new all ending q done behind same l = (l.0, l.1, l.2, l.3, same_state (directory held) (directory new) (fold q done) same l.4)
-line_held (Some (w, whys.More)) input limit held new all ending q done behind same l = (l.0, l.1, l.2, same_state (directory held) (directory new) (fold q done) same l.3)
-line_held (Some (w, whys.Input)) input limit held new all ending q done behind same l = (l.0, l.1, same_state (directory held) (directory new) (fold q done) same l.2)
-line_held (Some (w, whys.Memory)) input limit held new all ending q done behind same l = l
-line_held (Some (w, whys.Disk)) input limit held new all ending q done behind same l = l
-line_held (Some (w, whys.Usage)) input limit held new all ending q done behind same l = absurd l
-line_held (Some (w, whys.Words)) input limit held new all ending q done behind same l = absurd l
-line_held (Some (w, whys.Long)) input limit held new all ending q done behind same l = absurd l
-line_held (Some (w, whys.Clock)) input limit held new all ending q done behind same l = absurd l
-line_held (Some (w, whys.NoList)) input limit held new all ending q done behind same l = absurd l
-line_held (Some (w, whys.At name)) input limit held new all ending q done behind same l = absurd l
-line_held (Some (w, whys.There)) input limit held new all ending q done behind same l = absurd l
-line_held (Some (w, whys.Absent)) input limit held new all ending q done behind same l = absurd l
+pub line_held : (line : StopLine) (input : Type 0) (limit : ℕ) (held new : Contents) (all : List Item) (ending : StreamEnd) (q : State) (done after : List Item) → directory new ≡ directory held
+    → IsLine line input limit held all ending q done after → IsLine line input limit new all ending q done after
+line_held None input limit held new all ending q done after same l = l
+line_held (Some (w, whys.Bad at)) input limit held new all ending q done after same l = (l.0, l.1, l.2, l.3, same_state (directory held) (directory new) (fold q done) same l.4)
+line_held (Some (w, whys.Short at)) input limit held new all ending q done after same l = (l.0, l.1, l.2, l.3, same_state (directory held) (directory new) (fold q done) same l.4)
+line_held (Some (w, whys.More)) input limit held new all ending q done after same l = (l.0, l.1, l.2, same_state (directory held) (directory new) (fold q done) same l.3)
+line_held (Some (w, whys.Input)) input limit held new all ending q done after same l = (l.0, l.1, same_state (directory held) (directory new) (fold q done) same l.2)
+line_held (Some (w, whys.Memory)) input limit held new all ending q done after same l = l
+line_held (Some (w, whys.Disk)) input limit held new all ending q done after same l = l
+line_held (Some (w, whys.Usage)) input limit held new all ending q done after same l = absurd l
+line_held (Some (w, whys.Words)) input limit held new all ending q done after same l = absurd l
+line_held (Some (w, whys.Long)) input limit held new all ending q done after same l = absurd l
+line_held (Some (w, whys.Clock)) input limit held new all ending q done after same l = absurd l
+line_held (Some (w, whys.NoList)) input limit held new all ending q done after same l = absurd l
+line_held (Some (w, whys.At name)) input limit held new all ending q done after same l = absurd l
+line_held (Some (w, whys.There)) input limit held new all ending q done after same l = absurd l
+line_held (Some (w, whys.Absent)) input limit held new all ending q done after same l = absurd l
 
 module _ {S : Type 0} (told : Ghosts S) where
   -- a run that says a line: it is out, or cut off
-  pub said_runs : (start mid new : S) (q : State) (all : List Item) (ending : StreamEnd) (input : Type 0) (limit answered status : ℕ) (done behind : List Item) (who : Option ℕ) (why : Why) → IsTrue told.tells_reads
-      → IsLeft told start mid q (take limit all) done behind → answered ≡ length done → IsLine (Some (who, why)) input limit (told.disk new).reads all ending q done behind → Says told mid new status who why
+  pub said_runs : (start mid new : S) (q : State) (all : List Item) (ending : StreamEnd) (input : Type 0) (limit answered status : ℕ) (done after : List Item) (who : Option ℕ) (why : Why) → IsTrue told.tells_reads
+      → IsLeft told start mid q (take limit all) done after → answered ≡ length done → IsLine (Some (who, why)) input limit (told.disk new).reads all ending q done after → Says told mid new status who why
       → Runs (IsTrue told.tells_all) input status limit answered (told.disk new).reads (told.output new) all ending q (told.output start)
-  said_runs start mid new q all ending input limit answered status done behind who why r l count line s =
-      let reached : Reached q done behind (told.disk new).reads = subst (λ (c : Contents). Reached q done behind c) (sym (s.reads r)) l.reached in
+  said_runs start mid new q all ending input limit answered status done after who why r l count line s =
+      let reached : Reached q done after (told.disk new).reads = subst (λ (c : Contents). Reached q done after c) (sym (s.reads r)) l.reached in
       ⊎_elim
       (λ whole. inr (inl (record {
         why = why;
         who = who;
         done = done;
-        behind = behind;
+        after = after;
         split = l.split;
         count = count;
         reached = reached;
@@ -217,7 +217,7 @@ module _ {S : Type 0} (told : Ghosts S) where
       (λ cut. inr (inr (record {
         status_is = cut.0;
         done = done;
-        behind = behind;
+        after = after;
         split = l.split;
         count = count;
         reached = reached;
@@ -225,23 +225,23 @@ module _ {S : Type 0} (told : Ghosts S) where
           take c.0 (stop_text who (status_of_why why) why),
           drop c.0 (stop_text who (status_of_why why) why),
           c.1 ∙ ap (λ (o : Text). o ++ take c.0 (stop_text who (status_of_why why) why)) (l.put t),
-          inr (who, why, line_number (Some (who, why)) input limit (told.disk new).reads all ending q done behind line, take-append-drop c.0 (stop_text who (status_of_why why) why)),
+          inr (who, why, line_number (Some (who, why)) input limit (told.disk new).reads all ending q done after line, take-append-drop c.0 (stop_text who (status_of_why why) why)),
         );
       })))
       s.line
 
   -- a run whose store was closed
-  pub finished_runs : (start now new : S) (q : State) (all : List Item) (ending : StreamEnd) (input : Type 0) (limit answered status last : ℕ) (done behind : List Item) (line : StopLine) → IsTrue told.tells_reads
-      → IsServed told start now q (take limit all) done behind → answered ≡ length done → answered ≤ limit → last ≡ last_from 0 q done → IsLine line input limit (told.disk now).reads all ending q done behind → Finishes told now new line status last
+  pub finished_runs : (start now new : S) (q : State) (all : List Item) (ending : StreamEnd) (input : Type 0) (limit answered status last : ℕ) (done after : List Item) (line : StopLine) → IsTrue told.tells_reads
+      → IsServed told start now q (take limit all) done after → answered ≡ length done → answered ≤ limit → last ≡ last_from 0 q done → IsLine line input limit (told.disk now).reads all ending q done after → Finishes told now new line status last
       → Runs (IsTrue told.tells_all) input status limit answered (told.disk new).reads (told.output new) all ending q (told.output start)
-  finished_runs start now new q all ending input limit answered status last done behind line r s count few last_is is f =
-      let left = closed_left told start now f.mid q (take limit all) done behind r s f.same f.output f.moments in
-      let mid : IsLine f.final input limit (told.disk f.mid).reads all ending q done behind =
-      line_held f.final input limit (told.disk now).reads (told.disk f.mid).reads all ending q done behind (f.same r)
-      (closes_line line f.final (IsClean told f.mid) (Rose (told.disk_faults now) (told.disk_faults f.mid)) input limit (told.disk now).reads all ending q done behind s.split f.closes is) in
+  finished_runs start now new q all ending input limit answered status last done after line r s count few last_is is f =
+      let left = closed_left told start now f.mid q (take limit all) done after r s f.same f.output f.moments in
+      let mid : IsLine f.final input limit (told.disk f.mid).reads all ending q done after =
+      line_held f.final input limit (told.disk now).reads (told.disk f.mid).reads all ending q done after (f.same r)
+      (closes_line line f.final (IsClean told f.mid) (Rose (told.disk_faults now) (told.disk_faults f.mid)) input limit (told.disk now).reads all ending q done after s.split f.closes is) in
       ⊎_elim
       (λ quiet.
-      let end : (ending ≡ End) × (done ≡ all) = subst (λ (l : StopLine). IsLine l input limit (told.disk f.mid).reads all ending q done behind) quiet.0 mid in
+      let end : (ending ≡ End) × (done ≡ all) = subst (λ (l : StopLine). IsLine l input limit (told.disk f.mid).reads all ending q done after) quiet.0 mid in
       inl (record {
         end = end.0;
         count = count ∙ ap length end.1;
@@ -251,18 +251,18 @@ module _ {S : Type 0} (told : Ghosts S) where
             (same_state (directory (told.disk now).reads) (directory (told.disk new).reads) (fold q done) (ap (λ (x : S). directory (told.disk x).reads) quiet.2 ∙ f.same r) s.state);
         put = λ t. ap told.output quiet.2 ∙ left.put t ∙ ap (λ (l : List Item). told.output start ++ text q l) end.1;
       }))
-      (λ said. said_runs start f.mid new q all ending input limit answered status done behind said.0 said.1 r left count
-      (line_held (Some (said.0, said.1)) input limit (told.disk f.mid).reads (told.disk new).reads all ending q done behind (ap directory (said.3.reads r))
-      (subst (λ (l : StopLine). IsLine l input limit (told.disk f.mid).reads all ending q done behind) said.2 mid)) said.3)
+      (λ said. said_runs start f.mid new q all ending input limit answered status done after said.0 said.1 r left count
+      (line_held (Some (said.0, said.1)) input limit (told.disk f.mid).reads (told.disk new).reads all ending q done after (ap directory (said.3.reads r))
+      (subst (λ (l : StopLine). IsLine l input limit (told.disk f.mid).reads all ending q done after) said.2 mid)) said.3)
       f.said
 
   -- and its moments
-  pub finished_moments : (start now new : S) (q : State) (items done behind : List Item) (line : StopLine) (status last : ℕ) (reads : IsTrue told.tells_all → IsTrue told.tells_reads) → IsServed told start now q items done behind → IsNumberOf (who_of line) behind
+  pub finished_moments : (start now new : S) (q : State) (items done after : List Item) (line : StopLine) (status last : ℕ) (reads : IsTrue told.tells_all → IsTrue told.tells_reads) → IsServed told start now q items done after → IsNumberOf (who_of line) after
       → Finishes told now new line status last → Leaves told start new (IsAfterSome q items (told.output start))
-  finished_moments start now new q items done behind line status last reads s number f t =
-      let left = closed_left told start now f.mid q items done behind (reads t) s f.same f.output f.moments in
+  finished_moments start now new q items done after line status last reads s number f t =
+      let left = closed_left told start now f.mid q items done after (reads t) s f.same f.output f.moments in
       ⊎_elim
       (λ quiet. subst (λ (x : S). LeavesOnly told.moment told.left_since told.disk told.output start x (IsAfterSome q items (told.output start))) (sym quiet.2) (left.moments t))
-      (λ said. said_moments told start f.mid new q items done behind status said.0 said.1 left
-      (subst (λ (o : Option ℕ). IsNumberOf o behind) (sym (closes_who line f.final (IsClean told f.mid) (Rose (told.disk_faults now) (told.disk_faults f.mid)) said.0 said.1 f.closes said.2)) number) said.3 t)
+      (λ said. said_moments told start f.mid new q items done after status said.0 said.1 left
+      (subst (λ (o : Option ℕ). IsNumberOf o after) (sym (closes_who line f.final (IsClean told f.mid) (Rose (told.disk_faults now) (told.disk_faults f.mid)) said.0 said.1 f.closes said.2)) number) said.3 t)
       f.said

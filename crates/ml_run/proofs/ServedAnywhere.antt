@@ -50,7 +50,7 @@ gathers_none_done files g reader left h = record { done = []; holds = h; ahead =
 
 -- one item more was read and added
 pub gathers_one_done : (files : Dir) (g new : Group) (start reader next : Items) (left now later : Option Text) (d : Done) → (s : GathersDone files g ends.Full start reader left now) → Adds files g new d
-    → ((rest : List Item) (ending : StreamEnd) → IsAhead reader now rest ending → (behind : List Item) × (rest ≡ d.item ∷ behind) × IsAhead next later behind ending)
+    → ((rest : List Item) (ending : StreamEnd) → IsAhead reader now rest ending → (after : List Item) × (rest ≡ d.item ∷ after) × IsAhead next later after ending)
     → GathersDone files new ends.Full start next left later
 gathers_one_done files g new start reader next left now later d s a read = record {
   done = s.done ++ d ∷ [];
@@ -141,8 +141,8 @@ module _ {S : Type 0} (told : Ghosts S) where
               let i = a.items all ending b in
               let n = s.ahead i.0 ending i.2 in
               let split : all ≡ items_of all_done ++ n.0 = i.1 ∙ ap (λ (l : List Item). items_of a.done ++ l) n.1 ∙ sym (append_assoc (items_of a.done) (items_of s.done) n.0) ∙ ap (λ (l : List Item). l ++ n.0) (sym (items_joined a.done s.done)) in
-              let behind = take (limit - length (items_of all_done)) n.0 in
-              (behind, ap (take limit) split ∙ take_split limit (items_of all_done) n.0 (omega (arith, items_length all_done, size, few)) ∙ ap (λ (l : List Done). items_of l ++ behind) (sym (append-nil all_done)));
+              let after = take (limit - length (items_of all_done)) n.0 in
+              (beyond, ap (take limit) split ∙ take_split limit (items_of all_done) n.0 (omega (arith, items_length all_done, size, few)) ∙ ap (λ (l : List Done). items_of l ++ beyond) (sym (append-nil all_done)));
           end = inl (finished_dir told files start new end all_done line status last r has f);
           whole = λ one two three. refl;
         };

@@ -48,12 +48,12 @@ module _ {F S : Type 0} (fed : FeedGhosts F) (told : Ghosts S) where
       → (t : TakesSome ends.Full 0 b.bytes answered 0 (fed.reader now) (fed.left now)) → TakesSome stop (place_of (fed.reader now)) t.2.rest g.count (limit - answered - g.count) (fed.reader after) (fed.left after)
       → (line : StopLine) → Finishes told new end line ended.status g.last → ended.answered ≡ answered + g.count
       → ((r : Round told start new limit (answered + g.count) g.last all q s.rest) → IsLine line (Rose (fed.faults before) (fed.faults after)) limit (told.disk new).reads all ending q r.done (take (limit - (answered + g.count)) s.rest))
-      → ((behind : List Item) → EndsTo stop (limit - answered - g.count) behind → IsNumberOf (who_of line) (take (limit - (answered + g.count)) behind) × (ended.status ≡ 74 → behind ≡ []))
+      → ((beyond : List Item) → EndsTo stop (limit - answered - g.count) beyond → IsNumberOf (who_of line) (take (limit - (answered + g.count)) beyond) × (ended.status ≡ 74 → beyond ≡ []))
       → EndsList fed told (Leaves told start end) limit before after start end ended all ending q
   list_finished limit answered last before now after start old read new end ended all ending q b i g stop s lines is few le reads images r kept settled time t u line f sum said number =
       let input = Rose (fed.faults before) (fed.faults after) in
-      let done_of : (others behind : List Item) → others ≡ i.done ++ (s.items ++ behind) → Round told start new limit (answered + g.count) g.last others q behind = λ others behind parts.
-      round_others told start old read new limit answered last (fed.reader now) (fed.reader after) (fed.left now) (fed.left after) all ending q i g stop s lines is few le reads r kept settled time others behind parts in
+      let done_of : (others beyond : List Item) → others ≡ i.done ++ (s.items ++ beyond) → Round told start new limit (answered + g.count) g.last others q after = λ others beyond parts.
+      round_others told start old read new limit answered last (fed.reader now) (fed.reader after) (fed.left now) (fed.left after) all ending q i g stop s lines is few le reads r kept settled time others beyond parts in
       let here = done_of all s.rest (i.split ∙ ap (λ (l : List Item). i.done ++ l) s.split) in
       let rest = take (limit - (answered + g.count)) s.rest in
       let served = round_served told start new limit (answered + g.count) g.last all s.rest q here in
@@ -62,11 +62,11 @@ module _ {F S : Type 0} (fed : FeedGhosts F) (told : Ghosts S) where
         moments = finished_moments told start new end q (take limit all) here.done rest line ended.status g.last reads served (line_number line input limit (told.disk new).reads all ending q here.done rest line_is) f;
         taken = from_taken (fed.left before) (fed.left now) (fed.left after) b.bytes all ending i.done i.ahead s.items s.rest answered g.count 0 (limit - answered - g.count) (fed.reader now) (fed.reader after) stop
             (λ (items : List Item). (IsTrue told.tells_all → IsAfterSome q (take limit items) (told.output start) (told.disk end).reads (told.output end)) × (ended.status ≡ 74 → ended.answered ≡ length items)) b.left_is b.stream i.split i.count s.split s.holds.count t u
-            (λ behind tells.
-            let others = i.done ++ (s.items ++ behind) in
-            let n = number behind tells in (
-              λ t. (round_moments told start new end limit (answered + g.count) g.last ended.status others behind q line reads (done_of others behind refl) n.0 f t).now (told.disk end).reads (images end t),
-              λ is. all_answered ended.answered answered g.count i.done s.items behind sum i.count s.holds.count (n.1 is),
+            (λ beyond tells.
+            let others = i.done ++ (s.items ++ beyond) in
+            let n = number beyond tells in (
+              λ t. (round_moments told start new end limit (answered + g.count) g.last ended.status others beyond q line reads (done_of others beyond refl) n.0 f t).now (told.disk end).reads (images end t),
+              λ is. all_answered ended.answered answered g.count i.done s.items beyond sum i.count s.holds.count (n.1 is),
             ));
       }
 
@@ -82,7 +82,7 @@ module _ {F S : Type 0} (fed : FeedGhosts F) (told : Ghosts S) where
       let none = subst (λ (e : GroupEnd). IsEnd e more (fed.reader after) (fed.left after) s.rest ending) last_is s.ends in
       list_finished limit answered last before now after start old read new end ended all ending q b i g stop s lines is few le reads images r kept settled time t u None f sum
       (λ here. last_line s.rest ending (Rose (fed.faults before) (fed.faults after)) limit (told.disk new).reads all q here.done (take (limit - (answered + g.count)) s.rest) here.split none.0 none.1)
-      (λ behind tells. (tt, λ is. subst (λ (e : GroupEnd). EndsTo e more behind) last_is tells))
+      (λ beyond tells. (tt, λ is. subst (λ (e : GroupEnd). EndsTo e more beyond) last_is tells))
 
   -- the group was stopped
   pub list_stopped : (limit answered last : ℕ) (before now after : F) (start : S) (old read : Store S told) (new end : S) (ended : Ending) (all : List Item) (ending : StreamEnd) (q : State) (b : Begins (fed.left before) (told.disk start).reads all ending q)
@@ -100,9 +100,9 @@ module _ {F S : Type 0} (fed : FeedGhosts F) (told : Ghosts S) where
       let cause = subst (λ (e : GroupEnd). EndsWithReason e input disk (λ (name : Name). Unit {0})) stop_is (end_reason stop input input disk damaged (λ x. x) reason) in
       list_finished limit answered last before now after start old read new end ended all ending q b i g stop s lines is few le reads images r kept settled time t u (Some (who, why)) f sum
       (λ here. round_line told start new limit (answered + g.count) g.last all s.rest ending q input disk (λ (name : Name). Unit {0}) here who why stopped cause)
-      (λ behind tells.
-      let to = subst (λ (e : GroupEnd). EndsTo e more behind) stop_is tells in
-      (subst (λ (n : ℕ). IsNumberOf who (take n behind)) same to.0, λ is. to.1 (finished_other told new end who why ended.status g.last f sound is)))
+      (λ beyond tells.
+      let to = subst (λ (e : GroupEnd). EndsTo e more beyond) stop_is tells in
+      (subst (λ (n : ℕ). IsNumberOf who (take n beyond)) same to.0, λ is. to.1 (finished_other told new end who why ended.status g.last f sound is)))
 
   -- the group was refused
   pub list_refused : (limit answered last : ℕ) (before now after : F) (start : S) (old read : Store S told) (mid end : S) (ended : Ending) (all : List Item) (ending : StreamEnd) (q : State) (b : Begins (fed.left before) (told.disk start).reads all ending q)
@@ -113,17 +113,17 @@ module _ {F S : Type 0} (fed : FeedGhosts F) (told : Ghosts S) where
       → IsGroup g → Refuses told mid end g.first why ended.status → ended.answered ≡ answered → EndsList fed told (Leaves told start end) limit before after start end ended all ending q
   list_refused limit answered last before now after start old read mid end ended all ending q b i g stop s lines is few le reads images r kept why refused time t u group f same =
       let input = Rose (fed.faults before) (fed.faults after) in
-      let both : (others behind : List Item) → others ≡ i.done ++ (s.items ++ behind)
-      → Runs (IsTrue told.tells_all) input ended.status limit ended.answered (told.disk end).reads (told.output end) others ending q (told.output start) × Leaves told start end (IsAfterSome q (take limit others) (told.output start)) = λ others behind parts.
-      group_refused told start old read mid end limit last ended.status ended.answered others ending q input i.done s.items (take (limit - (answered + g.count)) behind)
-      (cut_split limit answered g.count others i.done (s.items ++ behind) s.items behind parts i.count le refl s.holds.count few) i.served g s.holds group lines why is reads r kept refused time (same ∙ i.count) f in
+      let both : (others beyond : List Item) → others ≡ i.done ++ (s.items ++ beyond)
+      → Runs (IsTrue told.tells_all) input ended.status limit ended.answered (told.disk end).reads (told.output end) others ending q (told.output start) × Leaves told start end (IsAfterSome q (take limit others) (told.output start)) = λ others beyond parts.
+      group_refused told start old read mid end limit last ended.status ended.answered others ending q input i.done s.items (take (limit - (answered + g.count)) beyond)
+      (cut_split limit answered g.count others i.done (s.items ++ beyond) s.items beyond parts i.count le refl s.holds.count few) i.served g s.holds group lines why is reads r kept refused time (same ∙ i.count) f in
       let here = both all s.rest (i.split ∙ ap (λ (l : List Item). i.done ++ l) s.split) in record {
         whole = here.0;
         moments = here.1;
         taken = from_taken (fed.left before) (fed.left now) (fed.left after) b.bytes all ending i.done i.ahead s.items s.rest answered g.count 0 (limit - answered - g.count) (fed.reader now) (fed.reader after) stop
             (λ (items : List Item). (IsTrue told.tells_all → IsAfterSome q (take limit items) (told.output start) (told.disk end).reads (told.output end)) × (ended.status ≡ 74 → ended.answered ≡ length items)) b.left_is b.stream i.split i.count s.split s.holds.count t u
-            (λ behind tells. (
-              λ t. ((both (i.done ++ (s.items ++ behind)) behind refl).1 t).now (told.disk end).reads (images end t),
+            (λ beyond tells. (
+              λ t. ((both (i.done ++ (s.items ++ beyond)) beyond refl).1 t).now (told.disk end).reads (images end t),
               λ is. absurd (refused_status told (site_of read) mid end ended.status g.first why refused.refused f (λ e. omega (arith, e, is)) (λ e. omega (arith, e, is)) (λ e. omega (arith, e, is))),
             ));
       }

@@ -33,13 +33,13 @@ use Rattle.ml_run.proofs.Streamed.{is_failing, failing_not}
 use Rattle.ml_run.proofs.Taking.{spells_joined, spells_stream}
 
 -- whole items of some bytes are items of more bytes
-stream_wider : (place : ℕ) (front more : Text) (xs behind all : List Item) (ending other : StreamEnd) → IsStream place front (xs ++ behind) ending → IsStream place (front ++ more) all other → (later : List Item) × (all ≡ xs ++ later)
-stream_wider place front more [] behind all ending other s t = (all, refl)
-stream_wider place front more (x ∷ xs) behind all ending other s t =
+stream_wider : (place : ℕ) (front more : Text) (xs after all : List Item) (ending other : StreamEnd) → IsStream place front (xs ++ after) ending → IsStream place (front ++ more) all other → (later : List Item) × (all ≡ xs ++ later)
+stream_wider place front more [] after all ending other s t = (all, refl)
+stream_wider place front more (x ∷ xs) after all ending other s t =
     let one = item_local place front x s.0 s.1 s.2 in
     let wide : item_at place (front ++ more) ≡ got (Some x) s.0 (s.1 ++ more) = ap (item_at place) (ap (λ (b : Text). b ++ more) one.split ∙ append_assoc one.one s.1 more) ∙ one.all (s.1 ++ more) in
     let next = stream_item place s.0 (front ++ more) (s.1 ++ more) x all other t wide in
-    let rest = stream_wider s.0 s.1 more xs behind next.0 ending other s.3 next.2 in
+    let rest = stream_wider s.0 s.1 more xs after next.0 ending other s.3 next.2 in
     (rest.0, next.1 ∙ ap (λ (l : List Item). x ∷ l) rest.1)
 
 prefix_same : (xs ys xs' ys' : List Item) → xs ++ ys ≡ xs' ++ ys' → length xs ≡ length xs' → xs ≡ xs'
@@ -47,21 +47,21 @@ prefix_same xs ys xs' ys' is long = sym (take-append_seam xs ys) ∙ ap (λ (n :
 
 -- what the end of a group tells of the items after it that the bytes hold
 abbrev pub EndsTo : GroupEnd → ℕ → List Item → Type 0
-EndsTo ends.Full more behind = behind ≡ []
-EndsTo ends.Last more behind = behind ≡ []
-EndsTo (ends.Stopped who why) more behind = IsNumberOf who (take more behind) × (why ≡ whys.Input → behind ≡ []) × (length behind ≤ more)
+EndsTo ends.Full more after = after ≡ []
+EndsTo ends.Last more after = after ≡ []
+EndsTo (ends.Stopped who why) more after = IsNumberOf who (take more after) × (why ≡ whys.Input → after ≡ []) × (length after ≤ more)
 
 takes_whole : (end : GroupEnd) (place : ℕ) (front rest : Text) (items : List Item) (more : ℕ) (reader : Items) (left : Option Text) → TakesTo end place front rest items more reader left → HasWhole place front items (EndsTo end more)
 takes_whole ends.Full place front rest items more reader left t =
-    record { behind = []; ending = End; stream = subst (λ (b : Text). IsStream place b (items ++ []) End) (append-nil front) (spells_stream place (place_of reader) front [] items [] End t.0 refl); holds = refl }
-takes_whole ends.Last place front rest items more reader left t = record { behind = t.behind; ending = t.ending; stream = t.stream; holds = t.holds }
-takes_whole (ends.Stopped who why) place front rest items more reader left t = record { behind = t.0.behind; ending = t.0.ending; stream = t.0.stream; holds = t.0.holds }
+    record { after = []; ending = End; stream = subst (λ (b : Text). IsStream place b (items ++ []) End) (append-nil front) (spells_stream place (place_of reader) front [] items [] End t.0 refl); holds = refl }
+takes_whole ends.Last place front rest items more reader left t = record { after = t.after; ending = t.ending; stream = t.stream; holds = t.holds }
+takes_whole (ends.Stopped who why) place front rest items more reader left t = record { after = t.0.after; ending = t.0.ending; stream = t.0.stream; holds = t.0.holds }
 
 -- they are no more than were to be read
-ends_few : (end : GroupEnd) (more : ℕ) (behind : List Item) → EndsTo end more behind → length behind ≤ more
-ends_few ends.Full more behind e = omega (arith, ap length e)
-ends_few ends.Last more behind e = omega (arith, ap length e)
-ends_few (ends.Stopped who why) more behind e = e.2
+ends_few : (end : GroupEnd) (more : ℕ) (after : List Item) → EndsTo end more after → length after ≤ more
+ends_few ends.Full more after e = omega (arith, ap length e)
+ends_few ends.Last more after e = omega (arith, ap length e)
+ends_few (ends.Stopped who why) more after e = e.2
 
 -- a group that was read after others
 pub takes_joined : (bytes : Text) (answered count m0 m1 m2 : ℕ) (reader next : Items) (left left' : Option Text) (t : TakesSome ends.Full 0 bytes answered m0 reader left) → TakesSome ends.Full (place_of reader) t.2.rest count m1 next left'
@@ -82,25 +82,25 @@ takes_joined bytes answered count m0 m1 m2 reader next left left' t u = (
 pub from_taken : (before left left' : Option Text) (bytes : Text) (all : List Item) (ending : StreamEnd) (done ahead items rest : List Item) (answered count m0 more : ℕ) (reader next : Items) (end : GroupEnd) (P : List Item → Type 0)
     → before ≡ Some bytes → IsStream 0 bytes all ending → all ≡ done ++ ahead → answered ≡ length done → ahead ≡ items ++ rest → count ≡ length items
     → (t : TakesSome ends.Full 0 bytes answered m0 reader left) → TakesSome end (place_of reader) t.2.rest count more next left'
-    → ((behind : List Item) → EndsTo end more behind → P (done ++ (items ++ behind))) → FromTaken before left' P
+    → ((after : List Item) → EndsTo end more after → P (done ++ (items ++ after))) → FromTaken before left' P
 from_taken before left left' bytes all ending done ahead items rest answered count m0 more reader next end P is stream split done_is cut items_is t u f =
     let w = takes_whole end (place_of reader) u.2.front u.2.rest u.0 more next left' u.2.holds in
     let front = t.2.front ++ u.2.front in
     let parts : bytes ≡ front ++ u.2.rest = t.2.split ∙ ap (λ (b : Text). t.2.front ++ b) u.2.split ∙ sym (append_assoc t.2.front u.2.front u.2.rest) in
-    let whole : IsStream 0 front ((t.0 ++ u.0) ++ w.behind) w.ending =
-    subst (λ (l : List Item). IsStream 0 front l w.ending) (sym (append_assoc t.0 u.0 w.behind)) (spells_stream 0 (place_of reader) t.2.front u.2.front t.0 (u.0 ++ w.behind) w.ending t.2.holds.0 w.stream) in
-    let wider = stream_wider 0 front u.2.rest (t.0 ++ u.0) w.behind all w.ending ending whole (subst (λ (b : Text). IsStream 0 b all ending) parts stream) in
+    let whole : IsStream 0 front ((t.0 ++ u.0) ++ w.after) w.ending =
+    subst (λ (l : List Item). IsStream 0 front l w.ending) (sym (append_assoc t.0 u.0 w.after)) (spells_stream 0 (place_of reader) t.2.front u.2.front t.0 (u.0 ++ w.after) w.ending t.2.holds.0 w.stream) in
+    let wider = stream_wider 0 front u.2.rest (t.0 ++ u.0) w.after all w.ending ending whole (subst (λ (b : Text). IsStream 0 b all ending) parts stream) in
     let mine : all ≡ (done ++ items) ++ rest = split ∙ ap (λ (l : List Item). done ++ l) cut ∙ sym (append_assoc done items rest) in
     let same : t.0 ++ u.0 ≡ done ++ items = prefix_same (t.0 ++ u.0) wider.0 (done ++ items) rest (sym wider.1 ∙ mine) (length-append t.0 u.0 ∙ (let e : length t.0 + length u.0 ≡ length done + length items = omega (arith, t.1, u.1, done_is, items_is) in e) ∙ sym (length-append done items)) in
-    let all_of : (t.0 ++ u.0) ++ w.behind ≡ done ++ (items ++ w.behind) = ap (λ (l : List Item). l ++ w.behind) same ∙ append_assoc done items w.behind in record {
+    let all_of : (t.0 ++ u.0) ++ w.after ≡ done ++ (items ++ w.after) = ap (λ (l : List Item). l ++ w.after) same ∙ append_assoc done items w.after in record {
       taken = front;
       rest = u.2.rest;
       before_is = is ∙ ap (λ (b : Text). Some b) parts;
       after_is = u.2.left_is;
-      items = done ++ (items ++ w.behind);
+      items = done ++ (items ++ w.after);
       ending = w.ending;
       stream = subst (λ (l : List Item). IsStream 0 front l w.ending) all_of whole;
-      holds = f w.behind w.holds;
+      holds = f w.after w.holds;
     }
 
 -- how many items were taken up to there
@@ -109,15 +109,15 @@ pub few_taken : (before left left' : Option Text) (bytes : Text) (status limit a
 few_taken before left left' bytes status limit answered count m0 more reader next end is few room t u only =
     let w = takes_whole end (place_of reader) u.2.front u.2.rest u.0 more next left' u.2.holds in
     let front = t.2.front ++ u.2.front in
-    let behind_few = ends_few end more w.behind w.holds in record {
+    let after_few = ends_few end more w.after w.holds in record {
       taken = front;
       rest = u.2.rest;
       before_is = is ∙ ap (λ (b : Text). Some b) (t.2.split ∙ ap (λ (b : Text). t.2.front ++ b) u.2.split ∙ sym (append_assoc t.2.front u.2.front u.2.rest));
       after_is = u.2.left_is;
-      items = t.0 ++ (u.0 ++ w.behind);
+      items = t.0 ++ (u.0 ++ w.after);
       ending = w.ending;
-      stream = spells_stream 0 (place_of reader) t.2.front u.2.front t.0 (u.0 ++ w.behind) w.ending t.2.holds.0 w.stream;
-      few = omega (arith, length-append t.0 (u.0 ++ w.behind), length-append u.0 w.behind, behind_few, t.1, u.1, few, room);
+      stream = spells_stream 0 (place_of reader) t.2.front u.2.front t.0 (u.0 ++ w.after) w.ending t.2.holds.0 w.stream;
+      few = omega (arith, length-append t.0 (u.0 ++ w.after), length-append u.0 w.after, after_few, t.1, u.1, few, room);
       more = λ e.
           let o = only e in
           let h = (subst (λ (end : GroupEnd). TakesTo end (place_of reader) u.2.front u.2.rest u.0 more next left') o.1 u.2.holds).1 refl in (
@@ -147,10 +147,10 @@ pub taken_map : (before after : Option Text) (P Q : List Item → Type 0) → Fr
 taken_map before after P Q t f = record { taken = t.taken; rest = t.rest; before_is = t.before_is; after_is = t.after_is; items = t.items; ending = t.ending; stream = t.stream; holds = f t.items t.holds }
 
 -- all items that the bytes hold are answered
-pub all_answered : (count answered more : ℕ) (done items behind : List Item) → count ≡ answered + more → answered ≡ length done → more ≡ length items → behind ≡ [] → count ≡ length (done ++ (items ++ behind))
-all_answered count answered more done items behind is done_is more_is none =
-    let e : count ≡ length done + (length items + length behind) = omega (arith, is, done_is, more_is, ap length none) in
-    e ∙ ap (λ (n : ℕ). length done + n) (sym (length-append items behind)) ∙ sym (length-append done (items ++ behind))
+pub all_answered : (count answered more : ℕ) (done items after : List Item) → count ≡ answered + more → answered ≡ length done → more ≡ length items → after ≡ [] → count ≡ length (done ++ (items ++ after))
+all_answered count answered more done items after is done_is more_is none =
+    let e : count ≡ length done + (length items + length after) = omega (arith, is, done_is, more_is, ap length none) in
+    e ∙ ap (λ (n : ℕ). length done + n) (sym (length-append items after)) ∙ sym (length-append done (items ++ after))
 
 -- status 74 has one reason
 pub input_only : (why : Why) → status_of_why why ≡ 74 → why ≡ whys.Input

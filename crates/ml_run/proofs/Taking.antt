@@ -11,7 +11,7 @@ use Rattle.ml_ending.specs.declared.lines.Why.{Why}
 use Rattle.ml_ending.specs.declared.lines.Why.TheVariants as whys
 use Rattle.ml_stream.specs.declared.stream.StreamError.{StreamError}
 use Rattle.ml_stream.specs.declared.stream.StreamError.TheVariants.{Bad, Short, Fault, Memory}
-use Rattle.ml_stream.specs.Stream.{got, Read, StreamEnd, End, Broken, IsStream, behind_letter, elements_at, item_at, letter_of}
+use Rattle.ml_stream.specs.Stream.{got, Read, StreamEnd, End, Broken, IsStream, after_letter, elements_at, item_at, letter_of}
 use Rattle.ml_stream.specs.Reading.{EndsEarly, IsNoItem, Tells}
 use Rattle.ml_stream.specs.Items.{HasLeft, place_of, ahead_of}
 use Rattle.ml_run.specs.Stops.{why_of_stream}
@@ -45,14 +45,14 @@ pub spells_one : (place next : ℕ) (own : Text) (item : Item) → ((more : Text
 spells_one place next own item all = (own, [], next, sym (append-nil own), all, (refl, refl))
 
 -- a group has taken its items, and some more bytes
-takes_more : (end : GroupEnd) (place mid : ℕ) (bs front rest own rest' : Text) (items : List Item) (more : ℕ) (reader : Items) (left : Option Text) (behind : List Item) (ending : StreamEnd) → bs ≡ front ++ rest → Spells place front items mid
-    → rest ≡ own ++ rest' → left ≡ Some rest' → IsStream mid own behind ending → ((front : Text) → IsStream place front (items ++ behind) ending → TakesTo end place front rest' items more reader left) → Takes end place bs items more reader left
-takes_more end place mid bs front rest own rest' items more reader left behind ending split spells next left_is stream f = record {
+takes_more : (end : GroupEnd) (place mid : ℕ) (bs front rest own rest' : Text) (items : List Item) (more : ℕ) (reader : Items) (left : Option Text) (after : List Item) (ending : StreamEnd) → bs ≡ front ++ rest → Spells place front items mid
+    → rest ≡ own ++ rest' → left ≡ Some rest' → IsStream mid own after ending → ((front : Text) → IsStream place front (items ++ after) ending → TakesTo end place front rest' items more reader left) → Takes end place bs items more reader left
+takes_more end place mid bs front rest own rest' items more reader left after ending split spells next left_is stream f = record {
   front = front ++ own;
   rest = rest';
   split = split ∙ ap (λ (t : Text). front ++ t) next ∙ sym (append_assoc front own rest');
   left_is = left_is;
-  holds = f (front ++ own) (spells_stream place mid front own items behind ending spells stream);
+  holds = f (front ++ own) (spells_stream place mid front own items after ending spells stream);
 }
 
 err_item : (e : StreamError) (item : Item) (place : ℕ) (rest : Text) → ◌≡◌ {A = Read (Option Item)} (Err e) (got (Some item) place rest) → ⊥
@@ -88,7 +88,7 @@ pub takes_error : (e : StreamError) (place : ℕ) (bs : Text) (items : List Item
 takes_error e place bs items more more' reader new left left' t tells b =
     let none = none_taken e (place_of reader) t.rest left' tells b in
     takes_more (ends.Stopped None (why_of_stream e)) place (place_of reader) bs t.front t.rest b.front b.rest items more' new left' [] none.0 t.split t.holds.0 b.split b.left_is none.1
-    (λ front s. (record { behind = []; ending = none.0; stream = s; holds = (tt, λ is. refl, omega arith) }, λ is. absurd (stream_more e is)))
+    (λ front s. (record { after = []; ending = none.0; stream = s; holds = (tt, λ is. refl, omega arith) }, λ is. absurd (stream_more e is)))
 
 -- the stream was at its end
 pub takes_last : (place : ℕ) (bs : Text) (items : List Item) (more more' : ℕ) (reader new : Items) (left left' : Option Text) (p : ℕ) (rest : Text) (t : Takes ends.Full place bs items more reader left)
@@ -96,7 +96,7 @@ pub takes_last : (place : ℕ) (bs : Text) (items : List Item) (more more' : ℕ
 takes_last place bs items more more' reader new left left' p rest t is none has =
     let empty = no_bytes_end (place_of reader) p t.rest rest is in
     takes_more ends.Last place (place_of reader) bs t.front t.rest [] rest items more' new left' [] End t.split t.holds.0 (empty.0 ∙ sym empty.1) (left_own (place_of new) (ahead_of new) left' rest none has) refl
-    (λ front s. record { behind = []; ending = End; stream = s; holds = refl })
+    (λ front s. record { after = []; ending = End; stream = s; holds = refl })
 
 -- the next item was read
 pub takes_next : (place : ℕ) (bs : Text) (items : List Item) (more more' : ℕ) (reader new : Items) (left left' : Option Text) (item : Item) (rest : Text) (t : Takes ends.Full place bs items more reader left)
@@ -125,7 +125,7 @@ takes_refused place bs items more more' reader new left left' item rest why t is
     takes_more (ends.Stopped (Some item.number) why) place (place_of reader) bs t.front t.rest one.one rest items more' new left' (item ∷ []) End t.split t.holds.0 one.split (left_own (place_of new) (ahead_of new) left' rest none has)
     (place_of new, [], alone, refl)
     (λ front s. (
-      record { behind = item ∷ []; ending = End; stream = s; holds = (number_cut more' item (item ∷ []) [] some refl, λ e. absurd (not_input why part e), omega (arith, some)) },
+      record { after = item ∷ []; ending = End; stream = s; holds = (number_cut more' item (item ∷ []) [] some refl, λ e. absurd (not_input why part e), omega (arith, some)) },
       λ e. absurd (not_more why part e),
     ))
 
@@ -137,7 +137,7 @@ none_or (Some a) P none some = some a
 byte_none : (place b : ℕ) → IsNoItem place (b ∷ [])
 unfolding elements_at
 byte_none place b =
-    let h = none_or (letter_of b) (λ o. (e : StreamError) × (behind_letter place o [] ≡ Err e)) (Bad place, refl) (λ letter. (Short (place + 1), refl)) in
+    let h = none_or (letter_of b) (λ o. (e : StreamError) × (after_letter place o [] ≡ Err e)) (Bad place, refl) (λ letter. (Short (place + 1), refl)) in
     (Broken h.0, h.1)
 
 one_none : (place : ℕ) (o : Option ℕ) → IsNoItem place (option_to_list o)
@@ -156,7 +156,7 @@ takes_byte place bs new left' has =
       rest = has.own;
       split = has.is_all;
       left_is = has.is_left;
-      holds = (record { behind = []; ending = none.0; stream = none.1; holds = (tt, λ e. refl, omega arith) }, λ e. (refl, refl, one_byte (ahead_of new)));
+      holds = (record { after = []; ending = none.0; stream = none.1; holds = (tt, λ e. refl, omega arith) }, λ e. (refl, refl, one_byte (ahead_of new)));
     }
 
 pub takes_end : (place : ℕ) (bs : Text) (new : Items) (left' : Option Text) → HasLeft new left' bs → Takes ends.Last place bs [] 0 new left'
@@ -166,7 +166,7 @@ takes_end place bs new left' has =
       rest = has.own;
       split = has.is_all;
       left_is = has.is_left;
-      holds = record { behind = []; ending = none.0; stream = none.1; holds = refl };
+      holds = record { after = []; ending = none.0; stream = none.1; holds = refl };
     }
 
 input_more : whys.Input ≡ whys.More → ⊥
@@ -178,7 +178,7 @@ takes_nothing place bs new left' none has = record {
   rest = bs;
   split = refl;
   left_is = left_own (place_of new) (ahead_of new) left' bs none has;
-  holds = (record { behind = []; ending = End; stream = refl; holds = (tt, λ e. refl, omega arith) }, λ e. absurd (input_more e));
+  holds = (record { after = []; ending = End; stream = refl; holds = (tt, λ e. refl, omega arith) }, λ e. absurd (input_more e));
 }
 
 -- a group has no items yet

@@ -10,23 +10,23 @@ use Rattle.ml_run.specs.Endings.{EndsEarly, Runs, Stopped}
 use Rattle.ml_stream.specs.Stream.{StreamEnd}
 
 -- what holds if a source fails, for a source that never does
-early : (why : Why) (who : Option ℕ) (input : Type 0) (limit : ℕ) (held : Contents) (all : List Item) (ending : StreamEnd) (q : State) (done behind : List Item) → (input → ⊥)
-    → EndsEarly why who input limit held all ending q done behind → EndsEarly why who ⊥ limit held all ending q done behind
-early (whys.Bad at) who input limit held all ending q done behind never e = e
-early (whys.Short at) who input limit held all ending q done behind never e = e
-early whys.More who input limit held all ending q done behind never e = e
-early whys.Input who input limit held all ending q done behind never e = absurd (never e.1)
-early whys.Memory who input limit held all ending q done behind never e = e
-early whys.Disk who input limit held all ending q done behind never e =
+early : (why : Why) (who : Option ℕ) (input : Type 0) (limit : ℕ) (held : Contents) (all : List Item) (ending : StreamEnd) (q : State) (done after : List Item) → (input → ⊥)
+    → EndsEarly why who input limit held all ending q done after → EndsEarly why who ⊥ limit held all ending q done after
+early (whys.Bad at) who input limit held all ending q done after never e = e
+early (whys.Short at) who input limit held all ending q done after never e = e
+early whys.More who input limit held all ending q done after never e = e
+early whys.Input who input limit held all ending q done after never e = absurd (never e.1)
+early whys.Memory who input limit held all ending q done after never e = e
+early whys.Disk who input limit held all ending q done after never e =
     (e.0, λ none. ⊎_elim (λ a. inl a) (λ more. ⊎_elim (λ b. inr (inl b)) (λ f. absurd (never f)) more) (e.1 none))
-early whys.Usage who input limit held all ending q done behind never e = absurd e
-early whys.Words who input limit held all ending q done behind never e = absurd e
-early whys.Long who input limit held all ending q done behind never e = absurd e
-early whys.Clock who input limit held all ending q done behind never e = absurd e
-early whys.NoList who input limit held all ending q done behind never e = absurd e
-early (whys.At name) who input limit held all ending q done behind never e = absurd e
-early whys.There who input limit held all ending q done behind never e = absurd e
-early whys.Absent who input limit held all ending q done behind never e = absurd e
+early whys.Usage who input limit held all ending q done after never e = absurd e
+early whys.Words who input limit held all ending q done after never e = absurd e
+early whys.Long who input limit held all ending q done after never e = absurd e
+early whys.Clock who input limit held all ending q done after never e = absurd e
+early whys.NoList who input limit held all ending q done after never e = absurd e
+early (whys.At name) who input limit held all ending q done after never e = absurd e
+early whys.There who input limit held all ending q done after never e = absurd e
+early whys.Absent who input limit held all ending q done after never e = absurd e
 
 pub never_fails : (told input : Type 0) (status limit answered : ℕ) (held : Contents) (output : Text) (all : List Item) (ending : StreamEnd) (q : State) (before : Text) → (input → ⊥)
     → Runs told input status limit answered held output all ending q before → Runs told ⊥ status limit answered held output all ending q before
@@ -38,11 +38,11 @@ never_fails told input status limit answered held output all ending q before nev
       why = s.why;
       who = s.who;
       done = s.done;
-      behind = s.behind;
+      after = s.after;
       split = s.split;
       count = s.count;
       reached = s.reached;
-      early = early s.why s.who input limit held all ending q s.done s.behind never s.early;
+      early = early s.why s.who input limit held all ending q s.done s.after never s.early;
       status_is = s.status_is;
       put = s.put;
     }

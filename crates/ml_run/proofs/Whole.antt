@@ -52,11 +52,11 @@ module _ {S : Type 0} (told : Ghosts S) where
   pub round_others : (start : S) (old read : Store S told) (new : S) (limit answered last : ℕ) (reader next : Items) (left left' : Option Text) (all : List Item) (ending : StreamEnd) (q : State) (i : IsServing told start (site_of old) limit answered last reader left all ending q)
       (g : Group) (end : GroupEnd) (s : Gathers (dir_of old) last g end (limit - answered) next left' i.ahead ending (fold q i.done)) (lines : Text) → lines ≡ g.lines → g.count ≤ limit - answered → answered ≤ limit
       → (IsTrue told.tells_all → IsTrue told.tells_reads) → IsTrue told.tells_reads → IsKept old read → IsSettled told g.txn lines (site_of read) new → LeavesSettling told g.txn lines (site_of read) new
-      → (others behind : List Item) → others ≡ i.done ++ (s.items ++ behind) → Round told start new limit (answered + g.count) g.last others q behind
-  round_others start old read new limit answered last reader next left left' all ending q i g end s lines is few le reads r kept ends time others behind parts =
+      → (others after : List Item) → others ≡ i.done ++ (s.items ++ after) → Round told start new limit (answered + g.count) g.last others q after
+  round_others start old read new limit answered last reader next left left' all ending q i g end s lines is few le reads r kept ends time others after parts =
       let served = served_wider told start (site_of old) q (i.done ++ s.items) i.done (s.items ++ []) (ap (λ (l : List Item). i.done ++ l) (sym (append-nil s.items))) i.served in record {
         done = i.done ++ s.items;
-        split = parts ∙ sym (append_assoc i.done s.items behind);
+        split = parts ∙ sym (append_assoc i.done s.items after);
         count = omega (arith, i.count, s.holds.count, length-append i.done s.items);
         few = omega (arith, few, le);
         last_is = s.holds.last_is ∙ ap (λ (n : ℕ). last_from n (fold q i.done) s.items) i.last_is ∙ sym (last-append 0 q i.done s.items);

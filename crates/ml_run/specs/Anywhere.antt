@@ -135,7 +135,7 @@ pub record IsRow {S : Type 0} (told : Ghosts S) (brings : List Item → StreamEn
   pub are : AreDone files (first ++ group)
   pub count : answered ≡ length first
   pub few : length group ≤ 16
-  pub brought : (all : List Item) (ending : StreamEnd) → brings all ending → (behind : List Item) × (take limit all ≡ items_of (first ++ group) ++ behind)
+  pub brought : (all : List Item) (ending : StreamEnd) → brings all ending → (beyond : List Item) × (take limit all ≡ items_of (first ++ group) ++ beyond)
   pub end : (directory (told.disk new).reads ≡ Some (after files first)) ⊎ (directory (told.disk new).reads ≡ Some (after files (first ++ group)))
   pub whole : (status ≡ 71 → ⊥) → (status ≡ 73 → ⊥) → (status ≡ 111 → ⊥) → group ≡ []
 

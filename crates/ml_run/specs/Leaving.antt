@@ -62,10 +62,10 @@ pub record IsAfterSome (q : State) (items : List Item) (before : Text) (left : C
   pub put : AnswersOut q first before out ⊎ LineOut q first rest before out
 
 -- some more items are done after the answered ones
-pub record Reached (q : State) (done behind : List Item) (left : Contents) : Type 0 where
+pub record Reached (q : State) (done after : List Item) (left : Contents) : Type 0 where
   pub waiting : List Item
   pub next : List Item
-  pub split : behind ≡ waiting ++ next
+  pub split : after ≡ waiting ++ next
   pub state : HasState (directory left) (fold q (done ++ waiting))
 
 -- during a commit and its answers: the old directory and no more output, or the new one and some first bytes of the answers
@@ -74,16 +74,16 @@ IsSettling dir txn lines before left out =
     ((directory left ≡ dir) × (out ≡ before)) ⊎ ((directory left ≡ with_txn txn dir) × ((n : ℕ) × (out ≡ before ++ take n lines)))
 
 -- The first items are done and answered, and no more.
-pub record IsServed {S : Type 0} (told : Ghosts S) (start now : S) (q : State) (items done behind : List Item) : Type 0 where
-  pub split : items ≡ done ++ behind
+pub record IsServed {S : Type 0} (told : Ghosts S) (start now : S) (q : State) (items done after : List Item) : Type 0 where
+  pub split : items ≡ done ++ after
   pub state : HasState (directory (told.disk now).reads) (fold q done)
   pub put : IsTrue told.tells_all → told.output now ≡ told.output start ++ text q done
   pub moments : Leaves told start now (IsAfterSome q items (told.output start))
 
 -- The first items are answered, and some more may be done, at the site and after a crash now.
-pub record IsLeft {S : Type 0} (told : Ghosts S) (start now : S) (q : State) (items done behind : List Item) : Type 0 where
-  pub split : items ≡ done ++ behind
-  pub reached : Reached q done behind (told.disk now).reads
-  pub images : IsTrue told.tells_all → (left : Contents) → IsImage (told.disk now) left → Reached q done behind left
+pub record IsLeft {S : Type 0} (told : Ghosts S) (start now : S) (q : State) (items done after : List Item) : Type 0 where
+  pub split : items ≡ done ++ after
+  pub reached : Reached q done after (told.disk now).reads
+  pub images : IsTrue told.tells_all → (left : Contents) → IsImage (told.disk now) left → Reached q done after left
   pub put : IsTrue told.tells_all → told.output now ≡ told.output start ++ text q done
   pub moments : Leaves told start now (IsAfterSome q items (told.output start))

@@ -13,8 +13,8 @@ begins_with (x ∷ front) (y ∷ text) le same =
     λ i. first i ∷ begins_with front text (omega arith) (λ place lt. same (suc place) (omega arith)) i
 
 -- bytes were written after its end: the log stands, with any bytes after it
-pub torn_behind : (old left : Contents) (n : ℕ) → MayLeave old (Range (length old.log) n ∷ []) left → left.log ≡ old.log ++ drop (length old.log) left.log
-torn_behind old left n may = begins_with old.log left.log may.no_shorter (λ place lt. may.log place (omega (arith, lt, may.no_shorter)) (inl lt, tt))
+pub torn_after : (old left : Contents) (n : ℕ) → MayLeave old (Range (length old.log) n ∷ []) left → left.log ≡ old.log ++ drop (length old.log) left.log
+torn_after old left n may = begins_with old.log left.log may.no_shorter (λ place lt. may.log place (omega (arith, lt, may.no_shorter)) (inl lt, tt))
 
 length_around : (log : List ℕ) (at byte : ℕ) → at < length log → length (take at log ++ byte ∷ drop (at + 1) log) ≡ length log
 length_around log at byte lt = grind (arith, places)
@@ -45,8 +45,8 @@ torn_byte old left at lt may = ext_get_or 0 left.log torn (size ∙ sym (length_
       | inr differ ↦ elim (cases_lt place at) [
         | inl below ↦ may.log place within (inl below, tt) ∙ sym (around old.log at byte place lt (inl below))
         | inr past ↦
-            let behind : at + 1 ≤ place = omega (arith, past, differ) in
-            may.log place within (inr behind, tt) ∙ sym (around old.log at byte place lt (inr behind))
+            let after : at + 1 ≤ place = omega (arith, past, differ) in
+            may.log place within (inr after, tt) ∙ sym (around old.log at byte place lt (inr after))
       ]
     ]
 

@@ -6,7 +6,7 @@ use Rattle.ml_plain.specs.declared.Item.{Item}
 use Rattle.ml_stream.specs.declared.reader.Letter.{Letter}
 use Rattle.ml_stream.specs.declared.stream.StreamError.{StreamError}
 use Rattle.ml_stream.specs.declared.stream.StreamError.TheVariants.{Bad}
-use Rattle.ml_stream.specs.Stream.{Read, got, and_then, StreamEnd, End, Broken, IsStream, item_at, behind_letter, letter_of, elements_at, some_item}
+use Rattle.ml_stream.specs.Stream.{Read, got, and_then, StreamEnd, End, Broken, IsStream, item_at, after_letter, letter_of, elements_at, some_item}
 
 abbrev ItemRead : Type 0
 ItemRead = Read (Option Item)
@@ -56,7 +56,7 @@ stream_item place p bs r i (j ∷ js) ending h e =
     )
 
 -- bytes begin an item or are bad: they aren't the end
-no_end : (place p : ℕ) (b : ℕ) (bs r : Text) (o : Option Letter) → behind_letter place o bs ≡ got None p r → ⊥
+no_end : (place p : ℕ) (b : ℕ) (bs r : Text) (o : Option Letter) → after_letter place o bs ≡ got None p r → ⊥
 unfolding value_in
 no_end place p b bs r None e = err_ok (Bad place) _ e
 no_end place p b bs r (Some letter) e = go (elements_at letter (place + 1) bs) e

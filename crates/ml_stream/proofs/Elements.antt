@@ -7,7 +7,7 @@ use Rattle.std.proofs.Math.Seq.{take-append_seam, drop-append_seam}
 use Rattle.ml_stream.specs.declared.stream.StreamError.{StreamError}
 use Rattle.ml_stream.specs.declared.stream.StreamError.TheVariants.{Bad, Short, Fault, Memory}
 use Rattle.ml_stream.specs.Reading.{Stands, Tells}
-use Rattle.ml_stream.specs.Stream.{Got, Read, got, and_then, length_at, bytes_at, content_at, comma_at, closed, element_at, floor_of, id_of, key_of, any_bytes, member_at, deliver_at, sent_at, floor_at, rekey_at, act_at, elements_at, item_at, item_number_of, moment_of, letter_of, behind_letter, some_item}
+use Rattle.ml_stream.specs.Stream.{Got, Read, got, and_then, length_at, bytes_at, content_at, comma_at, closed, element_at, floor_of, id_of, key_of, any_bytes, member_at, deliver_at, sent_at, floor_at, rekey_at, act_at, elements_at, item_at, item_number_of, moment_of, letter_of, after_letter, some_item}
 use Rattle.ml_stream.specs.declared.reader.Letter.{Letter}
 use Rattle.ml_base.specs.declared.names.Set.{Set}
 use Rattle.ml_base.specs.Bytes.{Text}
@@ -132,10 +132,10 @@ deliver_ok p p1 p2 p3 bs r1 r2 r3 sender recipient message a b d =
 
 pub item_letter : (p place b : ℕ) (letter : Letter) (rest : List ℕ) → letter_of b ≡ Some letter → place ≡ p + 1 → item_at p (b ∷ rest) ≡ and_then (elements_at letter place rest) some_item
 item_letter p place b letter rest e is =
-    ap (λ o. behind_letter p o rest) e ∙ ap (λ q. and_then (elements_at letter q rest) some_item) (sym is)
+    ap (λ o. after_letter p o rest) e ∙ ap (λ q. and_then (elements_at letter q rest) some_item) (sym is)
 
 pub item_bad : (p b : ℕ) (rest : List ℕ) → letter_of b ≡ None → item_at p (b ∷ rest) ≡ Err (Bad p)
-item_bad p b rest e = ap (λ o. behind_letter p o rest) e
+item_bad p b rest e = ap (λ o. after_letter p o rest) e
 
 pub item_end : (p place : ℕ) (o : Option ℕ) (bs rest : List ℕ) → bs ≡ [] → rest ≡ [] → o ≡ None → place ≡ p + length (option_to_list o) → item_at p bs ≡ got None place rest
 item_end p place o bs rest e r none is =

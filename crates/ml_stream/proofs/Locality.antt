@@ -14,7 +14,7 @@ use Rattle.ml_stream.specs.declared.reader.Letter.{Letter}
 use Rattle.ml_stream.specs.declared.reader.Letter.TheVariants as letters
 use Rattle.ml_stream.specs.declared.stream.StreamError.{StreamError}
 use Rattle.ml_stream.specs.declared.stream.StreamError.TheVariants.{Bad, Short}
-use Rattle.ml_stream.specs.Stream.{Got, Read, got, and_then, length_at, bytes_at, content_at, comma_at, closed, element_at, item_number_of, moment_of, floor_of, id_of, key_of, any_bytes, member_at, deliver_at, act_at, elements_at, item_at, letter_of, behind_letter, some_item}
+use Rattle.ml_stream.specs.Stream.{Got, Read, got, and_then, length_at, bytes_at, content_at, comma_at, closed, element_at, item_number_of, moment_of, floor_of, id_of, key_of, any_bytes, member_at, deliver_at, act_at, elements_at, item_at, letter_of, after_letter, some_item}
 use Rattle.ml_stream.proofs.Elements.{content_full, sender_then, recipient_then, message_then}
 
 -- the bytes that were read, at the beginning: whatever comes after them, the same is got
@@ -163,7 +163,7 @@ elements_local letter place =
 none_some : (i : Item) → None ≡ Some i → ⊥
 none_some i e = cc
 
-letter_local : (place : ℕ) (o : Option Letter) → IsLocal (λ bs. behind_letter place o bs)
+letter_local : (place : ℕ) (o : Option Letter) → IsLocal (λ bs. after_letter place o bs)
 letter_local place None bs g is = absurd (err_ok (Bad place) g is)
 letter_local place (Some letter) bs g is = then_local (λ bs. elements_at letter (place + 1) bs) some_item (elements_local letter (place + 1)) (λ item end. got_local (Some item) end) bs g is
 
@@ -171,4 +171,4 @@ letter_local place (Some letter) bs g is = then_local (λ bs. elements_at letter
 pub item_local : (place : ℕ) (bs : Text) (item : Item) (p : ℕ) (rest : Text) → item_at place bs ≡ got (Some item) p rest → ReadsFront (λ bs. item_at place bs) bs (record { value = Some item; place = p; rest = rest })
 item_local place [] item p rest is = absurd (none_some item (ap (λ (x : Got (Option Item)). x.value) (ok_same (record { value = None; place = place; rest = [] }) (record { value = Some item; place = p; rest = rest }) is)))
 item_local place (b ∷ bs) item p rest is =
-    byte_more (λ bs. item_at place bs) (λ bs. behind_letter place (letter_of b) bs) b bs (record { value = Some item; place = p; rest = rest }) (λ more. refl) (letter_local place (letter_of b) bs (record { value = Some item; place = p; rest = rest }) is)
+    byte_more (λ bs. item_at place bs) (λ bs. after_letter place (letter_of b) bs) b bs (record { value = Some item; place = p; rest = rest }) (λ more. refl) (letter_local place (letter_of b) bs (record { value = Some item; place = p; rest = rest }) is)

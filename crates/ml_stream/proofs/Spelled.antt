@@ -23,7 +23,7 @@ use Rattle.ml_plain.specs.declared.Act.{Act}
 use Rattle.ml_plain.specs.declared.Act.TheVariants.{Deliver, Timed, Add, Remove, Sent, Rekey, Floor}
 use Rattle.ml_stream.specs.declared.reader.Letter.{Letter}
 use Rattle.ml_stream.specs.declared.reader.Letter.TheVariants as letters
-use Rattle.ml_stream.specs.Stream.{got, and_then, length_at, element_at, item_number_of, moment_of, floor_of, id_of, positive_within, some_positive, key_of, some_key, any_bytes, deliver_at, member_at, act_at, elements_at, item_at, letter_of, behind_letter, some_item}
+use Rattle.ml_stream.specs.Stream.{got, and_then, length_at, element_at, item_number_of, moment_of, floor_of, id_of, positive_within, some_positive, key_of, some_key, any_bytes, deliver_at, member_at, act_at, elements_at, item_at, letter_of, after_letter, some_item}
 use Rattle.ml_plain.specs.Items.{IsItem, IsAct, IsDelivery}
 use Rattle.ml_stream.specs.Writing.{IsTyped, letter, spelled_act, spelled_item}
 use Rattle.ml_stream.proofs.Elements.{content_full, element_ok, comma_some, item_ok, member_ok, deliver_ok, sent_ok, floor_ok, rekey_ok}
@@ -171,7 +171,7 @@ item_written place item rest k a =
     let three = act_written p2 item.act rest k.act a in
     let all = item_ok l (place + 1) p1 p2 p3 (number ++ (moment ++ (act ++ rest))) (moment ++ (act ++ rest)) (act ++ rest) rest item.number item.moment item.act one two three in
     let far : p3 ≡ place + suc (length ((number ++ moment) ++ act)) = omega (arith, length-append (number ++ moment) act, length-append number moment) in
-    ap (λ o. behind_letter place o (((number ++ moment) ++ act) ++ rest)) (letter_read item.act)
+    ap (λ o. after_letter place o (((number ++ moment) ++ act) ++ rest)) (letter_read item.act)
     ∙ ap (λ t. and_then (elements_at l (place + 1) t) some_item) flat
     ∙ ap (λ r. and_then r some_item) all
     ∙ ap (λ q. got (Some item) q rest) far

@@ -11,7 +11,7 @@ use Rattle.ml_plain.specs.declared.Item.{Item}
 use Rattle.ml_stream.specs.declared.reader.Letter.{Letter}
 use Rattle.ml_stream.specs.declared.reader.Letter.TheVariants as letters
 use Rattle.ml_stream.specs.declared.stream.StreamError.TheVariants.{Bad, Short}
-use Rattle.ml_stream.specs.Stream.{Got, Read, got, and_then, length_at, content_at, comma_at, closed, element_at, item_number_of, moment_of, floor_of, id_of, key_of, any_bytes, member_at, add_at, remove_at, deliver_at, sent_at, floor_at, rekey_at, act_at, elements_at, item_at, letter_of, behind_letter, some_item, StreamEnd, End, Broken, IsStream}
+use Rattle.ml_stream.specs.Stream.{Got, Read, got, and_then, length_at, content_at, comma_at, closed, element_at, item_number_of, moment_of, floor_of, id_of, key_of, any_bytes, member_at, add_at, remove_at, deliver_at, sent_at, floor_at, rekey_at, act_at, elements_at, item_at, letter_of, after_letter, some_item, StreamEnd, End, Broken, IsStream}
 use Rattle.ml_stream.proofs.Ahead.{stream_end, stream_err, stream_item}
 
 -- what was got leaves fewer bytes
@@ -120,7 +120,7 @@ on_item n place bs whole (Err e) le rec is s = ([], Broken e, is)
 on_item n place bs whole (Ok found) le rec is s = let t = rec found.place found.rest s in (found.value ∷ t.0, t.1, (found.place, found.rest, is, t.2))
 
 on_letter : (n place : ℕ) (bs whole : Text) (o : Option Letter) → length bs ≤ n → ((p : ℕ) (rest : Text) → length rest < length bs → Streams p rest)
-    → item_at place whole ≡ behind_letter place o bs → Streams place whole
+    → item_at place whole ≡ after_letter place o bs → Streams place whole
 on_letter n place bs whole (Some letter) le rec is = on_item n place bs whole (elements_at letter (place + 1) bs) le rec is (elements_shorter letter (place + 1) bs)
 on_letter n place bs whole None le rec is = ([], Broken (Bad place), is)
 

@@ -60,7 +60,7 @@ comma_at start place (b ∷ bs) = if b == comma then got tt (place + 1) bs else 
 -- a content that is allowed, and its comma
 abbrev pub closed : {X : Type 0} → ℕ → Option X → ℕ → Text → Read X
 closed start None place bs = Err (Bad start)
-closed start (Some x) place bs = and_then (comma_at start place bs) (λ behind. got x behind.place behind.rest)
+closed start (Some x) place bs = and_then (comma_at start place bs) (λ after. got x after.place after.rest)
 
 -- an element: a netstring whose length is within the limit and whose content `read` accepts
 abbrev pub element_at : {X : Type 0} → ℕ → (Text → Option X) → ℕ → Text → Read X
@@ -168,14 +168,14 @@ elements_at letter place bs =
 abbrev pub some_item : Got Item → Read (Option Item)
 some_item item = got (Some item.value) item.place item.rest
 
-abbrev pub behind_letter : ℕ → Option Letter → Text → Read (Option Item)
-behind_letter place None bs = Err (Bad place)
-behind_letter place (Some letter) bs = and_then (elements_at letter (place + 1) bs) some_item
+abbrev pub after_letter : ℕ → Option Letter → Text → Read (Option Item)
+after_letter place None bs = Err (Bad place)
+after_letter place (Some letter) bs = and_then (elements_at letter (place + 1) bs) some_item
 
 -- an item from its letter on, or None at the end
 abbrev pub item_at : ℕ → Text → Read (Option Item)
 item_at place [] = got None place []
-item_at place (b ∷ bs) = behind_letter place (letter_of b) bs
+item_at place (b ∷ bs) = after_letter place (letter_of b) bs
 
 -- what comes after the whole items: the end, or an element that is bad or cut short
 pub data StreamEnd : Type 0 where

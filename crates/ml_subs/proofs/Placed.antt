@@ -17,7 +17,7 @@ use Rattle.ml_subs.specs.Members.{member_key}
 use Rattle.ml_subs.specs.Reading.{IsRecord, BeginsWith, AreRead, Leads, AreSkipped, IsSameKey, Sides, all_members, IsFront, rises}
 use Rattle.ml_base.proofs.BelowLemmas.{below_then, above_else}
 use Rattle.ml_keyed.proofs.Keys.{rising_ordered, ordered_rising}
-use Rattle.ml_subs.proofs.Spelled.{read_first, read_more, read_behind, record_one, record_parts}
+use Rattle.ml_subs.proofs.Spelled.{read_first, read_more, read_after, record_one, record_parts}
 
 -- the key of an address is above the empty one
 pub floor_below : (a : Text) → IsAddress a → is_below [] a ≡ true
@@ -88,13 +88,13 @@ each_record layout n (m ∷ ms) all =
 
 module _ (layout : Layout) (n : ℕ) (who text : Text) (size : ℕ) (skip : AreSkipped layout n who text size) where
   -- the place of a key, once the members after it are read
-  pub place_found : (before behind : Text) (here : Option Member) (above : List Member) → before ≡ take size text → IsSameKey layout n who (drop size text) here behind → AreRead layout n who behind above
-      → (s : Sides layout who before here behind) × AreRead layout n [] text (all_members s)
-  place_found before behind (Some m) above front same read =
+  pub place_found : (before after : Text) (here : Option Member) (above : List Member) → before ≡ take size text → IsSameKey layout n who (drop size text) here after → AreRead layout n who after above
+      → (s : Sides layout who before here after) × AreRead layout n [] text (all_members s)
+  place_found before after (Some m) above front same read =
       let own : IsMember layout n m = same.1 in
-      let rest : AreRead layout n m.who behind above = same_floor layout n who m.who behind above (sym same.2) read in
+      let rest : AreRead layout n m.who after above = same_floor layout n who m.who after above (sym same.2) read in
       let low : is_below skip.last m.who ≡ true = ap (λ k. is_lt (byte_cmp (key skip.last) k)) same.2 ∙ skip.under in
-      let all = skip.leads.whole (m ∷ above) (read_more layout n skip.last (drop size text) m behind above same.0 own low rest) in (
+      let all = skip.leads.whole (m ∷ above) (read_more layout n skip.last (drop size text) m after above same.0 own low rest) in (
         record {
           below = skip.below;
           above = above;
@@ -106,7 +106,7 @@ module _ (layout : Layout) (n : ℕ) (who text : Text) (size : ℕ) (skip : AreS
         },
         all,
       )
-  place_found before behind None above front same read =
+  place_found before after None above front same read =
       let there : AreRead layout n who (drop size text) above = subst (λ t. AreRead layout n who t above) same.0 read in
       let all = skip.leads.whole above (lower_floor layout n who skip.last (drop size text) above skip.under there) in (
         record {
@@ -122,12 +122,12 @@ module _ (layout : Layout) (n : ℕ) (who text : Text) (size : ℕ) (skip : AreS
       )
 
   -- if the whole is read, so is what comes after the place
-  pub place_rest : (behind : Text) (here : Option Member) → IsSameKey layout n who (drop size text) here behind → (all : List Member) → AreRead layout n [] text all → (above : List Member) × AreRead layout n who behind above
-  place_rest behind (Some m) same all is =
+  pub place_rest : (after : Text) (here : Option Member) → IsSameKey layout n who (drop size text) here after → (all : List Member) → AreRead layout n [] text all → (above : List Member) × AreRead layout n who after above
+  place_rest after (Some m) same all is =
       let rest = skip.leads.only all is in
-      let others = read_behind layout n skip.last (drop size text) m behind rest.0 same.0 rest.2 in
-      (others.0, same_floor layout n m.who who behind others.0 same.2 others.2)
-  place_rest behind None same all is =
+      let others = read_after layout n skip.last (drop size text) m after rest.0 same.0 rest.2 in
+      (others.0, same_floor layout n m.who who after others.0 same.2 others.2)
+  place_rest after None same all is =
       let rest = skip.leads.only all is in
       (rest.0, subst (λ t. AreRead layout n who t rest.0) (sym same.0) (go rest.0 rest.2))
     where
@@ -140,8 +140,8 @@ module _ (layout : Layout) (n : ℕ) (who text : Text) (size : ℕ) (skip : AreS
           read_more layout n who (drop size text) m (records layout ms) ms first.begins first.member above first.more
 
   -- and if that isn't read, nor is the whole
-  pub place_nowhere : (behind : Text) (here : Option Member) → IsSameKey layout n who (drop size text) here behind → ((ms : List Member) → AreRead layout n who behind ms → ⊥) → (all : List Member) → AreRead layout n [] text all → ⊥
-  place_nowhere behind here same none all is = let rest = place_rest behind here same all is in none rest.0 rest.1
+  pub place_nowhere : (after : Text) (here : Option Member) → IsSameKey layout n who (drop size text) here after → ((ms : List Member) → AreRead layout n who after ms → ⊥) → (all : List Member) → AreRead layout n [] text all → ⊥
+  place_nowhere after here same none all is = let rest = place_rest after here same all is in none rest.0 rest.1
 
 -- the text of a bucket from its layout and its records
 pub layout_only : (text : Text) (layout : Layout) (body : Text) → IsFront text layout body → (n : ℕ) (ms : List Member) → IsBucket n text ms → AreRead layout n [] body ms

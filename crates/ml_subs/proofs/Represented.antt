@@ -28,7 +28,7 @@ use Rattle.ml_subs.specs.Buckets.{bucket_of, bucket_file, bucket_text, layout_li
 use Rattle.ml_subs.specs.Subscribers.{AreBuckets, AreJoined, AreSubscribers, IsBucketOf, Breaks, bucket_name, count_name, count_text, is_of_set, is_touched}
 use Rattle.ml_subs.specs.Answers.{changes}
 use Rattle.ml_subs.specs.Reading.{AreRead, IsFront}
-use Rattle.ml_subs.proofs.Spelled.{read_first, read_behind, read_empty, record_parts}
+use Rattle.ml_subs.proofs.Spelled.{read_first, read_after, read_empty, record_parts}
 use Rattle.ml_subs.proofs.Placed.{layout_only}
 
 -- bytes are read as one list of members
@@ -36,7 +36,7 @@ read_one : (layout : Layout) (n : ℕ) (floor text : Text) (ms ns : List Member)
 read_one layout n floor text [] ns is other = sym (read_empty layout n floor text ns (ap length is.spelled) other)
 read_one layout n floor text (m ∷ ms) ns is other =
     let first = read_first layout n floor text m ms is in
-    let rest = read_behind layout n floor text m (records layout ms) ns first.begins other in
+    let rest = read_after layout n floor text m (records layout ms) ns first.begins other in
     ap (λ l. m ∷ l) (read_one layout n m.who (records layout ms) ms rest.0 first.more rest.2) ∙ sym rest.1
 
 -- a bucket's text has one layout only

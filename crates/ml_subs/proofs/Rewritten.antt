@@ -5,7 +5,7 @@ use Rattle.std.specs.List.{AllByRecursion}
 use Rattle.std.specs.Fmt.{decimal, digits}
 use Rattle.ml_base.specs.Bytes.{Text}
 use Rattle.ml_base.specs.Splits.{split_first}
-use Rattle.ml_base.specs.Address.{before_at, behind_at}
+use Rattle.ml_base.specs.Address.{before_at, past_at}
 use Rattle.ml_base.proofs.Addresses.{address_clean}
 use Rattle.ml_base.specs.Numbers.{number_within}
 use Rattle.ml_base.proofs.NumberLaws.{number_read, number_spelled}
@@ -44,7 +44,7 @@ dated_turn (m ∷ ms) piece more out all cut =
     ap (λ t. t ++ (0 ∷ 48 ∷ 0 ∷ [])) (ap before_at same) ∙ after m.who ∙ ap (λ n. 84 ∷ (m.who ++ 0 ∷ (decimal n ++ 0 ∷ []))) (sym first.since) in (
       ms,
       all.1,
-      ap behind_at same,
+      ap past_at same,
       append_assoc (out ++ piece) (0 ∷ 48 ∷ 0 ∷ []) (records Dated ms) ∙ append_assoc out piece ((0 ∷ 48 ∷ 0 ∷ []) ++ records Dated ms)
           ∙ ap (λ t. out ++ t) (sym (append_assoc piece (0 ∷ 48 ∷ 0 ∷ []) (records Dated ms)) ∙ ap (λ t. t ++ records Dated ms) whole),
     )

@@ -7,7 +7,7 @@ use Rattle.std.specs.Str.{all_ascii_digits}
 use Rattle.std.specs.Char.{is_ascii_digit}
 use Rattle.std.specs.List.{AllByRecursion}
 use Rattle.ml_base.specs.Bytes.{Text}
-use Rattle.ml_base.specs.Address.{key, before_at, behind_at, IsAddress}
+use Rattle.ml_base.specs.Address.{key, before_at, past_at, IsAddress}
 use Rattle.ml_base.specs.Numbers.{number_within}
 use Rattle.ml_base.specs.Splits.{has_byte, split_first}
 use Rattle.ml_base.proofs.Addresses.{address_clean}
@@ -49,15 +49,15 @@ moment_one Dated s t a b is other e =
     let second = first_written 0 (decimal t) b (decimal_clean t (omega arith)) in
     let texts : decimal s ++ 0 ∷ a ≡ decimal t ++ 0 ∷ b = sym (append_assoc (decimal s) (0 ∷ []) a) ∙ e ∙ append_assoc (decimal t) (0 ∷ []) b in
     let same : two (decimal s) a ≡ two (decimal t) b = sym first ∙ ap (split_first 0) texts ∙ second in
-    (decimal_one s t (omega arith) (omega arith) (ap before_at same), ap behind_at same)
+    (decimal_one s t (omega arith) (omega arith) (ap before_at same), ap past_at same)
 
 -- a record as its parts
 pub record_parts : (layout : Layout) (m : Member) (more : Text) → record_text layout m ++ more ≡ 84 ∷ (m.who ++ 0 ∷ (moment_text layout m.since ++ more))
 record_parts layout m more = ap (λ t. 84 ∷ t) (append_assoc m.who (0 ∷ moment_text layout m.since) more)
 
-abbrev behind_first : Text → Text
-behind_first [] = []
-behind_first (b ∷ bs) = bs
+abbrev after_first : Text → Text
+after_first [] = []
+after_first (b ∷ bs) = bs
 
 -- bytes begin with the record of at most one member
 pub record_one : (layout : Layout) (text : Text) (m n : Member) (a b : Text) → BeginsWith layout text m a → BeginsWith layout text n b → (m ≡ n) × (a ≡ b)
@@ -65,9 +65,9 @@ record_one layout text m n a b one other =
     let first = first_written 0 m.who (moment_text layout m.since ++ a) (address_clean m.who one.is.address) in
     let second = first_written 0 n.who (moment_text layout n.since ++ b) (address_clean n.who other.is.address) in
     let texts : m.who ++ 0 ∷ (moment_text layout m.since ++ a) ≡ n.who ++ 0 ∷ (moment_text layout n.since ++ b) =
-    ap behind_first (sym (record_parts layout m a) ∙ sym one.spelled ∙ other.spelled ∙ record_parts layout n b) in
+    ap after_first (sym (record_parts layout m a) ∙ sym one.spelled ∙ other.spelled ∙ record_parts layout n b) in
     let same : two m.who (moment_text layout m.since ++ a) ≡ two n.who (moment_text layout n.since ++ b) = sym first ∙ ap (split_first 0) texts ∙ second in
-    let rest = moment_one layout m.since n.since a b one.is.since other.is.since (ap behind_at same) in
+    let rest = moment_one layout m.since n.since a b one.is.since other.is.since (ap past_at same) in
     (both m.who n.who m.since n.since (ap before_at same) rest.0, rest.1)
   where
     both : (v w : Text) (s t : ℕ) → v ≡ w → s ≡ t → member_by v s ≡ member_by w t
@@ -105,10 +105,10 @@ read_more layout n floor text m more ms begins member above rest = record {
 }
 
 -- if bytes begin with a member, whoever is read from them is that member and then others
-pub read_behind : (layout : Layout) (n : ℕ) (floor : Text) (text : Text) (m : Member) (more : Text) (all : List Member) → BeginsWith layout text m more → AreRead layout n floor text all
+pub read_after : (layout : Layout) (n : ℕ) (floor : Text) (text : Text) (m : Member) (more : Text) (all : List Member) → BeginsWith layout text m more → AreRead layout n floor text all
     → (ms : List Member) × (all ≡ m ∷ ms) × AreRead layout n m.who more ms
-read_behind layout n floor text m more [] begins is = absurd (let long = ap length (sym is.spelled ∙ begins.spelled ∙ record_parts layout m more) in omega arith)
-read_behind layout n floor text m more (a ∷ ms) begins is =
+read_after layout n floor text m more [] begins is = absurd (let long = ap length (sym is.spelled ∙ begins.spelled ∙ record_parts layout m more) in omega arith)
+read_after layout n floor text m more (a ∷ ms) begins is =
     let first = read_first layout n floor text a ms is in
     let one = record_one layout text a m (records layout ms) more first.begins begins in
     (ms, ap (λ x. x ∷ ms) one.0, subst (λ (p : Member). AreRead layout n p.who more ms) one.0 (subst (λ t. AreRead layout n a.who t ms) one.1 first.more))
@@ -134,7 +134,7 @@ leads_more layout n floor text done last left m more before begins member above 
   whole = λ ms is. subst (AreRead layout n floor text) (sym (append_assoc done (m ∷ []) ms)) (before.whole (m ∷ ms) (read_more layout n last left m more ms begins member above is));
   only = λ all is.
       let some = before.only all is in
-      let rest = read_behind layout n last left m more some.0 begins some.2 in
+      let rest = read_after layout n last left m more some.0 begins some.2 in
       (rest.0, some.1 ∙ ap (λ t. done ++ t) rest.1 ∙ sym (append_assoc done (m ∷ []) rest.0), rest.2);
 }
 
@@ -180,15 +180,15 @@ moment_read Dated text digits rest n is cut number =
     let whole = (first_read 0 text digits rest (sym cut)).0 in
     (omega (arith, spelled.0), whole ∙ ap (λ t. t ++ 0 ∷ rest) spelled.1 ∙ sym (append_assoc (decimal n) (0 ∷ []) rest))
 
-behind_one : (text : Text) → take (length text - 1) (drop 1 text) ≡ behind_first text
-behind_one [] = refl
-behind_one (b ∷ bs) = take_all (length (b ∷ bs) - 1) bs (omega arith)
+after_one : (text : Text) → take (length text - 1) (drop 1 text) ≡ after_first text
+after_one [] = refl
+after_one (b ∷ bs) = take_all (length (b ∷ bs) - 1) bs (omega arith)
 
 abbrev body : Text → Text
 body text = take (length text - 1) (drop 1 text)
 
 body_is : (layout : Layout) (text : Text) (m : Member) (more : Text) → BeginsWith layout text m more → body text ≡ m.who ++ 0 ∷ (moment_text layout m.since ++ more)
-body_is layout text m more is = behind_one text ∙ ap behind_first (is.spelled ∙ record_parts layout m more)
+body_is layout text m more is = after_one text ∙ ap after_first (is.spelled ∙ record_parts layout m more)
 
 cut_is : (layout : Layout) (text : Text) (m : Member) (more : Text) → BeginsWith layout text m more → split_first 0 (body text) ≡ two m.who (moment_text layout m.since ++ more)
 cut_is layout text m more is = ap (split_first 0) (body_is layout text m more is) ∙ first_written 0 m.who (moment_text layout m.since ++ more) (address_clean m.who is.is.address)
@@ -208,20 +208,20 @@ pub no_moment : (layout : Layout) (text who rest : Text) → two who rest ≡ sp
     → (m : Member) (more : Text) → BeginsWith layout text m more → ⊥
 no_moment layout text who rest cut none m more is =
     let same : two who rest ≡ two m.who (moment_text layout m.since ++ more) = cut ∙ cut_is layout text m more is in
-    none m.since more is.is.since (ap behind_at same)
+    none m.since more is.is.since (ap past_at same)
 
 -- nor, in layout 2, do those with no NUL after the one that ends the address
 pub no_second : (layout : Layout) (text who rest : Text) → layout ≡ Dated → two who rest ≡ split_first 0 (body text) → None ≡ split_first 0 rest → (m : Member) (more : Text) → BeginsWith layout text m more → ⊥
 no_second layout text who rest dated cut none m more is =
     let same : two who rest ≡ two m.who (moment_text layout m.since ++ more) = cut ∙ cut_is layout text m more is in
-    no_digits layout rest dated none m.since more is.is.since (ap behind_at same)
+    no_digits layout rest dated none m.since more is.is.since (ap past_at same)
 
 -- the address of a record, and what comes after the record, found by its NULs
 pub split_undated : (layout : Layout) (text who rest : Text) → layout ≡ Undated → two who rest ≡ split_first 0 (body text) → (m : Member) (more : Text) → BeginsWith layout text m more → (who ≡ m.who) × (rest ≡ more)
 split_undated Dated text who rest is cut m more begins = cc
 split_undated Undated text who rest is cut m more begins =
     let same : two who rest ≡ two m.who more = cut ∙ cut_is Undated text m more begins in
-    (ap before_at same, ap behind_at same)
+    (ap before_at same, ap past_at same)
 
 pub split_dated : (layout : Layout) (text who rest digits left : Text) → layout ≡ Dated → two who rest ≡ split_first 0 (body text) → two digits left ≡ split_first 0 rest
     → (m : Member) (more : Text) → BeginsWith layout text m more → (who ≡ m.who) × (left ≡ more)
@@ -229,19 +229,19 @@ split_dated Undated text who rest digits left is cut second m more begins = cc
 split_dated Dated text who rest digits left is cut second m more begins =
     let same : two who rest ≡ two m.who ((decimal m.since ++ 0 ∷ []) ++ more) = cut ∙ cut_is Dated text m more begins in
     let moment = begins.is.since in
-    let behind : two digits left ≡ two (decimal m.since) more =
-    second ∙ ap (split_first 0) (ap behind_at same ∙ append_assoc (decimal m.since) (0 ∷ []) more) ∙ first_written 0 (decimal m.since) more (decimal_clean m.since (omega (arith, moment))) in
-    (ap before_at same, ap behind_at behind)
+    let after : two digits left ≡ two (decimal m.since) more =
+    second ∙ ap (split_first 0) (ap past_at same ∙ append_assoc (decimal m.since) (0 ∷ []) more) ∙ first_written 0 (decimal m.since) more (decimal_clean m.since (omega (arith, moment))) in
+    (ap before_at same, ap past_at after)
 
 -- what was read in turn is a record
 pub record_read : (layout : Layout) (text who rest : Text) (since : ℕ) (more : Text) → 1 ≤ length text → get_or text 0 0 ≡ 84 → two who rest ≡ split_first 0 (body text) → IsAddress who
     → IsMomentIn layout since → rest ≡ moment_text layout since ++ more → BeginsWith layout text (member_by who since) more
 record_read layout text who rest since more some first cut is moment e = record {
   is = record { address = is; since = moment };
-  spelled = front text some first ∙ ap (λ t. 84 ∷ t) (sym (behind_one text) ∙ (first_read 0 (body text) who rest (sym cut)).0 ∙ ap (λ t. who ++ 0 ∷ t) e) ∙ sym (record_parts layout (member_by who since) more);
+  spelled = front text some first ∙ ap (λ t. 84 ∷ t) (sym (after_one text) ∙ (first_read 0 (body text) who rest (sym cut)).0 ∙ ap (λ t. who ++ 0 ∷ t) e) ∙ sym (record_parts layout (member_by who since) more);
 }
   where
-    front : (text : Text) → 1 ≤ length text → get_or text 0 0 ≡ 84 → text ≡ 84 ∷ behind_first text
+    front : (text : Text) → 1 ≤ length text → get_or text 0 0 ≡ 84 → text ≡ 84 ∷ after_first text
     front [] some first = absurd (omega arith)
     front (b ∷ bs) some first = ap (λ b. b ∷ bs) first
 

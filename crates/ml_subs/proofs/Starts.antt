@@ -19,9 +19,9 @@ use Rattle.ml_subs.proofs.Known.{IsSplit}
 use Rattle.ml_base.proofs.BelowLemmas.{below_then}
 use Rattle.ml_subs.proofs.Spelled.{decimal_clean, leads_more, leads_start, read_first, record_parts}
 
-abbrev behind : Text → Text
-behind [] = []
-behind (b ∷ bs) = bs
+abbrev after : Text → Text
+after [] = []
+after (b ∷ bs) = bs
 
 -- whether bytes begin with the letter of a record
 abbrev has_letter : Text → Bool
@@ -35,13 +35,13 @@ no_start (b ∷ bs) = not ((b == 0) && has_letter bs) && no_start bs
 
 -- a NUL with the letter after it is the NUL that ends these bytes, or comes after that
 cut_at : (r t a b : Text) → no_start r ≡ true → a ++ 0 ∷ 84 ∷ b ≡ r ++ 0 ∷ t → ((a ≡ r) × (84 ∷ b ≡ t)) ⊎ ((more : Text) × (a ≡ r ++ 0 ∷ more) × (more ++ 0 ∷ 84 ∷ b ≡ t))
-cut_at [] t [] b clean e = inl (refl, ap behind e)
-cut_at [] t (x ∷ a) b clean e = inr (a, ap (λ h. h ∷ a) (ap (λ l. get_or l 0 0) e), ap behind e)
-cut_at (y ∷ []) t [] b clean e = absurd (let bad = ap (λ l. get_or (behind l) 0 0) e in omega (arith, bad))
+cut_at [] t [] b clean e = inl (refl, ap after e)
+cut_at [] t (x ∷ a) b clean e = inr (a, ap (λ h. h ∷ a) (ap (λ l. get_or l 0 0) e), ap after e)
+cut_at (y ∷ []) t [] b clean e = absurd (let bad = ap (λ l. get_or (after l) 0 0) e in omega (arith, bad))
 cut_at (y ∷ z ∷ r) t [] b clean e =
     absurd (
     let first : 0 ≡ y = ap (λ l. get_or l 0 0) e in
-    let second : 84 ≡ z = ap (λ l. get_or (behind l) 0 0) e in
+    let second : 84 ≡ z = ap (λ l. get_or (after l) 0 0) e in
     let parts = and_parts (not ((y == 0) && (z == 84))) (no_start (z ∷ r)) clean in
     let bad : false ≡ true = ap₂ (λ y z. not ((y == 0) && (z == 84))) first second ∙ parts.0 in
     cc
@@ -49,7 +49,7 @@ cut_at (y ∷ z ∷ r) t [] b clean e =
 cut_at (y ∷ r) t (x ∷ a) b clean e =
     let head : x ≡ y = ap (λ l. get_or l 0 0) e in
     let parts = and_parts (not ((y == 0) && has_letter r)) (no_start r) clean in
-    go head (cut_at r t a b parts.1 (ap behind e))
+    go head (cut_at r t a b parts.1 (ap after e))
   where
     go : x ≡ y → ((a ≡ r) × (84 ∷ b ≡ t)) ⊎ ((more : Text) × (a ≡ r ++ 0 ∷ more) × (more ++ 0 ∷ 84 ∷ b ≡ t))
         → ((x ∷ a ≡ y ∷ r) × (84 ∷ b ≡ t)) ⊎ ((more : Text) × (x ∷ a ≡ y ∷ (r ++ 0 ∷ more)) × (more ++ 0 ∷ 84 ∷ b ≡ t))

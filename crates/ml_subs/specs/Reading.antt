@@ -84,24 +84,24 @@ IsSameKey layout n who text (Some m) more = BeginsWith layout text m more × IsM
 IsSameKey layout n who text None more = (more ≡ text) × ((m : Member) (ms : List Member) → AreRead layout n [] text (m ∷ ms) → key m.who ≢ key who)
 
 -- members whose records are the bytes before a place, and after it
-pub record AreAround (layout : Layout) (before behind : Text) (below above : List Member) : Type 0 where
+pub record AreAround (layout : Layout) (before after : Text) (below above : List Member) : Type 0 where
   pub front : before ≡ records layout below
-  pub back : behind ≡ records layout above
+  pub back : after ≡ records layout above
   pub each_below : AllByRecursion (IsRecord layout) below
   pub each_above : AllByRecursion (IsRecord layout) above
 
 -- the members before and after the place of a key, and the member of the key, if there is one
-pub record Sides (layout : Layout) (who before : Text) (here : Option Member) (behind : Text) : Type 0 where
+pub record Sides (layout : Layout) (who before : Text) (here : Option Member) (after : Text) : Type 0 where
   pub below : List Member
   pub above : List Member
   pub lower : list_all (λ m. is_below m.who who) below ≡ true
   pub higher : list_all (λ m. is_below who m.who) above ≡ true
   pub is : IfSome here (λ m. key m.who ≡ key who)
   pub record_here : IfSome here (IsRecord layout)
-  pub around : AreAround layout before behind below above
+  pub around : AreAround layout before after below above
 
 -- all of them
-abbrev pub all_members : {layout : Layout} {who before : Text} {here : Option Member} {behind : Text} → Sides layout who before here behind → List Member
+abbrev pub all_members : {layout : Layout} {who before : Text} {here : Option Member} {after : Text} → Sides layout who before here after → List Member
 all_members {here = here} s = s.below ++ (option_to_list here ++ s.above)
 
 -- an address, and whether it is known to be its own key; if it isn't known, nothing is said
@@ -111,5 +111,5 @@ pub record IsKeyed (who : Text) (is_key : Bool) : Type 0 where
 
 -- if members were read, they come after those that were there before; if not, there are none to read
 abbrev pub AreAdded : List Member → List Member → Bool → (List Member → Type 0) → Type 0
-AreAdded before behind true P = (ms : List Member) × P ms × (behind ≡ before ++ ms)
-AreAdded before behind false P = (ms : List Member) → ¬ P ms
+AreAdded before after true P = (ms : List Member) × P ms × (after ≡ before ++ ms)
+AreAdded before after false P = (ms : List Member) → ¬ P ms

@@ -118,15 +118,15 @@ fn skip_known(layout: Layout, who: &Address, text: &[u8]) -> usize
 
 // Where an address stands in the records of a bucket, if they spell members in order.
 fn place_known<'a>(layout: Layout, n: u8, who: &Address, text: &'a [u8]) -> Place<'a>
-    ensures { (ms : List Member) → AreRead layout n [] text.now ms → (s : Sides result.layout who.now result.before.now (option_map as_member result.here) result.behind.now) × AreRead layout n [] text.now (all_members s) }
+    ensures { (ms : List Member) → AreRead layout n [] text.now ms → (s : Sides result.layout who.now result.before.now (option_map as_member result.here) result.after.now) × AreRead layout n [] text.now (all_members s) }
 {
     let (before, rest) = text.split_at(skip_known(layout, who, text));
-    let (here, behind) = same_key(layout, n, who, rest);
+    let (here, after) = same_key(layout, n, who, rest);
     Place {
         layout,
         before,
         here,
-        behind,
+        after,
     }
 }
 
@@ -139,7 +139,7 @@ pub(crate) fn find_again<'a>(
     file: &'a Option<Bytes>,
     who: &Address,
 ) -> Option<Place<'a>>
-    ensures some { IfSome result (λ p. (s : Sides p.layout who.now p.before.now (option_map as_member p.here) p.behind.now) × IsBucketFile n file.now (all_members s)) }
+    ensures some { IfSome result (λ p. (s : Sides p.layout who.now p.before.now (option_map as_member p.here) p.after.now) × IsBucketFile n file.now (all_members s)) }
     ensures none { IfNone result ((ms : List Member) → ¬ IsBucketFile n file.now ms) }
 {
     let Some(text) = file else {

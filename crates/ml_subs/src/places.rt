@@ -17,7 +17,7 @@ pub(crate) struct Place<'a> {
     pub layout: Layout,
     pub before: &'a [u8],
     pub here: Option<Record<'a>>,
-    pub behind: &'a [u8],
+    pub after: &'a [u8],
 }
 
 // The layout of a text, and what comes after its line.
@@ -84,23 +84,23 @@ pub(crate) fn same_key<'a>(
 
 // Where an address stands in the records of a bucket, or None if they aren't members of the bucket in order.
 fn place_in<'a>(layout: Layout, n: u8, who: &Address, text: &'a [u8]) -> Option<Place<'a>>
-    ensures some { IfSome result (λ p. (s : Sides p.layout who.now p.before.now (option_map as_member p.here) p.behind.now) × AreRead layout n [] text.now (all_members s)) }
+    ensures some { IfSome result (λ p. (s : Sides p.layout who.now p.before.now (option_map as_member p.here) p.after.now) × AreRead layout n [] text.now (all_members s)) }
     ensures none { IfNone result ((ms : List Member) → ¬ AreRead layout n [] text.now ms) }
 {
     let (before, rest) = text.split_at(skip_lower(layout, n, who, text)?);
-    let (here, behind) = same_key(layout, n, who, rest);
-    let _above = count_members(layout, n, who.bytes(), behind)?;
+    let (here, after) = same_key(layout, n, who, rest);
+    let _above = count_members(layout, n, who.bytes(), after)?;
     Some(Place {
         layout,
         before,
         here,
-        behind,
+        after,
     })
 }
 
 // Where an address stands in a bucket's file, or None if the file is outside its grammar.
 pub(crate) fn find_place<'a>(n: u8, file: &'a Option<Bytes>, who: &Address) -> Option<Place<'a>>
-    ensures some { IfSome result (λ p. (s : Sides p.layout who.now p.before.now (option_map as_member p.here) p.behind.now) × IsBucketFile n file.now (all_members s)) }
+    ensures some { IfSome result (λ p. (s : Sides p.layout who.now p.before.now (option_map as_member p.here) p.after.now) × IsBucketFile n file.now (all_members s)) }
     ensures none { IfNone result ((ms : List Member) → ¬ IsBucketFile n file.now ms) }
 {
     match file {
@@ -108,7 +108,7 @@ pub(crate) fn find_place<'a>(n: u8, file: &'a Option<Bytes>, who: &Address) -> O
             layout: Layout::Dated,
             before: b"",
             here: None,
-            behind: b"",
+            after: b"",
         }),
         Some(text) => {
             let (layout, body) = split_layout(text.as_slice())?;

@@ -55,7 +55,7 @@ fn add_records(out: &mut Bytes, layout: Layout, text: &[u8]) -> Result<(), Alloc
 fn begun(alloc: Global, place: &Place<'_>, more: usize) -> Result<Bytes, AllocError>
     ensures { IfOk result (λ bytes. bytes ≡ layout_line Dated) }
 {
-    let kept = place.before.len().saturating_add(place.behind.len());
+    let kept = place.before.len().saturating_add(place.after.len());
     let room = DATED_LINE.len().saturating_add(kept).saturating_add(more);
     let mut out = Bytes::with_capacity(alloc, room)?;
     out.extend(DATED_LINE)?;
@@ -70,25 +70,25 @@ pub(crate) fn text_with(
     since: u64,
 ) -> Result<Bytes, AllocError>
     ensures address { IsAddress who.now }
-    ensures text { (below above : List Member) → AreAround place.now.layout place.now.before.now place.now.behind.now below above → IfOk result (λ bytes. bytes ≡ bucket_text Dated (below ++ member_by who.now since ∷ above)) }
+    ensures text { (below above : List Member) → AreAround place.now.layout place.now.before.now place.now.after.now below above → IfOk result (λ bytes. bytes ≡ bucket_text Dated (below ++ member_by who.now since ∷ above)) }
 {
     let address = who.bytes();
     let mut out = begun(alloc, place, address.len().saturating_add(RECORD_ROOM))?;
     add_records(&mut out, place.layout, place.before)?;
     add_record(&mut out, address, since)?;
-    add_records(&mut out, place.layout, place.behind)?;
+    add_records(&mut out, place.layout, place.after)?;
     Ok(out)
 }
 
 // The text of a bucket without the member of the place, or None if nobody is left.
 pub(crate) fn text_without(alloc: Global, place: &Place<'_>) -> Result<Option<Bytes>, AllocError>
-    ensures { (below above : List Member) → AreAround place.now.layout place.now.before.now place.now.behind.now below above → IfOk result (λ bytes. bytes ≡ bucket_file (below ++ above)) }
+    ensures { (below above : List Member) → AreAround place.now.layout place.now.before.now place.now.after.now below above → IfOk result (λ bytes. bytes ≡ bucket_file (below ++ above)) }
 {
-    if place.before.is_empty() && place.behind.is_empty() {
+    if place.before.is_empty() && place.after.is_empty() {
         return Ok(None);
     }
     let mut out = begun(alloc, place, 0)?;
     add_records(&mut out, place.layout, place.before)?;
-    add_records(&mut out, place.layout, place.behind)?;
+    add_records(&mut out, place.layout, place.after)?;
     Ok(Some(out))
 }

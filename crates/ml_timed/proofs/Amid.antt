@@ -21,7 +21,7 @@ use Rattle.ml_plain.specs.Plain.{Plain, ledger_of, with_ledger_of}
 use Rattle.ml_plain.specs.Timing.{follow_at, follow_up, warn_member, probe_member}
 use Rattle.ml_acts.specs.Doing.{DrawsId, HasIds, HasIdsUpTo}
 use Rattle.ml_timed.specs.Ahead.{AreIn, HasIdsFor, IsAhead, of_set}
-use Rattle.ml_timed.proofs.Entries.{behind_in}
+use Rattle.ml_timed.proofs.Entries.{after_in}
 
 -- what following up an entry leaves of a list
 pub record Beside (set : Set) (p q : Plain) : Type 0 where
@@ -100,7 +100,7 @@ module _ (now : ℕ) (c : Config) (keys : Keys) (set : Set) (p : Plain) (es : Le
               list = step q e (amid.ahead).list (amid.ahead).config (amid.ahead).keys_are there.found.0 first;
               config = beside.config ∙ (amid.ahead).config;
               keys_are = beside.keys ∙ (amid.ahead).keys_are;
-              entries = behind_in now set has q e left there;
+              entries = after_in now set has q e left there;
               actions_are = rest;
             };
             same = same;

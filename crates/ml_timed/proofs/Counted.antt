@@ -18,7 +18,7 @@ use Rattle.ml_acts.specs.Asked.{IsTooSmall, has_above}
 use Rattle.ml_acts.specs.Damaged.{IsDamaged}
 use Rattle.ml_acts.specs.Damaged as damage
 use Rattle.ml_timed.specs.Digesting.{AgreesIfRead}
-use Rattle.ml_timed.proofs.Behind.{in_group}
+use Rattle.ml_timed.proofs.After.{in_group}
 
 -- if one of the entries from a number on is above another number, they go beyond that
 goes_beyond : (n k : ℕ) (es : List Entry) → map (λ (e : Entry). e.number) es ≡ range_with_len k (length es) → has_above n es ≡ true → n + 1 < k + length es

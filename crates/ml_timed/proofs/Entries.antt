@@ -101,8 +101,8 @@ module _ (k : Text) (e : LedgerEntry) (apart : eq_by_cmp byte_cmp k e.key ≡ fa
     followed_else p = followed_at p e.stage
 
 -- the entries after the one that is followed up are still there
-pub behind_in : (now : ℕ) (set : Set) → has_ledger set ≡ true → (p : Plain) (e : LedgerEntry) (es : Ledger) → AreIn (ledger_of p set) (e ∷ es) → AreIn (ledger_of (follow_up now p (set, e)) set) es
-behind_in now set has p e es are =
+pub after_in : (now : ℕ) (set : Set) → has_ledger set ≡ true → (p : Plain) (e : LedgerEntry) (es : Ledger) → AreIn (ledger_of p set) (e ∷ es) → AreIn (ledger_of (follow_up now p (set, e)) set) es
+after_in now set has p e es are =
     let parts = and_parts (list_all (λ f. is_lt (byte_cmp e.key f.key)) es) (is_sorted byte_cmp (λ f. f.key) es) are.sorted in
     record { sorted = parts.1; found = each es parts.0 are.found.1 }
   where

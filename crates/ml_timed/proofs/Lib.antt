@@ -1,6 +1,6 @@
 mod Older
 mod Given
-mod Behind
+mod After
 mod Layered
 mod Apart
 mod Spared

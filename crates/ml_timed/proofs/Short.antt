@@ -7,7 +7,7 @@ use Rattle.ml_base.specs.Dir.{Dir}
 use Rattle.ml_filing.specs.Answers.{IsIndexByFiles}
 use Rattle.ml_filing.specs.Archive.{IsEntry}
 use Rattle.ml_filing.specs.declared.posts.Entry.{Entry}
-use Rattle.ml_timed.specs.Waiting.{are_short, is_short, sizes_behind}
+use Rattle.ml_timed.specs.Waiting.{are_short, is_short, sizes_after}
 
 entries_short : (es : List Entry) → AllByRecursion IsEntry es → are_short es ≡ true
 entries_short [] all = refl
@@ -30,9 +30,9 @@ short_taken zero xs e = refl
 short_taken (suc n) [] e = refl
 short_taken (suc n) (x ∷ xs) e = let parts = and_parts (is_short x) (list_all is_short xs) e in and_from (is_short x) (list_all is_short (take n xs)) parts.0 (short_taken n xs parts.1)
 
-pub short_behind : (last : ℕ) (es : List Entry) → are_short es ≡ true → list_all is_short (sizes_behind last es) ≡ true
-short_behind last [] e = refl
-short_behind last (x ∷ es) e = let parts = and_parts (is_short x.size) (are_short es) e in go (nat_lt last x.number) (short_behind last es parts.1) parts.0
+pub short_after : (last : ℕ) (es : List Entry) → are_short es ≡ true → list_all is_short (sizes_after last es) ≡ true
+short_after last [] e = refl
+short_after last (x ∷ es) e = let parts = and_parts (is_short x.size) (are_short es) e in go (nat_lt last x.number) (short_after last es parts.1) parts.0
   where
     go : (t : Bool) → list_all is_short (map (λ (e : Entry). e.size) (filter (λ (e : Entry). nat_lt last e.number) es)) ≡ true → is_short x.size ≡ true
         → list_all is_short (map (λ (e : Entry). e.size) (cond t (x ∷ filter (λ (e : Entry). nat_lt last e.number) es) (filter (λ (e : Entry). nat_lt last e.number) es))) ≡ true

@@ -18,15 +18,15 @@ use Rattle.ml_queue.specs.Answers.{ids_name}
 use Rattle.ml_acts.specs.Asked.{IsDamagedOf, Undigested}
 use Rattle.ml_acts.specs.Doing.{is_bucket, is_held_post}
 use Rattle.ml_acts.proofs.Asked.{buckets_other, ids_other, kind_other, same_other}
-use Rattle.ml_timed.specs.Digesting.{IsDamagedBehind, IsDamagedGroup, IsDamagedWithin}
+use Rattle.ml_timed.specs.Digesting.{IsDamagedAfter, IsDamagedGroup, IsDamagedWithin}
 use Rattle.ml_timed.specs.Reads.{is_followed_by, is_ledger, is_of_following, is_of_giving_back, is_of_issue, is_waiting}
 
 pub hundred : (g : ℕ) → (100 * g) / 100 ≡ g
 hundred g = omega arith
 
 -- the index of a group, for one of its posts
-pub group_behind : (dir : Dir) (last count g n : ℕ) (name : Name) → last + 1 ≤ n → n ≤ count → n / 100 ≡ g → IsDamagedGroup dir g count name → IsDamagedBehind dir last count name
-group_behind dir last count g n name low high is bad = record {
+pub group_after : (dir : Dir) (last count g n : ℕ) (name : Name) → last + 1 ≤ n → n ≤ count → n / 100 ≡ g → IsDamagedGroup dir g count name → IsDamagedAfter dir last count name
+group_after dir last count g n name low high is bad = record {
   damaged = bad.damaged;
   own = λ of. ⊎_elim (λ own. inl (n, low, high, inr (own.0 ∙ ap index_name (sym is), inl (subst (λ (k : ℕ). IsNoIndex dir k) (sym is) own.1)))) (λ small. inr small) (bad.own of);
 }
@@ -54,8 +54,8 @@ within_undigested dir mark count a b name is counted from to bad = record {
       inr (mark, is, count, counted, (n, omega (arith, from, low), omega (arith, high, to), own.3));
 }
 
-pub behind_undigested : (dir : Dir) (mark : Mark) (count : ℕ) (name : Name) → IsMark dir mark → IsNumberFile (dir number_name) count → IsDamagedBehind dir mark.last count name → IsDamagedOf dir Undigested name
-behind_undigested dir mark count name is counted bad = record {
+pub after_undigested : (dir : Dir) (mark : Mark) (count : ℕ) (name : Name) → IsMark dir mark → IsNumberFile (dir number_name) count → IsDamagedAfter dir mark.last count name → IsDamagedOf dir Undigested name
+after_undigested dir mark count name is counted bad = record {
   damaged = bad.damaged;
   own = λ of. ⊎_elim (λ within. inr (mark, is, count, counted, within)) (λ small. inl (small.0, inr small.1)) (bad.own of);
 }

@@ -16,7 +16,7 @@ pub record IsDamagedWithin (dir : Dir) (a b : ℕ) (name : Name) : Type 0 where
 
 -- a damaged file; if it is one of the archive, it is damaged for one of the posts after `last` up to `count`, or it is the number of posts,
 -- which is too small
-pub record IsDamagedBehind (dir : Dir) (last count : ℕ) (name : Name) : Type 0 where
+pub record IsDamagedAfter (dir : Dir) (last count : ℕ) (name : Name) : Type 0 where
   pub damaged : IsDamaged dir name
   pub own : is_of_archive name ≡ true → IsBadWithin dir (last + 1) count name ⊎ ((name ≡ number_name) × IsTooSmall dir)
 

@@ -5,12 +5,12 @@ use Rattle.std.specs.Option.{option_map_or}
 use Rattle.ml_filing.specs.declared.posts.Entry.{Entry}
 
 -- the sizes of the posts after a number
-abbrev pub sizes_behind : ℕ → List Entry → List ℕ
-sizes_behind last entries = map (λ e. e.size) (filter (λ e. nat_lt last e.number) entries)
+abbrev pub sizes_after : ℕ → List Entry → List ℕ
+sizes_after last entries = map (λ e. e.size) (filter (λ e. nat_lt last e.number) entries)
 
 -- the moment of the first of them, or 0
-abbrev pub moment_behind : ℕ → List Entry → ℕ
-moment_behind last entries = option_map_or (λ e. e.moment) (find (λ e. nat_lt last e.number) entries) 0
+abbrev pub moment_after : ℕ → List Entry → ℕ
+moment_after last entries = option_map_or (λ e. e.moment) (find (λ e. nat_lt last e.number) entries) 0
 
 -- a size that a post may have, and entries of such sizes
 abbrev pub is_short : ℕ → Bool

@@ -11,9 +11,9 @@ ghost use Rattle.ml_plain.specs.Timing.{moment_of_first};
 ghost use Rattle.ml_acts.specs.Asked.{IsTooSmall};
 ghost use Rattle.ml_acts.specs.Doing.{Alike};
 ghost use Rattle.ml_acts.specs.Asked as asked;
-ghost use Rattle.ml_timed.specs.Digesting.{IsDamagedBehind, IsDamagedGroup};
+ghost use Rattle.ml_timed.specs.Digesting.{IsDamagedAfter, IsDamagedGroup};
 ghost use Rattle.ml_timed.specs.Reads.{is_of_posts_seen, is_of_posts_told};
-ghost use Rattle.ml_timed.specs.Waiting.{is_short, moment_behind, sizes_behind};
+ghost use Rattle.ml_timed.specs.Waiting.{is_short, moment_after, sizes_after};
 ghost use Rattle.ml_timed.specs.Waiting as waiting;
 ghost use Rattle.std.specs.List.{list_all};
 
@@ -31,7 +31,7 @@ pub(crate) struct Undigested {
 }
 
 // The posts after the last one that is in a digest. `count` is the number of posts. It reads one index, or two.
-pub(crate) fn posts_behind<F: Files>(
+pub(crate) fn posts_after<F: Files>(
     alloc: Global,
     files: &mut F,
     last: u64,
@@ -44,7 +44,7 @@ pub(crate) fn posts_behind<F: Files>(
     ensures oldest { IsTrue F.tells → IfOk result (λ found. (dir : Dir) (p : Plain) → Alike is_of_posts_seen (F.map files.old) dir → IsList dir p → count ≡ length p.posts → found.oldest ≡ moment_of_first (drop last p.posts)) }
     ensures short { IfOk result (λ found. list_all is_short found.sizes ≡ true) }
     ensures agrees { IsTrue F.tells → IfOk result (λ _. count / 100 ≤ (last + 1) / 100 + 1 → ¬ IsTooSmall (F.map files.old)) }
-    ensures names { NamesDamaged ⟦<F as Files>⟧ (λ name. is_of_posts_told name ≡ true) (IsDamagedBehind (F.map files.old) last count) result }
+    ensures names { NamesDamaged ⟦<F as Files>⟧ (λ name. is_of_posts_told name ≡ true) (IsDamagedAfter (F.map files.old) last count) result }
     ensures reads { IsReading ⟦<F as Files>⟧ files.old files.new result }
 {
     let group = (last + 1) / 100;
@@ -104,7 +104,7 @@ fn has_above(entries: &[Entry], number: u64) -> bool
 
 // Adds the sizes of the posts of an index after a number.
 fn add_sizes(sizes: &mut Numbers, entries: &[Entry], last: u64) -> Result<(), AllocError>
-    ensures { OnOk result (sizes.new ≡ sizes.old ++ sizes_behind last entries.now) }
+    ensures { OnOk result (sizes.new ≡ sizes.old ++ sizes_after last entries.now) }
 {
     for entry in entries {
         if entry.number > last {
@@ -116,16 +116,16 @@ fn add_sizes(sizes: &mut Numbers, entries: &[Entry], last: u64) -> Result<(), Al
 
 // When the first post of an index after a number was posted.
 fn oldest(entries: &[Entry], last: u64) -> u64
-    ensures { result ≡ moment_behind last entries.now }
+    ensures { result ≡ moment_after last entries.now }
 {
-    match first_behind(entries, last) {
+    match first_after(entries, last) {
         Some(entry) => entry.moment,
         None => 0,
     }
 }
 
 // The first entry of an index after a number.
-fn first_behind(entries: &[Entry], last: u64) -> Option<&Entry>
+fn first_after(entries: &[Entry], last: u64) -> Option<&Entry>
     ensures { option_copied result ≡ find (λ e. nat_lt last e.number) entries.now }
 {
     entries.iter().find(|entry| entry.number > last)

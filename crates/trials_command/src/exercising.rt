@@ -100,6 +100,6 @@ fail 936 | run exercise 1 => 0 {item}exercised 1\n{line}
 ";
 
 #[test]
-fn an_exercise_tells_of_each_call_that_fails_behind_its_items(rt: HostRuntime) -> Result<(), Fail> {
-    hold::<Whole>(rt.alloc(), "failing calls behind an exercise", FAILING)
+fn an_exercise_tells_of_each_call_that_fails_after_its_items(rt: HostRuntime) -> Result<(), Fail> {
+    hold::<Whole>(rt.alloc(), "failing calls after an exercise", FAILING)
 }

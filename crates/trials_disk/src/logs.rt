@@ -13,17 +13,17 @@ use trials_scripts::hold;
 const FOUND: &str = r"
 let opened open\nshow=3.29,21.0\nread_log
 list put subscribers/] b | put floor f
-# Nothing, a last gate of any kind, and what stands behind a closed gate.
+# Nothing, a last gate of any kind, and what stands after a closed gate.
 put log  | calls 20 | input {opened} | run store => 0 done\nb|f|\n\0\n
 put log \x01 | calls 20 | input {opened} | run store => 0 done\nb|f|\n\0\n
 put log \0ab | calls 20 | input {opened} | run store => 0 done\nb|f|\n\0\n
 put log \x0718:W1:3,2:29,5:Ta@b\0,,\0 | calls 20 | input {opened} | run store => 0 done\nb|f|\n\0\n
-# A record behind a gate that is open, closed, or torn.
+# A record after a gate that is open, closed, or torn.
 put log \x0118:W1:3,2:29,5:Ta@b\0,,\0 | calls 20 | input {opened} | run store => 0 done\nTa@b\0|f|\n\0\n
 put log \018:W1:3,2:29,5:Ta@b\0,,\0 | calls 20 | input {opened} | run store => 0 done\nb|f|\n\0\n
-# A closed record with an open one behind it.
+# A closed record with an open one after it.
 put log \010:X1:3,2:29,,\x0110:X1:3,2:29,,\0 | calls 20 | input {opened} | run store => 0 done\nb|f|\n\0\n
-# The log ends behind its record.
+# The log ends after its record.
 put log \x0118:W1:3,2:29,5:Ta@b\0,, | calls 20 | input {opened} | run store => 0 done\nTa@b\0|f|\n\0\n
 put log \x0118:W1:3,2:29,5:Ta@b\0,,\x01 | calls 20 | input {opened} | run store => 0 done\nTa@b\0|f|\n\0\n
 # Two records, the later put of a file wins; a removal is one too.
@@ -34,7 +34,7 @@ put log \x0127:X1:3,2:29,W2:21,1:0,4:500\n,,\0 | calls 20 | input {opened} | run
 # A record of no puts.
 put log \x010:,\0 | calls 20 | input {opened} | run store => 0 done\nb|f|\n\0\n
 put log \x010:,\x0110:X1:3,2:29,,\0 | calls 20 | input {opened} | run store => 0 done\n-|f|\n\0\n
-# Logs with an open gate that has no record behind it. They stay as they are.
+# Logs with an open gate that has no record after it. They stay as they are.
 put log \x01a | calls 20 | input {opened} | run store => 0 the log is damaged\nno store\n\x01a\n
 put log \x01\x01 | calls 20 | input {opened} | run store => 0 the log is damaged\nno store\n\x01\x01\n
 put log \x0110:X1:3,2:29,,\x0110:X1:3,2:2 | calls 20 | input {opened} | run store => 0 the log is damaged\nno store\n\x0110:X1:3,2:29,,\x0110:X1:3,2:2\n

@@ -32,21 +32,21 @@ put log log | put key key | calls 3 | room 3 | fail 2 | input sync\nremove=2.0\n
 put log log | put key key | calls 3 | room 3 | fail 2 | input sync\nsync\ncrash=2=33\nsync | run site => 0 done\nfailed\nlog|key|-\ndone\n
 # A give fails where its number is named.
 put log log | put key key | calls 3 | room 3 | fail 2 | input sync\ngive=out\ncrash=2=33\ngive=out | run site => 0 done\nfailed\nlog|key|-\ndone\n
-# Reading the log fails behind the last call.
+# Reading the log fails after the last call.
 put log log | put key key | calls 3 | room 3 | input stop_after=1\nsync\nread_log\ncrash=2=33\nstop_after=3\nread_log | run site => 0 done\ndone\nfailed\nlog|key|-\ndone\nlog\n
-# Writing the log fails behind the last call.
+# Writing the log fails after the last call.
 put log log | put key key | calls 3 | room 3 | input stop_after=1\nsync\nwrite_log=new\ncrash=2=33\nstop_after=3\nwrite_log=new | run site => 0 done\ndone\nfailed\n!!!|key|-\ndone\ndone\n
-# Cutting the log fails behind the last call.
+# Cutting the log fails after the last call.
 put log log | put key key | calls 3 | room 3 | input stop_after=1\nsync\ncut_log\ncrash=2=33\nstop_after=3\ncut_log | run site => 0 done\ndone\nfailed\n!!!|key|-\ndone\ndone\n
-# Reading a file fails behind the last call.
+# Reading a file fails after the last call.
 put log log | put key key | calls 3 | room 3 | input stop_after=1\nsync\nread=2.0\ncrash=2=33\nstop_after=3\nread=2.0 | run site => 0 done\ndone\nfailed\nlog|key|-\ndone\nkey\n
-# Writing a file fails behind the last call.
+# Writing a file fails after the last call.
 put log log | put key key | calls 3 | room 3 | input stop_after=1\nsync\nwrite=2.0=new\ncrash=2=33\nstop_after=3\nwrite=2.0=new | run site => 0 done\ndone\nfailed\nlog|!!!|-\ndone\ndone\n
-# Removing a file fails behind the last call.
+# Removing a file fails after the last call.
 put log log | put key key | calls 3 | room 3 | input stop_after=1\nsync\nremove=2.0\ncrash=2=33\nstop_after=3\nremove=2.0 | run site => 0 done\ndone\nfailed\nlog|!!!|-\ndone\ndone\n
-# A sync fails behind the last call.
+# A sync fails after the last call.
 put log log | put key key | calls 3 | room 3 | input stop_after=1\nsync\nsync\ncrash=2=33\nstop_after=3\nsync | run site => 0 done\ndone\nfailed\nlog|key|-\ndone\ndone\n
-# A give fails behind the last call.
+# A give fails after the last call.
 put log log | put key key | calls 3 | room 3 | input stop_after=1\nsync\ngive=out\ncrash=2=33\nstop_after=3\ngive=out | run site => 0 done\ndone\nfailed\nlog|key|-\ndone\ndone\n
 # Reading the log fails without room and leaves nothing pending.
 put log log | put key key | calls 1 | room 3 | input sync\nread_log\ncrash=2=33\noutput | run site => 0 done\nfailed\nlog|key|-\n\n

@@ -156,7 +156,7 @@ put dig \x201:1\n | run digests set 0 0 => 0 0 0\n | put dig \x201:1\n | run dig
 put dig 1: 1\n | run digests set 0 0 => 0 0 0\n | put dig 1: 1\n | run digests set 100 1 => 0 100 1\n | put dig 1: 1\n | run digests set 101 2 => 0 101 2\n | put dig 1: 1\n | run digests set 99999999 99999999 => 0 99999999 99999999\n
 # A failing read of the mark.
 put dig 100:1\n | run digests mark => 0 100 1\n | fail 1 | run digests mark => 111 a read failed | same | run digests mark => 0 100 1\n
-# Posts of one size behind post 5, the first of which came at 1,000,000,001.
+# Posts of one size after post 5, the first of which came at 1,000,000,001.
 at 2000000001 | run digests due 5 1000000001 => 0 none
 at 1000172800 | run digests due 5 1000000001 1*29 => 0 none
 at 1000000001 | run digests due 5 1000000001 1*30 => 0 6 35\n

@@ -91,7 +91,7 @@ let later 10:1000000100,3:a@b,0:,
 put tickets 1:1\n | input hi\n | run held hold g@h => 0 1\n13/1\x20{post}\n14/0 1:2\n\n
 # A later ticket.
 put tickets 3:7\n | input hi\n | run held hold g@h => 0 7\n13/7\x20{post}\n14/0 3:8\n\n
-# The last ticket, and none behind it.
+# The last ticket, and none after it.
 put tickets 5:1000000000000000\n | input hi\n | run held hold g@h => 0 1000000000000000\n13/1000000000000000\x20{post}\n14/0 5:1000000000000001\n\n | at 0 | run held hold g@h => 75 damaged 14 0
 list put tickets 1:4\n | put pending/1 {post} | put pending/3 {later}
 # The first post is taken out.
@@ -101,7 +101,7 @@ run held take 3 => 0 1000000100 a@b\n | has tickets 1:4\n
 list at 1000000000
 # The only post is taken out.
 put tickets 3:4\n | put pending/3 {later} | run held take 3 => 0 1000000100 a@b\n | has tickets 4:4\n
-# The only post stands behind the widest gap.
+# The only post stands after the widest gap.
 put tickets 1:1000000000000001\n | put pending/1000000000000000 {post} | at 1000432000 | run held older 10 => 0 1000000000000000\n
 # Old posts.
 put tickets 1:4\n | put pending/1 {post} | put pending/3 {later} | at 1000431999 | run held older 10 => 0 | at 1000432000 | run held older 10 => 0 1\n | at 1000432100 | run held older 10 => 0 1\n3\n | run held older 1 => 0 1\n | run held older 0 => 0
@@ -142,10 +142,10 @@ fn no_files(alloc: Global) -> Result<Parts, Fail> {
 }
 
 // A text, `count` times `x`, and another text.
-fn large(alloc: Global, before: &[u8], count: usize, behind: &[u8]) -> Result<Bytes, AllocError> {
+fn large(alloc: Global, before: &[u8], count: usize, after: &[u8]) -> Result<Bytes, AllocError> {
     let mut out = Bytes::from_slice(alloc, before)?;
     out.extend(&vec![in alloc; b'x'; count]?)?;
-    out.extend(behind)?;
+    out.extend(after)?;
     Ok(out)
 }
 

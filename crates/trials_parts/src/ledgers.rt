@@ -130,7 +130,7 @@ let warned_missed 39:3:a@b,10:1001010005,11:w1001010000,1:7,,
 let probed_missed 39:3:a@b,10:1002020009,11:p1002020000,1:8,,
 let failed_missed 39:3:a@b,10:1001020001,11:f1001020000,1:3,,
 let lapsed 28:3:a@b,10:1001010005,1:n,1:7,,
-# What the list's file has, what happens, and what it has behind that, or `none` where nothing is changed.
+# What the list's file has, what happens, and what it has after that, or `none` where nothing is changed.
 at 1000010000 | run ledgers bounced A@B 1 => 0 {noted}
 put bounce/] {noted} | at 1000020000 | run ledgers bounced A@B 2 => 0 {two}
 put bounce/] {noted} | at 1000020000 | run ledgers bounced A@B 1 => 0 none
@@ -222,7 +222,7 @@ put bounce/^ 18:3:1@b,1:5,1:n,1:1,, | put bounce/T 19:4:10@b,1:5,1:n,1:1,, | put
 list put bounce/] {noted}
 # Mail bounces over a failing read.
 at 7 | fail 1 | run ledgers bounced A@B 2 => 111 a read failed | same
-# A failing read of the entries that are due, behind mail that bounced.
+# A failing read of the entries that are due, after mail that bounced.
 at 7 | run ledgers bounced A@B 2 => 0 {two} | fail 1 | run ledgers due 1 => 111 a read failed | same
 # The 28th read of the entries that are due fails.
 at 7 | fail 28 | run ledgers due 1 => 111 a read failed | same

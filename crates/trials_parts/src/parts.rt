@@ -40,9 +40,9 @@ pub(crate) fn word(alloc: Global, word: &[u8]) -> Result<Bytes, NoAnswer> {
 }
 
 /// Adds the digits of a number, and a byte after them.
-pub(crate) fn push_number(out: &mut Bytes, number: u64, behind: u8) -> Result<(), AllocError> {
+pub(crate) fn push_number(out: &mut Bytes, number: u64, after: u8) -> Result<(), AllocError> {
     out.push_number(number)?;
-    out.push(behind)
+    out.push(after)
 }
 
 /// A number on a line of its own, and then every put on a line, with its file's kind and place. The puts are laid.

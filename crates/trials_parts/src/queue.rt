@@ -137,7 +137,7 @@ let reply 12:list-return-,6:ex.org,1:p,0:,
 put ids 1:1\n | input {mail} | run queue put post a@b,c@d,e@f => 0 1\n17/1\x20{mailed}\n18/0 1:2\n\n | has queue/1 {mailed}
 # A reply to nobody.
 put ids 3:7\n | run queue put reply => 0 7\n17/7\x20{reply}\n18/0 3:8\n\n
-# The last id, and none behind it.
+# The last id, and none after it.
 put ids 5:1000000000000000\n | run queue put reply => 0 1000000000000000\n17/1000000000000000\x20{reply}\n18/0 5:1000000000000001\n\n | run queue put reply => 75 damaged 18 0
 # A reply to a hundred thousand.
 put ids 1:1\n | run queue put reply {1000000..1099999:%@b,} => 0 1\n17/1\x20{reply}{1000000..1099999:9:%@b,}\n18/0 1:2\n\n | run queue entry 1 => 0 {1000000..1099999:%@b list-return-@ex.org\n}
@@ -162,9 +162,9 @@ run queue sent 2 => 0 1:3\n
 list at 1000000000
 # An entry is sent once.
 put ids 1:2\n | put queue/1 {mailed} | run queue sent 1 => 0 2:2\n | run queue sent 1 => 0 none | run queue entry 1 => 0 -
-# The next entry stands behind a long gap.
+# The next entry stands after a long gap.
 put ids 1:100003\n | put queue/1 {post} | put queue/100002 {reply} | run queue sent 1 => 0 100002:100003\n
-# The next entry stands behind the widest gap.
+# The next entry stands after the widest gap.
 put ids 1:1000000000000001\n | put queue/1 {post} | put queue/1000000000000000 {reply} | run queue ids => 0 1\n1000000000000000\n | run queue sent 1 => 0 1000000000000000:1000000000000001\n | run queue ids => 0 1000000000000000\n
 # The entry of the last id.
 put ids 1000000000000000:1000000000000001\n | put queue/1000000000000000 {reply} | run queue next => 0 1000000000000001\n | run queue ids => 0 1000000000000000\n | run queue sent 1000000000000000 => 0 1000000000000001:1000000000000001\n

@@ -93,7 +93,7 @@ run digests without 22 => 0 none
 run digests without 23 => 0 none
 run digests without 24 => 0 none
 run digests without 25 => 0 none
-# The digest with a byte more in each of its lines in turn, and behind its end.
+# The digest with a byte more in each of its lines in turn, and after its end.
 run digests spoiled 0 => 0 {both}
 run digests spoiled 1 => 0 {both}
 run digests spoiled 2 => 0 none
@@ -147,7 +147,7 @@ input {subject}\n\n{rule}\n\n{one}End of a Digest Issue 1\n*********************
 input {subject}\n\n{rule}\n\n{one}End of a Digest Issue 1\n*********************** | run digests read => 0 none
 input {subject}\n\n{rule}\n\n{one}End of a Digest Issue 1\n***********************\n\n | run digests read => 0 none
 input Subject: a Digest Issue 1\x0D\n\n{rule}\n\n{one}{end} | run digests read => 0 none
-# Rules behind the preface, and messages.
+# Rules after the preface, and messages.
 input {subject}\n\n{rule}\n\n{end} | run digests read => 0 none
 input {subject}\n\n{rule}\n\n{one}{end} | run digests read => 0 1\n|\none\n
 input {subject}\n\n---------------------------------------------------------------------\n\n{one}{end} | run digests read => 0 none

@@ -33,13 +33,13 @@ fn lay_files(alloc: Global, files: &mut Parts, texts: &[u8]) -> Result<(), Alloc
     let mut txn = Txn::new(alloc);
     let mut rest = texts;
     for name in [BUCKET, OTHER, COUNT] {
-        let (text, behind) = parts(rest);
+        let (text, after) = parts(rest);
         let mut bytes = None;
         if text != ABSENT {
             bytes = Some(Bytes::from_slice(alloc, text)?);
         }
         txn.push(Put { name, bytes })?;
-        rest = behind;
+        rest = after;
     }
     files.lay(txn)
 }

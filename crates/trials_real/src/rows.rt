@@ -271,7 +271,7 @@ static STEPS: [(Step, &str); 272] = [
     (Step::Remove(9, 1234), "ok"),
     (Step::Sync, "ok"),
     (
-        Step::Row("entries that may be missing: behind one open gate, they are"),
+        Step::Row("entries that may be missing: after one open gate, they are"),
         "ok",
     ),
     (Step::MakeFolder("real/list"), "ok"),
@@ -283,7 +283,7 @@ static STEPS: [(Step, &str); 272] = [
     (Step::Remove(9, 1234), "ok"),
     (Step::Sync, "failed"),
     (
-        Step::Row("entries that may be missing: behind a log of more than a gate, they are"),
+        Step::Row("entries that may be missing: after a log of more than a gate, they are"),
         "ok",
     ),
     (Step::MakeFolder("real/list"), "ok"),
@@ -319,7 +319,7 @@ static STEPS: [(Step, &str); 272] = [
     (Step::Remove(9, 1234), "ok"),
     (Step::Sync, "failed"),
     (
-        Step::Row("entries that may be missing: behind such a change"),
+        Step::Row("entries that may be missing: after such a change"),
         "ok",
     ),
     (Step::MakeFolder("real/list"), "ok"),

@@ -242,15 +242,15 @@ fn is_stop(status: u8, rest: &[u8], line: &[u8]) -> bool {
 
 // Whether a text is these pieces in order; each `*` between two of them stands for any bytes.
 fn is_like(text: &[u8], pattern: &[u8]) -> bool {
-    let Some((first, behind)) = split_first(b'*', pattern) else {
+    let Some((first, after)) = split_first(b'*', pattern) else {
         return text == pattern;
     };
     let Some(mut rest) = text.strip_prefix(first) else {
         return false;
     };
     let mut last: &[u8] = &[];
-    for piece in behind.split(|byte| *byte == b'*') {
-        match behind_piece(rest, piece) {
+    for piece in after.split(|byte| *byte == b'*') {
+        match after_piece(rest, piece) {
             Some(more) => rest = more,
             None => return false,
         }
@@ -260,7 +260,7 @@ fn is_like(text: &[u8], pattern: &[u8]) -> bool {
 }
 
 // What comes after the first place at which a text has this piece.
-fn behind_piece<'a>(text: &'a [u8], piece: &[u8]) -> Option<&'a [u8]> {
+fn after_piece<'a>(text: &'a [u8], piece: &[u8]) -> Option<&'a [u8]> {
     for from in 0..=text.len() {
         if let Some(rest) = text[from..].strip_prefix(piece) {
             return Some(rest);

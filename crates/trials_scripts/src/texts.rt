@@ -57,7 +57,7 @@ pub(crate) fn keep(alloc: Global, named: &mut Named, text: &str) -> Result<(), F
 
 // Adds what the braces at the beginning of a text stand for, and then what comes after them.
 fn add_braced(alloc: Global, named: &Named, out: &mut Bytes, text: &str) -> Result<(), Fail> {
-    let Some((inner, behind)) = text.split_once('}') else {
+    let Some((inner, after)) = text.split_once('}') else {
         return Err(Fail::new(format_args!("no brace closes: {text}")));
     };
     if let Some((range, each)) = inner.split_once(':') {
@@ -69,7 +69,7 @@ fn add_braced(alloc: Global, named: &Named, out: &mut Bytes, text: &str) -> Resu
     } else {
         out.extend(named_text(named, inner)?)?;
     }
-    add_plain(out, behind)
+    add_plain(out, after)
 }
 
 fn named_text<'a>(named: &'a Named, wanted: &str) -> Result<&'a [u8], Fail> {

@@ -57,7 +57,7 @@ fn run_words(
 }
 
 // What comes after the answer to an item in an output, if the output has it; for a number below the floor the answer is `stale`.
-fn behind_answer<'a>(output: &'a [u8], answer: &[u8], floor: u64) -> Option<&'a [u8]> {
+fn after_answer<'a>(output: &'a [u8], answer: &[u8], floor: u64) -> Option<&'a [u8]> {
     let (number, _) = split_first(b' ', answer)?;
     if read_number(number)? < floor {
         output
@@ -72,7 +72,7 @@ fn behind_answer<'a>(output: &'a [u8], answer: &[u8], floor: u64) -> Option<&'a 
 fn answers_all(answers: &Answers, output: &[u8], floor: u64) -> bool {
     let mut rest = output;
     for answer in answers.iter() {
-        match behind_answer(rest, answer.as_slice(), floor) {
+        match after_answer(rest, answer.as_slice(), floor) {
             Some(more) => rest = more,
             None => return false,
         }

@@ -15,9 +15,9 @@ pub returns-in_default-clause-none : goal.returns-in_default-clause-none
 returns-in_default-clause-none g c =
     let steps = c.in-Some.ensures.steps in
     let range = c.range.ensures.in_range tt in
-    let behind = c.if-name-end.false in
+    let after = c.if-name-end.false in
     none_before c.args.map.now c.args.kind c.args.from c.args.end c.in-Some.name.now
-    (λ q onward some. first_of _ _ _ (λ e. is_gt (name_cmp e.0 q) ≡ false) steps (range.2 q (onward, tt) some)) ((first_of _ _ _ _ steps range.1).0).0 (λ same. omega (arith, behind))
+    (λ q onward some. first_of _ _ _ (λ e. is_gt (name_cmp e.0 q) ≡ false) steps (range.2 q (onward, tt) some)) ((first_of _ _ _ _ steps range.1).0).0 (λ same. omega (arith, after))
 
 pub returns-in_default-2-clause-none : goal.returns-in_default-2-clause-none
 returns-in_default-2-clause-none g c =

@@ -1,5 +1,5 @@
 use Rattle.std.proofs.Common.{◌∙◌, ◌-◌, length, take, drop, sym}
-use Rattle.ml_bounce.proofs.Ledgers.{find_here, find_behind}
+use Rattle.ml_bounce.proofs.Ledgers.{find_here, find_after}
 use Rattle.ml_bounce.proofs.forgetting.find.Goals as goal
 use Rattle.ml_rows.proofs.RowLaws.{first_of}
 
@@ -12,5 +12,5 @@ returns-then-eq c =
 pub loop-rest-preserved : goal.loop-rest-preserved
 loop-rest-preserved c =
     let rest = c.loop-rest.rest.now in
-    sym (find_behind c.eq.result c.args.key.now c.bytes.result.now rest (take (length rest - 1) (drop 1 rest)) c.first-item.result
+    sym (find_after c.eq.result c.args.key.now c.bytes.result.now rest (take (length rest - 1) (drop 1 rest)) c.first-item.result
     (first_of rest c.first-item.result c.in-len1-up.len_at_least c.first-item.is) c.eq.ensures c.bytes.ensures.value c.if-eq.false) ∙ c.loop-rest.invariant

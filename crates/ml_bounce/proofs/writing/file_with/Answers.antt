@@ -5,7 +5,7 @@ use Rattle.ml_base.specs.Bytes.{Text}
 use Rattle.ml_base.specs.Sorted.{byte_cmp}
 use Rattle.ml_bounce.specs.Files.{entry_text}
 use Rattle.ml_bounce.specs.Ledger.{with_ledger}
-use Rattle.ml_bounce.specs.Reading.{is_from, behind_key}
+use Rattle.ml_bounce.specs.Reading.{is_from, past_key}
 use Rattle.ml_bounce.proofs.Rewritten.{with_turn, with_end}
 use Rattle.ml_bounce.proofs.writing.file_with.Goals as goal
 
@@ -19,6 +19,6 @@ loop-first-preserved c =
 pub returns : goal.returns
 returns c =
     let rest = c.loop-first.rest.now in
-    with_end c.loop-first.out c.push_entry-2.new.out c.push_entries.new.out c.args.entry.now rest c.behind.result.now c.args.entries.now
-    (ap (λ (k : Text). is_from k rest) (sym c.bytes-key.ensures.value) ∙ c.in_default.ensures.none) (c.behind.ensures ∙ ap (λ (k : Text). behind_key k rest) c.bytes-key.ensures.value)
+    with_end c.loop-first.out c.push_entry-2.new.out c.push_entries.new.out c.args.entry.now rest c.after.result.now c.args.entries.now
+    (ap (λ (k : Text). is_from k rest) (sym c.bytes-key.ensures.value) ∙ c.in_default.ensures.none) (c.after.ensures ∙ ap (λ (k : Text). past_key k rest) c.bytes-key.ensures.value)
     c.in_ok-push_entry-2.ensures c.in_ok-push_entries.ensures c.loop-first.invariant

@@ -2,11 +2,11 @@
 use Rattle.std.proofs.Common.{arith}
 use Rattle.std.specs.Fmt.{decimal}
 use Rattle.std.proofs.lemmas.Fmt.{length-decimal-le}
-use Rattle.ml_ending.proofs.Written.{place_behind}
+use Rattle.ml_ending.proofs.Written.{place_after}
 use Rattle.ml_ending.proofs.lines.put_status.Goals as goal
 
 pub returns-clause-place : goal.returns-clause-place
 returns-clause-place c =
-    let behind = place_behind c.put_number.result c.args.at c.put_number.new.out c.args.out.now (decimal c.args.status) (omega arith) (omega arith) c.put_number.ensures.text in
+    let after = place_after c.put_number.result c.args.at c.put_number.new.out c.args.out.now (decimal c.args.status) (omega arith) (omega arith) c.put_number.ensures.text in
     let digits = length-decimal-le 3 c.args.status (omega arith) (omega arith) (omega arith) in
-    omega (arith, behind, digits)
+    omega (arith, after, digits)

@@ -1,5 +1,5 @@
 use Rattle.std.proofs.Common.{◌∙◌, ◌-◌, length, take, drop}
-use Rattle.ml_filing.proofs.Rewritten.{under_here, under_behind}
+use Rattle.ml_filing.proofs.Rewritten.{under_here, under_after}
 use Rattle.ml_filing.proofs.threads.numbers_for.Goals as goal
 use Rattle.ml_rows.proofs.RowLaws.{first_of}
 
@@ -13,5 +13,5 @@ returns-then-eq c =
 pub loop-rest-preserved : goal.loop-rest-preserved
 loop-rest-preserved c =
     let rest = c.loop-rest.rest.now in
-    under_behind c.eq.result c.args.key.now c.as_slice.result.now rest (take (length rest - 1) (drop 1 rest)) c.first-item.result
+    under_after c.eq.result c.args.key.now c.as_slice.result.now rest (take (length rest - 1) (drop 1 rest)) c.first-item.result
     (first_of rest c.first-item.result c.in-len1-up.len_at_least c.first-item.is) c.eq.ensures c.as_slice.ensures c.if-eq.false ∙ c.loop-rest.invariant

@@ -3,7 +3,7 @@ use Rattle.std.specs.List.{flat_map}
 use Rattle.std.specs.Ordering.{is_lt}
 use Rattle.ml_base.specs.Bytes.{Text}
 use Rattle.ml_base.specs.Sorted.{byte_cmp, with_entry}
-use Rattle.ml_filing.specs.Answers.{is_from, behind_key}
+use Rattle.ml_filing.specs.Answers.{is_from, past_key}
 use Rattle.ml_filing.specs.Threads.{Thread, thread_text}
 use Rattle.ml_filing.proofs.Rewritten.{with_turn, with_end}
 use Rattle.ml_filing.proofs.threads.text_with.Goals as goal
@@ -18,6 +18,6 @@ loop-first-preserved c =
 pub returns : goal.returns
 returns c =
     let rest = c.loop-first.rest.now in
-    with_end c.loop-first.out c.push_thread-2.new.out c.push_threads.new.out (flat_map thread_text (with_entry byte_cmp (λ (t : Thread). t.key) c.args.thread.now c.args.threads.now)) c.args.thread.now rest c.behind.result.now
-    (ap (λ (k : Text). is_from k rest) (sym c.as_slice-key.ensures) ∙ c.in_default.ensures.none) (c.behind.ensures ∙ ap (λ (k : Text). behind_key k rest) c.as_slice-key.ensures)
+    with_end c.loop-first.out c.push_thread-2.new.out c.push_threads.new.out (flat_map thread_text (with_entry byte_cmp (λ (t : Thread). t.key) c.args.thread.now c.args.threads.now)) c.args.thread.now rest c.after.result.now
+    (ap (λ (k : Text). is_from k rest) (sym c.as_slice-key.ensures) ∙ c.in_default.ensures.none) (c.after.ensures ∙ ap (λ (k : Text). past_key k rest) c.as_slice-key.ensures)
     c.in_ok-push_thread-2.ensures c.in_ok-push_threads.ensures c.loop-first.invariant

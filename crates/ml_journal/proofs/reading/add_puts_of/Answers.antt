@@ -7,10 +7,10 @@ use Rattle.ml_journal.proofs.reading.add_puts_of.Goals as goal
 
 pub loop-rest-smaller : goal.loop-rest-smaller
 loop-rest-smaller c =
-    let read : put_at c.loop-rest.rest.now ≡ Some (put_of c.in-Some.put, c.in-Some.behind.now) = search rules in
+    let read : put_at c.loop-rest.rest.now ≡ Some (put_of c.in-Some.put, c.in-Some.after.now) = search rules in
     put_shorter _ _ _ read
 
 pub loop-rest-preserved : goal.loop-rest-preserved
 loop-rest-preserved c =
-    let read : put_at c.loop-rest.rest.now ≡ Some (put_of c.in-Some.put, c.in-Some.behind.now) = search rules in
+    let read : put_at c.loop-rest.rest.now ≡ Some (put_of c.in-Some.put, c.in-Some.after.now) = search rules in
     next_put _ c.loop-rest.found.items _ c.loop-rest.rest.now _ _ read c.in_ok-push.ensures.items c.loop-rest.invariant

@@ -7,7 +7,7 @@ use Rattle.ml_config.proofs.OneSpelling.{one_in_file}
 use Rattle.ml_acts.specs.Asked.{IsDamagedOf, Undigested}
 use Rattle.ml_acts.specs.Doing.{Alike}
 use Rattle.ml_timed.specs.Reads.{is_seen_in_timed}
-use Rattle.ml_acts.proofs.OfActs.{act_behind}
+use Rattle.ml_acts.proofs.OfActs.{act_after}
 use Rattle.ml_list.proofs.Delivered.{timed_more}
 use Rattle.ml_acts.proofs.Found.{found_then}
 use Rattle.ml_timed.specs.Found.{FoundInRun}
@@ -37,7 +37,7 @@ returns-in-Err-clause-sound g c told dir p alike is = c.in-Err.ensures.none
 pub returns-in-Ok-clause-act : goal.returns-in-Ok-clause-act
 returns-in-Ok-clause-act g c =
     let config = c.in-Ok.config in
-    act_behind g.F.Files (λ d. IsDamagedOf d Undigested) g.met.F.Files.kept_then g.met.F.Files.kept_map c.configuration.ensures.reads c.run_unless_worn.ensures.act (λ name e. timed_more config.flags.d name e)
+    act_after g.F.Files (λ d. IsDamagedOf d Undigested) g.met.F.Files.kept_then g.met.F.Files.kept_map c.configuration.ensures.reads c.run_unless_worn.ensures.act (λ name e. timed_more config.flags.d name e)
     (λ told name e bad. record { config = config; held = c.in-Ok.ensures.value told; read = e; bad = bad })
 
 pub returns-in-Ok-clause-found : goal.returns-in-Ok-clause-found

@@ -28,7 +28,7 @@ use Rattle.ml_post.specs.Found.{FoundToPublish}
 use Rattle.ml_plain.specs.Answers as answers
 use Rattle.ml_plain.specs.Managing.{accepted}
 use Rattle.ml_post.specs.Alike.{AlikeToPublish, AlikeToTake}
-use Rattle.ml_post.proofs.Decided.{publish_behind}
+use Rattle.ml_post.proofs.Decided.{publish_after}
 use Rattle.ml_post.proofs.Outcomes.{does_nothing}
 use Rattle.ml_post.proofs.answering.accepted.Goals as goal
 
@@ -130,7 +130,7 @@ returns-in_ok-join-in-At-clause-apart g c told dir p alike is same found =
     let take = subst (λ (d : Dir). AlikeToTake c.args.ticket d dir) (sym kept) alike.0 in
     let stands = c.in_ok-txn-in-At.ensures.apart told dir p held take is found in
     let here = subst (λ (m : Text). AlikeToPublish config m old dir) (sym c.as_slice-message.ensures) alike.1 in
-    let posted = c.in_ok-answer.ensures.apart told (with_puts dir txn) after (publish_behind config c.as_slice-message.result.now old dir txn c.in_ok-txn-in-At.ensures.own here) stands same in
+    let posted = c.in_ok-answer.ensures.apart told (with_puts dir txn) after (publish_after config c.as_slice-message.result.now old dir txn c.in_ok-txn-in-At.ensures.own here) stands same in
     accepts dir p c.args.now.seconds c.args.ticket held c.in-At.number txn c.in-At.more (c.join.new.self, c.posted.result)
     (subst (λ (m : Text). Publishes (with_puts dir txn) c.args.now.seconds held.sender m after (At c.in-At.number c.in-At.more)) c.as_slice-message.ensures
     (subst (λ (a : Appended). Publishes (with_puts dir txn) c.args.now.seconds held.sender c.as_slice-message.result.now after a) c.in-At.is posted))

@@ -13,7 +13,7 @@ use Rattle.ml_acts.specs.Damaged.{IsNoKeys, keys}
 use Rattle.ml_acts.specs.Doing.{DoesList}
 use Rattle.ml_acts.proofs.Asked.{named_as, other_name}
 use Rattle.ml_acts.proofs.Damages.{ok_then, same_self}
-use Rattle.ml_acts.proofs.OfActs.{act_behind}
+use Rattle.ml_acts.proofs.OfActs.{act_after}
 use Rattle.ml_post.specs.Answering.{IsDamagedOfHeld, accepts, is_answered_by, is_followed_by}
 use Rattle.ml_post.specs.Publishing.{sent_key}
 use Rattle.ml_post.proofs.Outcomes.{does_nothing}
@@ -41,7 +41,7 @@ returns-clause-act g c =
     let ticket = c.args.ticket in
     let accept = accepts c.args.decision in
     let good : c.is_signed.result ≡ true = search rules in
-    act_behind g.F.Files (λ d. IsDamagedOf d (Next (sent_key c.args.config.now c.args.held.now.message))) g.met.F.Files.kept_then g.met.F.Files.kept_map c.list_keys.ensures.reads c.follow.ensures.act (λ name e. or_right (same_name name key_name) (is_followed_by ticket accept name) e)
+    act_after g.F.Files (λ d. IsDamagedOf d (Next (sent_key c.args.config.now c.args.held.now.message))) g.met.F.Files.kept_then g.met.F.Files.kept_map c.list_keys.ensures.reads c.follow.ensures.act (λ name e. or_right (same_name name key_name) (is_followed_by ticket accept name) e)
     (λ told name e bad. record {
       damaged = bad.damaged;
       own = bad.own;

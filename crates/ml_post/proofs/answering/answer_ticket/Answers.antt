@@ -9,7 +9,7 @@ use Rattle.ml_acts.specs.Doing.{DoesList}
 use Rattle.ml_acts.proofs.Asked.{named_as, other_name}
 use Rattle.ml_post.specs.Answering.{IsDamagedOfHeld, IsDamagedOfTicket, accepts, is_answered_by}
 use Rattle.ml_acts.proofs.Damages.{ok_then}
-use Rattle.ml_acts.proofs.OfActs.{act_behind}
+use Rattle.ml_acts.proofs.OfActs.{act_after}
 use Rattle.ml_post.proofs.Moderated.{own_read}
 use Rattle.ml_post.proofs.Outcomes.{does_nothing}
 use Rattle.ml_acts.proofs.Found.{found_then}
@@ -35,7 +35,7 @@ returns-in_err-held-clause-act g c =
 pub returns-clause-act : goal.returns-clause-act
 returns-clause-act g c =
     let held = c.in-Some.held in
-    act_behind g.F.Files (λ d. IsDamagedOfHeld d c.args.config.now c.args.ticket held c.args.letters.now (accepts c.args.decision)) g.met.F.Files.kept_then g.met.F.Files.kept_map c.look.ensures.reads c.answer_held.ensures.act (λ name e. e)
+    act_after g.F.Files (λ d. IsDamagedOfHeld d c.args.config.now c.args.ticket held c.args.letters.now (accepts c.args.decision)) g.met.F.Files.kept_then g.met.F.Files.kept_map c.look.ensures.reads c.answer_held.ensures.act (λ name e. e)
     (λ told name e bad.
     let read = subst (λ (o : Option Held). LooksBy (g.F.Files.map c.args.files.now) c.args.ticket o) c.in-Some.is (c.in_ok-held.ensures.read told) in
     record { damaged = bad.damaged; own = λ of. (held, read.1, bad.own of); read = inr (held, read.1, bad.read) })

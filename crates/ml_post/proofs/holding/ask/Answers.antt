@@ -13,7 +13,7 @@ use Rattle.ml_plain.specs.Mailing.{mail_moderators}
 use Rattle.ml_acts.specs.Damaged.{IsDamaged}
 use Rattle.ml_acts.specs.Doing.{DoesList, HasIds, is_mailed_by, is_of_posting}
 use Rattle.ml_acts.proofs.Damages.{keys_named, ok_then, same_self}
-use Rattle.ml_acts.proofs.OfActs.{act_behind}
+use Rattle.ml_acts.proofs.OfActs.{act_after}
 use Rattle.ml_acts.proofs.Queued.{held_own, queue_posting}
 use Rattle.ml_post.specs.Holding.{is_asked_by}
 use Rattle.ml_post.proofs.Waiting.{asks, held_beside_mail, held_posted}
@@ -39,7 +39,7 @@ returns-clause-act g c =
     let mailed = c.with_mail_to_moderators.ensures in
     let drawn : is_kept (answers.held ticket) ≡ true = (and_parts (nat_le 1 ticket) (nat_le ticket 1_000_000_000_000_000) c.requires.ticket).1 in
     let reply = ok_then c.with_mail_to_moderators.result (λ done e. ap is_kept (e ∙ c.held.ensures) ∙ drawn) mailed.reply in
-    act_behind g.F.Files IsDamaged g.met.F.Files.kept_then g.met.F.Files.kept_map c.list_keys.ensures.reads (record { own = mailed.within is_of_posting queue_posting (held_posted c.args.txn (held_own c.args.txn c.requires.own)); files = mailed.files; reply = reply; names = mailed.names; reads = mailed.reads })
+    act_after g.F.Files IsDamaged g.met.F.Files.kept_then g.met.F.Files.kept_map c.list_keys.ensures.reads (record { own = mailed.within is_of_posting queue_posting (held_posted c.args.txn (held_own c.args.txn c.requires.own)); files = mailed.files; reply = reply; names = mailed.names; reads = mailed.reads })
     (λ name e. or_right (same_name name key_name) (is_mailed_by sets.Moderators name) e) (λ told name e bad. bad)
 
 pub returns-clause-found : goal.returns-clause-found

@@ -9,7 +9,7 @@ use Rattle.ml_acts.specs.Damaged.{IsDamaged, waiting}
 use Rattle.ml_acts.specs.Doing.{DoesList, HasIds}
 use Rattle.ml_post.specs.Holding.{is_asked_by, is_held_by}
 use Rattle.ml_acts.proofs.Damages.{ok_then, same_self}
-use Rattle.ml_acts.proofs.OfActs.{act_behind}
+use Rattle.ml_acts.proofs.OfActs.{act_after}
 use Rattle.ml_post.proofs.Waiting.{has_ids, holds, waiting_apart}
 use Rattle.ml_base.specs.declared.names.Name.{Name}
 use Rattle.ml_acts.proofs.Asked.{named_as}
@@ -28,7 +28,7 @@ ask-requires-clause-room g c told =
 
 pub returns-clause-act : goal.returns-clause-act
 returns-clause-act g c =
-    act_behind g.F.Files IsDamaged g.met.F.Files.kept_then g.met.F.Files.kept_map c.hold.ensures.reads c.ask.ensures.act (λ name e. or_right (same_name name tickets_name) (is_asked_by name) e) (λ told name e bad. bad)
+    act_after g.F.Files IsDamaged g.met.F.Files.kept_then g.met.F.Files.kept_map c.hold.ensures.reads c.ask.ensures.act (λ name e. or_right (same_name name tickets_name) (is_asked_by name) e) (λ told name e bad. bad)
 
 pub returns-in_err-ticket-clause-act : goal.returns-in_err-ticket-clause-act
 returns-in_err-ticket-clause-act g c =

@@ -12,7 +12,7 @@ use Rattle.ml_post.specs.Publishing.{sent_key}
 use Rattle.ml_post.proofs.Beside.{held_other}
 use Rattle.ml_post.proofs.Read.{of_held, of_judged, of_published}
 use Rattle.ml_acts.proofs.Damages.{ok_then}
-use Rattle.ml_acts.proofs.OfActs.{act_behind}
+use Rattle.ml_acts.proofs.OfActs.{act_after}
 use Rattle.ml_post.proofs.Outcomes.{follows_held, follows_posted, follows_refused, held_waits, posted_waits_not}
 use Rattle.ml_post.proofs.Fitting.{held_fits, holdable}
 use Rattle.ml_acts.proofs.Found.{found_then}
@@ -41,7 +41,7 @@ pub returns-in-Held-clause-act : goal.returns-in-Held-clause-act
 returns-in-Held-clause-act g c =
     let config = c.args.config.now in
     let waits : config.flags.m ≡ true = held_waits config.flags.m c.in_ok-found.found (sym c.follows.ensures ∙ c.in-Held.is) c.in_ok-found.ensures.moderated in
-    act_behind g.F.Files IsDamaged g.met.F.Files.kept_then g.met.F.Files.kept_map c.judged.ensures.reads c.hold_message.ensures.act (λ name e. of_held config c.args.sender.now name waits e)
+    act_after g.F.Files IsDamaged g.met.F.Files.kept_then g.met.F.Files.kept_map c.judged.ensures.reads c.hold_message.ensures.act (λ name e. of_held config c.args.sender.now name waits e)
     (λ told name e bad. record { damaged = bad; own = λ of. absurd (held_other name e of) })
 
 pub returns-in-Posted-clause-act : goal.returns-in-Posted-clause-act
@@ -49,7 +49,7 @@ returns-in-Posted-clause-act g c =
     let config = c.args.config.now in
     let free : not config.flags.m ≡ true = posted_waits_not config.flags.m c.in_ok-found.found (sym c.follows.ensures ∙ c.in-Posted.is) c.in_ok-found.ensures.moderated in
     let key = sent_key config c.args.message.now in
-    act_behind g.F.Files (λ d. IsDamagedOf d (Next key)) g.met.F.Files.kept_then g.met.F.Files.kept_map c.judged.ensures.reads c.post_message.ensures.act (λ name e. of_published config c.args.sender.now name free e) (λ told name e bad. bad)
+    act_after g.F.Files (λ d. IsDamagedOf d (Next key)) g.met.F.Files.kept_then g.met.F.Files.kept_map c.judged.ensures.reads c.post_message.ensures.act (λ name e. of_published config c.args.sender.now name free e) (λ told name e bad. bad)
 
 pub hold_message-requires-clause-size : goal.hold_message-requires-clause-size
 hold_message-requires-clause-size g c =

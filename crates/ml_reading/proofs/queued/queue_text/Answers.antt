@@ -19,13 +19,13 @@ loop-id-preserved g c =
     let later = before.read.later in
     let added = c.add_id.ensures.reads in
     let more = added.later in
-    let behind = c.id_behind.ensures.are_kept in
-    let last = behind.later in
+    let after = c.id_after.ensures.are_kept in
+    let last = after.later in
     let range = c.in_ok-id.ensures.range in
     let onward = range.0 in
     let kept = g.met.F.Files.kept_then c.args.files.now c.loop-id.files c.add_id.new.files before.read.kept added.kept in
     record {
-      read = record { kept = g.met.F.Files.kept_then c.args.files.now c.add_id.new.files c.id_behind.new.files kept behind.kept; later = omega (arith, later, more, last) };
+      read = record { kept = g.met.F.Files.kept_then c.args.files.now c.add_id.new.files c.id_after.new.files kept after.kept; later = omega (arith, later, more, last) };
       within = range.1;
       listed = λ told.
           let dir = g.F.Files.map c.args.files.now in

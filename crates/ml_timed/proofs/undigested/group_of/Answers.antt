@@ -12,7 +12,7 @@ use Rattle.ml_timed.specs.Digesting.{IsDamagedGroup}
 use Rattle.ml_timed.specs.Reads.{is_of_posts_told}
 use Rattle.ml_timed.specs.Waiting.{are_short}
 use Rattle.ml_timed.proofs.Apart.{posts_back}
-use Rattle.ml_timed.proofs.Behind.{no_group}
+use Rattle.ml_timed.proofs.After.{no_group}
 use Rattle.ml_timed.proofs.Counted.{index_there, none_small, small_damaged, too_small}
 use Rattle.ml_timed.proofs.Short.{index_short}
 use Rattle.ml_timed.proofs.undigested.group_of.Goals as goal

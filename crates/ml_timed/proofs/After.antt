@@ -9,7 +9,7 @@ use Rattle.ml_filing.specs.Posts.{Numbered, entry, group, index_of, numbered}
 use Rattle.ml_filing.specs.declared.posts.Entry.{Entry}
 use Rattle.ml_filing.specs.declared.posts.Post.{Post}
 use Rattle.ml_plain.specs.Timing.{moment_of_first}
-use Rattle.ml_timed.specs.Waiting.{moment_behind, sizes_behind}
+use Rattle.ml_timed.specs.Waiting.{moment_after, sizes_after}
 
 abbrev pub in_group : ℕ → Numbered → Bool
 in_group g e = (e.0 / 100) == g
@@ -118,14 +118,14 @@ sizes_are k [] = refl
 sizes_are k (y ∷ ys) = ap (λ t. length y.bytes ∷ t) (sizes_are (k + 1) ys)
 
 -- in the group of the first of them
-sizes_first : (last g : ℕ) (posts : List Post) → g ≡ (last + 1) / 100 → sizes_behind last (index_of g posts) ≡ take ((100 * g + 100) - (last + 1)) (map bytes_of (drop last posts))
+sizes_first : (last g : ℕ) (posts : List Post) → g ≡ (last + 1) / 100 → sizes_after last (index_of g posts) ≡ take ((100 * g + 100) - (last + 1)) (map bytes_of (drop last posts))
 sizes_first last g posts e =
     let few = (100 * g + 100) - (last + 1) in
     ap (map (λ (e : Entry). e.size)) (entries_after last g posts ∙ ap (map entry) (group_from g (last + 1) (drop last posts) (omega (arith, e))))
     ∙ sizes_are (last + 1) (take few (drop last posts)) ∙ sym (take-map bytes_of few (drop last posts))
 
 -- and in the one after it
-sizes_second : (last g : ℕ) (posts : List Post) → g ≡ (last + 1) / 100 + 1 → sizes_behind last (index_of g posts) ≡ take 100 (drop (100 * g - (last + 1)) (map bytes_of (drop last posts)))
+sizes_second : (last g : ℕ) (posts : List Post) → g ≡ (last + 1) / 100 + 1 → sizes_after last (index_of g posts) ≡ take 100 (drop (100 * g - (last + 1)) (map bytes_of (drop last posts)))
 sizes_second last g posts e =
     let few = 100 * g - (last + 1) in
     ap (map (λ (e : Entry). e.size)) (entries_after last g posts ∙ ap (map entry) (group_past g (last + 1) (drop last posts) (omega (arith, e))))
@@ -138,7 +138,7 @@ front_of_front (suc n) (suc m) [] low = refl
 front_of_front (suc n) (suc m) (x ∷ xs) low = ap (λ t. x ∷ t) (front_of_front n m xs (omega (arith, low)))
 
 -- both together have the first hundred
-pub sizes_of_both : (last g : ℕ) (posts : List Post) (sizes : List ℕ) → g ≡ (last + 1) / 100 → sizes ≡ sizes_behind last (index_of g posts) ++ sizes_behind last (index_of (g + 1) posts)
+pub sizes_of_both : (last g : ℕ) (posts : List Post) (sizes : List ℕ) → g ≡ (last + 1) / 100 → sizes ≡ sizes_after last (index_of g posts) ++ sizes_after last (index_of (g + 1) posts)
     → take 100 sizes ≡ take 100 (map bytes_of (drop last posts))
 sizes_of_both last g posts sizes e is =
     let few = (100 * g + 100) - (last + 1) in
@@ -169,7 +169,7 @@ head_is k n [] = refl
 head_is k n (y ∷ ys) = refl
 
 -- the first of them is in the first group
-pub moment_in_first : (last g : ℕ) (posts : List Post) → g ≡ (last + 1) / 100 → moment_behind last (index_of g posts) ≡ moment_of_first (drop last posts)
+pub moment_in_first : (last g : ℕ) (posts : List Post) → g ≡ (last + 1) / 100 → moment_after last (index_of g posts) ≡ moment_of_first (drop last posts)
 moment_in_first last g posts e =
     let few = (100 * g + 100) - (last + 1) in
     let some : few ≡ suc (few - 1) = omega (arith, e) in

@@ -7,16 +7,16 @@ use Rattle.ml_filing.specs.Archive.{IsNumberFile, number_name}
 use Rattle.ml_acts.specs.Asked.{IsTooSmall}
 use Rattle.ml_acts.proofs.Asked.{named_as}
 use Rattle.ml_acts.proofs.Damages.{named_so}
-use Rattle.ml_timed.specs.Digesting.{IsDamagedBehind, IsDamagedGroup}
+use Rattle.ml_timed.specs.Digesting.{IsDamagedAfter, IsDamagedGroup}
 use Rattle.ml_timed.specs.Reads.{is_of_posts_seen, is_of_posts_told}
 use Rattle.ml_timed.proofs.Apart.{alike_kept}
 use Rattle.std.specs.List.{list_all}
-use Rattle.ml_timed.specs.Waiting.{are_short, is_short, moment_behind, sizes_behind}
-use Rattle.ml_timed.proofs.Behind.{moment_in_first, sizes_of_both}
-use Rattle.ml_timed.proofs.Short.{short_behind, short_joined}
-use Rattle.ml_timed.proofs.Within.{group_behind, hundred}
+use Rattle.ml_timed.specs.Waiting.{are_short, is_short, moment_after, sizes_after}
+use Rattle.ml_timed.proofs.After.{moment_in_first, sizes_of_both}
+use Rattle.ml_timed.proofs.Short.{short_after, short_joined}
+use Rattle.ml_timed.proofs.Within.{group_after, hundred}
 use Rattle.ml_base.proofs.ReadingLemmas.{kept_then, kept_read, reading_then, reading_ok}
-use Rattle.ml_timed.proofs.undigested.posts_behind.Goals as goal
+use Rattle.ml_timed.proofs.undigested.posts_after.Goals as goal
 
 pub returns-clause-sizes : goal.returns-clause-sizes
 returns-clause-sizes g c told dir p alike is size =
@@ -25,17 +25,17 @@ returns-clause-sizes g c told dir p alike is size =
     let same = g.met.F.Files.kept_map c.args.files.now c.group_of.new.files told c.group_of.ensures.reads.kept in
     let first : c.as_slice.result.now ≡ index_of group p.posts = c.as_slice.ensures ∙ c.in_ok-first.ensures.value told dir p alike is size in
     let second : c.as_slice-2.result.now ≡ index_of (group + 1) p.posts = c.as_slice-2.ensures ∙ c.in_ok-second.ensures.value told dir p (alike_kept is_of_posts_seen (g.F.Files.map c.args.files.now) (g.F.Files.map c.group_of.new.files) dir same alike) is size in
-    let begun : c.add_sizes.new.sizes ≡ sizes_behind last (index_of group p.posts) =
-    c.in_ok-add_sizes.ensures ∙ ap₂ (λ (a : List ℕ) (es : List Entry). a ++ sizes_behind last es) c.new-sizes.ensures first
+    let begun : c.add_sizes.new.sizes ≡ sizes_after last (index_of group p.posts) =
+    c.in_ok-add_sizes.ensures ∙ ap₂ (λ (a : List ℕ) (es : List Entry). a ++ sizes_after last es) c.new-sizes.ensures first
     in
     sizes_of_both last group p.posts c.add_sizes-2.new.sizes refl
-    (c.in_ok-add_sizes-2.ensures ∙ ap₂ (λ (a : List ℕ) (es : List Entry). a ++ sizes_behind last es) begun second)
+    (c.in_ok-add_sizes-2.ensures ∙ ap₂ (λ (a : List ℕ) (es : List Entry). a ++ sizes_after last es) begun second)
 
 pub returns-clause-oldest : goal.returns-clause-oldest
 returns-clause-oldest g c told dir p alike is size =
     let last = c.args.last in
     let group = (last + 1) / 100 in
-    c.oldest.ensures ∙ ap (moment_behind last) (c.as_slice-3.ensures ∙ c.in_ok-first.ensures.value told dir p alike is size) ∙ moment_in_first last group p.posts refl
+    c.oldest.ensures ∙ ap (moment_after last) (c.as_slice-3.ensures ∙ c.in_ok-first.ensures.value told dir p alike is size) ∙ moment_in_first last group p.posts refl
 
 pub returns-in_err-first-clause-names : goal.returns-in_err-first-clause-names
 returns-in_err-first-clause-names g c =
@@ -44,8 +44,8 @@ returns-in_err-first-clause-names g c =
     let count = c.args.count in
     let group = (last + 1) / 100 in
     let some = c.requires.some in
-    let names = named_so g.F.Files (λ name. is_of_posts_told name ≡ true) _ (λ name. is_of_posts_told name ≡ true) (IsDamagedGroup dir group count) (IsDamagedBehind dir last count) (λ name e. e)
-    (λ name e bad. group_behind dir last count group (last + 1) name (omega arith) (omega (arith, some)) refl bad) c.in_err-first.ensures.names in
+    let names = named_so g.F.Files (λ name. is_of_posts_told name ≡ true) _ (λ name. is_of_posts_told name ≡ true) (IsDamagedGroup dir group count) (IsDamagedAfter dir last count) (λ name e. e)
+    (λ name e bad. group_after dir last count group (last + 1) name (omega arith) (omega (arith, some)) refl bad) c.in_err-first.ensures.names in
     search rules
 
 pub returns-in_err-second-clause-names : goal.returns-in_err-second-clause-names
@@ -54,9 +54,9 @@ returns-in_err-second-clause-names g c =
     let last = c.args.last in
     let count = c.args.count in
     let group = (last + 1) / 100 + 1 in
-    let names = named_as g.F.Files (λ name. is_of_posts_told name ≡ true) _ dir (g.F.Files.map c.group_of.new.files) (λ name. is_of_posts_told name ≡ true) (λ d. IsDamagedGroup d group count) (IsDamagedBehind dir last count)
+    let names = named_as g.F.Files (λ name. is_of_posts_told name ≡ true) _ dir (g.F.Files.map c.group_of.new.files) (λ name. is_of_posts_told name ≡ true) (λ d. IsDamagedGroup d group count) (IsDamagedAfter dir last count)
     (λ told. g.met.F.Files.kept_map c.args.files.now c.group_of.new.files told c.group_of.ensures.reads.kept) (λ name e. e)
-    (λ name e bad. let high = bad.few in group_behind dir last count group (100 * group) name (omega arith) (omega (arith, high)) (hundred group) bad) c.in_err-second.ensures.names in
+    (λ name e bad. let high = bad.few in group_after dir last count group (100 * group) name (omega arith) (omega (arith, high)) (hundred group) bad) c.in_err-second.ensures.names in
     search rules
 
 pub returns-clause-short : goal.returns-clause-short
@@ -64,9 +64,9 @@ returns-clause-short g c =
     let last = c.args.last in
     let first = c.as_slice.result.now in
     let second = c.as_slice-2.result.now in
-    let begun = ap (list_all is_short) (c.in_ok-add_sizes.ensures ∙ ap (λ (a : List ℕ). a ++ sizes_behind last first) c.new-sizes.ensures) ∙ short_behind last first (ap are_short c.as_slice.ensures ∙ c.in_ok-first.ensures.short) in
+    let begun = ap (list_all is_short) (c.in_ok-add_sizes.ensures ∙ ap (λ (a : List ℕ). a ++ sizes_after last first) c.new-sizes.ensures) ∙ short_after last first (ap are_short c.as_slice.ensures ∙ c.in_ok-first.ensures.short) in
     ap (list_all is_short) c.in_ok-add_sizes-2.ensures
-    ∙ short_joined c.add_sizes.new.sizes (sizes_behind last second) begun (short_behind last second (ap are_short c.as_slice-2.ensures ∙ c.in_ok-second.ensures.short))
+    ∙ short_joined c.add_sizes.new.sizes (sizes_after last second) begun (short_after last second (ap are_short c.as_slice-2.ensures ∙ c.in_ok-second.ensures.short))
 
 pub group_of-requires-2-clause-counted : goal.group_of-requires-2-clause-counted
 group_of-requires-2-clause-counted g c told =

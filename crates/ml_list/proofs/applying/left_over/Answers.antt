@@ -4,7 +4,7 @@ use Rattle.std.specs.Option.{option_copied}
 use Rattle.ml_base.specs.Dir.{laid_by, newest_put}
 use Rattle.ml_base.specs.declared.puts.Put.{Put}
 use Rattle.ml_base.proofs.Laid.{newest_decides}
-use Rattle.ml_list.proofs.applying.left_behind.Goals as goal
+use Rattle.ml_list.proofs.applying.left_over.Goals as goal
 
 pub returns-in-Some : goal.returns-in-Some
 returns-in-Some c =
