@@ -31,7 +31,7 @@ last_other e = cc
 pub stopped_other : (who : Option ℕ) (why : Why) → ends.Stopped who why ≢ ends.Full
 stopped_other who why e = cc
 
--- how a group ended is told by the stream
+-- the stream says how a group ended
 pub end_by_stream : (end : GroupEnd) (more : ℕ) (reader : Items) (left : Option Text) (rest : List Item) (ending : StreamEnd) → IsEnd end more reader left rest ending → EndsByStream end more reader left rest ending
 end_by_stream ends.Full more reader left rest ending e = e
 end_by_stream ends.Last more reader left rest ending e = e
