@@ -37,7 +37,7 @@ use Rattle.ml_acts.proofs.Agreeing.{ledger_agrees}
 use Rattle.ml_acts.proofs.Apart.{alike_fewer}
 use Rattle.ml_acts.proofs.Spared.{buckets_spared, ids_spared, keys_spared, tickets_spared}
 use Rattle.ml_acts.proofs.Spelled.{ledger_least}
-use Rattle.ml_acts.proofs.Undamaged.{mark_undamaged}
+use Rattle.ml_acts.proofs.Undamaged.{mark_undamaged, set_low}
 use Rattle.ml_timed.specs.Reads.{is_followed_by, is_ledger, is_of_digesting, is_of_following, is_of_giving_back, is_of_issue, is_of_posts_seen, is_of_posts_told, is_of_progress, is_of_timed, is_seen_in_digesting, is_seen_in_timed, is_waiting}
 use Rattle.ml_timed.proofs.Apart.{digested_timed, followed_timed, given_timed, issue_digested, pending_begun, posts_back, posts_digested}
 use Rattle.ml_timed.proofs.Changed.{ledger_there}
@@ -47,13 +47,6 @@ use Rattle.ml_timed.proofs.Counted.{no_posts}
 module _ (dir : Dir) (name : Name) (held : name.kind ≡ 13) where
   apart : {A : Type 0} (that : Name) (k : ℕ) → name ≡ that → that.kind ≡ k → (k ≡ 13 → ⊥) → A
   apart that k is kind different = absurd (different (sym kind ∙ sym (ap (λ (n : Name). n.kind) is) ∙ held))
-
-  set_low : (set : Set) → set_kind set ≤ 7
-  set_low sets.List = omega arith
-  set_low sets.Digest = omega arith
-  set_low sets.Allow = omega arith
-  set_low sets.Deny = omega arith
-  set_low sets.Moderators = omega arith
 
   no_set : {A : Type 0} (set : Set) (n : ℕ) → name ≡ bucket_name set n → A
   no_set set n is = let low = set_low set in apart (bucket_name set n) (set_kind set) is refl (λ e. omega (arith, e, low))
