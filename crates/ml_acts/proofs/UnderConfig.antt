@@ -17,7 +17,6 @@ use Rattle.ml_plain.specs.declared.Reply.{Reply}
 use Rattle.ml_acts.specs.Configured.{with_config}
 use Rattle.ml_acts.specs.Damaged.{IsDamaged}
 use Rattle.ml_acts.specs.Doing.{DoesList, HasRoom}
-use Rattle.ml_acts.proofs.Damages.{sound_by}
 
 module _ (c : Config) (dir : Dir) where
   -- the configuration is there
@@ -56,6 +55,3 @@ module _ (c d : Config) (old dir : Dir) (same : d ≡ c) (kept : dir ≡ old) wh
 
     pub bad_under : IfErr r (λ e. OnDamaged e (IsDamaged (with_config d dir))) → IfErr r (λ e. OnDamaged e (IsDamaged (with_config c old)))
     bad_under bad = subst (λ (x : Dir). IfErr r (λ e. OnDamaged e (IsDamaged x))) over bad
-
-    pub sound_under : (p : Plain) → IsList (with_config c old) p → IfErr r (λ e. OnDamaged e (IsDamaged (with_config d dir))) → IfErr r (λ e. OnDamaged e (λ _. ⊥))
-    sound_under p is bad = sound_by (with_config c old) p r is (bad_under bad)
