@@ -11,6 +11,7 @@ pub mod Rests
 pub mod LayLemmas
 pub mod Bools
 pub mod OwnLemmas
+pub mod Cuts
 pub mod SplitLaws
 pub mod PathLaws
 pub mod Laid

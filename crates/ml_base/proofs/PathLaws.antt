@@ -15,6 +15,7 @@ use Rattle.ml_base.specs.declared.names.Name.{Name}
 use Rattle.ml_base.proofs.SplitLaws.{first_written}
 use Rattle.ml_base.proofs.Bools.{both}
 use Rattle.ml_base.proofs.NumberLaws.{all_digits}
+use Rattle.ml_base.proofs.Cuts.{two}
 
 -- the kind of a file in the archive, by what follows the first slash
 abbrev archive_kind : Option (Text × Text) → ℕ
@@ -81,9 +82,6 @@ slashless (b ∷ bs) e = let parts = both (is_ascii_digit b) (all_ascii_digits b
 -- a number followed by a slash is split there
 cut : (n : ℕ) (rest : Text) → n < 2 ^ 64 → split_first 47 (decimal n ++ 47 ∷ rest) ≡ Some (decimal n, rest)
 cut n rest small = first_written 47 (decimal n) rest (slashless (decimal n) (all_digits n small))
-
-abbrev two : Text → Text → Option (Text × Text)
-two a b = Some (a, b)
 
 numbers : (x y : ℕ) (v w : Text) → x < 2 ^ 64 → y < 2 ^ 64 → decimal x ++ 47 ∷ v ≡ decimal y ++ 47 ∷ w → (x ≡ y) × (v ≡ w)
 numbers x y v w p q e =

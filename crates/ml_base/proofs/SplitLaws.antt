@@ -9,12 +9,7 @@ use Rattle.ml_base.specs.Splits.{has_byte, split_first, onto_first, lines, onto_
 use Rattle.ml_base.proofs.Addresses.{address_clean, address_short}
 use Rattle.ml_base.proofs.Bools.{neither}
 use Rattle.ml_base.proofs.Netstrings.{netstring_written}
-
-abbrev two : Text → Text → Option (Text × Text)
-two a b = Some (a, b)
-
-abbrev no_two : Option (Text × Text)
-no_two = None
+use Rattle.ml_base.proofs.Cuts.{two, no_two}
 
 module _ (byte : ℕ) where
   abbrev first_of : ℕ → Text → Bool → Option (Text × Text) → Option (Text × Text)

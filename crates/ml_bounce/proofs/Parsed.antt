@@ -11,8 +11,8 @@ use Rattle.ml_base.specs.Netstrings.{netstring_at}
 use Rattle.ml_base.specs.Sorted.{byte_cmp, is_sorted}
 use Rattle.ml_base.proofs.BelowLemmas.{less}
 use Rattle.ml_base.proofs.SortedLaws.{bytes_total}
+use Rattle.ml_base.proofs.Cuts.{two}
 use Rattle.ml_rows.specs.Rows.{onto, netstrings_at, row_of}
-use Rattle.ml_rows.proofs.Commas.{two}
 use Rattle.ml_rows.proofs.RowLaws.{row_goes_on}
 use Rattle.ml_bounce.specs.Files.{IsEntry, entry_text}
 use Rattle.ml_bounce.specs.Ledger.{Ledger, LedgerEntry}

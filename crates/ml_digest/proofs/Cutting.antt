@@ -9,15 +9,10 @@ use Rattle.ml_base.specs.Bytes.{Text}
 use Rattle.ml_base.specs.Splits.{has_byte, split_first, onto_first}
 use Rattle.ml_base.specs.Texts.{lf, lines_text}
 use Rattle.ml_base.proofs.SplitLaws.{first_written, first_read}
+use Rattle.ml_base.proofs.Cuts.{two, no_two}
 use Rattle.ml_digest.specs.Burst.{IsLine, HaveNo}
 use Rattle.ml_digest.specs.Reading.{IsCut, HasNoCut, IsPassed}
 use Rattle.ml_digest.proofs.Laid.{all_both}
-
-abbrev two : Text → Text → Option (Text × Text)
-two a b = Some (a, b)
-
-abbrev no_two : Option (Text × Text)
-no_two = None
 
 -- the text before the first LF is determined
 pub line_one : (x y a b : Text) → IsLine x → IsLine y → x ++ 10 ∷ a ≡ y ++ 10 ∷ b → (x ≡ y) × (a ≡ b)

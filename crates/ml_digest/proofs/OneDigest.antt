@@ -1,5 +1,5 @@
 -- A text is at most one digest: its number and its messages are determined.
-use Rattle.std.proofs.Common.{◌≡◌, ◌≢◌, ◌<◌, ◌^◌, ℕ, zero, suc, true, false, List, [], ◌∷◌, ◌++◌, length, map, drop, Option, Some, refl, sym, ap, ap₂, ◌∙◌, arith, append_assoc, length-append, codes}
+use Rattle.std.proofs.Common.{◌≡◌, ◌≢◌, ◌<◌, ◌^◌, ℕ, zero, suc, true, false, List, [], ◌∷◌, ◌++◌, length, map, drop, Some, refl, sym, ap, ap₂, ◌∙◌, arith, append_assoc, length-append, codes}
 use Rattle.std.proofs.lemmas.Bool.{true≢false}
 use Rattle.std.specs.Prelude.{replicate}
 use Rattle.std.specs.Fmt.{decimal}
@@ -11,14 +11,12 @@ use Rattle.ml_base.specs.Bytes.{Text, split_last}
 use Rattle.ml_base.specs.Splits.{has_byte, split_first}
 use Rattle.ml_base.specs.Texts.{lf, lines_text}
 use Rattle.ml_base.proofs.SplitLaws.{first_written, last_written}
+use Rattle.ml_base.proofs.Cuts.{two}
 use Rattle.ml_header.specs.Lines.{begins_with}
 use Rattle.ml_rows.proofs.ValueLaws.{decimal_without}
 use Rattle.ml_digest.specs.Burst.{Parts, IsLine, IsMessage, AreParts, message_lines, digest_lines, IsDigest}
 use Rattle.ml_digest.specs.Digest.{preamble_rule, message_rule, issue_title, end_line, asterisks}
 use Rattle.ml_digest.proofs.Laid.{has_both, all_both}
-
-abbrev two : Text → Text → Option (Text × Text)
-two a b = Some (a, b)
 
 -- lines are determined by their text
 cut_line : (x : Text) (xs : List Text) → IsLine x → split_first 10 (lines_text (x ∷ xs)) ≡ Some (x, lines_text xs)

@@ -8,15 +8,10 @@ use Rattle.ml_base.specs.Bytes.{Text, split_last}
 use Rattle.ml_base.specs.Numbers.{number_of}
 use Rattle.ml_base.proofs.NumberLaws.{number_spelled, number_read}
 use Rattle.ml_base.proofs.SplitLaws.{last_read}
+use Rattle.ml_base.proofs.Cuts.{two, no_two}
 use Rattle.ml_digest.specs.Digest.{issue_title}
 use Rattle.ml_digest.specs.Reading.{IsTitle}
 use Rattle.ml_digest.proofs.OneDigest.{title_cut}
-
-abbrev two : Text → Text → Option (Text × Text)
-two a b = Some (a, b)
-
-abbrev no_two : Option (Text × Text)
-no_two = None
 
 abbrev one_number : ℕ → Option ℕ
 one_number n = Some n

@@ -15,7 +15,6 @@ use Rattle.ml_base.proofs.BelowLemmas.{less}
 use Rattle.ml_base.proofs.SortedLaws.{numbers_total}
 use Rattle.ml_rows.specs.Rows.{onto, netstrings_at, row_of}
 use Rattle.ml_rows.specs.Values.{address_in}
-use Rattle.ml_rows.proofs.Commas.{two}
 use Rattle.ml_rows.proofs.ValueLaws.{address_is}
 use Rattle.ml_filing.specs.Answers.{is_below_first}
 use Rattle.ml_filing.specs.Reading.{thread_at, thread_of_fields}

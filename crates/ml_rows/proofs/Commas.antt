@@ -4,6 +4,7 @@ use Rattle.std.specs.Option.{option_and_then}
 use Rattle.ml_base.specs.Bytes.{Text}
 use Rattle.ml_base.specs.Numbers.{number_within}
 use Rattle.ml_base.specs.Splits.{split_first, onto_first, onto_line}
+use Rattle.ml_base.proofs.Cuts.{two}
 use Rattle.ml_rows.specs.Rows.{onto}
 use Rattle.ml_rows.specs.Values.{all_numbers, split_all, comma_numbers}
 
@@ -35,9 +36,6 @@ split_parts (x ∷ xs) = go (x == 44) (split_first 44 xs) (split_parts xs)
     go true o e = refl
     go false None e = ap (onto_line x) e
     go false (Some p) e = ap (onto_line x) e
-
-abbrev pub two : Text → Text → Option (Text × Text)
-two a b = Some (a, b)
 
 abbrev numbers_in : Text → Option (List ℕ)
 numbers_in text = all_numbers 99_999_999 (split_all 44 text)

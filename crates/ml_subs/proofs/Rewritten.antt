@@ -10,6 +10,7 @@ use Rattle.ml_base.proofs.Addresses.{address_clean}
 use Rattle.ml_base.specs.Numbers.{number_within}
 use Rattle.ml_base.proofs.NumberLaws.{number_read, number_spelled}
 use Rattle.ml_base.proofs.SplitLaws.{first_written}
+use Rattle.ml_base.proofs.Cuts.{two}
 use Rattle.ml_subs.specs.declared.member_list.Member.{Member}
 use Rattle.ml_subs.specs.declared.records.Layout.{Layout}
 use Rattle.ml_subs.specs.declared.records.Layout.TheVariants.{Undated, Dated}
@@ -17,9 +18,6 @@ use Rattle.ml_subs.specs.Buckets.{record_text, records, bucket_text, bucket_file
 use Rattle.ml_subs.specs.Reading.{IsRecord}
 use Rattle.ml_subs.specs.Subscribers.{count_text}
 use Rattle.ml_subs.proofs.Spelled.{record_parts, decimal_one}
-
-abbrev two : Text → Text → Option (Text × Text)
-two a b = Some (a, b)
 
 pub records_append : (layout : Layout) (ms ns : List Member) → records layout (ms ++ ns) ≡ records layout ms ++ records layout ns
 records_append layout [] ns = refl

@@ -1,5 +1,5 @@
 -- How the records of a bucket's text are read back as its members.
-use Rattle.std.proofs.Common.{◌≡◌, ℕ, ◌+◌, ◌-◌, ◌<◌, ◌≤◌, ◌^◌, Bool, true, false, ◌==◌, List, [], ◌∷◌, ◌++◌, length, take, drop, get_or, Option, Some, None, refl, sym, ap, ap₂, ◌∙◌, subst, arith, append_assoc, append-nil, length-append}
+use Rattle.std.proofs.Common.{◌≡◌, ℕ, ◌+◌, ◌-◌, ◌<◌, ◌≤◌, ◌^◌, Bool, true, false, ◌==◌, List, [], ◌∷◌, ◌++◌, length, take, drop, get_or, Some, None, refl, sym, ap, ap₂, ◌∙◌, subst, arith, append_assoc, append-nil, length-append}
 use Rattle.std.proofs.lemmas.Bool.{and_parts, and_from, or_from, eqb-true}
 use Rattle.std.proofs.lemmas.List.{take_all}
 use Rattle.std.specs.Fmt.{decimal}
@@ -18,10 +18,8 @@ use Rattle.ml_subs.specs.declared.records.Layout.{Layout}
 use Rattle.ml_subs.specs.declared.records.Layout.TheVariants.{Undated, Dated}
 use Rattle.ml_subs.specs.Buckets.{bucket_of, IsMomentIn, IsMember, moment_text, record_text, records}
 use Rattle.ml_base.specs.Keys.{is_below}
+use Rattle.ml_base.proofs.Cuts.{two}
 use Rattle.ml_subs.specs.Reading.{BeginsWith, AreRead, Leads, rises, member_by}
-
-abbrev two : Text → Text → Option (Text × Text)
-two a b = Some (a, b)
 
 digits_clean : (xs : Text) → all_ascii_digits xs ≡ true → has_byte 0 xs ≡ false
 digits_clean [] h = refl
