@@ -1,16 +1,13 @@
 -- When two parts make an address with an `@` between them.
-use Rattle.std.proofs.Common.{◌≡◌, ℕ, ◌+◌, Bool, true, false, not, ◌==◌, nat_lt, ◌&&◌, ◌||◌, [], ◌∷◌, ◌++◌, length, Option, Some, None, is_ok, refl, ap, ap₂, sym, ◌∙◌, subst, arith, length-append}
+use Rattle.std.proofs.Common.{◌≡◌, ℕ, ◌+◌, Bool, true, false, not, nat_lt, ◌&&◌, ◌||◌, [], ◌∷◌, ◌++◌, length, Option, Some, None, is_ok, refl, ap, ap₂, sym, ◌∙◌, subst, arith, length-append}
 use Rattle.std.proofs.lemmas.Bool.{ltb-true, ltb-false, lt-ltb, le-ltb}
-use Rattle.std.proofs.lemmas.Bool.Decides.{nat_tests}
 use Rattle.std.specs.List.{list_all}
 use Rattle.ml_base.specs.Bytes.{Text, is_empty, split_last}
 use Rattle.ml_base.specs.Address.{is_local_byte, is_host_byte, address_check, make_address, are_parts}
 use Rattle.ml_base.specs.Splits.{has_byte}
 use Rattle.ml_base.proofs.Bools.{both, not_true}
 use Rattle.ml_base.proofs.SplitLaws.{last_written, last_read}
-
-no_sign : (b : ℕ) → is_host_byte b ≡ true → (b == 64) ≡ false
-no_sign b h = grind (arith, nat_tests)
+use Rattle.ml_base.proofs.Addresses.{no_sign}
 
 -- a host has no `@`
 pub no_at : (host : Text) → list_all is_host_byte host ≡ true → has_byte 64 host ≡ false

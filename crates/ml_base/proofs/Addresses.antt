@@ -18,7 +18,7 @@ lower_host b h = grind (arith, nat_tests)
 lower_twice : (b : ℕ) → to_ascii_lowercase (to_ascii_lowercase b) ≡ to_ascii_lowercase b
 lower_twice b = grind (arith, nat_tests)
 
-lower_again : (bs : Text) → lower (lower bs) ≡ lower bs
+pub lower_again : (bs : Text) → lower (lower bs) ≡ lower bs
 lower_again [] = refl
 lower_again (b ∷ bs) = ap₂ (λ c cs. c ∷ cs) (lower_twice b) (lower_again bs)
 
@@ -36,7 +36,7 @@ lower_empty : (bs : Text) → is_empty (lower bs) ≡ is_empty bs
 lower_empty [] = refl
 lower_empty (b ∷ bs) = refl
 
-no_sign : (b : ℕ) → is_host_byte b ≡ true → (b == 64) ≡ false
+pub no_sign : (b : ℕ) → is_host_byte b ≡ true → (b == 64) ≡ false
 no_sign b h = grind (arith, nat_tests)
 
 -- a host has no `@`

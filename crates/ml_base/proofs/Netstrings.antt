@@ -1,5 +1,5 @@
 -- Netstrings are read as they are written.
-use Rattle.std.proofs.Common.{◌≡◌, ℕ, suc, ◌+◌, ◌-◌, ◌*◌, ◌<◌, ◌^◌, Bool, true, false, ◌&&◌, [], ◌∷◌, ◌++◌, length, take, drop, Some, None, Option, refl, ap, ap₂, sym, ◌∙◌, arith, eqb, ltb, append_assoc, length-append}
+use Rattle.std.proofs.Common.{◌≡◌, ℕ, suc, ◌+◌, ◌-◌, ◌*◌, ◌<◌, ◌^◌, Bool, true, false, [], ◌∷◌, ◌++◌, length, take, drop, Some, None, Option, refl, ap, ap₂, sym, ◌∙◌, arith, eqb, ltb, append_assoc, length-append}
 use Rattle.std.specs.Option.{option_and_then}
 use Rattle.std.specs.Char.{is_ascii_digit}
 use Rattle.std.specs.Fmt.{decimal}
@@ -8,11 +8,7 @@ use Rattle.std.proofs.lemmas.List.{take_at, drop_at, take-append-drop, length-ta
 use Rattle.ml_base.specs.Bytes.{Text}
 use Rattle.ml_base.specs.Numbers.{digits_from, is_next_digit}
 use Rattle.ml_base.specs.Netstrings.{length_from, before_comma, content_of, netstring_at, ns}
-use Rattle.ml_base.proofs.NumberLaws.{number_spelled, number_read}
-
-and_left : (a b : Bool) → (a && b) ≡ true → a ≡ true
-and_left true b e = refl
-and_left false b e = e
+use Rattle.ml_base.proofs.NumberLaws.{number_spelled, number_read, and_left}
 
 -- a digit is no colon
 pub no_colon : (limit count n b : ℕ) → is_next_digit limit count n b ≡ true → eqb b 58 ≡ false

@@ -27,7 +27,7 @@ record Spelled (limit count n : ℕ) (bytes : List ℕ) (m : ℕ) : Type 0 where
   lead : count ≡ 0 → get_or bytes 0 0 ≡ 48 → length bytes ≡ 1
   alone : count ≡ 1 → n ≡ 0 → bytes ≡ []
 
-and_left : (a b : Bool) → (a && b) ≡ true → a ≡ true
+pub and_left : (a b : Bool) → (a && b) ≡ true → a ≡ true
 and_left true b e = refl
 and_left false b e = e
 

@@ -93,7 +93,7 @@ lines_joined (b ∷ bs) = go (b == 10) (lines_joined bs)
     go true more = ap (λ t. b ∷ t) more
     go false more = onto_joined b (lines bs) ∙ ap (λ t. b ∷ t) more
 
-abbrev line_of : ℕ → Bool → List Text → List Text
+abbrev pub line_of : ℕ → Bool → List Text → List Text
 line_of b is more = cond is ((b ∷ []) ∷ more) (onto_line b more)
 
 -- the bytes up to and with the first LF are a line

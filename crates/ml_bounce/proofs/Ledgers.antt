@@ -3,9 +3,9 @@ use Rattle.std.proofs.Common.{◌≡◌, ◌<◌, ℕ, Bool, true, false, cond, 
 use Rattle.std.specs.Prelude.{IsTrue, unwrap_or}
 use Rattle.std.specs.Ordering.{eq_by_cmp}
 use Rattle.std.specs.Str.{bytes_eq}
-use Rattle.std.proofs.lemmas.Bool.{false≢true, eq-eqb, le-leb, and_from}
+use Rattle.std.proofs.lemmas.Bool.{false≢true, le-leb}
 use Rattle.ml_base.specs.Bytes.{Text}
-use Rattle.ml_base.specs.Dir.{Dir, same_name, touches_only, with_puts}
+use Rattle.ml_base.specs.Dir.{Dir, touches_only, with_puts}
 use Rattle.ml_base.specs.Name.{is_file}
 use Rattle.ml_base.specs.PartErrors.{OnDamaged}
 use Rattle.ml_base.specs.Sorted.{byte_cmp}
@@ -22,9 +22,6 @@ use Rattle.ml_bounce.specs.Reading.{ledger_of}
 use Rattle.ml_bounce.proofs.Changed.{found_there, forgotten_there, same_key}
 use Rattle.ml_bounce.proofs.Exact.{file_read, file_written}
 use Rattle.ml_rows.proofs.RowLaws.{none_some}
-
-pub name_itself : (name : Name) → same_name name name ≡ true
-name_itself name = and_from _ _ (eq-eqb name.kind name.kind refl) (eq-eqb name.at name.at refl)
 
 -- the files of a ledger are files of the table
 pub ledger_file_of : (set : Set) (n : ℕ) → IsTrue (has_ledger set) → n < 53 → is_file (ledger_name (ledger_kind set) n) ≡ true

@@ -1,5 +1,5 @@
 -- Reading a file piece by piece, as the code does, gives what the definitions read from the whole.
-use Rattle.std.proofs.Common.{◌≡◌, ◌<◌, ◌+◌, ℕ, Bool, true, false, cond, not, ◌==◌, ◌&&◌, List, [], ◌∷◌, length, Option, Some, None, refl, sym, ap, ◌∙◌, arith, option_map}
+use Rattle.std.proofs.Common.{◌≡◌, ◌<◌, ◌+◌, ℕ, Bool, true, false, cond, not, ◌==◌, List, [], ◌∷◌, length, Option, Some, None, refl, sym, ap, ◌∙◌, arith, option_map}
 use Rattle.std.specs.List.{list_any, list_all}
 use Rattle.std.specs.Option.{option_and_then}
 use Rattle.std.specs.Char.{is_ascii_uppercase}
@@ -12,6 +12,7 @@ use Rattle.ml_base.specs.Sorted.{byte_cmp, is_sorted}
 use Rattle.ml_base.proofs.BelowLemmas.{less}
 use Rattle.ml_base.proofs.SortedLaws.{bytes_total}
 use Rattle.ml_base.proofs.Cuts.{two}
+use Rattle.ml_base.proofs.Bools.{both_are}
 use Rattle.ml_rows.specs.Rows.{onto, netstrings_at, row_of}
 use Rattle.ml_rows.proofs.RowLaws.{row_goes_on}
 use Rattle.ml_bounce.specs.Files.{IsEntry, entry_text}
@@ -67,11 +68,6 @@ below_more k e (f ∷ fs) lt all =
     and_from _ _ (lt_then k e.key f.key lt parts.0) (below_more k e fs lt parts.1)
 
 -- keys rise if every two neighbours do
-both_are : (a b : Bool) → (b ≡ true → a ≡ true) → (a && b) ≡ b
-both_are true b h = refl
-both_are false true h = h refl
-both_are false false h = refl
-
 pub sorted_more : (e : LedgerEntry) (es : Ledger) → is_below_first e.key es ≡ true → is_sorted byte_cmp first_key (e ∷ es) ≡ is_sorted byte_cmp first_key es
 sorted_more e [] lt = refl
 sorted_more e (f ∷ fs) lt =

@@ -1,5 +1,5 @@
 -- Reading a file piece by piece, as the code does, gives what the definitions read from the whole.
-use Rattle.std.proofs.Common.{◌≡◌, ◌≤◌, ◌+◌, ◌-◌, ℕ, Bool, true, false, ◌&&◌, List, [], ◌∷◌, length, take, drop, get_or, Option, Some, None, refl, sym, ap, ◌∙◌, arith, option_map}
+use Rattle.std.proofs.Common.{◌≡◌, ◌≤◌, ◌+◌, ◌-◌, ℕ, true, List, [], ◌∷◌, length, take, drop, get_or, Option, Some, None, refl, sym, ap, ◌∙◌, arith, option_map}
 use Rattle.std.specs.List.{list_all}
 use Rattle.std.specs.Option.{option_and_then}
 use Rattle.std.specs.Cmp.{IsTotalOrder}
@@ -13,6 +13,7 @@ use Rattle.ml_base.specs.Netstrings.{netstring_at}
 use Rattle.ml_base.specs.Sorted.{is_sorted}
 use Rattle.ml_base.proofs.BelowLemmas.{less}
 use Rattle.ml_base.proofs.SortedLaws.{numbers_total}
+use Rattle.ml_base.proofs.Bools.{both_are}
 use Rattle.ml_rows.specs.Rows.{onto, netstrings_at, row_of}
 use Rattle.ml_rows.specs.Values.{address_in}
 use Rattle.ml_rows.proofs.ValueLaws.{address_is}
@@ -20,11 +21,6 @@ use Rattle.ml_filing.specs.Answers.{is_below_first}
 use Rattle.ml_filing.specs.Reading.{thread_at, thread_of_fields}
 use Rattle.ml_filing.specs.Threads.{Thread}
 use Rattle.ml_filing.proofs.Exact.{threads_more}
-
-both_are : (a b : Bool) → (b ≡ true → a ≡ true) → (a && b) ≡ b
-both_are true b h = refl
-both_are false true h = h refl
-both_are false false h = refl
 
 -- keys rise if every two neighbours do
 module _ {K E : Type 0} (order : K → K → Ordering) (total : IsTotalOrder order) (key : E → K) where

@@ -1,5 +1,5 @@
 -- Records in the order of their keys: what is above a key, and what is found.
-use Rattle.std.proofs.Common.{◌≡◌, ◌<◌, true, false, cond, List, [], ◌∷◌, Some, None, refl, sym, ap, ap₂, ◌∙◌, arith, ℕ}
+use Rattle.std.proofs.Common.{◌≡◌, ◌<◌, true, false, cond, List, [], ◌∷◌, Some, None, refl, sym, ap, ap₂, ◌∙◌, arith}
 use Rattle.std.proofs.lemmas.Bool.{and_parts, and_from, or_parts}
 use Rattle.std.specs.declared.cmp.Ordering.{Ordering}
 use Rattle.std.specs.declared.cmp.Ordering.TheVariants.{Less, Equal, Greater}
@@ -11,8 +11,8 @@ use Rattle.ml_base.specs.Sorted.{byte_cmp}
 use Rattle.ml_base.proofs.BelowLemmas.{less}
 use Rattle.ml_base.proofs.SortedLaws.{bytes_total, same_bytes}
 use Rattle.ml_keyed.specs.Buckets.{place_of, found, IsOrdered, is_above, rises}
-use Rattle.std.proofs.lemmas.Bool.Decides.{nat_tests}
-use Rattle.std.specs.Char.{is_ascii_uppercase, to_ascii_lowercase}
+use Rattle.std.specs.Char.{is_ascii_uppercase}
+use Rattle.ml_base.proofs.KeptAddresses.{small}
 
 pub place_below : (k : Text) → place_of k < 53
 place_below k = omega arith
@@ -80,9 +80,6 @@ module _ {E : Type 0} (key_of : E → Text) where
 
       apart : (k : Text) (e : E) → found key_of k xs ≡ Some e → eq_by_cmp byte_cmp k (key_of x) ≡ false
       apart k e there = differ k (key_of x) (λ same. let bad : None ≡ Some e = sym (ap (λ l. found key_of l xs) same ∙ all_above_none (key_of x) xs parts.0) ∙ there in absurd (cc))
-
-small : (b : ℕ) → is_ascii_uppercase b ≡ false → to_ascii_lowercase b ≡ b
-small b e = grind (arith, nat_tests)
 
 -- a text without a capital letter is its own key
 pub own_key : (bs : Text) → list_any is_ascii_uppercase bs ≡ false → lower bs ≡ bs

@@ -1,7 +1,6 @@
 -- The parts of an address, read as one.
-use Rattle.std.proofs.Common.{◌≡◌, ℕ, Bool, true, false, ◌==◌, ◌||◌, Some, None, Err, Option, Result, is_ok, [], ◌∷◌, ◌++◌, refl, ap, ap₂, sym, ◌∙◌, cond, arith}
+use Rattle.std.proofs.Common.{◌≡◌, Bool, true, false, ◌||◌, Some, None, Err, Option, Result, is_ok, [], ◌∷◌, ◌++◌, refl, ap, ap₂, sym, ◌∙◌, cond}
 use Rattle.std.proofs.lemmas.Bool.{and_parts}
-use Rattle.std.proofs.lemmas.Bool.Decides.{nat_tests}
 use Rattle.std.specs.List.{list_all}
 use Rattle.ml_base.specs.Bytes.{Text, lower}
 use Rattle.ml_base.specs.Splits.{has_byte}
@@ -9,9 +8,7 @@ use Rattle.ml_base.specs.declared.address.AddressFault.{AddressFault}
 use Rattle.ml_base.specs.Address.{is_host_byte, address_check, address_of, as_address, are_parts, make_address, before_at, past_at}
 use Rattle.ml_base.proofs.AddressParts.{who_parts}
 use Rattle.ml_base.proofs.SplitLaws.{last_written}
-
-no_sign : (b : ℕ) → is_host_byte b ≡ true → (b == 64) ≡ false
-no_sign b h = grind (arith, nat_tests)
+use Rattle.ml_base.proofs.Addresses.{no_sign}
 
 no_at : (host : Text) → list_all is_host_byte host ≡ true → has_byte 64 host ≡ false
 no_at [] e = refl

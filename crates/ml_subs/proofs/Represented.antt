@@ -23,6 +23,7 @@ use Rattle.ml_subs.specs.declared.member_list.Member.{Member}
 use Rattle.ml_subs.specs.declared.records.Layout.{Layout}
 use Rattle.ml_subs.specs.declared.records.Layout.TheVariants.{Undated, Dated}
 use Rattle.ml_base.specs.Ranges.{IsMoment}
+use Rattle.ml_base.proofs.Bools.{name_itself}
 use Rattle.ml_subs.specs.Members.{member_key, member_of, has_key, with_member, without_member, IsOrdered}
 use Rattle.ml_subs.specs.Buckets.{bucket_of, bucket_file, bucket_text, layout_line, records, IsBucket, IsBucketFile, IsMember}
 use Rattle.ml_subs.specs.Subscribers.{AreBuckets, AreJoined, AreSubscribers, IsBucketOf, Breaks, bucket_name, count_name, count_text, is_of_set, is_touched}
@@ -107,9 +108,6 @@ kind_apart sets.Moderators = refl
 
 pub bucket_own : (set : Set) (n : ℕ) → n < 53 → is_of_set set (bucket_name set n) ≡ true
 bucket_own set n less = or_left _ _ (and_from _ _ (eq-eqb (set_kind set) (set_kind set) refl) (lt-ltb n 53 less))
-
-pub name_itself : (name : Name) → same_name name name ≡ true
-name_itself name = and_from _ _ (eq-eqb name.kind name.kind refl) (eq-eqb name.at name.at refl)
 
 pub count_own : (set : Set) → is_of_set set (count_name set) ≡ true
 count_own set = ap (λ b. ((8 == set_kind set) && nat_lt (set_number set) 53) || b) (name_itself (count_name set)) ∙ or_true _

@@ -3,12 +3,13 @@ use Rattle.ml_base.specs.Address.{key, IsAddress}
 use Rattle.ml_base.specs.Bytes.{Text}
 use Rattle.ml_base.specs.Dir.{same_name}
 use Rattle.ml_base.specs.Name.{is_file}
+use Rattle.ml_base.proofs.Bools.{name_itself}
 use Rattle.ml_bounce.specs.Answers.{action_key, acts, key_file, IsBucketOf}
 use Rattle.ml_bounce.specs.Files.{ledger_place}
 use Rattle.ml_bounce.proofs.Acted.{acted_leads, acts_only}
 use Rattle.ml_bounce.proofs.Leading.{lowered_key}
 use Rattle.ml_keyed.proofs.Keys.{place_below}
-use Rattle.ml_bounce.proofs.Ledgers.{bucket_in, name_itself, ledger_file_of}
+use Rattle.ml_bounce.proofs.Ledgers.{bucket_in, ledger_file_of}
 use Rattle.ml_bounce.proofs.acting.act.Goals as goal
 
 pub returns-clause-read : goal.returns-clause-read

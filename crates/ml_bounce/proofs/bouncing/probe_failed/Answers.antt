@@ -4,12 +4,13 @@ use Rattle.ml_base.specs.Address.{key}
 use Rattle.ml_base.specs.Bytes.{Text}
 use Rattle.ml_base.specs.Dir.{same_name}
 use Rattle.ml_base.specs.Name.{is_file}
+use Rattle.ml_base.proofs.Bools.{name_itself}
 use Rattle.ml_bounce.specs.Answers.{key_file, writes, IsBucketOf}
 use Rattle.ml_bounce.specs.Changes as spec
 use Rattle.ml_bounce.specs.Files.{ledger_place}
 use Rattle.ml_bounce.proofs.Leading.{probed_leads, answer_only}
 use Rattle.ml_keyed.proofs.Keys.{place_below}
-use Rattle.ml_bounce.proofs.Ledgers.{bucket_in, name_itself, ledger_file_of}
+use Rattle.ml_bounce.proofs.Ledgers.{bucket_in, ledger_file_of}
 use Rattle.ml_bounce.proofs.bouncing.probe_failed.Goals as goal
 
 pub returns-clause-read : goal.returns-clause-read

@@ -3,10 +3,11 @@ use Rattle.ml_base.specs.Address.{key}
 use Rattle.ml_base.specs.Bytes.{Text}
 use Rattle.ml_base.specs.Dir.{same_name}
 use Rattle.ml_base.specs.Name.{is_file}
+use Rattle.ml_base.proofs.Bools.{name_itself}
 use Rattle.ml_bounce.specs.Answers.{key_file, IsBucketOf, forgets}
 use Rattle.ml_bounce.specs.Files.{ledger_place}
 use Rattle.ml_keyed.proofs.Keys.{place_below}
-use Rattle.ml_bounce.proofs.Ledgers.{bucket_in, forgotten_by, forgets_only, name_itself, ledger_file_of}
+use Rattle.ml_bounce.proofs.Ledgers.{bucket_in, forgotten_by, forgets_only, ledger_file_of}
 use Rattle.ml_bounce.proofs.forgetting.forget.Goals as goal
 
 pub returns-clause-read : goal.returns-clause-read
