@@ -12,6 +12,7 @@ pub mod LayLemmas
 pub mod Bools
 pub mod OwnLemmas
 pub mod Cuts
+pub mod Options
 pub mod SplitLaws
 pub mod PathLaws
 pub mod Laid

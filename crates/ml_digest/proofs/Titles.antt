@@ -1,5 +1,5 @@
 -- The subject of a digest is read as exactly the name and the number that it spells.
-use Rattle.std.proofs.Common.{◌≡◌, ◌≢◌, ◌<◌, ℕ, true, false, ◌==◌, [], ◌∷◌, ◌++◌, length, Option, Some, None, IfNone, sym, ap, ap₂, ◌∙◌, arith, append_assoc, codes}
+use Rattle.std.proofs.Common.{◌≡◌, ◌≢◌, ◌<◌, ℕ, true, false, ◌==◌, [], ◌∷◌, ◌++◌, length, Option, Some, None, sym, ap, ap₂, ◌∙◌, arith, append_assoc, codes}
 use Rattle.std.specs.Fmt.{decimal}
 use Rattle.std.proofs.lemmas.List.{append_cancel_left, append_cancel_right}
 use Rattle.std.proofs.lemmas.Bool.{eqb-true}
@@ -22,10 +22,6 @@ no_number = None
 -- a line that is no title
 abbrev pub Untitled : Text → Type 0
 Untitled line = (name : Text) (issue : ℕ) → ¬ IsTitle line name issue
-
-pub if_none : {A : Type 0} (o : Option A) (P : Type 0) → P → IfNone o P
-if_none None P p = p
-if_none (Some x) P p = tt
 
 module _ (line title : Text) (front_is : line ≡ codes "Subject: " ++ title) where
   split : (name : Text) (issue : ℕ) → IsTitle line name issue → split_last 32 title ≡ two (name ++ codes " Digest Issue") (decimal issue)

@@ -18,11 +18,6 @@ module _ {A : Type 0} where
   pub one_more : (whole : Option (List A)) (out : List A) (a : A) (here more : Option (List A)) → whole ≡ option_map (λ xs. out ++ xs) here → here ≡ onto a more → whole ≡ option_map (λ xs. (out ++ a ∷ []) ++ xs) more
   one_more whole out a here more e f = e ∙ ap (option_map (λ xs. out ++ xs)) f ∙ onto_more out a more
 
--- whether bytes are left
-pub some_left : (text : Text) → (length text == 0) ≡ false → 0 < length text
-some_left [] e = cc
-some_left (b ∷ bs) e = omega arith
-
 -- the texts that a text is split into, by its first comma
 abbrev pub parts_by : Option (Text × Text) → Text → List Text
 parts_by None text = text ∷ []

@@ -1,27 +1,14 @@
 -- Small lemmas: clauses about an optional value, and whether bytes are left.
-use Rattle.std.proofs.Common.{◌≡◌, ◌<◌, true, false, ◌==◌, [], ◌∷◌, length, Option, Some, None, IfSome, IfNone, refl, arith}
+use Rattle.std.proofs.Common.{◌≡◌, true, ◌==◌, length, Option, Some, None, IfSome, IfNone, refl}
 use Rattle.std.proofs.lemmas.Bool.{eqb-true}
 use Rattle.ml_base.specs.Bytes.{Text}
-
--- of a value, a clause about `None` says nothing
-pub if_none : {A : Type 0} (o : Option A) (P : Type 0) → P → IfNone o P
-if_none None P p = p
-if_none (Some x) P p = tt
 
 pub if_some : {A : Type 0} (o : Option A) (P : A → Type 0) → ((x : A) → o ≡ Some x → P x) → IfSome o P
 if_some None P h = tt
 if_some (Some x) P h = h x refl
 
-pub some_left : (text : Text) → (length text == 0) ≡ false → 0 < length text
-some_left [] e = cc
-some_left (b ∷ bs) e = omega arith
-
 pub none_left : (text : Text) → (length text == 0) ≡ true → length text ≡ 0
 none_left text e = eqb-true (length text) 0 e
-
-pub if_some_from : {A : Type 0} (o : Option A) (P Q : A → Type 0) → IfSome o P → ((x : A) → P x → Q x) → IfSome o Q
-if_some_from None P Q p h = tt
-if_some_from (Some x) P Q p h = h x p
 
 pub if_none_from : {A : Type 0} (o : Option A) (P : Type 0) → (o ≡ None → P) → IfNone o P
 if_none_from None P h = h refl

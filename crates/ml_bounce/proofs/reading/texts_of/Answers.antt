@@ -1,5 +1,5 @@
 use Rattle.std.proofs.Common.{sym, ◌∙◌}
-use Rattle.ml_rows.proofs.Commas.{some_left}
+use Rattle.ml_base.proofs.Options.{some_left}
 use Rattle.ml_bounce.proofs.Parsed.{four_not}
 use Rattle.ml_bounce.proofs.reading.texts_of.Goals as goal
 

@@ -1,7 +1,7 @@
 use Rattle.std.proofs.Common.{Some, None, [], ◌∷◌, sym, ◌∙◌}
 use Rattle.std.proofs.lemmas.Bool.Decides.{Decides-eqb}
 use Rattle.std.proofs.lemmas.Slice.Eq.{strip_prefix_is}
-use Rattle.ml_digest.proofs.Titles.{if_none}
+use Rattle.ml_base.proofs.Options.{if_none}
 use Rattle.ml_digest.proofs.Entries.{NoEntry, no_fields, no_body, no_empty_end, no_line_after, entry, ends_here}
 use Rattle.ml_digest.proofs.reading.split_message.Goals as goal
 

@@ -1,7 +1,8 @@
 use Rattle.std.proofs.Common.{Some, None, sym, ◌∙◌, codes}
 use Rattle.std.proofs.lemmas.Bool.Decides.{Decides-eqb}
 use Rattle.std.proofs.lemmas.Slice.Eq.{strip_prefix_is, strip_suffix_is}
-use Rattle.ml_digest.proofs.Titles.{Untitled, if_none, no_split, no_name, no_issue, empty_name, zero_issue, titled}
+use Rattle.ml_base.proofs.Options.{if_none}
+use Rattle.ml_digest.proofs.Titles.{Untitled, no_split, no_name, no_issue, empty_name, zero_issue, titled}
 use Rattle.ml_digest.proofs.reading.title_of.Goals as goal
 
 pub returns-in_err-front-clause-none : goal.returns-in_err-front-clause-none

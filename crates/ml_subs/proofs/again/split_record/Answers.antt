@@ -1,4 +1,4 @@
-use Rattle.ml_subs.proofs.Options.{if_none}
+use Rattle.ml_base.proofs.Options.{if_none}
 use Rattle.ml_subs.proofs.Spelled.{no_nul, no_second, split_dated, split_undated}
 use Rattle.ml_subs.proofs.again.split_record.Goals as goal
 

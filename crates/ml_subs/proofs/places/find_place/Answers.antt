@@ -1,8 +1,8 @@
 use Rattle.std.proofs.Common.{[], Some, Option, refl, sym, ap, ◌∙◌, subst}
 use Rattle.ml_base.specs.Bytes.{Text}
+use Rattle.ml_base.proofs.Options.{if_some_from}
 use Rattle.ml_subs.specs.Buckets.{IsBucketFile}
 use Rattle.ml_subs.specs.Reading.{all_members}
-use Rattle.ml_subs.proofs.Options.{if_some_from}
 use Rattle.ml_subs.proofs.places.find_place.Goals as goal
 
 pub returns-in-None-clause-some : goal.returns-in-None-clause-some

@@ -1,8 +1,8 @@
 use Rattle.std.proofs.Common.{sym, subst}
 use Rattle.std.specs.Option.{option_map}
 use Rattle.ml_base.specs.Bytes.{Text}
+use Rattle.ml_base.proofs.Options.{if_none}
 use Rattle.ml_subs.specs.Reading.{as_member, IsSameKey, AreRead}
-use Rattle.ml_subs.proofs.Options.{if_none}
 use Rattle.ml_subs.proofs.Placed.{place_found, place_nowhere}
 use Rattle.ml_subs.proofs.places.place_in.Goals as goal
 

@@ -1,7 +1,8 @@
 use Rattle.std.proofs.Common.{◌≡◌, ◌∙◌, ◌++◌, [], ◌∷◌, refl, sym, ap, arith, true, false}
 use Rattle.ml_base.specs.Keys.{is_below}
+use Rattle.ml_base.proofs.Options.{some_left}
 use Rattle.ml_subs.specs.Reading.{as_member}
-use Rattle.ml_subs.proofs.Options.{some_left, none_left}
+use Rattle.ml_subs.proofs.Options.{none_left}
 use Rattle.ml_subs.proofs.Spelled.{leads_start, leads_more, leads_nowhere, leads_rest, read_nowhere}
 use Rattle.ml_subs.proofs.Placed.{floor_below, skipped, all_push, first_is}
 use Rattle.ml_subs.proofs.places.skip_lower.Goals as goal

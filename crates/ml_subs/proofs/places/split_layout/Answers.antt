@@ -1,5 +1,6 @@
 use Rattle.std.proofs.Common.{◌∙◌, sym}
-use Rattle.ml_subs.proofs.Options.{some_left, none_left}
+use Rattle.ml_base.proofs.Options.{some_left}
+use Rattle.ml_subs.proofs.Options.{none_left}
 use Rattle.ml_subs.proofs.Placed.{layout_only, layout_makes, no_records}
 use Rattle.ml_subs.proofs.places.split_layout.Goals as goal
 

@@ -1,6 +1,7 @@
 use Rattle.std.proofs.Common.{◌∙◌, ◌+◌, ◌++◌, [], ◌∷◌, sym, ap, arith, length-append}
+use Rattle.ml_base.proofs.Options.{some_left}
 use Rattle.ml_subs.specs.Reading.{as_member}
-use Rattle.ml_subs.proofs.Options.{some_left, none_left}
+use Rattle.ml_subs.proofs.Options.{none_left}
 use Rattle.ml_subs.proofs.Spelled.{leads_end, leads_more, leads_nowhere, leads_room}
 use Rattle.ml_subs.proofs.records.count_members.Goals as goal
 

@@ -1,5 +1,5 @@
 use Rattle.std.proofs.Common.{sym}
-use Rattle.ml_subs.proofs.Options.{if_none}
+use Rattle.ml_base.proofs.Options.{if_none}
 use Rattle.ml_subs.proofs.Spelled.{no_digits, no_number, moment_read}
 use Rattle.ml_subs.proofs.records.next_moment.Goals as goal
 

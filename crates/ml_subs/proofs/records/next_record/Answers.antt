@@ -1,5 +1,5 @@
 use Rattle.std.proofs.lemmas.Bool.{both_ways}
-use Rattle.ml_subs.proofs.Options.{if_none}
+use Rattle.ml_base.proofs.Options.{if_none}
 use Rattle.ml_subs.proofs.Spelled.{no_nul, no_address, no_moment, record_read}
 use Rattle.ml_subs.proofs.records.next_record.Goals as goal
 

@@ -1,6 +1,7 @@
 use Rattle.std.proofs.Common.{◌≡◌, ◌++◌, [], ap, ap₂, sym, ◌∙◌, Some}
+use Rattle.ml_base.proofs.Options.{some_left}
 use Rattle.ml_subs.specs.Buckets.{bucket_file}
-use Rattle.ml_subs.proofs.Options.{none_left, some_left}
+use Rattle.ml_subs.proofs.Options.{none_left}
 use Rattle.ml_subs.proofs.Rewritten.{nobody, somebody, file_of, written_without, nil_front, nil_back}
 use Rattle.ml_subs.proofs.rewriting.text_without.Goals as goal
 use Rattle.ml_subs.proofs.rewriting.text_without.Goals.{else-is_empty-via-then-is_empty+else-is_empty-2, else-is_empty-via-else-is_empty}
