@@ -16,9 +16,9 @@ use Rattle.ml_bounce.specs.Ledger.{Ledger, forget}
 use Rattle.ml_subs.specs.Members.{without_member}
 use Rattle.ml_subs.specs.Subscribers.{AreSubscribers, is_touched, bucket_name, count_name}
 use Rattle.ml_subs.specs.Buckets.{bucket_of}
+use Rattle.ml_subs.proofs.Represented.{few_sets}
 use Rattle.ml_plain.specs.Directory.{IsList, list_ledger_kinds, digest_ledger_kinds}
 use Rattle.ml_plain.specs.Plain.{Plain, with_members, removed}
-use Rattle.ml_plain.proofs.Frames.{few_sets}
 use Rattle.ml_plain.proofs.Changes.{members_changed}
 use Rattle.ml_plain.proofs.PartChanges.{list_ledger_changed, digest_ledger_changed}
 use Rattle.ml_acts.specs.Doing.{is_beside_mark, is_beside_queue, is_changed_for, is_entry_of, is_left_by, is_of_queue, without_entry}

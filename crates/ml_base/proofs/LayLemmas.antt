@@ -2,16 +2,13 @@
 use Rattle.std.proofs.Common.{◌≡◌, ℕ, zero, suc, Bool, true, false, not, ◌&&◌, ◌||◌, cond, List, [], ◌∷◌, ◌++◌, Some, None, drop, set, refl, ap, ap₂, sym, ◌∙◌, subst, arith, add-one}
 use Rattle.std.proofs.lemmas.Bool.Decides.{nat_tests}
 use Rattle.std.specs.Prelude.{slice_get}
+use Rattle.std.proofs.lemmas.Bool.{or_right}
 use Rattle.ml_base.specs.declared.names.Name.{Name}
 use Rattle.ml_base.specs.declared.puts.Put.{Put}
 use Rattle.ml_base.specs.Dir.{Dir, same_name, with_put, with_puts, touches, newest_put, laid_by}
 use Rattle.ml_base.specs.Laying.{laid_in, are_distinct, IsNewestAt}
 use Rattle.ml_base.proofs.Bools.{both, neither, not_true, one_name}
 use Rattle.ml_base.proofs.Laid.{laid_joined, untouched, newest_decides}
-
-or_right : (a b : Bool) → b ≡ true → (a || b) ≡ true
-or_right true b e = refl
-or_right false b e = e
 
 and_off : (a b : Bool) → b ≡ true → (a && not b) ≡ false
 and_off true b e = ap not e

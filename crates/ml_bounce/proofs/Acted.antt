@@ -1,11 +1,9 @@
 -- How doing what is due for an entry changes its ledger.
 use Rattle.std.proofs.Common.{◌≡◌, ◌<◌, ℕ, Bool, true, false, cond, ◌&&◌, List, Option, Some, None, refl, sym, ap, ◌∙◌, subst, arith}
-use Rattle.std.specs.Prelude.{IsTrue, unwrap_or}
-use Rattle.std.proofs.lemmas.Bool.{lt-ltb}
+use Rattle.std.specs.Prelude.{unwrap_or}
 use Rattle.ml_base.specs.Address.{IsAddress}
 use Rattle.ml_base.specs.Bytes.{Text, lower}
 use Rattle.ml_base.specs.Dir.{Dir, touches_only, with_puts}
-use Rattle.ml_base.specs.Ranges.{is_moment}
 use Rattle.ml_base.specs.declared.names.Name.{Name}
 use Rattle.ml_base.specs.declared.names.Set.{Set}
 use Rattle.ml_base.specs.declared.puts.Put.{Put}
@@ -14,10 +12,7 @@ use Rattle.ml_bounce.specs.Changes.{act, after_at}
 use Rattle.ml_bounce.specs.Files.{IsLedger, ledger_place}
 use Rattle.ml_bounce.specs.Ledger.{Ledger, LedgerEntry, Stage, Unwarned, Warned, WarnFailed, Probed, find_entry, no_entry, with_ledger, forget, settle, is_blank_at}
 use Rattle.ml_bounce.proofs.Changed.{found_there, forgotten_there}
-use Rattle.ml_bounce.proofs.Leading.{IsKnown, known, put_known, under_key}
-
-moment : (t : ℕ) → t < 253_402_300_800 → IsTrue (is_moment t)
-moment t less = lt-ltb t 253_402_300_800 less
+use Rattle.ml_bounce.proofs.Leading.{IsKnown, known, put_known, under_key, moment, IsPut}
 
 -- the entry that is found for a key has this key
 pub found_key : (k : Text) (es : Ledger) (e : LedgerEntry) → find_entry k es ≡ Some e → e.key ≡ k
@@ -34,9 +29,6 @@ after_known k now Unwarned e less is = record { key = is.key; address = is.addre
 after_known k now (Warned t) e less is = record { key = is.key; address = is.address; lowered = is.lowered; first = is.first; stage = refl; few = is.few; missed = is.missed; distinct = is.distinct; no_first = is.no_first }
 after_known k now (WarnFailed t) e less is = record { key = is.key; address = is.address; lowered = is.lowered; first = is.first; stage = moment now less; few = is.few; missed = is.missed; distinct = is.distinct; no_first = is.no_first }
 after_known k now (Probed t) e less is = record { key = is.key; address = is.address; lowered = is.lowered; first = is.first; stage = refl; few = is.few; missed = is.missed; distinct = is.distinct; no_first = is.no_first }
-
-abbrev IsPut : Dir → Set → Text → Ledger → Ledger → Type 0
-IsPut dir set k bucket ledger = IsLedger (with_puts dir (writes set k bucket)) (ledger_kind set) ledger
 
 settled_leads : (dir : Dir) (set : Set) (k : Text) (bucket ledger : Ledger) (e : LedgerEntry) → IsKnown k e → IsBucketOf dir set k bucket → IsLedger dir (ledger_kind set) ledger → IsPut dir set k (settle e bucket) (settle e ledger)
 settled_leads dir set k bucket ledger e is file stands = go (is_blank_at e.stage e.missed) refl

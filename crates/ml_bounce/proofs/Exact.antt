@@ -93,7 +93,7 @@ first_told : (none zeroed : Bool) → (none ≡ true → zeroed ≡ true) → (n
 first_told true zeroed h = h refl
 first_told false zeroed h = refl
 
-not_false : (b : Bool) → not b ≡ true → b ≡ false
+pub not_false : (b : Bool) → not b ≡ true → b ≡ false
 not_false true e = absurd (false≢true e)
 not_false false e = refl
 
@@ -250,7 +250,7 @@ content_row e =
     let a = ns e.key in let b = ns (decimal e.first) in let c = ns (stage_text e.stage) in let d = ns (comma_text e.missed) in
     append_assoc (a ++ b) c d ∙ append_assoc a b (c ++ d) ∙ ap (λ t. a ++ (b ++ (c ++ t))) (sym (append-nil d)) ∙ sym (append-nil (ns_row (fields e)))
 
-abbrev ended : ℕ → List Text × Text → Option LedgerEntry
+abbrev pub ended : ℕ → List Text × Text → Option LedgerEntry
 ended n found = cond (is_empty found.1) (entry_of_fields n found.0) None
 
 pub content_written : (n : ℕ) (e : LedgerEntry) → IsEntry n e → entry_of_content n (content_text e) ≡ Some e
@@ -272,7 +272,7 @@ content_read n text e h = go (netstrings_at 4 text) refl
     go (Some p) found = after p.0 p.1 found (sym (ap (option_and_then (ended n)) found) ∙ h)
 
 -- an entry at the beginning of a text
-abbrev with_rest : ℕ → Text × Text → Option (LedgerEntry × Text)
+abbrev pub with_rest : ℕ → Text × Text → Option (LedgerEntry × Text)
 with_rest n found = option_map (λ e. (e, found.1)) (entry_of_content n found.0)
 
 abbrev found_entry : LedgerEntry → Text → LedgerEntry × Text

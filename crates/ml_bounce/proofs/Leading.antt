@@ -22,6 +22,7 @@ use Rattle.ml_bounce.specs.Ledger.{Ledger, LedgerEntry, Stage, Unwarned, Warned,
 use Rattle.ml_bounce.proofs.Changed.{found_there, forgotten_there, put_there, same_key}
 use Rattle.ml_bounce.proofs.Folded.{none_capital}
 use Rattle.ml_keyed.proofs.Keys.{own_key}
+use Rattle.ml_bounce.proofs.Exact.{not_false}
 
 pub lowered_key : (who : Text) → lower (key who) ≡ key who
 lowered_key who = own_key (lower who) (none_capital who)
@@ -61,7 +62,7 @@ known k n file es address low is = go (find_entry k es) refl
         subst (λ (o : Option LedgerEntry). IsKnown k (unwrap_or o (no_entry k))) (sym found)
         record { key = named; address = address; lowered = low; first = entry.first; stage = entry.stage; few = entry.few; missed = entry.missed; distinct = entry.distinct; no_first = entry.no_first }
 
-abbrev IsPut : Dir → Set → Text → Ledger → Ledger → Type 0
+abbrev pub IsPut : Dir → Set → Text → Ledger → Ledger → Type 0
 IsPut dir set k bucket ledger = IsLedger (with_puts dir (writes set k bucket)) (ledger_kind set) ledger
 
 -- an entry with something to remember is put into a ledger by way of its key's file
@@ -88,10 +89,6 @@ any_push : (p : ℕ → Bool) (xs : List ℕ) (x : ℕ) → list_any p xs ≡ fa
 any_push p [] x none is = or_from _ _ is refl
 any_push p (y ∷ ys) x none is = let parts = or_parts (p y) (list_any p ys) none in or_from _ _ parts.0 (any_push p ys x parts.1 is)
 
-not_false : (b : Bool) → not b ≡ true → b ≡ false
-not_false true e = absurd (false≢true e)
-not_false false e = refl
-
 -- a number is added that isn't there yet
 distinct_push : (ms : List ℕ) (n : ℕ) → are_distinct ms ≡ true → list_any (λ m. m == n) ms ≡ false → are_distinct (ms ++ n ∷ []) ≡ true
 distinct_push [] n all none = refl
@@ -114,7 +111,7 @@ blank_none (Warned t) xs e = refl
 blank_none (WarnFailed t) xs e = refl
 blank_none (Probed t) xs e = refl
 
-moment : (t : ℕ) → t < 253_402_300_800 → IsTrue (is_moment t)
+pub moment : (t : ℕ) → t < 253_402_300_800 → IsTrue (is_moment t)
 moment t less = lt-ltb t 253_402_300_800 less
 
 first_of : (b : Bool) (now first : ℕ) → IsTrue (is_moment now) → IsTrue (is_moment first) → IsTrue (is_moment (cond b now first))

@@ -1,12 +1,12 @@
 -- Reading a file piece by piece, as the code does, gives what the definitions read from the whole.
-use Rattle.std.proofs.Common.{◌≡◌, ◌<◌, ◌+◌, ℕ, Bool, true, false, cond, not, ◌==◌, List, [], ◌∷◌, length, Option, Some, None, refl, sym, ap, ◌∙◌, arith, option_map}
+use Rattle.std.proofs.Common.{◌≡◌, ◌<◌, ◌+◌, ℕ, Bool, true, false, not, ◌==◌, [], ◌∷◌, length, Option, Some, None, refl, sym, ap, ◌∙◌, arith, option_map}
 use Rattle.std.specs.List.{list_any, list_all}
 use Rattle.std.specs.Option.{option_and_then}
 use Rattle.std.specs.Char.{is_ascii_uppercase}
 use Rattle.std.specs.Ordering.{is_lt}
 use Rattle.std.proofs.lemmas.Bool.{and_parts, and_from, false≢true, eqb-true}
 use Rattle.ml_base.specs.Address.{IsAddress}
-use Rattle.ml_base.specs.Bytes.{Text, lower, is_empty}
+use Rattle.ml_base.specs.Bytes.{Text, lower}
 use Rattle.ml_base.specs.Netstrings.{netstring_at}
 use Rattle.ml_base.specs.Sorted.{byte_cmp, is_sorted}
 use Rattle.ml_base.proofs.BelowLemmas.{less}
@@ -17,8 +17,8 @@ use Rattle.ml_rows.specs.Rows.{onto, netstrings_at, row_of}
 use Rattle.ml_rows.proofs.RowLaws.{row_goes_on}
 use Rattle.ml_bounce.specs.Files.{IsEntry, entry_text}
 use Rattle.ml_bounce.specs.Ledger.{Ledger, LedgerEntry}
-use Rattle.ml_bounce.specs.Reading.{key_in, entry_of_content, entry_of_fields, entry_at, is_below_first}
-use Rattle.ml_bounce.proofs.Exact.{key_read, key_written, entry_read, entry_written, entry_some}
+use Rattle.ml_bounce.specs.Reading.{key_in, entry_of_content, entry_at, is_below_first}
+use Rattle.ml_bounce.proofs.Exact.{key_read, key_written, entry_read, entry_written, entry_some, with_rest, ended}
 use Rattle.ml_bounce.proofs.Folded.{none_capital}
 use Rattle.ml_keyed.proofs.Keys.{own_key}
 
@@ -39,9 +39,6 @@ key_not text true e some = go (key_in text) refl
         absurd (false≢true (sym (none_capital text) ∙ ap (list_any is_ascii_uppercase) low ∙ sym e))
 
 -- four netstrings with nothing after them, or with something
-abbrev ended : ℕ → List Text × Text → Option LedgerEntry
-ended n found = cond (is_empty found.1) (entry_of_fields n found.0) None
-
 pub four_cut : (text k b f l s m d e : Text) → two k b ≡ netstring_at text → two f l ≡ netstring_at b → two s m ≡ netstring_at l → two d e ≡ netstring_at m
     → netstrings_at 4 text ≡ Some (k ∷ f ∷ s ∷ d ∷ [], e)
 four_cut text k b f l s m d e p q r t = rw (sym p, sym q, sym r, sym t) refl
@@ -75,9 +72,6 @@ sorted_more e (f ∷ fs) lt =
     (λ all. let parts = and_parts (list_all (λ (g : LedgerEntry). is_lt (byte_cmp f.key g.key)) fs) (is_sorted byte_cmp first_key fs) all in and_from _ _ lt (below_more e.key f fs lt parts.0))
 
 -- a row of entries goes on after its first one
-abbrev with_rest : ℕ → Text × Text → Option (LedgerEntry × Text)
-with_rest n found = option_map (λ e. (e, found.1)) (entry_of_content n found.0)
-
 abbrev onto_rest : Text → LedgerEntry → LedgerEntry × Text
 onto_rest more e = (e, more)
 

@@ -23,10 +23,10 @@ none_lf : (test : ℕ → Bool) → ((b : ℕ) → test b ≡ true → (b == 10)
 none_lf test h [] e = refl
 none_lf test h (b ∷ bs) e = let parts = both (test b) (list_all test bs) e in ap₂ (λ s t. s || t) (h b parts.0) (none_lf test h bs parts.1)
 
-local_byte : (b : ℕ) → is_local_byte b ≡ true → (b == 10) ≡ false
+pub local_byte : (b : ℕ) → is_local_byte b ≡ true → (b == 10) ≡ false
 local_byte b h = grind (arith, nat_tests)
 
-host_byte : (b : ℕ) → is_host_byte b ≡ true → (b == 10) ≡ false
+pub host_byte : (b : ℕ) → is_host_byte b ≡ true → (b == 10) ≡ false
 host_byte b h = grind (arith, nat_tests)
 
 -- what is needed of a configuration: its names are lines

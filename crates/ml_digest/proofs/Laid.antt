@@ -18,6 +18,7 @@ use Rattle.ml_header.specs.Forms.{IsField, IsMadeOf, is_folded}
 use Rattle.ml_header.specs.Lines.{begins_blank, begins_with}
 use Rattle.ml_header.proofs.ReadForm.{read_all}
 use Rattle.ml_header.proofs.Rewrites.{ends_after, line_end_after}
+use Rattle.ml_header.proofs.SentLaw.{end_when}
 use Rattle.ml_digest.specs.Burst.{IsLine, HaveNo, IsMessage}
 use Rattle.ml_digest.specs.Digest.{message_rule, quoted_line, kept_names, kept_fields, message_text}
 
@@ -64,9 +65,6 @@ ends_not x [] e = let parts = neither (x == 10) false e in go (x == 10) refl par
     go : (t : Bool) → (x == 10) ≡ t → (x == 10) ≡ false → ends_with nat_eq (x ∷ []) lf ≡ false
     go t is other = ap (λ b. b && true) (ne_eqb 10 x (λ same. eqb-false x 10 other (sym same)))
 ends_not x (y ∷ ys) e = ends_after (x ∷ []) (y ∷ ys) (omega arith) ∙ ends_not y ys (neither (x == 10) (has_byte 10 (y ∷ ys)) e).1
-
-abbrev end_when : Text → Bool → Text
-end_when text is = cond is text (text ++ lf)
 
 pub ended_line : (x : ℕ) (xs : Text) → has_byte 10 (x ∷ xs) ≡ false → with_line_end (x ∷ xs) ≡ (x ∷ xs) ++ lf
 ended_line x xs e = ap (end_when (x ∷ xs)) (ends_not x xs e)

@@ -309,7 +309,7 @@ thread_short n t is =
 thread_row : (t : Thread) (rest : Text) → thread_text t ++ rest ≡ ns_row (thread_fields t) ++ rest
 thread_row t rest = ap (λ x. (ns t.key ++ x) ++ rest) (sym (append-nil (ns (comma_text t.numbers))))
 
-abbrev with_rest : ℕ → List Text × Text → Option (Thread × Text)
+abbrev pub with_rest : ℕ → List Text × Text → Option (Thread × Text)
 with_rest n found = option_map (λ (t : Thread). (t, found.1)) (thread_of_fields n found.0)
 
 abbrev found_thread : Thread → Text → Thread × Text

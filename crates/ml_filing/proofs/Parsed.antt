@@ -1,5 +1,5 @@
 -- Reading a file piece by piece, as the code does, gives what the definitions read from the whole.
-use Rattle.std.proofs.Common.{◌≡◌, ◌≤◌, ◌+◌, ◌-◌, ℕ, true, List, [], ◌∷◌, length, take, drop, get_or, Option, Some, None, refl, sym, ap, ◌∙◌, arith, option_map}
+use Rattle.std.proofs.Common.{◌≡◌, ◌≤◌, ◌+◌, ◌-◌, ℕ, true, List, [], ◌∷◌, length, take, drop, get_or, Some, None, refl, sym, ap, ◌∙◌, arith, option_map}
 use Rattle.std.specs.List.{list_all}
 use Rattle.std.specs.Option.{option_and_then}
 use Rattle.std.specs.Cmp.{IsTotalOrder}
@@ -20,7 +20,7 @@ use Rattle.ml_rows.proofs.ValueLaws.{address_is}
 use Rattle.ml_filing.specs.Answers.{is_below_first}
 use Rattle.ml_filing.specs.Reading.{thread_at, thread_of_fields}
 use Rattle.ml_filing.specs.Threads.{Thread}
-use Rattle.ml_filing.proofs.Exact.{threads_more}
+use Rattle.ml_filing.proofs.Exact.{threads_more, with_rest}
 
 -- keys rise if every two neighbours do
 module _ {K E : Type 0} (order : K → K → Ordering) (total : IsTotalOrder order) (key : E → K) where
@@ -48,9 +48,6 @@ numbers_turn (n ∷ ns) some below =
     ap (is_sorted nat_cmp (λ (m : ℕ). m)) all ∙ sym (sorted_more nat_cmp numbers_total (λ (m : ℕ). m) n ns (ap (is_below_first nat_cmp (λ (m : ℕ). m) n) (sym all) ∙ below))
 
 -- a thread at the beginning of a text
-abbrev with_rest : ℕ → List Text × Text → Option (Thread × Text)
-with_rest n found = option_map (λ (t : Thread). (t, found.1)) (thread_of_fields n found.0)
-
 abbrev onto_rest : Text → Thread → Thread × Text
 onto_rest more t = (t, more)
 

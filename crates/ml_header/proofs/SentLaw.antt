@@ -18,7 +18,7 @@ use Rattle.ml_header.proofs.ReadForm.{read_all}
 abbrev AreFields : List FieldText → Type 0
 AreFields fs = AllByRecursion IsField fs
 
-abbrev end_when : Text → Bool → Text
+abbrev pub end_when : Text → Bool → Text
 end_when text is = cond is text (text ++ lf)
 
 -- a text with an LF at its end ends in one

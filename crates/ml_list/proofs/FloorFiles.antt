@@ -8,15 +8,13 @@ use Rattle.ml_base.specs.Bytes.{Text}
 use Rattle.ml_base.specs.Numbers.{number_within}
 use Rattle.ml_base.proofs.NumberLaws.{number_read, number_spelled}
 use Rattle.ml_plain.specs.KeptFiles.{IsFloorFile, floor_file}
+use Rattle.ml_plain.proofs.StateFiles.{none_some}
 
 floor_by : (n : ℕ) (t : Bool) → leb n 1 ≡ t → floor_file n ≡ cond t None (Some (decimal n ++ 10 ∷ []))
 floor_by n t e = ap (λ (t : Bool). cond t None (Some (decimal n ++ 10 ∷ []))) e
 
 pub floor_file_is : (n : ℕ) → 1 < n → floor_file n ≡ Some (decimal n ++ 10 ∷ [])
 floor_file_is n up = floor_by n false (lt-leb n 1 up)
-
-none_some : (text : Text) → None ≡ Some text → ⊥
-none_some text e = cc
 
 pub floor_read : (file : Option Text) (text digits : Text) (n : ℕ) → file ≡ Some text → text ≡ digits ++ 10 ∷ [] → number_within 999_999_999_999 digits ≡ Some n → 2 ≤ n → IsFloorFile file n
 floor_read file text digits n is whole read up =

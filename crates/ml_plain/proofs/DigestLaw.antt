@@ -50,7 +50,8 @@ use Rattle.ml_plain.proofs.Mailed.{Below, drawn_from, drawn-append, made_of, non
 use Rattle.ml_plain.proofs.PostLaw.{below_after, all-filter}
 use Rattle.ml_plain.proofs.Silent.{IsOfNoDigest, Silent, silent_same, silent_then, silent_send, silent_ledger, silent_removed, silent_to, silent_moderators, silent_bounce, reply_silent, post_silent, none_for}
 use Rattle.ml_plain.proofs.Steps.{first_row_all}
-use Rattle.ml_plain.proofs.LeavingLaw.{fold_same}
+use Rattle.ml_plain.proofs.LeavingLaw.{fold_same, if_wanted}
+use Rattle.ml_plain.proofs.Deliveries.{if_worn}
 
 -- deliveries
 
@@ -160,9 +161,6 @@ request_silent now sender m p r = sender_silent now m p r (address_of sender)
 recipient_silent : (now : ℕ) (sender m : Text) (p : Plain) (o : Option PlainRequest) → Silent p (managing.by_recipient now sender m p o).0
 recipient_silent now sender m p None = silent_same p p refl refl refl
 recipient_silent now sender m p (Some r) = request_silent now sender m p r
-
-abbrev if_worn : Plain → Plain × Reply → Bool → Plain × Reply
-if_worn p r worn = elim worn [ true ↦ (p, answers.full) | false ↦ r ]
 
 worn_silent : (p : Plain) (r : Plain × Reply) (worn : Bool) → Silent p r.0 → Silent p (if_worn p r worn).0
 worn_silent p r true h = silent_same p p refl refl refl
@@ -336,9 +334,6 @@ issued_makes p back q now r below before posts all is after =
       others = λ i apart. chosen i ∙ ap (λ t. cond t (record { number = p.queue.next + length before.outs; thing = out } ∷ []) [])
           (not_equal out.path.base (digest_path p.config i).base (λ e. apart (sym e ∙ base)));
     })
-
-abbrev if_wanted : ℕ → Plain → Bool → Option Range → Plain
-if_wanted now p wanted o = elim wanted [ true ↦ timing.issue now p o | false ↦ p ]
 
 run_makes : (p : Plain) (now : ℕ) → Below p → Makes p (timing.after_timed now p) now
 run_makes p now below = go (timing.give_old_back now p).config.flags.d (timing.digest_due now (timing.give_old_back now p)) refl

@@ -102,7 +102,7 @@ pub fold_same : {A : Type 0} (f : Plain → A → Plain) → ((p : Plain) (a : A
 fold_same f each [] p = refl
 fold_same f each (x ∷ xs) p = fold_same f each xs (f p x) ∙ each p x
 
-abbrev if_wanted : ℕ → Plain → Bool → Option Range → Plain
+abbrev pub if_wanted : ℕ → Plain → Bool → Option Range → Plain
 if_wanted now p wanted o = elim wanted [ true ↦ timing.issue now p o | false ↦ p ]
 
 issue_same : (now : ℕ) (p : Plain) (wanted : Bool) (o : Option Range) → (if_wanted now p wanted o).sets ≡ p.sets

@@ -22,6 +22,7 @@ use Rattle.ml_address.specs.Cookies.{cookie, cookie_message, letters}
 use Rattle.ml_address.specs.Hmac.{hmac}
 use Rattle.ml_address.specs.Requests.{PlainWho, PlainRequest, Confirm, Accept, Reject, set_front, word_text, is_who}
 use Rattle.ml_address.specs.Writing.{request_text, rest_text, signed_text, ticket_text}
+use Rattle.ml_digest.proofs.Apart.{local_byte, host_byte}
 use Rattle.ml_plain.specs.Bouncing.{address_named}
 
 abbrev pub Clean : Text → Type 0
@@ -65,12 +66,6 @@ set_clean sets.Deny = refl
 set_clean sets.Moderators = refl
 
 -- addresses
-
-local_byte : (b : ℕ) → is_local_byte b ≡ true → (b == 10) ≡ false
-local_byte b h = grind (arith, nat_tests)
-
-host_byte : (b : ℕ) → is_host_byte b ≡ true → (b == 10) ≡ false
-host_byte b h = grind (arith, nat_tests)
 
 -- parts of an address
 pub parts_allowed : (l h : Text) → make_address l h ≡ true → Clean l × Clean h

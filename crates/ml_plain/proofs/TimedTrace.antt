@@ -32,7 +32,7 @@ use Rattle.ml_plain.specs.Mailing.{bounce_mail, path}
 use Rattle.ml_plain.specs.Plain.{Plain, ledger_of, with_ledger_of, is_worn}
 use Rattle.ml_plain.specs.Timing as timing
 use Rattle.ml_plain.proofs.Leaving.{found_key, ledger_sets}
-use Rattle.ml_plain.proofs.LeavingLaw.{timed_same}
+use Rattle.ml_plain.proofs.LeavingLaw.{timed_same, if_wanted}
 use Rattle.ml_plain.proofs.Ledgers.{Elem, elem_right, elem_either, elem_take, elem_map, elem_filter, elem_found, IsLedgerSorted, found_forget, found_settled, sorted_forget, sorted_settled}
 use Rattle.ml_plain.proofs.Mailed.{Mailed, mailed_same, mailed_then}
 use Rattle.ml_plain.proofs.Origins.{Queued, Mails, Origin, Same, Due, Traced, ledgers_of, found_in, sorted_in, mails_grow, origin_grows}
@@ -85,9 +85,6 @@ before_back now (x ∷ xs) p =
 before_issue : (now : ℕ) (p : Plain) (o : Option Range) → Before p (timing.issue now p o)
 before_issue now p None = before_self p
 before_issue now p (Some r) = record { config = refl; keys = refl; sets = refl; list = refl; digest = refl; mailed = issued now p (Some r) }
-
-abbrev if_wanted : ℕ → Plain → Bool → Option Range → Plain
-if_wanted now p wanted o = elim wanted [ true ↦ timing.issue now p o | false ↦ p ]
 
 before_digest : (now : ℕ) (p : Plain) (wanted : Bool) (o : Option Range) → Before p (if_wanted now p wanted o)
 before_digest now p true o = before_issue now p o

@@ -253,7 +253,7 @@ own_number sets.Moderators = refl
 numbers_apart : (set other : Set) → other ≢ set → set_number other ≡ set_number set → ⊥
 numbers_apart set other apart e = apart (sym (own_number other) ∙ ap set_at e ∙ own_number set)
 
-few_sets : (set : Set) → set_number set < 5
+pub few_sets : (set : Set) → set_number set < 5
 few_sets sets.List = omega arith
 few_sets sets.Digest = omega arith
 few_sets sets.Allow = omega arith

@@ -9,6 +9,7 @@ use Rattle.ml_filing.specs.Archive.{IsNumberFile, number_name}
 use Rattle.ml_filing.specs.Posts.{post_at}
 use Rattle.ml_filing.specs.declared.posts.Post.{Post}
 use Rattle.ml_filing.proofs.Exact.{count_one}
+use Rattle.ml_filing.proofs.OneMore.{map_on}
 use Rattle.ml_digest.specs.declared.posts.DigestPost.{DigestPost}
 use Rattle.ml_plain.specs.Timing.{digest_post}
 use Rattle.ml_acts.specs.Doing.{is_index}
@@ -19,10 +20,6 @@ use Rattle.ml_timed.specs.Reads.{is_of_posts_told}
 pub post_read : (n : ℕ) (name : Name) → IsPostName n name → is_of_posts_told name ≡ true
 post_read n name (inl e) = subst (λ (a : Name). is_of_posts_told a ≡ true) (sym e) refl
 post_read n name (inr is) = let few = is.0 in or_right (same_name name number_name) (is_index name) (index_placed (n / 100) name (omega (arith, few)) is.1)
-
-map_on : {A B : Type 0} (f : A → B) (xs : List A) (x : A) → map f (xs ++ x ∷ []) ≡ map f xs ++ f x ∷ []
-map_on f [] x = refl
-map_on f (y ∷ ys) x = ap (λ t. f y ∷ t) (map_on f ys x)
 
 taken_more : {A : Type 0} (k i : ℕ) (xs : List A) (x : A) → slice_get xs (k + i) ≡ Some x → take (suc i) (drop k xs) ≡ take i (drop k xs) ++ x ∷ []
 taken_more zero i [] x e = absurd (let bad : ◌≡◌ {A = Option _} None (Some x) = e in cc)

@@ -1,5 +1,5 @@
 -- The files that a page is made of stand in the table of files.
-use Rattle.std.proofs.Common.{◌≡◌, ◌<◌, inl, inr, ℕ, IsTrue, Result, Ok, Err, sym, refl, subst, arith}
+use Rattle.std.proofs.Common.{◌<◌, inl, inr, ℕ, IsTrue, Result, Ok, Err, refl, arith}
 use Rattle.std.specs.Prelude.{IfErr}
 use Rattle.ml_filing.specs.Threads.{thread_name}
 use Rattle.ml_filing.proofs.Looking.{group_in_table}
@@ -9,13 +9,11 @@ use Rattle.ml_base.specs.PartErrors.{OnDamaged}
 use Rattle.ml_base.specs.declared.names.Name.{Name}
 use Rattle.ml_base.specs.declared.part.PartError.{PartError}
 use Rattle.ml_base.specs.declared.part.PartError.TheVariants.{Fault, Memory, Damaged}
+use Rattle.ml_reading.proofs.Paths.{stands_at}
 use Rattle.ml_pages.specs.Reads.{IsIndexesName, IsThreadsName}
 use Rattle.ml_web.specs.Questions.{MayRead}
 use Rattle.ml_web.specs.declared.pages.PageQuery.{PageQuery}
 use Rattle.ml_web.specs.declared.pages.PageQuery.TheVariants as queries
-
-stands_at : (name other : Name) → name ≡ other → IsTrue (is_in_table other) → IsTrue (is_in_table name)
-stands_at name other same is = subst (λ (x : Name). IsTrue (is_in_table x)) (sym same) is
 
 thread_in_table : (n : ℕ) → n < 256 → IsTrue (is_in_table (thread_name n))
 thread_in_table n less = in_table 20 n 0 255 refl refl (omega arith) (omega (arith, less))
