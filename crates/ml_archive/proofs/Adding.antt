@@ -20,9 +20,7 @@ use Rattle.ml_archive.specs.Counted.{first_of}
 use Rattle.ml_archive.specs.Found.{AreKeyedBelow, HasPlace, IsWhole, Keys, with_numbers, key_numbers, numbers_at}
 use Rattle.ml_archive.specs.declared.keys.Places.{Places}
 use Rattle.ml_archive.proofs.Sized.{begins, more_entries}
-
-abbrev Pairs : Type 0
-Pairs = List (Vec ℕ Global × List ℕ)
+use Rattle.ml_archive.proofs.Placing.{Pairs}
 
 abbrev order : Vec ℕ Global → Vec ℕ Global → Ordering
 order x y = byte_cmp x.items y.items

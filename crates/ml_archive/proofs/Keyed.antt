@@ -27,6 +27,7 @@ use Rattle.ml_archive.specs.declared.keys.Places.{Places}
 use Rattle.ml_archive.specs.Found.{AreKeyed, AreNumbered, AreOrdered, IsPlace, Keys, with_numbers, key_numbers, text_at, threads_at, threads_of}
 use Rattle.ml_archive.proofs.Posted.{keys_made, posts_of}
 use Rattle.ml_filing.proofs.Filed.{Rising, rising_lower, rising_sorted, rising_posts}
+use Rattle.ml_archive.proofs.Placing.{Pairs}
 
 numbers_rise : (prefix k : Text) (n high : ℕ) (es : List Entry) → n + length es ≤ high → Rising n high (key_numbers prefix k n es)
 numbers_rise prefix k n high [] le = tt
@@ -51,9 +52,6 @@ key_is_short prefix k n (e ∷ es) is some = go (bytes_eq (subject_key prefix e.
     go false other more later = later more
 
 -- the numbers under a key are found among the threads
-abbrev Pairs : Type 0
-Pairs = List (Vec ℕ Global × List ℕ)
-
 found : (k : Text) (ps : Pairs) → option_map (λ (t : Thread). t.numbers) (entry_of byte_cmp (λ (t : Thread). t.key) k (threads_of ps)) ≡ lookup (λ (q : Vec ℕ Global). is_eq (byte_cmp k q.items)) ps
 found k [] = refl
 found k (p ∷ ps) = go (is_eq (byte_cmp k p.0.items)) (found k ps)

@@ -9,7 +9,7 @@ use Rattle.ml_filing.specs.Threads.{thread_place, thread_text}
 use Rattle.ml_filing.specs.declared.posts.Thread.{Thread}
 use Rattle.ml_archive.specs.Found.{text_at}
 
-abbrev Pairs : Type 0
+abbrev pub Pairs : Type 0
 Pairs = List (Vec ℕ Global × List ℕ)
 
 pub none_placed : (texts : List Text) (all it : Pairs) → texts ≡ replicate 256 [] → it ≡ all → (n : ℕ) → n < 256 → get_or texts n [] ++ text_at n it ≡ text_at n all
