@@ -17,7 +17,7 @@ use Rattle.ml_base.proofs.Addresses.{address_short}
 use Rattle.ml_base.proofs.Netstrings.{netstring_written, netstring_read}
 use Rattle.ml_rows.specs.Rows.{both_of, row_of, EachFrom, netstrings_at}
 use Rattle.ml_rows.specs.Values.{moment_in, address_in, comma_text, comma_numbers}
-use Rattle.ml_rows.proofs.RowLaws.{one_some, none_some, only_read, only_there, made_read, both_read, both_there, netstrings_read, netstrings_written, row_read, row_written}
+use Rattle.ml_rows.proofs.RowLaws.{one_some, none_some, only_read, only_there, made_read, both_read, both_there, netstrings_read, netstrings_written, row_read, row_written, four}
 use Rattle.ml_rows.proofs.ValueLaws.{moment_read, moment_written, address_is, address_there, commas_read, commas_written, comma_length}
 use Rattle.ml_bounce.specs.Files.{IsLedgerFile, IsEntry, ledger_place, content_text, entry_text, stage_text, is_stage, are_distinct}
 use Rattle.ml_bounce.specs.Ledger.{Ledger, LedgerEntry, Stage, Unwarned, Warned, WarnFailed, Probed, is_blank_at}
@@ -133,9 +133,6 @@ Values = Text × (ℕ × (Stage × List ℕ))
 
 abbrev IsRead : ℕ → List Text → LedgerEntry → Type 0
 IsRead n texts e = IsEntry n e × (texts ≡ fields e)
-
-four : (a b c d x y z w : Text) → a ≡ x → b ≡ y → c ≡ z → d ≡ w → a ∷ b ∷ c ∷ d ∷ [] ≡ x ∷ y ∷ z ∷ w ∷ []
-four a b c d x y z w p q r s = λ i. p i ∷ q i ∷ r i ∷ s i ∷ []
 
 pub fields_read : (n : ℕ) (texts : List Text) (e : LedgerEntry) → entry_of_fields n texts ≡ Some e → IsEntry n e × (texts ≡ fields e)
 fields_read n [] e h = absurd (none_some e h)

@@ -20,7 +20,7 @@ use Rattle.ml_base.proofs.Addresses.{address_short}
 use Rattle.ml_base.proofs.NumberLaws.{number_spelled, number_read}
 use Rattle.ml_rows.specs.Rows.{onto, both_of, row_of, EachFrom, netstrings_at}
 use Rattle.ml_rows.specs.Values.{moment_in, address_in, comma_text, comma_numbers}
-use Rattle.ml_rows.proofs.RowLaws.{one_some, none_some, only_read, only_there, made_read, both_read, both_there, netstrings_read, netstrings_written, row_read, row_written, row_goes_on}
+use Rattle.ml_rows.proofs.RowLaws.{one_some, none_some, only_read, only_there, made_read, both_read, both_there, netstrings_read, netstrings_written, row_read, row_written, row_goes_on, four}
 use Rattle.ml_rows.proofs.ValueLaws.{moment_read, moment_written, address_is, address_there, line_read, line_written, commas_read, commas_written, comma_length}
 use Rattle.ml_filing.specs.Archive.{IsIndexFile, IsNumberFile, IsEntry, entry_text}
 use Rattle.ml_filing.specs.Reading.{count_in, entry_with, entry_of_fields, after_lf, entry_in_place, index_in, thread_with, fits, thread_of_fields, thread_at, threads_in}
@@ -52,9 +52,6 @@ pub record IsPlaced (g k : ℕ) (e : Entry) : Type 0 where
   pub is : IsEntry e
   pub number : e.number ≡ k
   pub here : k / 100 ≡ g
-
-four : (a b c d x y z w : Text) → a ≡ x → b ≡ y → c ≡ z → d ≡ w → a ∷ b ∷ c ∷ d ∷ [] ≡ x ∷ y ∷ z ∷ w ∷ []
-four a b c d x y z w p q r s = λ i. p i ∷ q i ∷ r i ∷ s i ∷ []
 
 abbrev IsRead : ℕ → List Text → Entry → Type 0
 IsRead k texts e = IsEntry e × (e.number ≡ k) × (texts ≡ fields e)

@@ -196,3 +196,6 @@ one_more f ns i n out new low e before is =
 pub first_of : {A : Type 0} (xs : List A) (a : A) → 1 ≤ length xs → a ≡ get_or xs 0 a → xs ≡ a ∷ take (length xs - 1) (drop 1 xs)
 first_of [] a some is = absurd (omega arith)
 first_of (x ∷ xs) a some is = ap₂ (λ y (ys : List _). y ∷ ys) (sym is) (sym (take_all (length (x ∷ xs) - 1) xs (omega arith)))
+
+pub four : (a b c d x y z w : Text) → a ≡ x → b ≡ y → c ≡ z → d ≡ w → a ∷ b ∷ c ∷ d ∷ [] ≡ x ∷ y ∷ z ∷ w ∷ []
+four a b c d x y z w p q r s = λ i. p i ∷ q i ∷ r i ∷ s i ∷ []
