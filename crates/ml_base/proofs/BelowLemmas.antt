@@ -5,6 +5,9 @@ use Rattle.std.specs.declared.cmp.Ordering.TheVariants.{Less, Equal, Greater}
 use Rattle.std.specs.Ordering.{is_lt, is_eq, eq_by_cmp, ordering_reverse}
 use Rattle.std.specs.Cmp.{tied_itself}
 use Rattle.std.specs.Prelude.{◌↔◌}
+use Rattle.std.specs.Str.{bytes_eq}
+use Rattle.std.proofs.lemmas.Map.Text.{is_eq-slice_cmp}
+use Rattle.std.proofs.lemmas.Slice.Eq.{bytes_eq-Decides}
 use Rattle.ml_base.specs.Bytes.{Text}
 use Rattle.ml_base.specs.Address.{key}
 use Rattle.ml_base.specs.Keys.{is_below}
@@ -15,6 +18,12 @@ pub less : (r : Ordering) → is_lt r ≡ true → r ≡ Less
 less Less e = refl
 less Equal e = cc
 less Greater e = cc
+
+pub same_key : (a b : Text) → eq_by_cmp byte_cmp a b ≡ bytes_eq a b
+same_key a b = is_eq-slice_cmp a b
+
+pub not_lt : (a b : Text) → bytes_eq b a ≡ true → byte_cmp a b ≡ Equal
+not_lt a b e = ap (byte_cmp a) ((bytes_eq-Decides b a).0 e) ∙ tied_itself bytes_total a
 
 pub below_then : (a b c : Text) → is_below a b ≡ true → is_below b c ≡ true → is_below a c ≡ true
 below_then a b c e f = ap is_lt (bytes_total.trans (key a) (key b) (key c) (less _ e) (less _ f))

@@ -14,3 +14,6 @@ if_some_from (Some x) P Q p h = h x p
 pub some_left : (text : Text) → (length text == 0) ≡ false → 0 < length text
 some_left [] e = cc
 some_left (b ∷ bs) e = omega arith
+
+pub no_text : (text : Text) → ◌≡◌ {A = Option Text} (Some text) None → ⊥
+no_text text e = cc

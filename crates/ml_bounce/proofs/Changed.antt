@@ -2,10 +2,7 @@
 use Rattle.std.proofs.Common.{◌≡◌, ◌≢◌, ℕ, cond, ◌==◌, ◌&&◌, [], ◌∷◌, Option, refl, ap}
 use Rattle.std.specs.Prelude.{unwrap_or}
 use Rattle.std.specs.List.{AllByRecursion, flat_map}
-use Rattle.std.specs.Ordering.{eq_by_cmp}
-use Rattle.std.specs.Str.{bytes_eq}
 use Rattle.std.proofs.lemmas.Bool.{eq-eqb}
-use Rattle.std.proofs.lemmas.Map.Text.{is_eq-slice_cmp}
 use Rattle.ml_base.specs.Bytes.{Text}
 use Rattle.ml_base.specs.Dir.{Dir, with_put, same_name}
 use Rattle.ml_base.specs.Sorted.{byte_cmp}
@@ -24,9 +21,6 @@ spelled_file (e ∷ es) = refl
 
 file_made : (n : ℕ) (es : Ledger) → AllByRecursion (IsEntry n) es → IsOrdered entry_key es → IsLedgerFile n (ledger_file es) es
 file_made n es each sorted = record { each = each; sorted = sorted; spelled = spelled_file es }
-
-pub same_key : (a b : Text) → eq_by_cmp byte_cmp a b ≡ bytes_eq a b
-same_key a b = is_eq-slice_cmp a b
 
 pub found_there : (dir : Dir) (kind : ℕ) (ledger bucket : Ledger) (k : Text) → IsLedger dir kind ledger → IsLedgerFile (ledger_place k) (dir (ledger_name kind (ledger_place k))) bucket → find_entry k ledger ≡ find_entry k bucket
 found_there dir kind = keyed.found_there entry_key IsLedgerFile file_one (λ n. dir (ledger_name kind n))

@@ -2,23 +2,19 @@
 use Rattle.std.proofs.Common.{◌≡◌, ◌≢◌, ℕ, Bool, true, false, cond, not, List, [], ◌∷◌, ◌++◌, Option, Some, None, refl, sym, ap, ◌∙◌, subst, append_assoc, append-nil, inl, inr}
 use Rattle.std.specs.Prelude.{unwrap_or}
 use Rattle.std.specs.List.{AllByRecursion}
-use Rattle.std.specs.Ordering.{eq_by_cmp}
 use Rattle.std.specs.Str.{bytes_eq}
 use Rattle.std.proofs.lemmas.Bool.{eqb-true, and_parts, false≢true, true≢false}
-use Rattle.std.proofs.lemmas.Map.Text.{is_eq-slice_cmp}
 use Rattle.std.proofs.lemmas.Slice.Eq.{bytes_eq-Decides}
 use Rattle.ml_base.specs.Bytes.{Text, is_empty}
 use Rattle.ml_base.specs.Sorted.{byte_cmp}
 use Rattle.ml_base.proofs.SortedLaws.{same_bytes, bytes_total, found_with, found_without, found_is}
+use Rattle.ml_base.proofs.BelowLemmas.{same_key}
 use Rattle.ml_rows.proofs.RowLaws.{none_some}
 use Rattle.ml_bounce.specs.Changes.{can_note, noted, is_warned, probe_failed, is_probed, is_old, is_due, is_due_at, after_at, act}
 use Rattle.ml_bounce.specs.Course.{Change, Bounced, WarningBounced, ProbeBounced, Served, Forgotten, after, after_all, StandInOrder, IsCourse}
 use Rattle.ml_bounce.specs.Ledger.{Ledger, LedgerEntry, Stage, Unwarned, Warned, WarnFailed, Probed, find_entry, entry_under, no_entry, with_ledger, forget, settle, is_blank_at}
 
 -- the entry under a key, after an entry was put or removed
-same_key : (a b : Text) → eq_by_cmp byte_cmp a b ≡ bytes_eq a b
-same_key a b = is_eq-slice_cmp a b
-
 under_with : (q : Text) (e : LedgerEntry) (ledger : Ledger) → entry_under q (with_ledger e ledger) ≡ cond (bytes_eq q e.key) e (entry_under q ledger)
 under_with q e ledger =
     ap (λ (o : Option LedgerEntry). unwrap_or o (no_entry q)) (found_with byte_cmp (λ (e : LedgerEntry). e.key) same_bytes bytes_total q e ledger ∙ ap (λ b. cond b (Some e) (find_entry q ledger)) (same_key q e.key))

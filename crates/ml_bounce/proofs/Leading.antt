@@ -15,11 +15,12 @@ use Rattle.ml_base.specs.declared.names.Name.{Name}
 use Rattle.ml_base.specs.declared.names.Set.{Set}
 use Rattle.ml_base.specs.declared.puts.Put.{Put}
 use Rattle.ml_base.proofs.SortedLaws.{found_is}
+use Rattle.ml_base.proofs.BelowLemmas.{same_key}
 use Rattle.ml_bounce.specs.Answers.{ledger_kind, key_file, IsBucketOf, LeadsTo, puts_of, writes}
 use Rattle.ml_bounce.specs.Changes.{can_note, noted, note, is_warned, warn_failed, is_probed, probe_failed}
 use Rattle.ml_bounce.specs.Files.{IsLedger, IsLedgerFile, IsEntry, is_stage, are_distinct, ledger_place}
 use Rattle.ml_bounce.specs.Ledger.{Ledger, LedgerEntry, Stage, Unwarned, Warned, WarnFailed, Probed, find_entry, entry_under, no_entry, with_ledger, forget, is_blank_at}
-use Rattle.ml_bounce.proofs.Changed.{found_there, forgotten_there, put_there, same_key}
+use Rattle.ml_bounce.proofs.Changed.{found_there, forgotten_there, put_there}
 use Rattle.ml_bounce.proofs.Folded.{none_capital}
 use Rattle.ml_keyed.proofs.Keys.{own_key}
 use Rattle.ml_bounce.proofs.Exact.{not_false}

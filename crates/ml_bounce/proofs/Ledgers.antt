@@ -15,11 +15,12 @@ use Rattle.ml_base.specs.declared.names.Set.TheVariants as sets
 use Rattle.ml_base.specs.declared.part.PartError.{PartError}
 use Rattle.ml_base.specs.declared.puts.Put.{Put}
 use Rattle.ml_base.proofs.DamagedNames.{on_damaged}
+use Rattle.ml_base.proofs.BelowLemmas.{same_key}
 use Rattle.ml_bounce.specs.Answers.{has_ledger, ledger_kind, key_file, IsBucketOf, IsNoFile, writes, forgets}
 use Rattle.ml_bounce.specs.Files.{IsLedger, IsLedgerFile, ledger_name, ledger_place}
 use Rattle.ml_bounce.specs.Ledger.{Ledger, LedgerEntry, find_entry, forget}
 use Rattle.ml_bounce.specs.Reading.{ledger_of}
-use Rattle.ml_bounce.proofs.Changed.{found_there, forgotten_there, same_key}
+use Rattle.ml_bounce.proofs.Changed.{found_there, forgotten_there}
 use Rattle.ml_bounce.proofs.Exact.{file_read, file_written}
 use Rattle.ml_rows.proofs.RowLaws.{none_some}
 

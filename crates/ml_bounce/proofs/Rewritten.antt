@@ -4,27 +4,22 @@ use Rattle.std.proofs.lemmas.Bool.{false≢true}
 use Rattle.std.proofs.lemmas.Slice.Eq.{bytes_eq-Decides}
 use Rattle.std.specs.List.{flat_map}
 use Rattle.std.specs.Ordering.{is_lt, ordering_reverse}
-use Rattle.std.specs.Cmp.{tied_itself}
 use Rattle.std.specs.Str.{bytes_eq}
 use Rattle.std.specs.declared.cmp.Ordering.{Ordering}
 use Rattle.std.specs.declared.cmp.Ordering.TheVariants.{Less, Equal, Greater}
 use Rattle.std.specs.FinMap.Entries.{by_order}
 use Rattle.ml_base.specs.Bytes.{Text}
 use Rattle.ml_base.specs.Sorted.{byte_cmp}
-use Rattle.ml_base.proofs.BelowLemmas.{less}
+use Rattle.ml_base.proofs.BelowLemmas.{less, same_key, not_lt}
 use Rattle.ml_base.proofs.SortedLaws.{bytes_total, same_bytes}
 use Rattle.ml_bounce.specs.Files.{entry_text, ledger_file}
 use Rattle.ml_bounce.specs.Ledger.{Ledger, LedgerEntry, with_ledger, forget}
 use Rattle.ml_bounce.specs.Reading.{is_from, past_key}
-use Rattle.ml_bounce.proofs.Changed.{same_key}
 use Rattle.ml_bounce.proofs.Exact.{entry_some}
 
 -- an entry goes after those whose keys are below its own
 pub with_below : (e f : LedgerEntry) (fs : Ledger) → is_lt (byte_cmp f.key e.key) ≡ true → with_ledger e (f ∷ fs) ≡ f ∷ with_ledger e fs
 with_below e f fs lt = ap (λ (r : Ordering). by_order r (e ∷ f ∷ fs) (e ∷ fs) (f ∷ with_ledger e fs)) (bytes_total.antisymm e.key f.key ∙ ap ordering_reverse (less _ lt))
-
-not_lt : (a b : Text) → bytes_eq b a ≡ true → byte_cmp a b ≡ Equal
-not_lt a b e = ap (byte_cmp a) ((bytes_eq-Decides b a).0 e) ∙ tied_itself bytes_total a
 
 -- and before the others, in place of the one with its key
 pub with_from : (e : LedgerEntry) (es : Ledger) → is_from e.key es ≡ true → with_ledger e es ≡ e ∷ past_key e.key es

@@ -6,15 +6,13 @@ use Rattle.std.proofs.lemmas.Bool.{false≢true}
 use Rattle.std.proofs.lemmas.Slice.Eq.{bytes_eq-Decides}
 use Rattle.std.specs.List.{flat_map}
 use Rattle.std.specs.Ordering.{is_lt, ordering_reverse, eq_by_cmp}
-use Rattle.std.specs.Cmp.{tied_itself}
 use Rattle.std.specs.Str.{bytes_eq}
 use Rattle.std.specs.declared.cmp.Ordering.{Ordering}
 use Rattle.std.specs.declared.cmp.Ordering.TheVariants.{Less, Equal, Greater}
 use Rattle.std.specs.FinMap.Entries.{by_order}
-use Rattle.std.proofs.lemmas.Map.Text.{is_eq-slice_cmp}
 use Rattle.ml_base.specs.Bytes.{Text}
 use Rattle.ml_base.specs.Sorted.{byte_cmp, with_entry, entry_of}
-use Rattle.ml_base.proofs.BelowLemmas.{less}
+use Rattle.ml_base.proofs.BelowLemmas.{less, same_key, not_lt}
 use Rattle.ml_base.proofs.SortedLaws.{bytes_total, same_bytes}
 use Rattle.ml_filing.specs.Answers.{is_from, past_key}
 use Rattle.ml_filing.specs.Threads.{Thread, thread_text, numbers_under}
@@ -25,15 +23,9 @@ Threads = List Thread
 abbrev with_thread : Thread → Threads → Threads
 with_thread t ts = with_entry byte_cmp (λ (u : Thread). u.key) t ts
 
-pub same_key : (a b : Text) → eq_by_cmp byte_cmp a b ≡ bytes_eq a b
-same_key a b = is_eq-slice_cmp a b
-
 -- a thread goes after those whose keys are below its own
 with_below : (e f : Thread) (fs : Threads) → is_lt (byte_cmp f.key e.key) ≡ true → with_thread e (f ∷ fs) ≡ f ∷ with_thread e fs
 with_below e f fs lt = ap (λ (r : Ordering). by_order r (e ∷ f ∷ fs) (e ∷ fs) (f ∷ with_thread e fs)) (bytes_total.antisymm e.key f.key ∙ ap ordering_reverse (less _ lt))
-
-not_lt : (a b : Text) → bytes_eq b a ≡ true → byte_cmp a b ≡ Equal
-not_lt a b e = ap (byte_cmp a) ((bytes_eq-Decides b a).0 e) ∙ tied_itself bytes_total a
 
 -- and before the others, in place of the one with its key
 with_from : (e : Thread) (es : Threads) → is_from e.key es ≡ true → with_thread e es ≡ e ∷ past_key e.key es

@@ -1,8 +1,9 @@
 -- Which files are in their grammar if reading stops at one, and which pages there are then.
-use Rattle.std.proofs.Common.{◌≡◌, ◌≢◌, ◌<◌, ◌+◌, ⊎_elim, ◌==◌, ◌∙◌, ℕ, Bool, true, false, cond, List, [], ◌∷◌, length, Option, Some, None, ap, refl, sym, subst, arith}
+use Rattle.std.proofs.Common.{◌≡◌, ◌≢◌, ◌<◌, ◌+◌, ⊎_elim, ◌==◌, ◌∙◌, ℕ, Bool, true, false, cond, List, [], ◌∷◌, length, Some, None, ap, refl, sym, subst, arith}
 use Rattle.std.proofs.lemmas.Bool.{eqb-true, eqb-false}
 use Rattle.ml_base.specs.Bytes.{Text}
 use Rattle.ml_base.specs.Dir.{Dir}
+use Rattle.ml_base.proofs.Options.{no_text}
 use Rattle.ml_filing.specs.Answers.{IsIndexByFiles}
 use Rattle.ml_filing.specs.declared.posts.Entry.{Entry}
 use Rattle.ml_filing.specs.declared.posts.Thread.{Thread}
@@ -29,9 +30,6 @@ index_read dir g entries low is = ⊎_elim (λ read. (entries, read.1)) (λ past
 no_numbers : (ns : List ℕ) → length ns ≡ 0 → ns ≡ []
 no_numbers [] e = refl
 no_numbers (n ∷ ns) e = absurd (omega (arith, e))
-
-no_text : (text : Text) → ◌≡◌ {A = Option Text} (Some text) None → ⊥
-no_text text e = cc
 
 -- no page of a thread for a post that isn't its first, and none if nothing is on it; otherwise one
 pub page_of_another : (first page : ℕ) (t : Thread) → is_first first t.numbers ≡ false → IsPageFound first page (Some t) None
