@@ -24,14 +24,12 @@ use Rattle.ml_digest.specs.Due.{mark_name}
 use Rattle.ml_queue.specs.Answers.{ids_name}
 use Rattle.ml_subs.specs.Buckets.{bucket_of}
 use Rattle.ml_subs.specs.Subscribers.{bucket_name}
-use Rattle.ml_plain.specs.Directory.{IsList}
-use Rattle.ml_plain.specs.Plain.{Plain}
 use Rattle.ml_acts.specs.Asked.{Asked, Count, Group, Next, Undigested, IsBadFor, IsDamagedOf}
 use Rattle.ml_acts.specs.Damaged.{AreNoPosts, IsDamaged}
 use Rattle.ml_acts.specs.Damaged as damage
 use Rattle.ml_acts.specs.Doing.{is_bucket, is_bucket_of, is_entry_of, is_mailed_by}
 use Rattle.ml_acts.specs.Growing.{is_of_time}
-use Rattle.ml_acts.proofs.Damages.{err_all, none_damaged}
+use Rattle.ml_acts.proofs.Damages.{err_all}
 use Rattle.ml_acts.proofs.Spelled.{counted_so, for_post, index_so, no_number}
 
 -- files of sets and ledgers are none of the archive's

@@ -16,9 +16,7 @@ use Rattle.ml_base.specs.declared.names.Set.TheVariants as sets
 use Rattle.ml_base.specs.declared.part.PartError.{PartError}
 use Rattle.ml_base.specs.declared.part.PartError.TheVariants.{Fault, Memory, Damaged}
 use Rattle.ml_base.proofs.DamagedNames.{err_damaged, err_both_damaged}
-use Rattle.ml_filing.specs.Answers.{IsNoIndex}
-use Rattle.ml_filing.specs.Archive.{ArePosts, index_name, number_name}
-use Rattle.ml_filing.specs.declared.posts.Post.{Post}
+use Rattle.ml_filing.specs.Archive.{number_name}
 use Rattle.ml_filing.specs.Threads.{IsArchive}
 use Rattle.ml_filing.proofs.Exact.{count_one}
 use Rattle.ml_bounce.specs.Answers.{has_ledger, IsBadFile, IsNoFile, key_file}
@@ -31,14 +29,13 @@ use Rattle.ml_digest.specs.declared.posts.Mark.{Mark}
 use Rattle.ml_digest.proofs.Marks.{mark_one}
 use Rattle.ml_hold.proofs.OfFiles as held
 use Rattle.ml_queue.proofs.OfFiles as queues
-use Rattle.ml_queue.specs.Answers.{Breaks, ids_name}
 use Rattle.ml_subs.specs.Buckets.{bucket_of}
 use Rattle.ml_subs.specs.Subscribers.{IsBadBucket, IsBucketName, IsNoBucket, IsUnread, bucket_name, is_touched}
 use Rattle.ml_subs.proofs.Answering.{unread}
 use Rattle.ml_plain.specs.Directory.{IsList}
 use Rattle.ml_plain.specs.Plain.{Plain}
 use Rattle.ml_acts.specs.Doing.{is_bucket, is_bucket_of, is_entry_of}
-use Rattle.ml_acts.specs.Damaged.{AreNoPosts, IsDamaged, IsNoKeys}
+use Rattle.ml_acts.specs.Damaged.{IsDamaged, IsNoKeys}
 use Rattle.ml_acts.specs.Damaged as damage
 
 -- no file of a list is damaged

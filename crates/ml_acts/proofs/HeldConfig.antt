@@ -1,19 +1,14 @@
 -- What is said under a configuration, of files that hold it.
-use Rattle.std.proofs.Common.{◌≡◌, IsTrue, IfErr, List, Result, sym, subst}
+use Rattle.std.proofs.Common.{IsTrue, IfErr, List, Result, subst}
 use Rattle.ml_base.specs.Dir.{Dir}
 use Rattle.ml_base.specs.PartErrors.{OnDamaged}
 use Rattle.ml_base.specs.ReadFiles.{NamesDamaged}
 use Rattle.ml_base.specs.declared.files.Files.{Ghosts}
 use Rattle.ml_base.specs.declared.names.Name.{Name}
 use Rattle.ml_base.specs.declared.part.PartError.{PartError}
-use Rattle.ml_base.specs.declared.puts.Put.{Put}
 use Rattle.ml_config.specs.ConfigFile.{IsConfigFile, config_name}
 use Rattle.ml_config.specs.declared.configuration.Config.{Config}
-use Rattle.ml_plain.specs.Directory.{IsList}
-use Rattle.ml_plain.specs.Plain.{Plain}
-use Rattle.ml_plain.specs.declared.Reply.{Reply}
 use Rattle.ml_acts.specs.Configured.{with_config}
-use Rattle.ml_acts.specs.Doing.{DoesList}
 use Rattle.ml_acts.proofs.UnderConfig.{config_held}
 
 module _ (c : Config) (dir : Dir) where

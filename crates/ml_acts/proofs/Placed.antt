@@ -4,8 +4,7 @@ use Rattle.std.proofs.lemmas.Bool.{lt-ltb}
 use Rattle.ml_base.specs.declared.names.Name.{Name}
 use Rattle.ml_filing.specs.Archive.{index_name}
 use Rattle.ml_filing.specs.Threads.{thread_name}
-use Rattle.ml_hold.specs.Answers.{IsPostName}
-use Rattle.ml_acts.specs.Doing.{is_held_post, is_index, is_thread_file}
+use Rattle.ml_acts.specs.Doing.{is_index, is_thread_file}
 
 pub index_placed : (g : ℕ) (name : Name) → g < 1_000_000 → name ≡ index_name g → is_index name ≡ true
 index_placed g name less e = ap is_index e ∙ lt-ltb g 1_000_000 less

@@ -5,7 +5,7 @@ use Rattle.std.proofs.lemmas.Bool.{cases_lt, eq-eqb, ne_eqb}
 use Rattle.std.proofs.lemmas.List.Elements.{filter-append}
 use Rattle.ml_base.specs.Dir.{Dir}
 use Rattle.ml_base.specs.declared.names.Name.{Name}
-use Rattle.ml_filing.specs.Answers.{IsIndexByFiles, IsOtherSize}
+use Rattle.ml_filing.specs.Answers.{IsOtherSize}
 use Rattle.ml_filing.specs.Archive.{IsEntry, IsIndexFile, index_name}
 use Rattle.ml_filing.specs.declared.posts.Entry.{Entry}
 use Rattle.ml_archive.specs.Breaks.{IsBadGroup}

@@ -1,10 +1,8 @@
 -- What a call that reads files keeps, joined to what the calls before it kept.
-use Rattle.std.proofs.Common.{◌≡◌, Result, Ok, Err, arith}
-use Rattle.ml_base.specs.ReadFiles.{AreKept, IsReading, NamesDamaged}
+use Rattle.std.proofs.Common.{Result, Ok, arith}
+use Rattle.ml_base.specs.ReadFiles.{AreKept, IsReading}
 use Rattle.ml_base.specs.declared.files.Files.{Ghosts}
-use Rattle.ml_base.specs.declared.names.Name.{Name}
 use Rattle.ml_base.specs.declared.part.PartError.{PartError}
-use Rattle.ml_base.proofs.DamagedNames.{err_damaged}
 
 -- the two laws of files that are used here: in a function they are `g.met.F.Files.kept_self` and `g.met.F.Files.kept_then`
 abbrev pub KeepsItself : {F : Type 0} → Ghosts F → Type 0

@@ -1,8 +1,7 @@
 -- Places of a kind that a walk over the files may skip.
-use Rattle.std.proofs.Common.{◌≡◌, ◌∙◌, ◌<◌, ◌≤◌, ◌+◌, ◌||◌, ℕ, List, length, take, get_or, Result, Ok, Err, IfOk, false, ap₂, arith}
-use Rattle.std.proofs.lemmas.List.Folds.{list_any_more}
+use Rattle.std.proofs.Common.{◌∙◌, ◌≤◌, ℕ, List, Result, Ok, Err, IfOk, false, arith}
 use Rattle.ml_base.specs.Absent.{NoneOf, NoPutOf}
-use Rattle.ml_base.specs.Dir.{Dir, same_name, with_puts}
+use Rattle.ml_base.specs.Dir.{Dir, with_puts}
 use Rattle.ml_base.specs.declared.puts.Put.{Put}
 use Rattle.ml_base.proofs.Laid.{untouched}
 

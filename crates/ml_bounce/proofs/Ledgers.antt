@@ -7,14 +7,11 @@ use Rattle.std.proofs.lemmas.Bool.{false≢true, le-leb}
 use Rattle.ml_base.specs.Bytes.{Text}
 use Rattle.ml_base.specs.Dir.{Dir, touches_only, with_puts}
 use Rattle.ml_base.specs.Name.{is_file}
-use Rattle.ml_base.specs.PartErrors.{OnDamaged}
 use Rattle.ml_base.specs.Sorted.{byte_cmp}
 use Rattle.ml_base.specs.declared.names.Name.{Name}
 use Rattle.ml_base.specs.declared.names.Set.{Set}
 use Rattle.ml_base.specs.declared.names.Set.TheVariants as sets
-use Rattle.ml_base.specs.declared.part.PartError.{PartError}
 use Rattle.ml_base.specs.declared.puts.Put.{Put}
-use Rattle.ml_base.proofs.DamagedNames.{on_damaged}
 use Rattle.ml_base.proofs.BelowLemmas.{same_key}
 use Rattle.ml_bounce.specs.Answers.{has_ledger, ledger_kind, key_file, IsBucketOf, IsNoFile, writes, forgets}
 use Rattle.ml_bounce.specs.Files.{IsLedger, IsLedgerFile, ledger_name, ledger_place}

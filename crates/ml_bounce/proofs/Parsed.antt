@@ -1,10 +1,10 @@
 -- Reading a file piece by piece, as the code does, gives what the definitions read from the whole.
-use Rattle.std.proofs.Common.{◌≡◌, ◌<◌, ◌+◌, ℕ, Bool, true, false, not, ◌==◌, [], ◌∷◌, length, Option, Some, None, refl, sym, ap, ◌∙◌, arith, option_map}
+use Rattle.std.proofs.Common.{◌≡◌, ◌<◌, ◌+◌, ℕ, Bool, true, false, not, [], ◌∷◌, length, Option, Some, None, refl, sym, ap, ◌∙◌, arith, option_map}
 use Rattle.std.specs.List.{list_any, list_all}
 use Rattle.std.specs.Option.{option_and_then}
 use Rattle.std.specs.Char.{is_ascii_uppercase}
 use Rattle.std.specs.Ordering.{is_lt}
-use Rattle.std.proofs.lemmas.Bool.{and_parts, and_from, false≢true, eqb-true}
+use Rattle.std.proofs.lemmas.Bool.{and_parts, and_from, false≢true}
 use Rattle.ml_base.specs.Address.{IsAddress}
 use Rattle.ml_base.specs.Bytes.{Text, lower}
 use Rattle.ml_base.specs.Netstrings.{netstring_at}

@@ -1,5 +1,5 @@
 -- Six lines are read as they are written, and nothing else is read as six lines.
-use Rattle.std.proofs.Common.{◌≡◌, ◌∙◌, true, false, cond, [], ◌∷◌, ◌++◌, length, take, drop, Option, Some, None, refl, sym, ap, ap₂, append_assoc, codes, ◌==◌, arith}
+use Rattle.std.proofs.Common.{◌≡◌, ◌∙◌, true, false, cond, [], ◌∷◌, ◌++◌, length, take, drop, Some, None, refl, sym, ap, ap₂, append_assoc, codes, ◌==◌, arith}
 use Rattle.std.proofs.Math.Seq.{drop-append_seam, take-append_seam}
 use Rattle.std.proofs.lemmas.List.{append-nil, take-append-drop}
 use Rattle.std.proofs.lemmas.Slice.Eq.{bytes_eq-Decides}

@@ -1,5 +1,5 @@
 -- How messages are read one after another, up to the end of a digest.
-use Rattle.std.proofs.Common.{◌≡◌, ◌≢◌, ◌<◌, ◌+◌, ℕ, zero, suc, true, false, cond, ◌==◌, ◌&&◌, nat_eq, List, [], ◌∷◌, ◌++◌, length, take, drop, get_or, Option, Some, None, IfNone, Bor, refl, sym, ap, ap₂, ◌∙◌, subst, arith, append_assoc, append-nil, length-append, codes}
+use Rattle.std.proofs.Common.{◌≡◌, ◌≢◌, ◌<◌, ◌+◌, ℕ, zero, suc, true, false, cond, ◌==◌, ◌&&◌, nat_eq, List, [], ◌∷◌, ◌++◌, length, take, drop, get_or, Bor, refl, sym, ap, ap₂, ◌∙◌, subst, arith, append_assoc, append-nil, length-append, codes}
 use Rattle.std.specs.Cmp.Lexicographic.{pointwise}
 use Rattle.std.specs.List.{flat_map, AllByRecursion, ends_with}
 use Rattle.std.proofs.lemmas.Bool.{eqb-true}

@@ -13,8 +13,6 @@ use Rattle.ml_journal.specs.Stores.{site_after}
 use Rattle.ml_journal.specs.declared.store.Store.{Store}
 use Rattle.ml_journal.specs.declared.errors.CommitError.{CommitError}
 use Rattle.ml_journal.specs.declared.errors.CommitError.TheVariants as commits
-use Rattle.ml_journal.specs.declared.errors.OpenError.{OpenError}
-use Rattle.ml_journal.specs.declared.errors.OpenError.TheVariants as opens
 use Rattle.ml_ending.specs.declared.lines.Why.{Why}
 use Rattle.ml_ending.specs.declared.lines.Why.TheVariants as whys
 use Rattle.ml_ending.specs.Lines.{stop_text}

@@ -1,22 +1,18 @@
 -- Reading a file piece by piece, as the code does, gives what the definitions read from the whole.
-use Rattle.std.proofs.Common.{◌≡◌, ◌≤◌, ◌+◌, ◌-◌, ℕ, true, List, [], ◌∷◌, length, take, drop, get_or, Some, None, refl, sym, ap, ◌∙◌, arith, option_map}
+use Rattle.std.proofs.Common.{◌≡◌, ◌≤◌, ◌+◌, ◌-◌, ℕ, true, List, [], ◌∷◌, length, take, drop, get_or, Some, refl, sym, ap, ◌∙◌, arith, option_map}
 use Rattle.std.specs.List.{list_all}
 use Rattle.std.specs.Option.{option_and_then}
 use Rattle.std.specs.Cmp.{IsTotalOrder}
 use Rattle.std.specs.declared.cmp.Ordering.{Ordering}
 use Rattle.std.specs.Ordering.{is_lt, nat_cmp}
-use Rattle.std.proofs.lemmas.Bool.{and_parts, and_from, false≢true}
+use Rattle.std.proofs.lemmas.Bool.{and_parts, and_from}
 use Rattle.std.proofs.lemmas.List.{take_all}
-use Rattle.ml_base.specs.Address.{IsAddress}
 use Rattle.ml_base.specs.Bytes.{Text}
-use Rattle.ml_base.specs.Netstrings.{netstring_at}
 use Rattle.ml_base.specs.Sorted.{is_sorted}
 use Rattle.ml_base.proofs.BelowLemmas.{less}
 use Rattle.ml_base.proofs.SortedLaws.{numbers_total}
 use Rattle.ml_base.proofs.Bools.{both_are}
 use Rattle.ml_rows.specs.Rows.{onto, netstrings_at, row_of}
-use Rattle.ml_rows.specs.Values.{address_in}
-use Rattle.ml_rows.proofs.ValueLaws.{address_is}
 use Rattle.ml_filing.specs.Answers.{is_below_first}
 use Rattle.ml_filing.specs.Reading.{thread_at, thread_of_fields}
 use Rattle.ml_filing.specs.Threads.{Thread}

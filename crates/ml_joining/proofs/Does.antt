@@ -1,14 +1,12 @@
 -- What acts do to the list, said of the files as they were before the reads.
-use Rattle.std.proofs.Common.{◌≡◌, ℕ, Bool, true, false, List, [], length, Result, Ok, Err, IfOk, sym, ap, subst, arith}
+use Rattle.std.proofs.Common.{◌≡◌, ℕ, Bool, true, false, List, [], length, sym, ap, subst, arith}
 use Rattle.std.proofs.lemmas.Bool.{le-leb, lt-leb}
 use Rattle.ml_base.specs.Address.{key}
 use Rattle.ml_base.specs.Bytes.{Text}
 use Rattle.ml_base.specs.Dir.{Dir, touches_only, with_puts}
 use Rattle.ml_base.specs.declared.names.Set.{Set}
-use Rattle.ml_base.specs.declared.part.PartError.{PartError}
 use Rattle.ml_base.specs.declared.puts.Put.{Put}
 use Rattle.ml_bounce.specs.Ledger.{forget}
-use Rattle.ml_config.specs.declared.configuration.Config.{Config}
 use Rattle.ml_subs.specs.Answers.{IsAddition}
 use Rattle.ml_subs.specs.Members.{with_member, without_member}
 use Rattle.ml_subs.specs.Subscribers.{is_touched}

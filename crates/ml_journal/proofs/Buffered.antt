@@ -1,12 +1,10 @@
 -- Texts that a writer of the log takes one after another.
 use Rattle.std.proofs.Common.{◌≡◌, ◌≤◌, ℕ, ◌+◌, IsTrue, [], ◌++◌, length, Result, Ok, Err, OnOk, refl, sym, ◌∙◌, ap, subst, arith, append_assoc, length-append}
-use Rattle.std.specs.Prelude.{IsErrOf}
 use Rattle.std.proofs.lemmas.List.{append-nil}
 use Rattle.ml_base.specs.Bytes.{Text}
 use Rattle.ml_site.specs.Disk.{Contents}
 use Rattle.ml_site.specs.declared.site.Site.{Ghosts}
 use Rattle.ml_site.specs.declared.site.SiteError.{SiteError}
-use Rattle.ml_site.specs.declared.site.SiteError.TheVariants.{Failed as FailedCall}
 use Rattle.ml_journal.specs.Handing.{Hands}
 use Rattle.ml_journal.specs.Buffering.{Buffers}
 use Rattle.ml_journal.specs.declared.writer.LogWriter.{LogWriter}

@@ -4,9 +4,7 @@ use Rattle.std.proofs.lemmas.List.{length-take, take_at}
 use Rattle.ml_base.specs.Bytes.{Text}
 use Rattle.std.specs.Prelude.{IsSome, is_some}
 use Rattle.ml_base.specs.Absent.{NoneOf, NoEntryOf}
-use Rattle.ml_base.specs.Dir.{Dir, with_puts}
-use Rattle.ml_base.specs.declared.puts.Put.{Put}
-use Rattle.ml_journal.specs.Moments.{with_txn}
+use Rattle.ml_base.specs.Dir.{Dir}
 use Rattle.std.specs.BTreeMap.{BTreeMap}
 use Rattle.ml_base.specs.declared.names.Name.{Name}
 use Rattle.ml_site.specs.Disk.{Contents}

@@ -1,7 +1,7 @@
 -- Bytes that are handed to the log in several writes have the same effect as if they were handed to it as one text.
-use Rattle.std.proofs.Common.{◌≡◌, ◌⊎◌, inl, inr, ⊎_elim, ◌<◌, ◌≤◌, ℕ, ◌+◌, max, IsTrue, List, [], ◌∷◌, ◌++◌, length, take, drop, Result, Ok, Err, OnOk, refl, sym, ◌∙◌, ap, subst, arith, add-zero, append_assoc, length-append}
+use Rattle.std.proofs.Common.{◌≡◌, ◌⊎◌, inl, inr, ⊎_elim, ◌<◌, ◌≤◌, ℕ, ◌+◌, max, IsTrue, List, [], ◌∷◌, ◌++◌, length, take, drop, Result, Ok, Err, OnOk, refl, sym, ◌∙◌, ap, subst, arith, append_assoc, length-append}
 use Rattle.std.specs.Prelude.{IsErrOf}
-use Rattle.std.proofs.lemmas.List.{append-nil, length-take, take_at, take-append-drop}
+use Rattle.std.proofs.lemmas.List.{length-take, take_at}
 use Rattle.std.proofs.lemmas.Slice.{drop-append-drop}
 use Rattle.ml_base.specs.Bytes.{Text}
 use Rattle.ml_base.specs.Faults.{Rose}
@@ -16,7 +16,7 @@ use Rattle.ml_site.specs.declared.site.SiteError.{SiteError}
 use Rattle.ml_site.specs.declared.site.SiteError.TheVariants.{Failed as FailedCall}
 use Rattle.ml_journal.specs.Handing.{AreWithin, IsPendingIn, Hands}
 use Rattle.ml_journal.specs.Calls.{OnlyNow}
-use Rattle.ml_journal.proofs.Keeping.{keeps_none, keeps_on}
+use Rattle.ml_journal.proofs.Keeping.{keeps_on}
 
 within_least : (at size n : ℕ) (parts : List Part) → AreWithin at size parts → least n parts ≡ n
 within_least at size n [] are = refl

@@ -1,6 +1,5 @@
 -- How files are laid down one after another.
-use Rattle.std.proofs.Common.{◌≡◌, ◌≢◌, ℕ, ◌<◌, ◌+◌, Bool, true, false, cond, List, [], ◌∷◌, length, take, get_or, Option, Some, None, refl, sym, ◌∙◌, ap, subst, arith}
-use Rattle.std.proofs.lemmas.List.{take_more}
+use Rattle.std.proofs.Common.{◌≡◌, ◌≢◌, ℕ, Bool, true, false, cond, List, [], ◌∷◌, Option, Some, None, refl, sym, ◌∙◌, ap, subst, arith}
 use Rattle.std.specs.Prelude.{IsSome}
 use Rattle.std.specs.BTreeMap.{BTreeMap, is_at}
 use Rattle.std.specs.Map.{lookup}
@@ -9,9 +8,7 @@ use Rattle.std.specs.declared.cmp.Ordering.{Ordering}
 use Rattle.std.specs.declared.cmp.Ordering.TheVariants.{Less, Equal, Greater}
 use Rattle.std.specs.Ordering.{is_eq}
 use Rattle.ml_base.specs.Bytes.{Text}
-use Rattle.ml_base.specs.Dir.{Dir, same_name, with_file, with_put, with_puts}
-use Rattle.ml_base.specs.declared.puts.Put.{Put}
-use Rattle.ml_base.proofs.Laid.{laid_joined}
+use Rattle.ml_base.specs.Dir.{Dir, same_name, with_file}
 use Rattle.ml_base.specs.Name.{name_cmp}
 use Rattle.ml_base.specs.declared.names.Name.{Name}
 use Rattle.ml_base.proofs.Bools.{one_name}
@@ -19,7 +16,7 @@ use Rattle.ml_base.proofs.NameMaps.{exact_names}
 use Rattle.ml_site.specs.Disk.{Contents, File, Disk, MayLeave, IsImage}
 use Rattle.ml_site.proofs.FileParts.{file_log, over_log, over_beside}
 use Rattle.ml_journal.specs.Newest.{newest_of, left_by, with_newest}
-use Rattle.ml_journal.specs.Laying.{laid_down, Beside, IsOver, IsBeside}
+use Rattle.ml_journal.specs.Laying.{Beside, IsOver, IsBeside}
 
 -- a file that has a put differs from a file that has none
 apart : (puts : BTreeMap Name (Option Text)) (name other : Name) → IsSome (newest_of puts name) → newest_of puts other ≡ None → other ≢ name

@@ -2,7 +2,7 @@
 use Rattle.std.proofs.Common.{◌≡◌, ◌<◌, ◌≤◌, ℕ, ◌+◌, ◌-◌, true, List, [], ◌∷◌, ◌++◌, length, drop, get_or, Option, Some, None, refl, sym, ◌∙◌, ap, arith, append_assoc}
 use Rattle.std.specs.Prelude.{option_map}
 use Rattle.std.specs.Option.{option_and_then}
-use Rattle.std.proofs.lemmas.List.{append-nil, drop_all, length-map, get_or-map}
+use Rattle.std.proofs.lemmas.List.{drop_all, length-map, get_or-map}
 use Rattle.ml_base.specs.Dir.{Dir, are_files, with_put, with_puts}
 use Rattle.ml_base.specs.Name.{is_file}
 use Rattle.ml_journal.proofs.Tables.{older_next, each_file}

@@ -1,11 +1,10 @@
 -- What a crash leaves of a log without open records.
-use Rattle.std.proofs.Common.{◌≡◌, ◌≢◌, inl, inr, ◌≤◌, ℕ, [], ◌∷◌, ◌++◌, length, take, drop, get_or, refl, sym, ◌∙◌, ap, arith}
+use Rattle.std.proofs.Common.{◌≡◌, inl, inr, ◌≤◌, ℕ, [], ◌∷◌, ◌++◌, length, take, drop, refl, ◌∙◌, ap, arith}
 use Rattle.ml_base.specs.Bytes.{Text}
-use Rattle.ml_base.specs.Dir.{Dir}
 use Rattle.ml_site.specs.Disk.{Contents, Range, Cut, MayLeave, log_with}
 use Rattle.ml_site.proofs.LogParts.{torn_cut, torn_log_files, cut_log_files}
 use Rattle.ml_journal.specs.Log.{directory}
-use Rattle.ml_journal.specs.Rows.{IsShut, Lays}
+use Rattle.ml_journal.specs.Rows.{IsShut}
 use Rattle.ml_journal.proofs.Crash.{Counts, counts_same, same_directory, closed, last_row}
 
 short_counts : (log : Text) → length log ≤ 1 → Counts log (λ d. d)

@@ -14,13 +14,8 @@ use Rattle.ml_config.specs.declared.key_file.Keys.{Keys}
 use Rattle.ml_queue.specs.Answers.{IsSent}
 use Rattle.ml_queue.specs.Queue.{IsQueue, Queue, without_id}
 use Rattle.ml_plain.proofs.Frames.{queue_frame}
-use Rattle.ml_acts.specs.Damaged.{IsDamaged}
-use Rattle.ml_acts.proofs.Damages.{sound_by}
-use Rattle.ml_plain.specs.Directory.{IsList, IsState, is_of_list}
-use Rattle.ml_plain.specs.Plain.{Plain}
-use Rattle.ml_plain.specs.declared.Reply.{Reply}
-use Rattle.ml_plain.proofs.StateFiles.{own_list}
-use Rattle.ml_acts.specs.Doing.{Alike, DoesList, is_of_queue}
+use Rattle.ml_plain.specs.Directory.{IsState}
+use Rattle.ml_acts.specs.Doing.{Alike, is_of_queue}
 use Rattle.ml_acts.proofs.Queued.{laid_same}
 use Rattle.ml_plain.specs.Histories.{Kept, State}
 use Rattle.ml_plain.specs.KeptFiles.{IsFloorFile, IsRepliesFile, floor_name, replies_name}

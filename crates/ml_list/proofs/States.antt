@@ -1,16 +1,14 @@
 -- What items in a row leave and answer, and that a list's files aren't damaged.
-use Rattle.std.proofs.Common.{◌≡◌, ℕ, Some, None, List, [], ◌∷◌, ◌++◌, refl, sym, ◌∙◌, ap, append_assoc}
+use Rattle.std.proofs.Common.{◌≡◌, ℕ, List, [], ◌∷◌, ◌++◌, refl, sym, ◌∙◌, ap, append_assoc}
 use Rattle.std.proofs.lemmas.List.{append-nil}
 use Rattle.ml_base.specs.Bytes.{Text}
 use Rattle.ml_base.specs.Dir.{Dir}
 use Rattle.ml_base.specs.declared.names.Name.{Name}
-use Rattle.ml_config.specs.ConfigFile.{config_text}
 use Rattle.ml_plain.specs.declared.Item.{Item}
 use Rattle.ml_plain.specs.Directory.{IsState}
 use Rattle.ml_plain.specs.Histories.{State, step, fold, text, last_from}
 use Rattle.ml_plain.specs.Replies.{line, status_of}
 use Rattle.ml_list.specs.Damage.{IsDamagedInList}
-use Rattle.ml_list.specs.Loading.{HasConfig}
 use Rattle.ml_list.proofs.Damages.{none_damaged}
 
 pub fold-nil : (q : State) → fold q [] ≡ q

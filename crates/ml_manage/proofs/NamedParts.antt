@@ -1,11 +1,10 @@
 -- The parts of an address, read as one.
-use Rattle.std.proofs.Common.{◌≡◌, Bool, true, false, ◌||◌, Some, None, Err, Option, Result, is_ok, [], ◌∷◌, ◌++◌, refl, ap, ap₂, sym, ◌∙◌, cond}
+use Rattle.std.proofs.Common.{◌≡◌, Bool, true, false, ◌||◌, Some, None, Option, [], ◌∷◌, ◌++◌, refl, ap, ap₂, sym, ◌∙◌, cond}
 use Rattle.std.proofs.lemmas.Bool.{and_parts}
 use Rattle.std.specs.List.{list_all}
 use Rattle.ml_base.specs.Bytes.{Text, lower}
 use Rattle.ml_base.specs.Splits.{has_byte}
-use Rattle.ml_base.specs.declared.address.AddressFault.{AddressFault}
-use Rattle.ml_base.specs.Address.{is_host_byte, address_check, address_of, as_address, are_parts, make_address, before_at, past_at}
+use Rattle.ml_base.specs.Address.{is_host_byte, address_of, as_address, are_parts, make_address, before_at, past_at}
 use Rattle.ml_base.proofs.AddressParts.{who_parts}
 use Rattle.ml_base.proofs.SplitLaws.{last_written}
 use Rattle.ml_base.proofs.Addresses.{no_sign}

@@ -1,12 +1,12 @@
 -- The proof that every step leaves what was there before it.
-use Rattle.std.proofs.Common.{◌≡◌, ◌≢◌, ℕ, ◌+◌, ◌-◌, ◌≤◌, ◌==◌, ◌||◌, ◌⊎◌, inl, inr, ⊎_elim, Bool, true, false, not, cond, is_some, if◌then◌else◌, List, [], ◌∷◌, ◌++◌, filter, Option, Some, None, refl, sym, ap, subst, ◌∙◌, codes, arith}
+use Rattle.std.proofs.Common.{◌≡◌, ◌≢◌, ℕ, ◌+◌, ◌-◌, ◌≤◌, ◌==◌, ◌||◌, inl, inr, Bool, true, false, not, cond, if◌then◌else◌, List, [], ◌∷◌, ◌++◌, filter, Option, Some, None, refl, sym, ap, subst, ◌∙◌, codes, arith}
 use Rattle.std.proofs.lemmas.Bool.{eqb-true, eqb-false, false≢true}
 use Rattle.std.proofs.lemmas.List.{append-nil, append_assoc}
 use Rattle.std.specs.Fmt.{decimal}
 use Rattle.std.specs.List.{AllByRecursion, fold, list_any}
 use Rattle.ml_base.specs.Bytes.{Text}
 use Rattle.ml_base.specs.Address.{address_of}
-use Rattle.ml_base.specs.Drawn.{Drawn, Drawing, thing_of, with_next}
+use Rattle.ml_base.specs.Drawn.{Drawn, Drawing, with_next}
 use Rattle.ml_base.specs.declared.names.Set.{Set}
 use Rattle.ml_base.specs.declared.names.Set.TheVariants as sets
 use Rattle.ml_address.specs.Reading.{request_of}
@@ -27,7 +27,7 @@ use Rattle.ml_plain.specs.Bouncing as bouncing
 use Rattle.ml_plain.specs.Lasting.{AreLeft, IsAnswered, Lasts, LawLasting, StepLeaves, TakesEntry, TakesHeld}
 use Rattle.ml_plain.specs.Mailing.{is_cookie}
 use Rattle.ml_plain.specs.Managing as managing
-use Rattle.ml_plain.specs.Plain.{Plain, added, first_row, is_archive_full, is_full, is_in, is_worn, removed, with_ledger_of}
+use Rattle.ml_plain.specs.Plain.{Plain, added, is_archive_full, is_full, is_in, is_worn, removed, with_ledger_of}
 use Rattle.ml_plain.specs.Posting as posting
 use Rattle.ml_plain.specs.Steps as steps
 use Rattle.ml_plain.specs.Timing as timing

@@ -20,7 +20,7 @@ use Rattle.ml_address.specs.declared.Word.{Word}
 use Rattle.ml_address.specs.declared.Word.TheVariants as words
 use Rattle.ml_address.specs.Cookies.{cookie, cookie_message, letters}
 use Rattle.ml_address.specs.Hmac.{hmac}
-use Rattle.ml_address.specs.Requests.{PlainWho, PlainRequest, Confirm, Accept, Reject, set_front, word_text, is_who}
+use Rattle.ml_address.specs.Requests.{PlainWho, PlainRequest, Confirm, Accept, set_front, word_text, is_who}
 use Rattle.ml_address.specs.Writing.{request_text, rest_text, signed_text, ticket_text}
 use Rattle.ml_digest.proofs.Apart.{local_byte, host_byte}
 use Rattle.ml_plain.specs.Bouncing.{address_named}

@@ -1,7 +1,7 @@
 -- What is pending, filled with one byte, is an image that a crash may leave.
 use Rattle.std.proofs.Common.{◌≡◌, ◌⊎◌, inl, inr, ⊎_elim, ◌<◌, ◌≤◌, ℕ, ◌+◌, ◌-◌, zero, suc, min, Bool, true, false, cond, not, ◌&&◌, ◌||◌, List, [], ◌∷◌, ◌++◌, length, take, drop, get_or, replicate, Option, Some, None, refl, sym, ◌∙◌, ap, arith}
 use Rattle.std.specs.Prelude.{nat_lt, nat_le}
-use Rattle.std.proofs.lemmas.Bool.{cases_lt, lt-ltb, le-leb, le-ltb, lt-leb, ltb-true, leb-true, eq-eqb, and_parts, or_cases, both_ways, not-true}
+use Rattle.std.proofs.lemmas.Bool.{cases_lt, lt-ltb, le-leb, le-ltb, lt-leb}
 use Rattle.std.proofs.lemmas.List.{ext_get_or, places, length-replicate, get_or-replicate}
 use Rattle.ml_base.specs.declared.names.Name.{Name}
 use Rattle.ml_site.specs.Disk.{Contents, Part, Range, Cut, File, MayLeave, IsSettledAt, IsSettledFile}

@@ -1,5 +1,5 @@
 -- What is read bucket by bucket: all members of a set, or how many they are.
-use Rattle.std.proofs.Common.{◌≡◌, ℕ, ◌+◌, ◌-◌, ◌^◌, ◌≤◌, true, List, [], ◌++◌, length, min, Option, Some, Result, Ok, Err, IfOk, refl, sym, ◌∙◌, subst, arith, inl, inr}
+use Rattle.std.proofs.Common.{◌≡◌, ℕ, ◌+◌, ◌-◌, ◌^◌, ◌≤◌, true, List, [], ◌++◌, length, min, Option, Some, Result, Ok, Err, IfOk, refl, sym, ◌∙◌, subst, arith, inr}
 use Rattle.std.specs.List.Sorted.{IsPermutation, IsSortedByKey}
 use Rattle.ml_base.specs.Dir.{Dir}
 use Rattle.ml_base.specs.Sorted.{byte_cmp}
@@ -14,7 +14,7 @@ use Rattle.ml_subs.specs.declared.member_list.Member.{Member}
 use Rattle.ml_subs.specs.Members.{member_key}
 use Rattle.ml_subs.specs.Buckets.{IsBucketFile}
 use Rattle.ml_base.specs.Bytes.{Text}
-use Rattle.ml_subs.specs.Subscribers.{AreFiles, file_in, AreBuckets, AreJoined, AreSubscribers, Breaks, IsBadBucket, IsBucketName, IsNoCount, is_of_set, bucket_name, count_name, count_text}
+use Rattle.ml_subs.specs.Subscribers.{AreFiles, file_in, AreBuckets, AreJoined, AreSubscribers, Breaks, IsBucketName, IsNoCount, is_of_set, bucket_name, count_name, count_text}
 use Rattle.ml_base.proofs.DamagedNames.{on_damaged}
 use Rattle.ml_subs.proofs.Rewritten.{count_one, some_one}
 use Rattle.ml_subs.proofs.Represented.{bucket_hashed, bucket_ordered, bucket_own, count_own, broken, made_of, counted_one}
