@@ -24,7 +24,7 @@ pub(crate) trait Feed {
     // The reader of the stream whose items these are.
     ghost reader: { Self → TheItems };
 
-    // The bytes left of that stream, if that is told.
+    // The bytes left of that stream, or None if it doesn't say.
     ghost left: { Self → Option Text };
 
     // How often it has failed.

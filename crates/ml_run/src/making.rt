@@ -29,7 +29,7 @@ use std::alloc::{AllocError, Global};
 /// Makes a list with this configuration and this key on a site, and hands the site back. The list's files are written in one
 /// commit, the store is closed, and `made LOCAL@HOST` is given.
 ///
-/// The status is 0 then. Otherwise a stop line tells why no list is made: 100 if there is a configuration, whatever its bytes, and nothing is
+/// The status is 0 then. Otherwise a stop line says why no list is made: 100 if there is a configuration, whatever its bytes, and nothing is
 /// changed; 71 (out of memory), 75 (the log is damaged) or 111 (the disk failed), after which the list is whole or not there. The status is 73
 /// if the output failed.
 pub fn make<S: Site>(alloc: Global, config: &Config, key: &[u8; 32], site: S) -> (u8, S)
@@ -64,7 +64,7 @@ pub fn make<S: Site>(alloc: Global, config: &Config, key: &[u8; 32], site: S) ->
     }
 }
 
-// The files of a new list, and the line that tells of it.
+// The files of a new list, and the line that says that it is made.
 fn prepared(alloc: Global, config: &Config, key: &[u8; 32]) -> Result<(Txn, Bytes), AllocError>
     ensures puts { IfOk result (λ list. list.0 ≡ first_puts config.now key.now) }
     ensures files { IfOk result (λ list. IsTrue (are_files list.0)) }
@@ -75,7 +75,7 @@ fn prepared(alloc: Global, config: &Config, key: &[u8; 32]) -> Result<(Txn, Byte
     Ok((txn, line))
 }
 
-// The line that tells of a new list.
+// The line that says that a list is made.
 fn made_line(alloc: Global, config: &Config) -> Result<Bytes, AllocError>
     ensures { IfOk result (λ line. line ≡ made_text config.now) }
 {
@@ -110,7 +110,7 @@ fn made<S: Site>(alloc: Global, store: Store<S>, txn: &Txn, line: &[u8]) -> (u8,
     }
 }
 
-// Commits the files of a new list, closes the store, and gives the line that tells of the list.
+// Commits the files of a new list, closes the store, and gives the line that says that it is made.
 fn committed<S: Site>(alloc: Global, store: Store<S>, txn: &Txn, line: &[u8]) -> (u8, S)
     requires files { IsTrue (are_files txn.now) }
     ensures makes { IsTrue S.tells_reads → Makes (IsTrue S.tells_all) result.0 (directory (S.disk (site_of store)).reads) txn.now line.now (S.output (site_of store)) (S.disk result.1).reads (S.output result.1) }
@@ -126,7 +126,7 @@ fn committed<S: Site>(alloc: Global, store: Store<S>, txn: &Txn, line: &[u8]) ->
     }
 }
 
-// Closes the store of a list that is not made, and tells why.
+// Closes the store of a list that is not made, and says why.
 fn unmade<S: Site>(alloc: Global, store: Store<S>, why: Why) -> (u8, S)
     requires { HasPath why }
     ensures { Finishes ⟦<S as Site>⟧ (site_of store) result.1 (Some (None, why)) result.0 0 }

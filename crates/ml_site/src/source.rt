@@ -7,7 +7,7 @@ use crate::Failed;
 
 /// Where bytes come from, like standard input.
 pub trait Source {
-    /// The bytes left to read, if that is told.
+    /// The bytes left to read, or None if it doesn't say.
     ghost left: { Self → Option (List ℕ) };
 
     /// How often a read has failed.
@@ -30,7 +30,7 @@ pub trait Source {
 
 /// A clock.
 pub trait Clock {
-    /// The time that it shows, if that is told.
+    /// The time that it shows, or None if it doesn't say.
     ghost shows: { Self → Option ℕ };
 
     /// How often it has failed.
