@@ -52,6 +52,7 @@ use Rattle.ml_plain.proofs.Silent.{IsOfNoDigest, Silent, silent_same, silent_the
 use Rattle.ml_plain.proofs.Steps.{first_row_all}
 use Rattle.ml_plain.proofs.LeavingLaw.{fold_same, if_wanted}
 use Rattle.ml_plain.proofs.Deliveries.{if_worn}
+use Rattle.ml_plain.proofs.Lasting.{if_there}
 
 -- deliveries
 
@@ -184,9 +185,6 @@ of_silent p q now below s = inr (record {
   same = s.mark;
   entries = λ i. ap (filter (λ e. bytes_eq e.thing.path.base (digest_path p.config i).base)) (made_of p q s.outs below s.all) ∙ none_for p.config i p.queue.next s.outs s.bases;
 })
-
-abbrev if_there : ℕ → Plain → Bool → Plain × Reply
-if_there id p there = if there then (record p { queue = without_id id p.queue }, answers.dequeued) else (p, answers.noentry)
 
 sent_makes : (id : ℕ) (p : Plain) (there : Bool) (now : ℕ) → Below p → Makes p (if_there id p there).0 now
 sent_makes id p true now below =

@@ -443,7 +443,7 @@ without_all id (e ∷ es) = go (e.number == id) refl (without_all id es)
     go true is more = more
     go false is more = (eqb-false e.number id is, more)
 
-abbrev if_there : ℕ → Plain → Bool → Plain × Reply
+abbrev pub if_there : ℕ → Plain → Bool → Plain × Reply
 if_there id p there = if there then (record p { queue = without_id id p.queue }, answers.dequeued) else (p, answers.noentry)
 
 sent_leaves : (p : Plain) (item : Item) (id : ℕ) (there : Bool) → item.act ≡ Sent id → StepLeaves p item (if_there id p there).0 (if_there id p there).1
