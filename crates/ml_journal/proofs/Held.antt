@@ -1,12 +1,13 @@
 -- What is known of every store that is held.
-use Rattle.std.proofs.Common.{◌≤◌, IsTrue, length, arith}
+use Rattle.std.proofs.Common.{◌≤◌, IsTrue, length, arith, ◌≡◌, true, false, Option, Some, None, refl}
 use Rattle.std.specs.Prelude.{IsSome}
+use Rattle.ml_base.specs.Dir.{Dir}
 use Rattle.ml_site.specs.Disk.{IsAtRest}
 use Rattle.ml_site.specs.declared.site.Site.{Ghosts}
 use Rattle.ml_journal.specs.Log.{directory}
 use Rattle.ml_journal.specs.Newest.{with_newest}
 use Rattle.ml_journal.specs.Rows.{Rests}
-use Rattle.ml_journal.specs.Stores.{site_of}
+use Rattle.ml_journal.specs.Stores.{site_of, the_dir}
 use Rattle.ml_journal.specs.declared.store.Store.{Store}
 use Rattle.ml_journal.proofs.Crash.{rests_size}
 use Rattle.ml_journal.proofs.Fields.{rests_of, whole}
@@ -27,3 +28,7 @@ module _ {S : Type 0} {told : Ghosts S} (store : Store S told) where
   -- its log is at most LAY bytes long
   pub held_short : IsTrue told.tells_reads → length (told.disk (site_of store)).reads.log ≤ 8_388_608
   held_short r = omega (arith, store.small, rests_size (told.disk store.site).reads.log store.end (with_newest store.newest.puts) (held_rests r))
+
+pub some_dir : (d : Option Dir) → IsSome d → d ≡ Some (the_dir d)
+some_dir None some = let h : false ≡ true = some in cc
+some_dir (Some d) some = refl
