@@ -96,6 +96,9 @@ lines_joined (b ∷ bs) = go (b == 10) (lines_joined bs)
 abbrev pub line_of : ℕ → Bool → List Text → List Text
 line_of b is more = cond is ((b ∷ []) ∷ more) (onto_line b more)
 
+abbrev pub has_lf : Text → Bool
+has_lf text = has_byte 10 text
+
 -- the bytes up to and with the first LF are a line
 pub line_written : (line rest : Text) → has_byte 10 line ≡ false → lines (line ++ 10 ∷ rest) ≡ (line ++ 10 ∷ []) ∷ lines rest
 line_written [] rest e = refl

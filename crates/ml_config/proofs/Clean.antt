@@ -11,15 +11,12 @@ use Rattle.ml_base.specs.Splits.{has_byte}
 use Rattle.ml_base.specs.declared.address.AddressFault.TheVariants.{NoAt}
 use Rattle.ml_base.proofs.Bools.{both, neither}
 use Rattle.ml_base.proofs.NumberLaws.{all_digits}
-use Rattle.ml_base.proofs.SplitLaws.{last_read}
+use Rattle.ml_base.proofs.SplitLaws.{last_read, has_lf}
 use Rattle.ml_config.specs.Configuration.{IsConfig, is_max, is_prefix, is_prefix_byte, is_prefix_text}
 use Rattle.ml_config.specs.ConfigFile.{Values, flags_text, letter, values_of}
 use Rattle.ml_config.specs.declared.configuration.Config.{Config}
 use Rattle.ml_config.specs.declared.configuration.Flags.{Flags}
 use Rattle.ml_config.proofs.ListAddress.{Checked, has_append, lacks, not_long, parts_ok}
-
-abbrev has_lf : Text → Bool
-has_lf text = has_byte 10 text
 
 local_lf : (b : ℕ) → is_local_byte b ≡ true → (b == 10) ≡ false
 local_lf b h = grind (arith, nat_tests)
