@@ -11,13 +11,14 @@ use Rattle.std.proofs.lemmas.Bool.Decides.{nat_tests}
 use Rattle.std.proofs.lemmas.List.{take_at, drop_at}
 use Rattle.ml_base.specs.Bytes.{Text, lower}
 use Rattle.ml_base.specs.Address.{is_host_byte}
+use Rattle.ml_base.specs.Numbers.{moment_in}
 use Rattle.ml_base.specs.Ranges.{is_moment, is_post_number, is_drawn}
 use Rattle.ml_base.specs.Splits.{has_byte, split_first}
 use Rattle.ml_base.proofs.Bools.{both as parts_of}
 use Rattle.ml_base.proofs.NumberLaws.{all_digits, number_read}
 use Rattle.ml_base.proofs.SplitLaws.{first_written, first_absent, last_written}
 use Rattle.ml_address.specs.Requests.{PlainWho, Signed, PlainRequest, Get, is_who, is_cookie, is_signed, if_post_number}
-use Rattle.ml_address.specs.Reading.{only_if, both, read_both, post_number, ticket_number, moment_number, cookie_letters, who_of, who_after, signature, signed_of, after_word, get_of, answer_of}
+use Rattle.ml_address.specs.Reading.{only_if, both, read_both, post_number, ticket_number, cookie_letters, who_of, who_after, signature, signed_of, after_word, get_of, answer_of}
 use Rattle.ml_address.specs.Writing.{who_text, ticket_text, signed_text, after_underscore}
 use Rattle.ml_address.proofs.Tables.{length-lower}
 use Rattle.ml_base.proofs.AddressParts.{who_parts}
@@ -45,7 +46,7 @@ ticket_read n e =
     let high : n ≤ 1_000_000_000_000_000 = leb-true n 1_000_000_000_000_000 (parts_of (nat_le 1 n) (nat_le n 1_000_000_000_000_000) e).1 in
     ap (option_and_then (only_if is_drawn)) (number_read 1_000_000_000_000_000 n (omega arith) high) ∙ passes is_drawn n e
 
-pub moment_read : (n : ℕ) → is_moment n ≡ true → moment_number (decimal n) ≡ Some n
+pub moment_read : (n : ℕ) → is_moment n ≡ true → moment_in (decimal n) ≡ Some n
 moment_read n e = let low = ltb-true n 253_402_300_800 e in number_read 253_402_300_799 n (omega arith) (omega arith)
 
 -- a byte that isn't a digit isn't in a number
@@ -107,7 +108,7 @@ signed_read s e =
     let front : take 20 (s.cookie ++ tail) ≡ s.cookie = take_at s.cookie tail 20 twenty in
     let after : drop 20 (s.cookie ++ tail) ≡ tail = drop_at s.cookie tail 20 twenty in
     ap signed_of (append_assoc (decimal s.time) (46 ∷ s.cookie) tail)
-    ∙ ap (option_and_then (λ (parts : Text × Text). option_and_then (λ time. signature time parts.1) (moment_number parts.0)))
+    ∙ ap (option_and_then (λ (parts : Text × Text). option_and_then (λ time. signature time parts.1) (moment_in parts.0)))
     (first_written 46 (decimal s.time) (s.cookie ++ tail) (no_byte_of 46 s.time refl (moment_small s.time one.0)))
     ∙ ap (option_and_then (λ time. signature time (s.cookie ++ tail))) (moment_read s.time one.0)
     ∙ ap₂ (λ c w. both (λ cookie who. record { time = s.time; cookie = cookie; who = who }) (cookie_letters c) (who_after w)) front after

@@ -3,6 +3,7 @@ ghost use Rattle.std.specs.Prelude.{◌≡◌, ◌≢◌, nat_lt, ◌==◌, ◌<
 ghost use Rattle.std.specs.Option.{option_map, option_copied, option_and_then};
 ghost use Rattle.std.specs.List.{list_all};
 ghost use Rattle.std.specs.Str.{str_eq_ignore_ascii_case};
+ghost use Rattle.ml_base.specs.Numbers.{moment_in};
 ghost use Rattle.ml_base.specs.Splits.{split_first};
 ghost use Rattle.ml_address.specs.Requests as requests;
 ghost use Rattle.ml_address.specs.Requests.{Other};
@@ -326,7 +327,7 @@ fn ticket_number(text: &[u8]) -> Option<u64>
 }
 
 fn moment_number(text: &[u8]) -> Option<u64>
-    ensures { result ≡ spec.moment_number text.now }
+    ensures { result ≡ moment_in text.now }
 {
     number_within(LAST_MOMENT, text)
 }

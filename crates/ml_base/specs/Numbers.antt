@@ -18,6 +18,10 @@ digits_from limit count n (b ∷ bs) =
 abbrev pub number_within : ℕ → Text → Option ℕ
 number_within limit text = digits_from limit 0 0 text
 
+-- the moment that a text spells in decimal: seconds since 1970, before the year 10000
+abbrev pub moment_in : Text → Option ℕ
+moment_in text = number_within 253_402_300_799 text
+
 -- the number that `0`, or 1 to 18 digits without a leading zero, spell
 abbrev pub number_of : Text → Option ℕ
 number_of text = number_within 999_999_999_999_999_999 text

@@ -3,6 +3,7 @@
 
 mod address;
 mod bytes;
+mod cuts;
 mod files;
 mod hashing;
 mod key_order;
@@ -25,6 +26,7 @@ mod splits;
 
 pub use address::{Address, AddressError, AddressFault, is_host_byte, is_kept, make_address};
 pub use bytes::{Bytes, copied};
+pub use cuts::{MAX_POSTS, cut_len};
 pub use files::{Files, FilesError};
 pub use hashing::{hash, hash_lower};
 pub use key_order::{compare_keys, is_below};

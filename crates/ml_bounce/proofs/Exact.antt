@@ -11,12 +11,13 @@ use Rattle.std.proofs.lemmas.Slice.Eq.{bytes_eq-Decides}
 use Rattle.ml_base.specs.Address.{IsAddress}
 use Rattle.ml_base.specs.Bytes.{Text, lower, is_empty}
 use Rattle.ml_base.specs.Netstrings.{ns, netstring_at}
+use Rattle.ml_base.specs.Numbers.{moment_in}
 use Rattle.ml_base.specs.Sorted.{byte_cmp, is_sorted}
 use Rattle.ml_base.specs.Splits.{ns_row, AreShort}
 use Rattle.ml_base.proofs.Addresses.{address_short}
 use Rattle.ml_base.proofs.Netstrings.{netstring_written, netstring_read}
 use Rattle.ml_rows.specs.Rows.{both_of, row_of, EachFrom, netstrings_at}
-use Rattle.ml_rows.specs.Values.{moment_in, address_in, comma_text, comma_numbers}
+use Rattle.ml_rows.specs.Values.{address_in, comma_text, comma_numbers}
 use Rattle.ml_rows.proofs.RowLaws.{one_some, none_some, only_read, only_there, made_read, both_read, both_there, netstrings_read, netstrings_written, row_read, row_written, four}
 use Rattle.ml_rows.proofs.ValueLaws.{moment_read, moment_written, address_is, address_there, commas_read, commas_written, comma_length}
 use Rattle.ml_bounce.specs.Files.{IsLedgerFile, IsEntry, ledger_place, content_text, entry_text, stage_text, is_stage, are_distinct}

@@ -5,9 +5,10 @@ use Rattle.std.specs.Ordering.{is_lt}
 use Rattle.std.specs.Str.{bytes_eq}
 use Rattle.ml_base.specs.Bytes.{Text, lower, is_empty}
 use Rattle.ml_base.specs.Netstrings.{netstring_at}
+use Rattle.ml_base.specs.Numbers.{moment_in}
 use Rattle.ml_base.specs.Sorted.{byte_cmp, is_sorted}
 use Rattle.ml_rows.specs.Rows.{only_if, both_of, row_of, netstrings_at}
-use Rattle.ml_rows.specs.Values.{moment_in, address_in, comma_numbers}
+use Rattle.ml_rows.specs.Values.{address_in, comma_numbers}
 use Rattle.ml_bounce.specs.Ledger.{Stage, Unwarned, Warned, WarnFailed, Probed, LedgerEntry, Ledger, entry_key, is_blank_at}
 use Rattle.ml_bounce.specs.Files.{are_distinct, ledger_place}
 

@@ -1,7 +1,7 @@
 -- What the words of `make` mean: the configuration and the key that they give.
 use Rattle.std.specs.Prelude.{◌≡◌, ℕ, Bool, true, false, List, [], ◌∷◌, ◌++◌, map, codes, find, Option, Some, None, Result, Ok, Err, if◌then◌else◌}
 use Rattle.std.specs.Str.{bytes_eq}
-use Rattle.std.specs.Option.{option_and_then, option_map_or}
+use Rattle.std.specs.Option.{option_map_or}
 use Rattle.std.specs.Result.{result_ok}
 use Rattle.std.specs.declared.string.String.{String}
 use Rattle.std.specs.String.{string_bytes}
@@ -11,6 +11,7 @@ use Rattle.clap.specs.declared.parser.matches.ValueSource.TheVariants.{CommandLi
 use Rattle.hex.specs.Hex.{decode_sized}
 use Rattle.ml_base.specs.Bytes.{Text}
 use Rattle.ml_base.specs.Numbers.{number_of}
+use Rattle.ml_base.specs.Options.{◌>>=◌}
 use Rattle.ml_config.specs.Configuration.{config_of, is_prefix_text}
 use Rattle.ml_config.specs.Make.{make_app}
 use Rattle.ml_config.specs.declared.configuration.Config.{Config}
@@ -21,11 +22,6 @@ use Rattle.ml_config.specs.declared.words.ConfigError.TheVariants.{Usage}
 -- the bytes of every word
 abbrev pub texts : {Z : Type 0} → List (String Z) → List Text
 texts words = map string_bytes words
-
--- the second step, if the first gave a value
-infixl 10 ◌>>=◌
-abbrev pub ◌>>=◌ : {A B : Type 0} → Option A → (A → Option B) → Option B
-o >>= f = option_and_then f o
 
 -- whether a value came from the words, and isn't a default
 abbrev pub is_from_words : Option ValueSource → Bool

@@ -3,14 +3,10 @@ use Rattle.std.specs.Prelude.{◌==◌, length, take, drop, if◌then◌else◌,
 use Rattle.std.specs.Str.{bytes_eq}
 use Rattle.std.specs.Option.{option_and_then}
 use Rattle.ml_base.specs.Bytes.{Text, line_feed}
+use Rattle.ml_base.specs.Options.{◌>>=◌}
 use Rattle.ml_base.specs.Splits.{split_first}
 use Rattle.ml_config.specs.ConfigFile.{Values}
 use Rattle.ml_config.specs.declared.reading.Lines.{Lines}
-
--- the second step, if the first gave a value
-infixl 10 ◌>>=◌
-abbrev pub ◌>>=◌ : {A B : Type 0} → Option A → (A → Option B) → Option B
-o >>= f = option_and_then f o
 
 -- the text after a name, if it begins with that name
 abbrev pub after : Text → Text → Option Text

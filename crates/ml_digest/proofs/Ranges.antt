@@ -1,11 +1,11 @@
 -- The range of posts that a due digest has, as the code counts it.
 use Rattle.std.proofs.Common.{◌≡◌, ◌<◌, ◌+◌, ◌-◌, ℕ, Bool, true, false, cond, not, List, [], ◌∷◌, length, take, sum, Option, Some, None, refl, sym, ap, ap₂, ◌∙◌, subst, arith, ◌≤◌, ◌==◌, ◌&&◌, ◌||◌}
-use Rattle.std.specs.Prelude.{nat_lt, nat_le}
-use Rattle.std.proofs.lemmas.Bool.{leb-true, ne_eqb}
+use Rattle.std.specs.Prelude.{nat_le}
+use Rattle.std.proofs.lemmas.Bool.{ne_eqb}
 use Rattle.std.proofs.lemmas.List.{take_all}
 use Rattle.std.proofs.lemmas.Bool.{and_parts, false≢true}
 use Rattle.ml_base.specs.Bytes.{is_empty}
-use Rattle.ml_base.specs.Cuts.{within, one_or_within}
+use Rattle.ml_base.specs.Cuts.{one_or_within}
 use Rattle.ml_rows.specs.Longest.{IsLongest}
 use Rattle.ml_rows.proofs.CutLaws.{cut_is, cut_some}
 use Rattle.ml_rows.proofs.RowLaws.{one_some, none_some}
@@ -46,21 +46,6 @@ due_range last oldest now sizes range e = go (is_due sizes oldest now) refl
     go true is =
         let same = one_some (range_of last sizes) range (sym (ap (λ t. cond t (Some (range_of last sizes)) None) is) ∙ e) in
         subst (λ r. IsNextRange last sizes r) same (next_range last sizes (filled sizes (and_parts (not (is_empty sizes)) _ is).0))
-
--- how many sizes the loop takes
-abbrev within_count : ℕ → ℕ → List ℕ → ℕ
-within_count count room xs = length (within own_size count room xs)
-
-pub stops_many : (count room : ℕ) (xs : List ℕ) → count ≡ 0 → within_count count room xs ≡ 0
-stops_many count room [] none = refl
-stops_many count room (x ∷ xs) none = ap (λ c. length (cond (nat_lt 0 c && nat_le x room) (x ∷ within own_size (count - 1) (room - x) xs) [])) none
-
-pub stops_large : (count room : ℕ) (ys : List ℕ) (x : ℕ) (xs : List ℕ) → ys ≡ x ∷ xs → room < x → within_count count room ys ≡ 0
-stops_large count room ys x xs e large = ap (within_count count room) e ∙ go (nat_lt 0 count && nat_le x room) refl
-  where
-    go : (t : Bool) → (nat_lt 0 count && nat_le x room) ≡ t → length (cond t (x ∷ within own_size (count - 1) (room - x) xs) []) ≡ 0
-    go false is = refl
-    go true is = absurd (let small = leb-true x room (and_parts (nat_lt 0 count) (nat_le x room) is).1 in omega (arith, small, large))
 
 -- the test for no posts, as the code makes it
 empty_by : (xs : List ℕ) → is_empty xs ≡ (length xs == 0)

@@ -1,11 +1,10 @@
 // Decides when a digest is due, and which posts it has.
 ghost use Rattle.std.specs.Prelude.{◌≡◌, ◌==◌, ◌≤◌, ◌<◌, ◌-◌, not, ◌&&◌, ◌||◌, nat_le, length, sum, IfSome, EachIndex, slice_index};
-ghost use Rattle.ml_base.specs.Cuts as cuts;
 ghost use Rattle.ml_digest.specs.Due as words;
 ghost use Rattle.ml_digest.specs.Due.{IsNextRange};
 
 use crate::{Mark, Range};
-use ml_base::age;
+use ml_base::{age, cut_len};
 
 // A digest is due for so many posts, or so many bytes, or a post that is so many seconds old.
 const POSTS: usize = 30;
@@ -15,13 +14,8 @@ const BYTES: u64 = 65_536;
 const SECONDS: u64 = 172_800;
 
 // The most posts and bytes of posts in a digest.
-const MAX_POSTS: usize = 100;
-
-const MAX_BYTES: u64 = 4_194_304;
-
 /// The posts of the digest that is due, or None if none is. `sizes` are the bytes of the first 100 posts after the
 /// mark, or of all if there are fewer, `oldest` is the moment of the first of them, and `now` the current one, both in
-/// seconds since 1970.
 /// seconds since 1970.
 ///
 /// A digest is due if there are 30 posts, or they have 65,536 bytes together, or the first is 172,800 seconds old. It
@@ -38,7 +32,7 @@ pub fn due(mark: &Mark, sizes: &[u64], oldest: u64, now: u64) -> Option<Range>
     }
     Some(Range {
         first: mark.last + 1,
-        last: mark.last + one_or_within(sizes) as u64,
+        last: mark.last + cut_len(sizes) as u64,
     })
 }
 
@@ -63,34 +57,4 @@ fn total(sizes: &[u64]) -> u64
         total += *size;
     }
     total
-}
-
-// How many posts a digest takes; always the first one.
-fn one_or_within(sizes: &[u64]) -> usize
-    ensures value { result ≡ length (cuts.one_or_within (λ size. size) 100 4_194_304 sizes.now) }
-    ensures few { result ≤ 100 }
-{
-    match sizes.split_first() {
-        None => 0,
-        Some((first, rest)) => {
-            if *first > MAX_BYTES {
-                return 1;
-            }
-            1 + within(MAX_POSTS - 1, MAX_BYTES - *first, rest)
-        }
-    }
-}
-
-// How many of the first posts a digest takes: at most `count`, of at most `room` bytes together.
-fn within(count: usize, mut room: u64, sizes: &[u64]) -> usize
-    ensures value { result ≡ length (cuts.within (λ size. size) count room sizes.now) }
-    ensures few { result ≤ count }
-{
-    for (i, size) in sizes.iter().enumerate() {
-        if i >= count || *size > room {
-            return i;
-        }
-        room -= *size;
-    }
-    sizes.len()
 }

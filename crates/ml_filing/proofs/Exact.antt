@@ -12,14 +12,14 @@ use Rattle.std.proofs.lemmas.Fmt.{length-decimal-le}
 use Rattle.ml_base.specs.Address.{IsAddress}
 use Rattle.ml_base.specs.Bytes.{Text}
 use Rattle.ml_base.specs.Netstrings.{ns}
-use Rattle.ml_base.specs.Numbers.{number_within}
+use Rattle.ml_base.specs.Numbers.{moment_in, number_within}
 use Rattle.ml_base.specs.Ranges.{is_post_number}
 use Rattle.ml_base.specs.Sorted.{byte_cmp, is_sorted}
 use Rattle.ml_base.specs.Splits.{ns_row, AreShort}
 use Rattle.ml_base.proofs.Addresses.{address_short}
 use Rattle.ml_base.proofs.NumberLaws.{number_spelled, number_read}
 use Rattle.ml_rows.specs.Rows.{onto, both_of, row_of, EachFrom, netstrings_at}
-use Rattle.ml_rows.specs.Values.{moment_in, address_in, comma_text, comma_numbers}
+use Rattle.ml_rows.specs.Values.{address_in, comma_text, comma_numbers}
 use Rattle.ml_rows.proofs.RowLaws.{one_some, none_some, only_read, only_there, made_read, both_read, both_there, netstrings_read, netstrings_written, row_read, row_written, row_goes_on, four}
 use Rattle.ml_rows.proofs.ValueLaws.{moment_read, moment_written, address_is, address_there, line_read, line_written, commas_read, commas_written, comma_length}
 use Rattle.ml_filing.specs.Archive.{IsIndexFile, IsNumberFile, IsEntry, entry_text}

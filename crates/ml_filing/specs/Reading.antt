@@ -4,11 +4,11 @@ use Rattle.std.specs.List.{list_all}
 use Rattle.std.specs.Option.{option_and_then}
 use Rattle.std.specs.Ordering.{nat_cmp}
 use Rattle.ml_base.specs.Bytes.{Text, line_feed}
-use Rattle.ml_base.specs.Numbers.{number_within}
+use Rattle.ml_base.specs.Numbers.{moment_in, number_within}
 use Rattle.ml_base.specs.Ranges.{is_post_number}
 use Rattle.ml_base.specs.Sorted.{byte_cmp, is_sorted}
 use Rattle.ml_rows.specs.Rows.{only_if, both_of, row_of, netstrings_at}
-use Rattle.ml_rows.specs.Values.{moment_in, address_in, line_number, comma_numbers}
+use Rattle.ml_rows.specs.Values.{address_in, line_number, comma_numbers}
 use Rattle.ml_filing.specs.Threads.{Thread, thread_place}
 use Rattle.ml_filing.specs.declared.posts.Entry.{Entry}
 

@@ -2,7 +2,7 @@
 ghost use Rattle.std.specs.Prelude.{◌≡◌, ◌<◌, ◌≤◌, ◌/◌, ◌==◌, true, List, find, length, take, IsTrue, IfErr, IfOk, IfSome, IfNone, OnOk};
 ghost use Rattle.std.specs.List.{AllByRecursion};
 ghost use Rattle.std.specs.Option.{option_copied};
-ghost use Rattle.ml_base.specs.Cuts.{within, one_or_within};
+ghost use Rattle.ml_base.specs.Cuts.{one_or_within};
 ghost use Rattle.ml_base.specs.Dir.{Dir};
 ghost use Rattle.ml_base.specs.PartErrors.{OnDamaged};
 ghost use Rattle.ml_base.specs.ReadFiles.{IsReading, NamesDamaged};
@@ -15,13 +15,8 @@ ghost use Rattle.ml_filing.specs.declared.posts.Post.{Post as ThePost};
 use crate::files::read_index;
 use crate::reading::entry_for;
 use crate::{Entries, Entry};
-use ml_base::{Files, Name, Numbers, PartError, Row};
+use ml_base::{Files, Name, Numbers, PartError, Row, cut_len};
 use std::alloc::{AllocError, Global};
-
-// The most posts that one answer has, and the most bytes together if it has more than one post.
-pub(crate) const MAX_POSTS: usize = 100;
-
-const MAX_BYTES: u64 = 4_194_304;
 
 /// An index that was read.
 #[derive(Drop)]
@@ -132,41 +127,6 @@ pub(crate) fn sizes_of<F: Files>(
         rest = more;
     }
     Ok(sizes)
-}
-
-// How many of a row of sizes are at most `count` and fit into `room` together.
-fn within_len(count: usize, room: u64, sizes: &[u64]) -> usize
-    ensures value { result ≡ length (within (λ s. s) count room sizes.now) }
-    ensures few { result ≤ length sizes.now }
-{
-    let mut room = room;
-    let mut left = count;
-    let mut taken = 0;
-    let mut rest = sizes;
-    while let [size, more @ ..] = rest {
-        if left == 0 || *size > room {
-            return taken;
-        }
-        left -= 1;
-        room -= *size;
-        taken += 1;
-        rest = more;
-    }
-    taken
-}
-
-// How many posts with these sizes one answer has.
-fn cut_len(sizes: &[u64]) -> usize
-    ensures value { result ≡ length (one_or_within (λ s. s) 100 4_194_304 sizes.now) }
-    ensures few { result ≤ length sizes.now }
-{
-    let [first, more @ ..] = sizes else {
-        return 0;
-    };
-    if *first > MAX_BYTES {
-        return 1;
-    }
-    1 + within_len(MAX_POSTS - 1, MAX_BYTES - *first, more)
 }
 
 // As many posts of a row as one answer has, by their sizes.

@@ -10,8 +10,8 @@ ghost use Rattle.ml_filing.specs.Reads.{IsOfRange, IsWithin};
 ghost use Rattle.ml_filing.specs.declared.posts.Post.{Post as ThePost};
 
 use crate::files::read_count;
-use crate::lookups::{Indexes, MAX_POSTS, cut_by, sizes_of};
-use ml_base::{Files, Name, Numbers, PartError};
+use crate::lookups::{Indexes, cut_by, sizes_of};
+use ml_base::{Files, MAX_POSTS, Name, Numbers, PartError};
 use std::alloc::{AllocError, Global};
 
 // Numbers from the first on, as many as `count`.

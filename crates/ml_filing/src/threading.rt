@@ -13,11 +13,11 @@ ghost use Rattle.ml_filing.specs.Threads as threads;
 ghost use Rattle.ml_filing.specs.declared.posts.Post.{Post as ThePost};
 
 use crate::files::{read_count, read_thread_file};
-use crate::lookups::{Indexes, MAX_POSTS, cut_by, entry_among, read_once, sizes_of};
+use crate::lookups::{Indexes, cut_by, entry_among, read_once, sizes_of};
 use crate::subjects::subject_key;
 use crate::threads::{numbers_for, place_of};
 use crate::{Thread, Threads};
-use ml_base::{Bytes, Files, Name, Numbers, PartError};
+use ml_base::{Bytes, Files, MAX_POSTS, Name, Numbers, PartError};
 use std::alloc::Global;
 
 // The key of a post's subject, from its index entry.

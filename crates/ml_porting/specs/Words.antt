@@ -3,14 +3,10 @@ use Rattle.std.specs.Prelude.{ℕ, Option, Some, None, if◌then◌else◌}
 use Rattle.std.specs.Option.{option_and_then}
 use Rattle.ml_base.specs.Bytes.{Text}
 use Rattle.ml_base.specs.Numbers.{number_of}
+use Rattle.ml_base.specs.Options.{◌>>=◌}
 use Rattle.ml_base.specs.Ranges.{is_post_number}
 use Rattle.ml_porting.specs.Questions.{import_first}
 use Rattle.ml_porting.specs.declared.query.MboxQuery.{MboxQuery}
-
--- the second step, if the first gave a value
-infixl 10 ◌>>=◌
-abbrev pub ◌>>=◌ : {A B : Type 0} → Option A → (A → Option B) → Option B
-o >>= f = option_and_then f o
 
 -- the number of a post, from 1 to 99,999,999
 abbrev pub post_number_in : Text → Option ℕ

@@ -12,13 +12,13 @@ use Rattle.std.proofs.lemmas.Fmt.{decimal_nonempty, length-decimal-le}
 use Rattle.ml_base.specs.Address.{IsAddress, address_check, as_address}
 use Rattle.ml_base.specs.declared.address.AddressFault.{AddressFault}
 use Rattle.ml_base.specs.Bytes.{Text, is_empty}
-use Rattle.ml_base.specs.Numbers.{number_within}
+use Rattle.ml_base.specs.Numbers.{moment_in, number_within}
 use Rattle.ml_base.specs.Splits.{has_byte, split_first, onto_line}
 use Rattle.ml_base.proofs.Bools.{both, neither}
 use Rattle.ml_base.proofs.NumberLaws.{all_digits, number_spelled, number_read}
 use Rattle.ml_base.proofs.SplitLaws.{first_read, first_written}
 use Rattle.ml_rows.specs.Rows.{onto}
-use Rattle.ml_rows.specs.Values.{moment_in, address_in, number_line, line_number, comma_text, split_all, all_numbers, comma_numbers}
+use Rattle.ml_rows.specs.Values.{address_in, number_line, line_number, comma_text, split_all, all_numbers, comma_numbers}
 use Rattle.ml_rows.proofs.RowLaws.{one_some, none_some, onto_some}
 
 -- digits contain no byte that is no digit

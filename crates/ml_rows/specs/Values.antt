@@ -1,4 +1,4 @@
--- Texts of values: moments, addresses, a number on a line of its own, and numbers joined by commas.
+-- Texts of values: addresses, a number on a line of its own, and numbers joined by commas.
 use Rattle.std.specs.Prelude.{ℕ, ◌==◌, ◌&&◌, is_ok, List, [], ◌∷◌, ◌++◌, Option, Some, None, if◌then◌else◌}
 use Rattle.std.specs.List.{join_by}
 use Rattle.std.specs.Option.{option_and_then}
@@ -9,10 +9,6 @@ use Rattle.ml_base.specs.Bytes.{Text, is_empty, comma, line_feed}
 use Rattle.ml_base.specs.Numbers.{number_within}
 use Rattle.ml_base.specs.Splits.{split_first, onto_line}
 use Rattle.ml_rows.specs.Rows.{onto}
-
--- the moment that a text spells in decimal: seconds since 1970, before the year 10000
-abbrev pub moment_in : Text → Option ℕ
-moment_in text = number_within 253_402_300_799 text
 
 -- the address that a text is, with its host in lower case
 abbrev pub address_in : Text → Option Text

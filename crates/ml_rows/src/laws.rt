@@ -4,9 +4,10 @@ ghost use Rattle.std.specs.List.{AllByRecursion};
 ghost use Rattle.std.specs.Fmt.{decimal};
 ghost use Rattle.ml_base.specs.Address.{IsAddress};
 ghost use Rattle.ml_base.specs.Bytes.{Text};
+ghost use Rattle.ml_base.specs.Numbers.{moment_in};
 ghost use Rattle.ml_base.specs.Splits.{ns_row, AreShort};
 ghost use Rattle.ml_rows.specs.Rows.{netstrings_at};
-ghost use Rattle.ml_rows.specs.Values.{moment_in, address_in, line_number, number_line, comma_numbers, comma_text};
+ghost use Rattle.ml_rows.specs.Values.{address_in, line_number, number_line, comma_numbers, comma_text};
 
 /// A text is read as exactly the value that it spells: a moment, an address, a number on a line of its own, numbers joined by
 /// commas, and netstrings in a row with whatever follows them.

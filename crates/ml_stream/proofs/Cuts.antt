@@ -5,11 +5,12 @@ use Rattle.std.specs.Option.{option_to_list}
 use Rattle.std.proofs.lemmas.Bool.{eqb-true, eqb-false}
 use Rattle.std.proofs.lemmas.List.{append-nil}
 use Rattle.ml_base.specs.Bytes.{Text}
+use Rattle.ml_base.specs.Numbers.{moment_in}
 use Rattle.ml_plain.specs.declared.Item.{Item}
 use Rattle.ml_stream.specs.declared.reader.Letter.{Letter}
 use Rattle.ml_stream.specs.declared.stream.StreamError.{StreamError}
 use Rattle.ml_stream.specs.declared.stream.StreamError.TheVariants.{Bad, Short, Fault, Memory}
-use Rattle.ml_stream.specs.Stream.{Got, Read, got, and_then, length_at, bytes_at, content_at, comma_at, closed, element_at, item_number_of, moment_of, any_bytes, deliver_at, act_at, elements_at, letter_of, some_item, Broken}
+use Rattle.ml_stream.specs.Stream.{Got, Read, got, and_then, length_at, bytes_at, content_at, comma_at, closed, element_at, item_number_of, any_bytes, deliver_at, act_at, elements_at, letter_of, some_item, Broken}
 use Rattle.ml_stream.specs.Reading.{Stands, EndsEarly, Fails, IsCut, IsHindrance, IsNoItem, IsUnfinished}
 use Rattle.ml_stream.proofs.Locality.{IsLocal, length_local, content_local, element_local}
 use Rattle.ml_stream.proofs.Elements.{own_is, content_short, item_letter, sender_then, recipient_then, message_then}
@@ -144,7 +145,7 @@ breaks_item e p place b letter left bs rest split is next b' =
 
 abbrev number_then : Letter → Got ℕ → Read Item
 number_then letter number =
-    and_then (element_at 12 moment_of number.place number.rest) (λ moment. and_then (act_at letter moment.place moment.rest) (λ act.
+    and_then (element_at 12 moment_in number.place number.rest) (λ moment. and_then (act_at letter moment.place moment.rest) (λ act.
     got (record { number = number.value; moment = moment.value; act = act.value }) act.place act.rest))
 
 abbrev moment_then : Letter → ℕ → Got ℕ → Read Item
@@ -155,18 +156,18 @@ unfolding elements_at
 elements_first e left bs letter p b = breaks_first e left bs (λ t. element_at 12 item_number_of p t) (number_then letter) b
 
 pub elements_second : (e : StreamError) (left : Option Text) (bs rest : Text) (letter : Letter) (p q number : ℕ) → element_at 12 item_number_of p bs ≡ got number q rest
-    → EndsEarly e left rest (λ t. Fails (element_at 12 moment_of q t)) → EndsEarly e left bs (λ t. Fails (elements_at letter p t))
+    → EndsEarly e left rest (λ t. Fails (element_at 12 moment_in q t)) → EndsEarly e left bs (λ t. Fails (elements_at letter p t))
 unfolding elements_at
 elements_second e left bs rest letter p q number is b =
     breaks_then e left bs rest (λ t. element_at 12 item_number_of p t) (number_then letter) number q (element_local 12 item_number_of p) is
-    (breaks_first e left rest (λ t. element_at 12 moment_of q t) (moment_then letter number) b)
+    (breaks_first e left rest (λ t. element_at 12 moment_in q t) (moment_then letter number) b)
 
-pub elements_third : (e : StreamError) (left : Option Text) (bs rest last : Text) (letter : Letter) (p q r number moment : ℕ) → element_at 12 item_number_of p bs ≡ got number q rest → element_at 12 moment_of q rest ≡ got moment r last
+pub elements_third : (e : StreamError) (left : Option Text) (bs rest last : Text) (letter : Letter) (p q r number moment : ℕ) → element_at 12 item_number_of p bs ≡ got number q rest → element_at 12 moment_in q rest ≡ got moment r last
     → EndsEarly e left last (λ t. Fails (act_at letter r t)) → EndsEarly e left bs (λ t. Fails (elements_at letter p t))
 unfolding elements_at
 elements_third e left bs rest last letter p q r number moment is next b =
     breaks_then e left bs rest (λ t. element_at 12 item_number_of p t) (number_then letter) number q (element_local 12 item_number_of p) is
-    (breaks_then e left rest last (λ t. element_at 12 moment_of q t) (moment_then letter number) moment r (element_local 12 moment_of q) next
+    (breaks_then e left rest last (λ t. element_at 12 moment_in q t) (moment_then letter number) moment r (element_local 12 moment_in q) next
     (breaks_first e left last (λ t. act_at letter r t) (λ act. got (record { number = number; moment = moment; act = act.value }) act.place act.rest) b))
 
 -- the parts of a delivery were read in part

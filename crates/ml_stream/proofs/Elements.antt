@@ -7,8 +7,9 @@ use Rattle.std.proofs.Math.Seq.{take-append_seam, drop-append_seam}
 use Rattle.ml_stream.specs.declared.stream.StreamError.{StreamError}
 use Rattle.ml_stream.specs.declared.stream.StreamError.TheVariants.{Bad, Short, Fault, Memory}
 use Rattle.ml_stream.specs.Reading.{Stands, Tells}
-use Rattle.ml_stream.specs.Stream.{Got, Read, got, and_then, length_at, bytes_at, content_at, comma_at, closed, element_at, floor_of, id_of, key_of, any_bytes, member_at, deliver_at, sent_at, floor_at, rekey_at, act_at, elements_at, item_at, item_number_of, moment_of, letter_of, after_letter, some_item}
+use Rattle.ml_stream.specs.Stream.{Got, Read, got, and_then, length_at, bytes_at, content_at, comma_at, closed, element_at, floor_of, id_of, key_of, any_bytes, member_at, deliver_at, sent_at, floor_at, rekey_at, act_at, elements_at, item_at, item_number_of, letter_of, after_letter, some_item}
 use Rattle.ml_stream.specs.declared.reader.Letter.{Letter}
+use Rattle.ml_base.specs.Numbers.{moment_in}
 use Rattle.ml_base.specs.declared.names.Set.{Set}
 use Rattle.ml_base.specs.Bytes.{Text}
 use Rattle.ml_base.specs.Name.{set_of}
@@ -81,12 +82,12 @@ content_ended start limit p n bs left_own buf full ahead left after e s none len
 -- an item, from its elements
 pub item_ok : (letter : Letter) (p p1 p2 p3 : ℕ) (bs r1 r2 r3 : List ℕ) (number moment : ℕ) (act : Act)
     → element_at 12 item_number_of p bs ≡ got number p1 r1
-    → element_at 12 moment_of p1 r1 ≡ got moment p2 r2
+    → element_at 12 moment_in p1 r1 ≡ got moment p2 r2
     → act_at letter p2 r2 ≡ got act p3 r3
     → elements_at letter p bs ≡ got (record { number = number; moment = moment; act = act }) p3 r3
 unfolding elements_at
 item_ok letter p p1 p2 p3 bs r1 r2 r3 number moment act a b d =
-    ap (λ r. and_then r (λ number. and_then (element_at 12 moment_of number.place number.rest) (λ moment. and_then (act_at letter moment.place moment.rest) (λ act.
+    ap (λ r. and_then r (λ number. and_then (element_at 12 moment_in number.place number.rest) (λ moment. and_then (act_at letter moment.place moment.rest) (λ act.
     got (record { number = number.value; moment = moment.value; act = act.value }) act.place act.rest)))) a
     ∙ ap (λ r. and_then r (λ moment. and_then (act_at letter moment.place moment.rest) (λ act. got (record { number = number; moment = moment.value; act = act.value }) act.place act.rest))) b
     ∙ ap (λ r. and_then r (λ act. got (record { number = number; moment = moment; act = act.value }) act.place act.rest)) d

@@ -3,7 +3,7 @@ use Rattle.std.proofs.Common.{◌≡◌, ℕ, suc, ◌+◌, ◌-◌, ◌*◌, �
 use Rattle.std.proofs.lemmas.List.{take-append-drop, length-take-le}
 use Rattle.std.proofs.lemmas.Bool.Decides.{nat_tests}
 use Rattle.ml_base.specs.Bytes.{Text}
-use Rattle.ml_base.specs.Numbers.{is_next_digit}
+use Rattle.ml_base.specs.Numbers.{moment_in, is_next_digit}
 use Rattle.ml_base.specs.Name.{set_of}
 use Rattle.ml_base.specs.Address.{address_of}
 use Rattle.ml_base.specs.declared.names.Set.{Set}
@@ -14,7 +14,7 @@ use Rattle.ml_stream.specs.declared.reader.Letter.{Letter}
 use Rattle.ml_stream.specs.declared.reader.Letter.TheVariants as letters
 use Rattle.ml_stream.specs.declared.stream.StreamError.{StreamError}
 use Rattle.ml_stream.specs.declared.stream.StreamError.TheVariants.{Bad, Short}
-use Rattle.ml_stream.specs.Stream.{Got, Read, got, and_then, length_at, bytes_at, content_at, comma_at, closed, element_at, item_number_of, moment_of, floor_of, id_of, key_of, any_bytes, member_at, deliver_at, act_at, elements_at, item_at, letter_of, after_letter, some_item}
+use Rattle.ml_stream.specs.Stream.{Got, Read, got, and_then, length_at, bytes_at, content_at, comma_at, closed, element_at, item_number_of, floor_of, id_of, key_of, any_bytes, member_at, deliver_at, act_at, elements_at, item_at, letter_of, after_letter, some_item}
 use Rattle.ml_stream.proofs.Elements.{content_full, sender_then, recipient_then, message_then}
 
 -- the bytes that were read, at the beginning: whatever comes after them, the same is got
@@ -154,10 +154,10 @@ pub elements_local : (letter : Letter) (place : ℕ) → IsLocal (λ bs. element
 unfolding elements_at
 elements_local letter place =
     then_local (λ bs. element_at 12 item_number_of place bs)
-    (λ number. and_then (element_at 12 moment_of number.place number.rest) (λ moment. and_then (act_at letter moment.place moment.rest) (λ act. got (record { number = number.value; moment = moment.value; act = act.value }) act.place act.rest)))
+    (λ number. and_then (element_at 12 moment_in number.place number.rest) (λ moment. and_then (act_at letter moment.place moment.rest) (λ act. got (record { number = number.value; moment = moment.value; act = act.value }) act.place act.rest)))
     (element_local 12 item_number_of place) (λ number p.
-    then_local (λ bs. element_at 12 moment_of p bs) (λ moment. and_then (act_at letter moment.place moment.rest) (λ act. got (record { number = number; moment = moment.value; act = act.value }) act.place act.rest))
-    (element_local 12 moment_of p) (λ moment q.
+    then_local (λ bs. element_at 12 moment_in p bs) (λ moment. and_then (act_at letter moment.place moment.rest) (λ act. got (record { number = number; moment = moment.value; act = act.value }) act.place act.rest))
+    (element_local 12 moment_in p) (λ moment q.
     then_local (λ bs. act_at letter q bs) (λ act. got (record { number = number; moment = moment; act = act.value }) act.place act.rest) (act_local letter q) (λ act end. got_local (record { number = number; moment = moment; act = act }) end)))
 
 none_some : (i : Item) → None ≡ Some i → ⊥

@@ -8,7 +8,7 @@ use Rattle.hex.specs.Hex.{encode_lower, lower_digits, IsBytes}
 use Rattle.hex.proofs.HexLemmas.{decode_sized-encode_lower, length-encode_with}
 use Rattle.std.proofs.lemmas.Fmt.{length-decimal-le}
 use Rattle.ml_base.specs.Bytes.{Text}
-use Rattle.ml_base.specs.Numbers.{digits_from, is_next_digit}
+use Rattle.ml_base.specs.Numbers.{moment_in, digits_from, is_next_digit}
 use Rattle.ml_base.specs.Netstrings.{ns}
 use Rattle.ml_base.specs.Name.{set_of, set_word}
 use Rattle.ml_base.specs.declared.names.Set.{Set}
@@ -23,7 +23,7 @@ use Rattle.ml_plain.specs.declared.Act.{Act}
 use Rattle.ml_plain.specs.declared.Act.TheVariants.{Deliver, Timed, Add, Remove, Sent, Rekey, Floor}
 use Rattle.ml_stream.specs.declared.reader.Letter.{Letter}
 use Rattle.ml_stream.specs.declared.reader.Letter.TheVariants as letters
-use Rattle.ml_stream.specs.Stream.{got, and_then, length_at, element_at, item_number_of, moment_of, floor_of, id_of, positive_within, some_positive, key_of, some_key, any_bytes, deliver_at, member_at, act_at, elements_at, item_at, letter_of, after_letter, some_item}
+use Rattle.ml_stream.specs.Stream.{got, and_then, length_at, element_at, item_number_of, floor_of, id_of, positive_within, some_positive, key_of, some_key, any_bytes, deliver_at, member_at, act_at, elements_at, item_at, letter_of, after_letter, some_item}
 use Rattle.ml_plain.specs.Items.{IsItem, IsAct, IsDelivery}
 use Rattle.ml_stream.specs.Writing.{IsTyped, letter, spelled_act, spelled_item}
 use Rattle.ml_stream.proofs.Elements.{content_full, element_ok, comma_some, item_ok, member_ok, deliver_ok, sent_ok, floor_ok, rekey_ok}
@@ -167,7 +167,7 @@ item_written place item rest k a =
     let p2 = p1 + length moment in
     let p3 = p2 + length act in
     let one = element_written 12 (place + 1) item_number_of (decimal item.number) item.number (moment ++ (act ++ rest)) (omega arith) (number_short item.number k.number) (number_read 999_999_999_999 item.number (omega arith) k.number) in
-    let two = element_written 12 p1 moment_of (decimal item.moment) item.moment (act ++ rest) (omega arith) (number_short item.moment (omega (arith, k.moment))) (number_read 253_402_300_799 item.moment (omega arith) (omega (arith, k.moment))) in
+    let two = element_written 12 p1 moment_in (decimal item.moment) item.moment (act ++ rest) (omega arith) (number_short item.moment (omega (arith, k.moment))) (number_read 253_402_300_799 item.moment (omega arith) (omega (arith, k.moment))) in
     let three = act_written p2 item.act rest k.act a in
     let all = item_ok l (place + 1) p1 p2 p3 (number ++ (moment ++ (act ++ rest))) (moment ++ (act ++ rest)) (act ++ rest) rest item.number item.moment item.act one two three in
     let far : p3 ≡ place + suc (length ((number ++ moment) ++ act)) = omega (arith, length-append (number ++ moment) act, length-append number moment) in

@@ -1,7 +1,7 @@
 -- Any bytes are a stream, of exactly one list of items.
 use Rattle.std.proofs.Common.{◌≡◌, ℕ, suc, zero, ◌+◌, ◌-◌, ◌*◌, ◌<◌, ◌≤◌, Bool, true, false, ◌==◌, nat_lt, if◌then◌else◌, List, [], ◌∷◌, length, take, drop, Option, Some, None, Ok, Err, ap, sym, refl, ◌∙◌, arith, length-drop}
 use Rattle.ml_base.specs.Bytes.{Text}
-use Rattle.ml_base.specs.Numbers.{is_next_digit}
+use Rattle.ml_base.specs.Numbers.{moment_in, is_next_digit}
 use Rattle.ml_base.specs.Name.{set_of}
 use Rattle.ml_base.specs.Address.{address_of}
 use Rattle.ml_base.specs.declared.names.Set.{Set}
@@ -11,7 +11,7 @@ use Rattle.ml_plain.specs.declared.Item.{Item}
 use Rattle.ml_stream.specs.declared.reader.Letter.{Letter}
 use Rattle.ml_stream.specs.declared.reader.Letter.TheVariants as letters
 use Rattle.ml_stream.specs.declared.stream.StreamError.TheVariants.{Bad, Short}
-use Rattle.ml_stream.specs.Stream.{Got, Read, got, and_then, length_at, content_at, comma_at, closed, element_at, item_number_of, moment_of, floor_of, id_of, key_of, any_bytes, member_at, add_at, remove_at, deliver_at, sent_at, floor_at, rekey_at, act_at, elements_at, item_at, letter_of, after_letter, some_item, StreamEnd, End, Broken, IsStream}
+use Rattle.ml_stream.specs.Stream.{Got, Read, got, and_then, length_at, content_at, comma_at, closed, element_at, item_number_of, floor_of, id_of, key_of, any_bytes, member_at, add_at, remove_at, deliver_at, sent_at, floor_at, rekey_at, act_at, elements_at, item_at, letter_of, after_letter, some_item, StreamEnd, End, Broken, IsStream}
 use Rattle.ml_stream.proofs.Ahead.{stream_end, stream_err, stream_item}
 
 -- what was got leaves fewer bytes
@@ -109,7 +109,7 @@ elements_shorter : (letter : Letter) (place : ℕ) (bs : Text) → Shorter bs (e
 unfolding elements_at
 elements_shorter letter place bs =
     less_then bs (element_at 12 item_number_of place bs) _ (element_shorter 12 item_number_of place bs) (λ number.
-    long_then number.rest (element_at 12 moment_of number.place number.rest) _ (shorter_is number.rest (element_at 12 moment_of number.place number.rest) (element_shorter 12 moment_of number.place number.rest)) (λ moment.
+    long_then number.rest (element_at 12 moment_in number.place number.rest) _ (shorter_is number.rest (element_at 12 moment_in number.place number.rest) (element_shorter 12 moment_in number.place number.rest)) (λ moment.
     long_then moment.rest (act_at letter moment.place moment.rest) _ (act_longer letter moment.place moment.rest) (λ act. omega arith)))
 
 abbrev Streams : ℕ → Text → Type 0

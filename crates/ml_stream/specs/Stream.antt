@@ -4,7 +4,7 @@ use Rattle.std.specs.Str.{bytes_eq}
 use Rattle.hex.specs.Hex.{decode_sized, encode_lower}
 use Rattle.hex.specs.declared.error.FromHexError.{FromHexError}
 use Rattle.ml_base.specs.Bytes.{Text, colon, comma}
-use Rattle.ml_base.specs.Numbers.{number_within, is_next_digit}
+use Rattle.ml_base.specs.Numbers.{moment_in, number_within, is_next_digit}
 use Rattle.ml_base.specs.Name.{set_of}
 use Rattle.ml_base.specs.declared.names.Set.{Set}
 use Rattle.ml_base.specs.Address.{address_of}
@@ -69,10 +69,6 @@ element_at limit read start bs = and_then (content_at start limit bs) (λ conten
 -- the number of an item
 abbrev pub item_number_of : Text → Option ℕ
 item_number_of text = number_within 999_999_999_999 text
-
--- a moment, in seconds since 1970, before the year 10000
-abbrev pub moment_of : Text → Option ℕ
-moment_of text = number_within 253_402_300_799 text
 
 -- a number that is not 0
 abbrev pub some_positive : Option ℕ → Option ℕ
@@ -161,7 +157,7 @@ act_at letters.Timed place bs = got acts.Timed place bs
 unfoldable pub elements_at : Letter → ℕ → Text → Read Item
 elements_at letter place bs =
     and_then (element_at 12 item_number_of place bs) (λ number.
-    and_then (element_at 12 moment_of number.place number.rest) (λ moment.
+    and_then (element_at 12 moment_in number.place number.rest) (λ moment.
     and_then (act_at letter moment.place moment.rest) (λ act.
     got (record { number = number.value; moment = moment.value; act = act.value }) act.place act.rest)))
 

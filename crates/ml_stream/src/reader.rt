@@ -4,7 +4,8 @@ ghost use Rattle.ml_base.specs.Faults.{Rose, HasCause};
 ghost use Rattle.ml_base.specs.Bytes.{Text};
 ghost use Rattle.ml_base.specs.Name.{set_of};
 ghost use Rattle.ml_base.specs.Address.{address_of};
-ghost use Rattle.ml_stream.specs.Stream.{length_at, content_at, comma_at, element_at, item_number_of, moment_of, positive_within, key_of, any_bytes, add_at, remove_at, deliver_at, sent_at, floor_at, rekey_at, act_at, elements_at, item_at, letter_of};
+ghost use Rattle.ml_base.specs.Numbers.{moment_in};
+ghost use Rattle.ml_stream.specs.Stream.{length_at, content_at, comma_at, element_at, item_number_of, positive_within, key_of, any_bytes, add_at, remove_at, deliver_at, sent_at, floor_at, rekey_at, act_at, elements_at, item_at, letter_of};
 ghost use Rattle.ml_stream.specs.Reading.{Stands, Reads, Steps, EndsEarly, Fails, IsCut, IsNoItem, IsUnfinished};
 ghost use Rattle.ml_plain.specs.Items.{IsAct, IsItem};
 
@@ -202,9 +203,9 @@ impl Reader {
     // An element that holds a moment.
     fn moment<I: Source>(&mut self, alloc: Global, input: &mut I) -> Result<u64, StreamError>
         ensures read { (bs : List ℕ) → Stands self.old.place self.old.ahead (I.left input.old) bs →
-            Reads result self.new.place self.new.ahead (I.left input.new) (element_at 12 moment_of self.old.place bs) }
+            Reads result self.new.place self.new.ahead (I.left input.new) (element_at 12 moment_in self.old.place bs) }
         ensures stops { (bs : List ℕ) → Stands self.old.place self.old.ahead (I.left input.old) bs →
-            IfErr result (λ e. EndsEarly e (I.left input.new) bs (λ t. Fails (element_at 12 moment_of self.old.place t))) }
+            IfErr result (λ e. EndsEarly e (I.left input.new) bs (λ t. Fails (element_at 12 moment_in self.old.place t))) }
         ensures ahead { OnOk result (self.new.ahead ≡ None) }
         ensures limit { IfOk result (λ moment. moment < 253_402_300_800) }
         ensures later { I.faults input.old ≤ I.faults input.new }

@@ -1,16 +1,11 @@
 -- The pages that words name.
 use Rattle.std.specs.Prelude.{ℕ, ◌+◌, ◌-◌, ◌*◌, ◌==◌, ◌&&◌, nat_le, [], ◌∷◌, Option, Some, None, if◌then◌else◌}
 use Rattle.std.specs.Char.{is_ascii_digit}
-use Rattle.std.specs.Option.{option_and_then}
 use Rattle.ml_base.specs.Bytes.{Text}
 use Rattle.ml_base.specs.Numbers.{number_of}
+use Rattle.ml_base.specs.Options.{◌>>=◌}
 use Rattle.ml_web.specs.declared.pages.PageQuery.{PageQuery}
 use Rattle.ml_web.specs.declared.pages.PageQuery.TheVariants as queries
-
--- the second step, if the first gave a value
-infixl 10 ◌>>=◌
-abbrev pub ◌>>=◌ : {A B : Type 0} → Option A → (A → Option B) → Option B
-o >>= f = option_and_then f o
 
 -- the number that two digits spell
 abbrev pub two_in : ℕ → ℕ → Option ℕ

@@ -9,11 +9,11 @@ returns-then-not-is_due-clause-value c =
 
 pub returns-clause-value : goal.returns-clause-value
 returns-clause-value c =
-    due_some c.args.mark.now.last c.args.oldest c.args.now c.args.sizes.now c.is_due.result c.one_or_within.result
-    (c.is_due.ensures ∙ sym (is_due_by c.args.sizes.now c.args.oldest c.args.now c.requires.count)) c.if-not-is_due.false c.one_or_within.ensures.value
+    due_some c.args.mark.now.last c.args.oldest c.args.now c.args.sizes.now c.is_due.result c.cut_len.result
+    (c.is_due.ensures ∙ sym (is_due_by c.args.sizes.now c.args.oldest c.args.now c.requires.count)) c.if-not-is_due.false c.cut_len.ensures.value
 
 pub returns-clause-range : goal.returns-clause-range
 returns-clause-range c =
     due_range c.args.mark.now.last c.args.oldest c.args.now c.args.sizes.now _
-    (sym (due_some c.args.mark.now.last c.args.oldest c.args.now c.args.sizes.now c.is_due.result c.one_or_within.result
-    (c.is_due.ensures ∙ sym (is_due_by c.args.sizes.now c.args.oldest c.args.now c.requires.count)) c.if-not-is_due.false c.one_or_within.ensures.value))
+    (sym (due_some c.args.mark.now.last c.args.oldest c.args.now c.args.sizes.now c.is_due.result c.cut_len.result
+    (c.is_due.ensures ∙ sym (is_due_by c.args.sizes.now c.args.oldest c.args.now c.requires.count)) c.if-not-is_due.false c.cut_len.ensures.value))

@@ -1,6 +1,7 @@
 use Rattle.std.proofs.Common.{◌∙◌, ap, sym, arith, ◌≡◌, subst}
 use Rattle.ml_base.proofs.NumberLaws.{number_spelled}
-use Rattle.ml_stream.specs.Stream.{moment_of, content_at, element_at}
+use Rattle.ml_base.specs.Numbers.{moment_in}
+use Rattle.ml_stream.specs.Stream.{content_at, element_at}
 use Rattle.ml_stream.proofs.Elements.{element_ok}
 use Rattle.ml_stream.specs.Reading.{EndsEarly, Fails}
 use Rattle.ml_stream.specs.declared.stream.StreamError.{StreamError}
@@ -13,7 +14,7 @@ pub returns-clause-read : goal.returns-clause-read
 returns-clause-read g c bs s =
     let h = c.in_ok-text.ensures.read bs s in
     let k = c.in_ok-comma.ensures.read h.0 h.2 in
-    (k.0, element_ok 12 c.args.self.now.place c.content.new.self.place c.comma.new.self.place moment_of bs c.in_ok-text.text h.0 k.0 c.in-Some.value h.1 (ap moment_of (sym c.as_slice.ensures) ∙ sym c.in-Some.ensures) k.1, k.2)
+    (k.0, element_ok 12 c.args.self.now.place c.content.new.self.place c.comma.new.self.place moment_in bs c.in_ok-text.text h.0 k.0 c.in-Some.value h.1 (ap moment_in (sym c.as_slice.ensures) ∙ sym c.in-Some.ensures) k.1, k.2)
 
 pub returns-clause-limit : goal.returns-clause-limit
 returns-clause-limit g c =
@@ -22,18 +23,18 @@ returns-clause-limit g c =
 
 pub returns-in_err-text-clause-stops : goal.returns-in_err-text-clause-stops
 returns-in_err-text-clause-stops g c bs s =
-    at_exit c.from_residual.result (λ (e : StreamError). e ≡ c.in_err-text.field-0.0) (λ (e : StreamError). EndsEarly e (g.I.Source.left c.content.new.input) bs (λ t. Fails (element_at 12 moment_of c.args.self.now.place t))) c.from_residual.ensures.1
-    (λ e is. subst (λ (x : StreamError). EndsEarly x (g.I.Source.left c.content.new.input) bs (λ t. Fails (element_at 12 moment_of c.args.self.now.place t))) (sym is)
-    (breaks_element c.in_err-text.field-0.0 12 c.args.self.now.place moment_of (g.I.Source.left c.content.new.input) bs (c.in_err-text.ensures.stops bs s)))
+    at_exit c.from_residual.result (λ (e : StreamError). e ≡ c.in_err-text.field-0.0) (λ (e : StreamError). EndsEarly e (g.I.Source.left c.content.new.input) bs (λ t. Fails (element_at 12 moment_in c.args.self.now.place t))) c.from_residual.ensures.1
+    (λ e is. subst (λ (x : StreamError). EndsEarly x (g.I.Source.left c.content.new.input) bs (λ t. Fails (element_at 12 moment_in c.args.self.now.place t))) (sym is)
+    (breaks_element c.in_err-text.field-0.0 12 c.args.self.now.place moment_in (g.I.Source.left c.content.new.input) bs (c.in_err-text.ensures.stops bs s)))
 
 pub returns-in_default-clause-stops : goal.returns-in_default-clause-stops
 returns-in_default-clause-stops g c bs s =
     let h = c.in_ok-text.ensures.read bs s in
-    breaks_got (Bad c.args.self.now.place) c.content.new.self.place c.content.new.self.ahead (g.I.Source.left c.content.new.input) bs h.0 (λ t. content_at c.args.self.now.place 12 t) c.in_ok-text.text (λ t. Fails (element_at 12 moment_of c.args.self.now.place t)) (content_local c.args.self.now.place 12) h.1 c.in_ok-text.ensures.ahead h.2 (bad_not c.args.self.now.place)
+    breaks_got (Bad c.args.self.now.place) c.content.new.self.place c.content.new.self.ahead (g.I.Source.left c.content.new.input) bs h.0 (λ t. content_at c.args.self.now.place 12 t) c.in_ok-text.text (λ t. Fails (element_at 12 moment_in c.args.self.now.place t)) (content_local c.args.self.now.place 12) h.1 c.in_ok-text.ensures.ahead h.2 (bad_not c.args.self.now.place)
 
 pub returns-in_err-comma-clause-stops : goal.returns-in_err-comma-clause-stops
 returns-in_err-comma-clause-stops g c bs s =
     let h = c.in_ok-text.ensures.read bs s in
-    at_exit c.from_residual-in_err-comma.result (λ (e : StreamError). e ≡ c.in_err-comma.field-0.0) (λ (e : StreamError). EndsEarly e (g.I.Source.left c.comma.new.input) bs (λ t. Fails (element_at 12 moment_of c.args.self.now.place t))) c.from_residual-in_err-comma.ensures.1
-    (λ e is. subst (λ (x : StreamError). EndsEarly x (g.I.Source.left c.comma.new.input) bs (λ t. Fails (element_at 12 moment_of c.args.self.now.place t))) (sym is)
-    (breaks_comma c.in_err-comma.field-0.0 12 c.args.self.now.place c.content.new.self.place moment_of (g.I.Source.left c.comma.new.input) bs c.in_ok-text.text h.0 c.in-Some.value h.1 (ap moment_of (sym c.as_slice.ensures) ∙ sym c.in-Some.ensures) (c.in_err-comma.ensures.stops h.0 h.2)))
+    at_exit c.from_residual-in_err-comma.result (λ (e : StreamError). e ≡ c.in_err-comma.field-0.0) (λ (e : StreamError). EndsEarly e (g.I.Source.left c.comma.new.input) bs (λ t. Fails (element_at 12 moment_in c.args.self.now.place t))) c.from_residual-in_err-comma.ensures.1
+    (λ e is. subst (λ (x : StreamError). EndsEarly x (g.I.Source.left c.comma.new.input) bs (λ t. Fails (element_at 12 moment_in c.args.self.now.place t))) (sym is)
+    (breaks_comma c.in_err-comma.field-0.0 12 c.args.self.now.place c.content.new.self.place moment_in (g.I.Source.left c.comma.new.input) bs c.in_ok-text.text h.0 c.in-Some.value h.1 (ap moment_in (sym c.as_slice.ensures) ∙ sym c.in-Some.ensures) (c.in_err-comma.ensures.stops h.0 h.2)))
