@@ -9,7 +9,7 @@ ghost use Rattle.ml_plain.specs.Directory.{IsList};
 ghost use Rattle.ml_plain.specs.Plain.{Plain};
 ghost use Rattle.ml_subs.specs.Answers.{puts_if};
 ghost use Rattle.ml_subs.specs.Subscribers.{is_touched};
-ghost use Rattle.ml_acts.specs.Doing.{Alike, Leaves, is_beside_queue, is_entry_of, is_left_by, without_entry};
+ghost use Rattle.ml_acts.specs.Doing.{Alike, RemovesMember, is_beside_queue, is_entry_of, is_left_by, without_entry};
 ghost use Rattle.ml_acts.specs.Damaged.{IsDamaged};
 ghost use Rattle.ml_acts.specs.Found.{FoundToLeave, TellsEntry};
 
@@ -27,8 +27,8 @@ pub fn remove_member<F: Files>(
     set: Set,
     who: &Address,
 ) -> Result<Option<Txn>, PartError>
-    ensures value { IsTrue F.tells → IfOk result (λ answer. (p : Plain) → IsList (F.map files.old) p → Leaves (F.map files.old) set who.now p answer) }
-    ensures apart { IsTrue F.tells → IfOk result (λ answer. (dir : Dir) (p : Plain) → Alike (is_left_by set who.now) (F.map files.old) dir → IsList dir p → Leaves dir set who.now p answer) }
+    ensures value { IsTrue F.tells → IfOk result (λ answer. (p : Plain) → IsList (F.map files.old) p → RemovesMember (F.map files.old) set who.now p answer) }
+    ensures apart { IsTrue F.tells → IfOk result (λ answer. (dir : Dir) (p : Plain) → Alike (is_left_by set who.now) (F.map files.old) dir → IsList dir p → RemovesMember dir set who.now p answer) }
     ensures spared { IsTrue F.tells → (dir : Dir) (p : Plain) → Alike (is_left_by set who.now) (F.map files.old) dir → IsList dir p → IfErr result (λ e. OnDamaged e (λ _. ⊥)) }
     ensures own { IfOk result (λ answer. touches_only is_beside_queue (puts_if answer) ≡ true) }
     ensures left { IfOk result (λ answer. touches_only (is_left_by set who.now) (puts_if answer) ≡ true) }
@@ -48,8 +48,8 @@ pub fn remove_member_with_memo<F: Files>(
     set: Set,
     who: &Address,
 ) -> Result<Option<Txn>, PartError>
-    ensures value { IsTrue F.tells → IfOk result (λ answer. (p : Plain) → IsList (F.map files.old) p → Leaves (F.map files.old) set who.now p answer) }
-    ensures apart { IsTrue F.tells → IfOk result (λ answer. (dir : Dir) (p : Plain) → Alike (is_left_by set who.now) (F.map files.old) dir → IsList dir p → Leaves dir set who.now p answer) }
+    ensures value { IsTrue F.tells → IfOk result (λ answer. (p : Plain) → IsList (F.map files.old) p → RemovesMember (F.map files.old) set who.now p answer) }
+    ensures apart { IsTrue F.tells → IfOk result (λ answer. (dir : Dir) (p : Plain) → Alike (is_left_by set who.now) (F.map files.old) dir → IsList dir p → RemovesMember dir set who.now p answer) }
     ensures spared { IsTrue F.tells → (dir : Dir) (p : Plain) → Alike (is_left_by set who.now) (F.map files.old) dir → IsList dir p → IfErr result (λ e. OnDamaged e (λ _. ⊥)) }
     ensures own { IfOk result (λ answer. touches_only is_beside_queue (puts_if answer) ≡ true) }
     ensures left { IfOk result (λ answer. touches_only (is_left_by set who.now) (puts_if answer) ≡ true) }

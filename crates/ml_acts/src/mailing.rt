@@ -68,7 +68,7 @@ pub(crate) fn send_out<F: Files>(alloc: Global, files: &mut F, out: &Out) -> Res
 }
 
 // The list of one address.
-fn one(alloc: Global, who: &Address) -> Result<AddressList, AllocError>
+fn list_of_one(alloc: Global, who: &Address) -> Result<AddressList, AllocError>
     ensures value { IfOk result (λ to. to ≡ who.now ∷ []) }
     ensures sorted { IfOk result (λ to. is_sorted byte_cmp key to ≡ true) }
 {
@@ -110,7 +110,7 @@ pub fn mail_to<F: Files>(
 {
     let body = mail_body(alloc, config, mail, now)?;
     let way = reply_path(alloc, config)?;
-    let to = one(alloc, to)?;
+    let to = list_of_one(alloc, to)?;
     send(alloc, files, way, body, to)
 }
 

@@ -17,7 +17,7 @@ use crate::mailing::send_out;
 use ml_address::Path;
 use ml_base::{Bytes, Files, PartError, Set, Txn};
 use ml_queue::Out;
-use ml_subs::{Spelling, all_again};
+use ml_subs::{Spelling, all_with_memo};
 use std::alloc::Global;
 use std::marker::Model;
 
@@ -48,7 +48,7 @@ impl MailMemo {
 }
 
 // The members of the set list: read now, or those of before if the files read the same.
-fn members_again<F: Files>(
+fn members_with_memo<F: Files>(
     alloc: Global,
     files: &mut F,
     before: Option<Spelling>,
@@ -62,7 +62,7 @@ fn members_again<F: Files>(
     ensures names { NamesDamaged ⟦<F as Files>⟧ (λ name. is_bucket sets.List name ≡ true) (IsDamaged (F.map files.old)) result }
     ensures reads { IsReading ⟦<F as Files>⟧ files.old files.new result }
 {
-    all_again(alloc, files, Set::List, before)
+    all_with_memo(alloc, files, Set::List, before)
 }
 
 /// Puts a body into the queue, for the members of the set list and under a path: the puts that do it. It reads the set's files without its
@@ -83,7 +83,7 @@ pub fn send_to_list<F: Files>(
     ensures names { NamesDamaged ⟦<F as Files>⟧ (λ name. is_mailed_by sets.List name ≡ true) (IsDamaged (F.map files.old)) result }
     ensures reads { IsReading ⟦<F as Files>⟧ files.old files.new result }
 {
-    let Spelling { texts, addresses } = members_again(alloc, files, memo.last.take())?;
+    let Spelling { texts, addresses } = members_with_memo(alloc, files, memo.last.take())?;
     let out = Out {
         path: way,
         body,

@@ -152,13 +152,13 @@ fn timed_words(words: &[String]) -> Result<(u64, Act), Why>
     ensures { Asks (timed_of (texts words.now)) result }
 {
     match words {
-        [number] => timed(number.as_str()),
+        [number] => read_timed(number.as_str()),
         _ => Err(Why::Usage),
     }
 }
 
 // A number.
-fn timed(number: &str) -> Result<(u64, Act), Why>
+fn read_timed(number: &str) -> Result<(u64, Act), Why>
     ensures { Asks (timed_of (number.now ∷ [])) result }
 {
     match item_number(number) {

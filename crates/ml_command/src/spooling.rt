@@ -40,13 +40,13 @@ fn read_limit(words: &[String]) -> Limit
 {
     match words {
         [] => Limit::Items(MOST_ITEMS),
-        [option, count] => counted(option.as_str(), count.as_str()),
+        [option, count] => limit_of_words(option.as_str(), count.as_str()),
         _ => Limit::NoCommand,
     }
 }
 
 // What `-m` and the word after it say.
-fn counted(option: &str, count: &str) -> Limit
+fn limit_of_words(option: &str, count: &str) -> Limit
     ensures { asked_by result ≡ spool_of (option.now ∷ count.now ∷ []) }
 {
     if option != "-m" {

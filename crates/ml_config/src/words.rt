@@ -49,12 +49,12 @@ pub fn config_from_words(alloc: Global, words: &[String]) -> Result<(Config, [u8
     ensures ranges { IfOk result (λ made. IsConfig made.0) }
 {
     let matches = matches(alloc, words)?;
-    made(alloc, &matches)
+    make_config(alloc, &matches)
 }
 
 // The configuration and the key that matches give.
 #[tactic(auto, using(crate::proofs::MatchLemmas::first_value_is), unfolding(crate::specs::MakeWords::made_of))]
-fn made(alloc: Global, matches: &ArgMatches) -> Result<(Config, [u8; 32]), ConfigError>
+fn make_config(alloc: Global, matches: &ArgMatches) -> Result<(Config, [u8; 32]), ConfigError>
     ensures made { Gives (made_of (rows_of (found_of matches.now))) result }
     ensures ranges { IfOk result (λ made. IsConfig made.0) }
 {

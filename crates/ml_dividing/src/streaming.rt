@@ -15,7 +15,7 @@ use std::alloc::Global;
 use std::marker::Model;
 
 /// The highest number that the first item of a stream may have: it leaves room for 100,000 items after it.
-pub const LAST_FIRST: u64 = 999_999_900_000;
+pub const LAST_MOVE_START: u64 = 999_999_900_000;
 
 /// What words say of the stream that moves a part: into a set or out of it, from which number on, the set, and the name of the part.
 #[derive(Drop)]
@@ -38,11 +38,11 @@ impl Model for MoveWords {
 }
 
 impl MoveWords {
-    /// The stream that moves the part of a name, numbered from `first` on, or None if `first` is 0 or above `LAST_FIRST`.
+    /// The stream that moves the part of a name, numbered from `first` on, or None if `first` is 0 or above `LAST_MOVE_START`.
     pub fn new(into: bool, first: u64, set: Set, name: Bytes) -> Option<MoveWords>
         ensures { result ≡ move_words into first set name }
     {
-        if 1 <= first && first <= LAST_FIRST {
+        if 1 <= first && first <= LAST_MOVE_START {
             Some(MoveWords {
                 into,
                 first,

@@ -72,7 +72,7 @@ pub fn draw<F: Files>(
 }
 
 // The counter after the thing at `low` is taken out.
-fn moved<F: Files>(
+fn move_counter<F: Files>(
     alloc: Global,
     files: &mut F,
     series: Series,
@@ -114,7 +114,7 @@ pub fn take_out<F: Files>(
         bytes: None,
     })?;
     if counter.low == n {
-        txn.push(moved(alloc, files, series, n, counter.next)?)?;
+        txn.push(move_counter(alloc, files, series, n, counter.next)?)?;
     }
     Ok(txn)
 }

@@ -25,7 +25,7 @@ pub struct Ending {
 
 /// Closes the store of a run, and answers what the run says then. If the close is refused, the reason for that takes the place of
 /// the reason in the line, but lack of memory stays. The number that the line begins with stays too.
-pub fn closed<S: Site>(
+pub fn close_store<S: Site>(
     alloc: Global,
     store: Store<S>,
     line: Option<(Option<u64>, Why)>,
@@ -88,7 +88,7 @@ pub fn finish<S: Site>(
     ensures finishes { Finishes ⟦<S as Site>⟧ (site_of store) result.1 line result.0.status last }
     ensures answered { result.0.answered ≡ answered }
 {
-    match closed(alloc, store, line) {
+    match close_store(alloc, store, line) {
         (Some((number, why)), site) => say(site, number, why, answered),
         (None, site) => (
             Ending {
@@ -101,7 +101,12 @@ pub fn finish<S: Site>(
 }
 
 /// Ends a run whose group was refused: if by the output, no call is made after that; otherwise a stop line says why.
-pub fn refused<S: Site>(site: S, first: Option<u64>, why: Option<Why>, answered: u64) -> (Ending, S)
+pub fn end_refused<S: Site>(
+    site: S,
+    first: Option<u64>,
+    why: Option<Why>,
+    answered: u64,
+) -> (Ending, S)
     requires { (reason : TheWhy) → why ≡ Some reason → HasPath reason }
     ensures refuses { Refuses ⟦<S as Site>⟧ site result.1 first why result.0.status }
     ensures answered { result.0.answered ≡ answered }

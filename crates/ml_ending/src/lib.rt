@@ -6,7 +6,7 @@ mod lines;
 mod refusals;
 mod telling;
 
-pub use closing::{Ending, closed, finish, refused, say, stop};
+pub use closing::{Ending, close_store, end_refused, finish, say, stop};
 pub use lines::{Why, put_status, stop_line};
 pub use refusals::{not_opened, why_of, why_refused};
-pub use telling::told;
+pub use telling::give_text;

@@ -34,7 +34,7 @@ use ml_subs::{AddAnswer, add};
 use std::alloc::Global;
 
 // Does what is to be done about an address that is to join a set.
-pub(crate) fn joined<F: Files>(
+pub(crate) fn do_joining<F: Files>(
     alloc: Global,
     files: &mut F,
     config: &Config,

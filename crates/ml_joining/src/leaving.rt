@@ -32,7 +32,7 @@ use ml_reply::Mail;
 use std::alloc::Global;
 
 // Does what is to be done about an address that is to leave a set.
-pub(crate) fn left<F: Files>(
+pub(crate) fn do_leaving<F: Files>(
     alloc: Global,
     files: &mut F,
     config: &Config,

@@ -28,8 +28,8 @@ ghost use Rattle.ml_joining.specs.Reads.{is_read_to_confirm, is_read_to_subscrib
 ghost use Rattle.ml_joining.specs.Written.{is_written_to_confirm, is_written_to_join};
 
 use crate::deciding::{Facts, confirmed_joining, confirmed_leaving, joining, leaving};
-use crate::joining::joined;
-use crate::leaving::left;
+use crate::joining::do_joining;
+use crate::leaving::do_leaving;
 use crate::subjects::{Subject, find_subject, moderates};
 use ml_acts::{Configured, Moment, is_good as good_cookie, key_of};
 use ml_address::{Who, Word, word_text};
@@ -125,7 +125,7 @@ fn join_found<F: Files>(
         own: x.who.same(sender),
     };
     let operation = joining(config, set, facts);
-    joined(alloc, files, config, now, set, sender, x, operation)
+    do_joining(alloc, files, config, now, set, sender, x, operation)
 }
 
 /// A sender asks that an address leaves a set: the one that he names, or his own. The set is one that requests name. What it does is said
@@ -208,7 +208,7 @@ fn leave_found<F: Files>(
         own: x.who.same(sender),
     };
     let operation = leaving(config, set, facts);
-    left(alloc, files, config, now, set, sender, x, operation)
+    do_leaving(alloc, files, config, now, set, sender, x, operation)
 }
 
 /// A sender confirms that an address joins a set or leaves it, with a cookie for the address. The set is one that requests name. What it
@@ -299,7 +299,7 @@ fn confirm_found<F: Files>(
     ensures act { AnswersLooking (is_written_to_confirm word set x.now.named) ⟦<F as Files>⟧ (is_read_to_confirm word set x.now.named) files.old files.new result }
 {
     let good = is_signed(alloc, files, now.seconds, word, set, time, cookie, &x.who)?;
-    confirmed(alloc, files, config, now, sender, word, set, good, x)
+    do_confirmation(alloc, files, config, now, sender, word, set, good, x)
 }
 
 // Whether letters are a good cookie of a confirmation of an address.
@@ -325,7 +325,7 @@ fn is_signed<F: Files>(
 }
 
 // Does what follows from a confirmation, with letters that are a good cookie or not.
-fn confirmed<F: Files>(
+fn do_confirmation<F: Files>(
     alloc: Global,
     files: &mut F,
     config: &Config,
@@ -347,15 +347,15 @@ fn confirmed<F: Files>(
     match word {
         Word::Uc => {
             let operation = confirmed_leaving(member, good);
-            left(alloc, files, config, now, set, sender, x, operation)
+            do_leaving(alloc, files, config, now, set, sender, x, operation)
         }
         Word::Sc => {
             let operation = confirmed_joining(config.flags.s, member, good);
-            joined(alloc, files, config, now, set, sender, x, operation)
+            do_joining(alloc, files, config, now, set, sender, x, operation)
         }
         Word::Tc => {
             let operation = confirmed_joining(false, member, good);
-            joined(alloc, files, config, now, set, sender, x, operation)
+            do_joining(alloc, files, config, now, set, sender, x, operation)
         }
     }
 }

@@ -88,12 +88,12 @@ pub fn apply_with_memo<F: Files>(
     ensures sound { IsTrue F.tells → (dir : Dir) (q : State) → AlikeFor item.now (F.map files) dir → IsState dir q → IfErr result.1 (λ e. OnDamaged e (λ _. ⊥)) }
     ensures reads { IsReading ⟦<F as Files>⟧ files result.0 result.1 }
 {
-    let (once, answer) = answered(alloc, Once::new(alloc, files), memo, item);
+    let (once, answer) = apply_or_repeat(alloc, Once::new(alloc, files), memo, item);
     (once.into_files(), answer)
 }
 
 // The answer to an item, whether its number is new or not.
-fn answered<F: Files>(
+fn apply_or_repeat<F: Files>(
     alloc: Global,
     files: F,
     memo: &mut Memo,
@@ -115,7 +115,7 @@ fn answered<F: Files>(
     match look_up(alloc, &mut files, item.number) {
         Err(error) => (files, Err(error)),
         Ok(Lookup::Answered(reply)) => (files, Ok((Txn::new(alloc), reply))),
-        Ok(Lookup::New(known)) => count(alloc, files, memo, item, known),
+        Ok(Lookup::New(known)) => apply_counted(alloc, files, memo, item, known),
     }
 }
 
@@ -169,7 +169,7 @@ fn looked_up(floor: u64, found: Found) -> Lookup
 }
 
 // Applies an item that counts, with what was read for its number.
-fn count<F: Files>(
+fn apply_counted<F: Files>(
     alloc: Global,
     files: F,
     memo: &mut Memo,
@@ -224,14 +224,14 @@ fn effect<F: Files>(
         Act::Timed => run_timed(alloc, files, item.moment),
         _ => {
             let mut files = files;
-            let answer = change(alloc, &mut files, memo, item, known);
+            let answer = apply_untimed(alloc, &mut files, memo, item, known);
             (files, answer)
         }
     }
 }
 
 // What an item does that counts and isn't a timed run.
-fn change<F: Files>(
+fn apply_untimed<F: Files>(
     alloc: Global,
     files: &mut F,
     memo: &mut Memo,

@@ -20,7 +20,7 @@ ghost use Rattle.ml_list.specs.Looked.{AlikeForMail, AlikeForRequest, AlikeServe
 ghost use Rattle.ml_list.specs.Reads.{is_of_acts};
 ghost use Rattle.ml_list.specs.Written.{is_delivered_by};
 
-use crate::moderating::moderated;
+use crate::moderating::decide_held;
 use ml_acts::{MailMemo, Moment, is_worn};
 use ml_address::{Request, read_request};
 use ml_base::{Files, PartError, Txn};
@@ -85,21 +85,21 @@ fn unless_worn<F: Files>(
     by_recipient(alloc, files, memo, config, now, sender, recipient, message)
 }
 
-// The configuration. The caller has seen that it is there, and no item changes it. If `found` finds none, the error is `Memory`.
+// The configuration. The caller has seen that it is there, and no item changes it. If `find_config` finds none, the error is `Memory`.
 pub(crate) fn configuration<F: Files>(alloc: Global, files: &mut F) -> Result<Config, PartError>
     ensures value { IsTrue F.tells → IfOk result (λ c. IsConfigFile (F.map files.old config_name) c) }
     ensures range { IfOk result IsConfig }
     ensures none { IfErr result (λ e. OnDamaged e (λ _. ⊥)) }
     ensures reads { IsReading ⟦<F as Files>⟧ files.old files.new result }
 {
-    match found(alloc, files)? {
+    match find_config(alloc, files)? {
         Some(config) => Ok(config),
         None => Err(PartError::Memory),
     }
 }
 
 // The configuration, or None if its file is absent or holds none. From files that tell what they hold, it is the one that they hold.
-fn found<F: Files>(alloc: Global, files: &mut F) -> Result<Option<Config>, PartError>
+fn find_config<F: Files>(alloc: Global, files: &mut F) -> Result<Option<Config>, PartError>
     ensures read { IsTrue F.tells → (c : Config) → IsConfigFile (F.map files.old config_name) c → IfOk result (λ found. found ≡ Some c) }
     ensures value { IsTrue F.tells → IfOk result (λ found. IfSome found (IsConfigFile (F.map files.old config_name))) }
     ensures range { IfOk result (λ found. IfSome found IsConfig) }
@@ -168,13 +168,13 @@ fn by_request<F: Files>(
         Request::Post => post_with_memo(alloc, files, memo, config, now.seconds, sender, message),
         Request::Accept { ticket, cookie } => {
             let decision = Decision::Accept;
-            moderated(
+            decide_held(
                 alloc, files, config, now, sender, message, *ticket, cookie, decision,
             )
         }
         Request::Reject { ticket, cookie } => {
             let decision = Decision::Reject;
-            moderated(
+            decide_held(
                 alloc, files, config, now, sender, message, *ticket, cookie, decision,
             )
         }

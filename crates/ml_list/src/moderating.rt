@@ -26,7 +26,7 @@ use ml_post::{Decision, decide};
 use std::alloc::Global;
 
 // A moderator accepts or rejects the post of a ticket.
-pub(crate) fn moderated<F: Files>(
+pub(crate) fn decide_held<F: Files>(
     alloc: Global,
     files: &mut F,
     config: &Config,

@@ -37,7 +37,7 @@ use ml_plain::Reply;
 use std::alloc::Global;
 
 // A bounce of mail with a number to an address: it is noted, if the address is a member and the number was used.
-pub(crate) fn bounced<F: Files>(
+pub(crate) fn take_bounce<F: Files>(
     alloc: Global,
     files: &mut F,
     now: Moment,
@@ -55,7 +55,7 @@ pub(crate) fn bounced<F: Files>(
     if !was_mailed(alloc, files, set, number, x)? {
         return Ok((Txn::new(alloc), Reply::plain(Reply::IGNORED)));
     }
-    noted(alloc, files, now, set, number, x)
+    note_number(alloc, files, now, set, number, x)
 }
 
 // Whether mail with a number may have gone to an address: it is a member, and the number was used.
@@ -116,7 +116,7 @@ fn is_post<F: Files>(alloc: Global, files: &mut F, number: u64) -> Result<bool, 
 }
 
 // A number is noted, unless it was noted before.
-fn noted<F: Files>(
+fn note_number<F: Files>(
     alloc: Global,
     files: &mut F,
     now: Moment,
@@ -146,7 +146,7 @@ fn changed(alloc: Global, answer: Option<Txn>) -> (Txn, Reply)
 }
 
 // A bounce of a warning to a member, with a good cookie of the moment at which he was warned.
-pub(crate) fn warning_bounced<F: Files>(
+pub(crate) fn take_warning_bounce<F: Files>(
     alloc: Global,
     files: &mut F,
     now: Moment,
@@ -163,7 +163,7 @@ pub(crate) fn warning_bounced<F: Files>(
     if !is_signed(alloc, files, now.seconds, b"warn", set, time, letters, x)? {
         return Ok((Txn::new(alloc), Reply::plain(Reply::IGNORED)));
     }
-    warning_failed(alloc, files, now, set, time, x)
+    note_failed_warning(alloc, files, now, set, time, x)
 }
 
 // Whether an address is a member, and letters are a good cookie of a kind for it.
@@ -210,7 +210,7 @@ fn is_cookie<F: Files>(
 }
 
 // The stage of a member who was warned at a moment becomes that the warning failed.
-fn warning_failed<F: Files>(
+fn note_failed_warning<F: Files>(
     alloc: Global,
     files: &mut F,
     now: Moment,
@@ -228,7 +228,7 @@ fn warning_failed<F: Files>(
 }
 
 // A bounce of a probe to a member, with a good cookie of the moment at which he was probed: he leaves the set.
-pub(crate) fn probe_bounced<F: Files>(
+pub(crate) fn take_probe_bounce<F: Files>(
     alloc: Global,
     files: &mut F,
     now: u64,
@@ -246,11 +246,11 @@ pub(crate) fn probe_bounced<F: Files>(
     if !is_signed(alloc, files, now, b"probe", set, time, letters, x)? {
         return Ok((Txn::new(alloc), Reply::plain(Reply::IGNORED)));
     }
-    probed(alloc, files, set, time, x)
+    drop_if_probed(alloc, files, set, time, x)
 }
 
 // A member who was probed at a moment leaves the set.
-fn probed<F: Files>(
+fn drop_if_probed<F: Files>(
     alloc: Global,
     files: &mut F,
     set: Set,
@@ -266,11 +266,11 @@ fn probed<F: Files>(
     let Some(_) = probe_failed(alloc, files, set, x, time)? else {
         return Ok((Txn::new(alloc), Reply::plain(Reply::IGNORED)));
     };
-    dropped(alloc, files, set, x)
+    drop_member(alloc, files, set, x)
 }
 
 // A member leaves a set, and the set's ledger.
-fn dropped<F: Files>(
+fn drop_member<F: Files>(
     alloc: Global,
     files: &mut F,
     set: Set,

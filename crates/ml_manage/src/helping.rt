@@ -22,7 +22,7 @@ use ml_reply::Mail;
 use std::alloc::{AllocError, Global};
 
 // The help text goes to a sender.
-pub(crate) fn helped<F: Files>(
+pub(crate) fn send_help<F: Files>(
     alloc: Global,
     files: &mut F,
     config: &Config,
@@ -64,13 +64,13 @@ pub(crate) fn to_owner<F: Files>(
 {
     let way = reply_path(alloc, config)?;
     let body = Bytes::from_slice(alloc, message)?;
-    let to = one(alloc, &config.owner)?;
+    let to = list_of_one(alloc, &config.owner)?;
     let txn = send(alloc, files, way, body, to)?;
     Ok((txn, Reply::plain(Reply::OWNER)))
 }
 
 // The list of one address.
-fn one(alloc: Global, who: &Address) -> Result<AddressList, AllocError>
+fn list_of_one(alloc: Global, who: &Address) -> Result<AddressList, AllocError>
     ensures value { IfOk result (λ to. to ≡ who.now ∷ []) }
     ensures sorted { IfOk result (λ to. is_sorted byte_cmp key to ≡ true) }
 {

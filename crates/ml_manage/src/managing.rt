@@ -25,8 +25,8 @@ ghost use Rattle.ml_manage.specs.Reads.{IsDamagedFor, is_asked_of, is_managed, i
 ghost use Rattle.ml_manage.specs.Written.{is_written_for, is_written_for_sender, is_written_of};
 
 use crate::archive::{get, index_of, thread_of};
-use crate::bounces::{bounced, probe_bounced, warning_bounced};
-use crate::helping::{helped, to_owner};
+use crate::bounces::{take_bounce, take_probe_bounce, take_warning_bounce};
+use crate::helping::{send_help, to_owner};
 use crate::members::members;
 use crate::naming::named;
 use ml_acts::{Configured, Moment};
@@ -125,7 +125,7 @@ fn of_bounce<F: Files>(
     ensures act { AnswersWithin (is_entry_of set (address_named (who_view who.now))) ⟦<F as Files>⟧ (λ name. is_of_bounce set (address_named (who_view who.now)) name ≡ true) (IsDamagedOf (F.map files.old) Count) files.old files.new result }
 {
     let x = named(alloc, who)?;
-    bounced(alloc, files, now, set, number, &x)
+    take_bounce(alloc, files, now, set, number, &x)
 }
 
 // A bounce of a warning.
@@ -144,7 +144,7 @@ fn of_warning<F: Files>(
     ensures act { AnswersWithin (is_entry_of set (address_named (who_view who.now))) ⟦<F as Files>⟧ (λ name. is_of_warning set (address_named (who_view who.now)) name ≡ true) (IsDamaged (F.map files.old)) files.old files.new result }
 {
     let x = named(alloc, who)?;
-    warning_bounced(alloc, files, now, set, time, letters, &x)
+    take_warning_bounce(alloc, files, now, set, time, letters, &x)
 }
 
 // A bounce of a probe.
@@ -164,7 +164,7 @@ fn of_probe<F: Files>(
     ensures act { AnswersWithin (is_left_by set (address_named (who_view who.now))) ⟦<F as Files>⟧ (λ name. is_of_probe set (address_named (who_view who.now)) name ≡ true) (IsDamaged (F.map files.old)) files.old files.new result }
 {
     let x = named(alloc, who)?;
-    probe_bounced(alloc, files, now, set, time, letters, &x)
+    take_probe_bounce(alloc, files, now, set, time, letters, &x)
 }
 
 // A request of a sender that may not be an address, with a message that may be from a list.
@@ -192,7 +192,7 @@ fn by_sender<F: Files>(
     if is_from_list(message) {
         return Ok((Txn::new(alloc), Reply::plain(Reply::LOOPED)));
     }
-    managed(alloc, files, config, now, &who, request)
+    manage_checked(alloc, files, config, now, &who, request)
 }
 
 // Whether a message came from a list.
@@ -203,7 +203,7 @@ fn is_from_list(message: &[u8]) -> bool
 }
 
 // A request of a sender whose address is checked.
-fn managed<F: Files>(
+fn manage_checked<F: Files>(
     alloc: Global,
     files: &mut F,
     config: &Config,
@@ -249,6 +249,6 @@ fn managed<F: Files>(
         Request::Get { from, to } => get(alloc, files, config, now, sender, *from, *to),
         Request::Index { at } => index_of(alloc, files, config, now, sender, *at),
         Request::Thread { at } => thread_of(alloc, files, config, now, sender, *at),
-        _ => helped(alloc, files, config, now, sender),
+        _ => send_help(alloc, files, config, now, sender),
     }
 }

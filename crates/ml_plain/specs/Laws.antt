@@ -159,7 +159,7 @@ abbrev pub HasIssues : Type 0
 HasIssues = (c : Config) (key : Text) (h : List Item) → (issues : List Issue) × AreIssues c key h issues
 
 -- a key was in a set before a step, and isn't after it
-pub record Leaves (p q : Plain) (set : Set) (k : Text) : Type 0 where
+pub record LeavesSet (p q : Plain) (set : Set) (k : Text) : Type 0 where
   pub there : has_key k (p.sets set) ≡ true
   pub gone : has_key k (q.sets set) ≡ false
 
@@ -213,7 +213,7 @@ Ways p item set k =
 
 -- a key leaves a set only in one of these ways
 abbrev pub LawLeaving : Type 0
-LawLeaving = (p : Plain) (item : Item) (set : Set) (k : Text) → Leaves p (step0 p item).0 set k → Ways p item set k
+LawLeaving = (p : Plain) (item : Item) (set : Set) (k : Text) → LeavesSet p (step0 p item).0 set k → Ways p item set k
 
 -- the warning of this moment bounces, with a good cookie, and that is noted
 pub record IsWarningBounce (p : Plain) (item : Item) (set : Set) (k : Text) (time : ℕ) : Type 0 where
@@ -297,6 +297,6 @@ pub record IsDroppedByCourse (c : Config) (key : Text) (h : List Item) (item : I
 -- an address leaves a set in one of four ways, and the moderators' set only in the first
 abbrev pub LawChain : Type 0
 LawChain = (c : Config) (key : Text) (h : List Item) (item : Item) (set : Set) (k : Text)
-    → Leaves (after c key h) (step0 (after c key h) item).0 set k
+    → LeavesSet (after c key h) (step0 (after c key h) item).0 set k
     → IsRemoval item set k
     ⊎ ((set ≢ sets.Moderators) × (IsOwnLeave (after c key h) item set k ⊎ (IsConfirmedLeave (after c key h) item set k ⊎ IsDroppedByCourse c key h item set k)))

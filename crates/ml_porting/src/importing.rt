@@ -18,9 +18,9 @@ use std::marker::Model;
 pub const MOST_MAILBOX: u32 = 268_435_456;
 
 /// The highest number that the first item of an import may have: it leaves room after it for the mails of any mailbox.
-pub const LAST_FIRST: u64 = 999_900_000_000;
+pub const LAST_IMPORT_START: u64 = 999_900_000_000;
 
-/// What words say of an import: the number of its first item, from 1 to `LAST_FIRST`.
+/// What words say of an import: the number of its first item, from 1 to `LAST_IMPORT_START`.
 #[derive(Drop)]
 pub struct ImportWords {
     first: u64,
@@ -38,11 +38,11 @@ impl Model for ImportWords {
 }
 
 impl ImportWords {
-    /// An import whose items are numbered from `first` on, or None if `first` is 0 or above `LAST_FIRST`.
+    /// An import whose items are numbered from `first` on, or None if `first` is 0 or above `LAST_IMPORT_START`.
     pub fn new(first: u64) -> Option<ImportWords>
         ensures { result ≡ import_first first }
     {
-        if 1 <= first && first <= LAST_FIRST {
+        if 1 <= first && first <= LAST_IMPORT_START {
             Some(ImportWords { first })
         } else {
             None

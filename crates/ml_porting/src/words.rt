@@ -15,8 +15,8 @@ pub fn mbox_query(a: &[u8], b: &[u8]) -> Option<MboxQuery>
     Some(MboxQuery { first, last })
 }
 
-/// What the word of an import says: the number of its first item, from 1 to `LAST_FIRST` and spelled as `read_number` takes numbers. None if it
-/// is no such word.
+/// What the word of an import says: the number of its first item, from 1 to `LAST_IMPORT_START` and spelled as `read_number` takes numbers.
+/// None if it is no such word.
 pub fn import_words(first: &[u8]) -> Option<ImportWords>
     ensures { result ≡ spec.import_words first.now }
 {

@@ -207,13 +207,13 @@ fn follow<F: Files>(
     ensures act { AnswersAct ⟦<F as Files>⟧ (λ name. is_followed_by ticket (accepts decision) name ≡ true) (IsDamagedOf (F.map files.old) (Next (sent_key config.now held.now.message))) files.old files.new result }
 {
     match decision {
-        Decision::Accept => accepted(alloc, files, config, now, ticket, held),
-        Decision::Reject => rejected(alloc, files, config, now, ticket, held),
+        Decision::Accept => accept_held(alloc, files, config, now, ticket, held),
+        Decision::Reject => reject_held(alloc, files, config, now, ticket, held),
     }
 }
 
 // The post is posted and waits no longer, unless the archive is full.
-fn accepted<F: Files>(
+fn accept_held<F: Files>(
     alloc: Global,
     files: &mut F,
     config: &Config,
@@ -242,7 +242,7 @@ fn accepted<F: Files>(
     match answer {
         Appended::Full => Ok((Txn::new(alloc), Reply::plain(Reply::FULL))),
         Appended::At(number, more) => {
-            let mut txn = taken(alloc, files, ticket)?;
+            let mut txn = take_held(alloc, files, ticket)?;
             txn.join(more)?;
             Ok((txn, Reply::posted(number)))
         }
@@ -250,7 +250,7 @@ fn accepted<F: Files>(
 }
 
 // The post waits no longer, and goes back to its sender.
-fn rejected<F: Files>(
+fn reject_held<F: Files>(
     alloc: Global,
     files: &mut F,
     config: &Config,
@@ -265,7 +265,7 @@ fn rejected<F: Files>(
     ensures found { IsTrue F.tells → IfOk result (FoundToReject (F.map files.old) ticket) }
     ensures act { AnswersAct ⟦<F as Files>⟧ (λ name. is_rejected_by ticket name ≡ true) (IsDamagedOf (F.map files.old) (Next (sent_key config.now held.now.message))) files.old files.new result }
 {
-    let txn = taken(alloc, files, ticket)?;
+    let txn = take_held(alloc, files, ticket)?;
     let mail = rejection(alloc, held)?;
     let reply = Reply::plain(Reply::REJECTED);
     with_mail(alloc, files, config, txn, &held.sender, now, mail, reply)
@@ -281,7 +281,7 @@ fn rejection(alloc: Global, held: &Held) -> Result<Mail, AllocError>
 }
 
 // The puts after which the post of a ticket waits no longer.
-fn taken<F: Files>(alloc: Global, files: &mut F, ticket: u64) -> Result<Txn, PartError>
+fn take_held<F: Files>(alloc: Global, files: &mut F, ticket: u64) -> Result<Txn, PartError>
     requires { IsTrue (is_drawn ticket) }
     ensures apart { IsTrue F.tells → IfOk result (λ txn. (dir : Dir) (p : Plain) (held : TheHeld) → AlikeToTake ticket (F.map files.old) dir → IsList dir p → held_post ticket p.held ≡ Some held → IsList (with_puts dir txn) (record p { held = without_ticket ticket p.held })) }
     ensures spared { IsTrue F.tells → (dir : Dir) (p : Plain) → AlikeToTake ticket (F.map files.old) dir → IsList dir p → IfErr result (λ e. OnDamaged e (λ _. ⊥)) }

@@ -53,11 +53,11 @@ pub fn verdict<F: Files>(
     ensures reads { IsReading ⟦<F as Files>⟧ files.old files.new result }
 {
     let mut under = Configured { files, config };
-    judged(alloc, &mut under, config, sender, message)
+    judge_with_config(alloc, &mut under, config, sender, message)
 }
 
 // The same on a list that has the configuration.
-pub(crate) fn judged<F: Files>(
+pub(crate) fn judge_with_config<F: Files>(
     alloc: Global,
     files: &mut F,
     config: &Config,

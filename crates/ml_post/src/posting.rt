@@ -23,7 +23,7 @@ ghost use Rattle.ml_post.specs.Publishing.{is_published_by, sent_key};
 
 use crate::Verdict;
 use crate::holding::hold_post;
-use crate::judging::{judged, usable};
+use crate::judging::{judge_with_config, usable};
 use crate::publishing::publish;
 use ml_acts::{Configured, MailMemo, Moment};
 use ml_base::{Files, PartError, Txn};
@@ -80,7 +80,7 @@ pub fn post_with_memo<F: Files>(
     ensures act { AnswersAct ⟦<F as Files>⟧ (λ name. is_posted_by config.now sender.now name ≡ true) (IsDamagedOf (with_config config.now (F.map files.old)) (Next (sent_key config.now message.now))) files.old files.new result }
 {
     let mut under = Configured { files, config };
-    post_judged(
+    post_with_config(
         alloc,
         &mut under,
         memo,
@@ -92,7 +92,7 @@ pub fn post_with_memo<F: Files>(
 }
 
 // The same on a list that has the configuration.
-fn post_judged<F: Files>(
+fn post_with_config<F: Files>(
     alloc: Global,
     files: &mut F,
     memo: &mut MailMemo,
@@ -108,7 +108,7 @@ fn post_judged<F: Files>(
     ensures found { IsTrue F.tells → IfOk result (FoundByPost (F.map files.old) config.now sender.now message.now) }
     ensures act { AnswersAct ⟦<F as Files>⟧ (λ name. is_posted_by config.now sender.now name ≡ true) (IsDamagedOf (F.map files.old) (Next (sent_key config.now message.now))) files.old files.new result }
 {
-    let found = judged(alloc, files, config, sender, &Message::scan(message))?;
+    let found = judge_with_config(alloc, files, config, sender, &Message::scan(message))?;
     match follows(found) {
         Outcome::Refused(reply) => Ok((Txn::new(alloc), reply)),
         Outcome::Held => hold_message(alloc, files, config, now, sender, message),

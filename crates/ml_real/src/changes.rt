@@ -168,7 +168,7 @@ impl Changes {
     pub fn close_files(&mut self) -> io::Result<()> {
         for (_, place) in self.files.iter_mut() {
             if let Some(file) = place.take() {
-                settled(file.sync_data(), &mut self.is_lost)?;
+                note_if_lost(file.sync_data(), &mut self.is_lost)?;
             }
         }
         self.kept = 0;
@@ -226,7 +226,7 @@ impl Changes {
             return self.settle_found_log(rt, paths, log);
         }
         match log {
-            Some(file) => settled(file.sync_data(), &mut self.is_lost),
+            Some(file) => note_if_lost(file.sync_data(), &mut self.is_lost),
             None => Ok(()),
         }
     }
@@ -266,7 +266,7 @@ impl Changes {
         log: Option<&File>,
     ) -> io::Result<()> {
         if let Some(file) = log {
-            settled(file.sync_data(), &mut self.is_lost)?;
+            note_if_lost(file.sync_data(), &mut self.is_lost)?;
         }
         // A run that was killed, before a crash left this log, may have left one.
         remove_new_log(rt, paths)
@@ -301,7 +301,7 @@ impl Changes {
         log: &mut Option<File>,
         new: io::Result<File>,
     ) -> io::Result<()> {
-        match named(rt, paths, new, &mut self.is_lost) {
+        match settle_new_log(rt, paths, new, &mut self.is_lost) {
             Ok(new) => {
                 *log = Some(new);
                 self.list = true;
@@ -321,7 +321,7 @@ impl Changes {
     fn sync_kept_files(&mut self) -> io::Result<()> {
         for (_, place) in self.files.iter() {
             if let Some(file) = place {
-                settled(file.sync_data(), &mut self.is_lost)?;
+                note_if_lost(file.sync_data(), &mut self.is_lost)?;
             }
         }
         self.files.retain(|_, place| place.is_none());
@@ -333,7 +333,7 @@ impl Changes {
     fn sync_closed_files(&mut self, rt: &HostRuntime, paths: &mut Paths<'_>) -> io::Result<()> {
         for (name, _) in self.files.iter() {
             let file = open_to_sync(rt, paths.file(*name)?)?;
-            settled(file.sync_data(), &mut self.is_lost)?;
+            note_if_lost(file.sync_data(), &mut self.is_lost)?;
         }
         Ok(())
     }
@@ -342,7 +342,7 @@ impl Changes {
     fn sync_list(&mut self, rt: &HostRuntime, paths: &mut Paths<'_>) -> io::Result<()> {
         if self.list {
             let folder = open_folder(rt, paths.folder(Place::LIST)?)?;
-            settled(folder.sync_all(), &mut self.is_lost)?;
+            note_if_lost(folder.sync_all(), &mut self.is_lost)?;
         }
         Ok(())
     }
@@ -351,7 +351,7 @@ impl Changes {
     fn sync_folders(&mut self, rt: &HostRuntime, paths: &mut Paths<'_>) -> io::Result<()> {
         for place in self.folders.iter() {
             match open_folder(rt, paths.folder(*place)?) {
-                Ok(folder) => settled(folder.sync_all(), &mut self.is_lost)?,
+                Ok(folder) => note_if_lost(folder.sync_all(), &mut self.is_lost)?,
                 // Nothing was removed from a folder that isn't there.
                 Err(error) => absent_or(error)?,
             }
@@ -359,7 +359,7 @@ impl Changes {
         if self.outside {
             // Without it a crash could leave all of this and no entry that leads to it.
             match open_folder(rt, paths.below(b"..")?) {
-                Ok(folder) => settled(folder.sync_all(), &mut self.is_lost)?,
+                Ok(folder) => note_if_lost(folder.sync_all(), &mut self.is_lost)?,
                 Err(error) => barred_or(error)?,
             }
         }
@@ -368,14 +368,14 @@ impl Changes {
 }
 
 // A new file, on the disk and under the log's name.
-fn named(
+fn settle_new_log(
     rt: &HostRuntime,
     paths: &mut Paths<'_>,
     new: io::Result<File>,
     is_lost: &mut bool,
 ) -> io::Result<File> {
     let new = new?;
-    settled(new.sync_data(), is_lost)?;
+    note_if_lost(new.sync_data(), is_lost)?;
     rename_new_log(rt, paths)?;
     Ok(new)
 }
@@ -397,7 +397,7 @@ fn absent_or(error: io::Error) -> io::Result<()> {
 }
 
 // On Linux a sync that failed calls pages clean that never reached the disk: a later sync would be good without them.
-fn settled(synced: io::Result<()>, is_lost: &mut bool) -> io::Result<()> {
+fn note_if_lost(synced: io::Result<()>, is_lost: &mut bool) -> io::Result<()> {
     if synced.is_err() {
         *is_lost = true;
     }

@@ -63,7 +63,7 @@ fn count_call(calls: &mut u64)
 }
 
 // Counts a fault, and gives the error that stands for it.
-fn failed(faults: &mut u64) -> Failed
+fn count_failure(faults: &mut u64) -> Failed
     ensures later { faults.old ≤ faults.new }
     ensures counted { Rose faults.old faults.new }
 {
@@ -79,7 +79,7 @@ fn site_error(error: io::Error, faults: &mut u64) -> SiteError
     if error.kind() == ErrorKind::OutOfMemory {
         return SiteError::Memory;
     }
-    failed(faults);
+    count_failure(faults);
     SiteError::Failed
 }
 
@@ -126,7 +126,7 @@ impl<'a> Site for RealSite<'a> {
         count_call(&mut self.disk_calls);
         match self.folder.cut_log(len) {
             Ok(()) => Ok(()),
-            Err(_) => Err(failed(&mut self.disk_faults)),
+            Err(_) => Err(count_failure(&mut self.disk_faults)),
         }
     }
 
@@ -180,14 +180,14 @@ impl<'a> Site for RealSite<'a> {
         count_call(&mut self.disk_calls);
         match self.folder.sync() {
             Ok(()) => Ok(()),
-            Err(_) => Err(failed(&mut self.disk_faults)),
+            Err(_) => Err(count_failure(&mut self.disk_faults)),
         }
     }
 
     fn give(&mut self, bytes: &[u8]) -> Result<(), Failed> {
         match self.folder.give(bytes) {
             Ok(()) => Ok(()),
-            Err(_) => Err(failed(&mut self.output_faults)),
+            Err(_) => Err(count_failure(&mut self.output_faults)),
         }
     }
 

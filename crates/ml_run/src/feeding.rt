@@ -44,7 +44,7 @@ pub(crate) fn run_feed<F: Feed, S: Site>(
         return say(site, None, Why::Memory, 0);
     };
     match Store::open(alloc, site) {
-        Ok(store) => opened(alloc, limit, feed, store, buffer),
+        Ok(store) => run_opened(alloc, limit, feed, store, buffer),
         Err((error, site)) => say(site, None, not_opened(error), 0),
     }
 }
@@ -55,7 +55,7 @@ fn take_buffer(alloc: Global) -> Result<Bytes, AllocError> {
 }
 
 // A run over a store that was opened: if its configuration is there, the items are answered.
-fn opened<F: Feed, S: Site>(
+fn run_opened<F: Feed, S: Site>(
     alloc: Global,
     limit: u64,
     feed: &mut F,

@@ -21,7 +21,7 @@ ghost use Rattle.ml_run.specs.Making.{IsMaking, Makes, is_make_status, made_text
 
 use ml_base::{Bytes, Files, FilesError, Name, Txn};
 use ml_config::{Config, initial};
-use ml_ending::{Why, finish, not_opened, stop, told, why_refused};
+use ml_ending::{Why, finish, give_text, not_opened, stop, why_refused};
 use ml_journal::Store;
 use ml_site::Site;
 use std::alloc::{AllocError, Global};
@@ -59,7 +59,7 @@ pub fn make<S: Site>(alloc: Global, config: &Config, key: &[u8; 32], site: S) ->
         return stop(site, Why::Memory);
     };
     match Store::open(alloc, site) {
-        Ok(store) => made(alloc, store, &txn, line.as_slice()),
+        Ok(store) => make_if_absent(alloc, store, &txn, line.as_slice()),
         Err((error, site)) => stop(site, not_opened(error)),
     }
 }
@@ -90,7 +90,7 @@ fn made_line(alloc: Global, config: &Config) -> Result<Bytes, AllocError>
 }
 
 // Makes a list over a store that was opened, if there is no configuration.
-fn made<S: Site>(alloc: Global, store: Store<S>, txn: &Txn, line: &[u8]) -> (u8, S)
+fn make_if_absent<S: Site>(alloc: Global, store: Store<S>, txn: &Txn, line: &[u8]) -> (u8, S)
     requires files { IsTrue (are_files txn.now) }
     ensures makes { IsTrue S.tells_reads → Makes (IsTrue S.tells_all) result.0 (directory (S.disk (site_of store)).reads) txn.now line.now (S.output (site_of store)) (S.disk result.1).reads (S.output result.1) }
     ensures there { IsTrue S.tells_reads → (files : Dir) → directory (S.disk (site_of store)).reads ≡ Some files → files config_name ≢ None →
@@ -103,15 +103,15 @@ fn made<S: Site>(alloc: Global, store: Store<S>, txn: &Txn, line: &[u8]) -> (u8,
 {
     let mut store = store;
     match store.get(alloc, Name::CONFIG) {
-        Ok(Some(_)) => unmade(alloc, store, Why::There),
-        Ok(None) => committed(alloc, store, txn, line),
-        Err(FilesError::Fault) => unmade(alloc, store, Why::Disk),
-        Err(FilesError::Memory) => unmade(alloc, store, Why::Memory),
+        Ok(Some(_)) => close_unmade(alloc, store, Why::There),
+        Ok(None) => commit_list(alloc, store, txn, line),
+        Err(FilesError::Fault) => close_unmade(alloc, store, Why::Disk),
+        Err(FilesError::Memory) => close_unmade(alloc, store, Why::Memory),
     }
 }
 
 // Commits the files of a new list, closes the store, and gives the line that says that it is made.
-fn committed<S: Site>(alloc: Global, store: Store<S>, txn: &Txn, line: &[u8]) -> (u8, S)
+fn commit_list<S: Site>(alloc: Global, store: Store<S>, txn: &Txn, line: &[u8]) -> (u8, S)
     requires files { IsTrue (are_files txn.now) }
     ensures makes { IsTrue S.tells_reads → Makes (IsTrue S.tells_all) result.0 (directory (S.disk (site_of store)).reads) txn.now line.now (S.output (site_of store)) (S.disk result.1).reads (S.output result.1) }
     ensures moments { Leaves ⟦<S as Site>⟧ (site_of store) result.1 (IsMaking (directory (S.disk (site_of store)).reads) txn.now line.now (S.output (site_of store))) }
@@ -121,13 +121,13 @@ fn committed<S: Site>(alloc: Global, store: Store<S>, txn: &Txn, line: &[u8]) ->
     ensures counts { CountsSite ⟦<S as Site>⟧ result.0 (site_of store) result.1 }
 {
     match store.commit(alloc, txn) {
-        Ok(store) => told(alloc, store, line),
+        Ok(store) => give_text(alloc, store, line),
         Err((error, site)) => stop(site, why_refused(error)),
     }
 }
 
 // Closes the store of a list that is not made, and says why.
-fn unmade<S: Site>(alloc: Global, store: Store<S>, why: Why) -> (u8, S)
+fn close_unmade<S: Site>(alloc: Global, store: Store<S>, why: Why) -> (u8, S)
     requires { HasPath why }
     ensures { Finishes ⟦<S as Site>⟧ (site_of store) result.1 (Some (None, why)) result.0 0 }
 {

@@ -22,6 +22,6 @@ pub use changing::AddAnswer;
 pub use checked::Checked;
 pub use hashing::bucket;
 pub use laws::{law_changes, law_order, law_sets};
-pub use lists::{Spelling, all, all_again, members};
+pub use lists::{Spelling, all, all_with_memo, members};
 pub use member_list::{Member, MemberList};
 pub use sets::{add, add_with_memo, find, member, remove, remove_with_memo, size};

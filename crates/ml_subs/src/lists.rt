@@ -196,7 +196,7 @@ pub struct Spelling {
 
 // The files of a set's buckets, with the addresses that they spell. If their bytes are those of `before`, its
 // addresses are taken.
-fn spelled_again<F: Files>(
+fn spell_with_memo<F: Files>(
     alloc: Global,
     files: &mut F,
     set: Set,
@@ -222,7 +222,7 @@ fn spelled_again<F: Files>(
 
 /// The addresses of a set's members, in ascending order of key, with the files that spell them. It reads the set's 53
 /// files and not its count. If their bytes are those of `before`, its addresses are taken.
-pub fn all_again<F: Files>(
+pub fn all_with_memo<F: Files>(
     alloc: Global,
     files: &mut F,
     set: Set,
@@ -237,7 +237,7 @@ pub fn all_again<F: Files>(
     ensures sound { IsTrue F.tells → (ms : List Member) → AreSubscribers (F.map files.old) set ms → IfErr result (λ e. OnDamaged e (λ _. ⊥)) }
     ensures reads { IsReading ⟦<F as Files>⟧ files.old files.new result }
 {
-    spelled_again(alloc, files, set, before)
+    spell_with_memo(alloc, files, set, before)
 }
 
 /// The addresses of a set's members, in ascending order of key. It reads the set's 53 files and not its count.

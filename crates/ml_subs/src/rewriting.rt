@@ -52,7 +52,7 @@ fn add_records(out: &mut Bytes, layout: Layout, text: &[u8]) -> Result<(), Alloc
 }
 
 // Begins a new text with its line, with room for the records around a place and for `more` bytes.
-fn begun(alloc: Global, place: &Place<'_>, more: usize) -> Result<Bytes, AllocError>
+fn begin_text(alloc: Global, place: &Place<'_>, more: usize) -> Result<Bytes, AllocError>
     ensures { IfOk result (λ bytes. bytes ≡ layout_line Dated) }
 {
     let kept = place.before.len().saturating_add(place.after.len());
@@ -73,7 +73,7 @@ pub(crate) fn text_with(
     ensures text { (below above : List Member) → AreAround place.now.layout place.now.before.now place.now.after.now below above → IfOk result (λ bytes. bytes ≡ bucket_text Dated (below ++ member_by who.now since ∷ above)) }
 {
     let address = who.bytes();
-    let mut out = begun(alloc, place, address.len().saturating_add(RECORD_ROOM))?;
+    let mut out = begin_text(alloc, place, address.len().saturating_add(RECORD_ROOM))?;
     add_records(&mut out, place.layout, place.before)?;
     add_record(&mut out, address, since)?;
     add_records(&mut out, place.layout, place.after)?;
@@ -87,7 +87,7 @@ pub(crate) fn text_without(alloc: Global, place: &Place<'_>) -> Result<Option<By
     if place.before.is_empty() && place.after.is_empty() {
         return Ok(None);
     }
-    let mut out = begun(alloc, place, 0)?;
+    let mut out = begin_text(alloc, place, 0)?;
     add_records(&mut out, place.layout, place.before)?;
     add_records(&mut out, place.layout, place.after)?;
     Ok(Some(out))

@@ -44,14 +44,14 @@ pub(crate) fn follow_up<F: Files>(
     ensures reads { IsReading ⟦<F as Files>⟧ files.old files.new result }
 {
     match action {
-        Action::Warn { to, .. } => inform(alloc, files, config, keys, set, action, to, now),
-        Action::Probe { to } => inform(alloc, files, config, keys, set, action, to, now),
-        Action::Lapse { .. } => change(alloc, files, set, action, now, Txn::new(alloc)),
+        Action::Warn { to, .. } => warn_or_probe(alloc, files, config, keys, set, action, to, now),
+        Action::Probe { to } => warn_or_probe(alloc, files, config, keys, set, action, to, now),
+        Action::Lapse { .. } => add_entry_change(alloc, files, set, action, now, Txn::new(alloc)),
     }
 }
 
 // A member gets the mail of an action that isn't a lapse; if the address is no member's, its entry goes.
-fn inform<F: Files>(
+fn warn_or_probe<F: Files>(
     alloc: Global,
     files: &mut F,
     config: &Config,
@@ -87,11 +87,11 @@ fn inform<F: Files>(
         mail,
         now,
     )?;
-    change(alloc, files, set, action, now, txn)
+    add_entry_change(alloc, files, set, action, now, txn)
 }
 
 // These puts of the queue, and after them those that change the entry of an action.
-fn change<F: Files>(
+fn add_entry_change<F: Files>(
     alloc: Global,
     files: &mut F,
     set: Set,

@@ -4,7 +4,7 @@ use Rattle.ml_base.specs.declared.puts.Put.{Put}
 use Rattle.ml_subs.specs.Answers.{puts_if}
 use Rattle.ml_plain.specs.Plain.{removed}
 use Rattle.ml_acts.proofs.Damages.{ok_then}
-use Rattle.ml_acts.specs.Doing.{Leaves, is_changed_for, is_left_by}
+use Rattle.ml_acts.specs.Doing.{RemovesMember, is_changed_for, is_left_by}
 use Rattle.ml_acts.proofs.Left.{left_changed_for, queue_changed_for, removed_config}
 use Rattle.ml_queue.specs.Answers.{ids_name}
 use Rattle.ml_joining.specs.Reads.{is_read_to_leave}
@@ -28,7 +28,7 @@ returns-in-Some-clause-apart g c told =
     let same = g.met.F.Files.kept_map c.args.files.now c.remove_member.new.files told c.remove_member.ensures.reads.kept in
     ok_then c.goodbye.result
     (λ done does dir p alike is e about.
-    let there = subst (Leaves dir set x.named p) c.in-Some.is (c.in_ok-txn.ensures.apart told dir p (λ name l. alike name (left_to_leave set x.named name l)) is) in
+    let there = subst (RemovesMember dir set x.named p) c.in-Some.is (c.in_ok-txn.ensures.apart told dir p (λ name l. alike name (left_to_leave set x.named name l)) is) in
     let gone = rw (← same_removed set x.who x.named p (who_key p set x about)) at there.1 in
     does dir (removed set x.who p) (one_kept (is_read_to_leave set x.named) ids_name old (g.F.Files.map c.remove_member.new.files) dir same (mail_to_leave set x.named ids_name refl) alike) gone (removed_config set x.who p ∙ e))
     (c.goodbye.ensures.apart told)
@@ -37,7 +37,7 @@ pub returns-in-None-clause-apart : goal.returns-in-None-clause-apart
 returns-in-None-clause-apart g c told dir p alike is e about =
     let set = c.args.set in
     let x = c.args.x.now in
-    let none = subst (Leaves dir set x.named p) c.in-None.is (c.in_ok-txn.ensures.apart told dir p (λ name l. alike name (left_to_leave set x.named name l)) is) in
+    let none = subst (RemovesMember dir set x.named p) c.in-None.is (c.in_ok-txn.ensures.apart told dir p (λ name l. alike name (left_to_leave set x.named name l)) is) in
     absurd (let bad : true ≡ false = sym c.requires.member ∙ about.member ∙ none in cc)
 
 pub returns-in-Some-clause-found : goal.returns-in-Some-clause-found

@@ -26,10 +26,10 @@ returns-clause-apart g c told =
     let looked = is_read_to_confirm word set x.named in
     let done = λ (p : Plain) (good : Bool). spec.done c.args.now.seconds set c.args.sender.now x.who p (spec.confirming p set x.who word good) in
     let same = g.met.F.Files.kept_map c.args.files.now c.is_signed.new.files told c.is_signed.ensures.reads.kept in
-    found_apart c.confirmed.result c.args.config.now (λ (dir : Dir). Alike looked new dir) (λ (dir : Dir). Alike looked old dir) (λ dir alike. alike_kept looked looked old new dir same (λ name e. e) alike)
+    found_apart c.do_confirmation.result c.args.config.now (λ (dir : Dir). Alike looked new dir) (λ (dir : Dir). Alike looked old dir) (λ dir alike. alike_kept looked looked old new dir same (λ name e. e) alike)
     (λ p. done p c.in_ok-good.good) (λ p. done p (is_good p (word_text word) set c.args.time (key x.who) c.args.cookie.now c.args.now.seconds)) set x
     (λ dir p alike is e about. ap (done p) (c.in_ok-good.ensures.apart told dir p (alike key_name (keys_to_confirm set x.named key_name word refl)) is))
-    (c.confirmed.ensures.apart told)
+    (c.do_confirmation.ensures.apart told)
 
 pub returns-in_err-good-clause-act : goal.returns-in_err-good-clause-act
 returns-in_err-good-clause-act g c =
@@ -39,7 +39,7 @@ returns-in_err-good-clause-act g c =
 pub returns-clause-act : goal.returns-clause-act
 returns-clause-act g c =
     let looked = is_read_to_confirm c.args.word c.args.set c.args.x.now.named in
-    read_more looked looked g.met.F.Files.kept_then g.met.F.Files.kept_map c.is_signed.ensures.reads (λ name e. e) c.confirmed.ensures.act
+    read_more looked looked g.met.F.Files.kept_then g.met.F.Files.kept_map c.is_signed.ensures.reads (λ name e. e) c.do_confirmation.ensures.act
 
 pub returns-clause-found : goal.returns-clause-found
 returns-clause-found g c told =
@@ -48,5 +48,5 @@ returns-clause-found g c told =
     let x = c.args.x.now in
     let conf = c.args.config.now in
     let same = g.met.F.Files.kept_map c.args.files.now c.is_signed.new.files told c.is_signed.ensures.reads.kept in
-    found_then c.confirmed.result old (g.F.Files.map c.is_signed.new.files) (λ d. FoundToDo d set (key x.named) (confirming c.args.word conf x.member c.in_ok-good.good)) (λ done. TellsMember old set (key x.named) x.member → FoundToConfirm old conf c.args.word set x.named done) same
-    (λ done is tells. record { member = x.member; tells = tells; keys = c.in_ok-good.ensures.found told; good = c.in_ok-good.good; follows = is }) (c.confirmed.ensures.found told)
+    found_then c.do_confirmation.result old (g.F.Files.map c.is_signed.new.files) (λ d. FoundToDo d set (key x.named) (confirming c.args.word conf x.member c.in_ok-good.good)) (λ done. TellsMember old set (key x.named) x.member → FoundToConfirm old conf c.args.word set x.named done) same
+    (λ done is tells. record { member = x.member; tells = tells; keys = c.in_ok-good.ensures.found told; good = c.in_ok-good.good; follows = is }) (c.do_confirmation.ensures.found told)

@@ -4,7 +4,7 @@ use Rattle.ml_base.specs.declared.puts.Put.{Put}
 use Rattle.ml_subs.specs.Answers.{puts_if}
 use Rattle.ml_plain.specs.declared.Act.TheVariants.{Remove}
 use Rattle.ml_base.specs.Address.{key}
-use Rattle.ml_acts.specs.Doing.{Leaves, is_beside_queue, is_beside_mark, is_left_by}
+use Rattle.ml_acts.specs.Doing.{RemovesMember, is_beside_queue, is_beside_mark, is_left_by}
 use Rattle.ml_acts.proofs.Queued.{touches_weaker, beside_mail}
 use Rattle.ml_list.specs.Damage.{is_read_by}
 use Rattle.ml_list.proofs.Damages.{part_named}
@@ -22,13 +22,13 @@ pub returns-in-Some-clause-value : goal.returns-in-Some-clause-value
 returns-in-Some-clause-value g c told dir p alike is =
     let set = c.args.set in
     let who = c.args.who.now in
-    removed_list dir p set who c.in-Some.txn (c.in-Some.txn, c.plain.result) (subst (λ (o : Option (List Put)). Leaves dir set who p o) c.in-Some.is (c.in_ok-txn.ensures.apart told dir p alike is)) refl c.plain.ensures
+    removed_list dir p set who c.in-Some.txn (c.in-Some.txn, c.plain.result) (subst (λ (o : Option (List Put)). RemovesMember dir set who p o) c.in-Some.is (c.in_ok-txn.ensures.apart told dir p alike is)) refl c.plain.ensures
 
 pub returns-in-None-clause-value : goal.returns-in-None-clause-value
 returns-in-None-clause-value g c told dir p alike is =
     let set = c.args.set in
     let who = c.args.who.now in
-    let none = subst (λ (o : Option (List Put)). Leaves dir set who p o) c.in-None.is (c.in_ok-txn.ensures.apart told dir p alike is) in
+    let none = subst (λ (o : Option (List Put)). RemovesMember dir set who p o) c.in-None.is (c.in_ok-txn.ensures.apart told dir p alike is) in
     removed_nobody dir p set who (c.new.result, c.plain-in-None.result) is none c.new.ensures c.plain-in-None.ensures
 
 pub returns-in_err-txn-clause-sound : goal.returns-in_err-txn-clause-sound

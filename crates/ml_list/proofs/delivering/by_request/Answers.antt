@@ -68,15 +68,15 @@ returns-in-Accept-clause-value g c told =
     let config = c.args.config.now in
     let sender = c.args.sender.now in
     let m = c.args.message.now in
-    IfOk-weaker c.moderated.result _ _
+    IfOk-weaker c.decide_held.result _ _
     (λ done does dir p alike is same.
     let there = subst (λ (r : Request). AlikeForRequest config sender m (Some (request_view r)) old dir) c.in-Accept.is alike in
     does_so dir done _ _ (ap (λ (r : Request). spec.by_request c.args.now.seconds sender m p (request_view r)) c.in-Accept.is) (does dir p there is same))
-    (c.moderated.ensures.value told)
+    (c.decide_held.ensures.value told)
 
 pub returns-in-Accept-clause-sound : goal.returns-in-Accept-clause-sound
 returns-in-Accept-clause-sound g c told dir p alike is same =
-    c.moderated.ensures.sound told dir p
+    c.decide_held.ensures.sound told dir p
     (subst (λ (r : Request). AlikeForRequest c.args.config.now c.args.sender.now c.args.message.now (Some (request_view r)) (g.F.Files.map c.args.files.now) dir) c.in-Accept.is alike) is
 
 pub returns-in-Reject-clause-value : goal.returns-in-Reject-clause-value
@@ -85,15 +85,15 @@ returns-in-Reject-clause-value g c told =
     let config = c.args.config.now in
     let sender = c.args.sender.now in
     let m = c.args.message.now in
-    IfOk-weaker c.moderated-in-Reject.result _ _
+    IfOk-weaker c.decide_held-in-Reject.result _ _
     (λ done does dir p alike is same.
     let there = subst (λ (r : Request). AlikeForRequest config sender m (Some (request_view r)) old dir) c.in-Reject.is alike in
     does_so dir done _ _ (ap (λ (r : Request). spec.by_request c.args.now.seconds sender m p (request_view r)) c.in-Reject.is) (does dir p there is same))
-    (c.moderated-in-Reject.ensures.value told)
+    (c.decide_held-in-Reject.ensures.value told)
 
 pub returns-in-Reject-clause-sound : goal.returns-in-Reject-clause-sound
 returns-in-Reject-clause-sound g c told dir p alike is same =
-    c.moderated-in-Reject.ensures.sound told dir p
+    c.decide_held-in-Reject.ensures.sound told dir p
     (subst (λ (r : Request). AlikeForRequest c.args.config.now c.args.sender.now c.args.message.now (Some (request_view r)) (g.F.Files.map c.args.files.now) dir) c.in-Reject.is alike) is
 
 pub returns-in_default-clause-value : goal.returns-in_default-clause-value
@@ -131,11 +131,11 @@ returns-in-Accept-clause-act g c =
     let sender = c.args.sender.now in
     let m = c.args.message.now in
     let dir = g.F.Files.map c.args.files.now in
-    let r = c.moderated.result in
+    let r = c.decide_held.result in
     let ticket = c.in-Accept.ticket in
-    subst (λ (request : Request). AnswersAct g.F.Files (λ name. is_of_acts name ≡ true) (IsAsked dir config sender m request) c.args.files.now c.moderated.new.files r) (sym c.in-Accept.is)
-    (act_wider (act_so g.F.Files r (λ name. is_of_acts name ≡ true) (IsDamagedOfTicket dir config ticket c.in-Accept.cookie true) (IsAsked dir config sender m (requests.Accept ticket c.in-Accept.cookie)) (λ name. is_answered_by ticket true name ≡ true) c.args.files.now c.moderated.new.files
-    (λ name e. of_answered name ticket true e) (λ name e bad. (bad.damaged, (e, (bad.own, bad.read)))) c.moderated.ensures.act) posting_beside)
+    subst (λ (request : Request). AnswersAct g.F.Files (λ name. is_of_acts name ≡ true) (IsAsked dir config sender m request) c.args.files.now c.decide_held.new.files r) (sym c.in-Accept.is)
+    (act_wider (act_so g.F.Files r (λ name. is_of_acts name ≡ true) (IsDamagedOfTicket dir config ticket c.in-Accept.cookie true) (IsAsked dir config sender m (requests.Accept ticket c.in-Accept.cookie)) (λ name. is_answered_by ticket true name ≡ true) c.args.files.now c.decide_held.new.files
+    (λ name e. of_answered name ticket true e) (λ name e bad. (bad.damaged, (e, (bad.own, bad.read)))) c.decide_held.ensures.act) posting_beside)
 
 pub returns-in-Reject-clause-act : goal.returns-in-Reject-clause-act
 returns-in-Reject-clause-act g c =
@@ -143,11 +143,11 @@ returns-in-Reject-clause-act g c =
     let sender = c.args.sender.now in
     let m = c.args.message.now in
     let dir = g.F.Files.map c.args.files.now in
-    let r = c.moderated-in-Reject.result in
+    let r = c.decide_held-in-Reject.result in
     let ticket = c.in-Reject.ticket in
-    subst (λ (request : Request). AnswersAct g.F.Files (λ name. is_of_acts name ≡ true) (IsAsked dir config sender m request) c.args.files.now c.moderated-in-Reject.new.files r) (sym c.in-Reject.is)
-    (act_wider (act_so g.F.Files r (λ name. is_of_acts name ≡ true) (IsDamagedOfTicket dir config ticket c.in-Reject.cookie false) (IsAsked dir config sender m (requests.Reject ticket c.in-Reject.cookie)) (λ name. is_answered_by ticket false name ≡ true) c.args.files.now c.moderated-in-Reject.new.files
-    (λ name e. of_answered name ticket false e) (λ name e bad. (bad.damaged, (e, (bad.own, bad.read)))) c.moderated-in-Reject.ensures.act) posting_beside)
+    subst (λ (request : Request). AnswersAct g.F.Files (λ name. is_of_acts name ≡ true) (IsAsked dir config sender m request) c.args.files.now c.decide_held-in-Reject.new.files r) (sym c.in-Reject.is)
+    (act_wider (act_so g.F.Files r (λ name. is_of_acts name ≡ true) (IsDamagedOfTicket dir config ticket c.in-Reject.cookie false) (IsAsked dir config sender m (requests.Reject ticket c.in-Reject.cookie)) (λ name. is_answered_by ticket false name ≡ true) c.args.files.now c.decide_held-in-Reject.new.files
+    (λ name e. of_answered name ticket false e) (λ name e bad. (bad.damaged, (e, (bad.own, bad.read)))) c.decide_held-in-Reject.ensures.act) posting_beside)
 
 pub returns-in_default-clause-act : goal.returns-in_default-clause-act
 returns-in_default-clause-act g c =
@@ -169,11 +169,11 @@ returns-in-Post-clause-asked g c =
 
 pub returns-in-Accept-clause-asked : goal.returns-in-Accept-clause-asked
 returns-in-Accept-clause-asked g c =
-    subst (λ (r : Request). IfOk c.moderated.result (λ done. touches_only (is_delivered_by c.args.sender.now (Some (request_view r))) done.0 ≡ true)) (sym c.in-Accept.is) c.moderated.ensures.act.own
+    subst (λ (r : Request). IfOk c.decide_held.result (λ done. touches_only (is_delivered_by c.args.sender.now (Some (request_view r))) done.0 ≡ true)) (sym c.in-Accept.is) c.decide_held.ensures.act.own
 
 pub returns-in-Reject-clause-asked : goal.returns-in-Reject-clause-asked
 returns-in-Reject-clause-asked g c =
-    subst (λ (r : Request). IfOk c.moderated-in-Reject.result (λ done. touches_only (is_delivered_by c.args.sender.now (Some (request_view r))) done.0 ≡ true)) (sym c.in-Reject.is) c.moderated-in-Reject.ensures.act.own
+    subst (λ (r : Request). IfOk c.decide_held-in-Reject.result (λ done. touches_only (is_delivered_by c.args.sender.now (Some (request_view r))) done.0 ≡ true)) (sym c.in-Reject.is) c.decide_held-in-Reject.ensures.act.own
 
 pub returns-in_default-clause-asked : goal.returns-in_default-clause-asked
 returns-in_default-clause-asked g c =
@@ -194,11 +194,11 @@ returns-in-Post-clause-found g c told =
 
 pub returns-in-Accept-clause-found : goal.returns-in-Accept-clause-found
 returns-in-Accept-clause-found g c told =
-    subst (λ (r : Request). IfOk c.moderated.result (FoundOfRequest (g.F.Files.map c.args.files.now) c.args.config.now c.args.sender.now c.args.message.now (request_view r))) (sym c.in-Accept.is) (c.moderated.ensures.found told)
+    subst (λ (r : Request). IfOk c.decide_held.result (FoundOfRequest (g.F.Files.map c.args.files.now) c.args.config.now c.args.sender.now c.args.message.now (request_view r))) (sym c.in-Accept.is) (c.decide_held.ensures.found told)
 
 pub returns-in-Reject-clause-found : goal.returns-in-Reject-clause-found
 returns-in-Reject-clause-found g c told =
-    subst (λ (r : Request). IfOk c.moderated-in-Reject.result (FoundOfRequest (g.F.Files.map c.args.files.now) c.args.config.now c.args.sender.now c.args.message.now (request_view r))) (sym c.in-Reject.is) (c.moderated-in-Reject.ensures.found told)
+    subst (λ (r : Request). IfOk c.decide_held-in-Reject.result (FoundOfRequest (g.F.Files.map c.args.files.now) c.args.config.now c.args.sender.now c.args.message.now (request_view r))) (sym c.in-Reject.is) (c.decide_held-in-Reject.ensures.found told)
 
 pub returns-in_default-clause-found : goal.returns-in_default-clause-found
 returns-in_default-clause-found g c told =

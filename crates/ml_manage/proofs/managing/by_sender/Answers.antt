@@ -17,7 +17,7 @@ returns-clause-act g c =
     let config = c.args.config.now in
     let request = request_view c.args.request.now in
     let some : Some c.in-Some.who ≡ address_of c.args.sender.now = sym (sym c.in_ok-who.ensures ∙ c.in-Some.is) in
-    subst (λ (o : Option Text). AnswersWithin (is_written_for o request) g.F.Files (λ name. is_read_for config o request name ≡ true) (IsDamagedFor (g.F.Files.map c.args.files.now) config request) c.args.files.now c.managed.new.files c.managed.result) some c.managed.ensures.act
+    subst (λ (o : Option Text). AnswersWithin (is_written_for o request) g.F.Files (λ name. is_read_for config o request name ≡ true) (IsDamagedFor (g.F.Files.map c.args.files.now) config request) c.args.files.now c.manage_checked.new.files c.manage_checked.result) some c.manage_checked.ensures.act
 
 pub returns-in_default-clause-found : goal.returns-in_default-clause-found
 returns-in_default-clause-found g c told =
@@ -33,8 +33,8 @@ returns-then-is_from_list-clause-found g c told =
 pub returns-clause-found : goal.returns-clause-found
 returns-clause-found g c told =
     let some : Some c.in-Some.who ≡ address_of c.args.sender.now = sym (sym c.in_ok-who.ensures ∙ c.in-Some.is) in
-    subst (λ (o : Option Text). IfOk c.managed.result (FoundBySender (g.F.Files.map c.args.files.now) c.args.config.now o c.args.message.now (request_view c.args.request.now))) some
-    (IfOk-weaker c.managed.result _ _ (λ done is. inr is) (c.managed.ensures.found told))
+    subst (λ (o : Option Text). IfOk c.manage_checked.result (FoundBySender (g.F.Files.map c.args.files.now) c.args.config.now o c.args.message.now (request_view c.args.request.now))) some
+    (IfOk-weaker c.manage_checked.result _ _ (λ done is. inr is) (c.manage_checked.ensures.found told))
 
 pub returns-in_default-clause-apart : goal.returns-in_default-clause-apart
 returns-in_default-clause-apart g c told dir p alike is same =
@@ -50,13 +50,13 @@ pub returns-clause-apart : goal.returns-clause-apart
 returns-clause-apart g c told =
     let some : address_of c.args.sender.now ≡ Some c.in-Some.who = sym c.in_ok-who.ensures ∙ c.in-Some.is in
     let request = request_view c.args.request.now in
-    ok_then c.managed.result
+    ok_then c.manage_checked.result
     (λ done does dir p alike is same. of_somebody dir p c.args.now.seconds c.args.message.now request done (address_of c.args.sender.now) c.in-Some.who some (sym c.is_from_list.ensures ∙ c.if-is_from_list.false)
     (does dir p (subst (λ (o : Option Text). Alike (is_seen_for c.args.config.now o request) (g.F.Files.map c.args.files.now) dir) some alike) is same))
-    (c.managed.ensures.apart told)
+    (c.manage_checked.ensures.apart told)
 
 pub returns-clause-spared : goal.returns-clause-spared
 returns-clause-spared g c told dir p alike is same =
     let some : address_of c.args.sender.now ≡ Some c.in-Some.who = sym c.in_ok-who.ensures ∙ c.in-Some.is in
     let request = request_view c.args.request.now in
-    c.managed.ensures.spared told dir p (subst (λ (o : Option Text). Alike (is_seen_for c.args.config.now o request) (g.F.Files.map c.args.files.now) dir) some alike) is same
+    c.manage_checked.ensures.spared told dir p (subst (λ (o : Option Text). Alike (is_seen_for c.args.config.now o request) (g.F.Files.map c.args.files.now) dir) some alike) is same

@@ -16,21 +16,21 @@ use Rattle.ml_manage.proofs.managing.of_probe.Goals as goal
 pub named-requires : goal.named-requires
 named-requires g c = (and_parts _ _ (and_parts _ _ c.requires).1).1
 
-pub probe_bounced-requires : goal.probe_bounced-requires
-probe_bounced-requires g c = (and_parts _ _ c.requires).0
+pub take_probe_bounce-requires : goal.take_probe_bounce-requires
+take_probe_bounce-requires g c = (and_parts _ _ c.requires).0
 
 pub returns-clause-act : goal.returns-clause-act
 returns-clause-act g c =
-    subst (λ (x : Text). AnswersWithin (is_left_by c.args.set x) g.F.Files (λ name. is_of_probe c.args.set x name ≡ true) (IsDamaged (g.F.Files.map c.args.files.now)) c.args.files.now c.probe_bounced.new.files c.probe_bounced.result) c.in_ok-x.ensures c.probe_bounced.ensures.act
+    subst (λ (x : Text). AnswersWithin (is_left_by c.args.set x) g.F.Files (λ name. is_of_probe c.args.set x name ≡ true) (IsDamaged (g.F.Files.map c.args.files.now)) c.args.files.now c.take_probe_bounce.new.files c.take_probe_bounce.result) c.in_ok-x.ensures c.take_probe_bounce.ensures.act
 
 pub returns-clause-found : goal.returns-clause-found
-returns-clause-found g c told = subst (λ (x : Text). IfOk c.probe_bounced.result (FoundToProbe (g.F.Files.map c.args.files.now) c.args.set (key x))) c.in_ok-x.ensures (c.probe_bounced.ensures.found told)
+returns-clause-found g c told = subst (λ (x : Text). IfOk c.take_probe_bounce.result (FoundToProbe (g.F.Files.map c.args.files.now) c.args.set (key x))) c.in_ok-x.ensures (c.take_probe_bounce.ensures.found told)
 
 pub returns-clause-apart : goal.returns-clause-apart
 returns-clause-apart g c told =
     let old = g.F.Files.map c.args.files.now in
-    subst (λ (x : Text). IfOk c.probe_bounced.result (λ done. (dir : Dir) (p : Plain) → Alike (is_of_probe c.args.set x) old dir → IsList dir p → DoesList dir done (of_probe c.args.now c.args.set c.args.time c.args.letters.now x p))) c.in_ok-x.ensures (c.probe_bounced.ensures.apart told)
+    subst (λ (x : Text). IfOk c.take_probe_bounce.result (λ done. (dir : Dir) (p : Plain) → Alike (is_of_probe c.args.set x) old dir → IsList dir p → DoesList dir done (of_probe c.args.now c.args.set c.args.time c.args.letters.now x p))) c.in_ok-x.ensures (c.take_probe_bounce.ensures.apart told)
 
 pub returns-clause-spared : goal.returns-clause-spared
 returns-clause-spared g c told dir p alike is =
-    c.probe_bounced.ensures.spared told dir p (subst (λ (x : Text). Alike (is_of_probe c.args.set x) (g.F.Files.map c.args.files.now) dir) (sym c.in_ok-x.ensures) alike) is
+    c.take_probe_bounce.ensures.spared told dir p (subst (λ (x : Text). Alike (is_of_probe c.args.set x) (g.F.Files.map c.args.files.now) dir) (sym c.in_ok-x.ensures) alike) is

@@ -12,26 +12,26 @@ use Rattle.ml_post.proofs.answering.follow.Goals as goal
 
 pub returns-in-Accept-clause-found : goal.returns-in-Accept-clause-found
 returns-in-Accept-clause-found g c told =
-    subst (λ (b : Bool). IfOk c.accepted.result (FoundToDecide (g.F.Files.map c.args.files.now) c.args.config.now c.args.ticket b)) (ap accepts (sym c.in-Accept.is)) (c.accepted.ensures.found told)
+    subst (λ (b : Bool). IfOk c.accept_held.result (FoundToDecide (g.F.Files.map c.args.files.now) c.args.config.now c.args.ticket b)) (ap accepts (sym c.in-Accept.is)) (c.accept_held.ensures.found told)
 
 pub returns-in-Reject-clause-found : goal.returns-in-Reject-clause-found
 returns-in-Reject-clause-found g c told =
-    subst (λ (b : Bool). IfOk c.rejected.result (FoundToDecide (g.F.Files.map c.args.files.now) c.args.config.now c.args.ticket b)) (ap accepts (sym c.in-Reject.is)) (c.rejected.ensures.found told)
+    subst (λ (b : Bool). IfOk c.reject_held.result (FoundToDecide (g.F.Files.map c.args.files.now) c.args.config.now c.args.ticket b)) (ap accepts (sym c.in-Reject.is)) (c.reject_held.ensures.found told)
 
 pub returns-in-Accept-clause-apart : goal.returns-in-Accept-clause-apart
 returns-in-Accept-clause-apart g c told =
-    subst (λ (b : Bool). IfOk c.accepted.result (λ done. (dir : Dir) (p : Plain) → AlikeToFollow c.args.config.now c.args.ticket c.args.held.now.message b (g.F.Files.map c.args.files.now) dir → IsList dir p → p.config ≡ c.args.config.now
-    → held_post c.args.ticket p.held ≡ Some c.args.held.now → DoesList dir done (answered c.args.now.seconds c.args.ticket c.args.held.now p b))) (ap accepts (sym c.in-Accept.is)) (c.accepted.ensures.apart told)
+    subst (λ (b : Bool). IfOk c.accept_held.result (λ done. (dir : Dir) (p : Plain) → AlikeToFollow c.args.config.now c.args.ticket c.args.held.now.message b (g.F.Files.map c.args.files.now) dir → IsList dir p → p.config ≡ c.args.config.now
+    → held_post c.args.ticket p.held ≡ Some c.args.held.now → DoesList dir done (answered c.args.now.seconds c.args.ticket c.args.held.now p b))) (ap accepts (sym c.in-Accept.is)) (c.accept_held.ensures.apart told)
 
 pub returns-in-Reject-clause-apart : goal.returns-in-Reject-clause-apart
 returns-in-Reject-clause-apart g c told =
-    subst (λ (b : Bool). IfOk c.rejected.result (λ done. (dir : Dir) (p : Plain) → AlikeToFollow c.args.config.now c.args.ticket c.args.held.now.message b (g.F.Files.map c.args.files.now) dir → IsList dir p → p.config ≡ c.args.config.now
-    → held_post c.args.ticket p.held ≡ Some c.args.held.now → DoesList dir done (answered c.args.now.seconds c.args.ticket c.args.held.now p b))) (ap accepts (sym c.in-Reject.is)) (c.rejected.ensures.apart told)
+    subst (λ (b : Bool). IfOk c.reject_held.result (λ done. (dir : Dir) (p : Plain) → AlikeToFollow c.args.config.now c.args.ticket c.args.held.now.message b (g.F.Files.map c.args.files.now) dir → IsList dir p → p.config ≡ c.args.config.now
+    → held_post c.args.ticket p.held ≡ Some c.args.held.now → DoesList dir done (answered c.args.now.seconds c.args.ticket c.args.held.now p b))) (ap accepts (sym c.in-Reject.is)) (c.reject_held.ensures.apart told)
 
 pub returns-in-Accept-clause-spared : goal.returns-in-Accept-clause-spared
 returns-in-Accept-clause-spared g c told dir p alike is =
-    c.accepted.ensures.spared told dir p (subst (λ (b : Bool). AlikeToFollow c.args.config.now c.args.ticket c.args.held.now.message b (g.F.Files.map c.args.files.now) dir) (ap accepts c.in-Accept.is) alike) is
+    c.accept_held.ensures.spared told dir p (subst (λ (b : Bool). AlikeToFollow c.args.config.now c.args.ticket c.args.held.now.message b (g.F.Files.map c.args.files.now) dir) (ap accepts c.in-Accept.is) alike) is
 
 pub returns-in-Reject-clause-spared : goal.returns-in-Reject-clause-spared
 returns-in-Reject-clause-spared g c told dir p alike is =
-    c.rejected.ensures.spared told dir p (subst (λ (b : Bool). AlikeToFollow c.args.config.now c.args.ticket c.args.held.now.message b (g.F.Files.map c.args.files.now) dir) (ap accepts c.in-Reject.is) alike) is
+    c.reject_held.ensures.spared told dir p (subst (λ (b : Bool). AlikeToFollow c.args.config.now c.args.ticket c.args.held.now.message b (g.F.Files.map c.args.files.now) dir) (ap accepts c.in-Reject.is) alike) is

@@ -14,18 +14,18 @@ pub returns-clause-value : goal.returns-clause-value
 returns-clause-value g c told allowed =
     let config = c.args.config.now in
     let old = g.F.Files.map c.args.files.now in
-    ok_then c.judged.result (λ found so p is. so (with_config config old) p (λ name e. refl) is (config_of config old p allowed is)) (c.judged.ensures.apart told)
+    ok_then c.judge_with_config.result (λ found so p is. so (with_config config old) p (λ name e. refl) is (config_of config old p allowed is)) (c.judge_with_config.ensures.apart told)
 
 pub returns-clause-sound : goal.returns-clause-sound
 returns-clause-sound g c told p is =
     let there = with_config c.args.config.now (g.F.Files.map c.args.files.now) in
-    sound_by there p c.judged.result is (err_damaged c.judged.result (IsDamagedOf there Count) (IsDamaged there) (λ name bad. bad.damaged) (c.judged.ensures.names.damaged told))
+    sound_by there p c.judge_with_config.result is (err_damaged c.judge_with_config.result (IsDamagedOf there Count) (IsDamaged there) (λ name bad. bad.damaged) (c.judge_with_config.ensures.names.damaged told))
 
 pub returns-clause-apart : goal.returns-clause-apart
 returns-clause-apart g c told =
     let config = c.args.config.now in
-    ok_then c.judged.result
-    (λ found so dir p alike is same. so dir p (judged_under config config c.args.sender.now (g.F.Files.map c.args.files.now) dir alike) is same) (c.judged.ensures.apart told)
+    ok_then c.judge_with_config.result
+    (λ found so dir p alike is same. so dir p (judged_under config config c.args.sender.now (g.F.Files.map c.args.files.now) dir alike) is same) (c.judge_with_config.ensures.apart told)
 
 pub returns-clause-spared : goal.returns-clause-spared
 returns-clause-spared g c told dir p alike is =
@@ -33,6 +33,6 @@ returns-clause-spared g c told dir p alike is =
     let sender = c.args.sender.now in
     let old = g.F.Files.map c.args.files.now in
     let there = with_config config old in
-    err_both_damaged c.judged.result (λ name. is_judged_by config sender name ≡ true) (IsDamagedOf there Count) (λ _. ⊥)
+    err_both_damaged c.judge_with_config.result (λ name. is_judged_by config sender name ≡ true) (IsDamagedOf there Count) (λ _. ⊥)
     (λ name looked bad. judged_spared there dir p is config sender (judged_under config config sender old dir alike) name looked bad)
-    c.judged.ensures.names.named (c.judged.ensures.names.damaged told)
+    c.judge_with_config.ensures.names.named (c.judge_with_config.ensures.names.damaged told)

@@ -25,9 +25,9 @@ returns-in-Ok-open-clause-list g c told all ending q b =
     let now = site_of c.in-Ok-open.store in
     let put : IsTrue g.S.Site.tells_all → g.S.Site.output now ≡ g.S.Site.output c.args.site = λ t. (at_site (λ s. g.S.Site.output s ≡ g.S.Site.output c.args.site) c.open.result _ c.in-Ok-open.is (c.open.ensures.keeps.output t)) in
     let b' = begins_same (g.F.Feed.left c.args.feed.now) (g.S.Site.disk c.args.site).reads (g.S.Site.disk now).reads all ending q (at_site (λ s. directory (g.S.Site.disk s).reads ≡ directory (g.S.Site.disk c.args.site).reads) c.open.result _ c.in-Ok-open.is (c.open.ensures.same told)) b in
-    list_before g.F.Feed g.S.Site (Leaves g.S.Site now c.opened.result.1) (AtEachMoment g.S.Site c.args.site c.opened.result.1) c.args.limit c.args.feed.now c.opened.new.feed c.args.site now c.opened.result.1 c.opened.result.0 all ending q put
-    (λ run. list_moments g.S.Site c.args.site c.opened.result.1 q (take c.args.limit all) b.state (λ t. opened_then g.S.Site c.args.site now c.opened.result.1 q (take c.args.limit all) b.state (put t) (c.in-Ok-open.ensures.moments t) (run t)))
-    (c.opened.ensures.list told all ending q b')
+    list_before g.F.Feed g.S.Site (Leaves g.S.Site now c.run_opened.result.1) (AtEachMoment g.S.Site c.args.site c.run_opened.result.1) c.args.limit c.args.feed.now c.run_opened.new.feed c.args.site now c.run_opened.result.1 c.run_opened.result.0 all ending q put
+    (λ run. list_moments g.S.Site c.args.site c.run_opened.result.1 q (take c.args.limit all) b.state (λ t. opened_then g.S.Site c.args.site now c.run_opened.result.1 q (take c.args.limit all) b.state (put t) (c.in-Ok-open.ensures.moments t) (run t)))
+    (c.run_opened.ensures.list told all ending q b')
 
 pub returns-in-Err-clause-list : goal.returns-in-Err-clause-list
 returns-in-Err-clause-list g c told all ending q b =
@@ -52,9 +52,9 @@ returns-in_default-clause-read g c = reads_nothing g.F.Feed g.S.Site c.args.limi
 
 pub returns-in-Ok-open-clause-read : goal.returns-in-Ok-open-clause-read
 returns-in-Ok-open-clause-read g c = record {
-  stream = stream_before g.S.Site (g.F.Feed.left c.args.feed.now) c.opened.result.0.status c.args.limit c.opened.result.0.answered c.args.site (site_of c.in-Ok-open.store) c.opened.result.1 (λ t. (at_site (λ s. g.S.Site.output s ≡ g.S.Site.output c.args.site) c.open.result _ c.in-Ok-open.is (c.open.ensures.keeps.output t))) c.opened.ensures.read.stream;
-  few = c.opened.ensures.read.few;
-  through = c.opened.ensures.read.through;
+  stream = stream_before g.S.Site (g.F.Feed.left c.args.feed.now) c.run_opened.result.0.status c.args.limit c.run_opened.result.0.answered c.args.site (site_of c.in-Ok-open.store) c.run_opened.result.1 (λ t. (at_site (λ s. g.S.Site.output s ≡ g.S.Site.output c.args.site) c.open.result _ c.in-Ok-open.is (c.open.ensures.keeps.output t))) c.run_opened.ensures.read.stream;
+  few = c.run_opened.ensures.read.few;
+  through = c.run_opened.ensures.read.through;
 }
 
 pub returns-in-Err-clause-read : goal.returns-in-Err-clause-read
@@ -75,10 +75,10 @@ returns-in-Ok-open-clause-anywhere g c told files here =
     let now = site_of c.in-Ok-open.store in
     let same = at_site (λ s. directory (g.S.Site.disk s).reads ≡ directory (g.S.Site.disk c.args.site).reads) c.open.result _ c.in-Ok-open.is (c.open.ensures.same told) in
     let put : IsTrue g.S.Site.tells_all → g.S.Site.output now ≡ g.S.Site.output c.args.site = λ t. at_site (λ s. g.S.Site.output s ≡ g.S.Site.output c.args.site) c.open.result _ c.in-Ok-open.is (c.open.ensures.keeps.output t) in (
-      items_before g.S.Site (Leaves g.S.Site now c.opened.result.1) (AtEachMoment g.S.Site c.args.site c.opened.result.1) (Brings (g.F.Feed.left c.args.feed.now)) c.args.limit c.opened.result.0.status c.opened.result.0.answered c.args.site now c.opened.result.1 files put
-          (λ done run. each_moment g.S.Site files done c.args.site c.opened.result.1 here (λ t. opened_done g.S.Site files done c.args.site now c.opened.result.1 here (put t) (c.in-Ok-open.ensures.moments t) (run t)))
-          (c.opened.ensures.anywhere told files (same ∙ here)).0,
-      (c.opened.ensures.anywhere told files (same ∙ here)).1,
+      items_before g.S.Site (Leaves g.S.Site now c.run_opened.result.1) (AtEachMoment g.S.Site c.args.site c.run_opened.result.1) (Brings (g.F.Feed.left c.args.feed.now)) c.args.limit c.run_opened.result.0.status c.run_opened.result.0.answered c.args.site now c.run_opened.result.1 files put
+          (λ done run. each_moment g.S.Site files done c.args.site c.run_opened.result.1 here (λ t. opened_done g.S.Site files done c.args.site now c.run_opened.result.1 here (put t) (c.in-Ok-open.ensures.moments t) (run t)))
+          (c.run_opened.ensures.anywhere told files (same ∙ here)).0,
+      (c.run_opened.ensures.anywhere told files (same ∙ here)).1,
     )
 
 pub returns-in-Err-clause-anywhere : goal.returns-in-Err-clause-anywhere

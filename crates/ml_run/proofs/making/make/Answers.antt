@@ -23,17 +23,17 @@ returns-in_default-clause-at_rest g c rest t =
 
 pub returns-in-Ok-open-clause-makes : goal.returns-in-Ok-open-clause-makes
 returns-in-Ok-open-clause-makes g c told =
-    opened_makes g.S.Site c.args.site (site_of c.in-Ok-open.store) c.made.result.1 _ (first_puts c.args.config.now c.args.key.now) _ (made_text c.args.config.now) c.made.result.0 c.in-Ok.ensures.puts (c.as_slice.ensures ∙ c.in-Ok.ensures.line)
-    (at_site (λ s. directory (g.S.Site.disk s).reads ≡ directory (g.S.Site.disk c.args.site).reads) c.open.result _ c.in-Ok-open.is (c.open.ensures.same told)) (λ t. at_site (λ s. g.S.Site.output s ≡ g.S.Site.output c.args.site) c.open.result _ c.in-Ok-open.is (c.open.ensures.keeps.output t)) (c.made.ensures.makes told)
+    opened_makes g.S.Site c.args.site (site_of c.in-Ok-open.store) c.make_if_absent.result.1 _ (first_puts c.args.config.now c.args.key.now) _ (made_text c.args.config.now) c.make_if_absent.result.0 c.in-Ok.ensures.puts (c.as_slice.ensures ∙ c.in-Ok.ensures.line)
+    (at_site (λ s. directory (g.S.Site.disk s).reads ≡ directory (g.S.Site.disk c.args.site).reads) c.open.result _ c.in-Ok-open.is (c.open.ensures.same told)) (λ t. at_site (λ s. g.S.Site.output s ≡ g.S.Site.output c.args.site) c.open.result _ c.in-Ok-open.is (c.open.ensures.keeps.output t)) (c.make_if_absent.ensures.makes told)
 
 pub returns-in-Ok-open-clause-moments : goal.returns-in-Ok-open-clause-moments
 returns-in-Ok-open-clause-moments g c t =
-    opened_making g.S.Site c.args.site (site_of c.in-Ok-open.store) c.made.result.1 _ (first_puts c.args.config.now c.args.key.now) _ (made_text c.args.config.now) c.in-Ok.ensures.puts (c.as_slice.ensures ∙ c.in-Ok.ensures.line) (c.in-Ok-open.ensures.moments t)
-    (at_site (λ s. directory (g.S.Site.disk s).reads ≡ directory (g.S.Site.disk c.args.site).reads) c.open.result _ c.in-Ok-open.is (c.open.ensures.same (g.met.S.Site.all_has_reads t))) (at_site (λ s. g.S.Site.output s ≡ g.S.Site.output c.args.site) c.open.result _ c.in-Ok-open.is (c.open.ensures.keeps.output t)) (c.made.ensures.moments t)
+    opened_making g.S.Site c.args.site (site_of c.in-Ok-open.store) c.make_if_absent.result.1 _ (first_puts c.args.config.now c.args.key.now) _ (made_text c.args.config.now) c.in-Ok.ensures.puts (c.as_slice.ensures ∙ c.in-Ok.ensures.line) (c.in-Ok-open.ensures.moments t)
+    (at_site (λ s. directory (g.S.Site.disk s).reads ≡ directory (g.S.Site.disk c.args.site).reads) c.open.result _ c.in-Ok-open.is (c.open.ensures.same (g.met.S.Site.all_has_reads t))) (at_site (λ s. g.S.Site.output s ≡ g.S.Site.output c.args.site) c.open.result _ c.in-Ok-open.is (c.open.ensures.keeps.output t)) (c.make_if_absent.ensures.moments t)
 
 pub returns-in-Ok-open-clause-at_rest : goal.returns-in-Ok-open-clause-at_rest
 returns-in-Ok-open-clause-at_rest g c rest t =
-    making_from_rest g.S.Site c.args.site c.made.result.1 (first_puts c.args.config.now c.args.key.now) (made_text c.args.config.now) rest (returns-in-Ok-open-clause-moments g c t)
+    making_from_rest g.S.Site c.args.site c.make_if_absent.result.1 (first_puts c.args.config.now c.args.key.now) (made_text c.args.config.now) rest (returns-in-Ok-open-clause-moments g c t)
 
 pub returns-clause-makes : goal.returns-clause-makes
 returns-clause-makes g c told =
@@ -57,7 +57,7 @@ returns-in_default-clause-state g c told sound files found none zero = made_stat
     sound c.told-key found none zero (returns-in_default-clause-makes g c told)
 
 pub returns-in-Ok-open-clause-state : goal.returns-in-Ok-open-clause-state
-returns-in-Ok-open-clause-state g c told sound files found none zero = made_state (IsTrue g.S.Site.tells_all) c.made.result.0 (directory (g.S.Site.disk c.args.site).reads) files c.args.config.now c.args.key.now (made_text c.args.config.now) (g.S.Site.output c.args.site) (g.S.Site.disk c.made.result.1).reads (g.S.Site.output c.made.result.1)
+returns-in-Ok-open-clause-state g c told sound files found none zero = made_state (IsTrue g.S.Site.tells_all) c.make_if_absent.result.0 (directory (g.S.Site.disk c.args.site).reads) files c.args.config.now c.args.key.now (made_text c.args.config.now) (g.S.Site.output c.args.site) (g.S.Site.disk c.make_if_absent.result.1).reads (g.S.Site.output c.make_if_absent.result.1)
     sound c.told-key found none zero (returns-in-Ok-open-clause-makes g c told)
 
 pub returns-clause-state : goal.returns-clause-state
