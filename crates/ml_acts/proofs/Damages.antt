@@ -13,8 +13,8 @@ use Rattle.ml_base.specs.declared.files.Files.{Ghosts}
 use Rattle.ml_base.specs.declared.names.Name.{Name}
 use Rattle.ml_base.specs.declared.names.Set.{Set}
 use Rattle.ml_base.specs.declared.names.Set.TheVariants as sets
-use Rattle.ml_base.specs.declared.part.PartError.{PartError}
-use Rattle.ml_base.specs.declared.part.PartError.TheVariants.{Fault, Memory, Damaged}
+use Rattle.ml_base.specs.declared.part_error.PartError.{PartError}
+use Rattle.ml_base.specs.declared.part_error.PartError.TheVariants.{Fault, Memory, Damaged}
 use Rattle.ml_base.proofs.DamagedNames.{err_damaged, err_both_damaged}
 use Rattle.ml_filing.specs.Archive.{number_name}
 use Rattle.ml_filing.specs.Threads.{IsArchive}

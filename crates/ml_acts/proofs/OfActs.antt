@@ -5,7 +5,7 @@ use Rattle.ml_base.specs.PartErrors.{OnDamaged}
 use Rattle.ml_base.specs.ReadFiles.{AreKept, IsReading, NamesDamaged}
 use Rattle.ml_base.specs.declared.files.Files.{Ghosts}
 use Rattle.ml_base.specs.declared.names.Name.{Name}
-use Rattle.ml_base.specs.declared.part.PartError.{PartError}
+use Rattle.ml_base.specs.declared.part_error.PartError.{PartError}
 use Rattle.ml_base.specs.declared.puts.Put.{Put}
 use Rattle.ml_base.proofs.DamagedNames.{err_both_damaged, err_damaged, on_damaged}
 use Rattle.ml_base.proofs.ReadingLemmas.{KeepsItself, KeepsOn, kept_read, kept_self, reading_ok, reading_then}

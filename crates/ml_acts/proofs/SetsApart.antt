@@ -15,8 +15,8 @@ use Rattle.ml_subs.specs.Answers.{AddsBy, IsAddition, IsRemoval, RemovesBy}
 use Rattle.ml_subs.specs.Buckets.{IsBucketFile, bucket_of}
 use Rattle.ml_subs.specs.Members.{member_key}
 use Rattle.ml_subs.specs.Subscribers.{AreSubscribers, IsBucketOf, IsUnread, bucket_name, count_name, is_touched}
-use Rattle.ml_subs.specs.declared.changing.AddAnswer.{AddAnswer}
-use Rattle.ml_subs.specs.declared.changing.AddAnswer.TheVariants.{Added, Already, Full}
+use Rattle.ml_subs.specs.declared.set_changes.AddAnswer.{AddAnswer}
+use Rattle.ml_subs.specs.declared.set_changes.AddAnswer.TheVariants.{Added, Already, Full}
 use Rattle.ml_subs.specs.declared.member_list.Member.{Member}
 use Rattle.ml_subs.proofs.Answering.{addition, removal}
 use Rattle.ml_bounce.specs.Answers.{IsNoFile, has_ledger, key_file, ledger_kind}

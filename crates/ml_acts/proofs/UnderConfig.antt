@@ -4,7 +4,7 @@ use Rattle.std.proofs.Math.Path.{fun_ext}
 use Rattle.ml_base.specs.Dir.{Dir, same_name}
 use Rattle.ml_base.specs.PartErrors.{OnDamaged}
 use Rattle.ml_base.specs.declared.names.Name.{Name}
-use Rattle.ml_base.specs.declared.part.PartError.{PartError}
+use Rattle.ml_base.specs.declared.part_error.PartError.{PartError}
 use Rattle.ml_base.specs.declared.puts.Put.{Put}
 use Rattle.ml_base.proofs.Bools.{one_name}
 use Rattle.ml_config.specs.Configuration.{IsConfig}

@@ -4,7 +4,7 @@ use Rattle.ml_base.specs.Dir.{are_files, touches_only}
 use Rattle.ml_base.specs.ReadFiles.{IsReading, NamesDamaged}
 use Rattle.ml_base.specs.declared.files.Files.{Ghosts}
 use Rattle.ml_base.specs.declared.names.Name.{Name}
-use Rattle.ml_base.specs.declared.part.PartError.{PartError}
+use Rattle.ml_base.specs.declared.part_error.PartError.{PartError}
 use Rattle.ml_base.specs.declared.puts.Put.{Put}
 use Rattle.ml_plain.specs.declared.Reply.{Reply}
 use Rattle.ml_plain.specs.KeptFiles.{is_kept}

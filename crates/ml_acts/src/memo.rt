@@ -13,7 +13,7 @@ ghost use Rattle.ml_acts.specs.Damaged.{IsDamaged};
 ghost use Rattle.ml_acts.specs.Doing.{Alike, HasIds, is_bucket, is_mailed_by, is_of_queue, is_with_queue};
 ghost use Rattle.ml_acts.specs.Found.{QueuesToSet, SpellsAddresses};
 
-use crate::mailing::send_out;
+use crate::mails::send_out;
 use ml_address::Path;
 use ml_base::{Bytes, Files, PartError, Set, Txn};
 use ml_queue::Out;

@@ -3,7 +3,7 @@ ghost use Rattle.std.specs.Prelude.{◌≡◌, ◌++◌, IfOk, OnOk};
 ghost use Rattle.ml_address.specs.Paths as spec;
 
 use crate::Path;
-use crate::reading::who_of;
+use crate::request_reader::who_of;
 use ml_base::{Address, Bytes};
 use std::alloc::{AllocError, Global};
 

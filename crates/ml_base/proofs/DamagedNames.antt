@@ -1,8 +1,8 @@
 -- What is said of the name of a damaged file, or of a call's answer, follows from what was said of it in other words.
 use Rattle.std.proofs.Common.{Result, Ok, Err, IfOk, IfErr}
 use Rattle.ml_base.specs.declared.names.Name.{Name}
-use Rattle.ml_base.specs.declared.part.PartError.{PartError}
-use Rattle.ml_base.specs.declared.part.PartError.TheVariants.{Fault, Memory, Damaged}
+use Rattle.ml_base.specs.declared.part_error.PartError.{PartError}
+use Rattle.ml_base.specs.declared.part_error.PartError.TheVariants.{Fault, Memory, Damaged}
 use Rattle.ml_base.specs.PartErrors.{OnDamaged}
 
 -- if every name with one property has another, then so has the damaged file's name

@@ -2,7 +2,7 @@
 use Rattle.std.proofs.Common.{Result, Ok, arith}
 use Rattle.ml_base.specs.ReadFiles.{AreKept, IsReading}
 use Rattle.ml_base.specs.declared.files.Files.{Ghosts}
-use Rattle.ml_base.specs.declared.part.PartError.{PartError}
+use Rattle.ml_base.specs.declared.part_error.PartError.{PartError}
 
 -- the two laws of files that are used here: in a function they are `g.met.F.Files.kept_self` and `g.met.F.Files.kept_then`
 abbrev pub KeepsItself : {F : Type 0} → Ghosts F → Type 0

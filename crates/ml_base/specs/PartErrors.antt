@@ -2,8 +2,8 @@
 use Rattle.ml_base.specs.declared.files.FilesError.{FilesError}
 use Rattle.ml_base.specs.declared.files.FilesError.TheVariants as files
 use Rattle.ml_base.specs.declared.names.Name.{Name}
-use Rattle.ml_base.specs.declared.part.PartError.{PartError}
-use Rattle.ml_base.specs.declared.part.PartError.TheVariants.{Fault, Memory, Damaged}
+use Rattle.ml_base.specs.declared.part_error.PartError.{PartError}
+use Rattle.ml_base.specs.declared.part_error.PartError.TheVariants.{Fault, Memory, Damaged}
 
 -- the error of a part whose files answered this one
 abbrev pub part_error : FilesError → PartError

@@ -13,8 +13,8 @@ use Rattle.ml_base.specs.Faults.{Rose}
 use Rattle.ml_base.specs.PartErrors.{OnDamaged}
 use Rattle.ml_base.specs.declared.files.Files.{Ghosts}
 use Rattle.ml_base.specs.declared.names.Name.{Name}
-use Rattle.ml_base.specs.declared.part.PartError.{PartError}
-use Rattle.ml_base.specs.declared.part.PartError.TheVariants.{Fault}
+use Rattle.ml_base.specs.declared.part_error.PartError.{PartError}
+use Rattle.ml_base.specs.declared.part_error.PartError.TheVariants.{Fault}
 
 -- the files are kept, and their count of faults hasn't fallen
 pub record AreKept {F : Type 0} (told : Ghosts F) (old new : F) : Type 0 where

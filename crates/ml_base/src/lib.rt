@@ -4,8 +4,9 @@
 mod address;
 mod bytes;
 mod cuts;
+mod fault_plan;
 mod files;
-mod hashing;
+mod hashes;
 mod key_order;
 mod laws;
 mod layer;
@@ -14,11 +15,10 @@ mod name_maps;
 mod names;
 mod netstring;
 mod number;
-mod own;
-mod part;
+mod own_addresses;
+mod part_error;
 mod paths;
 mod pieces;
-mod plan;
 mod puts;
 mod ranges;
 mod row;
@@ -27,8 +27,9 @@ mod splits;
 pub use address::{Address, AddressError, AddressFault, is_host_byte, is_kept, make_address};
 pub use bytes::{Bytes, copied};
 pub use cuts::{MAX_POSTS, cut_len};
+pub use fault_plan::FaultPlan;
 pub use files::{Files, FilesError};
-pub use hashing::{hash, hash_lower};
+pub use hashes::{hash, hash_lower};
 pub use key_order::{compare_keys, is_below};
 pub use laws::{
     law_addresses, law_lines, law_netstrings, law_numbers, law_paths, law_puts, law_rows,
@@ -40,11 +41,10 @@ pub use name_maps::next_place;
 pub use names::{Name, Set};
 pub use netstring::{Span, push_netstring, push_number_netstring, read_netstring, split_netstring};
 pub use number::{age, is_next_digit, number_within, read_number, write_number};
-pub use own::is_own;
-pub use part::PartError;
+pub use own_addresses::is_own;
+pub use part_error::PartError;
 pub use paths::path;
 pub use pieces::{put_number, put_piece};
-pub use plan::FaultPlan;
 pub use puts::{AddressList, Put, Txn, newest_place};
 pub use ranges::{
     LARGEST_READ, LAST_DRAWN, LAST_ITEM, LAST_MOMENT, LAST_POST_NUMBER, LONGEST_MESSAGE,

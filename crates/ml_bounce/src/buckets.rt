@@ -6,7 +6,7 @@ ghost use Rattle.ml_base.specs.ReadFiles.{IsReading, NamesDamaged};
 ghost use Rattle.ml_bounce.specs.Answers.{has_ledger, ledger_kind, key_file, IsBucketOf, IsNoFile};
 ghost use Rattle.ml_bounce.specs.Files.{IsLedgerFile, ledger_name, ledger_place};
 
-use crate::reading::{Entries, read_file};
+use crate::ledger_reader::{Entries, read_file};
 use ml_base::{Address, Bytes, Files, Name, PartError, Put, Set, Txn};
 use ml_keyed::place_of;
 use std::alloc::{AllocError, Global};

@@ -16,8 +16,8 @@ use Rattle.ml_base.proofs.NumberLaws.{number_spelled}
 use Rattle.ml_config.specs.MakeWords.{key_of}
 use Rattle.ml_plain.specs.declared.Act.TheVariants as acts
 use Rattle.ml_stream.specs.Stream.{item_number_of, floor_of, id_of, positive_within, some_positive}
-use Rattle.ml_command.specs.declared.asking.Change.{Change}
-use Rattle.ml_command.specs.declared.asking.Change.TheVariants as changes
+use Rattle.ml_command.specs.declared.item_words.Change.{Change}
+use Rattle.ml_command.specs.declared.item_words.Change.TheVariants as changes
 use Rattle.ml_command.specs.Single.{IsGiven}
 use Rattle.ml_command.specs.Asking.{Asks}
 use Rattle.ml_command.specs.Words.{act_of, member_act, member_of, rekey_of, floor_words, sent_of, single, timed_of}

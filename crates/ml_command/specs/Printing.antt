@@ -27,8 +27,8 @@ use Rattle.ml_stream.specs.Stream.{IsStream, End}
 use Rattle.ml_subs.specs.declared.member_list.Member.{Member}
 use Rattle.ml_command.specs.Inquiries.{longest_mailbox, longest_rules}
 use Rattle.ml_command.specs.Words.{Command, Give}
-use Rattle.ml_command.specs.declared.giving.Inquiry.{Inquiry}
-use Rattle.ml_command.specs.declared.giving.Inquiry.TheVariants as inquiries
+use Rattle.ml_command.specs.declared.inquiries.Inquiry.{Inquiry}
+use Rattle.ml_command.specs.declared.inquiries.Inquiry.TheVariants as inquiries
 
 -- a stream of exactly these items, and its end, was put out
 pub record PutsStream (before output : Text) (items : List Item) : Type 0 where

@@ -6,7 +6,7 @@ use Rattle.ml_base.specs.Bytes.{Text, line_feed}
 use Rattle.ml_base.specs.Options.{◌>>=◌}
 use Rattle.ml_base.specs.Splits.{split_first}
 use Rattle.ml_config.specs.ConfigFile.{Values}
-use Rattle.ml_config.specs.declared.reading.Lines.{Lines}
+use Rattle.ml_config.specs.declared.config_reader.Lines.{Lines}
 
 -- the text after a name, if it begins with that name
 abbrev pub after : Text → Text → Option Text

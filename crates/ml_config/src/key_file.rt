@@ -5,7 +5,7 @@ ghost use Rattle.ml_base.specs.Dir.{Dir, are_files, with_puts};
 ghost use Rattle.ml_base.specs.Ranges.{IsMoment};
 ghost use Rattle.ml_base.specs.PartErrors.{OnDamaged};
 ghost use Rattle.ml_base.specs.ReadFiles.{IsReading, NamesDamaged};
-ghost use Rattle.ml_base.specs.declared.part.PartError.TheVariants.{Fault};
+ghost use Rattle.ml_base.specs.declared.part_error.PartError.TheVariants.{Fault};
 ghost use Rattle.ml_config.specs.KeyFile.{AreKeys, IsFormer, IsKeyFile, former_text, key_name, keys_put, keys_text};
 ghost use Rattle.ml_config.specs.declared.key_file.Former.{Former};
 ghost use Rattle.ml_config.specs.declared.key_file.Keys.{Keys};

@@ -7,8 +7,8 @@ ghost use Rattle.ml_config.specs.MakeWords.{Gives, default_prefix, flags_of, is_
 ghost use Rattle.ml_config.specs.declared.words.ConfigError.TheVariants.{Memory, Usage};
 ghost use Rattle.ml_config.specs.MakeWords as spec;
 
-use crate::checking::{checked, is_prefix_text};
 use crate::command::matches;
+use crate::value_ranges::{checked, is_prefix_text};
 use crate::{Config, Flags};
 use clap::ArgMatches;
 use clap::parser::ValueSource;

@@ -10,7 +10,7 @@ ghost use Rattle.ml_digest.specs.Steps.{topics_text, preface_text};
 
 use crate::DigestPost;
 use crate::messages::add_message;
-use crate::writing::{add_end, add_header, add_title};
+use crate::phrases::{add_end, add_header, add_title};
 use ml_base::Bytes;
 use ml_config::Config;
 use std::alloc::{AllocError, Global};

@@ -11,8 +11,8 @@ use Rattle.ml_subs.specs.Subscribers.{AreJoined, IsBadBucket, IsBucketName}
 use Rattle.ml_subs.specs.declared.member_list.Member.{Member}
 use Rattle.ml_dividing.specs.Moves.{PlainMove}
 use Rattle.ml_dividing.specs.Texts.{IsMoved, division_text, moving_text}
-use Rattle.ml_dividing.specs.declared.dividing.Division.{Division}
-use Rattle.ml_dividing.specs.declared.streaming.Moving.{Moving}
+use Rattle.ml_dividing.specs.declared.division_question.Division.{Division}
+use Rattle.ml_dividing.specs.declared.move_question.Moving.{Moving}
 
 -- what answers a question about a set: by files, of the members that its 53 files have together, whatever its count says; of a list, of the
 -- set's members

@@ -6,7 +6,7 @@ use Rattle.ml_base.specs.Dir.{Dir, with_puts}
 use Rattle.ml_base.specs.Drawn.{Drawn, Drawing, IsCounter, counter_text, nothing_drawn, thing_of, with_next}
 use Rattle.ml_base.specs.Ranges.{is_drawn}
 use Rattle.ml_base.specs.declared.names.Name.{Name}
-use Rattle.ml_base.specs.declared.part.PartError.{PartError}
+use Rattle.ml_base.specs.declared.part_error.PartError.{PartError}
 use Rattle.ml_base.specs.declared.puts.Put.{Put}
 use Rattle.ml_drawn.specs.declared.series.Series.{Series}
 use Rattle.ml_drawn.specs.declared.series.Series.TheVariants.{Tickets, Ids}

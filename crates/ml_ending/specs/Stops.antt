@@ -1,8 +1,8 @@
 -- Why a call ends early: the exit status of every reason, and which error gives which reason.
 use Rattle.std.specs.Prelude.{ℕ}
 use Rattle.ml_base.specs.declared.names.Name.{Name}
-use Rattle.ml_base.specs.declared.part.PartError.{PartError}
-use Rattle.ml_base.specs.declared.part.PartError.TheVariants as parts
+use Rattle.ml_base.specs.declared.part_error.PartError.{PartError}
+use Rattle.ml_base.specs.declared.part_error.PartError.TheVariants as parts
 use Rattle.ml_journal.specs.declared.errors.CommitError.{CommitError}
 use Rattle.ml_journal.specs.declared.errors.CommitError.TheVariants as commits
 use Rattle.ml_journal.specs.declared.errors.OpenError.{OpenError}

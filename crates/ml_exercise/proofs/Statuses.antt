@@ -14,8 +14,8 @@ use Rattle.ml_run.specs.Endings.{CutOff, Ended, HasMore, IsBroken, Runs, Stopped
 use Rattle.ml_run.specs.Stops.{is_run_status}
 use Rattle.ml_run.proofs.Complete.{answers_all}
 use Rattle.ml_stream.specs.Stream.{End, Broken}
-use Rattle.ml_stream.specs.declared.stream.StreamError.{StreamError}
-use Rattle.ml_stream.specs.declared.stream.StreamError.TheVariants as errors
+use Rattle.ml_stream.specs.declared.stream_error.StreamError.{StreamError}
+use Rattle.ml_stream.specs.declared.stream_error.StreamError.TheVariants as errors
 use Rattle.ml_exercise.specs.Running.{is_items_status}
 
 abbrev is_kind : Kind → Bool

@@ -2,7 +2,7 @@
 use Rattle.std.proofs.Common.{Result}
 use Rattle.ml_base.specs.ReadFiles.{AreKept, IsReading}
 use Rattle.ml_base.specs.declared.files.Files.{Ghosts}
-use Rattle.ml_base.specs.declared.part.PartError.{PartError}
+use Rattle.ml_base.specs.declared.part_error.PartError.{PartError}
 use Rattle.ml_base.proofs.ReadingLemmas.{KeepsOn, kept_read, kept_then, reading_then}
 
 -- a call that reads keeps the files, also after calls that kept them

@@ -9,8 +9,8 @@ ghost use Rattle.ml_filing.specs.Archive as archive;
 ghost use Rattle.ml_filing.specs.Threads.{IsThread, IsThreadFile};
 ghost use Rattle.ml_filing.specs.Threads as threads;
 
+use crate::index_reader::index_of;
 use crate::numbers::count_of;
-use crate::reading::index_of;
 use crate::threads::read_threads;
 use crate::{Entries, Threads};
 use ml_base::{Bytes, Files, Name, PartError};

@@ -1,24 +1,24 @@
 //! The archive of a list: numbered posts, an index for every group of a hundred, and threads of posts with one subject.
 #![tactic(auto)]
 
-mod appending;
 mod files;
+mod index_reader;
 mod laws;
 mod lookups;
+mod new_post;
 mod numbers;
-mod posting;
+mod post_reader;
 mod posts;
 mod ranges;
-mod reading;
 mod subjects;
-mod threading;
+mod thread_lookups;
 mod threads;
 
-pub use appending::append;
 pub use laws::{law_append, law_archive, law_archive_files, law_cut, law_threads};
 pub use lookups::{Index, Indexes, entry_among, read_alone};
-pub use posting::{count, index, message_of, post};
+pub use new_post::append;
+pub use post_reader::{count, index, message_of, post};
 pub use posts::{Appended, Entries, Entry, Post, Thread, Threads};
 pub use ranges::range;
 pub use subjects::{subject, subject_key};
-pub use threading::{thread, thread_file, whole_thread};
+pub use thread_lookups::{thread, thread_file, whole_thread};

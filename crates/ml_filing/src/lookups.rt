@@ -13,7 +13,7 @@ ghost use Rattle.ml_filing.specs.Reads.{IsOfRow};
 ghost use Rattle.ml_filing.specs.declared.posts.Post.{Post as ThePost};
 
 use crate::files::read_index;
-use crate::reading::entry_for;
+use crate::index_reader::entry_for;
 use crate::{Entries, Entry};
 use ml_base::{Files, Name, Numbers, PartError, Row, cut_len};
 use std::alloc::{AllocError, Global};

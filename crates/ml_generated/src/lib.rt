@@ -2,10 +2,10 @@
 #![tactic(auto)]
 
 mod buffer;
-mod generated;
+mod item_source;
 mod items;
 mod laws;
 mod texts;
 
-pub use generated::Generated;
+pub use item_source::Generated;
 pub use laws::law_generated;

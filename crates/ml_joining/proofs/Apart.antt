@@ -8,7 +8,7 @@ use Rattle.ml_base.specs.Dir.{Dir, same_name, with_puts}
 use Rattle.ml_base.specs.PartErrors.{OnDamaged}
 use Rattle.ml_base.specs.declared.names.Name.{Name}
 use Rattle.ml_base.specs.declared.names.Set.{Set}
-use Rattle.ml_base.specs.declared.part.PartError.{PartError}
+use Rattle.ml_base.specs.declared.part_error.PartError.{PartError}
 use Rattle.ml_base.specs.declared.puts.Put.{Put}
 use Rattle.ml_base.proofs.Bools.{one_name}
 use Rattle.ml_base.proofs.DamagedNames.{err_damaged}

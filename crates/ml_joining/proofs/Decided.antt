@@ -13,7 +13,7 @@ use Rattle.ml_plain.specs.Answers as answers
 use Rattle.ml_plain.specs.Managing.{Operation, Only, TellAlready, TellAbsent, AskSender, AskSubject, AskModerators, Join, Leave, is_admin, is_closed, is_same, subscribing, unsubscribing, confirming}
 use Rattle.ml_plain.specs.Plain.{Plain, first_row, is_in, is_moderator}
 use Rattle.ml_joining.specs.Cases as cases
-use Rattle.ml_joining.specs.declared.deciding.Facts.{Facts}
+use Rattle.ml_joining.specs.declared.decisions.Facts.{Facts}
 
 -- the tables, by each case's test
 join_by : Bool → Bool → Bool → Bool → Bool → Bool → Bool → Operation

@@ -10,7 +10,7 @@ use Rattle.ml_bounce.specs.Ledger.{forget}
 use Rattle.ml_subs.specs.Answers.{IsAddition}
 use Rattle.ml_subs.specs.Members.{with_member, without_member}
 use Rattle.ml_subs.specs.Subscribers.{is_touched}
-use Rattle.ml_subs.specs.declared.changing.AddAnswer.TheVariants.{Added, Full}
+use Rattle.ml_subs.specs.declared.set_changes.AddAnswer.TheVariants.{Added, Full}
 use Rattle.ml_plain.specs.declared.Reply.{Reply}
 use Rattle.ml_plain.specs.Directory.{IsList}
 use Rattle.ml_plain.specs.Managing.{joined}

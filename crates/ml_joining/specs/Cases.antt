@@ -7,7 +7,7 @@ use Rattle.ml_config.specs.declared.configuration.Flags.{Flags}
 use Rattle.ml_plain.specs.Answers as answers
 use Rattle.ml_plain.specs.Managing.{Operation, Only, TellAlready, TellAbsent, AskSender, AskSubject, AskModerators, Join, Leave}
 use Rattle.ml_plain.specs.Plain.{first_row}
-use Rattle.ml_joining.specs.declared.deciding.Facts.{Facts}
+use Rattle.ml_joining.specs.declared.decisions.Facts.{Facts}
 
 -- whether only those who administer the list may change a set
 abbrev pub is_reserved : Set → Bool

@@ -3,7 +3,7 @@ use Rattle.std.specs.Prelude.{◌≡◌, Bool, true, List, Result}
 use Rattle.ml_base.specs.Dir.{Dir}
 use Rattle.ml_base.specs.declared.files.Files.{Ghosts}
 use Rattle.ml_base.specs.declared.names.Name.{Name}
-use Rattle.ml_base.specs.declared.part.PartError.{PartError}
+use Rattle.ml_base.specs.declared.part_error.PartError.{PartError}
 use Rattle.ml_base.specs.declared.puts.Put.{Put}
 use Rattle.ml_plain.specs.Directory.{IsList}
 use Rattle.ml_plain.specs.Plain.{Plain}

@@ -27,9 +27,9 @@ ghost use Rattle.ml_joining.specs.Reads as reads;
 ghost use Rattle.ml_joining.specs.Reads.{is_read_to_confirm, is_read_to_subscribe, is_read_to_unsubscribe};
 ghost use Rattle.ml_joining.specs.Written.{is_written_to_confirm, is_written_to_join};
 
-use crate::deciding::{Facts, confirmed_joining, confirmed_leaving, joining, leaving};
-use crate::joining::do_joining;
-use crate::leaving::do_leaving;
+use crate::arrivals::do_joining;
+use crate::decisions::{Facts, confirmed_joining, confirmed_leaving, joining, leaving};
+use crate::departures::do_leaving;
 use crate::subjects::{Subject, find_subject, moderates};
 use ml_acts::{Configured, Moment, is_good as good_cookie, key_of};
 use ml_address::{Who, Word, word_text};

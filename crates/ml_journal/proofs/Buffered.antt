@@ -7,7 +7,7 @@ use Rattle.ml_site.specs.declared.site.Site.{Ghosts}
 use Rattle.ml_site.specs.declared.site.SiteError.{SiteError}
 use Rattle.ml_journal.specs.Handing.{Hands}
 use Rattle.ml_journal.specs.Buffering.{Buffers}
-use Rattle.ml_journal.specs.declared.writer.LogWriter.{LogWriter}
+use Rattle.ml_journal.specs.declared.log_writer.LogWriter.{LogWriter}
 use Rattle.ml_journal.proofs.Handed.{hands_on, hands_cut, with_long, ok_then}
 
 module _ {S : Type 0} (told : Ghosts S) where

@@ -10,7 +10,7 @@ use Rattle.ml_base.specs.Bytes.{Text}
 use Rattle.ml_base.specs.Netstrings.{netstring_at}
 use Rattle.ml_base.specs.declared.puts.Put.{Put}
 use Rattle.ml_journal.specs.Records.{put_at, puts_of, record_at}
-use Rattle.ml_journal.specs.declared.reading.FoundPut.{FoundPut}
+use Rattle.ml_journal.specs.declared.log_reader.FoundPut.{FoundPut}
 use Rattle.ml_journal.specs.Found.{put_of, puts_found}
 use Rattle.ml_journal.specs.Log.{log_puts, record_and_more}
 use Rattle.ml_journal.proofs.Records.{puts_next}

@@ -4,7 +4,7 @@ use Rattle.ml_base.specs.Bytes.{Text}
 use Rattle.ml_site.specs.declared.site.SiteError.{SiteError}
 use Rattle.ml_site.specs.declared.site.Site.{Ghosts}
 use Rattle.ml_journal.specs.Handing.{Hands}
-use Rattle.ml_journal.specs.declared.writer.LogWriter.{LogWriter}
+use Rattle.ml_journal.specs.declared.log_writer.LogWriter.{LogWriter}
 
 -- A text was added to what was buffered. Some first bytes of both were handed to the log, and at Ok the others are buffered.
 pub record Buffers {S : Type 0} (told : Ghosts S) (result : Result (Unit {0}) SiteError) (text : Text) (before after : LogWriter) (old new : S) : Type 0 where

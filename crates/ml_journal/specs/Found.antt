@@ -2,7 +2,7 @@
 use Rattle.std.specs.Prelude.{List, map}
 use Rattle.std.specs.Option.{option_copied}
 use Rattle.ml_base.specs.declared.puts.Put.{Put}
-use Rattle.ml_journal.specs.declared.reading.FoundPut.{FoundPut}
+use Rattle.ml_journal.specs.declared.log_reader.FoundPut.{FoundPut}
 
 -- the put that was found
 abbrev pub put_of : FoundPut → Put

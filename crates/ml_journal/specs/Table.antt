@@ -1,6 +1,6 @@
 -- A table of newest puts, laid over files.
 use Rattle.ml_base.specs.Dir.{Dir}
-use Rattle.ml_journal.specs.declared.newest.Newest.{Newest}
+use Rattle.ml_journal.specs.declared.newest_puts.Newest.{Newest}
 use Rattle.ml_journal.specs.Newest.{with_newest}
 
 -- the directory with the table's puts laid over it

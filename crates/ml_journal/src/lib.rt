@@ -2,21 +2,21 @@
 //! whenever a crash comes.
 #![tactic(auto)]
 
-mod adding;
-mod appending;
-mod down;
 mod errors;
+mod laid_files;
 mod laws;
-mod laying;
-mod newest;
-mod opening;
-mod reading;
-mod settle;
-mod spelling;
+mod log_additions;
+mod log_changes;
+mod log_end;
+mod log_files;
+mod log_reader;
+mod log_writer;
+mod newest_puts;
+mod record_writer;
+mod recovery;
 mod store;
-mod writer;
 
-pub use adding::LAY;
 pub use errors::{CommitError, OpenError};
 pub use laws::{law_gates, law_logs, law_records, law_stores};
+pub use log_additions::LAY;
 pub use store::Store;

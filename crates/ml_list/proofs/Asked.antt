@@ -5,7 +5,7 @@ use Rattle.ml_base.specs.Dir.{Dir}
 use Rattle.ml_base.specs.ReadFiles.{NamesDamaged}
 use Rattle.ml_base.specs.declared.files.Files.{Ghosts}
 use Rattle.ml_base.specs.declared.names.Name.{Name}
-use Rattle.ml_base.specs.declared.part.PartError.{PartError}
+use Rattle.ml_base.specs.declared.part_error.PartError.{PartError}
 use Rattle.ml_plain.specs.declared.Act.{Act}
 use Rattle.ml_plain.specs.declared.Act.TheVariants.{Deliver, Timed}
 use Rattle.ml_acts.specs.Damaged as acts

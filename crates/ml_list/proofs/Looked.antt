@@ -5,8 +5,8 @@ use Rattle.ml_base.specs.Bytes.{Text}
 use Rattle.ml_base.specs.Dir.{Dir, same_name, with_puts}
 use Rattle.ml_base.specs.PartErrors.{OnDamaged}
 use Rattle.ml_base.specs.declared.names.Name.{Name}
-use Rattle.ml_base.specs.declared.part.PartError.{PartError}
-use Rattle.ml_base.specs.declared.part.PartError.TheVariants.{Memory}
+use Rattle.ml_base.specs.declared.part_error.PartError.{PartError}
+use Rattle.ml_base.specs.declared.part_error.PartError.TheVariants.{Memory}
 use Rattle.ml_base.specs.declared.puts.Put.{Put}
 use Rattle.ml_base.proofs.DamagedNames.{err_damaged}
 use Rattle.ml_config.specs.KeyFile.{IsKeyFile, key_name}

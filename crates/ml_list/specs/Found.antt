@@ -18,7 +18,7 @@ use Rattle.ml_plain.specs.declared.Item.{Item}
 use Rattle.ml_plain.specs.declared.Reply.{Reply}
 use Rattle.ml_queue.specs.Answers.{SendsBy}
 use Rattle.ml_subs.specs.Answers.{puts_if, puts_of}
-use Rattle.ml_subs.specs.declared.changing.AddAnswer.{AddAnswer}
+use Rattle.ml_subs.specs.declared.set_changes.AddAnswer.{AddAnswer}
 use Rattle.ml_acts.specs.Found.{FoundToLeave, Says, TellsKeys, TellsWorn}
 use Rattle.ml_joining.specs.Found.{FoundToAdd}
 use Rattle.ml_post.specs.Found.{FoundByPost}

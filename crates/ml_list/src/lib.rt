@@ -2,22 +2,22 @@
 //! does the step of the plain list, and every number counts once.
 #![tactic(auto)]
 
-mod applying;
-mod changing;
-mod delivering;
+mod deliveries;
+mod floor_rise;
 mod floors;
+mod item_effects;
 mod laws;
-mod loading;
+mod loader;
 mod memo;
-mod moderating;
-mod once;
-mod rising;
-mod sending;
+mod moderator_answers;
+mod operator_acts;
+mod remembered_files;
+mod sent_reports;
 mod slots;
-mod timing;
+mod timed_runs;
 
-pub use applying::{apply, apply_with_memo};
 pub use floors::floor;
+pub use item_effects::{apply, apply_with_memo};
 pub use laws::{law_damage, law_undamaged};
-pub use loading::load;
+pub use loader::load;
 pub use memo::Memo;

@@ -7,7 +7,7 @@ use Rattle.ml_base.specs.ReadFiles.{AreKept, NamesDamaged}
 use Rattle.ml_base.specs.declared.files.Files.{Ghosts}
 use Rattle.ml_base.specs.declared.names.Name.{Name}
 use Rattle.ml_base.specs.declared.names.Set.TheVariants as sets
-use Rattle.ml_base.specs.declared.part.PartError.{PartError}
+use Rattle.ml_base.specs.declared.part_error.PartError.{PartError}
 use Rattle.ml_base.specs.declared.puts.Put.{Put}
 use Rattle.ml_base.proofs.ReadingLemmas.{KeepsOn}
 use Rattle.ml_filing.specs.Threads.{is_of_archive}

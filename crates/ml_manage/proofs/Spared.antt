@@ -12,7 +12,7 @@ use Rattle.ml_base.specs.declared.files.Files.{Ghosts}
 use Rattle.ml_base.specs.declared.names.Name.{Name}
 use Rattle.ml_base.specs.declared.names.Set.{Set}
 use Rattle.ml_base.specs.declared.names.Set.TheVariants as sets
-use Rattle.ml_base.specs.declared.part.PartError.{PartError}
+use Rattle.ml_base.specs.declared.part_error.PartError.{PartError}
 use Rattle.ml_base.proofs.Bools.{one_name}
 use Rattle.ml_base.proofs.DamagedNames.{err_both_damaged}
 use Rattle.ml_bounce.specs.Answers.{has_ledger, key_file}

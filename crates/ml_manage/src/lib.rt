@@ -3,13 +3,13 @@
 #![tactic(auto)]
 
 mod archive;
-mod asking;
 mod bounces;
-mod helping;
-mod managing;
+mod help_and_owner;
+mod managed_requests;
 mod members;
-mod naming;
+mod named_addresses;
+mod rules;
 mod texts;
 
-pub use asking::is_managed;
-pub use managing::manage;
+pub use managed_requests::is_managed;
+pub use rules::manage;

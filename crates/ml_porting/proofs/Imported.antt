@@ -17,7 +17,7 @@ use Rattle.ml_reading.specs.declared.question.Answer.TheVariants as answers
 use Rattle.ml_stream.specs.Writing.{stream_text}
 use Rattle.ml_porting.specs.Imports.{import_answer, mails_of}
 use Rattle.ml_porting.specs.Questions.{importing_by, importing_meaning, importing_of}
-use Rattle.ml_porting.specs.declared.importing.Importing.{Importing}
+use Rattle.ml_porting.specs.declared.import_question.Importing.{Importing}
 
 -- whether one of the deliveries is too long, by the mails
 any_made : (c : Config) (mails : List Boxed) → list_any is_long (acts_of c mails) ≡ list_any (λ (m : Boxed). is_long (act_of c m)) mails

@@ -7,7 +7,7 @@ use Rattle.ml_reading.specs.Meanings.{Meaning}
 use Rattle.ml_reading.specs.declared.question.Answer.TheVariants as answers
 use Rattle.ml_porting.specs.Imports.{import_answer, mails_of}
 use Rattle.ml_porting.specs.Mailboxes.{IsBadForMailbox, IsMailboxName, IsRangeMailbox, range_mailbox}
-use Rattle.ml_porting.specs.declared.importing.Importing.{Importing}
+use Rattle.ml_porting.specs.declared.import_question.Importing.{Importing}
 use Rattle.ml_porting.specs.declared.query.MboxQuery.{MboxQuery}
 
 -- the posts of a range as a mailbox: a text, whatever the files hold

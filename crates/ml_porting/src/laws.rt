@@ -13,7 +13,7 @@ ghost use Rattle.ml_reading.specs.declared.question.Answer.TheVariants as answer
 ghost use Rattle.ml_stream.specs.Stream.{IsStream, End};
 ghost use Rattle.ml_porting.specs.Numbers.{IsFirst};
 ghost use Rattle.ml_porting.specs.Questions.{importing_meaning, importing_of};
-ghost use Rattle.ml_porting.specs.declared.importing.Importing.{Importing as TheImporting};
+ghost use Rattle.ml_porting.specs.declared.import_question.Importing.{Importing as TheImporting};
 ghost use Rattle.ml_stream.specs.Writing.{stream_text};
 ghost use Rattle.ml_porting.specs.Import.{Fits};
 

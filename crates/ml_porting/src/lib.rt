@@ -2,7 +2,7 @@
 #![tactic(auto)]
 
 mod error;
-mod importing;
+mod import_question;
 mod laws;
 mod mailbox;
 mod query;
@@ -10,7 +10,7 @@ mod stream;
 mod words;
 
 pub use error::ImportError;
-pub use importing::{ImportWords, Importing, LAST_IMPORT_START, MOST_MAILBOX};
+pub use import_question::{ImportWords, Importing, LAST_IMPORT_START, MOST_MAILBOX};
 pub use laws::{law_import, law_importing};
 pub use query::MboxQuery;
 pub use stream::import_text;

@@ -14,8 +14,8 @@ use Rattle.ml_plain.specs.declared.Reply.{Reply}
 use Rattle.ml_acts.specs.Found.{TellsMember}
 use Rattle.ml_post.specs.Found.{FoundByPost, FoundOfPost, FoundOfRoom, FoundOfSender, FoundOfText, FoundOfUser, FoundToFollow, TellsDenied, TellsStranger, TellsUser}
 use Rattle.ml_post.specs.Posting.{outcome_of}
-use Rattle.ml_post.specs.declared.posting.Outcome.{Outcome}
-use Rattle.ml_post.specs.declared.posting.Outcome.TheVariants as fates
+use Rattle.ml_post.specs.declared.incoming_mail.Outcome.{Outcome}
+use Rattle.ml_post.specs.declared.incoming_mail.Outcome.TheVariants as fates
 use Rattle.ml_post.specs.declared.verdicts.Verdict.{Verdict as Found}
 use Rattle.ml_post.specs.declared.verdicts.Verdict.TheVariants as found
 

@@ -1,11 +1,11 @@
 -- A post that is held isn't too big, by its verdict.
 use Rattle.std.proofs.Common.{◌≡◌, ◌≢◌, ◌≤◌, ◌∙◌, ℕ, IsTrue, IfOk, Result, Ok, Err, sym, ap, arith}
 use Rattle.std.proofs.lemmas.Bool.{and_parts, leb-true}
-use Rattle.ml_base.specs.declared.part.PartError.{PartError}
+use Rattle.ml_base.specs.declared.part_error.PartError.{PartError}
 use Rattle.ml_config.specs.Configuration.{is_max}
 use Rattle.ml_plain.specs.Answers as answers
 use Rattle.ml_post.specs.Posting.{outcome_of}
-use Rattle.ml_post.specs.declared.posting.Outcome.TheVariants as fates
+use Rattle.ml_post.specs.declared.incoming_mail.Outcome.TheVariants as fates
 use Rattle.ml_post.specs.declared.verdicts.Verdict.{Verdict as Found}
 use Rattle.ml_post.specs.declared.verdicts.Verdict.TheVariants as found
 

@@ -23,7 +23,7 @@ use Rattle.ml_acts.specs.Doing.{DoesList}
 use Rattle.ml_post.specs.Judging as rows
 use Rattle.ml_post.specs.Posting.{outcome_of, reply_of}
 use Rattle.ml_post.specs.Publishing.{Publishes}
-use Rattle.ml_post.specs.declared.posting.Outcome.TheVariants as fates
+use Rattle.ml_post.specs.declared.incoming_mail.Outcome.TheVariants as fates
 use Rattle.ml_post.specs.declared.verdicts.Verdict.{Verdict as Found}
 use Rattle.ml_post.specs.declared.verdicts.Verdict.TheVariants as found
 

@@ -20,8 +20,8 @@ use Rattle.ml_queue.specs.Answers.{ids_name}
 use Rattle.ml_acts.specs.Asked.{IsBadFor, Next}
 use Rattle.ml_acts.specs.Damaged.{IsDamaged}
 use Rattle.ml_post.specs.Publishing.{is_published_by, sent_key}
-use Rattle.ml_post.specs.declared.answering.Decision.{Decision}
-use Rattle.ml_post.specs.declared.answering.Decision.TheVariants as decisions
+use Rattle.ml_post.specs.declared.moderator_answers.Decision.{Decision}
+use Rattle.ml_post.specs.declared.moderator_answers.Decision.TheVariants as decisions
 
 -- whether a moderator accepts the post
 abbrev pub accepts : Decision → Bool

@@ -7,8 +7,8 @@ use Rattle.ml_filing.specs.declared.posts.Appended.TheVariants.{At, Full}
 use Rattle.ml_config.specs.declared.configuration.Config.{Config}
 use Rattle.ml_plain.specs.declared.Reply.{Reply}
 use Rattle.ml_plain.specs.Answers as answers
-use Rattle.ml_post.specs.declared.posting.Outcome.{Outcome}
-use Rattle.ml_post.specs.declared.posting.Outcome.TheVariants as fates
+use Rattle.ml_post.specs.declared.incoming_mail.Outcome.{Outcome}
+use Rattle.ml_post.specs.declared.incoming_mail.Outcome.TheVariants as fates
 use Rattle.ml_post.specs.declared.verdicts.Verdict.{Verdict as Found}
 use Rattle.ml_post.specs.declared.verdicts.Verdict.TheVariants as found
 use Rattle.ml_post.specs.Holding.{is_held_by}

@@ -5,7 +5,7 @@ use crate::changes::Changes;
 use crate::descriptors::{
     lacks_descriptor, length_of, make_folder, open_folder, open_to_read, open_to_write, remove_file,
 };
-use crate::listing::Listing;
+use crate::file_numbers::Listing;
 use crate::log::LOG;
 use crate::places::{Paths, Place, depth_of};
 use memchr::memchr_iter;

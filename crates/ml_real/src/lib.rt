@@ -5,8 +5,8 @@
 mod changes;
 mod clock;
 mod descriptors;
+mod file_numbers;
 mod folder;
-mod listing;
 mod log;
 mod places;
 mod site;

@@ -6,7 +6,7 @@ use Rattle.ml_plain.specs.declared.Item.{Item}
 use Rattle.ml_plain.specs.Histories.{State}
 use Rattle.ml_ending.specs.declared.lines.Why.{Why}
 use Rattle.ml_ending.specs.declared.lines.Why.TheVariants as whys
-use Rattle.ml_stream.specs.declared.stream.StreamError.{StreamError}
+use Rattle.ml_stream.specs.declared.stream_error.StreamError.{StreamError}
 use Rattle.ml_ending.specs.Stops.{status_of_why}
 use Rattle.ml_stream.specs.Stream.{End, Broken}
 use Rattle.ml_run.specs.Endings.{Runs, EndsEarly, AnswersAll}

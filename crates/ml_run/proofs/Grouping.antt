@@ -22,8 +22,8 @@ use Rattle.ml_run.specs.declared.groups.GroupEnd.TheVariants as ends
 use Rattle.ml_ending.specs.declared.lines.Why.{Why}
 use Rattle.ml_ending.specs.declared.lines.Why.TheVariants as whys
 use Rattle.ml_base.specs.declared.names.Name.{Name}
-use Rattle.ml_base.specs.declared.part.PartError.{PartError}
-use Rattle.ml_base.specs.declared.part.PartError.TheVariants.{Fault, Memory, Damaged}
+use Rattle.ml_base.specs.declared.part_error.PartError.{PartError}
+use Rattle.ml_base.specs.declared.part_error.PartError.TheVariants.{Fault, Memory, Damaged}
 use Rattle.ml_base.specs.PartErrors.{OnDamaged}
 use Rattle.ml_ending.specs.Stops.{why_of_part}
 use Rattle.ml_stream.specs.Stream.{StreamEnd}

@@ -15,7 +15,7 @@ use Rattle.ml_plain.specs.declared.Item.{Item}
 use Rattle.ml_stream.specs.Items.{HasLeft, NextRead, place_of}
 use Rattle.ml_stream.specs.Stream.{StreamEnd, End, Broken, IsStream, item_at, got}
 use Rattle.ml_stream.specs.Writing.{IsTyped, spelled_item}
-use Rattle.ml_stream.specs.declared.stream.StreamError.TheVariants as errors
+use Rattle.ml_stream.specs.declared.stream_error.StreamError.TheVariants as errors
 use Rattle.ml_stream.proofs.Spelled.{item_written}
 use Rattle.ml_run.specs.Feeds.{IsHeld, bytes_held, reader_held}
 use Rattle.ml_run.specs.Groups.{IsOfNext}

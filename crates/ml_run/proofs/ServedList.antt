@@ -14,7 +14,7 @@ use Rattle.ml_plain.specs.declared.Item.{Item}
 use Rattle.ml_plain.specs.Histories.{State, fold}
 use Rattle.ml_plain.specs.Replies.{is_status}
 use Rattle.ml_list.proofs.States.{last-nil}
-use Rattle.ml_ending.specs.declared.closing.Ending.{Ending}
+use Rattle.ml_ending.specs.declared.endings.Ending.{Ending}
 use Rattle.ml_ending.specs.declared.lines.Why.{Why}
 use Rattle.ml_ending.specs.declared.lines.Why.TheVariants as whys
 use Rattle.ml_ending.specs.Endings.{StopLine, who_of, Finishes, Opens, Refuses, Says}

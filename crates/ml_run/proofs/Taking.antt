@@ -9,8 +9,8 @@ use Rattle.ml_run.specs.declared.groups.GroupEnd.{GroupEnd}
 use Rattle.ml_run.specs.declared.groups.GroupEnd.TheVariants as ends
 use Rattle.ml_ending.specs.declared.lines.Why.{Why}
 use Rattle.ml_ending.specs.declared.lines.Why.TheVariants as whys
-use Rattle.ml_stream.specs.declared.stream.StreamError.{StreamError}
-use Rattle.ml_stream.specs.declared.stream.StreamError.TheVariants.{Bad, Short, Fault, Memory}
+use Rattle.ml_stream.specs.declared.stream_error.StreamError.{StreamError}
+use Rattle.ml_stream.specs.declared.stream_error.StreamError.TheVariants.{Bad, Short, Fault, Memory}
 use Rattle.ml_stream.specs.Stream.{got, Read, StreamEnd, End, Broken, IsStream, after_letter, elements_at, item_at, letter_of}
 use Rattle.ml_stream.specs.Reading.{EndsEarly, IsNoItem, Tells}
 use Rattle.ml_stream.specs.Items.{HasLeft, place_of, ahead_of}

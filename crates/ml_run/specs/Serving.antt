@@ -6,7 +6,7 @@ use Rattle.ml_site.specs.Disk.{Contents}
 use Rattle.ml_site.specs.declared.site.Site.{Ghosts}
 use Rattle.ml_plain.specs.Histories.{State}
 use Rattle.ml_plain.specs.declared.Item.{Item}
-use Rattle.ml_ending.specs.declared.closing.Ending.{Ending}
+use Rattle.ml_ending.specs.declared.endings.Ending.{Ending}
 use Rattle.ml_stream.specs.Stream.{StreamEnd}
 use Rattle.ml_run.specs.declared.feed.Feed.{Ghosts as FeedGhosts}
 use Rattle.ml_run.specs.Clauses.{AnswersStream}

@@ -8,7 +8,7 @@ use Rattle.ml_plain.specs.Histories.{State}
 use Rattle.ml_plain.specs.Replies.{is_status}
 use Rattle.ml_plain.specs.declared.Item.{Item}
 use Rattle.ml_ending.specs.Endings.{Opens}
-use Rattle.ml_ending.specs.declared.closing.Ending.{Ending}
+use Rattle.ml_ending.specs.declared.endings.Ending.{Ending}
 use Rattle.ml_stream.specs.Stream.{StreamEnd, End}
 use Rattle.ml_run.specs.Groups.{IsOfNext}
 use Rattle.ml_run.specs.Clauses.{ClosesRun, CountsSite, SaysRefusal}

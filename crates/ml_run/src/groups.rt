@@ -5,7 +5,7 @@ ghost use Rattle.ml_journal.specs.Records.{content_size};
 ghost use Rattle.ml_plain.specs.Replies.{is_code, is_status, line};
 ghost use Rattle.ml_run.specs.Groups.{IsGroup, IsEmptyGroup, HasNext, first_number};
 
-use crate::laying::laid;
+use crate::laid_puts::laid;
 use crate::lines::answer_line;
 use ml_base::{Bytes, Put, Txn};
 use ml_ending::Why;

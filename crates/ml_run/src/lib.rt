@@ -1,23 +1,23 @@
 //! The run that answers a stream of items, and the making of a list.
 #![tactic(auto)]
 
-mod adding;
 mod feed;
-mod feeding;
-mod gathering;
+mod feed_run;
+mod group_commit;
+mod group_items;
+mod group_loop;
 mod groups;
+mod item_puts;
+mod laid_puts;
 mod laws;
-mod laying;
 mod lines;
-mod making;
-mod running;
-mod serving;
-mod settling;
+mod new_list;
+mod runs;
 
 pub use laws::law_joined;
 pub use lines::answer_line;
-pub use making::make;
 pub use ml_ending::{Ending, Why, stop, stop_line};
 pub use ml_generated::{Generated, law_generated};
 pub use ml_stream::{Items, StreamError, law_fronts, law_items, law_streams, write_item};
-pub use running::{run, run_item};
+pub use new_list::make;
+pub use runs::{run, run_item};

@@ -4,7 +4,7 @@ use Rattle.std.proofs.lemmas.Bool.{le-leb, leb-true}
 use Rattle.std.specs.Prelude.{nat_le, nat_lt, IsTrue, IsOk, IsErr, IsErrOf, Contains}
 use Rattle.ml_base.specs.Faults.{next_call, one_more}
 use Rattle.ml_site.specs.declared.call.Call.{Call}
-use Rattle.ml_site.specs.declared.mem.MemSite.{MemSite}
+use Rattle.ml_site.specs.declared.mem_site.MemSite.{MemSite}
 use Rattle.ml_site.specs.declared.site.Failed.{Failed}
 use Rattle.ml_site.specs.declared.site.SiteError.{SiteError}
 use Rattle.ml_site.specs.declared.site.SiteError.TheVariants.{Memory, Failed as FailedCall}

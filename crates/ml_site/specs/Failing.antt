@@ -1,7 +1,7 @@
 -- Which calls of a site in memory fail.
 use Rattle.std.specs.Prelude.{◌≡◌, ◌⊎◌, ◌<◌, ℕ, Bool, IsTrue, Contains}
 use Rattle.ml_base.specs.Faults.{next_call}
-use Rattle.ml_base.specs.declared.plan.FaultPlan.{FaultPlan}
+use Rattle.ml_base.specs.declared.fault_plan.FaultPlan.{FaultPlan}
 
 -- A call was counted. It fails exactly if its number is named or above the last one's, if the record of calls is full, or if
 -- there is no room elsewhere.

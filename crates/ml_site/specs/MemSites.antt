@@ -1,7 +1,7 @@
 -- What a site in memory shows: its disk, its output, its record and its counts.
 use Rattle.std.specs.Prelude.{◌≡◌, ℕ, ◌-◌, ◌^◌, true, List, [], length, take}
 use Rattle.std.specs.Vec.{vec_capacity}
-use Rattle.ml_site.specs.declared.mem.MemSite.{MemSite}
+use Rattle.ml_site.specs.declared.mem_site.MemSite.{MemSite}
 use Rattle.ml_site.specs.Clauses.{OnDisk, SameNumbers}
 use Rattle.ml_site.specs.Disk.{Contents, Disk}
 use Rattle.ml_site.specs.Recorded.{after, at_rest, contents, given, Left, total, size_synced, size_logged}

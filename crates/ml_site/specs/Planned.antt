@@ -1,7 +1,7 @@
 -- How each call of a site in memory ends: done, failed, or without memory.
 use Rattle.std.specs.Prelude.{◌≡◌, ◌⊎◌, ◌↔◌, ◌<◌, ◌≤◌, ℕ, ◌+◌, nat_lt, if◌then◌else◌, List, [], ◌++◌, length, Contains, Result, IsOk, IsErr, IsErrOf}
 use Rattle.ml_base.specs.Faults.{next_call, one_more}
-use Rattle.ml_site.specs.declared.mem.MemSite.{MemSite}
+use Rattle.ml_site.specs.declared.mem_site.MemSite.{MemSite}
 use Rattle.ml_site.specs.declared.site.Failed.{Failed}
 use Rattle.ml_site.specs.declared.site.SiteError.{SiteError}
 use Rattle.ml_site.specs.declared.site.SiteError.TheVariants.{Memory, Failed as FailedCall}

@@ -5,17 +5,17 @@
 mod call;
 mod fill;
 mod image;
-mod mem;
+mod mem_site;
 mod replay;
 mod site;
 mod source;
 mod streams;
-mod unfailing;
+mod unfailing_site;
 
 pub use fill::Fill;
 pub use image::Image;
-pub use mem::MemSite;
+pub use mem_site::MemSite;
 pub use site::{Failed, Site, SiteError};
 pub use source::{Clock, Source};
 pub use streams::{MemClock, MemSource};
-pub use unfailing::Unfailing;
+pub use unfailing_site::Unfailing;

@@ -4,8 +4,8 @@ use Rattle.std.proofs.lemmas.Option.{same_Some}
 use Rattle.ml_base.specs.Bytes.{Text, is_empty}
 use Rattle.ml_plain.specs.declared.Item.{Item}
 use Rattle.ml_stream.specs.declared.reader.Letter.{Letter}
-use Rattle.ml_stream.specs.declared.stream.StreamError.{StreamError}
-use Rattle.ml_stream.specs.declared.stream.StreamError.TheVariants.{Bad}
+use Rattle.ml_stream.specs.declared.stream_error.StreamError.{StreamError}
+use Rattle.ml_stream.specs.declared.stream_error.StreamError.TheVariants.{Bad}
 use Rattle.ml_stream.specs.Stream.{Read, got, and_then, StreamEnd, End, Broken, IsStream, item_at, after_letter, letter_of, elements_at, some_item}
 
 abbrev ItemRead : Type 0

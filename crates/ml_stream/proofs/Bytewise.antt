@@ -4,7 +4,7 @@ use Rattle.std.specs.Option.{option_to_list}
 use Rattle.std.proofs.lemmas.Bool.Decides.{when_true, when_false, nat_tests}
 use Rattle.ml_stream.specs.Reading.{Stands, Steps}
 use Rattle.ml_stream.specs.Stream.{length_at, got}
-use Rattle.ml_stream.specs.declared.stream.StreamError.TheVariants.{Bad}
+use Rattle.ml_stream.specs.declared.stream_error.StreamError.TheVariants.{Bad}
 use Rattle.ml_base.specs.Numbers.{is_next_digit}
 use Rattle.std.proofs.lemmas.Bool.{eq-eqb, ne_eqb}
 

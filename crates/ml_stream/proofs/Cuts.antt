@@ -8,8 +8,8 @@ use Rattle.ml_base.specs.Bytes.{Text}
 use Rattle.ml_base.specs.Numbers.{moment_in}
 use Rattle.ml_plain.specs.declared.Item.{Item}
 use Rattle.ml_stream.specs.declared.reader.Letter.{Letter}
-use Rattle.ml_stream.specs.declared.stream.StreamError.{StreamError}
-use Rattle.ml_stream.specs.declared.stream.StreamError.TheVariants.{Bad, Short, Fault, Memory}
+use Rattle.ml_stream.specs.declared.stream_error.StreamError.{StreamError}
+use Rattle.ml_stream.specs.declared.stream_error.StreamError.TheVariants.{Bad, Short, Fault, Memory}
 use Rattle.ml_stream.specs.Stream.{Got, Read, got, and_then, length_at, bytes_at, content_at, comma_at, closed, element_at, item_number_of, any_bytes, deliver_at, act_at, elements_at, letter_of, some_item, Broken}
 use Rattle.ml_stream.specs.Reading.{Stands, EndsEarly, Fails, IsCut, IsHindrance, IsNoItem, IsUnfinished}
 use Rattle.ml_stream.proofs.Locality.{IsLocal, length_local, content_local, element_local}

@@ -10,7 +10,7 @@ use Rattle.ml_plain.specs.declared.Act.TheVariants.{Add, Remove}
 use Rattle.ml_plain.specs.declared.Item.{Item}
 use Rattle.ml_stream.specs.declared.reader.Letter.{Letter}
 use Rattle.ml_stream.specs.declared.reader.Letter.TheVariants as letters
-use Rattle.ml_stream.specs.declared.stream.StreamError.TheVariants.{Bad, Short}
+use Rattle.ml_stream.specs.declared.stream_error.StreamError.TheVariants.{Bad, Short}
 use Rattle.ml_stream.specs.Stream.{Got, Read, got, and_then, length_at, content_at, comma_at, closed, element_at, item_number_of, floor_of, id_of, key_of, any_bytes, member_at, add_at, remove_at, deliver_at, sent_at, floor_at, rekey_at, act_at, elements_at, item_at, letter_of, after_letter, some_item, StreamEnd, End, Broken, IsStream}
 use Rattle.ml_stream.proofs.Ahead.{stream_end, stream_err, stream_item}
 

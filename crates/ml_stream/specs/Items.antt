@@ -5,7 +5,7 @@ use Rattle.ml_plain.specs.declared.Item.{Item}
 use Rattle.ml_stream.specs.Stream.{Read, got}
 use Rattle.ml_stream.specs.Reading.{Stands, Tells}
 use Rattle.ml_stream.specs.declared.items.Items.{Items}
-use Rattle.ml_stream.specs.declared.stream.StreamError.{StreamError}
+use Rattle.ml_stream.specs.declared.stream_error.StreamError.{StreamError}
 
 -- its place in the stream
 abbrev pub place_of : Items → ℕ

@@ -3,8 +3,8 @@ use Rattle.std.specs.Prelude.{◌≡◌, ◌⊎◌, ℕ, ◌+◌, ◌^◌, ◌<�
 use Rattle.std.specs.Option.{option_to_list}
 use Rattle.ml_base.specs.Bytes.{Text}
 use Rattle.ml_stream.specs.Stream.{Read, StreamEnd, IsStream, got}
-use Rattle.ml_stream.specs.declared.stream.StreamError.{StreamError}
-use Rattle.ml_stream.specs.declared.stream.StreamError.TheVariants.{Bad, Short, Fault, Memory}
+use Rattle.ml_stream.specs.declared.stream_error.StreamError.{StreamError}
+use Rattle.ml_stream.specs.declared.stream_error.StreamError.TheVariants.{Bad, Short, Fault, Memory}
 
 -- These bytes are left from this place on, including the byte read ahead, and their places fit in 64 bits.
 pub record Stands (place : ℕ) (ahead : Option ℕ) (left : Option Text) (bs : Text) : Type 0 where

@@ -6,7 +6,7 @@ ghost use Rattle.ml_plain.specs.Items.{IsItem};
 ghost use Rattle.ml_stream.specs.Stream.{item_at};
 ghost use Rattle.ml_stream.specs.Items.{HasLeft, NextRead, place_of, ahead_of, error_of};
 ghost use Rattle.ml_stream.specs.Reading.{EndsEarly, IsNoItem};
-ghost use Rattle.ml_stream.specs.declared.stream.StreamError.{StreamError as TheError};
+ghost use Rattle.ml_stream.specs.declared.stream_error.StreamError.{StreamError as TheError};
 
 use crate::StreamError;
 use crate::reader::Reader;

@@ -6,7 +6,7 @@ use Rattle.ml_base.specs.Sorted.{byte_cmp}
 use Rattle.ml_base.specs.declared.names.Set.{Set}
 use Rattle.ml_base.specs.declared.names.Set.TheVariants as sets
 use Rattle.ml_base.specs.declared.names.Name.{Name}
-use Rattle.ml_base.specs.declared.part.PartError.{PartError}
+use Rattle.ml_base.specs.declared.part_error.PartError.{PartError}
 use Rattle.ml_base.specs.PartErrors.{OnDamaged}
 use Rattle.ml_keyed.specs.Buckets.{AreFirst, counted}
 use Rattle.ml_keyed.proofs.Files.{Reads, reads_none, reads_more, union_own, union_sorted}

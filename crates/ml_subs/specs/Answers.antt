@@ -5,8 +5,8 @@ use Rattle.ml_base.specs.Dir.{Dir, with_puts}
 use Rattle.ml_base.specs.declared.names.Set.{Set}
 use Rattle.ml_base.specs.declared.puts.Put.{Put}
 use Rattle.ml_subs.specs.declared.member_list.Member.{Member}
-use Rattle.ml_subs.specs.declared.changing.AddAnswer.{AddAnswer}
-use Rattle.ml_subs.specs.declared.changing.AddAnswer.TheVariants.{Added, Already, Full}
+use Rattle.ml_subs.specs.declared.set_changes.AddAnswer.{AddAnswer}
+use Rattle.ml_subs.specs.declared.set_changes.AddAnswer.TheVariants.{Added, Already, Full}
 use Rattle.ml_subs.specs.Members.{has_key, with_member, without_member, member_key}
 use Rattle.ml_subs.specs.Buckets.{bucket_of, bucket_file}
 use Rattle.ml_subs.specs.Subscribers.{AreSubscribers, bucket_name, count_name, count_text}

@@ -2,26 +2,26 @@
 //! their number in another file. Here they are found, listed, added, removed and checked.
 #![tactic(auto)]
 
-mod again;
 mod audits;
-mod changing;
-mod checked;
+mod bucket_number;
+mod bucket_writer;
+mod checked_texts;
 mod counts;
-mod hashing;
-mod keyed;
+mod keyed_members;
+mod known_places;
 mod laws;
 mod lists;
 mod member_list;
 mod places;
 mod records;
-mod rewriting;
+mod set_changes;
 mod sets;
 
 pub use audits::audit;
-pub use changing::AddAnswer;
-pub use checked::Checked;
-pub use hashing::bucket;
+pub use bucket_number::bucket;
+pub use checked_texts::Checked;
 pub use laws::{law_changes, law_order, law_sets};
 pub use lists::{Spelling, all, all_with_memo, members};
 pub use member_list::{Member, MemberList};
+pub use set_changes::AddAnswer;
 pub use sets::{add, add_with_memo, find, member, remove, remove_with_memo, size};

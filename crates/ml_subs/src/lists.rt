@@ -4,7 +4,7 @@ ghost use Rattle.std.specs.List.Sorted.{IsPermutation, IsSortedByKey};
 ghost use Rattle.ml_base.specs.Address.{key};
 ghost use Rattle.ml_base.specs.Sorted.{byte_cmp, is_sorted};
 ghost use Rattle.ml_base.specs.PartErrors.{OnDamaged};
-ghost use Rattle.ml_base.specs.declared.part.PartError.TheVariants.{Fault};
+ghost use Rattle.ml_base.specs.declared.part_error.PartError.TheVariants.{Fault};
 ghost use Rattle.ml_base.specs.ReadFiles.{IsReading, NamesDamaged};
 ghost use Rattle.ml_subs.specs.declared.member_list.Member.{Member};
 ghost use Rattle.ml_subs.specs.Members.{member_key, IsOrdered};
@@ -13,7 +13,7 @@ ghost use Rattle.ml_keyed.specs.Buckets.{gathered};
 ghost use Rattle.ml_subs.specs.Subscribers.{AreSubscribers, AreJoined, AreBuckets, AreFiles, IsSpelled, file_in, IsBucketName, IsBadBucket};
 ghost use Rattle.ml_subs.specs.Reading.{AreRead, AreAdded};
 
-use crate::keyed::Keyed;
+use crate::keyed_members::Keyed;
 use crate::places::split_layout;
 use crate::records::{Layout, next_member};
 use crate::{Member, MemberList};

@@ -13,7 +13,7 @@ use Rattle.ml_base.specs.declared.files.Files.{Ghosts}
 use Rattle.ml_base.specs.declared.names.Name.{Name}
 use Rattle.ml_base.specs.declared.names.Set.{Set}
 use Rattle.ml_base.specs.declared.names.Set.TheVariants as sets
-use Rattle.ml_base.specs.declared.part.PartError.{PartError}
+use Rattle.ml_base.specs.declared.part_error.PartError.{PartError}
 use Rattle.ml_base.proofs.DamagedNames.{err_damaged}
 use Rattle.ml_bounce.specs.Answers.{IsBadFile, IsFileName, has_ledger, key_file, ledger_kind}
 use Rattle.ml_bounce.specs.Files.{ledger_place}

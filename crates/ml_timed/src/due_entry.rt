@@ -16,7 +16,7 @@ ghost use Rattle.ml_timed.specs.Found.{is_followed_up};
 ghost use Rattle.ml_timed.specs.Reads.{is_followed_by};
 ghost use Rattle.ml_timed.specs.Telling.{is_mailed};
 
-use crate::telling::{cookie_kind, mail_for, tell};
+use crate::bounce_mails::{cookie_kind, mail_for, tell};
 use ml_acts::Moment;
 use ml_base::{Address, Files, PartError, Set, Txn};
 use ml_bounce::{Action, act, forget};

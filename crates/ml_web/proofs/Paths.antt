@@ -7,8 +7,8 @@ use Rattle.ml_filing.proofs.Represented.{in_table}
 use Rattle.ml_base.specs.Name.{is_in_table}
 use Rattle.ml_base.specs.PartErrors.{OnDamaged}
 use Rattle.ml_base.specs.declared.names.Name.{Name}
-use Rattle.ml_base.specs.declared.part.PartError.{PartError}
-use Rattle.ml_base.specs.declared.part.PartError.TheVariants.{Fault, Memory, Damaged}
+use Rattle.ml_base.specs.declared.part_error.PartError.{PartError}
+use Rattle.ml_base.specs.declared.part_error.PartError.TheVariants.{Fault, Memory, Damaged}
 use Rattle.ml_reading.proofs.Paths.{stands_at}
 use Rattle.ml_pages.specs.Reads.{IsIndexesName, IsThreadsName}
 use Rattle.ml_web.specs.Questions.{MayRead}

@@ -1,6 +1,6 @@
 // The calls of the tables, as words: `site`, `unfailing` and `store` with steps in the input, one a line, `source` and `clock`.
-use crate::calls::{on_mem_site, on_unfailing};
-use crate::storing::on_stores;
+use crate::site_steps::{on_mem_site, on_unfailing};
+use crate::store_steps::on_stores;
 use ml_base::{Bytes, Numbers, read_number};
 use ml_site::{Clock, Fill, MemClock, MemSite, MemSource, Source, Unfailing};
 use std::alloc::{AllocError, Global};

@@ -2,14 +2,14 @@
 #![tactic(auto)]
 
 #[cfg(test)]
-mod calls;
-#[cfg(test)]
 mod disk;
 #[cfg(test)]
 mod logs;
 #[cfg(test)]
+mod site_steps;
+#[cfg(test)]
 mod sites;
 #[cfg(test)]
-mod stores;
+mod store_steps;
 #[cfg(test)]
-mod storing;
+mod stores;

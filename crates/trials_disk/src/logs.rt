@@ -1,6 +1,6 @@
 // Logs written by hand: what a store that is opened over each of them shows, and what it leaves of the log.
 use crate::disk::Disk;
-use crate::storing::on_stores;
+use crate::store_steps::on_stores;
 use ml_base::{Bytes, push_netstring};
 use ml_site::{Image, MemSite};
 use std::alloc::{AllocError, Global};

@@ -1,5 +1,5 @@
 // The configuration's file, the keys' file and the words of `make`: each call that takes memory once, and failing reads passed on.
-use crate::told::{push_bool, push_debug};
+use crate::answer_text::{push_bool, push_debug};
 use ml_base::{Bytes, Files, Layer, MapFiles, Name, Numbers, PartError, Put};
 use ml_config::{
     Config, ConfigError, Former, Keys, config_from_words, initial, key, load, read_config,

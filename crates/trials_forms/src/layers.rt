@@ -4,9 +4,9 @@ ghost use Rattle.ml_base.specs.Name.{is_file};
 ghost use Rattle.ml_base.specs.Dir.{with_puts};
 ghost use Rattle.ml_base.specs.ReadFiles.{IsReading};
 ghost use Rattle.ml_base.specs.Faults.{Rose};
-ghost use Rattle.ml_base.specs.declared.part.PartError.TheVariants.{Fault};
+ghost use Rattle.ml_base.specs.declared.part_error.PartError.TheVariants.{Fault};
 
-use crate::told::push_debug;
+use crate::answer_text::push_debug;
 use ml_base::{Bytes, Files, Layer, MapFiles, Name, Numbers, PartError, Put, Txn};
 use std::alloc::{AllocError, Global};
 use std::test::Fail;

@@ -2,6 +2,8 @@
 #![tactic(auto)]
 
 #[cfg(test)]
+mod answer_text;
+#[cfg(test)]
 mod configuration;
 #[cfg(test)]
 mod forms;
@@ -11,5 +13,3 @@ mod layers;
 mod tables;
 #[cfg(test)]
 mod texts;
-#[cfg(test)]
-mod told;

@@ -1,6 +1,6 @@
 // Codes, names, numbers, netstrings, addresses and byte strings: each call that takes memory once.
+use crate::answer_text::{push_bool, push_debug, push_pair, push_texts};
 use crate::layers::{failing, in_place, layered};
-use crate::told::{push_bool, push_debug, push_pair, push_texts};
 use ml_base::{
     Address, AddressError, AddressFault, AddressList, Bytes, FilesError, Name, Numbers, PartError,
     compare_keys, copied, hash, hash_lower, is_below, is_drawn, is_kept, is_moment, is_own,

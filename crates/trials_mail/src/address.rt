@@ -3,8 +3,8 @@ ghost use Rattle.std.specs.Prelude.{IsTrue};
 ghost use Rattle.ml_address.specs.Requests.{is_in_range};
 ghost use Rattle.ml_address.specs.Views.{request_view};
 
+use crate::answer_text::{push_bool, push_debug, push_one, push_two};
 use crate::program::word;
-use crate::told::{push_bool, push_debug, push_one, push_two};
 use ml_address::{
     Hmac, Path, Request, Who, Word, cookie, cookie_good, cookie_ok, hmac, read_request, unverp,
     verp, write_request,

@@ -1,6 +1,6 @@
 // Messages: their fields, bodies, unfolded values, and what is sent of them.
+use crate::answer_text::push_bool;
 use crate::program::word;
-use crate::told::push_bool;
 use ml_base::Bytes;
 use ml_header::Message;
 use std::alloc::{AllocError, Global};

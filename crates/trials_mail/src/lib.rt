@@ -4,6 +4,8 @@
 #[cfg(test)]
 mod address;
 #[cfg(test)]
+mod answer_text;
+#[cfg(test)]
 mod header;
 #[cfg(test)]
 mod program;
@@ -11,5 +13,3 @@ mod program;
 mod reply;
 #[cfg(test)]
 mod tables;
-#[cfg(test)]
-mod told;

@@ -1,8 +1,8 @@
 // The mark of the digests in each form, and when a digest is due, at each limit and one short of it.
-use crate::asked::{Asked, NoAnswer};
 use crate::parts::{Parts, push_number, word};
 use crate::program::Calls;
-use crate::{issues, reading};
+use crate::table_call::{Asked, NoAnswer};
+use crate::{digest_reader, issues};
 use ml_base::{Bytes, read_number, split_first};
 use ml_digest::{Mark, Range, due, law_burst, law_digest_text, law_due, law_mark, mark, set_mark};
 use std::alloc::{AllocError, Global};
@@ -10,7 +10,7 @@ use std::test::Fail;
 use trials_scripts::hold;
 
 /// What a call answers: `mark` the last post and the last digest of the mark, `set LAST ISSUE` the mark that is set, `due LAST OLDEST SIZES`
-/// the digest that is due, and those of `issues` and `reading`.
+/// the digest that is due, and those of `issues` and `digest_reader`.
 pub(crate) fn answer(
     alloc: Global,
     parts: &mut Parts,
@@ -26,7 +26,7 @@ pub(crate) fn answer(
     } else if verb == "write" || verb == "burst" {
         issues::answer(alloc, asked)
     } else {
-        reading::answer(alloc, asked)
+        digest_reader::answer(alloc, asked)
     }
 }
 
@@ -195,6 +195,6 @@ fn digests(rt: HostRuntime) -> Result<(), Fail> {
     let alloc = rt.alloc();
     hold::<Calls>(alloc, "digests", TABLE)?;
     hold::<Calls>(alloc, "issues", issues::TABLE)?;
-    hold::<Calls>(alloc, "a digest of other lines", reading::LINES)?;
-    hold::<Calls>(alloc, "digests that are read", reading::TABLE)
+    hold::<Calls>(alloc, "a digest of other lines", digest_reader::LINES)?;
+    hold::<Calls>(alloc, "digests that are read", digest_reader::TABLE)
 }

@@ -1,6 +1,6 @@
 // Issues: their text, written by hand, and what an issue has of every post.
-use crate::asked::{Asked, NoAnswer};
-use crate::reading::told;
+use crate::digest_reader::told;
+use crate::table_call::{Asked, NoAnswer};
 use ml_base::Bytes;
 use ml_config::read_config;
 use ml_digest::{DigestPost, digest_text};

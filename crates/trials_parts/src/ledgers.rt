@@ -1,8 +1,8 @@
 // The ledgers of bounces, with texts written by hand: an address's course at its exact moments and a second before each, and the
 // limits of each range.
-use crate::asked::{Asked, NoAnswer};
 use crate::parts::{Parts, file, push_number, word};
 use crate::program::Calls;
+use crate::table_call::{Asked, NoAnswer};
 use ml_base::{Bytes, Name, Set, Txn, is_moment, is_post_number};
 use ml_bounce::{Action, act, audit, due, forget, note, probe_failed, warn_failed};
 use std::alloc::{AllocError, Global};

@@ -3,11 +3,11 @@
 #![tactic(auto)]
 
 #[cfg(test)]
-mod asked;
+mod digest_reader;
 #[cfg(test)]
 mod digests;
 #[cfg(test)]
-mod held;
+mod held_texts;
 #[cfg(test)]
 mod issues;
 #[cfg(test)]
@@ -19,6 +19,6 @@ mod program;
 #[cfg(test)]
 mod queue;
 #[cfg(test)]
-mod reading;
-#[cfg(test)]
 mod sets;
+#[cfg(test)]
+mod table_call;

@@ -1,5 +1,5 @@
 // The files that calls go over, and the texts of what they answer.
-use crate::asked::NoAnswer;
+use crate::table_call::NoAnswer;
 use ml_base::{Bytes, Files, Layer, Name, Put, Txn};
 use std::alloc::{AllocError, Global};
 use trials_scripts::OnSite;

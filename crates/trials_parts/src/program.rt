@@ -1,8 +1,8 @@
-// The calls of the parts, as words: `held`, `queue`, `ledgers` or `digests`, and what each of these modules takes after it; or `sets steps`,
+// The calls of the parts, as words: `held`, `queue`, `ledgers` or `digests`, and what the module of each takes after it; or `sets steps`,
 // with the steps in the input. `made entries` makes a thousand entries of a ledger.
-use crate::asked::{Asked, NoAnswer};
 use crate::parts::Parts;
-use crate::{digests, held, ledgers, queue, sets};
+use crate::table_call::{Asked, NoAnswer};
+use crate::{digests, held_texts, ledgers, queue, sets};
 use ml_base::{Bytes, Layer, PartError, Txn};
 use ml_site::{Clock, Fill, Image, MemClock, MemSite, MemSource};
 use std::alloc::{AllocError, Global};
@@ -23,7 +23,7 @@ fn answer(
     asked: &Asked<'_>,
 ) -> Result<Bytes, NoAnswer> {
     if part == "held" {
-        held::answer(alloc, parts, asked)
+        held_texts::answer(alloc, parts, asked)
     } else if part == "queue" {
         queue::answer(alloc, parts, asked)
     } else if part == "ledgers" {

@@ -3,9 +3,9 @@ ghost use Rattle.std.specs.Prelude.{◌≡◌, true, IsTrue};
 ghost use Rattle.ml_base.specs.Address.{key};
 ghost use Rattle.ml_base.specs.Sorted.{byte_cmp, is_sorted};
 
-use crate::asked::{Asked, NoAnswer};
 use crate::parts::{Parts, drawn, file, lines, word};
 use crate::program::Calls;
+use crate::table_call::{Asked, NoAnswer};
 use ml_address::{Path, verp};
 use ml_base::{Address, AddressList, Bytes, Name, is_below};
 use ml_queue::{Out, audit, entry, ids, next_id, put, sent};

@@ -1,7 +1,7 @@
 // The set list, with texts written by hand: each call that takes memory once, failing reads, and the limits of a set's size.
-use crate::asked::NoAnswer;
 use crate::parts::{Parts, push_number};
 use crate::program::Calls;
+use crate::table_call::NoAnswer;
 use ml_base::{
     Address, Bytes, Files, FilesError, Layer, Name, Put, Set, Txn, is_below, split_first,
 };

@@ -2,12 +2,12 @@
 #![tactic(auto)]
 
 #[cfg(test)]
-mod asking;
+mod input_questions;
 #[cfg(test)]
-mod giving;
-#[cfg(test)]
-mod listing;
-#[cfg(test)]
-mod noted;
+mod noted_question;
 #[cfg(test)]
 mod program;
+#[cfg(test)]
+mod queue_and_posts;
+#[cfg(test)]
+mod set_members;

@@ -1,6 +1,6 @@
 // The calls of the tables, as words: the queries `members [-t] SET`, `queue`, `out ID` and `show N`; and `note NAME` and `timed NAME`, the question
 // that reads an input, without and with the clock. `make` makes a list, and `spool` gives it the items in the input.
-use crate::noted::Noted;
+use crate::noted_question::Noted;
 use ml_base::{Bytes, Set, read_number};
 use ml_input::ask;
 use ml_reading::{Query, read_list};

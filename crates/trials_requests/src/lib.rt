@@ -4,25 +4,27 @@
 #[cfg(test)]
 mod archive;
 #[cfg(test)]
-mod asking;
-#[cfg(test)]
 mod bounces;
 #[cfg(test)]
-mod confirming;
+mod calls;
 #[cfg(test)]
-mod given_back;
+mod confirmations;
 #[cfg(test)]
-mod joining;
+mod examples;
 #[cfg(test)]
 mod mails;
 #[cfg(test)]
-mod moderated;
+mod moderation;
 #[cfg(test)]
 mod posts;
 #[cfg(test)]
 mod program;
 #[cfg(test)]
+mod returned_posts;
+#[cfg(test)]
 mod rules;
+#[cfg(test)]
+mod subscriptions;
 #[cfg(test)]
 mod timed_bounces;
 #[cfg(test)]
@@ -31,5 +33,3 @@ mod timed_digests;
 mod timed_runs;
 #[cfg(test)]
 mod verdicts;
-#[cfg(test)]
-mod worked;

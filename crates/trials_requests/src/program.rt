@@ -4,10 +4,10 @@
 ghost use Rattle.std.specs.Prelude.{IfOk};
 ghost use Rattle.ml_config.specs.Configuration.{IsConfig};
 
-use crate::asking::{Told, answered, found, mailed, posted, served, timed_run};
+use crate::calls::{Told, answered, found, mailed, posted, served, timed_run};
 use crate::{
-    archive, bounces, confirming, given_back, joining, mails, moderated, posts, rules,
-    timed_bounces, timed_digests, timed_runs, verdicts, worked,
+    archive, bounces, confirmations, examples, mails, moderation, posts, returned_posts, rules,
+    subscriptions, timed_bounces, timed_digests, timed_runs, verdicts,
 };
 use ml_base::{Bytes, read_number};
 use ml_config::Config;
@@ -178,17 +178,17 @@ fn posts_and_answers(rt: HostRuntime) -> Result<(), Fail> {
     let alloc = rt.alloc();
     hold::<Requests>(alloc, "verdicts", verdicts::TABLE)?;
     hold::<Requests>(alloc, "posts", posts::TABLE)?;
-    hold::<Requests>(alloc, "moderated", moderated::TABLE)
+    hold::<Requests>(alloc, "moderated", moderation::TABLE)
 }
 
 #[test]
 fn mail_to_other_addresses(rt: HostRuntime) -> Result<(), Fail> {
     let alloc = rt.alloc();
     hold::<Requests>(alloc, "rules", rules::TABLE)?;
-    hold::<Requests>(alloc, "joining", joining::TABLE)?;
-    hold::<Requests>(alloc, "confirming", confirming::TABLE)?;
+    hold::<Requests>(alloc, "joining", subscriptions::TABLE)?;
+    hold::<Requests>(alloc, "confirming", confirmations::TABLE)?;
     hold::<Requests>(alloc, "mails", mails::TABLE)?;
-    hold::<Requests>(alloc, "worked", worked::TABLE)?;
+    hold::<Requests>(alloc, "worked", examples::TABLE)?;
     hold::<Requests>(alloc, "bounces", bounces::TABLE)?;
     hold::<Requests>(alloc, "archive", archive::TABLE)
 }
@@ -201,7 +201,7 @@ fn answers_are_cut(rt: HostRuntime) -> Result<(), Fail> {
 #[test]
 fn due_things_are_done(rt: HostRuntime) -> Result<(), Fail> {
     let alloc = rt.alloc();
-    hold::<Requests>(alloc, "held posts", given_back::TABLE)?;
+    hold::<Requests>(alloc, "held posts", returned_posts::TABLE)?;
     hold::<Requests>(alloc, "bounces of timed runs", timed_bounces::TABLE)?;
     hold::<Requests>(alloc, "digests", timed_digests::TABLE)?;
     hold::<Requests>(alloc, "timed runs", timed_runs::TABLE)

@@ -3,11 +3,13 @@
 #![tactic(auto)]
 
 #[cfg(test)]
-mod applying;
-#[cfg(test)]
 mod ends;
 #[cfg(test)]
 mod exercises;
+#[cfg(test)]
+mod item_effects;
+#[cfg(test)]
+mod item_texts;
 #[cfg(test)]
 mod items;
 #[cfg(test)]
@@ -15,11 +17,9 @@ mod lines;
 #[cfg(test)]
 mod program;
 #[cfg(test)]
-mod reading;
-#[cfg(test)]
-mod running;
-#[cfg(test)]
 mod runs;
+#[cfg(test)]
+mod site_runs;
 #[cfg(test)]
 mod stops;
 #[cfg(test)]

@@ -1,8 +1,8 @@
 // The calls of the tables, as words. Of runs, with the input as the stream: `make`, `spool LIMIT`, `cut BYTES`, `longest LEAST MOST`,
 // `members COUNT` and `gate`. Of items: `apply`, `floor`, `load`, `kept NUMBER ..` and `groups COUNT`. Of streams: `read ASK ..` and
 // `ends BYTES`.
-use crate::running::{cut, gate, longest, made, spool, with_members};
-use crate::{applying, reading};
+use crate::site_runs::{cut, gate, longest, made, spool, with_members};
+use crate::{item_effects, item_texts};
 use ml_base::{Bytes, read_number};
 use ml_site::{Fill, MemClock, MemSite, MemSource};
 use std::alloc::Global;
@@ -25,9 +25,9 @@ fn text_of(
     } else if verb == "gate" {
         Ok(gate(alloc, site)?)
     } else if verb == "read" {
-        Ok(reading::answers(alloc, words, input)?)
+        Ok(item_texts::answers(alloc, words, input)?)
     } else {
-        reading::ending(alloc, number, input)
+        item_texts::ending(alloc, number, input)
     }
 }
 
@@ -78,7 +78,7 @@ impl Program for Calls {
         } else if is_told(verb) {
             told(alloc, site, verb, words, number, input)
         } else {
-            applying::ended(alloc, site, verb, words, input)
+            item_effects::ended(alloc, site, verb, words, input)
         }
     }
 }

@@ -2,7 +2,7 @@ use Rattle.std.proofs.Common.{◌<◌, ℕ, subst, sym, rules, inl, inr}
 use Rattle.std.proofs.lemmas.Result.{on_ok_weaker, IfErr-weaker}
 use Rattle.ml_base.specs.Dir.{Dir}
 use Rattle.ml_base.specs.PartErrors.{OnDamaged}
-use Rattle.ml_base.specs.declared.part.PartError.{PartError}
+use Rattle.ml_base.specs.declared.part_error.PartError.{PartError}
 use Rattle.ml_base.proofs.DamagedNames.{err_damaged, on_damaged}
 use Rattle.ml_archive.specs.Breaks.{AreBadGroups, AreGroupNames, Breaks, HasThreads, IsAuditName}
 use Rattle.ml_archive.specs.Found.{ArePosted, AreWhole, groups_of}

@@ -1,7 +1,7 @@
 use Rattle.std.proofs.Common.{◌≡◌, ℕ, subst, rules, arith, IsErrOf}
 use Rattle.ml_base.specs.Dir.{Dir}
 use Rattle.ml_base.specs.PartErrors.{OnDamaged}
-use Rattle.ml_base.specs.declared.part.PartError.TheVariants.{Fault}
+use Rattle.ml_base.specs.declared.part_error.PartError.TheVariants.{Fault}
 use Rattle.ml_base.proofs.DamagedNames.{on_damaged, on_both}
 use Rattle.ml_base.proofs.ReadingLemmas.{kept_self, kept_then, kept_read, reading_then}
 use Rattle.ml_bounce.specs.Answers.{IsBadFile, IsFileName, IsNoFile, ledger_kind}

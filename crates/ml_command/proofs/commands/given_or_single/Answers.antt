@@ -2,7 +2,7 @@ use Rattle.std.proofs.Common.{◌≡◌, ap, sym, subst, inr, Option, None, rule
 use Rattle.ml_command.specs.Commands.{Does}
 use Rattle.ml_command.specs.Inquiries.{asked_of}
 use Rattle.ml_command.specs.Words.{Command, given_or_single_of, giving_or, texts, without_input_of}
-use Rattle.ml_command.specs.declared.giving.Asked.{Asked}
+use Rattle.ml_command.specs.declared.inquiries.Asked.{Asked}
 use Rattle.ml_command.proofs.Families.{clock_kept, without_input_does}
 use Rattle.ml_command.proofs.commands.given_or_single.Goals as goal
 

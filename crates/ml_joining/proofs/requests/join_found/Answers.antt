@@ -16,7 +16,7 @@ use Rattle.ml_plain.specs.Managing.{Operation}
 use Rattle.ml_acts.specs.Found.{TellsMember}
 use Rattle.ml_joining.specs.Found.{FoundToDo, FoundToSubscribe}
 use Rattle.ml_joining.specs.Operations.{joining_deed}
-use Rattle.ml_joining.specs.declared.deciding.Facts.{Facts}
+use Rattle.ml_joining.specs.declared.decisions.Facts.{Facts}
 use Rattle.ml_joining.proofs.requests.join_found.Goals as goal
 
 pub returns-clause-apart : goal.returns-clause-apart

@@ -1,7 +1,7 @@
 use Rattle.std.proofs.Common.{◌≡◌, ◌≤◌, ◌+◌, ◌-◌, ◌/◌, ◌∙◌, min, max, IsErrOf, List, sym, subst, ap, arith, rules}
 use Rattle.ml_base.specs.Dir.{Dir}
 use Rattle.ml_base.specs.PartErrors.{OnDamaged}
-use Rattle.ml_base.specs.declared.part.PartError.TheVariants.{Fault}
+use Rattle.ml_base.specs.declared.part_error.PartError.TheVariants.{Fault}
 use Rattle.ml_base.proofs.DamagedNames.{on_damaged}
 use Rattle.ml_base.proofs.ReadingLemmas.{kept_then, kept_read, reading_then}
 use Rattle.ml_filing.specs.Answers.{AreIndexes, IsPostName, has_group}

@@ -2,7 +2,7 @@ use Rattle.std.proofs.Common.{◌≡◌, subst, rules, length, List, IsErrOf}
 use Rattle.ml_subs.proofs.Gathering.{counts_none, counts_more}
 use Rattle.ml_base.specs.Dir.{Dir}
 use Rattle.ml_base.specs.PartErrors.{OnDamaged}
-use Rattle.ml_base.specs.declared.part.PartError.TheVariants.{Fault}
+use Rattle.ml_base.specs.declared.part_error.PartError.TheVariants.{Fault}
 use Rattle.ml_base.proofs.DamagedNames.{on_damaged, on_both}
 use Rattle.ml_base.proofs.ReadingLemmas.{kept_self, kept_then, kept_read, reading_then}
 use Rattle.ml_subs.specs.declared.member_list.Member.{Member}

@@ -3,7 +3,7 @@ use Rattle.std.proofs.lemmas.Result.{IfErr-weaker}
 use Rattle.ml_base.specs.Bytes.{Text}
 use Rattle.ml_base.specs.Address.{key}
 use Rattle.ml_base.specs.Dir.{Dir}
-use Rattle.ml_subs.specs.declared.changing.AddAnswer.TheVariants.{Added}
+use Rattle.ml_subs.specs.declared.set_changes.AddAnswer.TheVariants.{Added}
 use Rattle.ml_subs.specs.Buckets.{bucket_file, bucket_of, IsBucketFile}
 use Rattle.ml_subs.specs.Subscribers.{IsNoCount, IsUnread, count_name, count_text, is_touched}
 use Rattle.ml_base.specs.PartErrors.{OnDamaged}

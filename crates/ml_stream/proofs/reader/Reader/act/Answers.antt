@@ -1,7 +1,7 @@
 use Rattle.std.proofs.Common.{IfErr, sym, subst}
 use Rattle.ml_stream.specs.Reading.{EndsEarly, Fails}
 use Rattle.ml_stream.specs.Stream.{act_at}
-use Rattle.ml_stream.specs.declared.stream.StreamError.{StreamError}
+use Rattle.ml_stream.specs.declared.stream_error.StreamError.{StreamError}
 use Rattle.ml_stream.specs.declared.reader.Letter.{Letter}
 use Rattle.ml_stream.proofs.reader.Reader.act.Goals as goal
 

@@ -3,8 +3,8 @@ use Rattle.ml_stream.specs.Stream.{comma_at}
 use Rattle.ml_stream.proofs.Bytewise.{first_is, end_is, one_further}
 use Rattle.ml_stream.proofs.Elements.{comma_some, comma_bad}
 use Rattle.ml_stream.specs.Reading.{EndsEarly, Fails}
-use Rattle.ml_stream.specs.declared.stream.StreamError.{StreamError}
-use Rattle.ml_stream.specs.declared.stream.StreamError.TheVariants.{Fault, Short, Bad}
+use Rattle.ml_stream.specs.declared.stream_error.StreamError.{StreamError}
+use Rattle.ml_stream.specs.declared.stream_error.StreamError.TheVariants.{Fault, Short, Bad}
 use Rattle.ml_stream.proofs.Cuts.{at_exit, breaks_none, breaks_byte, bad_not, short_not}
 use Rattle.ml_stream.proofs.reader.Reader.comma.Goals as goal
 

@@ -4,8 +4,8 @@ use Rattle.std.proofs.lemmas.List.{take-append-le, take_all}
 use Rattle.ml_stream.proofs.Elements.{content_filled, content_ended}
 use Rattle.ml_stream.specs.Reading.{EndsEarly, Fails, IsUnfinished}
 use Rattle.ml_stream.specs.Stream.{length_at, content_at, bytes_at}
-use Rattle.ml_stream.specs.declared.stream.StreamError.{StreamError}
-use Rattle.ml_stream.specs.declared.stream.StreamError.TheVariants.{Fault, Memory, Short}
+use Rattle.ml_stream.specs.declared.stream_error.StreamError.{StreamError}
+use Rattle.ml_stream.specs.declared.stream_error.StreamError.TheVariants.{Fault, Memory, Short}
 use Rattle.ml_stream.proofs.Cuts.{at_exit, breaks_first, breaks_map, breaks_read, breaks_content, breaks_all, short_not, length_unfinished}
 use Rattle.ml_stream.proofs.Locality.{length_local}
 use Rattle.std.specs.Prelude.{[]}

@@ -1,7 +1,7 @@
 use Rattle.std.proofs.Common.{◌≡◌, sym, subst}
 use Rattle.ml_stream.specs.Reading.{EndsEarly, Fails}
 use Rattle.ml_stream.specs.Stream.{deliver_at}
-use Rattle.ml_stream.specs.declared.stream.StreamError.{StreamError}
+use Rattle.ml_stream.specs.declared.stream_error.StreamError.{StreamError}
 use Rattle.ml_stream.proofs.Elements.{deliver_ok}
 use Rattle.ml_stream.proofs.Cuts.{at_exit, deliver_first, deliver_second, deliver_third}
 use Rattle.ml_stream.proofs.reader.Reader.deliver.Goals as goal

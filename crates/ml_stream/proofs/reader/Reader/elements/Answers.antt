@@ -2,7 +2,7 @@ use Rattle.ml_stream.proofs.Elements.{item_ok}
 use Rattle.std.proofs.Common.{◌≡◌, sym, subst}
 use Rattle.ml_stream.specs.Reading.{EndsEarly, Fails}
 use Rattle.ml_stream.specs.Stream.{elements_at}
-use Rattle.ml_stream.specs.declared.stream.StreamError.{StreamError}
+use Rattle.ml_stream.specs.declared.stream_error.StreamError.{StreamError}
 use Rattle.ml_stream.proofs.Cuts.{at_exit, elements_first, elements_second, elements_third}
 use Rattle.ml_stream.proofs.reader.Reader.elements.Goals as goal
 

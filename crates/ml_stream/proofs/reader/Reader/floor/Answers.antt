@@ -2,7 +2,7 @@ use Rattle.ml_stream.proofs.Elements.{floor_ok}
 use Rattle.std.proofs.Common.{◌≡◌, sym, subst}
 use Rattle.ml_stream.specs.Reading.{EndsEarly, Fails}
 use Rattle.ml_stream.specs.Stream.{got, element_at, floor_of, floor_at}
-use Rattle.ml_stream.specs.declared.stream.StreamError.{StreamError}
+use Rattle.ml_stream.specs.declared.stream_error.StreamError.{StreamError}
 use Rattle.ml_plain.specs.declared.Act.TheVariants.{Floor}
 use Rattle.ml_stream.proofs.Cuts.{at_exit, breaks_first}
 use Rattle.ml_stream.proofs.reader.Reader.floor.Goals as goal

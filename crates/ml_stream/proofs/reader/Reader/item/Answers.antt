@@ -4,8 +4,8 @@ use Rattle.ml_stream.specs.Stream.{item_at, elements_at, and_then, some_item, En
 use Rattle.ml_stream.proofs.Bytewise.{first_is, end_is, one_further}
 use Rattle.ml_stream.proofs.Elements.{item_letter, item_bad, item_end, tells_too}
 use Rattle.ml_stream.specs.Reading.{EndsEarly, IsNoItem}
-use Rattle.ml_stream.specs.declared.stream.StreamError.{StreamError}
-use Rattle.ml_stream.specs.declared.stream.StreamError.TheVariants.{Fault, Bad}
+use Rattle.ml_stream.specs.declared.stream_error.StreamError.{StreamError}
+use Rattle.ml_stream.specs.declared.stream_error.StreamError.TheVariants.{Fault, Bad}
 use Rattle.ml_stream.proofs.Cuts.{at_exit, breaks_none, breaks_byte, breaks_item, bad_not}
 use Rattle.ml_stream.proofs.reader.Reader.item.Goals as goal
 

@@ -3,8 +3,8 @@ use Rattle.ml_base.specs.Numbers.{is_next_digit}
 use Rattle.ml_stream.specs.Stream.{length_at, got}
 use Rattle.ml_stream.proofs.Bytewise.{first_is, end_is, one_further, len_colon, len_bad_colon, len_digit, len_bad, digit_keeps}
 use Rattle.ml_stream.specs.Reading.{EndsEarly, Fails}
-use Rattle.ml_stream.specs.declared.stream.StreamError.{StreamError}
-use Rattle.ml_stream.specs.declared.stream.StreamError.TheVariants.{Fault, Short, Bad}
+use Rattle.ml_stream.specs.declared.stream_error.StreamError.{StreamError}
+use Rattle.ml_stream.specs.declared.stream_error.StreamError.TheVariants.{Fault, Short, Bad}
 use Rattle.ml_stream.proofs.Cuts.{at_exit, breaks_none, breaks_byte, breaks_further, bad_not, short_not}
 use Rattle.ml_stream.proofs.reader.Reader.length.Goals as goal
 

@@ -4,8 +4,8 @@ use Rattle.ml_base.specs.Numbers.{moment_in}
 use Rattle.ml_stream.specs.Stream.{content_at, element_at}
 use Rattle.ml_stream.proofs.Elements.{element_ok}
 use Rattle.ml_stream.specs.Reading.{EndsEarly, Fails}
-use Rattle.ml_stream.specs.declared.stream.StreamError.{StreamError}
-use Rattle.ml_stream.specs.declared.stream.StreamError.TheVariants.{Bad}
+use Rattle.ml_stream.specs.declared.stream_error.StreamError.{StreamError}
+use Rattle.ml_stream.specs.declared.stream_error.StreamError.TheVariants.{Bad}
 use Rattle.ml_stream.proofs.Cuts.{at_exit, breaks_element, breaks_got, breaks_comma, bad_not}
 use Rattle.ml_stream.proofs.Locality.{content_local}
 use Rattle.ml_stream.proofs.reader.Reader.moment.Goals as goal

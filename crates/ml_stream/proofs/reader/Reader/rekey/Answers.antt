@@ -2,7 +2,7 @@ use Rattle.ml_stream.proofs.Elements.{rekey_ok}
 use Rattle.std.proofs.Common.{◌≡◌, sym, subst}
 use Rattle.ml_stream.specs.Reading.{EndsEarly, Fails}
 use Rattle.ml_stream.specs.Stream.{got, element_at, key_of, rekey_at}
-use Rattle.ml_stream.specs.declared.stream.StreamError.{StreamError}
+use Rattle.ml_stream.specs.declared.stream_error.StreamError.{StreamError}
 use Rattle.ml_plain.specs.declared.Act.TheVariants.{Rekey}
 use Rattle.ml_stream.proofs.Cuts.{at_exit, breaks_first}
 use Rattle.ml_stream.proofs.reader.Reader.rekey.Goals as goal

@@ -3,7 +3,7 @@ use Rattle.ml_stream.proofs.Elements.{member_ok}
 use Rattle.std.proofs.Common.{◌≡◌, sym, subst}
 use Rattle.ml_stream.specs.Reading.{EndsEarly, Fails}
 use Rattle.ml_stream.specs.Stream.{got, and_then, element_at, remove_at}
-use Rattle.ml_stream.specs.declared.stream.StreamError.{StreamError}
+use Rattle.ml_stream.specs.declared.stream_error.StreamError.{StreamError}
 use Rattle.ml_base.specs.Name.{set_of}
 use Rattle.ml_base.specs.Address.{address_of}
 use Rattle.ml_stream.proofs.Cuts.{at_exit, breaks_first, breaks_then}

@@ -2,7 +2,7 @@ use Rattle.std.proofs.Common.{◌≡◌, refl, sym, subst}
 use Rattle.ml_stream.specs.Stream.{any_bytes, element_at}
 use Rattle.ml_stream.proofs.Elements.{element_ok}
 use Rattle.ml_stream.specs.Reading.{EndsEarly, Fails}
-use Rattle.ml_stream.specs.declared.stream.StreamError.{StreamError}
+use Rattle.ml_stream.specs.declared.stream_error.StreamError.{StreamError}
 use Rattle.ml_stream.proofs.Cuts.{at_exit, breaks_element, breaks_comma}
 use Rattle.ml_stream.proofs.reader.Reader.text.Goals as goal
 

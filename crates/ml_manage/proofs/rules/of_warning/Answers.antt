@@ -1,0 +1,32 @@
+use Rattle.std.proofs.Common.{◌≡◌, true, IfOk, subst}
+use Rattle.std.proofs.lemmas.Bool.{and_parts}
+use Rattle.ml_base.specs.Bytes.{Text}
+use Rattle.ml_plain.specs.Directory.{IsList}
+use Rattle.ml_plain.specs.Plain.{Plain}
+use Rattle.ml_acts.specs.Damaged.{IsDamaged}
+use Rattle.ml_acts.specs.Doing.{DoesList, is_entry_of, Alike}
+use Rattle.ml_manage.specs.Leaving.{of_warning}
+use Rattle.ml_manage.specs.Reads.{is_of_warning}
+use Rattle.ml_acts.specs.Acting.{AnswersWithin}
+use Rattle.ml_base.specs.Address.{key}
+use Rattle.ml_manage.specs.Found.{FoundToWarn}
+use Rattle.ml_base.specs.Dir.{Dir}
+use Rattle.ml_manage.proofs.rules.of_warning.Goals as goal
+
+pub named-requires : goal.named-requires
+named-requires g c = (and_parts _ _ (and_parts _ _ c.requires.range).1).1
+
+pub take_warning_bounce-requires : goal.take_warning_bounce-requires
+take_warning_bounce-requires g c = record { mailed = (and_parts _ _ c.requires.range).0 }
+
+pub returns-clause-act : goal.returns-clause-act
+returns-clause-act g c =
+    subst (λ (x : Text). AnswersWithin (is_entry_of c.args.set x) g.F.Files (λ name. is_of_warning c.args.set x name ≡ true) (IsDamaged (g.F.Files.map c.args.files.now)) c.args.files.now c.take_warning_bounce.new.files c.take_warning_bounce.result) c.in_ok-x.ensures c.take_warning_bounce.ensures.act
+
+pub returns-clause-found : goal.returns-clause-found
+returns-clause-found g c told = subst (λ (x : Text). IfOk c.take_warning_bounce.result (FoundToWarn (g.F.Files.map c.args.files.now) c.args.set (key x))) c.in_ok-x.ensures (c.take_warning_bounce.ensures.found told)
+
+pub returns-clause-apart : goal.returns-clause-apart
+returns-clause-apart g c told =
+    let old = g.F.Files.map c.args.files.now in
+    subst (λ (x : Text). IfOk c.take_warning_bounce.result (λ done. (dir : Dir) (p : Plain) → Alike (is_of_warning c.args.set x) old dir → IsList dir p → DoesList dir done (of_warning c.args.now.seconds c.args.set c.args.time c.args.letters.now x p))) c.in_ok-x.ensures (c.take_warning_bounce.ensures.apart told)

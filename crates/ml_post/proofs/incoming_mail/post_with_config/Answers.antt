@@ -1,0 +1,153 @@
+use Rattle.std.proofs.Common.{◌≡◌, ◌≤◌, length, true, refl, ap, ◌∙◌, subst, sym, rules, IfErr}
+use Rattle.std.specs.Prelude.{not}
+use Rattle.ml_base.specs.Bytes.{Text}
+use Rattle.ml_base.specs.Dir.{Dir}
+use Rattle.ml_plain.specs.Verdicts.{is_usable, verdict}
+use Rattle.ml_acts.specs.Asked.{Count, IsDamagedOf, Next}
+use Rattle.ml_acts.specs.Damaged.{IsDamaged}
+use Rattle.ml_acts.proofs.Asked.{asked_as, count_next, named_as}
+use Rattle.ml_post.specs.Judging.{is_judged_by}
+use Rattle.ml_post.specs.Posting.{is_posted_by}
+use Rattle.ml_post.specs.Publishing.{sent_key}
+use Rattle.ml_post.proofs.Beside.{held_other}
+use Rattle.ml_post.proofs.Read.{of_held, of_judged, of_published}
+use Rattle.ml_acts.proofs.Damages.{ok_then}
+use Rattle.ml_acts.proofs.OfActs.{act_after}
+use Rattle.ml_post.proofs.Outcomes.{follows_held, follows_posted, follows_refused, held_waits, posted_waits_not}
+use Rattle.ml_post.proofs.Fitting.{held_fits, holdable}
+use Rattle.ml_acts.proofs.Found.{found_then}
+use Rattle.ml_post.specs.Found.{FoundByPost, FoundToHold, FoundToTake}
+use Rattle.ml_post.specs.declared.incoming_mail.Outcome.TheVariants as fates
+use Rattle.ml_post.proofs.Finding.{followed, held_usable, posted_usable}
+use Rattle.ml_base.specs.PartErrors.{OnDamaged}
+use Rattle.ml_base.proofs.DamagedNames.{err_both_damaged, on_both}
+use Rattle.ml_post.specs.Holding.{is_held_by}
+use Rattle.ml_post.proofs.Apart.{held_alike, judged_alike, publish_alike, publish_kept}
+use Rattle.ml_post.proofs.Spared.{held_spared, judged_spared}
+use Rattle.ml_post.proofs.incoming_mail.post_with_config.Goals as goal
+
+pub returns-in_err-found-clause-act : goal.returns-in_err-found-clause-act
+returns-in_err-found-clause-act g c =
+    let dir = g.F.Files.map c.args.files.now in
+    let config = c.args.config.now in
+    let sender = c.args.sender.now in
+    let key = sent_key config c.args.message.now in
+    let names = named_as g.F.Files (λ name. is_posted_by config sender name ≡ true) _ dir dir (λ name. is_judged_by config sender name ≡ true) (λ d. IsDamagedOf d Count) (IsDamagedOf dir (Next key)) (λ told. refl)
+    (λ name e. of_judged config sender name e) (λ name e bad. asked_as dir Count (Next key) name (count_next dir key name) bad)
+    c.in_err-found.ensures.names in
+    search rules
+
+pub returns-in-Held-clause-act : goal.returns-in-Held-clause-act
+returns-in-Held-clause-act g c =
+    let config = c.args.config.now in
+    let waits : config.flags.m ≡ true = held_waits config.flags.m c.in_ok-found.found (sym c.follows.ensures ∙ c.in-Held.is) c.in_ok-found.ensures.moderated in
+    act_after g.F.Files IsDamaged g.met.F.Files.kept_then g.met.F.Files.kept_map c.judge_with_config.ensures.reads c.hold_message.ensures.act (λ name e. of_held config c.args.sender.now name waits e)
+    (λ told name e bad. record { damaged = bad; own = λ of. absurd (held_other name e of) })
+
+pub returns-in-Posted-clause-act : goal.returns-in-Posted-clause-act
+returns-in-Posted-clause-act g c =
+    let config = c.args.config.now in
+    let free : not config.flags.m ≡ true = posted_waits_not config.flags.m c.in_ok-found.found (sym c.follows.ensures ∙ c.in-Posted.is) c.in_ok-found.ensures.moderated in
+    let key = sent_key config c.args.message.now in
+    act_after g.F.Files (λ d. IsDamagedOf d (Next key)) g.met.F.Files.kept_then g.met.F.Files.kept_map c.judge_with_config.ensures.reads c.post_message.ensures.act (λ name e. of_published config c.args.sender.now name free e) (λ told name e bad. bad)
+
+pub hold_message-requires-clause-size : goal.hold_message-requires-clause-size
+hold_message-requires-clause-size g c =
+    let fits = c.in_ok-found.ensures.fits (held_fits c.in_ok-found.found (sym c.follows.ensures ∙ c.in-Held.is)) in
+    holdable _ c.args.config.now.max c.requires.config.max (subst (λ (t : Text). length t ≤ c.args.config.now.max) c.scan.ensures fits)
+
+pub returns-in-Refused-clause-found : goal.returns-in-Refused-clause-found
+returns-in-Refused-clause-found g c told =
+    followed (g.F.Files.map c.args.files.now) c.args.config.now c.args.sender.now c.args.message.now c.scan.result c.in_ok-found.found (fates.Refused c.in-Refused.reply) (c.new.result, c.in-Refused.reply) c.scan.ensures (sym c.follows.ensures ∙ c.in-Refused.is)
+    (c.in_ok-found.ensures.found told) (λ is. record { puts = c.new.ensures; is = refl })
+
+pub returns-in-Held-clause-found : goal.returns-in-Held-clause-found
+returns-in-Held-clause-found g c told =
+    let dir = g.F.Files.map c.args.files.now in
+    let config = c.args.config.now in
+    let sender = c.args.sender.now in
+    let message = c.args.message.now in
+    let v = c.in_ok-found.found in
+    let kept = g.met.F.Files.kept_map c.args.files.now c.judge_with_config.new.files told c.judge_with_config.ensures.reads.kept in
+    let held = sym c.follows.ensures ∙ c.in-Held.is in
+    found_then c.hold_message.result dir (g.F.Files.map c.judge_with_config.new.files) (λ d done. is_usable sender ≡ true → FoundToHold d done) (FoundByPost dir config sender message) kept
+    (λ done is. followed dir config sender message c.scan.result v fates.Held done c.scan.ensures held (c.in_ok-found.ensures.found told) (λ here. is (held_usable dir config sender message v held here))) (c.hold_message.ensures.found told)
+
+pub returns-in-Posted-clause-found : goal.returns-in-Posted-clause-found
+returns-in-Posted-clause-found g c told =
+    let dir = g.F.Files.map c.args.files.now in
+    let config = c.args.config.now in
+    let sender = c.args.sender.now in
+    let message = c.args.message.now in
+    let v = c.in_ok-found.found in
+    let kept = g.met.F.Files.kept_map c.args.files.now c.judge_with_config.new.files told c.judge_with_config.ensures.reads.kept in
+    let posted = sym c.follows.ensures ∙ c.in-Posted.is in
+    found_then c.post_message.result dir (g.F.Files.map c.judge_with_config.new.files) (λ d done. is_usable sender ≡ true → FoundToTake d config.prefix done) (FoundByPost dir config sender message) kept
+    (λ done is. followed dir config sender message c.scan.result v fates.Posted done c.scan.ensures posted (c.in_ok-found.ensures.found told) (λ here. is (posted_usable dir config sender message v posted here))) (c.post_message.ensures.found told)
+
+pub returns-in-Held-clause-apart : goal.returns-in-Held-clause-apart
+returns-in-Held-clause-apart g c told =
+    let old = g.F.Files.map c.args.files.now in
+    let config = c.args.config.now in
+    let sender = c.args.sender.now in
+    let message = c.args.message.now in
+    let held = sym c.follows.ensures ∙ c.in-Held.is in
+    let waits = held_waits config.flags.m c.in_ok-found.found held c.in_ok-found.ensures.moderated in
+    let kept = g.met.F.Files.kept_map c.args.files.now c.judge_with_config.new.files told c.judge_with_config.ensures.reads.kept in
+    ok_then c.hold_message.result (λ done does dir p alike is same.
+    follows_held dir p c.args.now.seconds sender message c.in_ok-found.found done held
+    (c.in_ok-found.ensures.apart told dir p (judged_alike config sender message old dir alike) is same ∙ ap (verdict p sender) c.scan.ensures)
+    (does dir p (λ name e. held_alike config sender message old dir alike waits name e ∙ sym (ap (λ (d : Dir). d name) kept)) is same)) (c.hold_message.ensures.apart told)
+
+pub returns-in-Posted-clause-apart : goal.returns-in-Posted-clause-apart
+returns-in-Posted-clause-apart g c told =
+    let old = g.F.Files.map c.args.files.now in
+    let config = c.args.config.now in
+    let sender = c.args.sender.now in
+    let message = c.args.message.now in
+    let posted = sym c.follows.ensures ∙ c.in-Posted.is in
+    let free = posted_waits_not config.flags.m c.in_ok-found.found posted c.in_ok-found.ensures.moderated in
+    let kept = g.met.F.Files.kept_map c.args.files.now c.judge_with_config.new.files told c.judge_with_config.ensures.reads.kept in
+    ok_then c.post_message.result (λ done does dir p alike is same.
+    follows_posted dir p c.args.now.seconds sender message c.in_ok-found.found done posted
+    (c.in_ok-found.ensures.apart told dir p (judged_alike config sender message old dir alike) is same ∙ ap (verdict p sender) c.scan.ensures)
+    (does dir p (publish_kept config message old (g.F.Files.map c.judge_with_config.new.files) dir kept (publish_alike config sender message old dir alike free)) is same)) (c.post_message.ensures.apart told)
+
+pub returns-in_err-found-clause-spared : goal.returns-in_err-found-clause-spared
+returns-in_err-found-clause-spared g c told dir p alike is =
+    let e = c.in_err-found.field-0.0 in
+    let old = g.F.Files.map c.args.files.now in
+    let config = c.args.config.now in
+    let sender = c.args.sender.now in
+    let names = c.in_err-found.ensures.names in
+    let none : OnDamaged e (λ _. ⊥) =
+    on_both e (λ name. is_judged_by config sender name ≡ true) (IsDamagedOf old Count) (λ _. ⊥)
+    (λ name looked bad. judged_spared old dir p is config sender (judged_alike config sender c.args.message.now old dir alike) name looked bad) names.named (names.damaged told) in
+    search rules
+
+pub returns-in-Held-clause-spared : goal.returns-in-Held-clause-spared
+returns-in-Held-clause-spared g c told dir p alike is =
+    let old = g.F.Files.map c.args.files.now in
+    let config = c.args.config.now in
+    let waits = held_waits config.flags.m c.in_ok-found.found (sym c.follows.ensures ∙ c.in-Held.is) c.in_ok-found.ensures.moderated in
+    let kept = g.met.F.Files.kept_map c.args.files.now c.judge_with_config.new.files told c.judge_with_config.ensures.reads.kept in
+    let names = c.hold_message.ensures.act.names in
+    err_both_damaged c.hold_message.result (λ name. is_held_by name ≡ true) (IsDamaged old) (λ _. ⊥)
+    (λ name looked bad. held_spared old dir p is (held_alike config c.args.sender.now c.args.message.now old dir alike waits) name looked bad) names.named
+    (subst (λ (d : Dir). IfErr c.hold_message.result (λ e. OnDamaged e (IsDamaged d))) kept (names.damaged told))
+
+pub returns-in-Posted-clause-spared : goal.returns-in-Posted-clause-spared
+returns-in-Posted-clause-spared g c told dir p alike is =
+    let old = g.F.Files.map c.args.files.now in
+    let config = c.args.config.now in
+    let message = c.args.message.now in
+    let free = posted_waits_not config.flags.m c.in_ok-found.found (sym c.follows.ensures ∙ c.in-Posted.is) c.in_ok-found.ensures.moderated in
+    let kept = g.met.F.Files.kept_map c.args.files.now c.judge_with_config.new.files told c.judge_with_config.ensures.reads.kept in
+    c.post_message.ensures.spared told dir p (publish_kept config message old (g.F.Files.map c.judge_with_config.new.files) dir kept (publish_alike config c.args.sender.now message old dir alike free)) is
+
+pub returns-in-Refused-clause-apart : goal.returns-in-Refused-clause-apart
+returns-in-Refused-clause-apart g c told dir p alike is same =
+    let sender = c.args.sender.now in
+    let message = c.args.message.now in
+    follows_refused dir p c.args.now.seconds sender message c.in_ok-found.found (c.new.result, c.in-Refused.reply) c.in-Refused.reply (sym c.follows.ensures ∙ c.in-Refused.is)
+    (c.in_ok-found.ensures.apart told dir p (judged_alike c.args.config.now sender message (g.F.Files.map c.args.files.now) dir alike) is same ∙ ap (verdict p sender) c.scan.ensures) c.new.ensures refl is

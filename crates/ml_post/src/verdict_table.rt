@@ -1,0 +1,266 @@
+// The verdict on a post: the first row of the table that holds.
+ghost use Rattle.std.specs.Prelude.{◌≡◌, ◌≢◌, ◌≤◌, ◌&&◌, ◌||◌, true, false, not, length, IsTrue, IfOk, IfErr, MatchOption, is_ok, Some, None};
+ghost use Rattle.ml_base.specs.Address.{address_check, address_of, key};
+ghost use Rattle.ml_base.specs.Bytes.{lower};
+ghost use Rattle.ml_base.specs.PartErrors.{OnDamaged};
+ghost use Rattle.ml_base.specs.ReadFiles.{IsReading, NamesDamaged};
+ghost use Rattle.ml_plain.specs.Directory.{IsList};
+ghost use Rattle.ml_plain.specs.Plain.{Plain};
+ghost use Rattle.ml_plain.specs.Verdicts as spec;
+ghost use Rattle.ml_filing.specs.Archive.{number_name};
+ghost use Rattle.ml_base.specs.Dir.{Dir, same_name};
+ghost use Rattle.ml_base.specs.declared.names.Set.TheVariants as sets;
+ghost use Rattle.ml_config.specs.Configuration.{IsConfig};
+ghost use Rattle.ml_acts.specs.Asked.{Count, IsDamagedOf};
+ghost use Rattle.ml_acts.specs.Configured.{with_config};
+ghost use Rattle.ml_acts.specs.Doing.{Alike, is_bucket_of};
+ghost use Rattle.ml_acts.specs.Found.{EitherTells, TellsMember};
+ghost use Rattle.ml_post.specs.Found.{FoundOfPost, FoundOfRoom, FoundOfSender, FoundOfText, FoundOfUser, TellsDenied, TellsStranger, TellsUser};
+ghost use Rattle.ml_post.specs.Judging.{row_of, is_judged_by, is_of_user, may_be_found};
+ghost use Rattle.ml_post.specs.Judging as rows;
+ghost use Rattle.ml_post.specs.declared.verdicts.Verdict.TheVariants.{TooBig};
+
+use crate::Verdict;
+use crate::address_search::is_addressed;
+use ml_acts::Configured;
+use ml_base::{Address, AddressError, Files, LAST_POST_NUMBER, PartError, Set};
+use ml_config::Config;
+use ml_filing::{count, subject};
+use ml_header::Message;
+use ml_subs::member;
+use std::alloc::{AllocError, Global};
+
+/// The verdict on a post of an envelope sender: the first row of the table that holds.
+///
+/// Of the files it reads the sender's bucket of the deny list, if the list has one; his buckets of the sets list, digest, allow and mod, if only
+/// users may post; and the number of posts, if posts don't wait for the moderators. `Damaged` names one of these that is outside its grammar.
+/// `Fault` comes only if a read failed. All this is said of the files with the configuration instead of their own.
+pub fn verdict<F: Files>(
+    alloc: Global,
+    files: &mut F,
+    config: &Config,
+    sender: &[u8],
+    message: &Message<'_>,
+) -> Result<Verdict, PartError>
+    ensures value { IsTrue F.tells → IsConfig config.now → IfOk result (λ found. (p : Plain) → IsList (with_config config.now (F.map files.old)) p → row_of found ≡ spec.verdict p sender.now message.now) }
+    ensures apart { IsTrue F.tells → IfOk result (λ found. (dir : Dir) (p : Plain) → Alike (is_judged_by config.now sender.now) (F.map files.old) dir → IsList dir p → p.config ≡ config.now → row_of found ≡ spec.verdict p sender.now message.now) }
+    ensures spared { IsTrue F.tells → (dir : Dir) (p : Plain) → Alike (is_judged_by config.now sender.now) (F.map files.old) dir → IsList dir p → IfErr result (λ e. OnDamaged e (λ _. ⊥)) }
+    ensures moderated { IfOk result (λ found. may_be_found config.now.flags.m found ≡ true) }
+    ensures fits { IfOk result (λ found. found ≢ TooBig → length message.now ≤ config.now.max) }
+    ensures names { NamesDamaged ⟦<F as Files>⟧ (λ name. is_judged_by config.now sender.now name ≡ true) (IsDamagedOf (with_config config.now (F.map files.old)) Count) result }
+    ensures sound { IsTrue F.tells → (p : Plain) → IsList (with_config config.now (F.map files.old)) p → IfErr result (λ e. OnDamaged e (λ _. ⊥)) }
+    ensures found { IsTrue F.tells → IfOk result (FoundOfPost (with_config config.now (F.map files.old)) config.now sender.now message.now) }
+    ensures reads { IsReading ⟦<F as Files>⟧ files.old files.new result }
+{
+    let mut under = Configured { files, config };
+    judge_with_config(alloc, &mut under, config, sender, message)
+}
+
+// The same on a list that has the configuration.
+pub(crate) fn judge_with_config<F: Files>(
+    alloc: Global,
+    files: &mut F,
+    config: &Config,
+    sender: &[u8],
+    message: &Message<'_>,
+) -> Result<Verdict, PartError>
+    ensures apart { IsTrue F.tells → IfOk result (λ found. (dir : Dir) (p : Plain) → Alike (is_judged_by config.now sender.now) (F.map files.old) dir → IsList dir p → p.config ≡ config.now → row_of found ≡ spec.verdict p sender.now message.now) }
+    ensures moderated { IfOk result (λ found. may_be_found config.now.flags.m found ≡ true) }
+    ensures fits { IfOk result (λ found. found ≢ TooBig → length message.now ≤ config.now.max) }
+    ensures names { NamesDamaged ⟦<F as Files>⟧ (λ name. is_judged_by config.now sender.now name ≡ true) (IsDamagedOf (F.map files.old) Count) result }
+    ensures found { IsTrue F.tells → IfOk result (FoundOfPost (F.map files.old) config.now sender.now message.now) }
+    ensures reads { IsReading ⟦<F as Files>⟧ files.old files.new result }
+{
+    if message.bytes().len() as u64 > config.max {
+        return Ok(Verdict::TooBig);
+    }
+    let Some(who) = usable(alloc, sender)? else {
+        return Ok(Verdict::BounceSender);
+    };
+    if message.field(b"mailing-list").is_some() {
+        return Ok(Verdict::Looped);
+    }
+    of_sender(alloc, files, config, &who, message)
+}
+
+// The address of an envelope sender, or None if it is no address.
+pub(crate) fn usable(alloc: Global, sender: &[u8]) -> Result<Option<Address>, AllocError>
+    ensures { IfOk result (λ found. MatchOption found (spec.is_usable sender.now ≡ false) (λ who. (spec.is_usable sender.now ≡ true) × (address_of sender.now ≡ Some who))) }
+{
+    match Address::parse(alloc, sender) {
+        Ok(address) => Ok(Some(address)),
+        Err(AddressError::Fault(_)) => Ok(None),
+        Err(AddressError::Memory) => Err(AllocError),
+    }
+}
+
+// The verdict on a post that isn't too long, has a sender and didn't come from the list.
+fn of_sender<F: Files>(
+    alloc: Global,
+    files: &mut F,
+    config: &Config,
+    who: &Address,
+    message: &Message<'_>,
+) -> Result<Verdict, PartError>
+    ensures apart { IsTrue F.tells → IfOk result (λ found. (dir : Dir) (p : Plain) → Alike (is_judged_by config.now who.now) (F.map files.old) dir → IsList dir p → p.config ≡ config.now → row_of found ≡ rows.of_sender p who.now message.now) }
+    ensures moderated { IfOk result (λ found. may_be_found config.now.flags.m found ≡ true) }
+    ensures names { NamesDamaged ⟦<F as Files>⟧ (λ name. is_judged_by config.now who.now name ≡ true) (IsDamagedOf (F.map files.old) Count) result }
+    ensures found { IsTrue F.tells → IfOk result (FoundOfSender (F.map files.old) config.now (key who.now) message.now) }
+    ensures reads { IsReading ⟦<F as Files>⟧ files.old files.new result }
+{
+    if is_denied(alloc, files, config, who)? {
+        return Ok(Verdict::Denied);
+    }
+    of_text(alloc, files, config, who, message)
+}
+
+// Whether there is a deny list, and an address is on it.
+fn is_denied<F: Files>(
+    alloc: Global,
+    files: &mut F,
+    config: &Config,
+    who: &Address,
+) -> Result<bool, PartError>
+    ensures names { NamesDamaged ⟦<F as Files>⟧ (λ name. is_judged_by config.now who.now name ≡ true) (IsDamagedOf (F.map files.old) Count) result }
+    ensures found { IsTrue F.tells → IfOk result (TellsDenied (F.map files.old) config.now (key who.now)) }
+    ensures reads { IsReading ⟦<F as Files>⟧ files.old files.new result }
+{
+    if !config.flags.k {
+        return Ok(false);
+    }
+    is_member(alloc, files, Set::Deny, who)
+}
+
+// The verdict on a post whose sender isn't denied.
+fn of_text<F: Files>(
+    alloc: Global,
+    files: &mut F,
+    config: &Config,
+    who: &Address,
+    message: &Message<'_>,
+) -> Result<Verdict, PartError>
+    ensures apart { IsTrue F.tells → IfOk result (λ found. (dir : Dir) (p : Plain) → Alike (is_judged_by config.now who.now) (F.map files.old) dir → IsList dir p → p.config ≡ config.now → row_of found ≡ rows.of_text p who.now message.now) }
+    ensures moderated { IfOk result (λ found. may_be_found config.now.flags.m found ≡ true) }
+    ensures names { NamesDamaged ⟦<F as Files>⟧ (λ name. is_judged_by config.now who.now name ≡ true) (IsDamagedOf (F.map files.old) Count) result }
+    ensures found { IsTrue F.tells → IfOk result (FoundOfText (F.map files.old) config.now (key who.now) message.now) }
+    ensures reads { IsReading ⟦<F as Files>⟧ files.old files.new result }
+{
+    let subject = subject(alloc, message)?;
+    if subject.is_empty() {
+        return Ok(Verdict::NoSubject);
+    }
+    if is_command(subject.as_slice()) {
+        return Ok(Verdict::CommandSubject);
+    }
+    if !is_addressed(alloc, config, message)? {
+        return Ok(Verdict::NotAddressed);
+    }
+    of_user(alloc, files, config, who)
+}
+
+// Whether a subject is a command, in any case of letters.
+fn is_command(subject: &[u8]) -> bool
+    ensures { result ≡ spec.is_command (lower subject.now) }
+{
+    subject.eq_ignore_ascii_case(b"subscribe")
+        || subject.eq_ignore_ascii_case(b"unsubscribe")
+        || subject.eq_ignore_ascii_case(b"help")
+        || subject.eq_ignore_ascii_case(b"remove")
+        || subject.eq_ignore_ascii_case(b"signoff")
+}
+
+// The verdict on a post whose text is taken.
+fn of_user<F: Files>(
+    alloc: Global,
+    files: &mut F,
+    config: &Config,
+    who: &Address,
+) -> Result<Verdict, PartError>
+    ensures moderated { IfOk result (λ found. may_be_found config.now.flags.m found ≡ true) }
+    ensures names { NamesDamaged ⟦<F as Files>⟧ (λ name. is_judged_by config.now who.now name ≡ true) (IsDamagedOf (F.map files.old) Count) result }
+    ensures found { IsTrue F.tells → IfOk result (FoundOfUser (F.map files.old) config.now (key who.now)) }
+    ensures reads { IsReading ⟦<F as Files>⟧ files.old files.new result }
+{
+    if is_stranger(alloc, files, config, who)? {
+        return Ok(Verdict::UsersOnly);
+    }
+    of_room(alloc, files, config)
+}
+
+// Whether only users may post, and an address is no user's.
+fn is_stranger<F: Files>(
+    alloc: Global,
+    files: &mut F,
+    config: &Config,
+    who: &Address,
+) -> Result<bool, PartError>
+    ensures names { NamesDamaged ⟦<F as Files>⟧ (λ name. is_judged_by config.now who.now name ≡ true) (IsDamagedOf (F.map files.old) Count) result }
+    ensures found { IsTrue F.tells → IfOk result (TellsStranger (F.map files.old) config.now (key who.now)) }
+    ensures reads { IsReading ⟦<F as Files>⟧ files.old files.new result }
+{
+    if !config.flags.u {
+        return Ok(false);
+    }
+    let user = is_user(alloc, files, who)?;
+    Ok(!user)
+}
+
+// Whether an address is in one of the sets whose members are users.
+fn is_user<F: Files>(alloc: Global, files: &mut F, who: &Address) -> Result<bool, PartError>
+    ensures names { NamesDamaged ⟦<F as Files>⟧ (λ name. is_of_user who.now name ≡ true) (IsDamagedOf (F.map files.old) Count) result }
+    ensures found { IsTrue F.tells → IfOk result (TellsUser (F.map files.old) (key who.now)) }
+    ensures reads { IsReading ⟦<F as Files>⟧ files.old files.new result }
+{
+    if is_in_either(alloc, files, Set::List, Set::Digest, who)? {
+        return Ok(true);
+    }
+    is_in_either(alloc, files, Set::Allow, Set::Moderators, who)
+}
+
+// Whether an address is in one of two sets.
+fn is_in_either<F: Files>(
+    alloc: Global,
+    files: &mut F,
+    first: Set,
+    second: Set,
+    who: &Address,
+) -> Result<bool, PartError>
+    ensures names { NamesDamaged ⟦<F as Files>⟧ (λ name. (is_bucket_of first who.now name || is_bucket_of second who.now name) ≡ true) (IsDamagedOf (F.map files.old) Count) result }
+    ensures found { IsTrue F.tells → IfOk result (EitherTells (TellsMember (F.map files.old) first (key who.now)) (TellsMember (F.map files.old) second (key who.now))) }
+    ensures reads { IsReading ⟦<F as Files>⟧ files.old files.new result }
+{
+    if is_member(alloc, files, first, who)? {
+        return Ok(true);
+    }
+    is_member(alloc, files, second, who)
+}
+
+// Whether an address is in a set of the list.
+fn is_member<F: Files>(
+    alloc: Global,
+    files: &mut F,
+    set: Set,
+    who: &Address,
+) -> Result<bool, PartError>
+    ensures names { NamesDamaged ⟦<F as Files>⟧ (λ name. is_bucket_of set who.now name ≡ true) (IsDamagedOf (F.map files.old) Count) result }
+    ensures found { IsTrue F.tells → IfOk result (TellsMember (F.map files.old) set (key who.now)) }
+    ensures reads { IsReading ⟦<F as Files>⟧ files.old files.new result }
+{
+    member(alloc, files, set, who)
+}
+
+// The verdict on a post that its sender may send: whether it waits, and whether there is room for it.
+fn of_room<F: Files>(alloc: Global, files: &mut F, config: &Config) -> Result<Verdict, PartError>
+    ensures moderated { IfOk result (λ found. may_be_found config.now.flags.m found ≡ true) }
+    ensures names { NamesDamaged ⟦<F as Files>⟧ (λ name. (not config.now.flags.m && same_name name number_name) ≡ true) (IsDamagedOf (F.map files.old) Count) result }
+    ensures found { IsTrue F.tells → IfOk result (FoundOfRoom (F.map files.old) config.now) }
+    ensures reads { IsReading ⟦<F as Files>⟧ files.old files.new result }
+{
+    if config.flags.m {
+        return Ok(Verdict::Held);
+    }
+    if count(alloc, files)? >= LAST_POST_NUMBER {
+        return Ok(Verdict::Full);
+    }
+    Ok(Verdict::Posted)
+}

@@ -1,0 +1,18 @@
+use Rattle.std.proofs.Common.{◌≡◌, [], ◌∷◌, None, subst, sym}
+use Rattle.ml_site.specs.Disk.{Contents, File, MayLeave, file_with, untold}
+use Rattle.ml_site.specs.Images.{set_file}
+use Rattle.ml_site.specs.Recorded.{contents}
+use Rattle.ml_site.proofs.unfailing_site.UnfailingSite.remove_file.Goals as goal
+
+pub returns-clause-change : goal.returns-clause-change
+returns-clause-change c =
+    let old = contents c.args.self.now.log c.args.self.now.files in
+    let new = contents c.args.self.now.log c.drop_file.new.files in
+    let is : new ≡ file_with old c.args.name None = λ i. record { log = c.args.self.now.log; files = λ other. c.drop_file.ensures other i } in
+    record {
+      reads = λ told. record {
+        ok = is;
+        part_only = subst (λ (d : Contents). MayLeave old (File c.args.name ∷ []) d) (sym is) (set_file old c.args.name None);
+      };
+      pends = λ told. untold told;
+    }
