@@ -147,7 +147,7 @@ def floor(folder: pathlib.Path) -> int:
     return int(bytes_or_none(folder / 'floor') or 1)
 
 
-def behind_answers(folder: pathlib.Path) -> int:
+def after_answers(folder: pathlib.Path) -> int:
     """The first number after all that the list has answered, except those that are no mail's, and not below its floor."""
     groups = [int(name) for name in names(folder / 'done') if name.isdecimal() and int(name) < NO_MAIL // SLOTS]
     if not groups:

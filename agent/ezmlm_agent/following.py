@@ -240,15 +240,15 @@ class SharedList(mailing.MailingList):
             mail.number = number
             self.waits.setdefault(number, []).append((mail, key))
         items = self.repeats() + [program.Item(row.text, functools.partial(self.answered, row)) for row in told.again]
-        behind, self.looks_after = told.rows, None
-        for at, row in enumerate(behind):
+        rows, self.looks_after = told.rows, None
+        for at, row in enumerate(rows):
             if row.back is not None:  # The run ends there, so that the copy is looked at.
-                behind, self.looks_after, self.load.until = behind[:at + 1], row, 0
+                rows, self.looks_after, self.load.until = rows[:at + 1], row, 0
                 break
         if told.configured != self.configured_at:  # It is laid in between two runs.
             self.configured_at, self.load.until = -1, 0
             return items
-        return items + [program.Item(row.text, functools.partial(self.answered, row)) for row in behind]
+        return items + [program.Item(row.text, functools.partial(self.answered, row)) for row in rows]
 
     async def asked(self, adds: puts.Adds) -> puts.Told:
         """What the history says. What it tells of meanwhile may be what is put in now, or what other hosts put in after it."""

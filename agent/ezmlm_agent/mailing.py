@@ -182,11 +182,11 @@ class MailingList:
         if (address := await self.free()) is None:
             raise retrying.Refused('there is no list')
         if self.notes is None:
-            behind, entries = await self.reading(lambda path: (folder.behind_answers(path), folder.queue(path)))
+            least, entries = await self.reading(lambda path: (folder.after_answers(path), folder.queue(path)))
             opened, done = await self.threads.call('notes', notes.opened, self.settings.state / f'{self.folder.name}.sqlite', seconds=None)
             if done:
                 log.error('%s: %s', self.name, done)
-            await opened.begin(address, behind, entries)
+            await opened.begin(address, least, entries)
             self.notes = opened
         return self.notes
 
@@ -228,7 +228,7 @@ class MailingList:
             items += await self.timed(opened, now)
         await self.run(opened, items)
         if self.load.stale:
-            await opened.forget(self.load.stale, await self.reading(folder.behind_answers))
+            await opened.forget(self.load.stale, await self.reading(folder.after_answers))
 
     async def more(self, opened: notes.Notes) -> list[program.Item]:
         """Items of the mails that came while a run goes, for a second at most."""

@@ -144,12 +144,12 @@ class Notes:
         with contextlib.suppress(OSError):
             await self.threads.call('notes', self.database.close)
 
-    async def begin(self, address: Address, behind: int, entries: Collection[int]) -> None:
-        """A start: whose notes these are, that no number below `behind` is drawn, and which entries there still are."""
+    async def begin(self, address: Address, least: int, entries: Collection[int]) -> None:
+        """A start: whose notes these are, that no number below `least` is drawn, and which entries there still are."""
         def begin(run: Execute) -> None:
             run('DELETE FROM list')
             run('INSERT INTO list VALUES (?, ?)', address)
-            run('UPDATE next SET number = max(number, ?)', (behind,))
+            run('UPDATE next SET number = max(number, ?)', (least,))
             noted = {entry for entry, in run('SELECT DISTINCT entry FROM handed').fetchall()}
             self.forget_copies(run, noted - set(entries))
         await self.change(begin)
@@ -185,12 +185,12 @@ class Notes:
         """The mails by their keys: the number of each, and when it came first."""
         return {key: (number, first) for key, number, first in await self.change(lambda run: run('SELECT key, number, first FROM mail').fetchall())}
 
-    async def forget(self, keys: Sequence[bytes], behind: int) -> None:
-        """The mails of these keys get new numbers if they come again, and none below `behind`."""
+    async def forget(self, keys: Sequence[bytes], least: int) -> None:
+        """The mails of these keys get new numbers if they come again, and none below `least`."""
         def forget(run: Execute) -> None:
             for key in keys:
                 run('DELETE FROM mail WHERE key = ?', (key,))
-            run('UPDATE next SET number = max(number, ?)', (behind,))
+            run('UPDATE next SET number = max(number, ?)', (least,))
         await self.change(forget)
 
     async def forget_before(self, moment: float) -> int:

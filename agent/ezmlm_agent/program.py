@@ -155,7 +155,7 @@ class Run:
 
     def told(self, answer: Answer) -> None:
         if self.ending:
-            raise ValueError('a line behind the last one')
+            raise ValueError('a line after the last one')
         if isinstance(answer, Ending):
             self.ending = answer
         elif item := self.given.popleft():

@@ -19,4 +19,4 @@ class State:
 def state_of(path: pathlib.Path) -> State:
     """Reads a list's folder, while nothing else has it."""
     key = hashlib.sha256(folder.bytes_or_none(path / 'key') or b'').digest()
-    return State(max(notes.FIRST, folder.behind_answers(path)), folder.floor(path), folder.bytes_or_none(path / 'config') or b'', key)
+    return State(max(notes.FIRST, folder.after_answers(path)), folder.floor(path), folder.bytes_or_none(path / 'config') or b'', key)

@@ -102,8 +102,8 @@ def case_beside_a_busy_list(world):
     with given([lambda first=first: sends(first) for first in range(50)]) as answers:
         check(until(lambda: world.log().count('cats@ex.org: 0 posted') >= 50), 'none is posted')
         same(world.post(1, to='dogs'), '250 2.0.0 posted 1', 'the other list')
-        behind = world.log().count('cats@ex.org: 0 posted')
-    check(behind < MANY[0] - 50, f'the other list was answered when {behind} of {MANY[0]} were')
+        posted = world.log().count('cats@ex.org: 0 posted')
+    check(posted < MANY[0] - 50, f'the other list was answered when {posted} of {MANY[0]} were')
     same(collections.Counter(reply[:16] for replies in answers.values() for reply in replies), {'250 2.0.0 posted': MANY[0]}, 'replies')
     same(world.posts(), MANY[0], 'posts')
 

@@ -217,7 +217,7 @@ def case_limits(world):
         same(client.mail('w@m.net', [f'cats@{HOST}'], post(1)), ['250 2.0.0 posted 1'], 'a post')
         client.socket.sendall(b'x' * 5000)
         begins(client.reply(), '500 5.5.2', 'a line without an end')
-        same(client.file.read(), b'', 'behind it')
+        same(client.file.read(), b'', 'after it')
     clients = [Client(world.place / 'lmtp') for _ in range(4)]
     replies = []
     for client in clients:

@@ -18,13 +18,13 @@ def step():
     left[0] -= 1
     if left[0] == 0:
         os.kill(os.getpid(), signal.SIGKILL)
-def counted(call, behind):
+def counted(call, after):
     def counting(*words, **more):
         step()
         try:
             return call(*words, **more)
         finally:
-            if behind:
+            if after:
                 step()
     return counting
 asyncio.events.Handle._run = counted(asyncio.events.Handle._run, False)

@@ -8,11 +8,11 @@ use Rattle.ml_base.specs.Dir.{Dir}
 use Rattle.ml_base.specs.Ranges.{IsMoment}
 use Rattle.ml_config.specs.Configuration.{IsConfig}
 use Rattle.ml_config.specs.declared.configuration.Config.{Config}
-use Rattle.ml_dividing.proofs.Written.{moves_read}
-use Rattle.ml_dividing.specs.Moves.{PlainMove}
-use Rattle.ml_dividing.specs.Questions.{moving_of}
-use Rattle.ml_dividing.specs.Texts.{move_text, moving_text, part_under, parts_of}
-use Rattle.ml_dividing.specs.declared.move_question.Moving.{Moving}
+use Rattle.ml_split_questions.proofs.Written.{moves_read}
+use Rattle.ml_split_questions.specs.Moves.{PlainMove}
+use Rattle.ml_split_questions.specs.Questions.{moving_of}
+use Rattle.ml_split_questions.specs.Texts.{move_text, moving_text, part_under, parts_of}
+use Rattle.ml_split_questions.specs.declared.move_question.Moving.{Moving}
 use Rattle.ml_ending.specs.Endings.{Says}
 use Rattle.ml_ending.specs.Stops.{status_of_why}
 use Rattle.ml_ending.specs.declared.lines.Why.{Why}
@@ -26,9 +26,9 @@ use Rattle.ml_mbox.specs.declared.mails.Boxed.{Boxed}
 use Rattle.ml_plain.specs.Directory.{IsState}
 use Rattle.ml_plain.specs.Histories.{State}
 use Rattle.ml_plain.specs.Items.{AreNumbers, numbered}
-use Rattle.ml_porting.specs.Numbers.{IsFirst}
-use Rattle.ml_porting.specs.Questions.{importing_meaning, importing_of}
-use Rattle.ml_porting.specs.declared.import_question.Importing.{Importing}
+use Rattle.ml_mbox_questions.specs.Numbers.{IsFirst}
+use Rattle.ml_mbox_questions.specs.Questions.{importing_meaning, importing_of}
+use Rattle.ml_mbox_questions.specs.declared.import_question.Importing.{Importing}
 use Rattle.ml_reading.specs.Giving.{GivesAnswer}
 use Rattle.ml_reading.specs.Queries.{text_or_absent}
 use Rattle.ml_reading.specs.Readings.{GivesFound, IsHindered}
@@ -53,7 +53,7 @@ use Rattle.ml_command.specs.Inquiries.{importing_asked, moving_asked}
 use Rattle.ml_command.specs.Printing.{Prints, PutsMails, PutsMoves}
 use Rattle.ml_command.specs.Words.{Command, Spool, Deliver, Make, Exercise, Single, Give, BadWord, NoCommand}
 use Rattle.ml_command.specs.declared.inquiries.Inquiry.TheVariants as inquiries
-use Rattle.ml_dividing.proofs.Moved.{filter_small}
+use Rattle.ml_split_questions.proofs.Moved.{filter_small}
 
 -- what is proved of every stream that an import gives
 abbrev pub LawImporting : Type 0

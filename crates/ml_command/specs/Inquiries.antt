@@ -11,19 +11,19 @@ use Rattle.ml_reading.specs.declared.queries.Query.{Query}
 use Rattle.ml_reading.specs.declared.queries.Query.TheVariants as queries
 use Rattle.ml_input.specs.Asking.{InputQuestion}
 use Rattle.ml_check.specs.Checking.{check_meaning}
-use Rattle.ml_dividing.specs.Moves.{PlainMove}
-use Rattle.ml_dividing.specs.Questions.{division_meaning, division_of, move_words, moving_meaning, moving_of}
-use Rattle.ml_dividing.specs.declared.division_question.Division.{Division}
-use Rattle.ml_dividing.specs.declared.move_question.Moving.{Moving}
-use Rattle.ml_porting.specs.Questions.{importing_meaning, importing_of, mbox_meaning}
-use Rattle.ml_porting.specs.Words.{import_words, mbox_query}
-use Rattle.ml_porting.specs.declared.import_question.Importing.{Importing}
-use Rattle.ml_porting.specs.declared.query.MboxQuery.{MboxQuery}
+use Rattle.ml_split_questions.specs.Moves.{PlainMove}
+use Rattle.ml_split_questions.specs.Questions.{division_meaning, division_of, move_words, moving_meaning, moving_of}
+use Rattle.ml_split_questions.specs.declared.division_question.Division.{Division}
+use Rattle.ml_split_questions.specs.declared.move_question.Moving.{Moving}
+use Rattle.ml_mbox_questions.specs.Questions.{importing_meaning, importing_of, mbox_meaning}
+use Rattle.ml_mbox_questions.specs.Words.{import_words, mbox_query}
+use Rattle.ml_mbox_questions.specs.declared.import_question.Importing.{Importing}
+use Rattle.ml_mbox_questions.specs.declared.query.MboxQuery.{MboxQuery}
 use Rattle.ml_split.specs.Reading.{rules_in}
-use Rattle.ml_web.specs.Questions.{page_meaning}
-use Rattle.ml_web.specs.Words.{month_query, thread_query}
-use Rattle.ml_web.specs.declared.pages.PageQuery.{PageQuery}
-use Rattle.ml_web.specs.declared.pages.PageQuery.TheVariants as pages
+use Rattle.ml_pages_questions.specs.Questions.{page_meaning}
+use Rattle.ml_pages_questions.specs.Words.{month_query, thread_query}
+use Rattle.ml_pages_questions.specs.declared.pages.PageQuery.{PageQuery}
+use Rattle.ml_pages_questions.specs.declared.pages.PageQuery.TheVariants as pages
 use Rattle.ml_base.specs.declared.names.Set.{Set}
 use Rattle.ml_command.specs.declared.inquiries.Inquiry.{Inquiry}
 use Rattle.ml_command.specs.declared.inquiries.Inquiry.TheVariants as inquiries

@@ -3,8 +3,8 @@ use Rattle.std.specs.Prelude.{◌≡◌, ◌≤◌, ℕ, true, IsTrue, List, ◌
 use Rattle.ml_base.specs.Bytes.{Text}
 use Rattle.ml_base.specs.Dir.{Dir}
 use Rattle.ml_config.specs.declared.configuration.Config.{Config}
-use Rattle.ml_dividing.specs.Moves.{PlainMove}
-use Rattle.ml_dividing.specs.Texts.{part_under, parts_of}
+use Rattle.ml_split_questions.specs.Moves.{PlainMove}
+use Rattle.ml_split_questions.specs.Texts.{part_under, parts_of}
 use Rattle.ml_input.specs.Asking.{IsMomentOf}
 use Rattle.ml_input.specs.Input.{IsInput}
 use Rattle.ml_journal.specs.Log.{directory}
@@ -15,7 +15,7 @@ use Rattle.ml_plain.specs.Directory.{IsState}
 use Rattle.ml_plain.specs.Histories.{State}
 use Rattle.ml_plain.specs.Items.{numbered}
 use Rattle.ml_plain.specs.declared.Item.{Item}
-use Rattle.ml_porting.specs.Numbers.{IsFirst}
+use Rattle.ml_mbox_questions.specs.Numbers.{IsFirst}
 use Rattle.ml_site.specs.declared.site.Site.{Ghosts}
 use Rattle.ml_site.specs.declared.source.Clock.{Ghosts as ClockGhosts}
 use Rattle.ml_site.specs.declared.source.Source.{Ghosts as SourceGhosts}

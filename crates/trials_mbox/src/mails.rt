@@ -5,8 +5,8 @@ use ml_base::{Bytes, push_netstring};
 use ml_mbox::{
     Boxed, MailList, Mailed, Mails, asctime, push_mail, read_mbox, to_act, to_acts, write_mbox,
 };
+use ml_mbox_questions::{import_text, import_words, mbox_query};
 use ml_plain::Act;
-use ml_porting::{import_text, import_words, mbox_query};
 use std::alloc::{AllocError, Global};
 use std::test::Fail;
 use trials_lists::config;

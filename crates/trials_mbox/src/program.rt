@@ -5,7 +5,7 @@ ghost use Rattle.std.specs.Prelude.{◌<◌};
 use crate::mails;
 use ml_base::{Bytes, PartError, read_number};
 use ml_input::{FromInput, InputError};
-use ml_porting::{Importing, MboxQuery, import_words};
+use ml_mbox_questions::{Importing, MboxQuery, import_words};
 use ml_reading::{Answer, Question};
 use ml_site::{Clock, Fill, MemClock, MemSite, MemSource};
 use std::alloc::{AllocError, Global};

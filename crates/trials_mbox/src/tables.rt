@@ -1,7 +1,7 @@
 // The rows: calls, and what each of them answers, written by hand.
 use crate::program::Mailboxes;
 use ml_mbox::{law_mails, law_mbox, law_quotes};
-use ml_porting::{law_import, law_importing};
+use ml_mbox_questions::{law_import, law_importing};
 use std::test::Fail;
 use trials_scripts::hold;
 

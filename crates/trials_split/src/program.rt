@@ -2,11 +2,11 @@
 // `assign A`, `split A,..`, `join A,.. A,..` and `move NAME SET WAY A,..`; and over the files of the set list `division` and
 // `moving NAME WAY`, where WAY is `in` or another word.
 use ml_base::{Address, AddressList, Bytes, PartError, Set};
-use ml_dividing::{division, moving, write_moves};
 use ml_site::{Fill, MemClock, MemSite, MemSource};
 use ml_split::{
     Part, Parts, Rules, RulesError, assign, join, moves, read_rules, split, write_parts,
 };
+use ml_split_questions::{division, moving, write_moves};
 use std::alloc::{AllocError, Global};
 use std::test::Fail;
 use trials_lists::{copy, error_text};

@@ -1,7 +1,7 @@
 // The rows: calls, and what each of them answers, written by hand.
 use crate::program::Divisions;
-use ml_dividing::law_moves;
 use ml_split::{law_rules, law_split};
+use ml_split_questions::law_moves;
 use std::test::Fail;
 use trials_scripts::hold;
 
