@@ -193,7 +193,7 @@ def case_bad_clients(world):
         some = os.urandom(100).replace(b'\n', b'')
         for line in (b'', b'\0\xff', b'EHLO x', b'DATA', b'RCPT TO:<cats@ex.org>', b'MAIL FROM:cats', b'BDAT 3', some):
             begins(client.command(line), '50', f'{line[:20]!a}')
-        same(client.mail('w@m.net', [f'cats@{HOST}'], post(2)), ['250 2.0.0 posted 2'], 'behind garbage')
+        same(client.mail('w@m.net', [f'cats@{HOST}'], post(2)), ['250 2.0.0 posted 2'], 'after garbage')
     with Client(world.place / 'lmtp') as client:
         try:
             for _ in range(1000):

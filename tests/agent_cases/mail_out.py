@@ -100,10 +100,10 @@ def case_all_refused(world):
     world.begin()
     check(world.tells(AGAIN, times=world.log().count(AGAIN) + 1), 'it was not tried again')
     world.end()
-    same((world.queue(), bounces(world)), (1, 0), 'entries and bounces behind 23 hours')
+    same((world.queue(), bounces(world)), (1, 0), 'entries and bounces after 23 hours')
     is_older(world, 86_400)
     world.begin()
-    check(world.is_out(0), 'it stays behind a day')
+    check(world.is_out(0), 'it stays after a day')
     world.end()
     same(world.log().count(': 0 bounce,'), 400, 'bounces')
 
@@ -214,7 +214,7 @@ def case_killed_in_the_middle(world):
     same(set(world.sink.recipients()), set(members), 'copies')
     doubled = len(world.sink.copies) - 1000
     check(0 < doubled <= 3 * 4 * 10, f'{doubled} copies twice')
-    world.note = f'{doubled} twice behind 3 kills'
+    world.note = f'{doubled} twice after 3 kills'
 
 
 def case_little_memory_out(world):

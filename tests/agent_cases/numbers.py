@@ -25,7 +25,7 @@ def case_given_again(world):
     for number in (signal.SIGKILL, signal.SIGTERM):
         world.end(number)
         world.begin()
-        same(world.post(), '250 2.0.0 posted 1', 'behind a new start')
+        same(world.post(), '250 2.0.0 posted 1', 'after a new start')
     same(world.post(3), '250 2.0.0 posted 3', 'another mail')
     same(world.mail('v@m.net', [f'cats@{HOST}'], post(3)), ['250 2.0.0 posted 4'], 'of another sender')
     same(world.posts(), 4, 'posts')
@@ -39,7 +39,7 @@ def case_client_hangs_up(world):
         client.propose('w@m.net', [f'cats@{HOST}'])
         client.socket.sendall(post()[:40])
     same(world.post(2), '250 2.0.0 posted 1', 'another mail')
-    same(world.posts(), 1, 'posts behind half a mail')
+    same(world.posts(), 1, 'posts after half a mail')
     with Client(world.place / 'lmtp') as client:
         client.propose('w@m.net', [f'cats@{HOST}'])
         client.send(post())
@@ -60,7 +60,7 @@ def case_lost_answers(world):
         begins(first, ('451 4.3.0', '250') if word == 'kill' else '451 4.3.0', word)
         # What is given to a run that is just being killed is put off too.
         check(word != 'bad' or world.tells('cats: 65 bad 7'), 'the log has no error')
-        check(until(lambda n=n: world.post(n) == f'250 2.0.0 posted {n}'), f'behind {word} it is not posted')
+        check(until(lambda n=n: world.post(n) == f'250 2.0.0 posted {n}'), f'after {word} it is not posted')
         same(world.posts(), n, 'posts')
 
 
@@ -79,7 +79,7 @@ def case_lost_notes(world):
     shutil.rmtree(world.place / 'state')
     (world.place / 'old').rename(world.place / 'state')
     world.begin()
-    same(world.post(4), '250 2.0.0 posted 4', 'behind an old copy')
+    same(world.post(4), '250 2.0.0 posted 4', 'after an old copy')
     same(world.post(1), '250 2.0.0 posted 1', 'a mail that the copy has')
     world.end(signal.SIGKILL)
     shutil.rmtree(world.place / 'state')
@@ -119,7 +119,7 @@ def case_floor_by_hand(world):
     world.end()
     same(world.run('cats', 'floor', '0', '5000'), '0 0 floored 5000\n', 'the floor')
     world.begin()
-    same(world.post(2), '250 2.0.0 posted 2', 'a new mail behind a new start')
+    same(world.post(2), '250 2.0.0 posted 2', 'a new mail after a new start')
     same(world.run('cats', 'floor', '0', '9000'), '0 0 floored 9000\n', 'the floor')
     begins(world.post(3), '451', 'a new mail')
     same(world.post(3), '250 2.0.0 posted 3', 'the same again')

@@ -30,7 +30,7 @@ def case_held_list(world):
         time.sleep(HELD[0])
         same(answers, [], 'answers meanwhile')
     waiting.join()
-    same(answers, ['250 2.0.0 posted 2'], 'answers behind it')
+    same(answers, ['250 2.0.0 posted 2'], 'answers after it')
     check(world.is_out(9), 'not all went out')
 
 
@@ -45,7 +45,7 @@ def case_held_at_start(world):
         check(world.tells(TRIED), 'the list was not tried')
         same(answers, [], 'answers meanwhile')
     waiting.join()
-    same(answers, ['250 2.0.0 posted 1'], 'answers behind it')
+    same(answers, ['250 2.0.0 posted 1'], 'answers after it')
 
 
 def case_held_for_long(world):
@@ -70,7 +70,7 @@ def case_held_for_long(world):
         waiting.join()
     check(said[0] is None or said[0].startswith('4'), f'said {said}')
     world.begin()
-    same(world.post(4), '250 2.0.0 posted 4', 'behind a new start')
+    same(world.post(4), '250 2.0.0 posted 4', 'after a new start')
 
 
 def case_damaged_list(world):
@@ -109,7 +109,7 @@ def case_damaged_configuration(world):
     begins(world.post(3), '451', 'the damaged list')
     world.end()
     world.begin()
-    begins(world.post(3), '451', 'the damaged list behind a new start')
+    begins(world.post(3), '451', 'the damaged list after a new start')
     begins(world.post(3, to='birds'), '550', 'an address of no list')
     configured(folder, config)
     same(world.post(3), '250 2.0.0 posted 2', 'the mended list')
@@ -131,7 +131,7 @@ def case_missing_list(world):
         check(not folder.exists(), 'a folder was made')
         world.end()
         world.begin()
-        begins(world.post(2), '451', 'behind a new start')
+        begins(world.post(2), '451', 'after a new start')
         (world.place / 'aside').rename(folder)
         same(world.post(2), '250 2.0.0 posted 2', 'the list that is back')
     world.list('birds')

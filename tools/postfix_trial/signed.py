@@ -1,4 +1,4 @@
-"""Signed posts through lists behind Postfix and opendkim, and a receiver that obeys what the writer's domain says of its mail (DMARC)."""
+"""Signed posts through lists under Postfix and opendkim, and a receiver that obeys what the writer's domain says of its mail (DMARC)."""
 
 import email
 import email.policy
