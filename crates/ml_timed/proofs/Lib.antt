@@ -2,6 +2,7 @@ mod Older
 mod Given
 mod After
 mod Layered
+mod Parts
 mod Apart
 mod Spared
 mod Issued

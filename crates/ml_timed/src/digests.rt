@@ -1,5 +1,5 @@
 // Making the digest that is due: it goes to the digest set, and the mark moves.
-ghost use Rattle.std.specs.Prelude.{◌≡◌, ◌&&◌, ◌<◌, ◌≤◌, ◌+◌, ◌-◌, ◌/◌, ℕ, true, Some, None, map, min, take, length, IsTrue, IfOk, IfNone, IfSome};
+ghost use Rattle.std.specs.Prelude.{◌≡◌, ◌&&◌, ◌<◌, ◌≤◌, ◌+◌, ◌-◌, ◌/◌, ℕ, true, Some, None, map, min, take, length, IsTrue, IfOk, IfSome};
 ghost use Rattle.ml_base.specs.Dir.{Dir, are_files, touches_only, with_puts};
 ghost use Rattle.ml_base.specs.Layers.{files_below, puts_over};
 ghost use Rattle.ml_base.specs.ReadFiles.{IsReading, NamesDamaged};
@@ -17,12 +17,13 @@ ghost use Rattle.ml_reply.specs.Dates.{date_text as date_of};
 ghost use Rattle.ml_acts.specs.Asked.{IsDamagedOf, IsTooSmall, Undigested};
 ghost use Rattle.ml_acts.specs.Damaged.{IsDamaged};
 ghost use Rattle.ml_acts.specs.Doing.{Alike, DrawsId, HasIds, HasIdsUpTo, is_of_queue};
-ghost use Rattle.ml_acts.specs.Growing.{IsGrown, is_of_time};
+ghost use Rattle.ml_acts.specs.Growing.{is_of_time};
 ghost use Rattle.ml_acts.specs.Found.{QueuesToSet};
 ghost use Rattle.ml_timed.specs.Found.{FoundInLayer, FoundToDigest, FoundToIssue};
-ghost use Rattle.ml_acts.specs.Spelled.{AreSpelled, DamagesNothing};
+ghost use Rattle.ml_acts.specs.Spelled.{AreSpelled};
 ghost use Rattle.ml_timed.specs.Digesting.{AgreesIfRead, IsDamagedAfter, IsDamagedInRun, IsDamagedWithin};
 ghost use Rattle.ml_timed.specs.Reads.{is_of_digesting, is_of_issue, is_of_posts_seen, is_of_posts_told, is_of_progress, is_seen_in_digesting};
+ghost use Rattle.ml_timed.specs.Parts.{AnswersPart};
 
 use crate::undigested_posts::posts_after;
 use ml_acts::{Moment, digest_path, recipients, send};
@@ -48,11 +49,8 @@ pub(crate) fn make_digest<F: Files>(
     ensures value { IsTrue F.tells → IfOk result (λ _. (dir : Dir) (p : Plain) → Alike (λ name. config.now.flags.d && is_seen_in_digesting name) (F.map (files_below files.old)) dir → IsList (with_puts dir (puts_over files.old)) p → p.config ≡ config.now → IsList (with_puts dir (puts_over files.new)) (spec.make_digest now.seconds p)) }
     ensures agrees { IsTrue F.tells → IfOk result (λ _. config.now.flags.d ≡ true → AgreesIfRead (with_puts (F.map (files_below files.old)) (puts_over files.old))) }
     ensures room { IsTrue F.tells → IfOk result (λ _. HasIdsUpTo (with_puts (F.map (files_below files.old)) (puts_over files.new)) 999_999_999_998_001) }
-    ensures harmless { IsTrue F.tells → DamagesNothing (with_puts (F.map (files_below files.old)) (puts_over files.old)) (with_puts (F.map (files_below files.old)) (puts_over files.new)) }
-    ensures grown { IsGrown is_of_time (puts_over files.old) (puts_over files.new) }
     ensures found { IsTrue F.tells → IfOk result (λ _. FoundInLayer (F.map (files_below files.old)) (puts_over files.old) (puts_over files.new)) }
-    ensures names { NamesDamaged ⟦<F as Files>⟧ (λ name. (config.now.flags.d && is_of_digesting name) ≡ true) (IsDamagedInRun (with_puts (F.map (files_below files.old)) (puts_over files.old)) (with_puts (F.map (files_below files.old)) (puts_over files.new))) result }
-    ensures reads { IsReading ⟦<F as Files>⟧ (files_below files.old) (files_below files.new) result }
+    ensures part { AnswersPart is_of_time ⟦<F as Files>⟧ (λ name. (config.now.flags.d && is_of_digesting name) ≡ true) IsDamagedInRun files.old files.new result }
 {
     if !config.flags.d {
         return Ok(());
