@@ -3,6 +3,7 @@ mod Given
 mod After
 mod Layered
 mod Parts
+mod Joined
 mod Apart
 mod Spared
 mod Issued

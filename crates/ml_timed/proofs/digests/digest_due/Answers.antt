@@ -21,9 +21,9 @@ use Rattle.ml_timed.proofs.Counted.{agrees_by}
 use Rattle.ml_timed.proofs.Issued.{none_due}
 use Rattle.ml_timed.proofs.Runs.{always}
 use Rattle.ml_timed.proofs.Within.{after_undigested, within_undigested}
-use Rattle.ml_base.proofs.ReadingLemmas.{kept_then, kept_read, reading_then, reading_ok}
 use Rattle.ml_acts.proofs.Found.{found_then}
 use Rattle.ml_timed.specs.Found.{FoundToDigest, FoundToIssue}
+use Rattle.ml_timed.proofs.Joined.{both_kept, reads_ok, reads_then}
 use Rattle.ml_timed.proofs.digests.digest_due.Goals as goal
 
 pub returns-in-Some-clause-drawn : goal.returns-in-Some-clause-drawn
@@ -144,21 +144,14 @@ returns-in-Some-clause-agrees g c told =
 
 pub returns-in_err-range-clause-reads : goal.returns-in_err-range-clause-reads
 returns-in_err-range-clause-reads g c =
-    let one = kept_read g.F.Files c.args.files.now c.progress.new.files c.progress.result c.progress.ensures.reads in
-    let read = reading_then g.F.Files g.met.F.Files.kept_then c.args.files.now c.progress.new.files c.range_due.new.files c.range_due.result one c.range_due.ensures.reads in
+    let read = reads_then g.met.F.Files.kept_then c.progress.ensures.reads c.range_due.ensures.reads in
     search rules
 
 pub returns-in-None-clause-reads : goal.returns-in-None-clause-reads
-returns-in-None-clause-reads g c =
-    let one = kept_read g.F.Files c.args.files.now c.progress.new.files c.progress.result c.progress.ensures.reads in
-    let two = kept_then g.F.Files g.met.F.Files.kept_then c.args.files.now c.progress.new.files c.range_due.new.files one (kept_read g.F.Files c.progress.new.files c.range_due.new.files c.range_due.result c.range_due.ensures.reads) in
-    reading_ok g.F.Files c.args.files.now c.range_due.new.files _ two
+returns-in-None-clause-reads g c = reads_ok (both_kept g.met.F.Files.kept_then c.progress.ensures.reads c.range_due.ensures.reads)
 
 pub returns-in-Some-clause-reads : goal.returns-in-Some-clause-reads
-returns-in-Some-clause-reads g c =
-    let one = kept_read g.F.Files c.args.files.now c.progress.new.files c.progress.result c.progress.ensures.reads in
-    let two = kept_then g.F.Files g.met.F.Files.kept_then c.args.files.now c.progress.new.files c.range_due.new.files one (kept_read g.F.Files c.progress.new.files c.range_due.new.files c.range_due.result c.range_due.ensures.reads) in
-    reading_then g.F.Files g.met.F.Files.kept_then c.args.files.now c.range_due.new.files c.issue.new.files c.issue.result two c.issue.ensures.reads
+returns-in-Some-clause-reads g c = reads_then g.met.F.Files.kept_then c.progress.ensures.reads (reads_then g.met.F.Files.kept_then c.range_due.ensures.reads c.issue.ensures.reads)
 
 pub returns-then-mark-count-clause-found : goal.returns-then-mark-count-clause-found
 returns-then-mark-count-clause-found g c told = inl c.new.ensures

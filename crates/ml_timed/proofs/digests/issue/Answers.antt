@@ -1,7 +1,6 @@
 use Rattle.std.proofs.Common.{◌≡◌, ◌||◌, true, subst, rules, ◌∙◌, ◌++◌, ap, List, ◌+◌}
 use Rattle.std.proofs.lemmas.Bool.{or_right}
 use Rattle.ml_base.specs.Dir.{Dir, with_puts}
-use Rattle.ml_base.proofs.ReadingLemmas.{kept_read, kept_then, reading_then}
 use Rattle.ml_base.specs.declared.names.Set.TheVariants as sets
 use Rattle.ml_acts.specs.Damaged.{IsDamaged}
 use Rattle.ml_acts.specs.Doing.{Alike, DrawsId}
@@ -16,6 +15,7 @@ use Rattle.ml_timed.proofs.Issued.{issue_spelled, issue_unmarked, issues, own_is
 use Rattle.ml_base.specs.declared.puts.Put.{Put}
 use Rattle.ml_digest.specs.declared.posts.Mark.{Mark}
 use Rattle.ml_acts.specs.Found.{QueuesToSet}
+use Rattle.ml_timed.proofs.Joined.{both_kept, reads_beside, reads_ok, reads_then}
 use Rattle.ml_timed.proofs.digests.issue.Goals as goal
 
 pub returns-clause-value : goal.returns-clause-value
@@ -47,13 +47,7 @@ returns-clause-spelled g c told =
     issue_spelled dir c.args.mark.now c.args.range c.in_ok-txn.txn c.in_ok-more.more c.join.new.self c.requires.agree c.requires.from c.requires.some (c.requires.counted told) c.in_ok-txn.ensures.puts draws c.in_ok-join.ensures.ok
 
 pub returns-clause-reads : goal.returns-clause-reads
-returns-clause-reads g c =
-    let read =
-    kept_then g.F.Files g.met.F.Files.kept_then c.args.files.now c.issue_text.new.files c.mail_issue.new.files
-    (kept_read g.F.Files c.args.files.now c.issue_text.new.files c.issue_text.result c.issue_text.ensures.reads)
-    (kept_read g.F.Files c.issue_text.new.files c.mail_issue.new.files c.mail_issue.result c.mail_issue.ensures.reads)
-    in
-    record { kept = read.kept; later = read.later; cause = search rules }
+returns-clause-reads g c = reads_ok (both_kept g.met.F.Files.kept_then c.issue_text.ensures.reads c.mail_issue.ensures.reads)
 
 pub returns-in_err-more-clause-names : goal.returns-in_err-more-clause-names
 returns-in_err-more-clause-names g c =
@@ -65,21 +59,14 @@ returns-in_err-more-clause-names g c =
 
 pub returns-in_err-more-clause-reads : goal.returns-in_err-more-clause-reads
 returns-in_err-more-clause-reads g c =
-    let one = kept_read g.F.Files c.args.files.now c.issue_text.new.files c.issue_text.result c.issue_text.ensures.reads in
-    let read = reading_then g.F.Files g.met.F.Files.kept_then c.args.files.now c.issue_text.new.files c.mail_issue.new.files c.mail_issue.result one c.mail_issue.ensures.reads in
+    let read = reads_then g.met.F.Files.kept_then c.issue_text.ensures.reads c.mail_issue.ensures.reads in
     search rules
 
 pub returns-in_err-txn-clause-reads : goal.returns-in_err-txn-clause-reads
-returns-in_err-txn-clause-reads g c =
-    let one = kept_read g.F.Files c.args.files.now c.issue_text.new.files c.issue_text.result c.issue_text.ensures.reads in
-    let two = kept_then g.F.Files g.met.F.Files.kept_then c.args.files.now c.issue_text.new.files c.mail_issue.new.files one (kept_read g.F.Files c.issue_text.new.files c.mail_issue.new.files c.mail_issue.result c.mail_issue.ensures.reads) in
-    record { kept = two.kept; later = two.later; cause = λ bad. absurd (search rules) }
+returns-in_err-txn-clause-reads g c = reads_beside (both_kept g.met.F.Files.kept_then c.issue_text.ensures.reads c.mail_issue.ensures.reads) (λ bad. search rules)
 
 pub returns-in_err-join-clause-reads : goal.returns-in_err-join-clause-reads
-returns-in_err-join-clause-reads g c =
-    let one = kept_read g.F.Files c.args.files.now c.issue_text.new.files c.issue_text.result c.issue_text.ensures.reads in
-    let two = kept_then g.F.Files g.met.F.Files.kept_then c.args.files.now c.issue_text.new.files c.mail_issue.new.files one (kept_read g.F.Files c.issue_text.new.files c.mail_issue.new.files c.mail_issue.result c.mail_issue.ensures.reads) in
-    record { kept = two.kept; later = two.later; cause = λ bad. absurd (search rules) }
+returns-in_err-join-clause-reads g c = reads_beside (both_kept g.met.F.Files.kept_then c.issue_text.ensures.reads c.mail_issue.ensures.reads) (λ bad. search rules)
 
 pub returns-clause-found : goal.returns-clause-found
 returns-clause-found g c told =

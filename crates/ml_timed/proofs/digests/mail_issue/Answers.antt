@@ -4,7 +4,6 @@ use Rattle.ml_address.specs.declared.Path.{Path}
 use Rattle.ml_base.specs.Bytes.{Text}
 use Rattle.ml_base.specs.Dir.{Dir, with_puts, same_name}
 use Rattle.ml_base.specs.declared.names.Set.TheVariants as sets
-use Rattle.ml_base.proofs.ReadingLemmas.{kept_read, reading_then}
 use Rattle.ml_config.specs.declared.configuration.Config.{Config}
 use Rattle.ml_plain.specs.Directory.{IsList}
 use Rattle.ml_plain.specs.Mailing.{digest_path, send}
@@ -16,6 +15,7 @@ use Rattle.ml_acts.proofs.Asked.{named_as}
 use Rattle.ml_timed.specs.Reads.{is_of_issue}
 use Rattle.ml_queue.specs.declared.entries.Out.{Out}
 use Rattle.ml_acts.specs.Found.{QueuesOut}
+use Rattle.ml_timed.proofs.Joined.{reads_then}
 use Rattle.ml_timed.proofs.digests.mail_issue.Goals as goal
 
 pub returns-clause-value : goal.returns-clause-value
@@ -31,9 +31,7 @@ returns-clause-value g c told =
     (c.send.ensures.apart told)
 
 pub returns-clause-reads : goal.returns-clause-reads
-returns-clause-reads g c =
-    reading_then g.F.Files g.met.F.Files.kept_then c.args.files.now c.recipients.new.files c.send.new.files c.send.result
-    (kept_read g.F.Files c.args.files.now c.recipients.new.files c.recipients.result c.recipients.ensures.reads) c.send.ensures.reads
+returns-clause-reads g c = reads_then g.met.F.Files.kept_then c.recipients.ensures.reads c.send.ensures.reads
 
 pub returns-clause-names : goal.returns-clause-names
 returns-clause-names g c =

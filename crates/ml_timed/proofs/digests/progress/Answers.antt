@@ -6,12 +6,12 @@ use Rattle.ml_filing.specs.Answers.{IsNoNumber}
 use Rattle.ml_base.specs.declared.names.Name.{Name}
 use Rattle.ml_digest.specs.Due.{IsNoMark, mark_name}
 use Rattle.ml_timed.specs.Reads.{is_of_progress}
-use Rattle.ml_base.proofs.ReadingLemmas.{kept_then, kept_read, reading_then, reading_ok}
 use Rattle.ml_timed.proofs.digests.progress.Goals as goal
 use Rattle.ml_timed.proofs.digests.progress.Goals.{then-mark-count-via-then-mark-count, then-mark-count-via-else-mark-count+then-mark}
 use Rattle.ml_filing.specs.Archive.{IsNumberFile, number_name}
 use Rattle.ml_base.specs.Dir.{Dir}
 use Rattle.std.proofs.Common.{subst}
+use Rattle.ml_timed.proofs.Joined.{both_kept, reads_beside, reads_ok, reads_then}
 
 pub returns-in_err-mark-clause-names : goal.returns-in_err-mark-clause-names
 returns-in_err-mark-clause-names g c =
@@ -48,18 +48,11 @@ returns-clause-read g c told =
 
 pub returns-in_err-count-clause-reads : goal.returns-in_err-count-clause-reads
 returns-in_err-count-clause-reads g c =
-    let one = kept_read g.F.Files c.args.files.now c.mark.new.files c.mark.result c.mark.ensures.reads in
-    let read = reading_then g.F.Files g.met.F.Files.kept_then c.args.files.now c.mark.new.files c.count.new.files c.count.result one c.count.ensures.reads in
+    let read = reads_then g.met.F.Files.kept_then c.mark.ensures.reads c.count.ensures.reads in
     search rules
 
 pub returns-then-mark-count-clause-reads : goal.returns-then-mark-count-clause-reads
-returns-then-mark-count-clause-reads g c =
-    let one = kept_read g.F.Files c.args.files.now c.mark.new.files c.mark.result c.mark.ensures.reads in
-    let two = kept_then g.F.Files g.met.F.Files.kept_then c.args.files.now c.mark.new.files c.count.new.files one (kept_read g.F.Files c.mark.new.files c.count.new.files c.count.result c.count.ensures.reads) in
-    record { kept = two.kept; later = two.later; cause = λ bad. absurd (search rules) }
+returns-then-mark-count-clause-reads g c = reads_beside (both_kept g.met.F.Files.kept_then c.mark.ensures.reads c.count.ensures.reads) (λ bad. search rules)
 
 pub returns-clause-reads : goal.returns-clause-reads
-returns-clause-reads g c =
-    let one = kept_read g.F.Files c.args.files.now c.mark.new.files c.mark.result c.mark.ensures.reads in
-    let two = kept_then g.F.Files g.met.F.Files.kept_then c.args.files.now c.mark.new.files c.count.new.files one (kept_read g.F.Files c.mark.new.files c.count.new.files c.count.result c.count.ensures.reads) in
-    reading_ok g.F.Files c.args.files.now c.count.new.files _ two
+returns-clause-reads g c = reads_ok (both_kept g.met.F.Files.kept_then c.mark.ensures.reads c.count.ensures.reads)

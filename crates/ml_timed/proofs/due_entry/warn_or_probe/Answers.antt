@@ -1,7 +1,6 @@
 use Rattle.std.proofs.Common.{◌≡◌, true, refl, sym, ap, ◌∙◌, subst, rules}
 use Rattle.ml_base.specs.Bytes.{Text}
 use Rattle.ml_base.specs.Dir.{Dir, with_puts, same_name}
-use Rattle.ml_base.proofs.ReadingLemmas.{kept_read, kept_then, reading_then}
 use Rattle.ml_bounce.specs.Answers.{action_key}
 use Rattle.ml_queue.specs.Answers.{ids_name}
 use Rattle.ml_reply.specs.declared.mails.Mail.{Mail}
@@ -17,6 +16,7 @@ use Rattle.ml_timed.specs.Telling.{cookie_kind}
 use Rattle.ml_timed.proofs.Apart.{alike_kept, member_there}
 use Rattle.ml_timed.proofs.Changed.{changed_by, informed_none, informed_some}
 use Rattle.ml_timed.proofs.Named.{bucket_followed, entry_followed, ids_followed, names_over}
+use Rattle.ml_timed.proofs.Joined.{reads_then}
 use Rattle.ml_timed.proofs.due_entry.warn_or_probe.Goals as goal
 
 pub returns-in_err-member-clause-names : goal.returns-in_err-member-clause-names
@@ -45,8 +45,7 @@ returns-in_err-txn-clause-names g c =
 
 pub returns-in_err-txn-clause-reads : goal.returns-in_err-txn-clause-reads
 returns-in_err-txn-clause-reads g c =
-    let read = reading_then g.F.Files g.met.F.Files.kept_then c.args.files.now c.find.new.files c.tell.new.files c.tell.result
-    (kept_read g.F.Files c.args.files.now c.find.new.files c.find.result c.find.ensures.reads) c.tell.ensures.reads in
+    let read = reads_then g.met.F.Files.kept_then c.find.ensures.reads c.tell.ensures.reads in
     search rules
 
 pub returns-clause-value : goal.returns-clause-value
@@ -84,16 +83,10 @@ returns-clause-names g c =
     c.add_entry_change.ensures.names
 
 pub returns-clause-reads : goal.returns-clause-reads
-returns-clause-reads g c =
-    reading_then g.F.Files g.met.F.Files.kept_then c.args.files.now c.tell.new.files c.add_entry_change.new.files c.add_entry_change.result
-    (kept_then g.F.Files g.met.F.Files.kept_then c.args.files.now c.find.new.files c.tell.new.files (kept_read g.F.Files c.args.files.now c.find.new.files c.find.result c.find.ensures.reads)
-    (kept_read g.F.Files c.find.new.files c.tell.new.files c.tell.result c.tell.ensures.reads))
-    c.add_entry_change.ensures.reads
+returns-clause-reads g c = reads_then g.met.F.Files.kept_then c.find.ensures.reads (reads_then g.met.F.Files.kept_then c.tell.ensures.reads c.add_entry_change.ensures.reads)
 
 pub returns-in_default-clause-reads : goal.returns-in_default-clause-reads
-returns-in_default-clause-reads g c =
-    let one = kept_read g.F.Files c.args.files.now c.find.new.files c.find.result c.find.ensures.reads in
-    reading_then g.F.Files g.met.F.Files.kept_then c.args.files.now c.find.new.files c.drop_entry.new.files c.drop_entry.result one c.drop_entry.ensures.reads
+returns-in_default-clause-reads g c = reads_then g.met.F.Files.kept_then c.find.ensures.reads c.drop_entry.ensures.reads
 
 pub returns-in_default-clause-names : goal.returns-in_default-clause-names
 returns-in_default-clause-names g c =

@@ -8,12 +8,12 @@ use Rattle.ml_hold.specs.declared.posts.Held.{Held}
 use Rattle.ml_acts.specs.Doing.{DrawsId}
 use Rattle.ml_timed.proofs.Apart.{taken_there}
 use Rattle.ml_timed.proofs.Given.{drawn_joined, given_spelled, gives, large_taken, none_taken, own_given, queue_left, taken_read}
-use Rattle.ml_base.proofs.ReadingLemmas.{kept_then, kept_read, reading_then, reading_ok}
 use Rattle.std.proofs.lemmas.Bool.{or_right}
 use Rattle.ml_queue.specs.Answers.{ids_name}
 use Rattle.ml_acts.specs.Damaged.{IsDamaged, waiting}
 use Rattle.ml_acts.proofs.Asked.{named_as}
 use Rattle.ml_timed.specs.Reads.{is_of_giving_back, is_waiting}
+use Rattle.ml_timed.proofs.Joined.{both_kept, reads_beside, reads_ok, reads_then}
 use Rattle.ml_timed.proofs.returned_posts.expire.Goals as goal
 
 pub returns-in_default-clause-value : goal.returns-in_default-clause-value
@@ -61,21 +61,14 @@ returns-clause-spelled g c told =
 
 pub returns-in_err-more-clause-reads : goal.returns-in_err-more-clause-reads
 returns-in_err-more-clause-reads g c =
-    let one = kept_read g.F.Files c.args.files.now c.take.new.files c.take.result c.take.ensures.reads in
-    let read = reading_then g.F.Files g.met.F.Files.kept_then c.args.files.now c.take.new.files c.notice.new.files c.notice.result one c.notice.ensures.reads in
+    let read = reads_then g.met.F.Files.kept_then c.take.ensures.reads c.notice.ensures.reads in
     search rules
 
 pub returns-in_err-join-clause-reads : goal.returns-in_err-join-clause-reads
-returns-in_err-join-clause-reads g c =
-    let one = kept_read g.F.Files c.args.files.now c.take.new.files c.take.result c.take.ensures.reads in
-    let two = kept_then g.F.Files g.met.F.Files.kept_then c.args.files.now c.take.new.files c.notice.new.files one (kept_read g.F.Files c.take.new.files c.notice.new.files c.notice.result c.notice.ensures.reads) in
-    record { kept = two.kept; later = two.later; cause = λ bad. absurd (search rules) }
+returns-in_err-join-clause-reads g c = reads_beside (both_kept g.met.F.Files.kept_then c.take.ensures.reads c.notice.ensures.reads) (λ bad. search rules)
 
 pub returns-clause-reads : goal.returns-clause-reads
-returns-clause-reads g c =
-    let one = kept_read g.F.Files c.args.files.now c.take.new.files c.take.result c.take.ensures.reads in
-    let two = kept_then g.F.Files g.met.F.Files.kept_then c.args.files.now c.take.new.files c.notice.new.files one (kept_read g.F.Files c.take.new.files c.notice.new.files c.notice.result c.notice.ensures.reads) in
-    reading_ok g.F.Files c.args.files.now c.notice.new.files _ two
+returns-clause-reads g c = reads_ok (both_kept g.met.F.Files.kept_then c.take.ensures.reads c.notice.ensures.reads)
 
 pub returns-in_err-more-clause-names : goal.returns-in_err-more-clause-names
 returns-in_err-more-clause-names g c =

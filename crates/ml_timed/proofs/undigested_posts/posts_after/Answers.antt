@@ -15,7 +15,7 @@ use Rattle.ml_timed.specs.Waiting.{are_short, is_short, moment_after, sizes_afte
 use Rattle.ml_timed.proofs.After.{moment_in_first, sizes_of_both}
 use Rattle.ml_timed.proofs.Short.{short_after, short_joined}
 use Rattle.ml_timed.proofs.Within.{group_after, hundred}
-use Rattle.ml_base.proofs.ReadingLemmas.{kept_then, kept_read, reading_then, reading_ok}
+use Rattle.ml_timed.proofs.Joined.{both_kept, reads_beside, reads_ok, reads_then}
 use Rattle.ml_timed.proofs.undigested_posts.posts_after.Goals as goal
 
 pub returns-clause-sizes : goal.returns-clause-sizes
@@ -87,24 +87,14 @@ returns-clause-agrees g c told near small =
 
 pub returns-in_err-second-clause-reads : goal.returns-in_err-second-clause-reads
 returns-in_err-second-clause-reads g c =
-    let one = kept_read g.F.Files c.args.files.now c.group_of.new.files c.group_of.result c.group_of.ensures.reads in
-    let read = reading_then g.F.Files g.met.F.Files.kept_then c.args.files.now c.group_of.new.files c.group_of-2.new.files c.group_of-2.result one c.group_of-2.ensures.reads in
+    let read = reads_then g.met.F.Files.kept_then c.group_of.ensures.reads c.group_of-2.ensures.reads in
     search rules
 
 pub returns-in_err-add_sizes-clause-reads : goal.returns-in_err-add_sizes-clause-reads
-returns-in_err-add_sizes-clause-reads g c =
-    let one = kept_read g.F.Files c.args.files.now c.group_of.new.files c.group_of.result c.group_of.ensures.reads in
-    let two = kept_then g.F.Files g.met.F.Files.kept_then c.args.files.now c.group_of.new.files c.group_of-2.new.files one (kept_read g.F.Files c.group_of.new.files c.group_of-2.new.files c.group_of-2.result c.group_of-2.ensures.reads) in
-    record { kept = two.kept; later = two.later; cause = λ bad. absurd (search rules) }
+returns-in_err-add_sizes-clause-reads g c = reads_beside (both_kept g.met.F.Files.kept_then c.group_of.ensures.reads c.group_of-2.ensures.reads) (λ bad. search rules)
 
 pub returns-in_err-add_sizes-2-clause-reads : goal.returns-in_err-add_sizes-2-clause-reads
-returns-in_err-add_sizes-2-clause-reads g c =
-    let one = kept_read g.F.Files c.args.files.now c.group_of.new.files c.group_of.result c.group_of.ensures.reads in
-    let two = kept_then g.F.Files g.met.F.Files.kept_then c.args.files.now c.group_of.new.files c.group_of-2.new.files one (kept_read g.F.Files c.group_of.new.files c.group_of-2.new.files c.group_of-2.result c.group_of-2.ensures.reads) in
-    record { kept = two.kept; later = two.later; cause = λ bad. absurd (search rules) }
+returns-in_err-add_sizes-2-clause-reads g c = reads_beside (both_kept g.met.F.Files.kept_then c.group_of.ensures.reads c.group_of-2.ensures.reads) (λ bad. search rules)
 
 pub returns-clause-reads : goal.returns-clause-reads
-returns-clause-reads g c =
-    let one = kept_read g.F.Files c.args.files.now c.group_of.new.files c.group_of.result c.group_of.ensures.reads in
-    let two = kept_then g.F.Files g.met.F.Files.kept_then c.args.files.now c.group_of.new.files c.group_of-2.new.files one (kept_read g.F.Files c.group_of.new.files c.group_of-2.new.files c.group_of-2.result c.group_of-2.ensures.reads) in
-    reading_ok g.F.Files c.args.files.now c.group_of-2.new.files _ two
+returns-clause-reads g c = reads_ok (both_kept g.met.F.Files.kept_then c.group_of.ensures.reads c.group_of-2.ensures.reads)
