@@ -40,7 +40,7 @@ pub(crate) fn follow_all_up<F: Files>(
     now: Moment,
 ) -> Result<(), PartError>
     requires room { IsTrue F.tells → HasIdsUpTo (with_puts (F.map (files_below files.now)) (puts_over files.now)) 999_999_999_998_001 }
-    ensures value { IsTrue F.tells → IfOk result (λ _. (dir : Dir) (p : Plain) → Alike is_of_following (F.map (files_below files.old)) dir → IsList (with_puts dir (puts_over files.old)) p → p.config ≡ config.now → IsList (with_puts dir (puts_over files.new)) (spec.follow_all_up now.seconds p)) }
+    ensures apart { IsTrue F.tells → IfOk result (λ _. (dir : Dir) (p : Plain) → Alike is_of_following (F.map (files_below files.old)) dir → IsList (with_puts dir (puts_over files.old)) p → p.config ≡ config.now → IsList (with_puts dir (puts_over files.new)) (spec.follow_all_up now.seconds p)) }
     ensures room { IsTrue F.tells → IfOk result (λ _. HasIdsUpTo (with_puts (F.map (files_below files.old)) (puts_over files.new)) 1_000_000_000_000_001) }
     ensures part { AnswersPart is_followed_up ⟦<F as Files>⟧ (λ name. is_of_following name ≡ true) (λ _. IsDamaged) files.old files.new result }
 {
@@ -75,7 +75,7 @@ fn follow_each<F: Files>(
 ) -> Result<(), PartError>
     requires ledger { IsTrue (has_ledger set) }
     requires room { IsTrue F.tells → HasIdsFor (with_puts (F.map (files_below files.now)) (puts_over files.now)) (length actions.now) }
-    ensures value { IsTrue F.tells → IfOk result (λ _. (dir : Dir) (p : Plain) (es : Ledger) → Alike (is_followed_by set) (F.map (files_below files.old)) dir → IsAhead (with_puts dir (puts_over files.old)) config.now keys.now set actions.now p es → IsList (with_puts dir (puts_over files.new)) (fold (spec.follow_up now.seconds) p (of_set set es))) }
+    ensures apart { IsTrue F.tells → IfOk result (λ _. (dir : Dir) (p : Plain) (es : Ledger) → Alike (is_followed_by set) (F.map (files_below files.old)) dir → IsAhead (with_puts dir (puts_over files.old)) config.now keys.now set actions.now p es → IsList (with_puts dir (puts_over files.new)) (fold (spec.follow_up now.seconds) p (of_set set es))) }
     ensures drawn { IsTrue F.tells → IfOk result (λ _. (more : ℕ) → HasIdsFor (with_puts (F.map (files_below files.old)) (puts_over files.old)) (length actions.now + more) → HasIdsFor (with_puts (F.map (files_below files.old)) (puts_over files.new)) more) }
     ensures part { AnswersPart is_followed_up ⟦<F as Files>⟧ (λ name. is_followed_by set name ≡ true) (λ _. IsDamaged) files.old files.new result }
 {
@@ -99,7 +99,7 @@ fn follow_one<F: Files>(
 ) -> Result<(), PartError>
     requires ledger { IsTrue (has_ledger set) }
     requires room { IsTrue F.tells → HasIds (with_puts (F.map (files_below files.now)) (puts_over files.now)) }
-    ensures value { IsTrue F.tells → IfOk result (λ _. (dir : Dir) (p : Plain) (e : LedgerEntry) → Alike (is_followed_by set) (F.map (files_below files.old)) dir → IsList (with_puts dir (puts_over files.old)) p → p.config ≡ config.now → p.keys ≡ keys.now → find_entry e.key (ledger_of p set) ≡ Some e → action_of e ≡ action.now → IsList (with_puts dir (puts_over files.new)) (spec.follow_up now.seconds p (set, e))) }
+    ensures apart { IsTrue F.tells → IfOk result (λ _. (dir : Dir) (p : Plain) (e : LedgerEntry) → Alike (is_followed_by set) (F.map (files_below files.old)) dir → IsList (with_puts dir (puts_over files.old)) p → p.config ≡ config.now → p.keys ≡ keys.now → find_entry e.key (ledger_of p set) ≡ Some e → action_of e ≡ action.now → IsList (with_puts dir (puts_over files.new)) (spec.follow_up now.seconds p (set, e))) }
     ensures same { OnErr result (puts_over files.new ≡ puts_over files.old) }
     ensures drawn { IsTrue F.tells → IfOk result (λ _. (more : ℕ) → HasIdsFor (with_puts (F.map (files_below files.old)) (puts_over files.old)) (more + 1) → HasIdsFor (with_puts (F.map (files_below files.old)) (puts_over files.new)) more) }
     ensures part { AnswersPart is_followed_up ⟦<F as Files>⟧ (λ name. is_followed_by set name ≡ true) (λ _. IsDamaged) files.old files.new result }

@@ -91,7 +91,7 @@ fn all_parts<F: Files>(
     now: Moment,
 ) -> Result<(), PartError>
     requires room { IsTrue F.tells → HasIdsUpTo (with_puts (F.map (files_below files.now)) (puts_over files.now)) 999_999_999_997_000 }
-    ensures value { IsTrue F.tells → IfOk result (λ _. (dir : Dir) (p : Plain) → Alike (is_seen_in_timed config.now.flags.d) (F.map (files_below files.old)) dir → IsList (with_puts dir (puts_over files.old)) p → p.config ≡ config.now → IsList (with_puts dir (puts_over files.new)) (spec.after_timed now.seconds p)) }
+    ensures apart { IsTrue F.tells → IfOk result (λ _. (dir : Dir) (p : Plain) → Alike (is_seen_in_timed config.now.flags.d) (F.map (files_below files.old)) dir → IsList (with_puts dir (puts_over files.old)) p → p.config ≡ config.now → IsList (with_puts dir (puts_over files.new)) (spec.after_timed now.seconds p)) }
     ensures agrees { IsTrue F.tells → IfOk result (λ _. config.now.flags.d ≡ true → AgreesIfRead (with_puts (F.map (files_below files.old)) (puts_over files.old))) }
     ensures room { IsTrue F.tells → IfOk result (λ _. HasIdsUpTo (with_puts (F.map (files_below files.old)) (puts_over files.new)) 1_000_000_000_000_001) }
     ensures found { IsTrue F.tells → IfOk result (λ _. FoundInRun (F.map (files_below files.old)) (puts_over files.old) (puts_over files.new)) }

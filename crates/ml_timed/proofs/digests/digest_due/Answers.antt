@@ -32,12 +32,12 @@ returns-in-Some-clause-drawn g c told =
     let second = g.met.F.Files.kept_map c.progress.new.files c.range_due.new.files told c.range_due.ensures.reads.kept in
     subst (λ (d : Dir). IfOk c.issue.result (λ txn. (most : ℕ) → HasIdsUpTo d most → HasIdsUpTo (with_puts d txn) (most + 1))) (second ∙ first) (c.issue.ensures.drawn told)
 
-pub returns-in-None-clause-value : goal.returns-in-None-clause-value
-returns-in-None-clause-value g c told dir p alike is same =
+pub returns-in-None-clause-apart : goal.returns-in-None-clause-apart
+returns-in-None-clause-apart g c told dir p alike is same =
     let old = g.F.Files.map c.args.files.now in
     let first = g.met.F.Files.kept_map c.args.files.now c.progress.new.files told c.progress.ensures.reads.kept in
     let told_of = progress_there old dir p c.in_ok-mark.mark c.in_ok-mark.count alike is (c.in_ok-mark.ensures.marked told) (c.in_ok-mark.ensures.read told) in
-    let range = c.in_ok-range.ensures.value told dir p (alike_kept is_of_posts_seen old (g.F.Files.map c.progress.new.files) dir first (alike_fewer is_of_posts_seen is_seen_in_digesting old dir posts_digested alike)) is (sym told_of.0) told_of.1 in
+    let range = c.in_ok-range.ensures.apart told dir p (alike_kept is_of_posts_seen old (g.F.Files.map c.progress.new.files) dir first (alike_fewer is_of_posts_seen is_seen_in_digesting old dir posts_digested alike)) is (sym told_of.0) told_of.1 in
     subst (λ (o : Option Range). IsList (with_puts dir c.new-in-None.result) (issue c.args.now.seconds p o)) (sym c.in-None.is ∙ range)
     (subst (λ (t : List Put). IsList (with_puts dir t) p) (sym c.new-in-None.ensures) is)
 
@@ -54,8 +54,8 @@ returns-in-Some-clause-spelled g c told =
     let second = g.met.F.Files.kept_map c.progress.new.files c.range_due.new.files told c.range_due.ensures.reads.kept in
     subst (λ (d : Dir). IfOk c.issue.result (AreSpelled d)) (second ∙ first) (c.issue.ensures.spelled told)
 
-pub returns-then-mark-count-clause-value : goal.returns-then-mark-count-clause-value
-returns-then-mark-count-clause-value g c told dir p alike is same =
+pub returns-then-mark-count-clause-apart : goal.returns-then-mark-count-clause-apart
+returns-then-mark-count-clause-apart g c told dir p alike is same =
     let told_of = progress_there (g.F.Files.map c.args.files.now) dir p c.in_ok-mark.mark c.in_ok-mark.count alike is (c.in_ok-mark.ensures.marked told) (c.in_ok-mark.ensures.read told) in
     let here = c.if-mark-count.true in
     let last = ap (λ (m : Mark). m.last) told_of.0 in
@@ -65,8 +65,8 @@ returns-then-mark-count-clause-value g c told dir p alike is same =
     (ap (map (λ post. length post.bytes)) (drop_of_length-le p.posts (omega (arith, here, last, size)))) in
     subst (λ (o : Option Range). IsList (with_puts dir c.new.result) (issue c.args.now.seconds p o)) (sym none) (subst (λ (t : List Put). IsList (with_puts dir t) p) (sym c.new.ensures) is)
 
-pub returns-in-Some-clause-value : goal.returns-in-Some-clause-value
-returns-in-Some-clause-value g c told =
+pub returns-in-Some-clause-apart : goal.returns-in-Some-clause-apart
+returns-in-Some-clause-apart g c told =
     let old = g.F.Files.map c.args.files.now in
     let first = g.met.F.Files.kept_map c.args.files.now c.progress.new.files told c.progress.ensures.reads.kept in
     let second = g.met.F.Files.kept_map c.progress.new.files c.range_due.new.files told c.range_due.ensures.reads.kept in
@@ -74,12 +74,12 @@ returns-in-Some-clause-value g c told =
     ok_then c.issue.result
     (λ txn value dir p alike is same.
     let told_of = progress_there old dir p c.in_ok-mark.mark c.in_ok-mark.count alike is (c.in_ok-mark.ensures.marked told) (c.in_ok-mark.ensures.read told) in
-    let range = c.in_ok-range.ensures.value told dir p (alike_kept is_of_posts_seen old (g.F.Files.map c.progress.new.files) dir first (alike_fewer is_of_posts_seen is_seen_in_digesting old dir posts_digested alike)) is (sym told_of.0) told_of.1 in
+    let range = c.in_ok-range.ensures.apart told dir p (alike_kept is_of_posts_seen old (g.F.Files.map c.progress.new.files) dir first (alike_fewer is_of_posts_seen is_seen_in_digesting old dir posts_digested alike)) is (sym told_of.0) told_of.1 in
     let last = up.2 in
     let size = told_of.1 in
     let made = value dir p (alike_kept is_seen_in_digesting old (g.F.Files.map c.range_due.new.files) dir (second ∙ first) alike) is same (sym told_of.0) (omega (arith, last, size)) in
     subst (λ (o : Option Range). IsList (with_puts dir txn) (issue c.args.now.seconds p o)) (sym c.in-Some.is ∙ range) made)
-    (c.issue.ensures.value told)
+    (c.issue.ensures.apart told)
 
 pub returns-in_err-range-clause-names : goal.returns-in_err-range-clause-names
 returns-in_err-range-clause-names g c =

@@ -18,16 +18,16 @@ use Rattle.ml_acts.specs.Found.{QueuesToSet}
 use Rattle.ml_timed.proofs.Joined.{both_kept, reads_beside, reads_ok, reads_then}
 use Rattle.ml_timed.proofs.digests.issue.Goals as goal
 
-pub returns-clause-value : goal.returns-clause-value
-returns-clause-value g c told dir p alike is same marked there =
+pub returns-clause-apart : goal.returns-clause-apart
+returns-clause-apart g c told dir p alike is same marked there =
     let old = g.F.Files.map c.args.files.now in
     let txn = c.in_ok-txn.txn in
     let moved = with_puts dir txn in
     let issued : Alike is_of_issue old moved = alike_then is_of_issue old dir moved (alike_fewer is_of_issue is_seen_in_digesting old dir issue_digested alike) (issue_unmarked dir txn c.in_ok-txn.ensures.others) in
     let kept = g.met.F.Files.kept_map c.args.files.now c.issue_text.new.files told c.issue_text.ensures.reads.kept in
     issues dir p c.args.config.now c.args.now.seconds c.args.mark.now c.args.range c.in_ok-body.body c.in_ok-txn.txn c.in_ok-more.more c.join.new.self is same marked c.requires.agree c.requires.from c.requires.some there
-    c.in_ok-txn.ensures.others (c.in_ok-txn.ensures.holds dir) (c.in_ok-body.ensures.value told dir p (alike_fewer is_of_posts_seen is_seen_in_digesting old dir posts_digested alike) is same)
-    (λ q on conf. c.in_ok-more.ensures.value told moved q (alike_kept is_of_issue old (g.F.Files.map c.issue_text.new.files) moved kept issued) on conf) c.in_ok-join.ensures.ok
+    c.in_ok-txn.ensures.others (c.in_ok-txn.ensures.holds dir) (c.in_ok-body.ensures.apart told dir p (alike_fewer is_of_posts_seen is_seen_in_digesting old dir posts_digested alike) is same)
+    (λ q on conf. c.in_ok-more.ensures.apart told moved q (alike_kept is_of_issue old (g.F.Files.map c.issue_text.new.files) moved kept issued) on conf) c.in_ok-join.ensures.ok
 
 pub returns-clause-own : goal.returns-clause-own
 returns-clause-own g c = own_issued c.in_ok-txn.txn c.in_ok-more.more c.join.new.self c.in_ok-txn.ensures.others c.in_ok-more.ensures.own c.in_ok-join.ensures.ok

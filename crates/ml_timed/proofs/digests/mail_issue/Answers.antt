@@ -18,8 +18,8 @@ use Rattle.ml_acts.specs.Found.{QueuesOut}
 use Rattle.ml_timed.proofs.Joined.{reads_then}
 use Rattle.ml_timed.proofs.digests.mail_issue.Goals as goal
 
-pub returns-clause-value : goal.returns-clause-value
-returns-clause-value g c told =
+pub returns-clause-apart : goal.returns-clause-apart
+returns-clause-apart g c told =
     let same_map = g.met.F.Files.kept_map c.args.files.now c.recipients.new.files told c.recipients.ensures.reads.kept in
     ok_then c.send.result
     (λ txn value dir p alike is same.

@@ -17,14 +17,14 @@ use Rattle.std.proofs.lemmas.List.{append-nil}
 use Rattle.ml_timed.proofs.Parts.{laid_none, laid_put, laid_self, only_read, part_err, part_memory, part_ok, part_read, read_still}
 use Rattle.ml_timed.proofs.digests.make_digest.Goals as goal
 
-pub returns-clause-value : goal.returns-clause-value
-returns-clause-value g c told dir p alike is same =
+pub returns-clause-apart : goal.returns-clause-apart
+returns-clause-apart g c told dir p alike is same =
     let below = g.F.Files.map (files_below c.args.files.now) in
     let old = puts_over c.args.files.now in
     let puts : puts_over c.lay.new.self ≡ old ++ c.in_ok-txn.txn = c.in_ok-lay.ensures.ok ∙ ap (λ (t : List Put). t ++ c.in_ok-txn.txn) c.digest_due.ensures.reads.kept.1 in
     let on : c.args.config.now.flags.d ≡ true = search rules in
     digests (with_puts dir (puts_over c.lay.new.self)) c.args.now.seconds p (ap (λ (d : Config). d.flags.d) same ∙ on)
-    (laid_after (λ d. IsList d (issue c.args.now.seconds p (digest_due c.args.now.seconds p))) dir old (puts_over c.lay.new.self) c.in_ok-txn.txn puts (c.in_ok-txn.ensures.value told (with_puts dir old) p (alike_laid is_seen_in_digesting below dir old (λ name e. alike name (and_from c.args.config.now.flags.d (is_seen_in_digesting name) on e))) is same))
+    (laid_after (λ d. IsList d (issue c.args.now.seconds p (digest_due c.args.now.seconds p))) dir old (puts_over c.lay.new.self) c.in_ok-txn.txn puts (c.in_ok-txn.ensures.apart told (with_puts dir old) p (alike_laid is_seen_in_digesting below dir old (λ name e. alike name (and_from c.args.config.now.flags.d (is_seen_in_digesting name) on e))) is same))
 
 pub returns-clause-room : goal.returns-clause-room
 returns-clause-room g c told =

@@ -51,11 +51,11 @@ loop-number-preserved g c =
       posts = λ told dir p alike is.
           let same = g.met.F.Files.kept_map c.args.files.now c.loop-number.files told before.read.kept in
           one_more p.posts c.args.range.first c.loop-number.number c.loop-number.posts c.push.new.self c.in_ok-post_of.field-0 low from (before.posts told dir p alike is)
-          (c.in_ok-post_of.ensures.value told dir p (alike_kept is_of_posts_seen (g.F.Files.map c.args.files.now) (g.F.Files.map c.loop-number.files) dir same alike) is) more;
+          (c.in_ok-post_of.ensures.apart told dir p (alike_kept is_of_posts_seen (g.F.Files.map c.args.files.now) (g.F.Files.map c.loop-number.files) dir same alike) is) more;
     }
 
-pub returns-clause-value : goal.returns-clause-value
-returns-clause-value g c told dir p alike is =
+pub returns-clause-apart : goal.returns-clause-apart
+returns-clause-apart g c told dir p alike is =
     let up = c.loop-number.invariant.up in
     let past = c.loop-number-test.false in
     let same : c.loop-number.number ≡ c.args.range.last + 1 = omega (arith, up, past) in

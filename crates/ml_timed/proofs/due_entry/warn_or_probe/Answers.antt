@@ -24,8 +24,8 @@ returns-in_err-member-clause-names g c =
     let names = bucket_named g.F.Files (λ name. is_followed_by c.args.set name ≡ true) _ (g.F.Files.map c.args.files.now) c.args.set c.args.to.now (bucket_followed c.args.set c.args.to.now) c.in_err-member.ensures.names in
     search rules
 
-pub returns-in_default-clause-value : goal.returns-in_default-clause-value
-returns-in_default-clause-value g c tells =
+pub returns-in_default-clause-apart : goal.returns-in_default-clause-apart
+returns-in_default-clause-apart g c tells =
     let old = g.F.Files.map c.args.files.now in
     let set = c.args.set in
     let to = c.args.to.now in
@@ -35,7 +35,7 @@ returns-in_default-clause-value g c tells =
     subst (λ (q : Plain). IsList (with_puts dir txn) q)
     (sym (informed_none dir p set e c.requires.ledger is found c.args.now.seconds c.args.action.now to act c.requires.mailed c.requires.to (sym c.in_default.is ∙ member_there old dir set to _ p alike is (c.in_ok-member.ensures.read tells))))
     (value dir p (alike_kept (is_entry_of set to) old (g.F.Files.map c.find.new.files) dir same (alike_fewer (is_entry_of set to) (is_followed_by set) old dir (entry_followed set to) alike)) is))
-    (c.drop_entry.ensures.value tells)
+    (c.drop_entry.ensures.apart tells)
 
 pub returns-in_err-txn-clause-names : goal.returns-in_err-txn-clause-names
 returns-in_err-txn-clause-names g c =
@@ -48,8 +48,8 @@ returns-in_err-txn-clause-reads g c =
     let read = reads_then g.met.F.Files.kept_then c.find.ensures.reads c.tell.ensures.reads in
     search rules
 
-pub returns-clause-value : goal.returns-clause-value
-returns-clause-value g c tells =
+pub returns-clause-apart : goal.returns-clause-apart
+returns-clause-apart g c tells =
     let old = g.F.Files.map c.args.files.now in
     let set = c.args.set in
     let found_same = g.met.F.Files.kept_map c.args.files.now c.find.new.files tells c.find.ensures.reads.kept in
@@ -63,10 +63,10 @@ returns-clause-value g c tells =
     (λ q f. value dir q f (alike_kept (is_entry_of set (action_key action)) old (g.F.Files.map c.tell.new.files) dir (told_same ∙ found_same) (alike_fewer (is_entry_of set (action_key action)) (is_followed_by set) old dir (entry_followed set (action_key action)) alike)))
     p e is found act
     (subst (λ (k : Text). IsList (with_puts dir c.in_ok-txn.txn) (bounce_mail k set who c.args.now.seconds c.in_ok-mail.mail p)) c.cookie_kind.ensures
-    (c.in_ok-txn.ensures.value tells dir p (alike ids_name (ids_followed set ids_name refl) ∙ sym (ap (λ (d : Dir). d ids_name) found_same)) is config keys))
+    (c.in_ok-txn.ensures.apart tells dir p (alike ids_name (ids_followed set ids_name refl) ∙ sym (ap (λ (d : Dir). d ids_name) found_same)) is config keys))
     (informed_some dir p set e c.requires.ledger is found c.args.now.seconds action c.args.to.now c.in-Some.member act c.requires.mailed c.requires.to (sym c.in-Some.is ∙ member_there old dir set c.args.to.now _ p alike is (c.in_ok-member.ensures.read tells))
     ∙ ap (λ (mail : Mail). change_entry c.args.now.seconds set e (bounce_mail kind set who c.args.now.seconds mail p)) (sym c.in_ok-mail.ensures)))
-    (c.add_entry_change.ensures.value tells)
+    (c.add_entry_change.ensures.apart tells)
 
 pub returns-clause-drawn : goal.returns-clause-drawn
 returns-clause-drawn g c tells =

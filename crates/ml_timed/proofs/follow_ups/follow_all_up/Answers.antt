@@ -27,8 +27,8 @@ use Rattle.ml_timed.proofs.Whole.{ahead_digest, ahead_list, digest_due, few_due,
 use Rattle.ml_timed.proofs.Parts.{has_laid, laid_none, laid_self, laid_then, only_read, part_after, part_err, part_ok, part_read, read_then}
 use Rattle.ml_timed.proofs.follow_ups.follow_all_up.Goals as goal
 
-pub returns-then-is_empty-2-clause-value : goal.returns-then-is_empty-2-clause-value
-returns-then-is_empty-2-clause-value g c tells dir p alike is config =
+pub returns-then-is_empty-2-clause-apart : goal.returns-then-is_empty-2-clause-apart
+returns-then-is_empty-2-clause-apart g c tells dir p alike is config =
     let below = g.F.Files.map (files_below c.args.files.now) in
     let puts = puts_over c.args.files.now in
     let left : c.saturating_sub-left.result ≡ 1000 - length c.in_ok-list.list = omega (arith, c.saturating_sub-left.ensures, ap length c.as_slice.ensures) in
@@ -57,8 +57,8 @@ follow_each-requires-2-clause-room g c tells =
     subst (λ (d : Dir). HasIdsFor (with_puts d (puts_over c.follow_each.new.files)) b) (sym (g.met.F.Files.kept_map (files_below c.key.new.files) (files_below c.follow_each.new.files) tells c.follow_each.ensures.part.reads.kept))
     (c.in_ok-follow_each.ensures.drawn tells b (subst (λ (d : Dir). HasIdsFor d (a + b)) (sym (ap₂ with_puts (g.met.F.Files.kept_map (files_below c.due-2.new.files) (files_below c.key.new.files) tells c.key.ensures.reads.kept.0 ∙ g.met.F.Files.kept_map (files_below c.due.new.files) (files_below c.due-2.new.files) tells c.due-2.ensures.reads.kept.0 ∙ g.met.F.Files.kept_map (files_below c.args.files.now) (files_below c.due.new.files) tells c.due.ensures.reads.kept.0) (c.key.ensures.reads.kept.1 ∙ c.due-2.ensures.reads.kept.1 ∙ c.due.ensures.reads.kept.1))) (ids_due (with_puts (g.F.Files.map (files_below c.args.files.now)) (puts_over c.args.files.now)) (a + b) (c.requires.room tells) few)))
 
-pub returns-clause-value : goal.returns-clause-value
-returns-clause-value g c tells =
+pub returns-clause-apart : goal.returns-clause-apart
+returns-clause-apart g c tells =
     ok_then c.follow_each-2.result (λ done value dir p alike is config.
     let below = g.F.Files.map (files_below c.args.files.now) in
     let puts = puts_over c.args.files.now in
@@ -77,7 +77,7 @@ returns-clause-value g c tells =
     let ahead = ahead_list c.args.now.seconds 1000 c.saturating_sub-left.result p c.as_slice-3.result.now c.in_ok-digest.digest list_is left digest_is (with_puts dir (puts_over c.key.new.files)) c.args.config.now c.in_ok-keys.keys start config keys_are in
     let due = list_due c.args.now.seconds 1000 c.saturating_sub-left.result p c.as_slice-3.result.now c.in_ok-digest.digest list_is left digest_is in
     let list_alike = alike_kept (is_followed_by sets.List) below (g.F.Files.map (files_below c.key.new.files)) dir third (alike_fewer (is_followed_by sets.List) is_of_following below dir (followed_of sets.List refl) alike) in
-    let then = c.in_ok-follow_each.ensures.value tells dir p due list_alike ahead in
+    let then = c.in_ok-follow_each.ensures.apart tells dir p due list_alike ahead in
     let next = ahead_digest c.args.now.seconds 1000 c.saturating_sub-left.result p c.as_slice-3.result.now c.in_ok-digest.digest list_is left digest_is (with_puts dir (puts_over c.key.new.files)) (with_puts dir (puts_over c.follow_each.new.files)) c.args.config.now c.in_ok-keys.keys start then config keys_are in
     let next_due = digest_due c.args.now.seconds 1000 c.saturating_sub-left.result p c.as_slice-3.result.now c.in_ok-digest.digest list_is left digest_is in
     let middle = halfway c.args.now.seconds 1000 c.saturating_sub-left.result p c.as_slice-3.result.now c.in_ok-digest.digest list_is left digest_is in
@@ -85,7 +85,7 @@ returns-clause-value g c tells =
     let whole = in_two c.args.now.seconds 1000 c.saturating_sub-left.result p c.as_slice-3.result.now c.in_ok-digest.digest list_is left digest_is in
     let digest_alike = alike_kept (is_followed_by sets.Digest) below (g.F.Files.map (files_below c.follow_each.new.files)) dir fourth (alike_fewer (is_followed_by sets.Digest) is_of_following below dir (followed_of sets.Digest refl) alike) in
     subst (λ (q : Plain). IsList (with_puts dir (puts_over c.follow_each-2.new.files)) q) (sym whole) (value dir middle next_due digest_alike here))
-    (c.follow_each-2.ensures.value tells)
+    (c.follow_each-2.ensures.apart tells)
 
 pub returns-then-is_empty-2-clause-room : goal.returns-then-is_empty-2-clause-room
 returns-then-is_empty-2-clause-room g c tells low next counted =

@@ -34,12 +34,12 @@ loop-rest-preserved g c =
       amid = λ tells dir p es alike ahead.
           let same = g.met.F.Files.kept_map (files_below c.args.files.now) (files_below c.loop-rest.files) tells c.loop-rest.invariant.laid.read.kept in
           amid_next c.args.now.seconds c.args.config.now c.args.keys.now c.args.set p es (with_puts dir (puts_over c.loop-rest.files)) (with_puts dir (puts_over c.follow_one.new.files)) rest more c.action-item.result c.requires.ledger split
-          (λ q e. c.in_ok-follow_one.ensures.value tells dir q e (alike_kept (is_followed_by c.args.set) below (g.F.Files.map (files_below c.loop-rest.files)) dir same alike))
+          (λ q e. c.in_ok-follow_one.ensures.apart tells dir q e (alike_kept (is_followed_by c.args.set) below (g.F.Files.map (files_below c.loop-rest.files)) dir same alike))
           (c.loop-rest.invariant.amid tells dir p es alike ahead);
     }
 
-pub returns-clause-value : goal.returns-clause-value
-returns-clause-value g c tells dir p es alike ahead =
+pub returns-clause-apart : goal.returns-clause-apart
+returns-clause-apart g c tells dir p es alike ahead =
     amid_last c.args.now.seconds c.args.config.now c.args.keys.now c.args.set p es (with_puts dir (puts_over c.loop-rest.files)) c.loop-rest.rest.now (none_left c.loop-rest.rest.now (omega (arith, c.in_default.len_below))) (c.loop-rest.invariant.amid tells dir p es alike ahead)
 
 pub loop-rest-init : goal.loop-rest-init

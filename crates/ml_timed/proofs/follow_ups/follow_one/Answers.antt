@@ -11,11 +11,11 @@ use Rattle.ml_acts.specs.Damaged.{IsDamaged}
 use Rattle.ml_timed.proofs.Parts.{laid_none, laid_put, laid_self, only_read, part_err, part_memory, part_ok, part_read, read_still}
 use Rattle.ml_timed.proofs.follow_ups.follow_one.Goals as goal
 
-pub returns-clause-value : goal.returns-clause-value
-returns-clause-value g c tells dir p e alike is config keys found act =
+pub returns-clause-apart : goal.returns-clause-apart
+returns-clause-apart g c tells dir p e alike is config keys found act =
     let old = puts_over c.args.files.now in
     let over = laid_more dir (puts_over c.args.files.now) (puts_over c.follow_up.new.files) c.in_ok-txn.txn (puts_over c.lay.new.self) c.follow_up.ensures.reads.kept.1 c.in_ok-lay.ensures.ok in
-    subst (λ (d : Dir). IsList d (follow_up c.args.now.seconds p (c.args.set, e))) (sym over) (c.in_ok-txn.ensures.value tells (with_puts dir old) p e (alike_laid (is_followed_by c.args.set) (g.F.Files.map (files_below c.args.files.now)) dir old alike) is config keys found act)
+    subst (λ (d : Dir). IsList d (follow_up c.args.now.seconds p (c.args.set, e))) (sym over) (c.in_ok-txn.ensures.apart tells (with_puts dir old) p e (alike_laid (is_followed_by c.args.set) (g.F.Files.map (files_below c.args.files.now)) dir old alike) is config keys found act)
 
 pub returns-clause-drawn : goal.returns-clause-drawn
 returns-clause-drawn g c tells more has =

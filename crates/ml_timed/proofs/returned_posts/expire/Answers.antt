@@ -16,22 +16,22 @@ use Rattle.ml_timed.specs.Reads.{is_of_giving_back, is_waiting}
 use Rattle.ml_timed.proofs.Joined.{both_kept, reads_beside, reads_ok, reads_then}
 use Rattle.ml_timed.proofs.returned_posts.expire.Goals as goal
 
-pub returns-in_default-clause-value : goal.returns-in_default-clause-value
-returns-in_default-clause-value g c told dir p alike is same =
+pub returns-in_default-clause-apart : goal.returns-in_default-clause-apart
+returns-in_default-clause-apart g c told dir p alike is same =
     none_taken dir p c.args.now.seconds c.args.ticket c.args.room (taken_there (g.F.Files.map c.args.files.now) dir alike p c.args.ticket _ _ c.in_default.is is (c.in_ok-held.ensures.value told))
 
-pub returns-then-size-room-clause-value : goal.returns-then-size-room-clause-value
-returns-then-size-room-clause-value g c told dir p alike is same =
+pub returns-then-size-room-clause-apart : goal.returns-then-size-room-clause-apart
+returns-then-size-room-clause-apart g c told dir p alike is same =
     let gone = taken_there (g.F.Files.map c.args.files.now) dir alike p c.args.ticket _ _ c.in-Some.is is (c.in_ok-held.ensures.value told) in
     large_taken dir p c.args.now.seconds c.args.ticket c.args.room c.len-size.result c.in-Some.held c.in-Some.txn gone c.len-size.ensures.count c.if-size-room.true
 
-pub returns-clause-value : goal.returns-clause-value
-returns-clause-value g c told dir p alike is same =
+pub returns-clause-apart : goal.returns-clause-apart
+returns-clause-apart g c told dir p alike is same =
     let kept = g.met.F.Files.kept_map c.args.files.now c.take.new.files told c.take.ensures.reads.kept in
     let gone = taken_there (g.F.Files.map c.args.files.now) dir alike p c.args.ticket _ _ c.in-Some.is is (c.in_ok-held.ensures.value told) in
     let own = subst (λ (o : Option (Held × List Put)). touches_only (is_of_series Tickets) (puts_of o) ≡ true) c.in-Some.is c.in_ok-held.ensures.others in
     gives dir p c.args.config.now c.args.now.seconds c.args.ticket c.args.room c.in-Some.held c.in-Some.txn c.in_ok-more.more c.join.new.self c.len-size.result is same own gone c.len-size.ensures.count c.in_ok-join.ensures.ok
-    (λ d q there. c.in_ok-more.ensures.value told d q (there ∙ alike ids_name refl ∙ sym (ap (λ (o : Dir). o ids_name) kept)))
+    (λ d q there. c.in_ok-more.ensures.apart told d q (there ∙ alike ids_name refl ∙ sym (ap (λ (o : Dir). o ids_name) kept)))
 
 pub returns-clause-own : goal.returns-clause-own
 returns-clause-own g c =

@@ -33,13 +33,13 @@ loop-ticket-init g c =
           (c.in_ok-found.ensures.value told p.held (counted (with_puts (g.F.Files.map (files_below files)) (puts_over files)) p.held (pending_begun (g.F.Files.map (files_below files)) dir alike (puts_over files) p.held is.held))) c.min.ensures));
     }
 
-pub returns-clause-value : goal.returns-clause-value
-returns-clause-value g c told dir p alike is same =
+pub returns-clause-apart : goal.returns-clause-apart
+returns-clause-apart g c told dir p alike is same =
     ends_at c.args.now.seconds c.args.config.now (with_puts dir (puts_over c.loop-ticket.files)) (take c.min.result c.as_slice-all.result.now) c.loop-ticket.ticket-index c.loop-ticket.room (gone_back c.args.now.seconds p)
     c.loop-ticket-test.false (c.loop-ticket.invariant.goes told dir p alike is same)
 
-pub returns-in_default-clause-value : goal.returns-in_default-clause-value
-returns-in_default-clause-value g c told dir p alike is same =
+pub returns-in_default-clause-apart : goal.returns-in_default-clause-apart
+returns-in_default-clause-apart g c told dir p alike is same =
     let start = g.F.Files.map (files_below c.args.files.now) in
     let files = c.loop-ticket.files in
     let map_same = g.met.F.Files.kept_map (files_below c.args.files.now) (files_below files) told c.loop-ticket.invariant.laid.read.kept in
@@ -49,7 +49,7 @@ returns-in_default-clause-value g c told dir p alike is same =
     (stops_at c.args.now.seconds c.args.config.now (with_puts dir (puts_over files)) tickets c.loop-ticket.ticket-index ticket c.loop-ticket.room (gone_back c.args.now.seconds p) c.loop-ticket-test.true refl
     (c.loop-ticket.invariant.goes told dir p alike is same)
     (λ q on conf. subst (λ (o : Option (ℕ × List Put)). GivesBack (with_puts dir (puts_over files)) c.args.now.seconds ticket c.loop-ticket.room q o) c.in_default.is
-    (c.in_ok-size.ensures.value told (with_puts dir (puts_over files)) q (alike_over is_of_giving_back start (g.F.Files.map (files_below files)) dir (puts_over files) map_same alike) on conf)))
+    (c.in_ok-size.ensures.apart told (with_puts dir (puts_over files)) q (alike_over is_of_giving_back start (g.F.Files.map (files_below files)) dir (puts_over files) map_same alike) on conf)))
 
 pub loop-ticket-preserved : goal.loop-ticket-preserved
 loop-ticket-preserved g c =
@@ -84,7 +84,7 @@ loop-ticket-preserved g c =
           (goes_on_at c.args.now.seconds c.args.config.now (with_puts there (puts_over files)) tickets at ticket c.loop-ticket.room (gone_back c.args.now.seconds p) c.loop-ticket-test.true refl c.in-Some.size c.in-Some.txn
           (before.goes told there p alike is same)
           (λ q on conf. subst (λ (o : Option (ℕ × List Put)). GivesBack (with_puts there (puts_over files)) c.args.now.seconds ticket c.loop-ticket.room q o) c.in-Some.is
-          (c.in_ok-size.ensures.value told (with_puts there (puts_over files)) q (alike_over is_of_giving_back dir (g.F.Files.map (files_below files)) there (puts_over files) map_same alike) on conf))
+          (c.in_ok-size.ensures.apart told (with_puts there (puts_over files)) q (alike_over is_of_giving_back dir (g.F.Files.map (files_below files)) there (puts_over files) map_same alike) on conf))
           fits);
     }
 

@@ -18,8 +18,8 @@ use Rattle.ml_timed.proofs.Finding.{followed_time, found_parts}
 use Rattle.ml_timed.proofs.Parts.{has_laid, laid_self, laid_then, laid_wider, part_after, part_err}
 use Rattle.ml_timed.proofs.timed_run.all_parts.Goals as goal
 
-pub returns-clause-value : goal.returns-clause-value
-returns-clause-value g c told =
+pub returns-clause-apart : goal.returns-clause-apart
+returns-clause-apart g c told =
     let first = c.give_old_back.new.files in
     let second = c.make_digest.new.files in
     let below = g.F.Files.map (files_below c.args.files.now) in
@@ -31,12 +31,12 @@ returns-clause-value g c told =
     let seen = is_seen_in_timed digests in
     let digested = λ (name : Name). digests && is_seen_in_digesting name in
     let q = gone_back c.args.now.seconds p in
-    let back = c.in_ok-give_old_back.ensures.value told dir p (alike_fewer is_of_giving_back seen below dir (given_timed digests) alike) is same in
+    let back = c.in_ok-give_old_back.ensures.apart told dir p (alike_fewer is_of_giving_back seen below dir (given_timed digests) alike) is same in
     let conf = back_config c.args.now.seconds p ∙ same in
-    let next = c.in_ok-make_digest.ensures.value told dir q (alike_kept digested below (g.F.Files.map (files_below first)) dir one (alike_fewer digested seen below dir (digested_timed digests) alike)) back conf in
+    let next = c.in_ok-make_digest.ensures.apart told dir q (alike_kept digested below (g.F.Files.map (files_below first)) dir one (alike_fewer digested seen below dir (digested_timed digests) alike)) back conf in
     value dir (made c.args.now.seconds q) (alike_kept is_of_following below (g.F.Files.map (files_below second)) dir (two ∙ one) (alike_fewer is_of_following seen below dir (followed_timed digests) alike)) next
     (made_config c.args.now.seconds q ∙ conf))
-    (c.follow_all_up.ensures.value told)
+    (c.follow_all_up.ensures.apart told)
 
 pub returns-clause-room : goal.returns-clause-room
 returns-clause-room g c told =

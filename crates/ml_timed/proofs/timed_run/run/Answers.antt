@@ -28,7 +28,7 @@ returns-clause-list g c told =
     always c.reply_of_run.result (λ reply dir p alike is same.
     let begun = subst (λ (t : List Put). IsList (with_puts dir t) p) (sym c.next_id.ensures.reads.kept.1) is in
     let seen = alike_kept (is_seen_in_timed c.args.config.now.flags.d) (g.F.Files.map start) (g.F.Files.map (files_below first)) dir one alike in
-    subst (λ (t : List Put). IsList (with_puts dir t) (after_timed c.args.now.seconds p)) (sym c.next_id-2.ensures.reads.kept.1) (c.in_ok-all_parts.ensures.value told dir p seen begun same))
+    subst (λ (t : List Put). IsList (with_puts dir t) (after_timed c.args.now.seconds p)) (sym c.next_id-2.ensures.reads.kept.1) (c.in_ok-all_parts.ensures.apart told dir p seen begun same))
 
 pub returns-clause-reply : goal.returns-clause-reply
 returns-clause-reply g c told =
@@ -42,7 +42,7 @@ returns-clause-reply g c told =
     IfOk-weaker c.reply_of_run.result _ _ (λ reply e dir p alike is same.
     let begun = subst (λ (t : List Put). IsList (with_puts dir t) p) (sym c.next_id.ensures.reads.kept.1) is in
     let seen = alike_kept (is_seen_in_timed digests) below (g.F.Files.map (files_below first)) dir one alike in
-    let ended = c.in_ok-all_parts.ensures.value told dir p seen begun same in
+    let ended = c.in_ok-all_parts.ensures.apart told dir p seen begun same in
     let before = next_there digests below dir alike below (puts_over c.args.files.now) p c.in_ok-before.before refl is (c.in_ok-before.ensures.read told) in
     let after = next_there digests below dir alike (g.F.Files.map (files_below last)) (puts_over last) (after_timed c.args.now.seconds p) c.in_ok-after.after two ended (c.in_ok-after.ensures.read told) in
     e ∙ ap₂ (λ (a b : ℕ). answers.timed (a - b)) after before)

@@ -17,11 +17,11 @@ use Rattle.ml_timed.proofs.Counted.{index_there, none_small, small_damaged, too_
 use Rattle.ml_timed.proofs.Short.{index_short}
 use Rattle.ml_timed.proofs.undigested_posts.group_of.Goals as goal
 
-pub returns-then-group-count-clause-value : goal.returns-then-group-count-clause-value
-returns-then-group-count-clause-value g c told dir p alike is size = c.new.ensures ∙ no_group c.args.group c.args.count p.posts size c.if-group-count.true
+pub returns-then-group-count-clause-apart : goal.returns-then-group-count-clause-apart
+returns-then-group-count-clause-apart g c told dir p alike is size = c.new.ensures ∙ no_group c.args.group c.args.count p.posts size c.if-group-count.true
 
-pub returns-clause-value : goal.returns-clause-value
-returns-clause-value g c told dir p alike is size = c.in_ok-entries.ensures.value told p.posts (posts_back (g.F.Files.map c.args.files.now) dir p.posts alike (is.archive).filed)
+pub returns-clause-apart : goal.returns-clause-apart
+returns-clause-apart g c told dir p alike is size = c.in_ok-entries.ensures.value told p.posts (posts_back (g.F.Files.map c.args.files.now) dir p.posts alike (is.archive).filed)
 
 pub returns-in_err-entries-clause-names : goal.returns-in_err-entries-clause-names
 returns-in_err-entries-clause-names g c =

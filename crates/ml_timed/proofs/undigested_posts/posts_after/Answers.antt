@@ -23,8 +23,8 @@ returns-clause-sizes g c told dir p alike is size =
     let last = c.args.last in
     let group = (last + 1) / 100 in
     let same = g.met.F.Files.kept_map c.args.files.now c.group_of.new.files told c.group_of.ensures.reads.kept in
-    let first : c.as_slice.result.now ≡ index_of group p.posts = c.as_slice.ensures ∙ c.in_ok-first.ensures.value told dir p alike is size in
-    let second : c.as_slice-2.result.now ≡ index_of (group + 1) p.posts = c.as_slice-2.ensures ∙ c.in_ok-second.ensures.value told dir p (alike_kept is_of_posts_seen (g.F.Files.map c.args.files.now) (g.F.Files.map c.group_of.new.files) dir same alike) is size in
+    let first : c.as_slice.result.now ≡ index_of group p.posts = c.as_slice.ensures ∙ c.in_ok-first.ensures.apart told dir p alike is size in
+    let second : c.as_slice-2.result.now ≡ index_of (group + 1) p.posts = c.as_slice-2.ensures ∙ c.in_ok-second.ensures.apart told dir p (alike_kept is_of_posts_seen (g.F.Files.map c.args.files.now) (g.F.Files.map c.group_of.new.files) dir same alike) is size in
     let begun : c.add_sizes.new.sizes ≡ sizes_after last (index_of group p.posts) =
     c.in_ok-add_sizes.ensures ∙ ap₂ (λ (a : List ℕ) (es : List Entry). a ++ sizes_after last es) c.new-sizes.ensures first
     in
@@ -35,7 +35,7 @@ pub returns-clause-oldest : goal.returns-clause-oldest
 returns-clause-oldest g c told dir p alike is size =
     let last = c.args.last in
     let group = (last + 1) / 100 in
-    c.oldest.ensures ∙ ap (moment_after last) (c.as_slice-3.ensures ∙ c.in_ok-first.ensures.value told dir p alike is size) ∙ moment_in_first last group p.posts refl
+    c.oldest.ensures ∙ ap (moment_after last) (c.as_slice-3.ensures ∙ c.in_ok-first.ensures.apart told dir p alike is size) ∙ moment_in_first last group p.posts refl
 
 pub returns-in_err-first-clause-names : goal.returns-in_err-first-clause-names
 returns-in_err-first-clause-names g c =
