@@ -1,21 +1,19 @@
-use Rattle.std.proofs.Common.{◌≡◌, ◌≤◌, ◌+◌, ◌∙◌, ℕ, List, length, map, drop, Option, None, sym, ap, subst, arith, rules, true, IfErr, IfOk, IfSome, inl, inr}
+use Rattle.std.proofs.Common.{◌≡◌, ◌≤◌, ◌+◌, ◌∙◌, ℕ, List, length, map, drop, Option, None, sym, ap, subst, arith, rules, IfOk, IfSome, inl, inr}
 use Rattle.std.proofs.Math.ListN.{drop_of_length-le}
 use Rattle.ml_base.specs.Dir.{Dir, with_puts}
-use Rattle.ml_base.specs.PartErrors.{OnDamaged}
 use Rattle.ml_base.specs.declared.puts.Put.{Put}
-use Rattle.ml_base.proofs.DamagedNames.{err_damaged, on_damaged}
 use Rattle.ml_digest.specs.declared.posts.Mark.{Mark}
 use Rattle.ml_digest.specs.declared.posts.Range.{Range}
 use Rattle.ml_plain.specs.Directory.{IsList}
 use Rattle.ml_plain.specs.Timing.{digest_due, issue, moment_of_first}
 use Rattle.ml_filing.specs.Archive.{IsNumberFile, number_name}
-use Rattle.ml_acts.specs.Asked.{IsDamagedOf, IsTooSmall, Undigested}
+use Rattle.ml_acts.specs.Asked.{IsTooSmall}
 use Rattle.ml_acts.specs.Doing.{HasIdsUpTo}
 use Rattle.ml_acts.specs.Spelled.{AreSpelled}
 use Rattle.ml_acts.proofs.Apart.{alike_fewer}
 use Rattle.ml_acts.proofs.Damages.{ok_then}
 use Rattle.ml_timed.specs.Digesting.{IsDamagedAfter, IsDamagedWithin}
-use Rattle.ml_timed.specs.Reads.{is_of_digesting, is_of_posts_seen, is_of_posts_told, is_seen_in_digesting}
+use Rattle.ml_timed.specs.Reads.{is_of_posts_seen, is_seen_in_digesting}
 use Rattle.ml_timed.proofs.Apart.{alike_kept, posts_digested, progress_there, told_digesting}
 use Rattle.ml_timed.proofs.Counted.{agrees_by}
 use Rattle.ml_timed.proofs.Issued.{none_due}
@@ -23,7 +21,7 @@ use Rattle.ml_timed.proofs.Runs.{always}
 use Rattle.ml_timed.proofs.Within.{after_undigested, within_undigested}
 use Rattle.ml_acts.proofs.Found.{found_then}
 use Rattle.ml_timed.specs.Found.{FoundToDigest, FoundToIssue}
-use Rattle.ml_timed.proofs.Joined.{both_kept, reads_ok, reads_then}
+use Rattle.ml_timed.proofs.Joined.{both_kept, names_after, names_err, one_kept, reads_ok, reads_then}
 use Rattle.ml_timed.proofs.digests.digest_due.Goals as goal
 
 pub returns-in-Some-clause-drawn : goal.returns-in-Some-clause-drawn
@@ -83,40 +81,20 @@ returns-in-Some-clause-apart g c told =
 
 pub returns-in_err-range-clause-names : goal.returns-in_err-range-clause-names
 returns-in_err-range-clause-names g c =
-    let dir = g.F.Files.map c.args.files.now in
     let mark = c.in_ok-mark.mark in
     let count = c.in_ok-mark.count in
-    let e = c.in_err-range.field-0.0 in
-    let failed = c.in_err-range.ensures.names in
-    record {
-      named = let own : OnDamaged e (λ name. is_of_digesting name ≡ true) = on_damaged e (λ name. is_of_posts_told name ≡ true) (λ name. is_of_digesting name ≡ true) told_digesting failed.named in search rules;
-      damaged = λ told.
-          let first = g.met.F.Files.kept_map c.args.files.now c.progress.new.files told c.progress.ensures.reads.kept in
-          let bad : OnDamaged e (IsDamagedOf dir Undigested) =
-          on_damaged e (IsDamagedAfter dir mark.last count) (IsDamagedOf dir Undigested)
-          (λ name bad. after_undigested dir mark count name (c.in_ok-mark.ensures.marked told) (c.in_ok-mark.ensures.read told) bad)
-          (subst (λ (d : Dir). OnDamaged e (IsDamagedAfter d mark.last count)) first (failed.damaged told)) in
-          search rules;
-    }
+    names_err (names_after (λ d. IsDamagedAfter d mark.last count) g.met.F.Files.kept_map (one_kept c.progress.ensures.reads) told_digesting
+    (λ told name e bad. after_undigested (g.F.Files.map c.args.files.now) mark count name (c.in_ok-mark.ensures.marked told) (c.in_ok-mark.ensures.read told) bad) c.in_err-range.ensures.names) (search rules)
 
 pub returns-in-Some-clause-names : goal.returns-in-Some-clause-names
 returns-in-Some-clause-names g c =
-    let dir = g.F.Files.map c.args.files.now in
     let mark = c.in_ok-mark.mark in
     let count = c.in_ok-mark.count in
     let range = c.in-Some.range in
-    let r = c.issue.result in
     let up = subst (λ (o : Option Range). IfSome o (λ range. (range.first ≡ mark.last + 1) × (range.first ≤ range.last) × (range.last ≤ count))) c.in-Some.is c.in_ok-range.ensures.range in
     let from = up.0 in
-    record {
-      named = c.issue.ensures.names.named;
-      damaged = λ told.
-          let first = g.met.F.Files.kept_map c.args.files.now c.progress.new.files told c.progress.ensures.reads.kept in
-          let second = g.met.F.Files.kept_map c.progress.new.files c.range_due.new.files told c.range_due.ensures.reads.kept in
-          err_damaged r (IsDamagedWithin dir range.first range.last) (IsDamagedOf dir Undigested)
-          (λ name bad. within_undigested dir mark count range.first range.last name (c.in_ok-mark.ensures.marked told) (c.in_ok-mark.ensures.read told) (omega (arith, from)) up.2 bad)
-          (subst (λ (d : Dir). IfErr r (λ e. OnDamaged e (IsDamagedWithin d range.first range.last))) (second ∙ first) (c.issue.ensures.names.damaged told));
-    }
+    names_after (λ d. IsDamagedWithin d range.first range.last) g.met.F.Files.kept_map (both_kept g.met.F.Files.kept_then c.progress.ensures.reads c.range_due.ensures.reads) (λ name e. e)
+    (λ told name e bad. within_undigested (g.F.Files.map c.args.files.now) mark count range.first range.last name (c.in_ok-mark.ensures.marked told) (c.in_ok-mark.ensures.read told) (omega (arith, from)) up.2 bad) c.issue.ensures.names
 
 pub range_due-requires-clause-counted : goal.range_due-requires-clause-counted
 range_due-requires-clause-counted g c told =

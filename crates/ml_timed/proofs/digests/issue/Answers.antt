@@ -1,13 +1,11 @@
-use Rattle.std.proofs.Common.{◌≡◌, ◌||◌, true, subst, rules, ◌∙◌, ◌++◌, ap, List, ◌+◌}
+use Rattle.std.proofs.Common.{◌||◌, subst, rules, ◌∙◌, ◌++◌, ap, List, ◌+◌}
 use Rattle.std.proofs.lemmas.Bool.{or_right}
 use Rattle.ml_base.specs.Dir.{Dir, with_puts}
 use Rattle.ml_base.specs.declared.names.Set.TheVariants as sets
 use Rattle.ml_acts.specs.Damaged.{IsDamaged}
 use Rattle.ml_acts.specs.Doing.{Alike, DrawsId}
 use Rattle.ml_acts.proofs.Apart.{alike_fewer}
-use Rattle.ml_acts.proofs.Asked.{named_as}
-use Rattle.ml_timed.specs.Digesting.{IsDamagedWithin}
-use Rattle.ml_timed.specs.Reads.{is_of_digesting, is_of_issue, is_of_posts_seen, is_of_posts_told, is_of_progress, is_seen_in_digesting}
+use Rattle.ml_timed.specs.Reads.{is_of_issue, is_of_posts_seen, is_of_posts_told, is_of_progress, is_seen_in_digesting}
 use Rattle.ml_timed.proofs.Apart.{alike_kept, alike_then, issue_digested, posts_digested}
 use Rattle.ml_timed.proofs.Within.{issue_other}
 use Rattle.ml_timed.proofs.Given.{drawn_joined}
@@ -15,7 +13,7 @@ use Rattle.ml_timed.proofs.Issued.{issue_spelled, issue_unmarked, issues, own_is
 use Rattle.ml_base.specs.declared.puts.Put.{Put}
 use Rattle.ml_digest.specs.declared.posts.Mark.{Mark}
 use Rattle.ml_acts.specs.Found.{QueuesToSet}
-use Rattle.ml_timed.proofs.Joined.{both_kept, reads_beside, reads_ok, reads_then}
+use Rattle.ml_timed.proofs.Joined.{both_kept, names_after, names_err, one_kept, reads_beside, reads_ok, reads_then}
 use Rattle.ml_timed.proofs.digests.issue.Goals as goal
 
 pub returns-clause-apart : goal.returns-clause-apart
@@ -51,11 +49,8 @@ returns-clause-reads g c = reads_ok (both_kept g.met.F.Files.kept_then c.issue_t
 
 pub returns-in_err-more-clause-names : goal.returns-in_err-more-clause-names
 returns-in_err-more-clause-names g c =
-    let dir = g.F.Files.map c.args.files.now in
-    let names = named_as g.F.Files (λ name. is_of_digesting name ≡ true) _ dir (g.F.Files.map c.issue_text.new.files) (λ name. is_of_issue name ≡ true) IsDamaged (IsDamagedWithin dir c.args.range.first c.args.range.last)
-    (λ told. g.met.F.Files.kept_map c.args.files.now c.issue_text.new.files told c.issue_text.ensures.reads.kept) (λ name e. or_right (is_of_progress name || is_of_posts_told name) (is_of_issue name) e)
-    (λ name e bad. record { damaged = bad; own = λ of. absurd (issue_other name e of) }) c.in_err-more.ensures.names in
-    search rules
+    names_err (names_after IsDamaged g.met.F.Files.kept_map (one_kept c.issue_text.ensures.reads) (λ name e. or_right (is_of_progress name || is_of_posts_told name) (is_of_issue name) e)
+    (λ told name e bad. record { damaged = bad; own = λ of. absurd (issue_other name e of) }) c.in_err-more.ensures.names) (search rules)
 
 pub returns-in_err-more-clause-reads : goal.returns-in_err-more-clause-reads
 returns-in_err-more-clause-reads g c =

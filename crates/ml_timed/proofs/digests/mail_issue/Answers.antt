@@ -1,4 +1,4 @@
-use Rattle.std.proofs.Common.{◌≡◌, refl, sym, subst, ap, ◌∙◌, List, true}
+use Rattle.std.proofs.Common.{◌≡◌, refl, sym, subst, ap, ◌∙◌, List}
 use Rattle.std.proofs.lemmas.Bool.{or_left, or_right}
 use Rattle.ml_address.specs.declared.Path.{Path}
 use Rattle.ml_base.specs.Bytes.{Text}
@@ -11,11 +11,9 @@ use Rattle.ml_acts.specs.Doing.{is_bucket}
 use Rattle.ml_acts.proofs.Damages.{ok_then}
 use Rattle.ml_queue.specs.Answers.{ids_name}
 use Rattle.ml_acts.specs.Damaged.{IsDamaged}
-use Rattle.ml_acts.proofs.Asked.{named_as}
-use Rattle.ml_timed.specs.Reads.{is_of_issue}
 use Rattle.ml_queue.specs.declared.entries.Out.{Out}
 use Rattle.ml_acts.specs.Found.{QueuesOut}
-use Rattle.ml_timed.proofs.Joined.{reads_then}
+use Rattle.ml_timed.proofs.Joined.{names_after, one_kept, reads_then}
 use Rattle.ml_timed.proofs.digests.mail_issue.Goals as goal
 
 pub returns-clause-apart : goal.returns-clause-apart
@@ -35,9 +33,7 @@ returns-clause-reads g c = reads_then g.met.F.Files.kept_then c.recipients.ensur
 
 pub returns-clause-names : goal.returns-clause-names
 returns-clause-names g c =
-    let dir = g.F.Files.map c.args.files.now in
-    named_as g.F.Files (λ name. is_of_issue name ≡ true) _ dir (g.F.Files.map c.recipients.new.files) (λ name. same_name name ids_name ≡ true) IsDamaged (IsDamaged dir)
-    (λ told. g.met.F.Files.kept_map c.args.files.now c.recipients.new.files told c.recipients.ensures.reads.kept) (λ name e. or_right (is_bucket sets.Digest name) (same_name name ids_name) e) (λ name e bad. bad) c.send.ensures.names
+    names_after IsDamaged g.met.F.Files.kept_map (one_kept c.recipients.ensures.reads) (λ name e. or_right (is_bucket sets.Digest name) (same_name name ids_name) e) (λ told name e bad. bad) c.send.ensures.names
 
 pub returns-clause-found : goal.returns-clause-found
 returns-clause-found g c told =

@@ -1,6 +1,6 @@
 use Rattle.std.proofs.Common.{◌≡◌, true, refl, sym, ap, ◌∙◌, subst, rules}
 use Rattle.ml_base.specs.Bytes.{Text}
-use Rattle.ml_base.specs.Dir.{Dir, with_puts, same_name}
+use Rattle.ml_base.specs.Dir.{Dir, with_puts}
 use Rattle.ml_bounce.specs.Answers.{action_key}
 use Rattle.ml_queue.specs.Answers.{ids_name}
 use Rattle.ml_reply.specs.declared.mails.Mail.{Mail}
@@ -8,6 +8,7 @@ use Rattle.ml_plain.specs.Directory.{IsList}
 use Rattle.ml_plain.specs.Mailing.{bounce_mail}
 use Rattle.ml_plain.specs.Plain.{Plain}
 use Rattle.ml_plain.specs.Timing.{change_entry}
+use Rattle.ml_acts.specs.Damaged.{IsDamaged}
 use Rattle.ml_acts.specs.Doing.{DrawsId, is_entry_of}
 use Rattle.ml_acts.proofs.Apart.{alike_fewer}
 use Rattle.ml_acts.proofs.Damages.{bucket_named, ok_then}
@@ -15,8 +16,8 @@ use Rattle.ml_timed.specs.Reads.{is_followed_by}
 use Rattle.ml_timed.specs.Telling.{cookie_kind}
 use Rattle.ml_timed.proofs.Apart.{alike_kept, member_there}
 use Rattle.ml_timed.proofs.Changed.{changed_by, informed_none, informed_some}
-use Rattle.ml_timed.proofs.Named.{bucket_followed, entry_followed, ids_followed, names_over}
-use Rattle.ml_timed.proofs.Joined.{reads_then}
+use Rattle.ml_timed.proofs.Named.{bucket_followed, entry_followed, ids_followed}
+use Rattle.ml_timed.proofs.Joined.{both_kept, names_after, names_err, one_kept, reads_then}
 use Rattle.ml_timed.proofs.due_entry.warn_or_probe.Goals as goal
 
 pub returns-in_err-member-clause-names : goal.returns-in_err-member-clause-names
@@ -39,9 +40,7 @@ returns-in_default-clause-apart g c tells =
 
 pub returns-in_err-txn-clause-names : goal.returns-in_err-txn-clause-names
 returns-in_err-txn-clause-names g c =
-    let names = names_over g.F.Files _ (g.F.Files.map c.args.files.now) (g.F.Files.map c.find.new.files) (λ name. same_name name ids_name ≡ true) (λ name. is_followed_by c.args.set name ≡ true) (ids_followed c.args.set)
-    (λ tells. g.met.F.Files.kept_map c.args.files.now c.find.new.files tells c.find.ensures.reads.kept) c.in_err-txn.ensures.names in
-    search rules
+    names_err (names_after IsDamaged g.met.F.Files.kept_map (one_kept c.find.ensures.reads) (ids_followed c.args.set) (λ told name e bad. bad) c.in_err-txn.ensures.names) (search rules)
 
 pub returns-in_err-txn-clause-reads : goal.returns-in_err-txn-clause-reads
 returns-in_err-txn-clause-reads g c =
@@ -77,10 +76,7 @@ returns-clause-drawn g c tells =
 
 pub returns-clause-names : goal.returns-clause-names
 returns-clause-names g c =
-    names_over g.F.Files c.add_entry_change.result (g.F.Files.map c.args.files.now) (g.F.Files.map c.tell.new.files) (λ name. is_entry_of c.args.set (action_key c.args.action.now) name ≡ true) (λ name. is_followed_by c.args.set name ≡ true)
-    (entry_followed c.args.set (action_key c.args.action.now))
-    (λ tells. g.met.F.Files.kept_map c.find.new.files c.tell.new.files tells c.tell.ensures.reads.kept ∙ g.met.F.Files.kept_map c.args.files.now c.find.new.files tells c.find.ensures.reads.kept)
-    c.add_entry_change.ensures.names
+    names_after IsDamaged g.met.F.Files.kept_map (both_kept g.met.F.Files.kept_then c.find.ensures.reads c.tell.ensures.reads) (entry_followed c.args.set (action_key c.args.action.now)) (λ told name e bad. bad) c.add_entry_change.ensures.names
 
 pub returns-clause-reads : goal.returns-clause-reads
 returns-clause-reads g c = reads_then g.met.F.Files.kept_then c.find.ensures.reads (reads_then g.met.F.Files.kept_then c.tell.ensures.reads c.add_entry_change.ensures.reads)
@@ -90,5 +86,4 @@ returns-in_default-clause-reads g c = reads_then g.met.F.Files.kept_then c.find.
 
 pub returns-in_default-clause-names : goal.returns-in_default-clause-names
 returns-in_default-clause-names g c =
-    names_over g.F.Files c.drop_entry.result (g.F.Files.map c.args.files.now) (g.F.Files.map c.find.new.files) (λ name. is_entry_of c.args.set c.args.to.now name ≡ true) (λ name. is_followed_by c.args.set name ≡ true)
-    (entry_followed c.args.set c.args.to.now) (λ tells. g.met.F.Files.kept_map c.args.files.now c.find.new.files tells c.find.ensures.reads.kept) c.drop_entry.ensures.names
+    names_after IsDamaged g.met.F.Files.kept_map (one_kept c.find.ensures.reads) (entry_followed c.args.set c.args.to.now) (λ told name e bad. bad) c.drop_entry.ensures.names

@@ -1,9 +1,9 @@
-use Rattle.std.proofs.Common.{◌≡◌, ◌⊎◌, true, List, Option, ap, ◌∙◌, sym, subst, rules, refl}
+use Rattle.std.proofs.Common.{◌≡◌, true, List, Option, ap, ◌∙◌, sym, subst, rules, refl}
 use Rattle.ml_base.specs.Dir.{Dir, touches_only, same_name}
 use Rattle.ml_base.specs.declared.puts.Put.{Put}
 use Rattle.ml_drawn.specs.Names.{is_of_series}
 use Rattle.ml_drawn.specs.declared.series.Series.TheVariants.{Tickets}
-use Rattle.ml_hold.specs.Answers.{TakesBy, puts_of, Breaks, IsPostName, tickets_name}
+use Rattle.ml_hold.specs.Answers.{TakesBy, puts_of}
 use Rattle.ml_hold.specs.declared.posts.Held.{Held}
 use Rattle.ml_acts.specs.Doing.{DrawsId}
 use Rattle.ml_timed.proofs.Apart.{taken_there}
@@ -11,9 +11,8 @@ use Rattle.ml_timed.proofs.Given.{drawn_joined, given_spelled, gives, large_take
 use Rattle.std.proofs.lemmas.Bool.{or_right}
 use Rattle.ml_queue.specs.Answers.{ids_name}
 use Rattle.ml_acts.specs.Damaged.{IsDamaged, waiting}
-use Rattle.ml_acts.proofs.Asked.{named_as}
-use Rattle.ml_timed.specs.Reads.{is_of_giving_back, is_waiting}
-use Rattle.ml_timed.proofs.Joined.{both_kept, reads_beside, reads_ok, reads_then}
+use Rattle.ml_timed.specs.Reads.{is_waiting}
+use Rattle.ml_timed.proofs.Joined.{both_kept, names_after, names_err, names_so, one_kept, reads_beside, reads_ok, reads_then}
 use Rattle.ml_timed.proofs.returned_posts.expire.Goals as goal
 
 pub returns-in_default-clause-apart : goal.returns-in_default-clause-apart
@@ -72,14 +71,8 @@ returns-clause-reads g c = reads_ok (both_kept g.met.F.Files.kept_then c.take.en
 
 pub returns-in_err-more-clause-names : goal.returns-in_err-more-clause-names
 returns-in_err-more-clause-names g c =
-    let dir = g.F.Files.map c.args.files.now in
-    let names = named_as g.F.Files (λ name. is_of_giving_back name ≡ true) _ dir (g.F.Files.map c.take.new.files) (λ name. same_name name ids_name ≡ true) IsDamaged (IsDamaged dir)
-    (λ told. g.met.F.Files.kept_map c.args.files.now c.take.new.files told c.take.ensures.reads.kept) (λ name e. or_right (is_waiting name) (same_name name ids_name) e) (λ name e bad. bad) c.in_err-more.ensures.names in
-    search rules
+    names_err (names_after IsDamaged g.met.F.Files.kept_map (one_kept c.take.ensures.reads) (λ name e. or_right (is_waiting name) (same_name name ids_name) e) (λ told name e bad. bad) c.in_err-more.ensures.names) (search rules)
 
 pub returns-in_err-held-clause-names : goal.returns-in_err-held-clause-names
 returns-in_err-held-clause-names g c =
-    let dir = g.F.Files.map c.args.files.now in
-    let names = named_as g.F.Files (λ name. is_of_giving_back name ≡ true) _ dir dir (λ name. IsPostName c.args.ticket name ⊎ (name ≡ tickets_name)) Breaks (IsDamaged dir) (λ told. refl)
-    (taken_read c.args.ticket) (λ name is bad. waiting bad) c.in_err-held.ensures.names in
-    search rules
+    names_err (names_so (taken_read c.args.ticket) (λ name is bad. waiting bad) c.in_err-held.ensures.names) (search rules)

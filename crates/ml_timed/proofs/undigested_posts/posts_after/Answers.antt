@@ -1,21 +1,19 @@
-use Rattle.std.proofs.Common.{◌⊎◌, ⊎_elim, inl, inr, ◌≤◌, ◌≡◌, ◌∙◌, ◌++◌, ◌+◌, ◌*◌, ◌/◌, ℕ, true, List, refl, arith, rules, ap, ap₂, sym, subst}
+use Rattle.std.proofs.Common.{◌⊎◌, ⊎_elim, inl, inr, ◌≤◌, ◌≡◌, ◌∙◌, ◌++◌, ◌+◌, ◌*◌, ◌/◌, ℕ, List, refl, arith, rules, ap, ap₂, sym, subst}
 use Rattle.std.proofs.lemmas.Bool.{cases_lt}
 use Rattle.ml_filing.specs.Posts.{index_of}
 use Rattle.ml_filing.specs.declared.posts.Entry.{Entry}
 use Rattle.ml_base.specs.Dir.{Dir}
 use Rattle.ml_filing.specs.Archive.{IsNumberFile, number_name}
 use Rattle.ml_acts.specs.Asked.{IsTooSmall}
-use Rattle.ml_acts.proofs.Asked.{named_as}
-use Rattle.ml_acts.proofs.Damages.{named_so}
-use Rattle.ml_timed.specs.Digesting.{IsDamagedAfter, IsDamagedGroup}
-use Rattle.ml_timed.specs.Reads.{is_of_posts_seen, is_of_posts_told}
+use Rattle.ml_timed.specs.Digesting.{IsDamagedGroup}
+use Rattle.ml_timed.specs.Reads.{is_of_posts_seen}
 use Rattle.ml_timed.proofs.Apart.{alike_kept}
 use Rattle.std.specs.List.{list_all}
 use Rattle.ml_timed.specs.Waiting.{are_short, is_short, moment_after, sizes_after}
 use Rattle.ml_timed.proofs.After.{moment_in_first, sizes_of_both}
 use Rattle.ml_timed.proofs.Short.{short_after, short_joined}
 use Rattle.ml_timed.proofs.Within.{group_after, hundred}
-use Rattle.ml_timed.proofs.Joined.{both_kept, reads_beside, reads_ok, reads_then}
+use Rattle.ml_timed.proofs.Joined.{both_kept, names_after, names_err, names_so, one_kept, reads_beside, reads_ok, reads_then}
 use Rattle.ml_timed.proofs.undigested_posts.posts_after.Goals as goal
 
 pub returns-clause-sizes : goal.returns-clause-sizes
@@ -39,25 +37,16 @@ returns-clause-oldest g c told dir p alike is size =
 
 pub returns-in_err-first-clause-names : goal.returns-in_err-first-clause-names
 returns-in_err-first-clause-names g c =
-    let dir = g.F.Files.map c.args.files.now in
     let last = c.args.last in
-    let count = c.args.count in
-    let group = (last + 1) / 100 in
     let some = c.requires.some in
-    let names = named_so g.F.Files (λ name. is_of_posts_told name ≡ true) _ (λ name. is_of_posts_told name ≡ true) (IsDamagedGroup dir group count) (IsDamagedAfter dir last count) (λ name e. e)
-    (λ name e bad. group_after dir last count group (last + 1) name (omega arith) (omega (arith, some)) refl bad) c.in_err-first.ensures.names in
-    search rules
+    names_err (names_so (λ name e. e) (λ name e bad. group_after (g.F.Files.map c.args.files.now) last c.args.count ((last + 1) / 100) (last + 1) name (omega arith) (omega (arith, some)) refl bad) c.in_err-first.ensures.names) (search rules)
 
 pub returns-in_err-second-clause-names : goal.returns-in_err-second-clause-names
 returns-in_err-second-clause-names g c =
-    let dir = g.F.Files.map c.args.files.now in
     let last = c.args.last in
-    let count = c.args.count in
     let group = (last + 1) / 100 + 1 in
-    let names = named_as g.F.Files (λ name. is_of_posts_told name ≡ true) _ dir (g.F.Files.map c.group_of.new.files) (λ name. is_of_posts_told name ≡ true) (λ d. IsDamagedGroup d group count) (IsDamagedAfter dir last count)
-    (λ told. g.met.F.Files.kept_map c.args.files.now c.group_of.new.files told c.group_of.ensures.reads.kept) (λ name e. e)
-    (λ name e bad. let high = bad.few in group_after dir last count group (100 * group) name (omega arith) (omega (arith, high)) (hundred group) bad) c.in_err-second.ensures.names in
-    search rules
+    names_err (names_after (λ d. IsDamagedGroup d group c.args.count) g.met.F.Files.kept_map (one_kept c.group_of.ensures.reads) (λ name e. e)
+    (λ told name e bad. let high = bad.few in group_after (g.F.Files.map c.args.files.now) last c.args.count group (100 * group) name (omega arith) (omega (arith, high)) (hundred group) bad) c.in_err-second.ensures.names) (search rules)
 
 pub returns-clause-short : goal.returns-clause-short
 returns-clause-short g c =
