@@ -27,15 +27,12 @@ ghost use Rattle.ml_timed.specs.Parts.{AnswersPart};
 
 use crate::undigested_posts::posts_after;
 use ml_acts::{Moment, digest_path, recipients, send};
-use ml_base::{Bytes, Files, Layer, Name, PartError, Row, Set, Txn};
+use ml_base::{Bytes, Files, Layer, MAX_POSTS, Name, PartError, Row, Set, Txn};
 use ml_config::Config;
 use ml_digest::{DigestPost, Mark, Range, digest_text, due, mark, set_mark};
 use ml_filing::{count, post};
 use ml_reply::date_text;
 use std::alloc::Global;
-
-// The most posts in a digest.
-const MAX_POSTS: usize = 100;
 
 // On a list with digests, queues the one that is due for the digest set as it is, and moves the mark to its last post. `now` is in
 // seconds since 1970. It lays what it does over the files in the layer.
