@@ -1,10 +1,9 @@
 -- What holds while entries are followed up, after some and before others.
-use Rattle.std.proofs.Common.{◌≡◌, ◌≤◌, ◌+◌, ℕ, true, List, [], ◌∷◌, ◌++◌, Option, Some, None, map, fold, length, refl, sym, ap, ◌∙◌, subst, arith}
+use Rattle.std.proofs.Common.{◌≡◌, ◌≤◌, ◌+◌, ℕ, true, List, [], ◌∷◌, Option, Some, None, map, fold, length, refl, sym, ◌∙◌, subst, arith}
 use Rattle.ml_base.specs.Dir.{Dir, with_puts}
 use Rattle.ml_base.specs.declared.names.Set.{Set}
 use Rattle.ml_base.specs.declared.names.Set.TheVariants as sets
 use Rattle.ml_base.specs.declared.puts.Put.{Put}
-use Rattle.ml_base.proofs.Laid.{laid_joined}
 use Rattle.ml_bounce.specs.Answers.{has_ledger}
 use Rattle.ml_bounce.specs.Changes.{action_of}
 use Rattle.ml_bounce.specs.Ledger.{Ledger, find_entry}
@@ -109,10 +108,6 @@ module _ (now : ℕ) (c : Config) (keys : Keys) (set : Set) (p : Plain) (es : Le
 -- ids that are left
 pub ids_next : (old : Dir) (puts : List Put) (n : ℕ) → DrawsId old puts → HasIdsFor old (n + 1) → HasIdsFor (with_puts old puts) n
 ids_next old puts n draws has = record { most = has.most + 1; up_to = draws.up old has.most (λ name e. refl) has.up_to; fits = omega (arith, has.fits) }
-
--- puts laid over those that are there
-pub laid_more : (below : Dir) (old mid txn new : List Put) → mid ≡ old → new ≡ mid ++ txn → with_puts below new ≡ with_puts (with_puts below old) txn
-laid_more below old mid txn new same is = ap (with_puts below) (is ∙ ap (λ (puts : List Put). puts ++ txn) same) ∙ laid_joined below old txn
 
 -- nothing is left of a row
 pub none_left : {E : Type 0} (rest : List E) → length rest ≤ 0 → rest ≡ []

@@ -156,14 +156,24 @@ progress_there old dir p mark count alike is marked counted = (
   counted_is dir p.posts (is.archive).filed count (subst (λ (f : Option Text). IsNumberFile f count) (sym (alike number_name refl)) counted),
 )
 
--- what each part looks at, the run looks at
+-- what each part reads, the run reads
+module _ (digests : Bool) (name : Name) where
+  pub given_read : is_of_giving_back name ≡ true → is_of_timed digests name ≡ true
+  given_read e = or_left (is_of_giving_back name || (digests && is_of_digesting name)) (is_of_following name) (or_left (is_of_giving_back name) (digests && is_of_digesting name) e)
+
+  pub digested_read : (digests && is_of_digesting name) ≡ true → is_of_timed digests name ≡ true
+  digested_read e = or_left (is_of_giving_back name || (digests && is_of_digesting name)) (is_of_following name) (or_right (is_of_giving_back name) (digests && is_of_digesting name) e)
+
+  pub followed_read : is_of_following name ≡ true → is_of_timed digests name ≡ true
+  followed_read e = or_right (is_of_giving_back name || (digests && is_of_digesting name)) (is_of_following name) e
+
+-- and what each part looks at, the run looks at
 module _ (digests : Bool) where
   timed_seen : (name : Name) → is_of_timed digests name ≡ true → is_seen_in_timed digests name ≡ true
   timed_seen name e = or_left (is_of_timed digests name) (digests && is_post_file name) e
 
   pub given_timed : (name : Name) → is_of_giving_back name ≡ true → is_seen_in_timed digests name ≡ true
-  given_timed name e =
-      timed_seen name (or_left (is_of_giving_back name || (digests && is_of_digesting name)) (is_of_following name) (or_left (is_of_giving_back name) (digests && is_of_digesting name) e))
+  given_timed name e = timed_seen name (given_read digests name e)
 
   pub digested_timed : (name : Name) → (digests && is_seen_in_digesting name) ≡ true → is_seen_in_timed digests name ≡ true
   digested_timed name e = go (or_cases (is_of_digesting name) (is_post_file name) parts.1)
@@ -172,13 +182,11 @@ module _ (digests : Bool) where
       parts = and_parts digests (is_seen_in_digesting name) e
 
       go : (is_of_digesting name ≡ true) ⊎ (is_post_file name ≡ true) → is_seen_in_timed digests name ≡ true
-      go (inl read) =
-          timed_seen name
-          (or_left (is_of_giving_back name || (digests && is_of_digesting name)) (is_of_following name) (or_right (is_of_giving_back name) (digests && is_of_digesting name) (and_from digests (is_of_digesting name) parts.0 read)))
+      go (inl read) = timed_seen name (digested_read digests name (and_from digests (is_of_digesting name) parts.0 read))
       go (inr post) = or_right (is_of_timed digests name) (digests && is_post_file name) (and_from digests (is_post_file name) parts.0 post)
 
   pub followed_timed : (name : Name) → is_of_following name ≡ true → is_seen_in_timed digests name ≡ true
-  followed_timed name e = timed_seen name (or_right (is_of_giving_back name || (digests && is_of_digesting name)) (is_of_following name) e)
+  followed_timed name e = timed_seen name (followed_read digests name e)
 
   module _ (old dir : Dir) (alike : Alike (is_seen_in_timed digests) old dir) where
     -- so is the next id, as puts leave it

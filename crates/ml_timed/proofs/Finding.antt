@@ -5,7 +5,6 @@ use Rattle.ml_base.specs.Dir.{Dir, with_puts}
 use Rattle.ml_base.specs.declared.names.Name.{Name}
 use Rattle.ml_base.specs.declared.puts.Put.{Put}
 use Rattle.ml_acts.specs.Growing.{IsGrown, is_of_time}
-use Rattle.ml_acts.proofs.Grown.{grown_by}
 use Rattle.ml_timed.specs.Found.{FoundInLayer, FoundInRun, FoundToDigest, is_followed_up}
 use Rattle.ml_timed.specs.Giving.{is_given}
 
@@ -15,9 +14,6 @@ followed_time name e =
     let parts = and_parts _ _ e in
     let least : 15 ≤ name.kind = leb-true 15 name.kind parts.0 in
     and_from _ _ (le-leb 12 name.kind (omega (arith, least))) parts.1
-
-pub followed_grown : (old new : List Put) → IsGrown is_followed_up old new → IsGrown is_of_time old new
-followed_grown old new g = grown_by is_of_time is_followed_up old new g.more followed_time g.is g.own g.files
 
 -- the three parts of a run
 pub found_parts : (dir : Dir) (old first second third : List Put) → IsGrown is_given old first → FoundInLayer dir first second → IsGrown is_followed_up second third → FoundInRun dir old third

@@ -2,6 +2,8 @@ mod Older
 mod Given
 mod After
 mod Layered
+mod Parts
+mod Joined
 mod Apart
 mod Spared
 mod Issued

@@ -1,29 +1,21 @@
 -- Which files are named as damaged when bounces are followed up.
-use Rattle.std.proofs.Common.{◌≡◌, ◌<◌, true, false, eqb, ltb, ◌||◌, Result, IfErr, IsTrue, refl, sym, subst, arith}
+use Rattle.std.proofs.Common.{◌≡◌, ◌<◌, true, false, eqb, ltb, ◌||◌, refl, sym, subst, arith}
 use Rattle.std.proofs.lemmas.Bool.{and_parts, and_from, eq-eqb, eqb-true, lt-ltb, or_left, or_right}
 use Rattle.std.proofs.lemmas.Nat.{mod_below}
 use Rattle.ml_base.specs.Address.{key}
 use Rattle.ml_base.specs.Bytes.{Text}
-use Rattle.ml_base.specs.Dir.{Dir, same_name}
+use Rattle.ml_base.specs.Dir.{same_name}
 use Rattle.ml_base.specs.Hash.{hash_of}
 use Rattle.ml_base.specs.Name.{set_kind}
-use Rattle.ml_base.specs.PartErrors.{OnDamaged}
-use Rattle.ml_base.specs.ReadFiles.{NamesDamaged}
-use Rattle.ml_base.specs.declared.files.Files.{Ghosts}
 use Rattle.ml_base.specs.declared.names.Name.{Name}
 use Rattle.ml_base.specs.declared.names.Set.{Set}
 use Rattle.ml_base.specs.declared.names.Set.TheVariants as sets
-use Rattle.ml_base.specs.declared.part_error.PartError.{PartError}
-use Rattle.ml_base.proofs.DamagedNames.{err_damaged}
-use Rattle.ml_bounce.specs.Answers.{IsBadFile, IsFileName, has_ledger, key_file, ledger_kind}
+use Rattle.ml_bounce.specs.Answers.{IsFileName, has_ledger, key_file, ledger_kind}
 use Rattle.ml_bounce.specs.Files.{ledger_place}
 use Rattle.ml_config.specs.KeyFile.{key_name}
 use Rattle.ml_queue.specs.Answers.{ids_name}
 use Rattle.ml_subs.specs.Buckets.{bucket_of}
-use Rattle.ml_acts.specs.Damaged.{IsDamaged}
-use Rattle.ml_acts.specs.Damaged as damage
 use Rattle.ml_acts.specs.Doing.{is_bucket, is_bucket_of, is_entry_of}
-use Rattle.ml_acts.proofs.Damages.{named_so}
 use Rattle.ml_timed.specs.Reads.{is_followed_by, is_ledger, is_of_following}
 
 pub in_ledger : (set : Set) (name : Name) → is_ledger set name ≡ true → is_followed_by set name ≡ true
@@ -62,25 +54,10 @@ followed_of sets.Deny has name e = absurd (let bad : false ≡ true = has in cc)
 followed_of sets.Moderators has name e = absurd (let bad : false ≡ true = has in cc)
 
 -- the 53 files of a ledger
-pub file_followed : (set : Set) (name : Name) → IsFileName set name → is_followed_by set name ≡ true
+file_followed : (set : Set) (name : Name) → IsFileName set name → is_followed_by set name ≡ true
 file_followed set name file =
     in_ledger set name
     (subst (λ (a : Name). is_ledger set a ≡ true) (sym file.2) (and_from (eqb (ledger_kind set) (ledger_kind set)) (ltb file.0 53) (eq-eqb (ledger_kind set) (ledger_kind set) refl) (lt-ltb file.0 53 file.1)))
 
-module _ {F T : Type 0} (told : Ghosts F) (r : Result T PartError) (dir : Dir) where
-  pub ledger_named : (set : Set) → has_ledger set ≡ true → NamesDamaged told (IsFileName set) (IsBadFile dir set) r → NamesDamaged told (λ name. is_of_following name ≡ true) (IsDamaged dir) r
-  ledger_named set has is =
-      named_so told (λ name. is_of_following name ≡ true) r (IsFileName set) (IsBadFile dir set) (IsDamaged dir)
-      (λ name file. followed_of set has name (file_followed set name file)) (λ name file bad. damage.ledger set has bad) is
-
--- a call that may name fewer files, over files that stayed
-pub names_over : {F T : Type 0} (told : Ghosts F) (r : Result T PartError) (dir old : Dir) (Few May : Name → Type 0) → ((name : Name) → Few name → May name) → (IsTrue told.tells → old ≡ dir)
-    → NamesDamaged told Few (IsDamaged old) r → NamesDamaged told May (IsDamaged dir) r
-names_over told r dir old Few May may same is = record {
-  named = err_damaged r Few May may is.named;
-  damaged = λ tells. subst (λ (d : Dir). IfErr r (λ e. OnDamaged e (IsDamaged d))) (same tells) (is.damaged tells);
-}
-
--- what a layer says, said of the files below it
-pub names_below : {F G T : Type 0} (upper : Ghosts G) (lower : Ghosts F) (May Bad : Name → Type 0) (r : Result T PartError) → (IsTrue lower.tells → IsTrue upper.tells) → NamesDamaged upper May Bad r → NamesDamaged lower May Bad r
-names_below upper lower May Bad r tells is = record { named = is.named; damaged = λ t. is.damaged (tells t) }
+pub ledger_read : (set : Set) → has_ledger set ≡ true → (name : Name) → IsFileName set name → is_of_following name ≡ true
+ledger_read set has name file = followed_of set has name (file_followed set name file)

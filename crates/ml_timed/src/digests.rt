@@ -1,5 +1,5 @@
 // Making the digest that is due: it goes to the digest set, and the mark moves.
-ghost use Rattle.std.specs.Prelude.{◌≡◌, ◌&&◌, ◌<◌, ◌≤◌, ◌+◌, ◌-◌, ◌/◌, ℕ, true, Some, None, map, min, take, length, IsTrue, IfOk, IfNone, IfSome};
+ghost use Rattle.std.specs.Prelude.{◌≡◌, ◌&&◌, ◌<◌, ◌≤◌, ◌+◌, ◌-◌, ◌/◌, ℕ, true, Some, None, map, min, take, length, IsTrue, IfOk, IfSome};
 ghost use Rattle.ml_base.specs.Dir.{Dir, are_files, touches_only, with_puts};
 ghost use Rattle.ml_base.specs.Layers.{files_below, puts_over};
 ghost use Rattle.ml_base.specs.ReadFiles.{IsReading, NamesDamaged};
@@ -17,24 +17,22 @@ ghost use Rattle.ml_reply.specs.Dates.{date_text as date_of};
 ghost use Rattle.ml_acts.specs.Asked.{IsDamagedOf, IsTooSmall, Undigested};
 ghost use Rattle.ml_acts.specs.Damaged.{IsDamaged};
 ghost use Rattle.ml_acts.specs.Doing.{Alike, DrawsId, HasIds, HasIdsUpTo, is_of_queue};
-ghost use Rattle.ml_acts.specs.Growing.{IsGrown, is_of_time};
+ghost use Rattle.ml_acts.specs.Growing.{is_of_time};
 ghost use Rattle.ml_acts.specs.Found.{QueuesToSet};
 ghost use Rattle.ml_timed.specs.Found.{FoundInLayer, FoundToDigest, FoundToIssue};
-ghost use Rattle.ml_acts.specs.Spelled.{AreSpelled, DamagesNothing};
+ghost use Rattle.ml_acts.specs.Spelled.{AreSpelled};
 ghost use Rattle.ml_timed.specs.Digesting.{AgreesIfRead, IsDamagedAfter, IsDamagedInRun, IsDamagedWithin};
 ghost use Rattle.ml_timed.specs.Reads.{is_of_digesting, is_of_issue, is_of_posts_seen, is_of_posts_told, is_of_progress, is_seen_in_digesting};
+ghost use Rattle.ml_timed.specs.Parts.{AnswersPart};
 
 use crate::undigested_posts::posts_after;
 use ml_acts::{Moment, digest_path, recipients, send};
-use ml_base::{Bytes, Files, Layer, Name, PartError, Row, Set, Txn};
+use ml_base::{Bytes, Files, Layer, MAX_POSTS, Name, PartError, Row, Set, Txn};
 use ml_config::Config;
 use ml_digest::{DigestPost, Mark, Range, digest_text, due, mark, set_mark};
 use ml_filing::{count, post};
 use ml_reply::date_text;
 use std::alloc::Global;
-
-// The most posts in a digest.
-const MAX_POSTS: usize = 100;
 
 // On a list with digests, queues the one that is due for the digest set as it is, and moves the mark to its last post. `now` is in
 // seconds since 1970. It lays what it does over the files in the layer.
@@ -45,14 +43,11 @@ pub(crate) fn make_digest<F: Files>(
     now: Moment,
 ) -> Result<(), PartError>
     requires room { IsTrue F.tells → HasIdsUpTo (with_puts (F.map (files_below files.now)) (puts_over files.now)) 999_999_999_998_000 }
-    ensures value { IsTrue F.tells → IfOk result (λ _. (dir : Dir) (p : Plain) → Alike (λ name. config.now.flags.d && is_seen_in_digesting name) (F.map (files_below files.old)) dir → IsList (with_puts dir (puts_over files.old)) p → p.config ≡ config.now → IsList (with_puts dir (puts_over files.new)) (spec.make_digest now.seconds p)) }
+    ensures apart { IsTrue F.tells → IfOk result (λ _. (dir : Dir) (p : Plain) → Alike (λ name. config.now.flags.d && is_seen_in_digesting name) (F.map (files_below files.old)) dir → IsList (with_puts dir (puts_over files.old)) p → p.config ≡ config.now → IsList (with_puts dir (puts_over files.new)) (spec.make_digest now.seconds p)) }
     ensures agrees { IsTrue F.tells → IfOk result (λ _. config.now.flags.d ≡ true → AgreesIfRead (with_puts (F.map (files_below files.old)) (puts_over files.old))) }
     ensures room { IsTrue F.tells → IfOk result (λ _. HasIdsUpTo (with_puts (F.map (files_below files.old)) (puts_over files.new)) 999_999_999_998_001) }
-    ensures harmless { IsTrue F.tells → DamagesNothing (with_puts (F.map (files_below files.old)) (puts_over files.old)) (with_puts (F.map (files_below files.old)) (puts_over files.new)) }
-    ensures grown { IsGrown is_of_time (puts_over files.old) (puts_over files.new) }
     ensures found { IsTrue F.tells → IfOk result (λ _. FoundInLayer (F.map (files_below files.old)) (puts_over files.old) (puts_over files.new)) }
-    ensures names { NamesDamaged ⟦<F as Files>⟧ (λ name. (config.now.flags.d && is_of_digesting name) ≡ true) (IsDamagedInRun (with_puts (F.map (files_below files.old)) (puts_over files.old)) (with_puts (F.map (files_below files.old)) (puts_over files.new))) result }
-    ensures reads { IsReading ⟦<F as Files>⟧ (files_below files.old) (files_below files.new) result }
+    ensures part { AnswersPart is_of_time ⟦<F as Files>⟧ (λ name. (config.now.flags.d && is_of_digesting name) ≡ true) IsDamagedInRun files.old files.new result }
 {
     if !config.flags.d {
         return Ok(());
@@ -69,7 +64,7 @@ fn digest_due<F: Files>(
     now: Moment,
 ) -> Result<Txn, PartError>
     requires room { IsTrue F.tells → HasIds (F.map files.now) }
-    ensures value { IsTrue F.tells → IfOk result (λ txn. (dir : Dir) (p : Plain) → Alike is_seen_in_digesting (F.map files.old) dir → IsList dir p → p.config ≡ config.now → IsList (with_puts dir txn) (spec.issue now.seconds p (spec.digest_due now.seconds p))) }
+    ensures apart { IsTrue F.tells → IfOk result (λ txn. (dir : Dir) (p : Plain) → Alike is_seen_in_digesting (F.map files.old) dir → IsList dir p → p.config ≡ config.now → IsList (with_puts dir txn) (spec.issue now.seconds p (spec.digest_due now.seconds p))) }
     ensures agrees { IsTrue F.tells → IfOk result (λ _. AgreesIfRead (F.map files.old)) }
     ensures own { IfOk result (λ txn. touches_only is_of_time txn ≡ true) }
     ensures files { IfOk result (λ txn. IsTrue (are_files txn)) }
@@ -116,7 +111,7 @@ fn range_due<F: Files>(
     requires some { mark.now.last < count }
     requires few { count ≤ 99_999_999 }
     requires counted { IsTrue F.tells → IsNumberFile (F.map files.now number_name) count }
-    ensures value { IsTrue F.tells → IfOk result (λ range. (dir : Dir) (p : Plain) → Alike is_of_posts_seen (F.map files.old) dir → IsList dir p → p.mark ≡ mark.now → count ≡ length p.posts → range ≡ spec.digest_due now p) }
+    ensures apart { IsTrue F.tells → IfOk result (λ range. (dir : Dir) (p : Plain) → Alike is_of_posts_seen (F.map files.old) dir → IsList dir p → p.mark ≡ mark.now → count ≡ length p.posts → range ≡ spec.digest_due now p) }
     ensures range { IfOk result (λ found. IfSome found (λ range. (range.first ≡ mark.now.last + 1) × (range.first ≤ range.last) × (range.last ≤ count))) }
     ensures agrees { IsTrue F.tells → IfOk result (λ _. count / 100 ≤ (mark.now.last + 1) / 100 + 1 → ¬ IsTooSmall (F.map files.old)) }
     ensures names { NamesDamaged ⟦<F as Files>⟧ (λ name. is_of_posts_told name ≡ true) (IsDamagedAfter (F.map files.old) mark.now.last count) result }
@@ -152,7 +147,7 @@ fn issue<F: Files>(
     requires some { range.first ≤ range.last }
     requires few { range.last ≤ 99_999_999 }
     requires counted { IsTrue F.tells → (count : ℕ) × IsNumberFile (F.map files.now number_name) count × (range.last ≤ count) }
-    ensures value { IsTrue F.tells → IfOk result (λ txn. (dir : Dir) (p : Plain) → Alike is_seen_in_digesting (F.map files.old) dir → IsList dir p → p.config ≡ config.now → p.mark ≡ mark.now → range.last ≤ length p.posts → IsList (with_puts dir txn) (spec.issue now.seconds p (Some range))) }
+    ensures apart { IsTrue F.tells → IfOk result (λ txn. (dir : Dir) (p : Plain) → Alike is_seen_in_digesting (F.map files.old) dir → IsList dir p → p.config ≡ config.now → p.mark ≡ mark.now → range.last ≤ length p.posts → IsList (with_puts dir txn) (spec.issue now.seconds p (Some range))) }
     ensures own { IfOk result (λ txn. touches_only is_of_time txn ≡ true) }
     ensures files { IfOk result (λ txn. IsTrue (are_files txn)) }
     ensures drawn { IsTrue F.tells → IfOk result (λ txn. (most : ℕ) → HasIdsUpTo (F.map files.old) most → HasIdsUpTo (with_puts (F.map files.old) txn) (most + 1)) }
@@ -188,7 +183,7 @@ fn issue_text<F: Files>(
     requires some { range.first ≤ range.last }
     requires few { range.last ≤ 99_999_999 }
     requires counted { IsTrue F.tells → (count : ℕ) × IsNumberFile (F.map files.now number_name) count × (range.last ≤ count) }
-    ensures value { IsTrue F.tells → IfOk result (λ text. (dir : Dir) (p : Plain) → Alike is_of_posts_seen (F.map files.old) dir → IsList dir p → p.config ≡ config.now → text ≡ digest_text_of p.config issue range.first (map spec.digest_post (spec.posts_in range p.posts)) (date_of now.seconds)) }
+    ensures apart { IsTrue F.tells → IfOk result (λ text. (dir : Dir) (p : Plain) → Alike is_of_posts_seen (F.map files.old) dir → IsList dir p → p.config ≡ config.now → text ≡ digest_text_of p.config issue range.first (map spec.digest_post (spec.posts_in range p.posts)) (date_of now.seconds)) }
     ensures names { NamesDamaged ⟦<F as Files>⟧ (λ name. is_of_posts_told name ≡ true) (IsDamagedWithin (F.map files.old) range.first range.last) result }
     ensures reads { IsReading ⟦<F as Files>⟧ files.old files.new result }
 {
@@ -207,7 +202,7 @@ fn posts_in<F: Files>(
     requires some { range.first ≤ range.last }
     requires few { range.last ≤ 99_999_999 }
     requires counted { IsTrue F.tells → (count : ℕ) × IsNumberFile (F.map files.now number_name) count × (range.last ≤ count) }
-    ensures value { IsTrue F.tells → IfOk result (λ posts. (dir : Dir) (p : Plain) → Alike is_of_posts_seen (F.map files.old) dir → IsList dir p → posts ≡ map spec.digest_post (spec.posts_in range p.posts)) }
+    ensures apart { IsTrue F.tells → IfOk result (λ posts. (dir : Dir) (p : Plain) → Alike is_of_posts_seen (F.map files.old) dir → IsList dir p → posts ≡ map spec.digest_post (spec.posts_in range p.posts)) }
     ensures all { IfOk result (λ posts. length posts ≡ range.last + 1 - range.first) }
     ensures names { NamesDamaged ⟦<F as Files>⟧ (λ name. is_of_posts_told name ≡ true) (IsDamagedWithin (F.map files.old) range.first range.last) result }
     ensures reads { IsReading ⟦<F as Files>⟧ files.old files.new result }
@@ -225,7 +220,7 @@ fn posts_in<F: Files>(
 fn post_of<F: Files>(alloc: Global, files: &mut F, number: u64) -> Result<DigestPost, PartError>
     requires from_one { 1 ≤ number }
     requires counted { IsTrue F.tells → (count : ℕ) × IsNumberFile (F.map files.now number_name) count × (number ≤ count) }
-    ensures value { IsTrue F.tells → IfOk result (λ found. (dir : Dir) (p : Plain) → Alike is_of_posts_seen (F.map files.old) dir → IsList dir p → (post : Post) × (post_at p.posts number ≡ Some post) × (found ≡ spec.digest_post post)) }
+    ensures apart { IsTrue F.tells → IfOk result (λ found. (dir : Dir) (p : Plain) → Alike is_of_posts_seen (F.map files.old) dir → IsList dir p → (post : Post) × (post_at p.posts number ≡ Some post) × (found ≡ spec.digest_post post)) }
     ensures names { NamesDamaged ⟦<F as Files>⟧ (λ name. is_of_posts_told name ≡ true) (IsDamagedWithin (F.map files.old) number number) result }
     ensures reads { IsReading ⟦<F as Files>⟧ files.old files.new result }
 {
@@ -247,7 +242,7 @@ fn mail_issue<F: Files>(
     body: Bytes,
 ) -> Result<Txn, PartError>
     requires room { IsTrue F.tells → HasIds (F.map files.now) }
-    ensures value { IsTrue F.tells → IfOk result (λ txn. (dir : Dir) (p : Plain) → Alike is_of_issue (F.map files.old) dir → IsList dir p → p.config ≡ config.now → IsList (with_puts dir txn) (mailing.send (mailing.digest_path p.config issue) body (addresses p sets.Digest) p)) }
+    ensures apart { IsTrue F.tells → IfOk result (λ txn. (dir : Dir) (p : Plain) → Alike is_of_issue (F.map files.old) dir → IsList dir p → p.config ≡ config.now → IsList (with_puts dir txn) (mailing.send (mailing.digest_path p.config issue) body (addresses p sets.Digest) p)) }
     ensures own { IfOk result (λ txn. touches_only is_of_queue txn ≡ true) }
     ensures files { IfOk result (λ txn. IsTrue (are_files txn)) }
     ensures drawn { IsTrue F.tells → IfOk result (λ txn. DrawsId (F.map files.old) txn) }

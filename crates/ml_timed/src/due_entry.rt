@@ -36,7 +36,7 @@ pub(crate) fn follow_up<F: Files>(
 ) -> Result<Txn, PartError>
     requires ledger { IsTrue (has_ledger set) }
     requires room { IsTrue F.tells → HasIds (F.map files.now) }
-    ensures value { IsTrue F.tells → IfOk result (λ txn. (dir : Dir) (p : Plain) (e : LedgerEntry) → Alike (is_followed_by set) (F.map files.old) dir → IsList dir p → p.config ≡ config.now → p.keys ≡ keys.now → find_entry e.key (ledger_of p set) ≡ Some e → action_of e ≡ action.now → IsList (with_puts dir txn) (spec.follow_up now.seconds p (set, e))) }
+    ensures apart { IsTrue F.tells → IfOk result (λ txn. (dir : Dir) (p : Plain) (e : LedgerEntry) → Alike (is_followed_by set) (F.map files.old) dir → IsList dir p → p.config ≡ config.now → p.keys ≡ keys.now → find_entry e.key (ledger_of p set) ≡ Some e → action_of e ≡ action.now → IsList (with_puts dir txn) (spec.follow_up now.seconds p (set, e))) }
     ensures own { IfOk result (λ txn. touches_only is_followed_up txn ≡ true) }
     ensures files { IfOk result (λ txn. IsTrue (are_files txn)) }
     ensures drawn { IsTrue F.tells → IfOk result (λ txn. DrawsId (F.map files.old) txn) }
@@ -65,7 +65,7 @@ fn warn_or_probe<F: Files>(
     requires mailed { is_mailed action.now ≡ true }
     requires to { action_key action.now ≡ to.now }
     requires room { IsTrue F.tells → HasIds (F.map files.now) }
-    ensures value { IsTrue F.tells → IfOk result (λ txn. (dir : Dir) (p : Plain) (e : LedgerEntry) → Alike (is_followed_by set) (F.map files.old) dir → IsList dir p → p.config ≡ config.now → p.keys ≡ keys.now → find_entry e.key (ledger_of p set) ≡ Some e → action_of e ≡ action.now → IsList (with_puts dir txn) (spec.follow_up now.seconds p (set, e))) }
+    ensures apart { IsTrue F.tells → IfOk result (λ txn. (dir : Dir) (p : Plain) (e : LedgerEntry) → Alike (is_followed_by set) (F.map files.old) dir → IsList dir p → p.config ≡ config.now → p.keys ≡ keys.now → find_entry e.key (ledger_of p set) ≡ Some e → action_of e ≡ action.now → IsList (with_puts dir txn) (spec.follow_up now.seconds p (set, e))) }
     ensures own { IfOk result (λ txn. touches_only is_followed_up txn ≡ true) }
     ensures files { IfOk result (λ txn. IsTrue (are_files txn)) }
     ensures drawn { IsTrue F.tells → IfOk result (λ txn. DrawsId (F.map files.old) txn) }
@@ -102,7 +102,7 @@ fn add_entry_change<F: Files>(
     requires ledger { IsTrue (has_ledger set) }
     requires queue { touches_only is_of_queue txn ≡ true }
     requires names { IsTrue (are_files txn) }
-    ensures value { IsTrue F.tells → IfOk result (λ done. (dir : Dir) (p : Plain) (e : LedgerEntry) → Alike (is_entry_of set (action_key action.now)) (F.map files.old) dir → IsList (with_puts dir txn) p → find_entry (key (action_key action.now)) (ledger_of p set) ≡ Some e → IsList (with_puts dir done) (spec.change_entry now.seconds set e p)) }
+    ensures apart { IsTrue F.tells → IfOk result (λ done. (dir : Dir) (p : Plain) (e : LedgerEntry) → Alike (is_entry_of set (action_key action.now)) (F.map files.old) dir → IsList (with_puts dir txn) p → find_entry (key (action_key action.now)) (ledger_of p set) ≡ Some e → IsList (with_puts dir done) (spec.change_entry now.seconds set e p)) }
     ensures own { IfOk result (λ done. touches_only is_followed_up done ≡ true) }
     ensures files { IfOk result (λ done. IsTrue (are_files done)) }
     ensures drawn { IsTrue F.tells → DrawsId (F.map files.old) txn → IfOk result (λ done. DrawsId (F.map files.old) done) }
@@ -123,7 +123,7 @@ fn drop_entry<F: Files>(
     who: &Address,
 ) -> Result<Txn, PartError>
     requires ledger { IsTrue (has_ledger set) }
-    ensures value { IsTrue F.tells → IfOk result (λ txn. (dir : Dir) (p : Plain) → Alike (is_entry_of set who.now) (F.map files.old) dir → IsList dir p → IsList (with_puts dir txn) (without_entry set who.now p)) }
+    ensures apart { IsTrue F.tells → IfOk result (λ txn. (dir : Dir) (p : Plain) → Alike (is_entry_of set who.now) (F.map files.old) dir → IsList dir p → IsList (with_puts dir txn) (without_entry set who.now p)) }
     ensures own { IfOk result (λ txn. touches_only is_followed_up txn ≡ true) }
     ensures files { IfOk result (λ txn. IsTrue (are_files txn)) }
     ensures drawn { IsTrue F.tells → IfOk result (λ txn. DrawsId (F.map files.old) txn) }

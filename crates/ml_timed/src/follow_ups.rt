@@ -2,7 +2,6 @@
 ghost use Rattle.std.specs.Prelude.{◌≡◌, ◌+◌, ℕ, true, fold, length, Some, IsTrue, IfOk, OnErr};
 ghost use Rattle.ml_base.specs.Dir.{Dir, with_puts};
 ghost use Rattle.ml_base.specs.Layers.{files_below, puts_over};
-ghost use Rattle.ml_base.specs.ReadFiles.{IsReading, NamesDamaged};
 ghost use Rattle.ml_bounce.specs.Answers.{has_ledger};
 ghost use Rattle.ml_bounce.specs.Changes.{action_of};
 ghost use Rattle.ml_bounce.specs.Ledger.{Ledger, find_entry};
@@ -12,11 +11,10 @@ ghost use Rattle.ml_plain.specs.Plain.{Plain, ledger_of};
 ghost use Rattle.ml_plain.specs.Timing as spec;
 ghost use Rattle.ml_acts.specs.Damaged.{IsDamaged};
 ghost use Rattle.ml_acts.specs.Doing.{Alike, HasIds, HasIdsUpTo};
-ghost use Rattle.ml_acts.specs.Growing.{IsGrown};
 ghost use Rattle.ml_timed.specs.Found.{is_followed_up};
-ghost use Rattle.ml_acts.specs.Spelled.{DamagesNothing};
 ghost use Rattle.ml_timed.specs.Ahead.{HasIdsFor, IsAhead, of_set};
 ghost use Rattle.ml_timed.specs.Reads.{is_followed_by, is_of_following};
+ghost use Rattle.ml_timed.specs.Parts.{AnswersPart};
 
 use crate::due_entry::follow_up;
 use ml_acts::Moment;
@@ -42,12 +40,9 @@ pub(crate) fn follow_all_up<F: Files>(
     now: Moment,
 ) -> Result<(), PartError>
     requires room { IsTrue F.tells → HasIdsUpTo (with_puts (F.map (files_below files.now)) (puts_over files.now)) 999_999_999_998_001 }
-    ensures value { IsTrue F.tells → IfOk result (λ _. (dir : Dir) (p : Plain) → Alike is_of_following (F.map (files_below files.old)) dir → IsList (with_puts dir (puts_over files.old)) p → p.config ≡ config.now → IsList (with_puts dir (puts_over files.new)) (spec.follow_all_up now.seconds p)) }
+    ensures apart { IsTrue F.tells → IfOk result (λ _. (dir : Dir) (p : Plain) → Alike is_of_following (F.map (files_below files.old)) dir → IsList (with_puts dir (puts_over files.old)) p → p.config ≡ config.now → IsList (with_puts dir (puts_over files.new)) (spec.follow_all_up now.seconds p)) }
     ensures room { IsTrue F.tells → IfOk result (λ _. HasIdsUpTo (with_puts (F.map (files_below files.old)) (puts_over files.new)) 1_000_000_000_000_001) }
-    ensures harmless { IsTrue F.tells → DamagesNothing (with_puts (F.map (files_below files.old)) (puts_over files.old)) (with_puts (F.map (files_below files.old)) (puts_over files.new)) }
-    ensures grown { IsGrown is_followed_up (puts_over files.old) (puts_over files.new) }
-    ensures names { NamesDamaged ⟦<F as Files>⟧ (λ name. is_of_following name ≡ true) (IsDamaged (with_puts (F.map (files_below files.old)) (puts_over files.new))) result }
-    ensures reads { IsReading ⟦<F as Files>⟧ (files_below files.old) (files_below files.new) result }
+    ensures part { AnswersPart is_followed_up ⟦<F as Files>⟧ (λ name. is_of_following name ≡ true) (λ _. IsDamaged) files.old files.new result }
 {
     let list = due(alloc, files, Set::List, now.seconds, MOST_DUE)?;
     let left = MOST_DUE.saturating_sub(list.as_slice().len() as u64);
@@ -80,12 +75,9 @@ fn follow_each<F: Files>(
 ) -> Result<(), PartError>
     requires ledger { IsTrue (has_ledger set) }
     requires room { IsTrue F.tells → HasIdsFor (with_puts (F.map (files_below files.now)) (puts_over files.now)) (length actions.now) }
-    ensures value { IsTrue F.tells → IfOk result (λ _. (dir : Dir) (p : Plain) (es : Ledger) → Alike (is_followed_by set) (F.map (files_below files.old)) dir → IsAhead (with_puts dir (puts_over files.old)) config.now keys.now set actions.now p es → IsList (with_puts dir (puts_over files.new)) (fold (spec.follow_up now.seconds) p (of_set set es))) }
-    ensures harmless { IsTrue F.tells → DamagesNothing (with_puts (F.map (files_below files.old)) (puts_over files.old)) (with_puts (F.map (files_below files.old)) (puts_over files.new)) }
+    ensures apart { IsTrue F.tells → IfOk result (λ _. (dir : Dir) (p : Plain) (es : Ledger) → Alike (is_followed_by set) (F.map (files_below files.old)) dir → IsAhead (with_puts dir (puts_over files.old)) config.now keys.now set actions.now p es → IsList (with_puts dir (puts_over files.new)) (fold (spec.follow_up now.seconds) p (of_set set es))) }
     ensures drawn { IsTrue F.tells → IfOk result (λ _. (more : ℕ) → HasIdsFor (with_puts (F.map (files_below files.old)) (puts_over files.old)) (length actions.now + more) → HasIdsFor (with_puts (F.map (files_below files.old)) (puts_over files.new)) more) }
-    ensures grown { IsGrown is_followed_up (puts_over files.old) (puts_over files.new) }
-    ensures names { NamesDamaged ⟦<F as Files>⟧ (λ name. is_followed_by set name ≡ true) (IsDamaged (with_puts (F.map (files_below files.old)) (puts_over files.new))) result }
-    ensures reads { IsReading ⟦<F as Files>⟧ (files_below files.old) (files_below files.new) result }
+    ensures part { AnswersPart is_followed_up ⟦<F as Files>⟧ (λ name. is_followed_by set name ≡ true) (λ _. IsDamaged) files.old files.new result }
 {
     let mut rest = actions;
     while let [action, more @ ..] = rest {
@@ -107,13 +99,10 @@ fn follow_one<F: Files>(
 ) -> Result<(), PartError>
     requires ledger { IsTrue (has_ledger set) }
     requires room { IsTrue F.tells → HasIds (with_puts (F.map (files_below files.now)) (puts_over files.now)) }
-    ensures value { IsTrue F.tells → IfOk result (λ _. (dir : Dir) (p : Plain) (e : LedgerEntry) → Alike (is_followed_by set) (F.map (files_below files.old)) dir → IsList (with_puts dir (puts_over files.old)) p → p.config ≡ config.now → p.keys ≡ keys.now → find_entry e.key (ledger_of p set) ≡ Some e → action_of e ≡ action.now → IsList (with_puts dir (puts_over files.new)) (spec.follow_up now.seconds p (set, e))) }
+    ensures apart { IsTrue F.tells → IfOk result (λ _. (dir : Dir) (p : Plain) (e : LedgerEntry) → Alike (is_followed_by set) (F.map (files_below files.old)) dir → IsList (with_puts dir (puts_over files.old)) p → p.config ≡ config.now → p.keys ≡ keys.now → find_entry e.key (ledger_of p set) ≡ Some e → action_of e ≡ action.now → IsList (with_puts dir (puts_over files.new)) (spec.follow_up now.seconds p (set, e))) }
     ensures same { OnErr result (puts_over files.new ≡ puts_over files.old) }
-    ensures harmless { IsTrue F.tells → DamagesNothing (with_puts (F.map (files_below files.old)) (puts_over files.old)) (with_puts (F.map (files_below files.old)) (puts_over files.new)) }
     ensures drawn { IsTrue F.tells → IfOk result (λ _. (more : ℕ) → HasIdsFor (with_puts (F.map (files_below files.old)) (puts_over files.old)) (more + 1) → HasIdsFor (with_puts (F.map (files_below files.old)) (puts_over files.new)) more) }
-    ensures grown { IsGrown is_followed_up (puts_over files.old) (puts_over files.new) }
-    ensures names { NamesDamaged ⟦<F as Files>⟧ (λ name. is_followed_by set name ≡ true) (IsDamaged (with_puts (F.map (files_below files.old)) (puts_over files.new))) result }
-    ensures reads { IsReading ⟦<F as Files>⟧ (files_below files.old) (files_below files.new) result }
+    ensures part { AnswersPart is_followed_up ⟦<F as Files>⟧ (λ name. is_followed_by set name ≡ true) (λ _. IsDamaged) files.old files.new result }
 {
     let txn = follow_up(alloc, files, config, keys, set, action, now)?;
     files.lay(txn)?;

@@ -1,11 +1,10 @@
 // A timed run: its three parts, one after another, and its reply.
 ghost use Rattle.std.specs.Prelude.{◌≡◌, ◌<◌, ◌-◌, [], true, IsTrue, IfOk, IfErr};
-ghost use Rattle.ml_base.specs.Dir.{Dir, same_name, with_puts};
+ghost use Rattle.ml_base.specs.Dir.{Dir, with_puts};
 ghost use Rattle.ml_base.specs.Layers.{files_below, puts_over};
 ghost use Rattle.ml_base.specs.declared.part_error.PartError.TheVariants.{Damaged};
 ghost use Rattle.ml_base.specs.PartErrors.{OnDamaged};
 ghost use Rattle.ml_base.specs.Ranges.{IsMoment};
-ghost use Rattle.ml_base.specs.ReadFiles.{IsReading, NamesDamaged};
 ghost use Rattle.ml_config.specs.Configuration.{IsConfig};
 ghost use Rattle.ml_plain.specs.Answers as answers;
 ghost use Rattle.ml_plain.specs.Directory.{IsList};
@@ -16,11 +15,11 @@ ghost use Rattle.ml_queue.specs.Answers.{ids_name};
 ghost use Rattle.ml_acts.specs.Acting.{AnswersTimed as AnswersAct};
 ghost use Rattle.ml_acts.specs.Asked.{IsDamagedOf, Undigested};
 ghost use Rattle.ml_acts.specs.Doing.{Alike, DoesList, HasIdsUpTo, HasRoom};
-ghost use Rattle.ml_acts.specs.Growing.{IsGrown, is_of_time};
+ghost use Rattle.ml_acts.specs.Growing.{is_of_time};
 ghost use Rattle.ml_timed.specs.Found.{FoundInRun};
-ghost use Rattle.ml_acts.specs.Spelled.{DamagesNothing};
 ghost use Rattle.ml_timed.specs.Digesting.{AgreesIfRead, IsDamagedInRun};
 ghost use Rattle.ml_timed.specs.Reads.{is_of_timed, is_seen_in_timed};
+ghost use Rattle.ml_timed.specs.Parts.{AnswersPart};
 
 use crate::digests::make_digest;
 use crate::follow_ups::follow_all_up;
@@ -75,11 +74,8 @@ fn run<F: Files>(
     ensures reply { IsTrue F.tells → IfOk result (λ reply. (dir : Dir) (p : Plain) → Alike (is_seen_in_timed config.now.flags.d) (F.map (files_below files.old)) dir → IsList (with_puts dir (puts_over files.old)) p → p.config ≡ config.now → reply ≡ answers.timed ((spec.after_timed now.seconds p).queue.next - p.queue.next)) }
     ensures kept { IfOk result (λ reply. is_kept reply ≡ true) }
     ensures agrees { IsTrue F.tells → IfOk result (λ _. config.now.flags.d ≡ true → AgreesIfRead (with_puts (F.map (files_below files.old)) (puts_over files.old))) }
-    ensures harmless { IsTrue F.tells → DamagesNothing (with_puts (F.map (files_below files.old)) (puts_over files.old)) (with_puts (F.map (files_below files.old)) (puts_over files.new)) }
-    ensures grown { IsGrown is_of_time (puts_over files.old) (puts_over files.new) }
     ensures found { IsTrue F.tells → IfOk result (λ _. FoundInRun (F.map (files_below files.old)) (puts_over files.old) (puts_over files.new)) }
-    ensures names { NamesDamaged ⟦<F as Files>⟧ (λ name. is_of_timed config.now.flags.d name ≡ true) (IsDamagedInRun (with_puts (F.map (files_below files.old)) (puts_over files.old)) (with_puts (F.map (files_below files.old)) (puts_over files.new))) result }
-    ensures reads { IsReading ⟦<F as Files>⟧ (files_below files.old) (files_below files.new) result }
+    ensures part { AnswersPart is_of_time ⟦<F as Files>⟧ (λ name. is_of_timed config.now.flags.d name ≡ true) IsDamagedInRun files.old files.new result }
 {
     let before = next_id(alloc, files)?;
     all_parts(alloc, files, config, now)?;
@@ -95,14 +91,11 @@ fn all_parts<F: Files>(
     now: Moment,
 ) -> Result<(), PartError>
     requires room { IsTrue F.tells → HasIdsUpTo (with_puts (F.map (files_below files.now)) (puts_over files.now)) 999_999_999_997_000 }
-    ensures value { IsTrue F.tells → IfOk result (λ _. (dir : Dir) (p : Plain) → Alike (is_seen_in_timed config.now.flags.d) (F.map (files_below files.old)) dir → IsList (with_puts dir (puts_over files.old)) p → p.config ≡ config.now → IsList (with_puts dir (puts_over files.new)) (spec.after_timed now.seconds p)) }
+    ensures apart { IsTrue F.tells → IfOk result (λ _. (dir : Dir) (p : Plain) → Alike (is_seen_in_timed config.now.flags.d) (F.map (files_below files.old)) dir → IsList (with_puts dir (puts_over files.old)) p → p.config ≡ config.now → IsList (with_puts dir (puts_over files.new)) (spec.after_timed now.seconds p)) }
     ensures agrees { IsTrue F.tells → IfOk result (λ _. config.now.flags.d ≡ true → AgreesIfRead (with_puts (F.map (files_below files.old)) (puts_over files.old))) }
     ensures room { IsTrue F.tells → IfOk result (λ _. HasIdsUpTo (with_puts (F.map (files_below files.old)) (puts_over files.new)) 1_000_000_000_000_001) }
-    ensures harmless { IsTrue F.tells → DamagesNothing (with_puts (F.map (files_below files.old)) (puts_over files.old)) (with_puts (F.map (files_below files.old)) (puts_over files.new)) }
-    ensures grown { IsGrown is_of_time (puts_over files.old) (puts_over files.new) }
     ensures found { IsTrue F.tells → IfOk result (λ _. FoundInRun (F.map (files_below files.old)) (puts_over files.old) (puts_over files.new)) }
-    ensures names { NamesDamaged ⟦<F as Files>⟧ (λ name. is_of_timed config.now.flags.d name ≡ true) (IsDamagedInRun (with_puts (F.map (files_below files.old)) (puts_over files.old)) (with_puts (F.map (files_below files.old)) (puts_over files.new))) result }
-    ensures reads { IsReading ⟦<F as Files>⟧ (files_below files.old) (files_below files.new) result }
+    ensures part { AnswersPart is_of_time ⟦<F as Files>⟧ (λ name. is_of_timed config.now.flags.d name ≡ true) IsDamagedInRun files.old files.new result }
 {
     give_old_back(alloc, files, config, now)?;
     make_digest(alloc, files, config, now)?;

@@ -69,7 +69,7 @@ fn group_of<F: Files>(
 ) -> Result<Entries, PartError>
     requires few { count ≤ 99_999_999 }
     requires counted { IsTrue F.tells → IsNumberFile (F.map files.now number_name) count }
-    ensures value { IsTrue F.tells → IfOk result (λ entries. (dir : Dir) (p : Plain) → Alike is_of_posts_seen (F.map files.old) dir → IsList dir p → count ≡ length p.posts → entries ≡ archive.index_of group p.posts) }
+    ensures apart { IsTrue F.tells → IfOk result (λ entries. (dir : Dir) (p : Plain) → Alike is_of_posts_seen (F.map files.old) dir → IsList dir p → count ≡ length p.posts → entries ≡ archive.index_of group p.posts) }
     ensures short { IfOk result (λ entries. waiting.are_short entries ≡ true) }
     ensures agrees { IsTrue F.tells → IfOk result (λ _. group ≡ count / 100 → ¬ IsTooSmall (F.map files.old)) }
     ensures names { NamesDamaged ⟦<F as Files>⟧ (λ name. is_of_posts_told name ≡ true) (IsDamagedGroup (F.map files.old) group count) result }

@@ -1,10 +1,9 @@
-use Rattle.std.proofs.Common.{◌≡◌, refl, sym, subst, ap, ◌∙◌, List, true}
+use Rattle.std.proofs.Common.{◌≡◌, refl, sym, subst, ap, ◌∙◌, List}
 use Rattle.std.proofs.lemmas.Bool.{or_left, or_right}
 use Rattle.ml_address.specs.declared.Path.{Path}
 use Rattle.ml_base.specs.Bytes.{Text}
 use Rattle.ml_base.specs.Dir.{Dir, with_puts, same_name}
 use Rattle.ml_base.specs.declared.names.Set.TheVariants as sets
-use Rattle.ml_base.proofs.ReadingLemmas.{kept_read, reading_then}
 use Rattle.ml_config.specs.declared.configuration.Config.{Config}
 use Rattle.ml_plain.specs.Directory.{IsList}
 use Rattle.ml_plain.specs.Mailing.{digest_path, send}
@@ -12,14 +11,13 @@ use Rattle.ml_acts.specs.Doing.{is_bucket}
 use Rattle.ml_acts.proofs.Damages.{ok_then}
 use Rattle.ml_queue.specs.Answers.{ids_name}
 use Rattle.ml_acts.specs.Damaged.{IsDamaged}
-use Rattle.ml_acts.proofs.Asked.{named_as}
-use Rattle.ml_timed.specs.Reads.{is_of_issue}
 use Rattle.ml_queue.specs.declared.entries.Out.{Out}
 use Rattle.ml_acts.specs.Found.{QueuesOut}
+use Rattle.ml_timed.proofs.Joined.{names_after, one_kept, reads_then}
 use Rattle.ml_timed.proofs.digests.mail_issue.Goals as goal
 
-pub returns-clause-value : goal.returns-clause-value
-returns-clause-value g c told =
+pub returns-clause-apart : goal.returns-clause-apart
+returns-clause-apart g c told =
     let same_map = g.met.F.Files.kept_map c.args.files.now c.recipients.new.files told c.recipients.ensures.reads.kept in
     ok_then c.send.result
     (λ txn value dir p alike is same.
@@ -31,15 +29,11 @@ returns-clause-value g c told =
     (c.send.ensures.apart told)
 
 pub returns-clause-reads : goal.returns-clause-reads
-returns-clause-reads g c =
-    reading_then g.F.Files g.met.F.Files.kept_then c.args.files.now c.recipients.new.files c.send.new.files c.send.result
-    (kept_read g.F.Files c.args.files.now c.recipients.new.files c.recipients.result c.recipients.ensures.reads) c.send.ensures.reads
+returns-clause-reads g c = reads_then g.met.F.Files.kept_then c.recipients.ensures.reads c.send.ensures.reads
 
 pub returns-clause-names : goal.returns-clause-names
 returns-clause-names g c =
-    let dir = g.F.Files.map c.args.files.now in
-    named_as g.F.Files (λ name. is_of_issue name ≡ true) _ dir (g.F.Files.map c.recipients.new.files) (λ name. same_name name ids_name ≡ true) IsDamaged (IsDamaged dir)
-    (λ told. g.met.F.Files.kept_map c.args.files.now c.recipients.new.files told c.recipients.ensures.reads.kept) (λ name e. or_right (is_bucket sets.Digest name) (same_name name ids_name) e) (λ name e bad. bad) c.send.ensures.names
+    names_after IsDamaged g.met.F.Files.kept_map (one_kept c.recipients.ensures.reads) (λ name e. or_right (is_bucket sets.Digest name) (same_name name ids_name) e) (λ told name e bad. bad) c.send.ensures.names
 
 pub returns-clause-found : goal.returns-clause-found
 returns-clause-found g c told =

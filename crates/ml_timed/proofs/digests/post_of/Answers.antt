@@ -27,8 +27,8 @@ returns-in-None-clause-names g c =
       damaged = λ told. absurd (not_there dir n (subst (λ (o : Option Post). IsPostByFiles dir n o) c.in-None.is (c.in_ok-post.ensures.read told)) c.requires.from_one (c.requires.counted told));
     }
 
-pub returns-in-Some-clause-value : goal.returns-in-Some-clause-value
-returns-in-Some-clause-value g c told dir p alike is = (
+pub returns-in-Some-clause-apart : goal.returns-in-Some-clause-apart
+returns-in-Some-clause-apart g c told dir p alike is = (
   c.in-Some.post,
   sym (c.in_ok-post.ensures.value told p.posts (posts_back (g.F.Files.map c.args.files.now) dir p.posts alike (is.archive).filed)) ∙ c.in-Some.is,
   refl,

@@ -1,16 +1,16 @@
-use Rattle.std.proofs.Common.{◌≡◌, true, ◌+◌, ◌-◌, ℕ, map, take, drop, length, [], ◌∷◌, List, sym, ap, ◌∙◌, subst, arith, rules}
+use Rattle.std.proofs.Common.{◌≡◌, ◌+◌, ◌-◌, ℕ, map, take, drop, length, [], ◌∷◌, List, sym, ap, ◌∙◌, subst, arith, rules}
 use Rattle.std.proofs.lemmas.List.{length-append}
 use Rattle.ml_base.specs.Dir.{Dir}
 use Rattle.ml_base.proofs.ReadingLemmas.{kept_read, kept_self, kept_then}
 use Rattle.ml_filing.specs.Archive.{IsNumberFile, number_name}
 use Rattle.ml_digest.specs.declared.posts.DigestPost.{DigestPost}
 use Rattle.ml_plain.specs.Timing.{digest_post}
-use Rattle.ml_acts.proofs.Asked.{named_as}
 use Rattle.ml_timed.specs.Digesting.{IsDamagedWithin}
-use Rattle.ml_timed.specs.Reads.{is_of_posts_seen, is_of_posts_told}
+use Rattle.ml_timed.specs.Reads.{is_of_posts_seen}
 use Rattle.ml_timed.proofs.Apart.{alike_kept}
 use Rattle.ml_timed.proofs.Posted.{one_more}
 use Rattle.ml_timed.proofs.Within.{within_more}
+use Rattle.ml_timed.proofs.Joined.{names_after, names_err}
 use Rattle.ml_timed.proofs.digests.posts_in.Goals as goal
 
 pub loop-number-init : goal.loop-number-init
@@ -51,11 +51,11 @@ loop-number-preserved g c =
       posts = λ told dir p alike is.
           let same = g.met.F.Files.kept_map c.args.files.now c.loop-number.files told before.read.kept in
           one_more p.posts c.args.range.first c.loop-number.number c.loop-number.posts c.push.new.self c.in_ok-post_of.field-0 low from (before.posts told dir p alike is)
-          (c.in_ok-post_of.ensures.value told dir p (alike_kept is_of_posts_seen (g.F.Files.map c.args.files.now) (g.F.Files.map c.loop-number.files) dir same alike) is) more;
+          (c.in_ok-post_of.ensures.apart told dir p (alike_kept is_of_posts_seen (g.F.Files.map c.args.files.now) (g.F.Files.map c.loop-number.files) dir same alike) is) more;
     }
 
-pub returns-clause-value : goal.returns-clause-value
-returns-clause-value g c told dir p alike is =
+pub returns-clause-apart : goal.returns-clause-apart
+returns-clause-apart g c told dir p alike is =
     let up = c.loop-number.invariant.up in
     let past = c.loop-number-test.false in
     let same : c.loop-number.number ≡ c.args.range.last + 1 = omega (arith, up, past) in
@@ -63,14 +63,11 @@ returns-clause-value g c told dir p alike is =
 
 pub returns-in_err-post_of-clause-names : goal.returns-in_err-post_of-clause-names
 returns-in_err-post_of-clause-names g c =
-    let dir = g.F.Files.map c.args.files.now in
     let n = c.loop-number.number in
-    let range = c.args.range in
     let from = c.loop-number.invariant.from in
     let here = c.loop-number-test.true in
-    let names = named_as g.F.Files (λ name. is_of_posts_told name ≡ true) _ dir (g.F.Files.map c.loop-number.files) (λ name. is_of_posts_told name ≡ true) (λ d. IsDamagedWithin d n n) (IsDamagedWithin dir range.first range.last)
-    (λ told. g.met.F.Files.kept_map c.args.files.now c.loop-number.files told c.loop-number.invariant.read.kept) (λ name e. e) (λ name e bad. within_more dir n range.first range.last name from here bad) c.in_err-post_of.ensures.names in
-    search rules
+    names_err (names_after (λ d. IsDamagedWithin d n n) g.met.F.Files.kept_map c.loop-number.invariant.read (λ name e. e)
+    (λ told name e bad. within_more (g.F.Files.map c.args.files.now) n c.args.range.first c.args.range.last name from here bad) c.in_err-post_of.ensures.names) (search rules)
 
 pub post_of-requires-clause-counted : goal.post_of-requires-clause-counted
 post_of-requires-clause-counted g c told =

@@ -1,32 +1,26 @@
 use Rattle.std.proofs.Common.{◌≡◌, inl, inr, true, refl, sym, rules}
-use Rattle.ml_acts.specs.Asked.{IsDamagedOf, Undigested}
 use Rattle.ml_acts.specs.Damaged.{ahead, mark, number}
-use Rattle.ml_acts.proofs.Asked.{named_as, other_name}
+use Rattle.ml_acts.proofs.Asked.{other_name}
 use Rattle.ml_filing.specs.Answers.{IsNoNumber}
 use Rattle.ml_base.specs.declared.names.Name.{Name}
-use Rattle.ml_digest.specs.Due.{IsNoMark, mark_name}
+use Rattle.ml_digest.specs.Due.{mark_name}
 use Rattle.ml_timed.specs.Reads.{is_of_progress}
-use Rattle.ml_base.proofs.ReadingLemmas.{kept_then, kept_read, reading_then, reading_ok}
 use Rattle.ml_timed.proofs.digests.progress.Goals as goal
 use Rattle.ml_timed.proofs.digests.progress.Goals.{then-mark-count-via-then-mark-count, then-mark-count-via-else-mark-count+then-mark}
 use Rattle.ml_filing.specs.Archive.{IsNumberFile, number_name}
 use Rattle.ml_base.specs.Dir.{Dir}
 use Rattle.std.proofs.Common.{subst}
+use Rattle.ml_timed.proofs.Joined.{both_kept, names_after, names_err, names_so, one_kept, reads_beside, reads_ok, reads_then}
 
 pub returns-in_err-mark-clause-names : goal.returns-in_err-mark-clause-names
 returns-in_err-mark-clause-names g c =
-    let dir = g.F.Files.map c.args.files.now in
-    let names = named_as g.F.Files (λ name. is_of_progress name ≡ true) _ dir dir (λ name. name ≡ mark_name) (λ d _. IsNoMark d) (IsDamagedOf dir Undigested) (λ told. refl)
-    (λ name e. subst (λ (a : Name). is_of_progress a ≡ true) (sym e) refl) (λ name e no. record { damaged = mark e no; own = λ of. absurd (other_name name mark_name refl e of) }) c.in_err-mark.ensures.names in
-    search rules
+    names_err (names_so (λ name e. subst (λ (a : Name). is_of_progress a ≡ true) (sym e) refl)
+    (λ name e no. record { damaged = mark e no; own = λ of. absurd (other_name name mark_name refl e of) }) c.in_err-mark.ensures.names) (search rules)
 
 pub returns-in_err-count-clause-names : goal.returns-in_err-count-clause-names
 returns-in_err-count-clause-names g c =
-    let dir = g.F.Files.map c.args.files.now in
-    let names = named_as g.F.Files (λ name. is_of_progress name ≡ true) _ dir (g.F.Files.map c.mark.new.files) (λ name. name ≡ number_name) (λ d _. IsNoNumber d) (IsDamagedOf dir Undigested)
-    (λ told. g.met.F.Files.kept_map c.args.files.now c.mark.new.files told c.mark.ensures.reads.kept) (λ name e. subst (λ (a : Name). is_of_progress a ≡ true) (sym e) refl)
-    (λ name e none. record { damaged = number e none; own = λ of. inl (e, inl none) }) c.in_err-count.ensures.names in
-    search rules
+    names_err (names_after (λ d _. IsNoNumber d) g.met.F.Files.kept_map (one_kept c.mark.ensures.reads) (λ name e. subst (λ (a : Name). is_of_progress a ≡ true) (sym e) refl)
+    (λ told name e none. record { damaged = number e none; own = λ of. inl (e, inl none) }) c.in_err-count.ensures.names) (search rules)
 
 pub returns-then-mark-count-clause-names : goal.returns-then-mark-count-clause-names
 returns-then-mark-count-clause-names g c = record {
@@ -48,18 +42,11 @@ returns-clause-read g c told =
 
 pub returns-in_err-count-clause-reads : goal.returns-in_err-count-clause-reads
 returns-in_err-count-clause-reads g c =
-    let one = kept_read g.F.Files c.args.files.now c.mark.new.files c.mark.result c.mark.ensures.reads in
-    let read = reading_then g.F.Files g.met.F.Files.kept_then c.args.files.now c.mark.new.files c.count.new.files c.count.result one c.count.ensures.reads in
+    let read = reads_then g.met.F.Files.kept_then c.mark.ensures.reads c.count.ensures.reads in
     search rules
 
 pub returns-then-mark-count-clause-reads : goal.returns-then-mark-count-clause-reads
-returns-then-mark-count-clause-reads g c =
-    let one = kept_read g.F.Files c.args.files.now c.mark.new.files c.mark.result c.mark.ensures.reads in
-    let two = kept_then g.F.Files g.met.F.Files.kept_then c.args.files.now c.mark.new.files c.count.new.files one (kept_read g.F.Files c.mark.new.files c.count.new.files c.count.result c.count.ensures.reads) in
-    record { kept = two.kept; later = two.later; cause = λ bad. absurd (search rules) }
+returns-then-mark-count-clause-reads g c = reads_beside (both_kept g.met.F.Files.kept_then c.mark.ensures.reads c.count.ensures.reads) (λ bad. search rules)
 
 pub returns-clause-reads : goal.returns-clause-reads
-returns-clause-reads g c =
-    let one = kept_read g.F.Files c.args.files.now c.mark.new.files c.mark.result c.mark.ensures.reads in
-    let two = kept_then g.F.Files g.met.F.Files.kept_then c.args.files.now c.mark.new.files c.count.new.files one (kept_read g.F.Files c.mark.new.files c.count.new.files c.count.result c.count.ensures.reads) in
-    reading_ok g.F.Files c.args.files.now c.count.new.files _ two
+returns-clause-reads g c = reads_ok (both_kept g.met.F.Files.kept_then c.mark.ensures.reads c.count.ensures.reads)

@@ -5,8 +5,8 @@ use Rattle.ml_timed.proofs.Issued.{range_is, range_there}
 use Rattle.ml_timed.proofs.Short.{short_at, short_taken}
 use Rattle.ml_timed.proofs.digests.range_due.Goals as goal
 
-pub returns-clause-value : goal.returns-clause-value
-returns-clause-value g c told dir p alike is marked size =
+pub returns-clause-apart : goal.returns-clause-apart
+returns-clause-apart g c told dir p alike is marked size =
     let same = ap (λ (t : List ℕ). take 100 t) c.as_slice.ensures ∙ c.in_ok-found.ensures.sizes told dir p alike is size in
     c.due.ensures.value ∙ range_is p c.args.mark.now c.as_slice.result.now c.front-sizes.result.now c.args.count c.in_ok-found.found.oldest c.args.now marked size c.front-sizes.ensures.cut same (c.in_ok-found.ensures.oldest told dir p alike is size)
 

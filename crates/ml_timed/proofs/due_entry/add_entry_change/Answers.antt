@@ -14,8 +14,8 @@ returns-in_err-more-clause-names g c =
     let names = entry_named g.F.Files (λ name. is_entry_of c.args.set who name ≡ true) _ (g.F.Files.map c.args.files.now) c.args.set who c.requires.ledger (λ name e. e) c.in_err-more.ensures.names in
     search rules
 
-pub returns-clause-value : goal.returns-clause-value
-returns-clause-value g c tells dir p e alike is found =
+pub returns-clause-apart : goal.returns-clause-apart
+returns-clause-apart g c tells dir p e alike is found =
     let old = g.F.Files.map c.args.files.now in
     both_changed dir c.args.set (key (action_key c.args.action.now)) c.args.txn c.in_ok-more.more c.join.new.self c.requires.ledger c.requires.queue
     c.in_ok-more.ensures.others c.in_ok-join.ensures.ok c.args.now.seconds e p is found

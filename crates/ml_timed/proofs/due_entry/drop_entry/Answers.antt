@@ -13,8 +13,8 @@ use Rattle.ml_timed.proofs.Changed.{draws_none, file_timed, is_key_file, ledger_
 use Rattle.ml_timed.proofs.Written.{forgotten_spelled}
 use Rattle.ml_timed.proofs.due_entry.drop_entry.Goals as goal
 
-pub returns-clause-value : goal.returns-clause-value
-returns-clause-value g c tells =
+pub returns-clause-apart : goal.returns-clause-apart
+returns-clause-apart g c tells =
     let old = g.F.Files.map c.args.files.now in
     let set = c.args.set in
     let k = key c.args.who.now in

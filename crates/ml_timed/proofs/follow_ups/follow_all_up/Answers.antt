@@ -4,11 +4,10 @@ use Rattle.ml_base.specs.Bytes.{Text}
 use Rattle.ml_base.specs.Dir.{Dir, with_puts}
 use Rattle.ml_base.specs.Drawn.{IsCounter}
 use Rattle.ml_base.specs.Layers.{files_below, puts_over}
-use Rattle.ml_base.specs.ReadFiles.{AreKept, IsReading}
+use Rattle.ml_base.specs.declared.names.Name.{Name}
 use Rattle.ml_base.specs.declared.names.Set.TheVariants as sets
 use Rattle.ml_base.specs.declared.puts.Put.{Put}
-use Rattle.ml_base.proofs.ReadingLemmas.{kept_read, kept_then, reading_then, reading_ok}
-use Rattle.ml_bounce.specs.Answers.{IsBadFile, IsFileName}
+use Rattle.ml_bounce.specs.Answers.{IsBadFile}
 use Rattle.ml_bounce.specs.Files.{IsLedger}
 use Rattle.ml_bounce.specs.declared.actions.Action.{Action}
 use Rattle.ml_config.specs.KeyFile.{IsKeyFile, key_name}
@@ -16,36 +15,20 @@ use Rattle.ml_plain.specs.Directory.{IsList}
 use Rattle.ml_plain.specs.Plain.{Plain}
 use Rattle.ml_queue.specs.Answers.{ids_name}
 use Rattle.ml_acts.specs.Damaged.{IsNoKeys}
-use Rattle.ml_acts.specs.Growing.{IsGrown}
-use Rattle.ml_timed.specs.Found.{is_followed_up}
+use Rattle.ml_acts.specs.Damaged as damage
 use Rattle.ml_acts.proofs.Apart.{alike_fewer}
-use Rattle.ml_acts.proofs.Damages.{keys_named, ok_then}
-use Rattle.ml_acts.proofs.Grown.{grown_then}
+use Rattle.ml_acts.proofs.Damages.{ok_then}
 use Rattle.ml_timed.specs.Ahead.{HasIdsFor, IsAhead}
 use Rattle.ml_timed.specs.Reads.{is_followed_by, is_of_following}
 use Rattle.ml_timed.proofs.Apart.{alike_kept, alike_laid, ledger_over}
 use Rattle.ml_timed.proofs.Amid.{ids_left, ids_more, none_left}
-use Rattle.ml_timed.proofs.Named.{followed_of, ledger_named, names_below, names_over}
+use Rattle.ml_timed.proofs.Named.{followed_of, ledger_read}
 use Rattle.ml_timed.proofs.Whole.{ahead_digest, ahead_list, digest_due, few_due, halfway, ids_due, in_none, in_two, list_due}
-use Rattle.ml_acts.proofs.Harmless.{harmless_same, harmless_then}
+use Rattle.ml_timed.proofs.Parts.{has_laid, laid_none, laid_self, laid_then, only_read, part_after, part_err, part_ok, part_read, read_then}
 use Rattle.ml_timed.proofs.follow_ups.follow_all_up.Goals as goal
 
-pub returns-in_err-list-clause-names : goal.returns-in_err-list-clause-names
-returns-in_err-list-clause-names g c =
-    let bad = ledger_named g.F.Files _ (with_puts (g.F.Files.map (files_below c.args.files.now)) (puts_over c.args.files.now)) sets.List refl (names_below _ g.F.Files (IsFileName sets.List) (IsBadFile (with_puts (g.F.Files.map (files_below c.args.files.now)) (puts_over c.args.files.now)) sets.List) _ (λ t. t) c.in_err-list.ensures.names) in
-    let names = names_over g.F.Files _ (with_puts (g.F.Files.map (files_below c.args.files.now)) (puts_over c.due.new.files)) (with_puts (g.F.Files.map (files_below c.args.files.now)) (puts_over c.args.files.now)) (λ name. is_of_following name ≡ true) (λ name. is_of_following name ≡ true) (λ name e. e)
-    (λ tells. ap (with_puts (g.F.Files.map (files_below c.args.files.now))) (sym c.due.ensures.reads.kept.1)) bad in
-    search rules
-
-pub returns-in_err-digest-clause-names : goal.returns-in_err-digest-clause-names
-returns-in_err-digest-clause-names g c =
-    let bad = ledger_named g.F.Files _ (with_puts (g.F.Files.map (files_below c.due.new.files)) (puts_over c.due.new.files)) sets.Digest refl (names_below _ g.F.Files (IsFileName sets.Digest) (IsBadFile (with_puts (g.F.Files.map (files_below c.due.new.files)) (puts_over c.due.new.files)) sets.Digest) _ (λ t. t) c.in_err-digest.ensures.names) in
-    let names = names_over g.F.Files _ (with_puts (g.F.Files.map (files_below c.args.files.now)) (puts_over c.due-2.new.files)) (with_puts (g.F.Files.map (files_below c.due.new.files)) (puts_over c.due.new.files)) (λ name. is_of_following name ≡ true) (λ name. is_of_following name ≡ true) (λ name e. e)
-    (λ tells. ap₂ with_puts (g.met.F.Files.kept_map (files_below c.args.files.now) (files_below c.due.new.files) tells c.due.ensures.reads.kept.0) (sym c.due-2.ensures.reads.kept.1)) bad in
-    search rules
-
-pub returns-then-is_empty-2-clause-value : goal.returns-then-is_empty-2-clause-value
-returns-then-is_empty-2-clause-value g c tells dir p alike is config =
+pub returns-then-is_empty-2-clause-apart : goal.returns-then-is_empty-2-clause-apart
+returns-then-is_empty-2-clause-apart g c tells dir p alike is config =
     let below = g.F.Files.map (files_below c.args.files.now) in
     let puts = puts_over c.args.files.now in
     let left : c.saturating_sub-left.result ≡ 1000 - length c.in_ok-list.list = omega (arith, c.saturating_sub-left.ensures, ap length c.as_slice.ensures) in
@@ -56,51 +39,12 @@ returns-then-is_empty-2-clause-value g c tells dir p alike is config =
     no_list no_digest in
     subst (λ (q : Plain). IsList (with_puts dir (puts_over c.due-2.new.files)) q) (sym none) (subst (λ (puts : List Put). IsList (with_puts dir puts) p) (sym (c.due-2.ensures.reads.kept.1 ∙ c.due.ensures.reads.kept.1)) is)
 
-pub returns-in_err-keys-clause-names : goal.returns-in_err-keys-clause-names
-returns-in_err-keys-clause-names g c =
-    let bad = keys_named g.F.Files (λ name. is_of_following name ≡ true) _ (with_puts (g.F.Files.map (files_below c.due-2.new.files)) (puts_over c.due-2.new.files)) refl (names_below _ g.F.Files (λ name. name ≡ key_name) (λ _. IsNoKeys (with_puts (g.F.Files.map (files_below c.due-2.new.files)) (puts_over c.due-2.new.files))) _ (λ t. t) c.in_err-keys.ensures.names) in
-    let names = names_over g.F.Files _ (with_puts (g.F.Files.map (files_below c.args.files.now)) (puts_over c.key.new.files)) (with_puts (g.F.Files.map (files_below c.due-2.new.files)) (puts_over c.due-2.new.files)) (λ name. is_of_following name ≡ true) (λ name. is_of_following name ≡ true) (λ name e. e)
-    (λ tells. ap₂ with_puts (g.met.F.Files.kept_map (files_below c.due.new.files) (files_below c.due-2.new.files) tells c.due-2.ensures.reads.kept.0 ∙ g.met.F.Files.kept_map (files_below c.args.files.now) (files_below c.due.new.files) tells c.due.ensures.reads.kept.0) (sym c.key.ensures.reads.kept.1)) bad in
-    search rules
-
 pub follow_each-requires-clause-room : goal.follow_each-requires-clause-room
 follow_each-requires-clause-room g c tells =
     let n = length c.as_slice-3.result.now in
     let due = c.in_ok-list.ensures.read tells in
     let few : n ≤ 1000 = omega (arith, ap length c.as_slice-3.ensures, few_due c.args.now.seconds 1000 due.0 c.in_ok-list.list due.2) in
     subst (λ (d : Dir). HasIdsFor d n) (sym (ap₂ with_puts (g.met.F.Files.kept_map (files_below c.due-2.new.files) (files_below c.key.new.files) tells c.key.ensures.reads.kept.0 ∙ g.met.F.Files.kept_map (files_below c.due.new.files) (files_below c.due-2.new.files) tells c.due-2.ensures.reads.kept.0 ∙ g.met.F.Files.kept_map (files_below c.args.files.now) (files_below c.due.new.files) tells c.due.ensures.reads.kept.0) (c.key.ensures.reads.kept.1 ∙ c.due-2.ensures.reads.kept.1 ∙ c.due.ensures.reads.kept.1))) (ids_due (with_puts (g.F.Files.map (files_below c.args.files.now)) (puts_over c.args.files.now)) n (c.requires.room tells) few)
-
-pub returns-in_err-list-clause-harmless : goal.returns-in_err-list-clause-harmless
-returns-in_err-list-clause-harmless g c tells =
-    harmless_same (g.F.Files.map (files_below c.args.files.now)) (puts_over c.args.files.now) (puts_over c.due.new.files) (c.due.ensures.reads.kept.1)
-
-pub returns-in_err-digest-clause-harmless : goal.returns-in_err-digest-clause-harmless
-returns-in_err-digest-clause-harmless g c tells =
-    harmless_same (g.F.Files.map (files_below c.args.files.now)) (puts_over c.args.files.now) (puts_over c.due-2.new.files) (c.due-2.ensures.reads.kept.1 ∙ c.due.ensures.reads.kept.1)
-
-pub returns-then-is_empty-2-clause-harmless : goal.returns-then-is_empty-2-clause-harmless
-returns-then-is_empty-2-clause-harmless g c tells =
-    harmless_same (g.F.Files.map (files_below c.args.files.now)) (puts_over c.args.files.now) (puts_over c.due-2.new.files) (c.due-2.ensures.reads.kept.1 ∙ c.due.ensures.reads.kept.1)
-
-pub returns-in_err-keys-clause-harmless : goal.returns-in_err-keys-clause-harmless
-returns-in_err-keys-clause-harmless g c tells =
-    harmless_same (g.F.Files.map (files_below c.args.files.now)) (puts_over c.args.files.now) (puts_over c.key.new.files) (c.key.ensures.reads.kept.1 ∙ c.due-2.ensures.reads.kept.1 ∙ c.due.ensures.reads.kept.1)
-
-pub returns-in_err-follow_each-clause-harmless : goal.returns-in_err-follow_each-clause-harmless
-returns-in_err-follow_each-clause-harmless g c tells =
-    let maps = g.met.F.Files.kept_map (files_below c.due-2.new.files) (files_below c.key.new.files) tells c.key.ensures.reads.kept.0 ∙ g.met.F.Files.kept_map (files_below c.due.new.files) (files_below c.due-2.new.files) tells c.due-2.ensures.reads.kept.0 ∙ g.met.F.Files.kept_map (files_below c.args.files.now) (files_below c.due.new.files) tells c.due.ensures.reads.kept.0 in
-    harmless_then (g.F.Files.map (files_below c.args.files.now)) (g.F.Files.map (files_below c.key.new.files)) (puts_over c.args.files.now) (puts_over c.key.new.files) (puts_over c.follow_each.new.files) maps
-    (harmless_same (g.F.Files.map (files_below c.args.files.now)) (puts_over c.args.files.now) (puts_over c.key.new.files) (c.key.ensures.reads.kept.1 ∙ c.due-2.ensures.reads.kept.1 ∙ c.due.ensures.reads.kept.1)) (c.follow_each.ensures.harmless tells)
-
-pub returns-in_err-follow_each-clause-reads : goal.returns-in_err-follow_each-clause-reads
-returns-in_err-follow_each-clause-reads g c =
-    let one : AreKept g.F.Files (files_below c.args.files.now) (files_below c.due.new.files) = (record { kept = c.due.ensures.reads.kept.0; later = c.due.ensures.reads.later }) in
-    let two : AreKept g.F.Files (files_below c.due.new.files) (files_below c.due-2.new.files) = (record { kept = c.due-2.ensures.reads.kept.0; later = c.due-2.ensures.reads.later }) in
-    let three : AreKept g.F.Files (files_below c.due-2.new.files) (files_below c.key.new.files) = (record { kept = c.key.ensures.reads.kept.0; later = c.key.ensures.reads.later }) in
-    let before = kept_then g.F.Files g.met.F.Files.kept_then (files_below c.args.files.now) (files_below c.due-2.new.files) (files_below c.key.new.files)
-    (kept_then g.F.Files g.met.F.Files.kept_then (files_below c.args.files.now) (files_below c.due.new.files) (files_below c.due-2.new.files) one two) three in
-    let read = reading_then g.F.Files g.met.F.Files.kept_then (files_below c.args.files.now) (files_below c.key.new.files) (files_below c.follow_each.new.files) c.follow_each.result before c.follow_each.ensures.reads in
-    search rules
 
 pub follow_each-requires-2-clause-room : goal.follow_each-requires-2-clause-room
 follow_each-requires-2-clause-room g c tells =
@@ -110,18 +54,18 @@ follow_each-requires-2-clause-room g c tells =
     let digest = c.in_ok-digest.ensures.read tells in
     let left : c.saturating_sub-left.result ≡ 1000 - length c.in_ok-list.list = omega (arith, c.saturating_sub-left.ensures, ap length c.as_slice.ensures) in
     let few : a + b ≤ 1000 = omega (arith, left, ap length c.as_slice-3.ensures, ap length c.as_slice-4.ensures, few_due c.args.now.seconds 1000 list.0 c.in_ok-list.list list.2, few_due c.args.now.seconds c.saturating_sub-left.result digest.0 c.in_ok-digest.digest digest.2) in
-    subst (λ (d : Dir). HasIdsFor (with_puts d (puts_over c.follow_each.new.files)) b) (sym (g.met.F.Files.kept_map (files_below c.key.new.files) (files_below c.follow_each.new.files) tells c.follow_each.ensures.reads.kept))
+    subst (λ (d : Dir). HasIdsFor (with_puts d (puts_over c.follow_each.new.files)) b) (sym (g.met.F.Files.kept_map (files_below c.key.new.files) (files_below c.follow_each.new.files) tells c.follow_each.ensures.part.reads.kept))
     (c.in_ok-follow_each.ensures.drawn tells b (subst (λ (d : Dir). HasIdsFor d (a + b)) (sym (ap₂ with_puts (g.met.F.Files.kept_map (files_below c.due-2.new.files) (files_below c.key.new.files) tells c.key.ensures.reads.kept.0 ∙ g.met.F.Files.kept_map (files_below c.due.new.files) (files_below c.due-2.new.files) tells c.due-2.ensures.reads.kept.0 ∙ g.met.F.Files.kept_map (files_below c.args.files.now) (files_below c.due.new.files) tells c.due.ensures.reads.kept.0) (c.key.ensures.reads.kept.1 ∙ c.due-2.ensures.reads.kept.1 ∙ c.due.ensures.reads.kept.1))) (ids_due (with_puts (g.F.Files.map (files_below c.args.files.now)) (puts_over c.args.files.now)) (a + b) (c.requires.room tells) few)))
 
-pub returns-clause-value : goal.returns-clause-value
-returns-clause-value g c tells =
+pub returns-clause-apart : goal.returns-clause-apart
+returns-clause-apart g c tells =
     ok_then c.follow_each-2.result (λ done value dir p alike is config.
     let below = g.F.Files.map (files_below c.args.files.now) in
     let puts = puts_over c.args.files.now in
     let first = g.met.F.Files.kept_map (files_below c.args.files.now) (files_below c.due.new.files) tells c.due.ensures.reads.kept.0 in
     let second = g.met.F.Files.kept_map (files_below c.due.new.files) (files_below c.due-2.new.files) tells c.due-2.ensures.reads.kept.0 ∙ first in
     let third = g.met.F.Files.kept_map (files_below c.due-2.new.files) (files_below c.key.new.files) tells c.key.ensures.reads.kept.0 ∙ second in
-    let fourth = g.met.F.Files.kept_map (files_below c.key.new.files) (files_below c.follow_each.new.files) tells c.follow_each.ensures.reads.kept ∙ third in
+    let fourth = g.met.F.Files.kept_map (files_below c.key.new.files) (files_below c.follow_each.new.files) tells c.follow_each.ensures.part.reads.kept ∙ third in
     let left : c.saturating_sub-left.result ≡ 1000 - length c.as_slice-3.result.now = omega (arith, c.saturating_sub-left.ensures, ap length c.as_slice.ensures, ap length c.as_slice-3.ensures) in
     let list_is = c.as_slice-3.ensures ∙ c.in_ok-list.ensures.value tells p.list_ledger (ledger_over below dir puts sets.List p.list_ledger refl alike is.list_ledger) in
     let is_digest : IsLedger (with_puts (g.F.Files.map (files_below c.due.new.files)) (puts_over c.due.new.files)) 16 p.digest_ledger = subst (λ (d : Dir). IsLedger d 16 p.digest_ledger) (sym (ap₂ with_puts first (c.due.ensures.reads.kept.1))) (ledger_over below dir puts sets.Digest p.digest_ledger refl alike is.digest_ledger) in
@@ -133,7 +77,7 @@ returns-clause-value g c tells =
     let ahead = ahead_list c.args.now.seconds 1000 c.saturating_sub-left.result p c.as_slice-3.result.now c.in_ok-digest.digest list_is left digest_is (with_puts dir (puts_over c.key.new.files)) c.args.config.now c.in_ok-keys.keys start config keys_are in
     let due = list_due c.args.now.seconds 1000 c.saturating_sub-left.result p c.as_slice-3.result.now c.in_ok-digest.digest list_is left digest_is in
     let list_alike = alike_kept (is_followed_by sets.List) below (g.F.Files.map (files_below c.key.new.files)) dir third (alike_fewer (is_followed_by sets.List) is_of_following below dir (followed_of sets.List refl) alike) in
-    let then = c.in_ok-follow_each.ensures.value tells dir p due list_alike ahead in
+    let then = c.in_ok-follow_each.ensures.apart tells dir p due list_alike ahead in
     let next = ahead_digest c.args.now.seconds 1000 c.saturating_sub-left.result p c.as_slice-3.result.now c.in_ok-digest.digest list_is left digest_is (with_puts dir (puts_over c.key.new.files)) (with_puts dir (puts_over c.follow_each.new.files)) c.args.config.now c.in_ok-keys.keys start then config keys_are in
     let next_due = digest_due c.args.now.seconds 1000 c.saturating_sub-left.result p c.as_slice-3.result.now c.in_ok-digest.digest list_is left digest_is in
     let middle = halfway c.args.now.seconds 1000 c.saturating_sub-left.result p c.as_slice-3.result.now c.in_ok-digest.digest list_is left digest_is in
@@ -141,33 +85,7 @@ returns-clause-value g c tells =
     let whole = in_two c.args.now.seconds 1000 c.saturating_sub-left.result p c.as_slice-3.result.now c.in_ok-digest.digest list_is left digest_is in
     let digest_alike = alike_kept (is_followed_by sets.Digest) below (g.F.Files.map (files_below c.follow_each.new.files)) dir fourth (alike_fewer (is_followed_by sets.Digest) is_of_following below dir (followed_of sets.Digest refl) alike) in
     subst (λ (q : Plain). IsList (with_puts dir (puts_over c.follow_each-2.new.files)) q) (sym whole) (value dir middle next_due digest_alike here))
-    (c.follow_each-2.ensures.value tells)
-
-pub returns-clause-harmless : goal.returns-clause-harmless
-returns-clause-harmless g c tells =
-    let maps = g.met.F.Files.kept_map (files_below c.due-2.new.files) (files_below c.key.new.files) tells c.key.ensures.reads.kept.0 ∙ g.met.F.Files.kept_map (files_below c.due.new.files) (files_below c.due-2.new.files) tells c.due-2.ensures.reads.kept.0 ∙ g.met.F.Files.kept_map (files_below c.args.files.now) (files_below c.due.new.files) tells c.due.ensures.reads.kept.0 in
-    let both = g.met.F.Files.kept_map (files_below c.key.new.files) (files_below c.follow_each.new.files) tells c.follow_each.ensures.reads.kept ∙ maps in
-    harmless_then (g.F.Files.map (files_below c.args.files.now)) (g.F.Files.map (files_below c.follow_each.new.files)) (puts_over c.args.files.now) (puts_over c.follow_each.new.files) (puts_over c.follow_each-2.new.files) both
-    (harmless_then (g.F.Files.map (files_below c.args.files.now)) (g.F.Files.map (files_below c.key.new.files)) (puts_over c.args.files.now) (puts_over c.key.new.files) (puts_over c.follow_each.new.files) maps
-    (harmless_same (g.F.Files.map (files_below c.args.files.now)) (puts_over c.args.files.now) (puts_over c.key.new.files) (c.key.ensures.reads.kept.1 ∙ c.due-2.ensures.reads.kept.1 ∙ c.due.ensures.reads.kept.1)) (c.follow_each.ensures.harmless tells))
-    (c.follow_each-2.ensures.harmless tells)
-
-pub returns-clause-grown : goal.returns-clause-grown
-returns-clause-grown g c =
-    grown_then is_followed_up (puts_over c.args.files.now) (puts_over c.follow_each.new.files) (puts_over c.follow_each-2.new.files)
-    (subst (λ (puts : List Put). IsGrown is_followed_up puts (puts_over c.follow_each.new.files)) (c.key.ensures.reads.kept.1 ∙ c.due-2.ensures.reads.kept.1 ∙ c.due.ensures.reads.kept.1) c.follow_each.ensures.grown) c.follow_each-2.ensures.grown
-
-pub returns-clause-reads : goal.returns-clause-reads
-returns-clause-reads g c =
-    let one : AreKept g.F.Files (files_below c.args.files.now) (files_below c.due.new.files) = (record { kept = c.due.ensures.reads.kept.0; later = c.due.ensures.reads.later }) in
-    let two : AreKept g.F.Files (files_below c.due.new.files) (files_below c.due-2.new.files) = (record { kept = c.due-2.ensures.reads.kept.0; later = c.due-2.ensures.reads.later }) in
-    let three : AreKept g.F.Files (files_below c.due-2.new.files) (files_below c.key.new.files) = (record { kept = c.key.ensures.reads.kept.0; later = c.key.ensures.reads.later }) in
-    let before = kept_then g.F.Files g.met.F.Files.kept_then (files_below c.args.files.now) (files_below c.due-2.new.files) (files_below c.key.new.files)
-    (kept_then g.F.Files g.met.F.Files.kept_then (files_below c.args.files.now) (files_below c.due.new.files) (files_below c.due-2.new.files) one two) three in
-    reading_then g.F.Files g.met.F.Files.kept_then (files_below c.args.files.now) (files_below c.follow_each.new.files) (files_below c.follow_each-2.new.files) c.follow_each-2.result
-    (kept_then g.F.Files g.met.F.Files.kept_then (files_below c.args.files.now) (files_below c.key.new.files) (files_below c.follow_each.new.files) before
-    (kept_read g.F.Files (files_below c.key.new.files) (files_below c.follow_each.new.files) c.follow_each.result c.follow_each.ensures.reads))
-    c.follow_each-2.ensures.reads
+    (c.follow_each-2.ensures.apart tells)
 
 pub returns-then-is_empty-2-clause-room : goal.returns-then-is_empty-2-clause-room
 returns-then-is_empty-2-clause-room g c tells low next counted =
@@ -183,7 +101,7 @@ returns-clause-room g c tells =
     let left : c.saturating_sub-left.result ≡ 1000 - length c.in_ok-list.list = omega (arith, c.saturating_sub-left.ensures, ap length c.as_slice.ensures) in
     let few : a + b ≤ 1000 = omega (arith, left, ap length c.as_slice-3.ensures, ap length c.as_slice-4.ensures, few_due c.args.now.seconds 1000 list.0 c.in_ok-list.list list.2, few_due c.args.now.seconds c.saturating_sub-left.result digest.0 c.in_ok-digest.digest digest.2) in
     let maps = g.met.F.Files.kept_map (files_below c.due-2.new.files) (files_below c.key.new.files) tells c.key.ensures.reads.kept.0 ∙ g.met.F.Files.kept_map (files_below c.due.new.files) (files_below c.due-2.new.files) tells c.due-2.ensures.reads.kept.0 ∙ g.met.F.Files.kept_map (files_below c.args.files.now) (files_below c.due.new.files) tells c.due.ensures.reads.kept.0 in
-    let below = g.met.F.Files.kept_map (files_below c.key.new.files) (files_below c.follow_each.new.files) tells c.follow_each.ensures.reads.kept in
+    let below = g.met.F.Files.kept_map (files_below c.key.new.files) (files_below c.follow_each.new.files) tells c.follow_each.ensures.part.reads.kept in
     let over = ap₂ with_puts maps (c.key.ensures.reads.kept.1 ∙ c.due-2.ensures.reads.kept.1 ∙ c.due.ensures.reads.kept.1) in
     let start = subst (λ (d : Dir). HasIdsFor d (a + b)) (sym over) (ids_due (with_puts (g.F.Files.map (files_below c.args.files.now)) (puts_over c.args.files.now)) (a + b) (c.requires.room tells) few) in
     let amid = subst (λ (d : Dir). HasIdsFor (with_puts d (puts_over c.follow_each.new.files)) b) (sym below) (c.in_ok-follow_each.ensures.drawn tells b start) in
@@ -194,23 +112,41 @@ returns-clause-room g c tells =
     (drawn 0 (ids_more (with_puts (g.F.Files.map (files_below c.follow_each.new.files)) (puts_over c.follow_each.new.files)) b amid))))
     (c.follow_each-2.ensures.drawn tells)
 
-pub returns-in_err-digest-clause-reads : goal.returns-in_err-digest-clause-reads
-returns-in_err-digest-clause-reads g c =
-    let one : AreKept g.F.Files (files_below c.args.files.now) (files_below c.due.new.files) = record { kept = c.due.ensures.reads.kept.0; later = c.due.ensures.reads.later } in
-    let two : IsReading g.F.Files (files_below c.due.new.files) (files_below c.due-2.new.files) c.due-2.result = record { kept = c.due-2.ensures.reads.kept.0; later = c.due-2.ensures.reads.later; cause = c.due-2.ensures.reads.cause } in
-    let read = reading_then g.F.Files g.met.F.Files.kept_then (files_below c.args.files.now) (files_below c.due.new.files) (files_below c.due-2.new.files) c.due-2.result one two in
-    search rules
+pub returns-in_err-list-clause-part : goal.returns-in_err-list-clause-part
+returns-in_err-list-clause-part g c =
+    let list = only_read g.F.Files c.args.files.now c.due.new.files c.due.ensures.reads.kept c.due.ensures.reads.later in
+    part_err (part_read (λ d. IsBadFile d sets.List) g.met.F.Files.kept_then g.met.F.Files.kept_map (laid_self g.F.Files g.met.F.Files.kept_self c.args.files.now) list c.in_err-list.ensures.reads.cause (λ t. t) c.in_err-list.ensures.names (ledger_read sets.List refl) (λ name file bad. damage.ledger sets.List refl bad)) (search rules)
 
-pub returns-in_err-keys-clause-reads : goal.returns-in_err-keys-clause-reads
-returns-in_err-keys-clause-reads g c =
-    let one : AreKept g.F.Files (files_below c.args.files.now) (files_below c.due.new.files) = record { kept = c.due.ensures.reads.kept.0; later = c.due.ensures.reads.later } in
-    let two : AreKept g.F.Files (files_below c.due.new.files) (files_below c.due-2.new.files) = record { kept = c.due-2.ensures.reads.kept.0; later = c.due-2.ensures.reads.later } in
-    let three : IsReading g.F.Files (files_below c.due-2.new.files) (files_below c.key.new.files) c.key.result = record { kept = c.key.ensures.reads.kept.0; later = c.key.ensures.reads.later; cause = c.key.ensures.reads.cause } in
-    let read = reading_then g.F.Files g.met.F.Files.kept_then (files_below c.args.files.now) (files_below c.due-2.new.files) (files_below c.key.new.files) c.key.result (kept_then g.F.Files g.met.F.Files.kept_then (files_below c.args.files.now) (files_below c.due.new.files) (files_below c.due-2.new.files) one two) three in
-    search rules
+pub returns-in_err-digest-clause-part : goal.returns-in_err-digest-clause-part
+returns-in_err-digest-clause-part g c =
+    let list = only_read g.F.Files c.args.files.now c.due.new.files c.due.ensures.reads.kept c.due.ensures.reads.later in
+    let digest = only_read g.F.Files c.due.new.files c.due-2.new.files c.due-2.ensures.reads.kept c.due-2.ensures.reads.later in
+    part_err (part_read (λ d. IsBadFile d sets.Digest) g.met.F.Files.kept_then g.met.F.Files.kept_map (laid_none list) digest c.in_err-digest.ensures.reads.cause (λ t. t) c.in_err-digest.ensures.names (ledger_read sets.Digest refl) (λ name file bad. damage.ledger sets.Digest refl bad)) (search rules)
 
-pub returns-then-is_empty-2-clause-reads : goal.returns-then-is_empty-2-clause-reads
-returns-then-is_empty-2-clause-reads g c =
-    let one : AreKept g.F.Files (files_below c.args.files.now) (files_below c.due.new.files) = record { kept = c.due.ensures.reads.kept.0; later = c.due.ensures.reads.later } in
-    let two : AreKept g.F.Files (files_below c.due.new.files) (files_below c.due-2.new.files) = record { kept = c.due-2.ensures.reads.kept.0; later = c.due-2.ensures.reads.later } in
-    reading_ok g.F.Files (files_below c.args.files.now) (files_below c.due-2.new.files) _ (kept_then g.F.Files g.met.F.Files.kept_then (files_below c.args.files.now) (files_below c.due.new.files) (files_below c.due-2.new.files) one two)
+pub returns-then-is_empty-2-clause-part : goal.returns-then-is_empty-2-clause-part
+returns-then-is_empty-2-clause-part g c =
+    let list = only_read g.F.Files c.args.files.now c.due.new.files c.due.ensures.reads.kept c.due.ensures.reads.later in
+    let digest = only_read g.F.Files c.due.new.files c.due-2.new.files c.due-2.ensures.reads.kept c.due-2.ensures.reads.later in
+    part_ok (laid_none (read_then g.met.F.Files.kept_then list digest))
+
+pub returns-in_err-keys-clause-part : goal.returns-in_err-keys-clause-part
+returns-in_err-keys-clause-part g c =
+    let list = only_read g.F.Files c.args.files.now c.due.new.files c.due.ensures.reads.kept c.due.ensures.reads.later in
+    let digest = only_read g.F.Files c.due.new.files c.due-2.new.files c.due-2.ensures.reads.kept c.due-2.ensures.reads.later in
+    let keys = only_read g.F.Files c.due-2.new.files c.key.new.files c.key.ensures.reads.kept c.key.ensures.reads.later in
+    part_err (part_read (λ d _. IsNoKeys d) g.met.F.Files.kept_then g.met.F.Files.kept_map (laid_none (read_then g.met.F.Files.kept_then list digest)) keys c.in_err-keys.ensures.reads.cause (λ t. t) c.in_err-keys.ensures.names
+    (λ name e. subst (λ (a : Name). is_of_following a ≡ true) (sym e) refl) (λ name e no. damage.keys e no)) (search rules)
+
+pub returns-in_err-follow_each-clause-part : goal.returns-in_err-follow_each-clause-part
+returns-in_err-follow_each-clause-part g c =
+    let list = only_read g.F.Files c.args.files.now c.due.new.files c.due.ensures.reads.kept c.due.ensures.reads.later in
+    let digest = only_read g.F.Files c.due.new.files c.due-2.new.files c.due-2.ensures.reads.kept c.due-2.ensures.reads.later in
+    let keys = only_read g.F.Files c.due-2.new.files c.key.new.files c.key.ensures.reads.kept c.key.ensures.reads.later in
+    part_err (part_after g.met.F.Files.kept_then g.met.F.Files.kept_map (laid_none (read_then g.met.F.Files.kept_then (read_then g.met.F.Files.kept_then list digest) keys)) c.in_err-follow_each.ensures.part (λ name e. e) (followed_of sets.List refl) (λ name e bad. bad)) (search rules)
+
+pub returns-clause-part : goal.returns-clause-part
+returns-clause-part g c =
+    let list = only_read g.F.Files c.args.files.now c.due.new.files c.due.ensures.reads.kept c.due.ensures.reads.later in
+    let digest = only_read g.F.Files c.due.new.files c.due-2.new.files c.due-2.ensures.reads.kept c.due-2.ensures.reads.later in
+    let keys = only_read g.F.Files c.due-2.new.files c.key.new.files c.key.ensures.reads.kept c.key.ensures.reads.later in
+    part_after g.met.F.Files.kept_then g.met.F.Files.kept_map (laid_then g.met.F.Files.kept_then g.met.F.Files.kept_map (laid_none (read_then g.met.F.Files.kept_then (read_then g.met.F.Files.kept_then list digest) keys)) (has_laid c.follow_each.ensures.part)) c.follow_each-2.ensures.part (λ name e. e) (followed_of sets.Digest refl) (λ name e bad. bad)

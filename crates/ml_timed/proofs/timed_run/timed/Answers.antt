@@ -32,7 +32,7 @@ returns-in-Ok-clause-value g c told p = returns-in-Ok-clause-apart g c told (g.F
 
 pub returns-in-Ok-clause-act : goal.returns-in-Ok-clause-act
 returns-in-Ok-clause-act g c =
-    let grown = grown_own is_of_time (puts_over c.new-layer.result) (puts_over c.run-answer.new.files) (c.new-layer.ensures.txn ∙ c.new.ensures) c.run-answer.ensures.grown in
+    let grown = grown_own is_of_time (puts_over c.new-layer.result) (puts_over c.run-answer.new.files) (c.new-layer.ensures.txn ∙ c.new.ensures) c.run-answer.ensures.part.grown in
     let own = ap (touches_only is_of_time) c.parts-files.ensures.txn ∙ grown in
     search rules
 
@@ -42,7 +42,7 @@ returns-in-Err-clause-act g c = record {
   files = search rules;
   reply = search rules;
   names = record {
-    named = c.in-Err.ensures.names.named;
+    named = c.in-Err.ensures.part.names.named;
     damaged = λ told.
         let layer = c.new-layer.result in
         let start = with_puts (g.F.Files.map (files_below layer)) (puts_over layer) in
@@ -50,8 +50,8 @@ returns-in-Err-clause-act g c = record {
         let same : start ≡ g.F.Files.map c.args.files = ap₂ (λ (d : Dir) (t : List Put). with_puts d t) (ap g.F.Files.map c.new-layer.ensures.files) (c.new-layer.ensures.txn ∙ c.new.ensures) in
         on_both c.in-Err.error (λ name. is_of_timed c.args.config.now.flags.d name ≡ true) (IsDamagedInRun start now) (IsDamagedOf (g.F.Files.map c.args.files) Undigested)
         (λ name read bad.
-        subst (λ (d : Dir). IsDamagedOf d Undigested name) same (record { damaged = c.run-answer.ensures.harmless told name bad.damaged; own = bad.own }))
-        c.in-Err.ensures.names.named (c.in-Err.ensures.names.damaged told);
+        subst (λ (d : Dir). IsDamagedOf d Undigested name) same (record { damaged = c.run-answer.ensures.part.harmless told name bad.damaged; own = bad.own }))
+        c.in-Err.ensures.part.names.named (c.in-Err.ensures.part.names.damaged told);
   };
   reads = search rules;
 }
@@ -66,8 +66,8 @@ returns-in-Err-clause-spared g c told dir p alike is =
     on_both c.in-Err.error (λ name. is_of_timed digests name ≡ true) (IsDamagedInRun start now) (λ _. ⊥)
     (λ name read bad.
     timed_spared digests (g.F.Files.map c.args.files) dir p is alike name read
-    (subst (λ (d : Dir). IsDamagedOf d Undigested name) same (record { damaged = c.run-answer.ensures.harmless told name bad.damaged; own = bad.own })))
-    c.in-Err.ensures.names.named (c.in-Err.ensures.names.damaged told)
+    (subst (λ (d : Dir). IsDamagedOf d Undigested name) same (record { damaged = c.run-answer.ensures.part.harmless told name bad.damaged; own = bad.own })))
+    c.in-Err.ensures.part.names.named (c.in-Err.ensures.part.names.damaged told)
 
 pub returns-in-Ok-clause-agrees : goal.returns-in-Ok-clause-agrees
 returns-in-Ok-clause-agrees g c told on =

@@ -3,34 +3,31 @@ use Rattle.std.proofs.lemmas.Bool.{false≢true, or_right}
 use Rattle.ml_base.specs.Dir.{same_name}
 use Rattle.ml_base.specs.declared.names.Name.{Name}
 use Rattle.ml_filing.specs.Archive.{number_name}
-use Rattle.ml_acts.specs.Asked.{Group, IsDamagedOf, has_above}
+use Rattle.ml_acts.specs.Asked.{has_above}
 use Rattle.ml_acts.specs.Doing.{is_index}
 use Rattle.ml_acts.proofs.Asked.{group_named}
-use Rattle.ml_acts.proofs.Damages.{named_so}
 use Rattle.ml_acts.proofs.Placed.{index_placed}
-use Rattle.ml_timed.specs.Digesting.{IsDamagedGroup}
 use Rattle.ml_timed.specs.Reads.{is_of_posts_told}
 use Rattle.ml_timed.specs.Waiting.{are_short}
 use Rattle.ml_timed.proofs.Apart.{posts_back}
 use Rattle.ml_timed.proofs.After.{no_group}
 use Rattle.ml_timed.proofs.Counted.{index_there, none_small, small_damaged, too_small}
 use Rattle.ml_timed.proofs.Short.{index_short}
+use Rattle.ml_timed.proofs.Joined.{names_err, names_so}
 use Rattle.ml_timed.proofs.undigested_posts.group_of.Goals as goal
 
-pub returns-then-group-count-clause-value : goal.returns-then-group-count-clause-value
-returns-then-group-count-clause-value g c told dir p alike is size = c.new.ensures ∙ no_group c.args.group c.args.count p.posts size c.if-group-count.true
+pub returns-then-group-count-clause-apart : goal.returns-then-group-count-clause-apart
+returns-then-group-count-clause-apart g c told dir p alike is size = c.new.ensures ∙ no_group c.args.group c.args.count p.posts size c.if-group-count.true
 
-pub returns-clause-value : goal.returns-clause-value
-returns-clause-value g c told dir p alike is size = c.in_ok-entries.ensures.value told p.posts (posts_back (g.F.Files.map c.args.files.now) dir p.posts alike (is.archive).filed)
+pub returns-clause-apart : goal.returns-clause-apart
+returns-clause-apart g c told dir p alike is size = c.in_ok-entries.ensures.value told p.posts (posts_back (g.F.Files.map c.args.files.now) dir p.posts alike (is.archive).filed)
 
 pub returns-in_err-entries-clause-names : goal.returns-in_err-entries-clause-names
 returns-in_err-entries-clause-names g c =
     let dir = g.F.Files.map c.args.files.now in
     let group = c.args.group in
-    let names = named_so g.F.Files (λ name. is_of_posts_told name ≡ true) _ (λ name. is_of_posts_told name ≡ true) (IsDamagedOf dir (Group group)) (IsDamagedGroup dir group c.args.count) (λ name e. e)
-    (λ name e bad. record { damaged = bad.damaged; own = λ of. inl (bad.own of); few = c.if-group-count.false })
-    (group_named g.F.Files (λ name. is_of_posts_told name ≡ true) _ dir group (λ name less e. or_right (same_name name number_name) (is_index name) (index_placed group name less e)) c.in_err-entries.ensures.sound c.in_err-entries.ensures.table c.in_err-entries.ensures.names) in
-    search rules
+    names_err (names_so (λ name e. e) (λ name e bad. record { damaged = bad.damaged; own = λ of. inl (bad.own of); few = c.if-group-count.false })
+    (group_named g.F.Files (λ name. is_of_posts_told name ≡ true) _ dir group (λ name less e. or_right (same_name name number_name) (is_index name) (index_placed group name less e)) c.in_err-entries.ensures.sound c.in_err-entries.ensures.table c.in_err-entries.ensures.names)) (search rules)
 
 pub returns-then-not-are_short-clause-names : goal.returns-then-not-are_short-clause-names
 returns-then-not-are_short-clause-names g c =

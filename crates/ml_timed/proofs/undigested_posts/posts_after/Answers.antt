@@ -1,21 +1,19 @@
-use Rattle.std.proofs.Common.{◌⊎◌, ⊎_elim, inl, inr, ◌≤◌, ◌≡◌, ◌∙◌, ◌++◌, ◌+◌, ◌*◌, ◌/◌, ℕ, true, List, refl, arith, rules, ap, ap₂, sym, subst}
+use Rattle.std.proofs.Common.{◌⊎◌, ⊎_elim, inl, inr, ◌≤◌, ◌≡◌, ◌∙◌, ◌++◌, ◌+◌, ◌*◌, ◌/◌, ℕ, List, refl, arith, rules, ap, ap₂, sym, subst}
 use Rattle.std.proofs.lemmas.Bool.{cases_lt}
 use Rattle.ml_filing.specs.Posts.{index_of}
 use Rattle.ml_filing.specs.declared.posts.Entry.{Entry}
 use Rattle.ml_base.specs.Dir.{Dir}
 use Rattle.ml_filing.specs.Archive.{IsNumberFile, number_name}
 use Rattle.ml_acts.specs.Asked.{IsTooSmall}
-use Rattle.ml_acts.proofs.Asked.{named_as}
-use Rattle.ml_acts.proofs.Damages.{named_so}
-use Rattle.ml_timed.specs.Digesting.{IsDamagedAfter, IsDamagedGroup}
-use Rattle.ml_timed.specs.Reads.{is_of_posts_seen, is_of_posts_told}
+use Rattle.ml_timed.specs.Digesting.{IsDamagedGroup}
+use Rattle.ml_timed.specs.Reads.{is_of_posts_seen}
 use Rattle.ml_timed.proofs.Apart.{alike_kept}
 use Rattle.std.specs.List.{list_all}
 use Rattle.ml_timed.specs.Waiting.{are_short, is_short, moment_after, sizes_after}
 use Rattle.ml_timed.proofs.After.{moment_in_first, sizes_of_both}
 use Rattle.ml_timed.proofs.Short.{short_after, short_joined}
 use Rattle.ml_timed.proofs.Within.{group_after, hundred}
-use Rattle.ml_base.proofs.ReadingLemmas.{kept_then, kept_read, reading_then, reading_ok}
+use Rattle.ml_timed.proofs.Joined.{both_kept, names_after, names_err, names_so, one_kept, reads_beside, reads_ok, reads_then}
 use Rattle.ml_timed.proofs.undigested_posts.posts_after.Goals as goal
 
 pub returns-clause-sizes : goal.returns-clause-sizes
@@ -23,8 +21,8 @@ returns-clause-sizes g c told dir p alike is size =
     let last = c.args.last in
     let group = (last + 1) / 100 in
     let same = g.met.F.Files.kept_map c.args.files.now c.group_of.new.files told c.group_of.ensures.reads.kept in
-    let first : c.as_slice.result.now ≡ index_of group p.posts = c.as_slice.ensures ∙ c.in_ok-first.ensures.value told dir p alike is size in
-    let second : c.as_slice-2.result.now ≡ index_of (group + 1) p.posts = c.as_slice-2.ensures ∙ c.in_ok-second.ensures.value told dir p (alike_kept is_of_posts_seen (g.F.Files.map c.args.files.now) (g.F.Files.map c.group_of.new.files) dir same alike) is size in
+    let first : c.as_slice.result.now ≡ index_of group p.posts = c.as_slice.ensures ∙ c.in_ok-first.ensures.apart told dir p alike is size in
+    let second : c.as_slice-2.result.now ≡ index_of (group + 1) p.posts = c.as_slice-2.ensures ∙ c.in_ok-second.ensures.apart told dir p (alike_kept is_of_posts_seen (g.F.Files.map c.args.files.now) (g.F.Files.map c.group_of.new.files) dir same alike) is size in
     let begun : c.add_sizes.new.sizes ≡ sizes_after last (index_of group p.posts) =
     c.in_ok-add_sizes.ensures ∙ ap₂ (λ (a : List ℕ) (es : List Entry). a ++ sizes_after last es) c.new-sizes.ensures first
     in
@@ -35,29 +33,20 @@ pub returns-clause-oldest : goal.returns-clause-oldest
 returns-clause-oldest g c told dir p alike is size =
     let last = c.args.last in
     let group = (last + 1) / 100 in
-    c.oldest.ensures ∙ ap (moment_after last) (c.as_slice-3.ensures ∙ c.in_ok-first.ensures.value told dir p alike is size) ∙ moment_in_first last group p.posts refl
+    c.oldest.ensures ∙ ap (moment_after last) (c.as_slice-3.ensures ∙ c.in_ok-first.ensures.apart told dir p alike is size) ∙ moment_in_first last group p.posts refl
 
 pub returns-in_err-first-clause-names : goal.returns-in_err-first-clause-names
 returns-in_err-first-clause-names g c =
-    let dir = g.F.Files.map c.args.files.now in
     let last = c.args.last in
-    let count = c.args.count in
-    let group = (last + 1) / 100 in
     let some = c.requires.some in
-    let names = named_so g.F.Files (λ name. is_of_posts_told name ≡ true) _ (λ name. is_of_posts_told name ≡ true) (IsDamagedGroup dir group count) (IsDamagedAfter dir last count) (λ name e. e)
-    (λ name e bad. group_after dir last count group (last + 1) name (omega arith) (omega (arith, some)) refl bad) c.in_err-first.ensures.names in
-    search rules
+    names_err (names_so (λ name e. e) (λ name e bad. group_after (g.F.Files.map c.args.files.now) last c.args.count ((last + 1) / 100) (last + 1) name (omega arith) (omega (arith, some)) refl bad) c.in_err-first.ensures.names) (search rules)
 
 pub returns-in_err-second-clause-names : goal.returns-in_err-second-clause-names
 returns-in_err-second-clause-names g c =
-    let dir = g.F.Files.map c.args.files.now in
     let last = c.args.last in
-    let count = c.args.count in
     let group = (last + 1) / 100 + 1 in
-    let names = named_as g.F.Files (λ name. is_of_posts_told name ≡ true) _ dir (g.F.Files.map c.group_of.new.files) (λ name. is_of_posts_told name ≡ true) (λ d. IsDamagedGroup d group count) (IsDamagedAfter dir last count)
-    (λ told. g.met.F.Files.kept_map c.args.files.now c.group_of.new.files told c.group_of.ensures.reads.kept) (λ name e. e)
-    (λ name e bad. let high = bad.few in group_after dir last count group (100 * group) name (omega arith) (omega (arith, high)) (hundred group) bad) c.in_err-second.ensures.names in
-    search rules
+    names_err (names_after (λ d. IsDamagedGroup d group c.args.count) g.met.F.Files.kept_map (one_kept c.group_of.ensures.reads) (λ name e. e)
+    (λ told name e bad. let high = bad.few in group_after (g.F.Files.map c.args.files.now) last c.args.count group (100 * group) name (omega arith) (omega (arith, high)) (hundred group) bad) c.in_err-second.ensures.names) (search rules)
 
 pub returns-clause-short : goal.returns-clause-short
 returns-clause-short g c =
@@ -87,24 +76,14 @@ returns-clause-agrees g c told near small =
 
 pub returns-in_err-second-clause-reads : goal.returns-in_err-second-clause-reads
 returns-in_err-second-clause-reads g c =
-    let one = kept_read g.F.Files c.args.files.now c.group_of.new.files c.group_of.result c.group_of.ensures.reads in
-    let read = reading_then g.F.Files g.met.F.Files.kept_then c.args.files.now c.group_of.new.files c.group_of-2.new.files c.group_of-2.result one c.group_of-2.ensures.reads in
+    let read = reads_then g.met.F.Files.kept_then c.group_of.ensures.reads c.group_of-2.ensures.reads in
     search rules
 
 pub returns-in_err-add_sizes-clause-reads : goal.returns-in_err-add_sizes-clause-reads
-returns-in_err-add_sizes-clause-reads g c =
-    let one = kept_read g.F.Files c.args.files.now c.group_of.new.files c.group_of.result c.group_of.ensures.reads in
-    let two = kept_then g.F.Files g.met.F.Files.kept_then c.args.files.now c.group_of.new.files c.group_of-2.new.files one (kept_read g.F.Files c.group_of.new.files c.group_of-2.new.files c.group_of-2.result c.group_of-2.ensures.reads) in
-    record { kept = two.kept; later = two.later; cause = λ bad. absurd (search rules) }
+returns-in_err-add_sizes-clause-reads g c = reads_beside (both_kept g.met.F.Files.kept_then c.group_of.ensures.reads c.group_of-2.ensures.reads) (λ bad. search rules)
 
 pub returns-in_err-add_sizes-2-clause-reads : goal.returns-in_err-add_sizes-2-clause-reads
-returns-in_err-add_sizes-2-clause-reads g c =
-    let one = kept_read g.F.Files c.args.files.now c.group_of.new.files c.group_of.result c.group_of.ensures.reads in
-    let two = kept_then g.F.Files g.met.F.Files.kept_then c.args.files.now c.group_of.new.files c.group_of-2.new.files one (kept_read g.F.Files c.group_of.new.files c.group_of-2.new.files c.group_of-2.result c.group_of-2.ensures.reads) in
-    record { kept = two.kept; later = two.later; cause = λ bad. absurd (search rules) }
+returns-in_err-add_sizes-2-clause-reads g c = reads_beside (both_kept g.met.F.Files.kept_then c.group_of.ensures.reads c.group_of-2.ensures.reads) (λ bad. search rules)
 
 pub returns-clause-reads : goal.returns-clause-reads
-returns-clause-reads g c =
-    let one = kept_read g.F.Files c.args.files.now c.group_of.new.files c.group_of.result c.group_of.ensures.reads in
-    let two = kept_then g.F.Files g.met.F.Files.kept_then c.args.files.now c.group_of.new.files c.group_of-2.new.files one (kept_read g.F.Files c.group_of.new.files c.group_of-2.new.files c.group_of-2.result c.group_of-2.ensures.reads) in
-    reading_ok g.F.Files c.args.files.now c.group_of-2.new.files _ two
+returns-clause-reads g c = reads_ok (both_kept g.met.F.Files.kept_then c.group_of.ensures.reads c.group_of-2.ensures.reads)
