@@ -1,5 +1,5 @@
 -- What an item does is the same on every directory that has the files that it looks at.
-use Rattle.std.proofs.Common.{◌≡◌, ◌/◌, ◌*◌, ◌<◌, ◌≢◌, ◌==◌, ℕ, not, ◌||◌, List, Option, Some, None, Result, Ok, Err, IfErr, refl, sym, ap, subst}
+use Rattle.std.proofs.Common.{◌≡◌, ◌/◌, ◌*◌, ◌<◌, ◌≢◌, ◌==◌, ℕ, true, false, not, ◌||◌, List, Option, Some, None, Result, Ok, Err, IfErr, refl, sym, ap, subst}
 use Rattle.std.proofs.lemmas.Bool.{and_from, ne_eqb}
 use Rattle.ml_base.specs.Bytes.{Text}
 use Rattle.ml_base.specs.Dir.{Dir, same_name, with_puts}
@@ -21,13 +21,11 @@ use Rattle.ml_plain.specs.Histories.{Kept, State}
 use Rattle.ml_plain.specs.KeptFiles.{IsFloorFile, IsRepliesFile, floor_name, replies_name}
 use Rattle.ml_plain.specs.declared.Item.{Item}
 use Rattle.ml_list.specs.Damage.{IsNoFloor, IsNoReplies, is_looked_up}
+use Rattle.ml_list.specs.Delivering.{is_other}
 use Rattle.ml_manage.specs.Reads.{is_seen_for_sender}
 use Rattle.ml_list.specs.Looked.{AlikeFor, AlikeForAct, AlikeForMail, AlikeForRequest}
 use Rattle.ml_address.specs.Reading.{request_of}
 use Rattle.ml_address.specs.Requests.{PlainRequest, Post, Help, Owner, Subscribe, Unsubscribe, Members, Confirm, Get, Index, Thread, Accept, Reject, Bounce, WarnBounce, ProbeBounce, ReplyBounce, Other}
-use Rattle.ml_address.specs.Views.{request_view}
-use Rattle.ml_address.specs.declared.Request.{Request}
-use Rattle.ml_address.specs.declared.Request.TheVariants as requests
 use Rattle.ml_config.specs.declared.configuration.Config.{Config}
 use Rattle.ml_plain.specs.declared.Act.{Act}
 use Rattle.ml_plain.specs.declared.Act.TheVariants.{Deliver, Timed, Add, Remove, Sent, Rekey, Floor}
@@ -73,25 +71,11 @@ mail_so old dir sender recipient m from to text a b c alike =
     subst (λ (s : Text). AlikeForMail s to text old dir) (sym a) (subst (λ (r : Text). AlikeForMail sender r text old dir) (sym b) (subst (λ (t : Text). AlikeForMail sender recipient t old dir) (sym c) alike))
 
 -- a request that is neither a post nor a moderator's answer looks at what it may read, and at the posts that it asks for
-pub other_alike : (c : Config) (sender m : Text) (r : Request) (old dir : Dir) → (r ≡ requests.Post → ⊥) → ((ticket : ℕ) (cookie : List ℕ) → r ≡ requests.Accept ticket cookie → ⊥) → ((ticket : ℕ) (cookie : List ℕ) → r ≡ requests.Reject ticket cookie → ⊥)
-    → AlikeForRequest c sender m (Some (request_view r)) old dir → Alike (is_seen_for_sender c sender (request_view r)) old dir
-other_alike c sender m requests.Post old dir n0 n1 n2 alike = absurd (n0 refl)
-other_alike c sender m requests.Help old dir n0 n1 n2 alike = alike
-other_alike c sender m requests.Owner old dir n0 n1 n2 alike = alike
-other_alike c sender m (requests.Subscribe set who) old dir n0 n1 n2 alike = alike
-other_alike c sender m (requests.Unsubscribe set who) old dir n0 n1 n2 alike = alike
-other_alike c sender m (requests.Members set) old dir n0 n1 n2 alike = alike
-other_alike c sender m (requests.Confirm word set time cookie who) old dir n0 n1 n2 alike = alike
-other_alike c sender m (requests.Get from to) old dir n0 n1 n2 alike = alike
-other_alike c sender m (requests.Index at) old dir n0 n1 n2 alike = alike
-other_alike c sender m (requests.Thread at) old dir n0 n1 n2 alike = alike
-other_alike c sender m (requests.Accept ticket cookie) old dir n0 n1 n2 alike = absurd (n1 ticket cookie refl)
-other_alike c sender m (requests.Reject ticket cookie) old dir n0 n1 n2 alike = absurd (n2 ticket cookie refl)
-other_alike c sender m (requests.Bounce set number who) old dir n0 n1 n2 alike = alike
-other_alike c sender m (requests.WarnBounce set time cookie who) old dir n0 n1 n2 alike = alike
-other_alike c sender m (requests.ProbeBounce set time cookie who) old dir n0 n1 n2 alike = alike
-other_alike c sender m (requests.ReplyBounce set) old dir n0 n1 n2 alike = alike
-other_alike c sender m requests.Other old dir n0 n1 n2 alike = alike
+pub other_alike : (c : Config) (sender m : Text) (r : PlainRequest) (old dir : Dir) → is_other r ≡ true → AlikeForRequest c sender m (Some r) old dir → Alike (is_seen_for_sender c sender r) old dir
+other_alike c sender m Post old dir is alike = absurd (let bad : false ≡ true = is in cc)
+other_alike c sender m (Accept ticket cookie) old dir is alike = absurd (let bad : false ≡ true = is in cc)
+other_alike c sender m (Reject ticket cookie) old dir is alike = absurd (let bad : false ≡ true = is in cc)
+other_alike c sender m r old dir is alike = alike
 
 -- a file under a name is the same in both
 pub file_there : (name : Name) (old dir : Dir) → Alike (λ other. same_name other name) old dir → dir name ≡ old name

@@ -12,14 +12,30 @@ use Rattle.ml_acts.specs.Asked.{IsBadFor, Next}
 use Rattle.ml_acts.specs.Damaged.{IsDamaged}
 use Rattle.ml_hold.specs.Answers.{tickets_name}
 use Rattle.ml_manage.specs.Reads.{IsForRequest, is_read_for_sender}
-use Rattle.ml_post.specs.Answering.{IsBadForTicket, IsReadOfTicket, is_answered_by}
+use Rattle.ml_post.specs.Answering.{IsBadForTicket, IsReadOfTicket, accepts, is_answered_by}
 use Rattle.ml_post.specs.Posting.{is_posted_by}
 use Rattle.ml_post.specs.Publishing.{sent_key}
 use Rattle.ml_queue.specs.Answers.{ids_name}
+use Rattle.ml_list.specs.Moderating.{answer_to}
+use Rattle.ml_list.specs.declared.deliveries.Task.{Task}
+use Rattle.ml_list.specs.declared.deliveries.Task.TheVariants as tasks
 
 -- the counters that are looked at before anything else
 abbrev pub is_of_worn : Name → Bool
 is_of_worn name = same_name name ids_name || same_name name tickets_name
+
+-- a request that is neither a post nor a moderator's answer
+abbrev pub is_other : PlainRequest → Bool
+is_other Post = false
+is_other (Accept ticket cookie) = false
+is_other (Reject ticket cookie) = false
+is_other request = true
+
+-- what a request asks of a delivery: a post, a moderator's answer, or anything else
+abbrev pub IsTaskOf : PlainRequest → Task → Type 0
+IsTaskOf request tasks.Post = request ≡ Post
+IsTaskOf request (tasks.Decide ticket cookie decision) = request ≡ answer_to ticket cookie (accepts decision)
+IsTaskOf request tasks.Manage = is_other request ≡ true
 
 -- the files that a request of an envelope sender may read: a post, a moderator's answer, or anything else
 abbrev pub is_requested : Config → Text → PlainRequest → Name → Bool

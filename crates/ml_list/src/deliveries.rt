@@ -14,7 +14,7 @@ ghost use Rattle.ml_plain.specs.Plain.{Plain};
 ghost use Rattle.ml_acts.specs.Damaged.{IsDamaged};
 ghost use Rattle.ml_acts.specs.Doing.{DoesList, HasRoom};
 ghost use Rattle.ml_acts.specs.Acting.{AnswersAct};
-ghost use Rattle.ml_list.specs.Delivering.{IsDamagedServed, IsDelivered, IsRequested};
+ghost use Rattle.ml_list.specs.Delivering.{IsDamagedServed, IsDelivered, IsRequested, IsTaskOf};
 ghost use Rattle.ml_list.specs.Found.{FoundByCounters, FoundOfRecipient, FoundOfRequest, FoundToDeliver};
 ghost use Rattle.ml_list.specs.Looked.{AlikeForMail, AlikeForRequest, AlikeServed};
 ghost use Rattle.ml_list.specs.Reads.{is_of_acts};
@@ -164,20 +164,60 @@ fn by_request<F: Files>(
     ensures found { IsTrue F.tells → IfOk result (FoundOfRequest (F.map files.old) config.now sender.now message.now (request_view request.now)) }
     ensures act { AnswersAct ⟦<F as Files>⟧ (λ name. is_of_acts name ≡ true) (λ name. IsDamaged (F.map files.old) name × IsRequested (F.map files.old) config.now sender.now message.now (Some (request_view request.now)) name) files.old files.new result }
 {
+    match task_of(request) {
+        Task::Post => post_with_memo(alloc, files, memo, config, now.seconds, sender, message),
+        Task::Decide {
+            ticket,
+            cookie,
+            decision,
+        } => decide_held(
+            alloc, files, config, now, sender, message, ticket, &cookie, decision,
+        ),
+        Task::Manage => manage(alloc, files, config, now.seconds, sender, request, message),
+    }
+}
+
+// What a request asks of a delivery: to post, to do what a moderator decides about a held post, or what `manage` does.
+#[derive(Clone, Copy)]
+enum Task {
+    Post,
+    Decide {
+        ticket: u64,
+        cookie: [u8; 20],
+        decision: Decision,
+    },
+    Manage,
+}
+
+// The task of a request. Every request is named, so that a new one doesn't go to `manage` unseen.
+fn task_of(request: &Request<'_>) -> Task
+    ensures { IsTaskOf (request_view request.now) result }
+{
     match request {
-        Request::Post => post_with_memo(alloc, files, memo, config, now.seconds, sender, message),
-        Request::Accept { ticket, cookie } => {
-            let decision = Decision::Accept;
-            decide_held(
-                alloc, files, config, now, sender, message, *ticket, cookie, decision,
-            )
-        }
-        Request::Reject { ticket, cookie } => {
-            let decision = Decision::Reject;
-            decide_held(
-                alloc, files, config, now, sender, message, *ticket, cookie, decision,
-            )
-        }
-        _ => manage(alloc, files, config, now.seconds, sender, request, message),
+        Request::Post => Task::Post,
+        Request::Accept { ticket, cookie } => Task::Decide {
+            ticket: *ticket,
+            cookie: *cookie,
+            decision: Decision::Accept,
+        },
+        Request::Reject { ticket, cookie } => Task::Decide {
+            ticket: *ticket,
+            cookie: *cookie,
+            decision: Decision::Reject,
+        },
+        Request::Help
+        | Request::Owner
+        | Request::Subscribe { .. }
+        | Request::Unsubscribe { .. }
+        | Request::Members { .. }
+        | Request::Confirm { .. }
+        | Request::Get { .. }
+        | Request::Index { .. }
+        | Request::Thread { .. }
+        | Request::Bounce { .. }
+        | Request::WarnBounce { .. }
+        | Request::ProbeBounce { .. }
+        | Request::ReplyBounce { .. }
+        | Request::Other => Task::Manage,
     }
 }

@@ -1,5 +1,5 @@
 -- The verdict on a post, row by row.
-use Rattle.std.proofs.Common.{◌≡◌, ◌≤◌, ℕ, Bool, true, false, List, sym, subst, arith}
+use Rattle.std.proofs.Common.{◌≡◌, ◌≤◌, ℕ, Bool, true, false, List, subst, arith}
 use Rattle.std.specs.Prelude.{not}
 use Rattle.ml_base.specs.Address.{key}
 use Rattle.ml_base.specs.Bytes.{Text}
@@ -8,14 +8,11 @@ use Rattle.ml_base.specs.declared.names.Set.TheVariants as sets
 use Rattle.ml_base.specs.declared.puts.Put.{Put}
 use Rattle.ml_config.specs.declared.configuration.Config.{Config}
 use Rattle.ml_filing.specs.Archive.{IsNumberFile, number_name}
-use Rattle.ml_plain.specs.Answers as answers
 use Rattle.ml_plain.specs.Verdicts.{is_usable}
 use Rattle.ml_plain.specs.declared.Reply.{Reply}
 use Rattle.ml_acts.specs.Found.{TellsMember}
 use Rattle.ml_post.specs.Found.{FoundByPost, FoundOfPost, FoundOfRoom, FoundOfSender, FoundOfText, FoundOfUser, FoundToFollow, TellsDenied, TellsStranger, TellsUser}
 use Rattle.ml_post.specs.Posting.{outcome_of}
-use Rattle.ml_post.specs.declared.incoming_mail.Outcome.{Outcome}
-use Rattle.ml_post.specs.declared.incoming_mail.Outcome.TheVariants as fates
 use Rattle.ml_post.specs.declared.verdicts.Verdict.{Verdict as Found}
 use Rattle.ml_post.specs.declared.verdicts.Verdict.TheVariants as found
 
@@ -59,24 +56,6 @@ module _ (dir : Dir) (c : Config) (sender m : Text) where
   post_then found.Looped usable from = absurd from.1.1
   post_then v usable from = (usable, from)
 
-  -- one that is held or posted has a sender
-  pub usable_by : (v : Found) (o : Outcome) → ((reply : Reply) → o ≡ fates.Refused reply → ⊥) → outcome_of v ≡ o → FoundOfPost dir c sender m v → is_usable sender ≡ true
-  usable_by found.TooBig o none e is = absurd (none answers.toobig (sym e))
-  usable_by found.BounceSender o none e is = absurd (none answers.nosender (sym e))
-  usable_by found.Looped o none e is = absurd (none answers.looped (sym e))
-  usable_by v o none e is = is.0
-
   -- what follows it
-  pub followed : (scanned : Text) (v : Found) (o : Outcome) (done : List Put × Reply) → scanned ≡ m → outcome_of v ≡ o → FoundOfPost dir c sender scanned v → (FoundOfPost dir c sender m v → FoundToFollow dir c o done) → FoundByPost dir c sender m done
-  followed scanned v o done same e is follows =
-      let here = subst (λ (t : Text). FoundOfPost dir c sender t v) same is in record {
-        verdict = v;
-        found = here;
-        follows = subst (λ (x : Outcome). FoundToFollow dir c x done) (sym e) (follows here);
-      }
-
-  pub held_usable : (v : Found) → outcome_of v ≡ fates.Held → FoundOfPost dir c sender m v → is_usable sender ≡ true
-  held_usable v e is = usable_by v fates.Held (λ reply no. cc) e is
-
-  pub posted_usable : (v : Found) → outcome_of v ≡ fates.Posted → FoundOfPost dir c sender m v → is_usable sender ≡ true
-  posted_usable v e is = usable_by v fates.Posted (λ reply no. cc) e is
+  pub followed : (scanned : Text) (v : Found) (done : List Put × Reply) → scanned ≡ m → FoundOfPost dir c sender scanned v → FoundToFollow dir c (outcome_of v) done → FoundByPost dir c sender m done
+  followed scanned v done same is follows = record { verdict = v; found = subst (λ (t : Text). FoundOfPost dir c sender t v) same is; follows = follows }

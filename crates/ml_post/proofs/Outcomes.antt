@@ -23,7 +23,7 @@ use Rattle.ml_acts.specs.Doing.{DoesList}
 use Rattle.ml_post.specs.Judging as rows
 use Rattle.ml_post.specs.Posting.{outcome_of, reply_of}
 use Rattle.ml_post.specs.Publishing.{Publishes}
-use Rattle.ml_post.specs.declared.incoming_mail.Outcome.TheVariants as fates
+use Rattle.ml_post.specs.Outcomes as fates
 use Rattle.ml_post.specs.declared.verdicts.Verdict.{Verdict as Found}
 use Rattle.ml_post.specs.declared.verdicts.Verdict.TheVariants as found
 
@@ -32,25 +32,22 @@ past : {A : Type 0} (b : Bool) (x rest y : A) → cond b x rest ≡ y → (x ≡
 past true x rest y e apart = absurd (apart e)
 past false x rest y e apart = (refl, e)
 
-not_not : (b : Bool) → not b ≡ false → b ≡ true
-not_not true e = refl
-not_not false e = absurd (let bad : true ≡ false = e in cc)
+-- whether a sender is an address, by what was read of him; one that is an address is kept as it was read
+pub none_read : (sender : Text) → address_of sender ≡ None → is_usable sender ≡ false
+none_read sender e = go (is_usable sender) refl
+  where
+    go : (t : Bool) → is_usable sender ≡ t → is_usable sender ≡ false
+    go true is = absurd (let bad : Some (as_address sender) ≡ None = sym (ap (λ (t : Bool). cond t (Some (as_address sender)) None) is) ∙ e in cc)
+    go false is = is
 
--- if it is found that a message is held or posted, its sender is an address
-usable_by : (p : Plain) (sender m : Text) (v : verdicts.Verdict) → (verdicts.TooBig ≡ v → ⊥) → (verdicts.BounceSender ≡ v → ⊥) → verdict p sender m ≡ v → is_usable sender ≡ true
-unfolding verdict
-usable_by p sender m v apart apart2 e =
-    let after = cond (has_field (codes "mailing-list") m) verdicts.Looped (rows.of_sender p sender m) in
-    let first = past (nat_lt p.config.max (length m)) verdicts.TooBig (cond (not (is_usable sender)) verdicts.BounceSender after) v e apart in
-    not_not (is_usable sender) (past (not (is_usable sender)) verdicts.BounceSender after v first.1 apart2).0
+pub who_read : (sender who : Text) → address_of sender ≡ Some who → (is_usable sender ≡ true) × (who ≡ as_address sender)
+who_read sender who e = go (is_usable sender) refl
+  where
+    go : (t : Bool) → is_usable sender ≡ t → (is_usable sender ≡ true) × (who ≡ as_address sender)
+    go true is = (is, same_Some who (as_address sender) (sym e ∙ ap (λ (t : Bool). cond t (Some (as_address sender)) None) is))
+    go false is = absurd (let bad : None ≡ Some who = sym (ap (λ (t : Bool). cond t (Some (as_address sender)) None) is) ∙ e in cc)
 
-pub held_usable : (p : Plain) (sender m : Text) → verdict p sender m ≡ verdicts.Held → is_usable sender ≡ true
-held_usable p sender m e = usable_by p sender m verdicts.Held (λ bad. cc) (λ bad. cc) e
-
-pub posted_usable : (p : Plain) (sender m : Text) → verdict p sender m ≡ verdicts.Posted → is_usable sender ≡ true
-posted_usable p sender m e = usable_by p sender m verdicts.Posted (λ bad. cc) (λ bad. cc) e
-
--- if it is found that it is posted, the archive has room
+-- if it is found that a message is posted, the archive has room
 room_by : (p : Plain) → rows.of_room p ≡ verdicts.Posted → is_archive_full p ≡ false
 room_by p e =
     let first = past p.config.flags.m verdicts.Held (cond (is_archive_full p) verdicts.Full verdicts.Posted) verdicts.Posted e (λ bad. cc) in
@@ -78,60 +75,6 @@ posted_room p sender m e =
     let three = past (has_field (codes "mailing-list") m) verdicts.Looped fourth verdicts.Posted two.1 (λ bad. cc) in
     text_by p sender m (past (p.config.flags.k && is_in p sets.Deny sender) verdicts.Denied (rows.of_text p sender m) verdicts.Posted three.1 (λ bad. cc)).1
 
--- what follows a verdict
-pub held_is : (v : Found) → outcome_of v ≡ fates.Held → rows.row_of v ≡ verdicts.Held
-held_is found.TooBig e = absurd (cc)
-held_is found.BounceSender e = absurd (cc)
-held_is found.Looped e = absurd (cc)
-held_is found.Denied e = absurd (cc)
-held_is found.NoSubject e = absurd (cc)
-held_is found.CommandSubject e = absurd (cc)
-held_is found.NotAddressed e = absurd (cc)
-held_is found.UsersOnly e = absurd (cc)
-held_is found.Full e = absurd (cc)
-held_is found.Held e = refl
-held_is found.Posted e = absurd (cc)
-
-pub posted_is : (v : Found) → outcome_of v ≡ fates.Posted → rows.row_of v ≡ verdicts.Posted
-posted_is found.TooBig e = absurd (cc)
-posted_is found.BounceSender e = absurd (cc)
-posted_is found.Looped e = absurd (cc)
-posted_is found.Denied e = absurd (cc)
-posted_is found.NoSubject e = absurd (cc)
-posted_is found.CommandSubject e = absurd (cc)
-posted_is found.NotAddressed e = absurd (cc)
-posted_is found.UsersOnly e = absurd (cc)
-posted_is found.Full e = absurd (cc)
-posted_is found.Held e = absurd (cc)
-posted_is found.Posted e = refl
-
--- a message is held only if posts wait for the moderators, and posted only if they don't
-pub held_waits : (m : Bool) (v : Found) → outcome_of v ≡ fates.Held → rows.may_be_found m v ≡ true → m ≡ true
-held_waits m found.TooBig e may = absurd (cc)
-held_waits m found.BounceSender e may = absurd (cc)
-held_waits m found.Looped e may = absurd (cc)
-held_waits m found.Denied e may = absurd (cc)
-held_waits m found.NoSubject e may = absurd (cc)
-held_waits m found.CommandSubject e may = absurd (cc)
-held_waits m found.NotAddressed e may = absurd (cc)
-held_waits m found.UsersOnly e may = absurd (cc)
-held_waits m found.Full e may = absurd (cc)
-held_waits m found.Held e may = may
-held_waits m found.Posted e may = absurd (cc)
-
-pub posted_waits_not : (m : Bool) (v : Found) → outcome_of v ≡ fates.Posted → rows.may_be_found m v ≡ true → not m ≡ true
-posted_waits_not m found.TooBig e may = absurd (cc)
-posted_waits_not m found.BounceSender e may = absurd (cc)
-posted_waits_not m found.Looped e may = absurd (cc)
-posted_waits_not m found.Denied e may = absurd (cc)
-posted_waits_not m found.NoSubject e may = absurd (cc)
-posted_waits_not m found.CommandSubject e may = absurd (cc)
-posted_waits_not m found.NotAddressed e may = absurd (cc)
-posted_waits_not m found.UsersOnly e may = absurd (cc)
-posted_waits_not m found.Full e may = absurd (cc)
-posted_waits_not m found.Held e may = absurd (cc)
-posted_waits_not m found.Posted e may = may
-
 -- an answer of no puts
 pub does_nothing : (dir : Dir) (done : List Put × Reply) (p : Plain) (reply : Reply) (step : Plain × Reply) → step ≡ (p, reply) → done.0 ≡ [] → done.1 ≡ reply → IsList dir p → DoesList dir done step
 does_nothing dir done p reply step is e f list =
@@ -139,10 +82,6 @@ does_nothing dir done p reply step is e f list =
       reply = f;
       list = subst (λ (puts : List Put). IsList (with_puts dir puts) p) (sym e) list;
     })
-
--- the sender is kept as a checked address
-pub sender_is : (sender who : Text) → is_usable sender ≡ true → address_of sender ≡ Some who → who ≡ as_address sender
-sender_is sender who usable e = same_Some who (as_address sender) (sym e ∙ ap (λ (t : Bool). cond t (Some (as_address sender)) None) usable)
 
 -- an answer by which a message was posted
 pub posts : (dir : Dir) (p : Plain) (now : ℕ) (sender m : Text) (answer : Appended) (done : List Put × Reply) → Publishes dir now sender m p answer → is_archive_full p ≡ false → done.0 ≡ puts_of answer → done.1 ≡ reply_of answer
@@ -171,17 +110,17 @@ refused_is now sender m p reply found.Full e = ap (λ (r : Reply). (p, r)) (refu
 refused_is now sender m p reply found.Held e = absurd (cc)
 refused_is now sender m p reply found.Posted e = absurd (cc)
 
--- what a post does, by what follows its verdict
-module _ (dir : Dir) (p : Plain) (now : ℕ) (sender m : Text) (v : Found) (done : List Put × Reply) where
-  pub follows_held : outcome_of v ≡ fates.Held → rows.row_of v ≡ verdict p sender m → (is_usable sender ≡ true → DoesList dir done (held_now now (as_address sender) m p)) → DoesList dir done (post now sender m p)
-  follows_held outcome row does =
-      let found = sym row ∙ held_is v outcome in
-      subst (λ (r : verdicts.Verdict). DoesList dir done (by_verdict now sender m p r)) (sym found) (does (held_usable p sender m found))
+-- what a post does, by its verdict
+module _ (dir : Dir) (p : Plain) (now : ℕ) (sender m : Text) (done : List Put × Reply) where
+  pub follows_held : (who : Text) → address_of sender ≡ Some who → verdicts.Held ≡ verdict p sender m → DoesList dir done (held_now now who m p) → DoesList dir done (post now sender m p)
+  follows_held who read row does =
+      subst (λ (r : verdicts.Verdict). DoesList dir done (by_verdict now sender m p r)) row
+      (subst (λ (s : Text). DoesList dir done (held_now now s m p)) (who_read sender who read).1 does)
 
-  pub follows_posted : outcome_of v ≡ fates.Posted → rows.row_of v ≡ verdict p sender m → (is_usable sender ≡ true → is_archive_full p ≡ false → DoesList dir done (posted_now now (as_address sender) m p)) → DoesList dir done (post now sender m p)
-  follows_posted outcome row does =
-      let found = sym row ∙ posted_is v outcome in
-      subst (λ (r : verdicts.Verdict). DoesList dir done (by_verdict now sender m p r)) (sym found) (does (posted_usable p sender m found) (posted_room p sender m found))
+  pub follows_posted : (who : Text) → address_of sender ≡ Some who → verdicts.Posted ≡ verdict p sender m → (is_archive_full p ≡ false → DoesList dir done (posted_now now who m p)) → DoesList dir done (post now sender m p)
+  follows_posted who read row does =
+      subst (λ (r : verdicts.Verdict). DoesList dir done (by_verdict now sender m p r)) row
+      (subst (λ (s : Text). DoesList dir done (posted_now now s m p)) (who_read sender who read).1 (does (posted_room p sender m (sym row))))
 
-  pub follows_refused : (reply : Reply) → outcome_of v ≡ fates.Refused reply → rows.row_of v ≡ verdict p sender m → done.0 ≡ [] → done.1 ≡ reply → IsList dir p → DoesList dir done (post now sender m p)
-  follows_refused reply outcome row e f is = does_nothing dir done p reply (post now sender m p) (ap (by_verdict now sender m p) (sym row) ∙ refused_is now sender m p reply v outcome) e f is
+  pub follows_refused : (v : Found) (reply : Reply) → outcome_of v ≡ fates.Refused reply → rows.row_of v ≡ verdict p sender m → done.0 ≡ [] → done.1 ≡ reply → IsList dir p → DoesList dir done (post now sender m p)
+  follows_refused v reply outcome row e f is = does_nothing dir done p reply (post now sender m p) (ap (by_verdict now sender m p) (sym row) ∙ refused_is now sender m p reply v outcome) e f is

@@ -23,8 +23,8 @@ use Rattle.ml_plain.specs.Verdicts.{is_usable, is_command, is_addressed}
 use Rattle.ml_plain.specs.declared.Reply.{Reply}
 use Rattle.ml_acts.specs.Found.{AddsMailToSet, EitherTells, Says, TellsKeys, TellsMember}
 use Rattle.ml_post.specs.Posting.{outcome_of, reply_of}
-use Rattle.ml_post.specs.declared.incoming_mail.Outcome.{Outcome}
-use Rattle.ml_post.specs.declared.incoming_mail.Outcome.TheVariants as fates
+use Rattle.ml_post.specs.Outcomes.{Outcome}
+use Rattle.ml_post.specs.Outcomes as fates
 use Rattle.ml_post.specs.declared.verdicts.Verdict.{Verdict as Found}
 use Rattle.ml_post.specs.declared.verdicts.Verdict.TheVariants as found
 

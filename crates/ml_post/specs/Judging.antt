@@ -12,6 +12,8 @@ use Rattle.ml_plain.specs.Verdicts.{is_command, is_addressed, is_user, Verdict, 
 use Rattle.ml_acts.specs.Doing.{is_bucket_of}
 use Rattle.ml_post.specs.declared.verdicts.Verdict.{Verdict as Found}
 use Rattle.ml_post.specs.declared.verdicts.Verdict.TheVariants as found
+use Rattle.ml_post.specs.declared.verdict_table.Judged.{Judged}
+use Rattle.ml_post.specs.declared.verdict_table.Judged.TheVariants as judged
 
 -- the row of the table that was found
 abbrev pub row_of : Found → Verdict
@@ -26,6 +28,12 @@ row_of found.UsersOnly = UsersOnly
 row_of found.Held = Held
 row_of found.Full = Full
 row_of found.Posted = Posted
+
+-- the verdict that was found
+abbrev pub verdict_of : Judged → Found
+verdict_of (judged.Refused v) = v
+verdict_of (judged.Held who) = found.Held
+verdict_of (judged.Posted who) = found.Posted
 
 -- the verdict on a post for which no earlier row holds: first by the archive and moderation, then by the sender as a user, by the text, and by
 -- the sender in the deny list

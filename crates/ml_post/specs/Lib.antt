@@ -3,6 +3,7 @@ pub mod Judging
 pub mod SentPieces
 pub mod Publishing
 pub mod Holding
+pub mod Outcomes
 pub mod Posting
 pub mod Found
 pub mod Deciding

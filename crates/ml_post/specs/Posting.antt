@@ -1,5 +1,5 @@
 -- What follows a verdict.
-use Rattle.std.specs.Prelude.{Bool, not, ◌&&◌, ◌||◌}
+use Rattle.std.specs.Prelude.{◌≡◌, ℕ, Bool, not, ◌&&◌, ◌||◌, Option, Some}
 use Rattle.ml_base.specs.Bytes.{Text}
 use Rattle.ml_base.specs.declared.names.Name.{Name}
 use Rattle.ml_filing.specs.declared.posts.Appended.{Appended}
@@ -7,10 +7,12 @@ use Rattle.ml_filing.specs.declared.posts.Appended.TheVariants.{At, Full}
 use Rattle.ml_config.specs.declared.configuration.Config.{Config}
 use Rattle.ml_plain.specs.declared.Reply.{Reply}
 use Rattle.ml_plain.specs.Answers as answers
-use Rattle.ml_post.specs.declared.incoming_mail.Outcome.{Outcome}
-use Rattle.ml_post.specs.declared.incoming_mail.Outcome.TheVariants as fates
+use Rattle.ml_post.specs.Outcomes.{Outcome}
+use Rattle.ml_post.specs.Outcomes as fates
 use Rattle.ml_post.specs.declared.verdicts.Verdict.{Verdict as Found}
 use Rattle.ml_post.specs.declared.verdicts.Verdict.TheVariants as found
+use Rattle.ml_post.specs.declared.verdict_table.Judged.{Judged}
+use Rattle.ml_post.specs.declared.verdict_table.Judged.TheVariants as judged
 use Rattle.ml_post.specs.Holding.{is_held_by}
 use Rattle.ml_post.specs.Judging.{is_judged_by}
 use Rattle.ml_post.specs.Publishing.{is_published_by}
@@ -28,6 +30,26 @@ outcome_of found.UsersOnly = fates.Refused answers.usersonly
 outcome_of found.Held = fates.Held
 outcome_of found.Full = fates.Refused answers.full
 outcome_of found.Posted = fates.Posted
+
+-- the code of the reply that tells a verdict
+abbrev pub code_of : Found → ℕ
+code_of found.TooBig = (answers.toobig).code
+code_of found.BounceSender = (answers.nosender).code
+code_of found.Looped = (answers.looped).code
+code_of found.Denied = (answers.denied).code
+code_of found.NoSubject = (answers.nosubject).code
+code_of found.CommandSubject = (answers.command).code
+code_of found.NotAddressed = (answers.notaddressed).code
+code_of found.UsersOnly = (answers.usersonly).code
+code_of found.Held = (answers.held 0).code
+code_of found.Full = (answers.full).code
+code_of found.Posted = (answers.posted 0).code
+
+-- what was found of a post tells its sender's address, if there is one: the post is refused with the reply of its verdict, or is of this sender
+abbrev pub TellsSender : Option Text → Judged → Type 0
+TellsSender sender (judged.Refused v) = outcome_of v ≡ fates.Refused (answers.plain (code_of v))
+TellsSender sender (judged.Held who) = sender ≡ Some who
+TellsSender sender (judged.Posted who) = sender ≡ Some who
 
 -- the reply to a message that was to be posted
 abbrev pub reply_of : Appended → Reply

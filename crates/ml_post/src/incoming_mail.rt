@@ -1,7 +1,6 @@
 // A message that is mailed to the list's own address.
-ghost use Rattle.std.specs.Prelude.{◌≡◌, ◌≤◌, true, false, IsTrue, IfErr, IfOk, length};
+ghost use Rattle.std.specs.Prelude.{◌≡◌, true, false, IsTrue, IfErr, IfOk};
 ghost use Rattle.ml_filing.specs.Answers.{puts_of};
-ghost use Rattle.ml_base.specs.Address.{as_address};
 ghost use Rattle.ml_base.specs.Dir.{Dir};
 ghost use Rattle.ml_base.specs.PartErrors.{OnDamaged};
 ghost use Rattle.ml_base.specs.Ranges.{IsMoment};
@@ -9,24 +8,21 @@ ghost use Rattle.ml_config.specs.Configuration.{IsConfig};
 ghost use Rattle.ml_plain.specs.Directory.{IsList};
 ghost use Rattle.ml_plain.specs.Plain.{Plain, is_archive_full};
 ghost use Rattle.ml_plain.specs.Posting as spec;
-ghost use Rattle.ml_plain.specs.Verdicts as verdicts;
 ghost use Rattle.ml_acts.specs.Acting.{AnswersPost as AnswersAct};
 ghost use Rattle.ml_acts.specs.Asked.{IsDamagedOf, Next};
 ghost use Rattle.ml_acts.specs.Configured.{with_config};
-ghost use Rattle.ml_acts.specs.Damaged.{IsDamaged};
-ghost use Rattle.ml_acts.specs.Doing.{Alike, DoesList, HasIds, HasRoom};
+ghost use Rattle.ml_acts.specs.Doing.{DoesList, HasIds, HasRoom};
 ghost use Rattle.ml_post.specs.Alike.{AlikeForPost, AlikeToPublish};
-ghost use Rattle.ml_post.specs.Found.{FoundByPost, FoundToHold, FoundToTake};
-ghost use Rattle.ml_post.specs.Holding.{is_held_by};
-ghost use Rattle.ml_post.specs.Posting.{outcome_of, is_posted_by, reply_of};
+ghost use Rattle.ml_post.specs.Found.{FoundByPost, FoundToTake};
+ghost use Rattle.ml_post.specs.Posting.{code_of, is_posted_by, reply_of};
 ghost use Rattle.ml_post.specs.Publishing.{is_published_by, sent_key};
 
 use crate::Verdict;
 use crate::held_posts::hold_post;
 use crate::publication::publish;
-use crate::verdict_table::{judge_with_config, usable};
+use crate::verdict_table::{Judged, judge_with_config};
 use ml_acts::{Configured, MailMemo, Moment};
-use ml_base::{Files, PartError, Txn};
+use ml_base::{Address, Files, PartError, Txn};
 use ml_config::Config;
 use ml_filing::Appended;
 use ml_header::Message;
@@ -109,82 +105,49 @@ fn post_with_config<F: Files>(
     ensures act { AnswersAct ⟦<F as Files>⟧ (λ name. is_posted_by config.now sender.now name ≡ true) (IsDamagedOf (F.map files.old) (Next (sent_key config.now message.now))) files.old files.new result }
 {
     let found = judge_with_config(alloc, files, config, sender, &Message::scan(message))?;
-    match follows(found) {
-        Outcome::Refused(reply) => Ok((Txn::new(alloc), reply)),
-        Outcome::Held => hold_message(alloc, files, config, now, sender, message),
-        Outcome::Posted => post_message(alloc, files, memo, config, now, sender, message),
+    match found {
+        Judged::Refused(verdict) => Ok((Txn::new(alloc), Reply::plain(code_of(verdict)))),
+        Judged::Held(who) => hold_post(alloc, files, config, now, who, message),
+        Judged::Posted(who) => post_message(alloc, files, memo, config, now, &who, message),
     }
 }
 
-// What follows a verdict.
-#[derive(Clone, Copy)]
-enum Outcome {
-    Refused(Reply),
-    Held,
-    Posted,
-}
-
-// What follows a verdict.
-fn follows(found: Verdict) -> Outcome
-    ensures { result ≡ outcome_of found }
+// The code of the reply that tells a verdict.
+fn code_of(found: Verdict) -> u8
+    ensures { result ≡ code_of found }
 {
     match found {
-        Verdict::TooBig => Outcome::Refused(Reply::plain(Reply::TOOBIG)),
-        Verdict::BounceSender => Outcome::Refused(Reply::plain(Reply::NOSENDER)),
-        Verdict::Looped => Outcome::Refused(Reply::plain(Reply::LOOPED)),
-        Verdict::Denied => Outcome::Refused(Reply::plain(Reply::DENIED)),
-        Verdict::NoSubject => Outcome::Refused(Reply::plain(Reply::NOSUBJECT)),
-        Verdict::CommandSubject => Outcome::Refused(Reply::plain(Reply::COMMAND)),
-        Verdict::NotAddressed => Outcome::Refused(Reply::plain(Reply::NOTADDRESSED)),
-        Verdict::UsersOnly => Outcome::Refused(Reply::plain(Reply::USERSONLY)),
-        Verdict::Held => Outcome::Held,
-        Verdict::Full => Outcome::Refused(Reply::plain(Reply::FULL)),
-        Verdict::Posted => Outcome::Posted,
+        Verdict::TooBig => Reply::TOOBIG,
+        Verdict::BounceSender => Reply::NOSENDER,
+        Verdict::Looped => Reply::LOOPED,
+        Verdict::Denied => Reply::DENIED,
+        Verdict::NoSubject => Reply::NOSUBJECT,
+        Verdict::CommandSubject => Reply::COMMAND,
+        Verdict::NotAddressed => Reply::NOTADDRESSED,
+        Verdict::UsersOnly => Reply::USERSONLY,
+        Verdict::Held => Reply::HELD,
+        Verdict::Full => Reply::FULL,
+        Verdict::Posted => Reply::POSTED,
     }
 }
 
-// Holds a message whose sender is an address.
-fn hold_message<F: Files>(
-    alloc: Global,
-    files: &mut F,
-    config: &Config,
-    now: Moment,
-    sender: &[u8],
-    message: &[u8],
-) -> Result<(Txn, Reply), PartError>
-    requires config { IsConfig config.now }
-    requires size { length message.now ≤ 33_554_432 }
-    requires room { IsTrue F.tells → HasRoom (F.map files.now) }
-    ensures apart { IsTrue F.tells → IfOk result (λ done. (dir : Dir) (p : Plain) → Alike is_held_by (F.map files.old) dir → IsList dir p → p.config ≡ config.now → verdicts.is_usable sender.now ≡ true → DoesList dir done (spec.held_now now.seconds (as_address sender.now) message.now p)) }
-    ensures found { IsTrue F.tells → IfOk result (λ done. verdicts.is_usable sender.now ≡ true → FoundToHold (F.map files.old) done) }
-    ensures act { AnswersAct ⟦<F as Files>⟧ (λ name. is_held_by name ≡ true) (IsDamaged (F.map files.old)) files.old files.new result }
-{
-    match usable(alloc, sender)? {
-        Some(who) => hold_post(alloc, files, config, now, who, message),
-        None => Ok((Txn::new(alloc), Reply::plain(Reply::NOSENDER))),
-    }
-}
-
-// Posts a message whose sender is an address.
+// Posts a message of a sender.
 fn post_message<F: Files>(
     alloc: Global,
     files: &mut F,
     memo: &mut MailMemo,
     config: &Config,
     now: Moment,
-    sender: &[u8],
+    sender: &Address,
     message: &[u8],
 ) -> Result<(Txn, Reply), PartError>
     requires room { IsTrue F.tells → HasIds (F.map files.now) }
-    ensures apart { IsTrue F.tells → IfOk result (λ done. (dir : Dir) (p : Plain) → AlikeToPublish config.now message.now (F.map files.old) dir → IsList dir p → p.config ≡ config.now → verdicts.is_usable sender.now ≡ true → is_archive_full p ≡ false → DoesList dir done (spec.posted_now now.seconds (as_address sender.now) message.now p)) }
+    ensures apart { IsTrue F.tells → IfOk result (λ done. (dir : Dir) (p : Plain) → AlikeToPublish config.now message.now (F.map files.old) dir → IsList dir p → p.config ≡ config.now → is_archive_full p ≡ false → DoesList dir done (spec.posted_now now.seconds sender.now message.now p)) }
     ensures spared { IsTrue F.tells → (dir : Dir) (p : Plain) → AlikeToPublish config.now message.now (F.map files.old) dir → IsList dir p → IfErr result (λ e. OnDamaged e (λ _. ⊥)) }
-    ensures found { IsTrue F.tells → IfOk result (λ done. verdicts.is_usable sender.now ≡ true → FoundToTake (F.map files.old) config.now.prefix done) }
+    ensures found { IsTrue F.tells → IfOk result (FoundToTake (F.map files.old) config.now.prefix) }
     ensures act { AnswersAct ⟦<F as Files>⟧ (λ name. is_published_by name ≡ true) (IsDamagedOf (F.map files.old) (Next (sent_key config.now message.now))) files.old files.new result }
 {
-    let Some(who) = usable(alloc, sender)? else {
-        return Ok((Txn::new(alloc), Reply::plain(Reply::NOSENDER)));
-    };
-    let answer = publish(alloc, files, memo, config, now, &who, message)?;
+    let answer = publish(alloc, files, memo, config, now, sender, message)?;
     Ok(done_by(alloc, answer))
 }
 

@@ -1,6 +1,6 @@
 // The verdict on a post: the first row of the table that holds.
-ghost use Rattle.std.specs.Prelude.{◌≡◌, ◌≢◌, ◌≤◌, ◌&&◌, ◌||◌, true, false, not, length, IsTrue, IfOk, IfErr, MatchOption, is_ok, Some, None};
-ghost use Rattle.ml_base.specs.Address.{address_check, address_of, key};
+ghost use Rattle.std.specs.Prelude.{◌≡◌, ◌≢◌, ◌≤◌, ◌&&◌, ◌||◌, true, false, not, length, IsTrue, IfOk, IfErr, Some};
+ghost use Rattle.ml_base.specs.Address.{address_of, key};
 ghost use Rattle.ml_base.specs.Bytes.{lower};
 ghost use Rattle.ml_base.specs.PartErrors.{OnDamaged};
 ghost use Rattle.ml_base.specs.ReadFiles.{IsReading, NamesDamaged};
@@ -16,19 +16,41 @@ ghost use Rattle.ml_acts.specs.Configured.{with_config};
 ghost use Rattle.ml_acts.specs.Doing.{Alike, is_bucket_of};
 ghost use Rattle.ml_acts.specs.Found.{EitherTells, TellsMember};
 ghost use Rattle.ml_post.specs.Found.{FoundOfPost, FoundOfRoom, FoundOfSender, FoundOfText, FoundOfUser, TellsDenied, TellsStranger, TellsUser};
-ghost use Rattle.ml_post.specs.Judging.{row_of, is_judged_by, is_of_user, may_be_found};
+ghost use Rattle.ml_post.specs.Judging.{row_of, verdict_of, is_judged_by, is_of_user, may_be_found};
 ghost use Rattle.ml_post.specs.Judging as rows;
+ghost use Rattle.ml_post.specs.Posting.{TellsSender};
 ghost use Rattle.ml_post.specs.declared.verdicts.Verdict.TheVariants.{TooBig};
 
 use crate::Verdict;
 use crate::address_search::is_addressed;
 use ml_acts::Configured;
-use ml_base::{Address, AddressError, Files, LAST_POST_NUMBER, PartError, Set};
+use ml_base::{Address, Files, LAST_POST_NUMBER, PartError, Set};
 use ml_config::Config;
 use ml_filing::{count, subject};
 use ml_header::Message;
 use ml_subs::member;
-use std::alloc::{AllocError, Global};
+use std::alloc::Global;
+
+// What is found of a post: the verdict that refuses it, or the address of its sender.
+#[derive(Drop)]
+pub(crate) enum Judged {
+    Refused(Verdict),
+    Held(Address),
+    Posted(Address),
+}
+
+impl Judged {
+    // The verdict.
+    fn verdict(&self) -> Verdict
+        ensures { result ≡ verdict_of self.now }
+    {
+        match self {
+            Judged::Refused(found) => *found,
+            Judged::Held(_) => Verdict::Held,
+            Judged::Posted(_) => Verdict::Posted,
+        }
+    }
+}
 
 /// The verdict on a post of an envelope sender: the first row of the table that holds.
 ///
@@ -53,44 +75,56 @@ pub fn verdict<F: Files>(
     ensures reads { IsReading ⟦<F as Files>⟧ files.old files.new result }
 {
     let mut under = Configured { files, config };
-    judge_with_config(alloc, &mut under, config, sender, message)
+    let found = judge_with_config(alloc, &mut under, config, sender, message)?;
+    Ok(found.verdict())
 }
 
-// The same on a list that has the configuration.
+// The same on a list that has the configuration, with the address of the sender if the post is taken.
 pub(crate) fn judge_with_config<F: Files>(
     alloc: Global,
     files: &mut F,
     config: &Config,
     sender: &[u8],
     message: &Message<'_>,
-) -> Result<Verdict, PartError>
-    ensures apart { IsTrue F.tells → IfOk result (λ found. (dir : Dir) (p : Plain) → Alike (is_judged_by config.now sender.now) (F.map files.old) dir → IsList dir p → p.config ≡ config.now → row_of found ≡ spec.verdict p sender.now message.now) }
-    ensures moderated { IfOk result (λ found. may_be_found config.now.flags.m found ≡ true) }
-    ensures fits { IfOk result (λ found. found ≢ TooBig → length message.now ≤ config.now.max) }
+) -> Result<Judged, PartError>
+    ensures apart { IsTrue F.tells → IfOk result (λ found. (dir : Dir) (p : Plain) → Alike (is_judged_by config.now sender.now) (F.map files.old) dir → IsList dir p → p.config ≡ config.now → row_of (verdict_of found) ≡ spec.verdict p sender.now message.now) }
+    ensures moderated { IfOk result (λ found. may_be_found config.now.flags.m (verdict_of found) ≡ true) }
+    ensures fits { IfOk result (λ found. verdict_of found ≢ TooBig → length message.now ≤ config.now.max) }
     ensures names { NamesDamaged ⟦<F as Files>⟧ (λ name. is_judged_by config.now sender.now name ≡ true) (IsDamagedOf (F.map files.old) Count) result }
-    ensures found { IsTrue F.tells → IfOk result (FoundOfPost (F.map files.old) config.now sender.now message.now) }
+    ensures found { IsTrue F.tells → IfOk result (λ found. FoundOfPost (F.map files.old) config.now sender.now message.now (verdict_of found)) }
+    ensures sender { IfOk result (TellsSender (address_of sender.now)) }
     ensures reads { IsReading ⟦<F as Files>⟧ files.old files.new result }
 {
     if message.bytes().len() as u64 > config.max {
-        return Ok(Verdict::TooBig);
+        return Ok(Judged::Refused(Verdict::TooBig));
     }
-    let Some(who) = usable(alloc, sender)? else {
-        return Ok(Verdict::BounceSender);
+    let Some(who) = Address::read(alloc, sender)? else {
+        return Ok(Judged::Refused(Verdict::BounceSender));
     };
     if message.field(b"mailing-list").is_some() {
-        return Ok(Verdict::Looped);
+        return Ok(Judged::Refused(Verdict::Looped));
     }
-    of_sender(alloc, files, config, &who, message)
+    let found = of_sender(alloc, files, config, &who, message)?;
+    Ok(with_sender(found, who))
 }
 
-// The address of an envelope sender, or None if it is no address.
-pub(crate) fn usable(alloc: Global, sender: &[u8]) -> Result<Option<Address>, AllocError>
-    ensures { IfOk result (λ found. MatchOption found (spec.is_usable sender.now ≡ false) (λ who. (spec.is_usable sender.now ≡ true) × (address_of sender.now ≡ Some who))) }
+// A verdict on a post of a sender, with his address if the post is taken.
+fn with_sender(found: Verdict, who: Address) -> Judged
+    ensures verdict { verdict_of result ≡ found }
+    ensures sender { TellsSender (Some who) result }
 {
-    match Address::parse(alloc, sender) {
-        Ok(address) => Ok(Some(address)),
-        Err(AddressError::Fault(_)) => Ok(None),
-        Err(AddressError::Memory) => Err(AllocError),
+    match found {
+        Verdict::Held => Judged::Held(who),
+        Verdict::Posted => Judged::Posted(who),
+        Verdict::TooBig
+        | Verdict::BounceSender
+        | Verdict::Looped
+        | Verdict::Denied
+        | Verdict::NoSubject
+        | Verdict::CommandSubject
+        | Verdict::NotAddressed
+        | Verdict::UsersOnly
+        | Verdict::Full => Judged::Refused(found),
     }
 }
 
