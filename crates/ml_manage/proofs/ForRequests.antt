@@ -1,5 +1,5 @@
 -- What is said of any request, from what is said of the one request that it is.
-use Rattle.std.proofs.Common.{◌≡◌, Bool, true, IfErr, IfOk, IsTrue, List, Result, sym, subst}
+use Rattle.std.proofs.Common.{◌≡◌, Bool, true, IfErr, IfOk, List, Result, sym, subst}
 use Rattle.std.proofs.lemmas.Result.{IfOk-weaker}
 use Rattle.ml_address.specs.Requests.{PlainRequest, Post, Help, Other, Owner, Subscribe, Unsubscribe, Confirm, Members, Get, Index, Thread, Accept, Reject, Bounce, WarnBounce, ProbeBounce, ReplyBounce}
 use Rattle.ml_address.specs.Views.{request_view}
@@ -11,17 +11,16 @@ use Rattle.ml_base.specs.declared.names.Name.{Name}
 use Rattle.ml_base.specs.declared.part_error.PartError.{PartError}
 use Rattle.ml_base.specs.declared.puts.Put.{Put}
 use Rattle.ml_filing.specs.Threads.{is_of_archive}
-use Rattle.ml_config.specs.ConfigFile.{IsConfigFile, config_name}
 use Rattle.ml_config.specs.declared.configuration.Config.{Config}
 use Rattle.ml_plain.specs.Directory.{IsList}
 use Rattle.ml_plain.specs.Plain.{Plain}
 use Rattle.ml_plain.specs.declared.Reply.{Reply}
 use Rattle.ml_acts.specs.Acting.{AnswersWithin}
 use Rattle.ml_acts.specs.Asked.{Asked, IsBadFor, IsDamagedOf}
-use Rattle.ml_acts.specs.Configured.{with_config}
 use Rattle.ml_acts.specs.Damaged.{IsDamaged}
 use Rattle.ml_acts.specs.Doing.{Alike, DoesList}
-use Rattle.ml_acts.proofs.OfActs.{act_held, act_so}
+use Rattle.ml_acts.proofs.OfActs.{act_so}
+use Rattle.ml_joining.specs.Damaged.{IsDamagedAmong}
 use Rattle.ml_manage.specs.Reads.{IsDamagedFor, IsForRequest}
 
 -- what an act does for a request, on every directory that has the files that it reads
@@ -56,10 +55,10 @@ module _ {F : Type 0} (told : Ghosts F) (Writes : PlainRequest → Name → Bool
   pub for_other : ((name : Name) → IsForRequest dir c (request_view this) name) → AnswersWithin (Writes (request_view this)) told (May (request_view this)) (IsDamaged dir) old new r → AnswersWithin (Writes (request_view q)) told (May (request_view q)) (IsDamagedFor dir c (request_view q)) old new r
   for_other none act = of_this (IsDamaged dir) (λ name bad. record { damaged = bad; own = none name }) act
 
-  -- or that says so under the configuration
-  pub for_held : ((name : Name) → IsForRequest dir c (request_view this) name) → (IsTrue told.tells → IsConfigFile (dir config_name) c) → AnswersWithin (Writes (request_view this)) told (May (request_view this)) (IsDamaged (with_config c dir)) old new r
+  -- or that says of each that no list has the files that it looks at
+  pub for_looking : {looked : Name → Bool} → ((name : Name) → IsForRequest dir c (request_view this) name) → AnswersWithin (Writes (request_view this)) told (May (request_view this)) (IsDamagedAmong looked dir) old new r
       → AnswersWithin (Writes (request_view q)) told (May (request_view q)) (IsDamagedFor dir c (request_view q)) old new r
-  for_held none held act = for_other none (act_held c dir told IsDamaged held act)
+  for_looking {looked = looked} none act = of_this (IsDamagedAmong looked dir) (λ name bad. record { damaged = bad.damaged; own = none name }) act
 
   -- one that asks this of the archive
   pub for_asked : (asked : Asked) → ((name : Name) → (is_of_archive name ≡ true → IsBadFor dir asked name) → IsForRequest dir c (request_view this) name) → AnswersWithin (Writes (request_view this)) told (May (request_view this)) (IsDamagedOf dir asked) old new r

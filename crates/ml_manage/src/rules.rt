@@ -222,10 +222,10 @@ fn manage_checked<F: Files>(
 {
     match request {
         Request::Subscribe { set, who } => {
-            subscribe(alloc, files, config, now.seconds, sender, *set, *who)
+            subscribe(alloc, files, config, now, sender, *set, *who)
         }
         Request::Unsubscribe { set, who } => {
-            unsubscribe(alloc, files, config, now.seconds, sender, *set, *who)
+            unsubscribe(alloc, files, config, now, sender, *set, *who)
         }
         Request::Confirm {
             word,
@@ -234,16 +234,7 @@ fn manage_checked<F: Files>(
             cookie,
             who,
         } => confirm(
-            alloc,
-            files,
-            config,
-            now.seconds,
-            sender,
-            *word,
-            *set,
-            *time,
-            cookie,
-            *who,
+            alloc, files, config, now, sender, *word, *set, *time, cookie, *who,
         ),
         Request::Members { set } => members(alloc, files, config, now, sender, *set),
         Request::Get { from, to } => get(alloc, files, config, now, sender, *from, *to),

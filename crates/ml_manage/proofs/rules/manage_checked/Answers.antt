@@ -6,7 +6,7 @@ use Rattle.ml_plain.specs.Managing as spec
 use Rattle.ml_acts.specs.Damaged.{IsDamaged}
 use Rattle.ml_acts.specs.Doing.{DoesList}
 use Rattle.std.proofs.lemmas.Bool.{and_parts, leb-true, or_left, or_right}
-use Rattle.ml_base.specs.Dir.{same_name, Dir}
+use Rattle.ml_base.specs.Dir.{same_name}
 use Rattle.ml_plain.specs.Plain.{Plain}
 use Rattle.ml_plain.specs.declared.Reply.{Reply}
 use Rattle.ml_queue.specs.Answers.{ids_name}
@@ -15,15 +15,13 @@ use Rattle.ml_manage.specs.Reads.{IsDamagedFor, is_asked_of, is_managed, is_of_i
 use Rattle.ml_manage.specs.Written.{is_written_of}
 use Rattle.ml_manage.proofs.Written.{written_queue}
 use Rattle.ml_manage.proofs.Others.{is_asked_other, of_nothing}
-use Rattle.ml_manage.proofs.ForRequests.{beside_request, done_for, for_asked, for_held, for_other, spared_for}
+use Rattle.ml_manage.proofs.ForRequests.{beside_request, done_for, for_asked, for_looking, for_other, spared_for}
 use Rattle.ml_manage.proofs.Sending.{room_ids}
 use Rattle.ml_acts.proofs.OfActs.{act_so, act_wider}
-use Rattle.ml_address.specs.declared.Request.TheVariants as requests
-use Rattle.ml_acts.proofs.UnderConfig.{config_held}
 use Rattle.ml_manage.specs.Found.{FoundManaged}
 use Rattle.ml_manage.proofs.Finding.{found_help}
 use Rattle.ml_acts.proofs.Damages.{ok_then}
-use Rattle.ml_manage.proofs.Spared.{members_none, none_named, part_none}
+use Rattle.ml_manage.proofs.Spared.{members_none, none_looked, none_named, part_none}
 use Rattle.ml_manage.proofs.PostsSpared.{group_archived, group_none, posts_archived, range_none, thread_none, threads_archived}
 use Rattle.ml_manage.proofs.Apart.{answer_part, answer_whole}
 use Rattle.ml_acts.proofs.Spared.{ids_spared}
@@ -53,23 +51,20 @@ send_help-requires g c = record { room = λ told. room_ids (g.F.Files.map c.args
 in_range : (r s : Request) → r ≡ s → is_managed (request_view r) ≡ true → is_managed (request_view s) ≡ true
 in_range r s e managed = subst (λ (t : Request). is_managed (request_view t) ≡ true) e managed
 
-pub subscribe-requires-clause-asked : goal.subscribe-requires-clause-asked
-subscribe-requires-clause-asked g c = (and_parts _ _ (in_range _ _ c.in-Subscribe.is c.requires.request)).0
+pub subscribe-requires : goal.subscribe-requires
+subscribe-requires g c =
+    let parts = and_parts _ _ (in_range _ _ c.in-Subscribe.is c.requires.request) in
+    record { config = c.requires.config; asked = parts.0; range = parts.1; room = λ told. room_ids (g.F.Files.map c.args.files.now) (c.requires.room told) }
 
-pub subscribe-requires-clause-range : goal.subscribe-requires-clause-range
-subscribe-requires-clause-range g c = (and_parts _ _ (in_range _ _ c.in-Subscribe.is c.requires.request)).1
+pub unsubscribe-requires : goal.unsubscribe-requires
+unsubscribe-requires g c =
+    let parts = and_parts _ _ (in_range _ _ c.in-Unsubscribe.is c.requires.request) in
+    record { config = c.requires.config; asked = parts.0; range = parts.1; room = λ told. room_ids (g.F.Files.map c.args.files.now) (c.requires.room told) }
 
-pub unsubscribe-requires-clause-asked : goal.unsubscribe-requires-clause-asked
-unsubscribe-requires-clause-asked g c = (and_parts _ _ (in_range _ _ c.in-Unsubscribe.is c.requires.request)).0
-
-pub unsubscribe-requires-clause-range : goal.unsubscribe-requires-clause-range
-unsubscribe-requires-clause-range g c = (and_parts _ _ (in_range _ _ c.in-Unsubscribe.is c.requires.request)).1
-
-pub confirm-requires-clause-asked : goal.confirm-requires-clause-asked
-confirm-requires-clause-asked g c = (and_parts _ _ (in_range _ _ c.in-Confirm.is c.requires.request)).0
-
-pub confirm-requires-clause-range : goal.confirm-requires-clause-range
-confirm-requires-clause-range g c = (and_parts _ _ (and_parts _ _ (in_range _ _ c.in-Confirm.is c.requires.request)).1).1
+pub confirm-requires : goal.confirm-requires
+confirm-requires g c =
+    let parts = and_parts _ _ (in_range _ _ c.in-Confirm.is c.requires.request) in
+    record { config = c.requires.config; asked = parts.0; range = (and_parts _ _ parts.1).1; room = λ told. room_ids (g.F.Files.map c.args.files.now) (c.requires.room told) }
 
 pub returns-in-Members-clause-act : goal.returns-in-Members-clause-act
 returns-in-Members-clause-act g c = for_other g.F.Files (is_written_of c.args.sender.now) (λ r name. is_asked_of c.args.config.now c.args.sender.now r name ≡ true) c.in-Members.is (λ name. tt) c.members.ensures.act
@@ -84,13 +79,13 @@ pub returns-in-Thread-clause-act : goal.returns-in-Thread-clause-act
 returns-in-Thread-clause-act g c = for_asked g.F.Files (is_written_of c.args.sender.now) (λ r name. is_asked_of c.args.config.now c.args.sender.now r name ≡ true) c.in-Thread.is _ (λ name own. own) c.thread_of.ensures.act
 
 pub returns-in-Subscribe-clause-act : goal.returns-in-Subscribe-clause-act
-returns-in-Subscribe-clause-act g c = for_held g.F.Files (is_written_of c.args.sender.now) (λ r name. is_asked_of c.args.config.now c.args.sender.now r name ≡ true) c.in-Subscribe.is (λ name. tt) c.requires.loaded c.subscribe.ensures.act
+returns-in-Subscribe-clause-act g c = for_looking g.F.Files (is_written_of c.args.sender.now) (λ r name. is_asked_of c.args.config.now c.args.sender.now r name ≡ true) c.in-Subscribe.is (λ name. tt) c.subscribe.ensures.act
 
 pub returns-in-Unsubscribe-clause-act : goal.returns-in-Unsubscribe-clause-act
-returns-in-Unsubscribe-clause-act g c = for_held g.F.Files (is_written_of c.args.sender.now) (λ r name. is_asked_of c.args.config.now c.args.sender.now r name ≡ true) c.in-Unsubscribe.is (λ name. tt) c.requires.loaded c.unsubscribe.ensures.act
+returns-in-Unsubscribe-clause-act g c = for_looking g.F.Files (is_written_of c.args.sender.now) (λ r name. is_asked_of c.args.config.now c.args.sender.now r name ≡ true) c.in-Unsubscribe.is (λ name. tt) c.unsubscribe.ensures.act
 
 pub returns-in-Confirm-clause-act : goal.returns-in-Confirm-clause-act
-returns-in-Confirm-clause-act g c = for_held g.F.Files (is_written_of c.args.sender.now) (λ r name. is_asked_of c.args.config.now c.args.sender.now r name ≡ true) c.in-Confirm.is (λ name. tt) c.requires.loaded c.confirm.ensures.act
+returns-in-Confirm-clause-act g c = for_looking g.F.Files (is_written_of c.args.sender.now) (λ r name. is_asked_of c.args.config.now c.args.sender.now r name ≡ true) c.in-Confirm.is (λ name. tt) c.confirm.ensures.act
 
 pub returns-in_default-clause-act : goal.returns-in_default-clause-act
 returns-in_default-clause-act g c =
@@ -122,24 +117,15 @@ returns-in-Thread-clause-found g c told =
 
 pub returns-in-Subscribe-clause-found : goal.returns-in-Subscribe-clause-found
 returns-in-Subscribe-clause-found g c told =
-    let dir = g.F.Files.map c.args.files.now in
-    let conf = c.args.config.now in
-    subst (λ (r : Request). IfOk c.subscribe.result (FoundManaged dir conf c.args.sender.now (request_view r))) (sym c.in-Subscribe.is)
-    (subst (λ (d : Dir). IfOk c.subscribe.result (FoundManaged d conf c.args.sender.now (request_view (requests.Subscribe c.in-Subscribe.set c.in-Subscribe.who)))) (config_held conf dir (c.requires.loaded told)) (c.subscribe.ensures.found told))
+    subst (λ (r : Request). IfOk c.subscribe.result (FoundManaged (g.F.Files.map c.args.files.now) c.args.config.now c.args.sender.now (request_view r))) (sym c.in-Subscribe.is) (c.subscribe.ensures.found told)
 
 pub returns-in-Unsubscribe-clause-found : goal.returns-in-Unsubscribe-clause-found
 returns-in-Unsubscribe-clause-found g c told =
-    let dir = g.F.Files.map c.args.files.now in
-    let conf = c.args.config.now in
-    subst (λ (r : Request). IfOk c.unsubscribe.result (FoundManaged dir conf c.args.sender.now (request_view r))) (sym c.in-Unsubscribe.is)
-    (subst (λ (d : Dir). IfOk c.unsubscribe.result (FoundManaged d conf c.args.sender.now (request_view (requests.Unsubscribe c.in-Unsubscribe.set c.in-Unsubscribe.who)))) (config_held conf dir (c.requires.loaded told)) (c.unsubscribe.ensures.found told))
+    subst (λ (r : Request). IfOk c.unsubscribe.result (FoundManaged (g.F.Files.map c.args.files.now) c.args.config.now c.args.sender.now (request_view r))) (sym c.in-Unsubscribe.is) (c.unsubscribe.ensures.found told)
 
 pub returns-in-Confirm-clause-found : goal.returns-in-Confirm-clause-found
 returns-in-Confirm-clause-found g c told =
-    let dir = g.F.Files.map c.args.files.now in
-    let conf = c.args.config.now in
-    subst (λ (r : Request). IfOk c.confirm.result (FoundManaged dir conf c.args.sender.now (request_view r))) (sym c.in-Confirm.is)
-    (subst (λ (d : Dir). IfOk c.confirm.result (FoundManaged d conf c.args.sender.now (request_view (requests.Confirm c.in-Confirm.word c.in-Confirm.set c.in-Confirm.time c.in-Confirm.cookie c.in-Confirm.who)))) (config_held conf dir (c.requires.loaded told)) (c.confirm.ensures.found told))
+    subst (λ (r : Request). IfOk c.confirm.result (FoundManaged (g.F.Files.map c.args.files.now) c.args.config.now c.args.sender.now (request_view r))) (sym c.in-Confirm.is) (c.confirm.ensures.found told)
 
 pub returns-in_default-clause-found : goal.returns-in_default-clause-found
 returns-in_default-clause-found g c told =
@@ -246,12 +232,15 @@ returns-in-Confirm-clause-apart g c told = done_for c.confirm.result _ _ (is_see
 
 pub returns-in-Subscribe-clause-spared : goal.returns-in-Subscribe-clause-spared
 returns-in-Subscribe-clause-spared g c told =
-    spared_for c.subscribe.result (g.F.Files.map c.args.files.now) c.args.config.now (is_seen_of c.args.config.now c.args.sender.now) c.in-Subscribe.is (λ dir p alike is same. c.subscribe.ensures.spared told dir p alike is)
+    spared_for c.subscribe.result (g.F.Files.map c.args.files.now) c.args.config.now (is_seen_of c.args.config.now c.args.sender.now) c.in-Subscribe.is
+    (λ dir p alike is same. none_looked g.F.Files c.subscribe.result told c.subscribe.ensures.act.names dir p alike is)
 
 pub returns-in-Unsubscribe-clause-spared : goal.returns-in-Unsubscribe-clause-spared
 returns-in-Unsubscribe-clause-spared g c told =
-    spared_for c.unsubscribe.result (g.F.Files.map c.args.files.now) c.args.config.now (is_seen_of c.args.config.now c.args.sender.now) c.in-Unsubscribe.is (λ dir p alike is same. c.unsubscribe.ensures.spared told dir p alike is)
+    spared_for c.unsubscribe.result (g.F.Files.map c.args.files.now) c.args.config.now (is_seen_of c.args.config.now c.args.sender.now) c.in-Unsubscribe.is
+    (λ dir p alike is same. none_looked g.F.Files c.unsubscribe.result told c.unsubscribe.ensures.act.names dir p alike is)
 
 pub returns-in-Confirm-clause-spared : goal.returns-in-Confirm-clause-spared
 returns-in-Confirm-clause-spared g c told =
-    spared_for c.confirm.result (g.F.Files.map c.args.files.now) c.args.config.now (is_seen_of c.args.config.now c.args.sender.now) c.in-Confirm.is (λ dir p alike is same. c.confirm.ensures.spared told dir p alike is)
+    spared_for c.confirm.result (g.F.Files.map c.args.files.now) c.args.config.now (is_seen_of c.args.config.now c.args.sender.now) c.in-Confirm.is
+    (λ dir p alike is same. none_looked g.F.Files c.confirm.result told c.confirm.ensures.act.names dir p alike is)
