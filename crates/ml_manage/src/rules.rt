@@ -65,7 +65,7 @@ pub fn manage<F: Files>(
     ensures found { IsTrue F.tells → IfOk result (FoundByRequest (with_config config.now (F.map files.old)) config.now sender.now message.now (request_view request.now)) }
     ensures act { AnswersWithin (is_written_for_sender sender.now (request_view request.now)) ⟦<F as Files>⟧ (λ name. is_read_for_sender config.now sender.now (request_view request.now) name ≡ true) (IsDamagedFor (with_config config.now (F.map files.old)) config.now (request_view request.now)) files.old files.new result }
 {
-    let mut under = Configured::new(files, config);
+    let mut under = Configured { files, config };
     let now = Moment { seconds: now };
     by_request(alloc, &mut under, config, now, sender, request, message)
 }
