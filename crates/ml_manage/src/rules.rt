@@ -28,13 +28,12 @@ use crate::archive::{get, index_of, thread_of};
 use crate::bounces::{take_bounce, take_probe_bounce, take_warning_bounce};
 use crate::help_and_owner::{send_help, to_owner};
 use crate::members::members;
-use crate::named_addresses::named;
 use ml_acts::{Configured, Moment};
 use ml_address::{Request, Who};
 use ml_base::{Address, Files, PartError, Set, Txn};
 use ml_config::Config;
 use ml_header::Message;
-use ml_joining::{confirm, subscribe, unsubscribe};
+use ml_joining::{confirm, named_address, subscribe, unsubscribe};
 use ml_plain::Reply;
 use std::alloc::Global;
 
@@ -124,7 +123,7 @@ fn of_bounce<F: Files>(
     ensures found { IsTrue F.tells → IfOk result (FoundToNote (F.map files.old) set (key (address_named (who_view who.now)))) }
     ensures act { AnswersWithin (is_entry_of set (address_named (who_view who.now))) ⟦<F as Files>⟧ (λ name. is_of_bounce set (address_named (who_view who.now)) name ≡ true) (IsDamagedOf (F.map files.old) Count) files.old files.new result }
 {
-    let x = named(alloc, who)?;
+    let x = named_address(alloc, *who)?;
     take_bounce(alloc, files, now, set, number, &x)
 }
 
@@ -143,7 +142,7 @@ fn of_warning<F: Files>(
     ensures found { IsTrue F.tells → IfOk result (FoundToWarn (F.map files.old) set (key (address_named (who_view who.now)))) }
     ensures act { AnswersWithin (is_entry_of set (address_named (who_view who.now))) ⟦<F as Files>⟧ (λ name. is_of_warning set (address_named (who_view who.now)) name ≡ true) (IsDamaged (F.map files.old)) files.old files.new result }
 {
-    let x = named(alloc, who)?;
+    let x = named_address(alloc, *who)?;
     take_warning_bounce(alloc, files, now, set, time, letters, &x)
 }
 
@@ -163,7 +162,7 @@ fn of_probe<F: Files>(
     ensures found { IsTrue F.tells → IfOk result (FoundToProbe (F.map files.old) set (key (address_named (who_view who.now)))) }
     ensures act { AnswersWithin (is_left_by set (address_named (who_view who.now))) ⟦<F as Files>⟧ (λ name. is_of_probe set (address_named (who_view who.now)) name ≡ true) (IsDamaged (F.map files.old)) files.old files.new result }
 {
-    let x = named(alloc, who)?;
+    let x = named_address(alloc, *who)?;
     take_probe_bounce(alloc, files, now, set, time, letters, &x)
 }
 
