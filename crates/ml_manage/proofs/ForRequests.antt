@@ -1,7 +1,7 @@
 -- What is said of any request, from what is said of the one request that it is.
 use Rattle.std.proofs.Common.{◌≡◌, Bool, true, IfErr, IfOk, List, Result, sym, subst}
 use Rattle.std.proofs.lemmas.Result.{IfOk-weaker}
-use Rattle.ml_address.specs.Requests.{PlainRequest, Post, Help, Other, Owner, Subscribe, Unsubscribe, Confirm, Members, Get, Index, Thread, Accept, Reject, Bounce, WarnBounce, ProbeBounce, ReplyBounce}
+use Rattle.ml_address.specs.Requests.{PlainRequest}
 use Rattle.ml_address.specs.Views.{request_view}
 use Rattle.ml_address.specs.declared.Request.{Request}
 use Rattle.ml_base.specs.Dir.{Dir}
@@ -64,24 +64,3 @@ module _ {F : Type 0} (told : Ghosts F) (Writes : PlainRequest → Name → Bool
   pub for_asked : (asked : Asked) → ((name : Name) → (is_of_archive name ≡ true → IsBadFor dir asked name) → IsForRequest dir c (request_view this) name) → AnswersWithin (Writes (request_view this)) told (May (request_view this)) (IsDamagedOf dir asked) old new r
       → AnswersWithin (Writes (request_view q)) told (May (request_view q)) (IsDamagedFor dir c (request_view q)) old new r
   for_asked asked own act = of_this (IsDamagedOf dir asked) (λ name bad. record { damaged = bad.damaged; own = own name bad.own }) act
-
--- a file that is none of the archive's, whatever the request
-module _ (dir : Dir) (c : Config) (name : Name) (none : is_of_archive name ≡ true → ⊥) where
-  pub beside_request : (request : PlainRequest) → IsForRequest dir c request name
-  beside_request Post = tt
-  beside_request Help = tt
-  beside_request Other = tt
-  beside_request Owner = tt
-  beside_request (Subscribe set who) = tt
-  beside_request (Unsubscribe set who) = tt
-  beside_request (Confirm word set s) = tt
-  beside_request (Members set) = tt
-  beside_request (Get from to) = λ of. absurd (none of)
-  beside_request (Index at) = λ of. absurd (none of)
-  beside_request (Thread at) = λ of. absurd (none of)
-  beside_request (Accept ticket cookie) = tt
-  beside_request (Reject ticket cookie) = tt
-  beside_request (Bounce set number who) = λ of. absurd (none of)
-  beside_request (WarnBounce set s) = tt
-  beside_request (ProbeBounce set s) = tt
-  beside_request (ReplyBounce set) = tt

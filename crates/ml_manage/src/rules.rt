@@ -104,7 +104,20 @@ fn by_request<F: Files>(
         } => of_probe(alloc, files, now.seconds, *set, *time, cookie, who),
         Request::ReplyBounce { .. } => Ok((Txn::new(alloc), Reply::plain(Reply::IGNORED))),
         Request::Owner => to_owner(alloc, files, config, message),
-        _ => by_sender(alloc, files, config, now, sender, request, message),
+        Request::Help
+        | Request::Other
+        | Request::Subscribe { .. }
+        | Request::Unsubscribe { .. }
+        | Request::Members { .. }
+        | Request::Confirm { .. }
+        | Request::Get { .. }
+        | Request::Index { .. }
+        | Request::Thread { .. }
+        | Request::Post
+        | Request::Accept { .. }
+        | Request::Reject { .. } => {
+            by_sender(alloc, files, config, now, sender, request, message)
+        }
     }
 }
 
@@ -239,6 +252,15 @@ fn manage_checked<F: Files>(
         Request::Get { from, to } => get(alloc, files, config, now, sender, *from, *to),
         Request::Index { at } => index_of(alloc, files, config, now, sender, *at),
         Request::Thread { at } => thread_of(alloc, files, config, now, sender, *at),
-        _ => send_help(alloc, files, config, now, sender),
+        Request::Help
+        | Request::Other
+        | Request::Owner
+        | Request::Bounce { .. }
+        | Request::WarnBounce { .. }
+        | Request::ProbeBounce { .. }
+        | Request::ReplyBounce { .. }
+        | Request::Post
+        | Request::Accept { .. }
+        | Request::Reject { .. } => send_help(alloc, files, config, now, sender),
     }
 }
