@@ -1,5 +1,5 @@
 -- Which files a request to join or to leave and a confirmation may read.
-use Rattle.std.proofs.Common.{◌≡◌, ◌⊎◌, inl, inr, Bool, true, false, ◌&&◌, ◌||◌, refl}
+use Rattle.std.proofs.Common.{◌≡◌, ◌⊎◌, inl, inr, Bool, true, ◌&&◌, ◌||◌}
 use Rattle.std.proofs.lemmas.Bool.{or_cases, or_left, or_right}
 use Rattle.ml_base.specs.Address.{key}
 use Rattle.ml_base.specs.Bytes.{Text}
@@ -9,7 +9,6 @@ use Rattle.ml_base.specs.declared.names.Set.{Set}
 use Rattle.ml_base.specs.declared.names.Set.TheVariants as sets
 use Rattle.ml_address.specs.declared.Word.{Word}
 use Rattle.ml_address.specs.declared.Word.TheVariants as words
-use Rattle.ml_config.specs.ConfigFile.{config_name}
 use Rattle.ml_config.specs.KeyFile.{key_name}
 use Rattle.ml_config.specs.declared.configuration.Config.{Config}
 use Rattle.ml_queue.specs.Answers.{ids_name}
@@ -95,33 +94,3 @@ module _ (set : Set) (who : Text) (name : Name) where
 -- the files of the set that an addition looks at
 pub adding_touched : (set : Set) (who : Text) (old dir : Dir) → Alike (is_touched_with_mail set who) old dir → Alike (is_touched set (key who)) old dir
 adding_touched set who old dir alike name e = alike name (or_left (is_touched set (key who) name) (same_name name ids_name) e)
-
--- the configuration is none of these files
-config_to_join : (set : Set) (who : Text) → is_read_to_join set who config_name ≡ false
-config_to_join sets.List who = refl
-config_to_join sets.Digest who = refl
-config_to_join sets.Allow who = refl
-config_to_join sets.Deny who = refl
-config_to_join sets.Moderators who = refl
-
-config_to_leave : (set : Set) (who : Text) → is_read_to_leave set who config_name ≡ false
-config_to_leave sets.List who = refl
-config_to_leave sets.Digest who = refl
-config_to_leave sets.Allow who = refl
-config_to_leave sets.Deny who = refl
-config_to_leave sets.Moderators who = refl
-
-config_beside : (asked : Bool) (sender : Text) (rest : Bool) → rest ≡ false → ((asked && is_bucket_of sets.Moderators sender config_name) || rest) ≡ false
-config_beside true sender rest e = e
-config_beside false sender rest e = e
-
-pub config_to_subscribe : (c : Config) (sender : Text) (set : Set) (who : Text) → is_read_to_subscribe c sender set who config_name ≡ false
-config_to_subscribe c sender set who = config_beside (asks_rank c) sender (is_read_to_join set who config_name) (config_to_join set who)
-
-pub config_to_unsubscribe : (c : Config) (sender : Text) (set : Set) (who : Text) → is_read_to_unsubscribe c sender set who config_name ≡ false
-config_to_unsubscribe c sender set who = config_beside c.flags.r sender (is_read_to_leave set who config_name) (config_to_leave set who)
-
-pub config_to_confirm : (word : Word) (set : Set) (who : Text) → is_read_to_confirm word set who config_name ≡ false
-config_to_confirm words.Uc set who = config_to_leave set who
-config_to_confirm words.Sc set who = config_to_join set who
-config_to_confirm words.Tc set who = config_to_join set who

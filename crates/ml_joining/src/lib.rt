@@ -10,3 +10,4 @@ mod requests;
 mod subjects;
 
 pub use requests::{confirm, subscribe, unsubscribe};
+pub use subjects::named_address;

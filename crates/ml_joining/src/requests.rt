@@ -1,10 +1,8 @@
 // Requests to join and to leave, and confirmations: these look for the address, decide and do it.
-ghost use Rattle.std.specs.Prelude.{◌≡◌, true, IsTrue, IfErr, IfOk, Some};
+ghost use Rattle.std.specs.Prelude.{◌≡◌, true, IsTrue, IfOk, Some};
 ghost use Rattle.std.specs.Option.{option_map};
 ghost use Rattle.ml_base.specs.Address.{key};
 ghost use Rattle.ml_base.specs.Dir.{Dir, same_name};
-ghost use Rattle.ml_base.specs.PartErrors.{OnDamaged};
-ghost use Rattle.ml_base.specs.Ranges.{IsMoment};
 ghost use Rattle.ml_base.specs.ReadFiles.{IsReading, NamesDamaged};
 ghost use Rattle.ml_address.specs.Requests.{if_who, is_asked, is_who, word_text};
 ghost use Rattle.ml_address.specs.Views.{who_view};
@@ -15,9 +13,7 @@ ghost use Rattle.ml_plain.specs.Directory.{IsList};
 ghost use Rattle.ml_plain.specs.Mailing.{is_good};
 ghost use Rattle.ml_plain.specs.Managing as spec;
 ghost use Rattle.ml_plain.specs.Plain.{Plain};
-ghost use Rattle.ml_acts.specs.Acting.{AnswersWithin};
-ghost use Rattle.ml_acts.specs.Configured.{with_config};
-ghost use Rattle.ml_acts.specs.Doing.{Alike, DoesList, HasIds, HasRoom, is_changed_for};
+ghost use Rattle.ml_acts.specs.Doing.{Alike, DoesList, HasIds, is_changed_for};
 ghost use Rattle.ml_acts.specs.Damaged.{IsDamaged};
 ghost use Rattle.ml_acts.specs.Found.{TellsKeys, TellsMember};
 ghost use Rattle.ml_joining.specs.Damaged.{AnswersLooking};
@@ -31,49 +27,16 @@ use crate::arrivals::do_joining;
 use crate::decisions::{Facts, confirmed_joining, confirmed_leaving, joining, leaving};
 use crate::departures::do_leaving;
 use crate::subjects::{Subject, find_subject, moderates};
-use ml_acts::{Configured, Moment, is_good as good_cookie, key_of};
+use ml_acts::{Moment, is_good as good_cookie, key_of};
 use ml_address::{Who, Word, word_text};
 use ml_base::{Address, Files, PartError, Set, Txn};
 use ml_config::{Config, key as load_keys};
 use ml_plain::Reply;
 use std::alloc::Global;
 
-/// A sender asks that an address joins a set: the one that he names, or his own. The set is one that requests name. What it does is said
-/// of the files with the configuration in place of theirs.
+/// A sender asks that an address joins a set: the one that he names, or his own. The set is one that requests name. What it does is said of
+/// a list with this configuration, whose file isn't read.
 pub fn subscribe<F: Files>(
-    alloc: Global,
-    files: &mut F,
-    config: &Config,
-    now: u64,
-    sender: &Address,
-    set: Set,
-    who: Option<Who<'_>>,
-) -> Result<(Txn, Reply), PartError>
-    requires moment { IsMoment now }
-    requires config { IsConfig config.now }
-    requires asked { IsTrue (is_asked set) }
-    requires range { IsTrue (if_who (option_map who_view who)) }
-    requires room { IsTrue F.tells → HasRoom (F.map files.now) }
-    ensures value { IsTrue F.tells → IfOk result (λ done. (p : Plain) → IsList (with_config config.now (F.map files.old)) p → DoesList (with_config config.now (F.map files.old)) done (spec.subscribe now sender.now set (spec.subject_of p set sender.now (option_map who_view who.entry)) p)) }
-    ensures apart { IsTrue F.tells → IfOk result (λ done. (dir : Dir) (p : Plain) → Alike (is_read_to_subscribe config.now sender.now set (asked_of sender.now (option_map who_view who.entry))) (F.map files.old) dir → IsList dir p → p.config ≡ config.now → DoesList dir done (spec.subscribe now sender.now set (spec.subject_of p set sender.now (option_map who_view who.entry)) p)) }
-    ensures spared { IsTrue F.tells → (dir : Dir) (p : Plain) → Alike (is_read_to_subscribe config.now sender.now set (asked_of sender.now (option_map who_view who.entry))) (F.map files.old) dir → IsList dir p → IfErr result (λ e. OnDamaged e (λ _. ⊥)) }
-    ensures found { IsTrue F.tells → IfOk result (FoundToSubscribe (with_config config.now (F.map files.old)) config.now sender.now set (asked_of sender.now (option_map who_view who.entry))) }
-    ensures act { AnswersWithin (is_written_to_join set (asked_of sender.now (option_map who_view who.entry))) ⟦<F as Files>⟧ (λ name. is_read_to_subscribe config.now sender.now set (asked_of sender.now (option_map who_view who.entry)) name ≡ true) (IsDamaged (with_config config.now (F.map files.old))) files.old files.new result }
-{
-    let mut under = Configured::new(files, config);
-    join_asked(
-        alloc,
-        &mut under,
-        config,
-        Moment { seconds: now },
-        sender,
-        set,
-        who,
-    )
-}
-
-// A sender asks that somebody joins a set. The set is searched for him.
-fn join_asked<F: Files>(
     alloc: Global,
     files: &mut F,
     config: &Config,
@@ -128,42 +91,9 @@ fn join_found<F: Files>(
     do_joining(alloc, files, config, now, set, sender, x, operation)
 }
 
-/// A sender asks that an address leaves a set: the one that he names, or his own. The set is one that requests name. What it does is said
-/// of the files with the configuration in place of theirs.
+/// A sender asks that an address leaves a set: the one that he names, or his own. The set is one that requests name. What it does is said of
+/// a list with this configuration, whose file isn't read.
 pub fn unsubscribe<F: Files>(
-    alloc: Global,
-    files: &mut F,
-    config: &Config,
-    now: u64,
-    sender: &Address,
-    set: Set,
-    who: Option<Who<'_>>,
-) -> Result<(Txn, Reply), PartError>
-    requires moment { IsMoment now }
-    requires config { IsConfig config.now }
-    requires asked { IsTrue (is_asked set) }
-    requires range { IsTrue (if_who (option_map who_view who)) }
-    requires room { IsTrue F.tells → HasRoom (F.map files.now) }
-    ensures value { IsTrue F.tells → IfOk result (λ done. (p : Plain) → IsList (with_config config.now (F.map files.old)) p → DoesList (with_config config.now (F.map files.old)) done (spec.unsubscribe now sender.now set (spec.subject_of p set sender.now (option_map who_view who.entry)) p)) }
-    ensures apart { IsTrue F.tells → IfOk result (λ done. (dir : Dir) (p : Plain) → Alike (is_read_to_unsubscribe config.now sender.now set (asked_of sender.now (option_map who_view who.entry))) (F.map files.old) dir → IsList dir p → p.config ≡ config.now → DoesList dir done (spec.unsubscribe now sender.now set (spec.subject_of p set sender.now (option_map who_view who.entry)) p)) }
-    ensures spared { IsTrue F.tells → (dir : Dir) (p : Plain) → Alike (is_read_to_unsubscribe config.now sender.now set (asked_of sender.now (option_map who_view who.entry))) (F.map files.old) dir → IsList dir p → IfErr result (λ e. OnDamaged e (λ _. ⊥)) }
-    ensures found { IsTrue F.tells → IfOk result (FoundToUnsubscribe (with_config config.now (F.map files.old)) config.now sender.now set (asked_of sender.now (option_map who_view who.entry))) }
-    ensures act { AnswersWithin (is_changed_for set (asked_of sender.now (option_map who_view who.entry))) ⟦<F as Files>⟧ (λ name. is_read_to_unsubscribe config.now sender.now set (asked_of sender.now (option_map who_view who.entry)) name ≡ true) (IsDamaged (with_config config.now (F.map files.old))) files.old files.new result }
-{
-    let mut under = Configured::new(files, config);
-    leave_asked(
-        alloc,
-        &mut under,
-        config,
-        Moment { seconds: now },
-        sender,
-        set,
-        who,
-    )
-}
-
-// A sender asks that somebody leaves a set. The set is searched for him.
-fn leave_asked<F: Files>(
     alloc: Global,
     files: &mut F,
     config: &Config,
@@ -212,47 +142,8 @@ fn leave_found<F: Files>(
 }
 
 /// A sender confirms that an address joins a set or leaves it, with a cookie for the address. The set is one that requests name. What it
-/// does is said of the files with the configuration in place of theirs.
+/// does is said of a list with this configuration, whose file isn't read.
 pub fn confirm<F: Files>(
-    alloc: Global,
-    files: &mut F,
-    config: &Config,
-    now: u64,
-    sender: &Address,
-    word: Word,
-    set: Set,
-    time: u64,
-    cookie: &[u8; 20],
-    who: Who<'_>,
-) -> Result<(Txn, Reply), PartError>
-    requires moment { IsMoment now }
-    requires config { IsConfig config.now }
-    requires asked { IsTrue (is_asked set) }
-    requires range { IsTrue (is_who (who_view who)) }
-    requires room { IsTrue F.tells → HasRoom (F.map files.now) }
-    ensures value { IsTrue F.tells → IfOk result (λ done. (p : Plain) → IsList (with_config config.now (F.map files.old)) p → DoesList (with_config config.now (F.map files.old)) done (spec.confirm now sender.now word set (record { time = time; cookie = cookie.now; who = who_view who.entry }) (spec.subject_of p set sender.now (Some (who_view who.entry))) p)) }
-    ensures apart { IsTrue F.tells → IfOk result (λ done. (dir : Dir) (p : Plain) → Alike (is_read_to_confirm word set (address_named (who_view who.entry))) (F.map files.old) dir → IsList dir p → p.config ≡ config.now → DoesList dir done (spec.confirm now sender.now word set (record { time = time; cookie = cookie.now; who = who_view who.entry }) (spec.subject_of p set sender.now (Some (who_view who.entry))) p)) }
-    ensures spared { IsTrue F.tells → (dir : Dir) (p : Plain) → Alike (is_read_to_confirm word set (address_named (who_view who.entry))) (F.map files.old) dir → IsList dir p → IfErr result (λ e. OnDamaged e (λ _. ⊥)) }
-    ensures found { IsTrue F.tells → IfOk result (FoundToConfirm (with_config config.now (F.map files.old)) config.now word set (address_named (who_view who.entry))) }
-    ensures act { AnswersWithin (is_written_to_confirm word set (address_named (who_view who.entry))) ⟦<F as Files>⟧ (λ name. is_read_to_confirm word set (address_named (who_view who.entry)) name ≡ true) (IsDamaged (with_config config.now (F.map files.old))) files.old files.new result }
-{
-    let mut under = Configured::new(files, config);
-    confirm_asked(
-        alloc,
-        &mut under,
-        config,
-        Moment { seconds: now },
-        sender,
-        word,
-        set,
-        time,
-        cookie,
-        who,
-    )
-}
-
-// A sender confirms something of somebody. The set is searched for him.
-fn confirm_asked<F: Files>(
     alloc: Global,
     files: &mut F,
     config: &Config,

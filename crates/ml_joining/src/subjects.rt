@@ -14,10 +14,11 @@ ghost use Rattle.ml_base.specs.Dir.{Dir};
 ghost use Rattle.ml_acts.specs.Damaged.{IsDamaged};
 ghost use Rattle.ml_acts.specs.Found.{TellsMember};
 ghost use Rattle.ml_base.specs.Address.{key};
+ghost use Rattle.ml_base.specs.Bytes.{lower};
 ghost use Rattle.ml_joining.specs.Operations.{IsSubject, asked_of};
 
 use ml_address::Who;
-use ml_base::{Address, AddressError, Bytes, Files, PartError, Set};
+use ml_base::{Address, Bytes, Files, PartError, Set};
 use ml_subs::{find, member};
 use std::alloc::{AllocError, Global};
 
@@ -29,19 +30,25 @@ pub(crate) struct Subject {
     pub member: bool,
 }
 
-// The address of the parts that a request names, its host in lower case.
-fn named(alloc: Global, who: Who<'_>) -> Result<Address, AllocError>
+// A text in lower case.
+fn lower_case(alloc: Global, text: &[u8]) -> Result<Bytes, AllocError>
+    ensures { IfOk result (λ out. out ≡ lower text.now) }
+{
+    let mut bytes = Vec::from_slice(alloc, text)?;
+    bytes.as_mut_slice().make_ascii_lowercase();
+    Ok(Bytes::from_vec(bytes))
+}
+
+/// The address of the parts that a request names, its host in lower case. They were checked when the request was read.
+pub fn named_address(alloc: Global, who: Who<'_>) -> Result<Address, AllocError>
     requires { IsTrue (is_who (who_view who)) }
     ensures { IfOk result (λ address. address ≡ address_named (who_view who.entry)) }
 {
+    let host = lower_case(alloc, who.host)?;
     let mut text = Bytes::from_slice(alloc, who.local)?;
     text.push(b'@')?;
-    text.extend(who.host)?;
-    match Address::parse(alloc, text.as_slice()) {
-        Ok(address) => Ok(address),
-        Err(AddressError::Memory) => Err(AllocError),
-        Err(AddressError::Fault(_)) => unreachable!(),
-    }
+    text.extend(host.as_slice())?;
+    Address::from_kept(alloc, text.as_slice())
 }
 
 // The address that a request is about: the one that it names, or the sender.
@@ -54,7 +61,7 @@ fn asked_address(
     ensures { IfOk result (λ address. address ≡ asked_of sender.now (option_map who_view who.entry)) }
 {
     match who {
-        Some(who) => named(alloc, who),
+        Some(who) => named_address(alloc, who),
         None => sender.copy(alloc),
     }
 }

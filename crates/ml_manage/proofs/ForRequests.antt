@@ -1,7 +1,7 @@
 -- What is said of any request, from what is said of the one request that it is.
-use Rattle.std.proofs.Common.{◌≡◌, Bool, true, IfErr, IfOk, IsTrue, List, Result, sym, subst}
+use Rattle.std.proofs.Common.{◌≡◌, Bool, true, IfErr, IfOk, List, Result, sym, subst}
 use Rattle.std.proofs.lemmas.Result.{IfOk-weaker}
-use Rattle.ml_address.specs.Requests.{PlainRequest, Post, Help, Other, Owner, Subscribe, Unsubscribe, Confirm, Members, Get, Index, Thread, Accept, Reject, Bounce, WarnBounce, ProbeBounce, ReplyBounce}
+use Rattle.ml_address.specs.Requests.{PlainRequest}
 use Rattle.ml_address.specs.Views.{request_view}
 use Rattle.ml_address.specs.declared.Request.{Request}
 use Rattle.ml_base.specs.Dir.{Dir}
@@ -11,17 +11,16 @@ use Rattle.ml_base.specs.declared.names.Name.{Name}
 use Rattle.ml_base.specs.declared.part_error.PartError.{PartError}
 use Rattle.ml_base.specs.declared.puts.Put.{Put}
 use Rattle.ml_filing.specs.Threads.{is_of_archive}
-use Rattle.ml_config.specs.ConfigFile.{IsConfigFile, config_name}
 use Rattle.ml_config.specs.declared.configuration.Config.{Config}
 use Rattle.ml_plain.specs.Directory.{IsList}
 use Rattle.ml_plain.specs.Plain.{Plain}
 use Rattle.ml_plain.specs.declared.Reply.{Reply}
 use Rattle.ml_acts.specs.Acting.{AnswersWithin}
 use Rattle.ml_acts.specs.Asked.{Asked, IsBadFor, IsDamagedOf}
-use Rattle.ml_acts.specs.Configured.{with_config}
 use Rattle.ml_acts.specs.Damaged.{IsDamaged}
 use Rattle.ml_acts.specs.Doing.{Alike, DoesList}
-use Rattle.ml_acts.proofs.OfActs.{act_held, act_so}
+use Rattle.ml_acts.proofs.OfActs.{act_so}
+use Rattle.ml_joining.specs.Damaged.{IsDamagedAmong}
 use Rattle.ml_manage.specs.Reads.{IsDamagedFor, IsForRequest}
 
 -- what an act does for a request, on every directory that has the files that it reads
@@ -56,33 +55,12 @@ module _ {F : Type 0} (told : Ghosts F) (Writes : PlainRequest → Name → Bool
   pub for_other : ((name : Name) → IsForRequest dir c (request_view this) name) → AnswersWithin (Writes (request_view this)) told (May (request_view this)) (IsDamaged dir) old new r → AnswersWithin (Writes (request_view q)) told (May (request_view q)) (IsDamagedFor dir c (request_view q)) old new r
   for_other none act = of_this (IsDamaged dir) (λ name bad. record { damaged = bad; own = none name }) act
 
-  -- or that says so under the configuration
-  pub for_held : ((name : Name) → IsForRequest dir c (request_view this) name) → (IsTrue told.tells → IsConfigFile (dir config_name) c) → AnswersWithin (Writes (request_view this)) told (May (request_view this)) (IsDamaged (with_config c dir)) old new r
+  -- or that says of each that no list has the files that it looks at
+  pub for_looking : {looked : Name → Bool} → ((name : Name) → IsForRequest dir c (request_view this) name) → AnswersWithin (Writes (request_view this)) told (May (request_view this)) (IsDamagedAmong looked dir) old new r
       → AnswersWithin (Writes (request_view q)) told (May (request_view q)) (IsDamagedFor dir c (request_view q)) old new r
-  for_held none held act = for_other none (act_held c dir told IsDamaged held act)
+  for_looking {looked = looked} none act = of_this (IsDamagedAmong looked dir) (λ name bad. record { damaged = bad.damaged; own = none name }) act
 
   -- one that asks this of the archive
   pub for_asked : (asked : Asked) → ((name : Name) → (is_of_archive name ≡ true → IsBadFor dir asked name) → IsForRequest dir c (request_view this) name) → AnswersWithin (Writes (request_view this)) told (May (request_view this)) (IsDamagedOf dir asked) old new r
       → AnswersWithin (Writes (request_view q)) told (May (request_view q)) (IsDamagedFor dir c (request_view q)) old new r
   for_asked asked own act = of_this (IsDamagedOf dir asked) (λ name bad. record { damaged = bad.damaged; own = own name bad.own }) act
-
--- a file that is none of the archive's, whatever the request
-module _ (dir : Dir) (c : Config) (name : Name) (none : is_of_archive name ≡ true → ⊥) where
-  pub beside_request : (request : PlainRequest) → IsForRequest dir c request name
-  beside_request Post = tt
-  beside_request Help = tt
-  beside_request Other = tt
-  beside_request Owner = tt
-  beside_request (Subscribe set who) = tt
-  beside_request (Unsubscribe set who) = tt
-  beside_request (Confirm word set s) = tt
-  beside_request (Members set) = tt
-  beside_request (Get from to) = λ of. absurd (none of)
-  beside_request (Index at) = λ of. absurd (none of)
-  beside_request (Thread at) = λ of. absurd (none of)
-  beside_request (Accept ticket cookie) = tt
-  beside_request (Reject ticket cookie) = tt
-  beside_request (Bounce set number who) = λ of. absurd (none of)
-  beside_request (WarnBounce set s) = tt
-  beside_request (ProbeBounce set s) = tt
-  beside_request (ReplyBounce set) = tt

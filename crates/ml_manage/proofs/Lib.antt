@@ -1,4 +1,3 @@
-mod NamedParts
 mod Bounced
 mod Posts
 pub mod Requests

@@ -14,7 +14,7 @@ use Rattle.ml_base.specs.declared.names.Set.{Set}
 use Rattle.ml_base.specs.declared.names.Set.TheVariants as sets
 use Rattle.ml_base.specs.declared.part_error.PartError.{PartError}
 use Rattle.ml_base.proofs.Bools.{one_name}
-use Rattle.ml_base.proofs.DamagedNames.{err_both_damaged}
+use Rattle.ml_base.proofs.DamagedNames.{err_both_damaged, err_damaged}
 use Rattle.ml_bounce.specs.Answers.{has_ledger, key_file}
 use Rattle.ml_bounce.specs.Files.{IsLedgerFile, ledger_place}
 use Rattle.ml_config.specs.KeyFile.{key_name}
@@ -27,9 +27,10 @@ use Rattle.ml_plain.specs.Plain.{Plain}
 use Rattle.ml_queue.specs.Answers.{ids_name}
 use Rattle.ml_acts.specs.Asked.{Asked, Count, IsDamagedOf}
 use Rattle.ml_acts.specs.Damaged.{IsDamaged}
-use Rattle.ml_acts.specs.Doing.{is_bucket, is_bucket_of, is_entry_of}
+use Rattle.ml_acts.specs.Doing.{Alike, is_bucket, is_bucket_of, is_entry_of}
 use Rattle.ml_acts.proofs.Agreeing.{ledger_agrees}
 use Rattle.ml_acts.proofs.Spared.{bucket_spared, buckets_spared, ids_spared, keys_spared}
+use Rattle.ml_joining.specs.Damaged.{IsDamagedAmong}
 use Rattle.ml_manage.specs.Reads.{is_of_members, is_of_reader, is_of_signed, is_of_warning}
 
 -- a call that names no file of these names none
@@ -40,6 +41,11 @@ none_named told r May Bad t none is = err_both_damaged r May Bad (λ _. ⊥) non
 pub none_after : {F T : Type 0} (told : Ghosts F) (r : Result T PartError) (May : Name → Type 0) (Bad : Dir → Name → Type 0) (old new : Dir) → IsTrue told.tells → new ≡ old → ((name : Name) → May name → Bad old name → ⊥) → NamesDamaged told May (Bad new) r
     → IfErr r (λ e. OnDamaged e (λ _. ⊥))
 none_after told r May Bad old new t kept none is = err_both_damaged r May (Bad old) (λ _. ⊥) none is.named (subst (λ (d : Dir). IfErr r (λ e. OnDamaged e (Bad d))) kept (is.damaged t))
+
+-- and if no list has the files that it looks at
+pub none_looked : {F T : Type 0} {May : Name → Type 0} {looked : Name → Bool} {old : Dir} (told : Ghosts F) (r : Result T PartError) → IsTrue told.tells → NamesDamaged told May (IsDamagedAmong looked old) r → (dir : Dir) (p : Plain) → Alike looked old dir → IsList dir p
+    → IfErr r (λ e. OnDamaged e (λ _. ⊥))
+none_looked {looked = looked} {old = old} told r t names dir p alike is = err_damaged r (IsDamagedAmong looked old) (λ _. ⊥) (λ name bad. bad.none dir p alike is) (names.damaged t)
 
 module _ (old dir : Dir) (p : Plain) (is : IsList dir p) where
   -- the mark, and the number of posts

@@ -1,65 +1,19 @@
 -- Which files requests write.
-use Rattle.std.proofs.Common.{◌≡◌, ℕ, true, false, List, Option, Some, None, refl}
+use Rattle.std.proofs.Common.{◌≡◌, true, false, Option, Some, None}
 use Rattle.std.proofs.lemmas.Bool.{or_right}
 use Rattle.ml_address.specs.Requests.{PlainRequest, Post, Help, Other, Owner, Subscribe, Unsubscribe, Confirm, Members, Get, Index, Thread, Accept, Reject, Bounce, WarnBounce, ProbeBounce, ReplyBounce}
-use Rattle.ml_address.specs.Views.{request_view}
-use Rattle.ml_address.specs.declared.Request.{Request}
-use Rattle.ml_address.specs.declared.Request.TheVariants as requests
-use Rattle.ml_address.specs.declared.Who.{Who}
-use Rattle.ml_address.specs.declared.Word.{Word}
 use Rattle.ml_base.specs.Address.{address_of, key}
 use Rattle.ml_base.specs.Bytes.{Text}
 use Rattle.ml_base.specs.declared.names.Name.{Name}
 use Rattle.ml_base.specs.declared.names.Set.{Set}
 use Rattle.ml_plain.specs.Bouncing.{address_named}
 use Rattle.ml_subs.specs.Subscribers.{is_touched}
-use Rattle.ml_acts.specs.Doing.{is_beside_mark, is_entry_of, is_of_queue}
+use Rattle.ml_acts.specs.Doing.{is_beside_mark, is_entry_of}
 use Rattle.ml_acts.proofs.Left.{changed_beside, left_beside}
 use Rattle.ml_acts.proofs.Queued.{beside_mail, queue_beside}
 use Rattle.ml_joining.specs.Operations.{asked_of}
 use Rattle.ml_joining.proofs.Written.{confirm_beside, join_beside}
 use Rattle.ml_manage.specs.Written.{is_written_for, is_written_for_sender, is_written_of}
-
-module _ (sender : Text) (name : Name) where
-  -- a request other than a bounce and mail to the owner writes what its sender's address may
-  pub written_other : (r : Request) → (r ≡ requests.Owner → ⊥) → ((set : Set) (number : ℕ) (who : Who) → r ≡ requests.Bounce set number who → ⊥) → ((set : Set) (time : ℕ) (cookie : List ℕ) (who : Who) → r ≡ requests.WarnBounce set time cookie who → ⊥) → ((set : Set) (time : ℕ) (cookie : List ℕ) (who : Who) → r ≡ requests.ProbeBounce set time cookie who → ⊥) → ((set : Set) → r ≡ requests.ReplyBounce set → ⊥) → is_written_for_sender sender (request_view r) name ≡ is_written_for (address_of sender) (request_view r) name
-  written_other requests.Post n0 n1 n2 n3 n4 = refl
-  written_other requests.Help n0 n1 n2 n3 n4 = refl
-  written_other requests.Owner n0 n1 n2 n3 n4 = absurd (n0 refl)
-  written_other (requests.Subscribe set who) n0 n1 n2 n3 n4 = refl
-  written_other (requests.Unsubscribe set who) n0 n1 n2 n3 n4 = refl
-  written_other (requests.Members set) n0 n1 n2 n3 n4 = refl
-  written_other (requests.Confirm word set time cookie who) n0 n1 n2 n3 n4 = refl
-  written_other (requests.Get from to) n0 n1 n2 n3 n4 = refl
-  written_other (requests.Index at) n0 n1 n2 n3 n4 = refl
-  written_other (requests.Thread at) n0 n1 n2 n3 n4 = refl
-  written_other (requests.Accept ticket cookie) n0 n1 n2 n3 n4 = refl
-  written_other (requests.Reject ticket cookie) n0 n1 n2 n3 n4 = refl
-  written_other (requests.Bounce set number who) n0 n1 n2 n3 n4 = absurd (n1 set number who refl)
-  written_other (requests.WarnBounce set time cookie who) n0 n1 n2 n3 n4 = absurd (n2 set time cookie who refl)
-  written_other (requests.ProbeBounce set time cookie who) n0 n1 n2 n3 n4 = absurd (n3 set time cookie who refl)
-  written_other (requests.ReplyBounce set) n0 n1 n2 n3 n4 = absurd (n4 set refl)
-  written_other requests.Other n0 n1 n2 n3 n4 = refl
-
-  -- one that isn't about an address in a set writes only the queue
-  pub written_queue : (r : Request) → ((set : Set) (who : Option Who) → r ≡ requests.Subscribe set who → ⊥) → ((set : Set) (who : Option Who) → r ≡ requests.Unsubscribe set who → ⊥) → ((word : Word) (set : Set) (time : ℕ) (cookie : List ℕ) (who : Who) → r ≡ requests.Confirm word set time cookie who → ⊥) → is_written_of sender (request_view r) name ≡ is_of_queue name
-  written_queue requests.Post n0 n1 n2 = refl
-  written_queue requests.Help n0 n1 n2 = refl
-  written_queue requests.Owner n0 n1 n2 = refl
-  written_queue (requests.Subscribe set who) n0 n1 n2 = absurd (n0 set who refl)
-  written_queue (requests.Unsubscribe set who) n0 n1 n2 = absurd (n1 set who refl)
-  written_queue (requests.Members set) n0 n1 n2 = refl
-  written_queue (requests.Confirm word set time cookie who) n0 n1 n2 = absurd (n2 word set time cookie who refl)
-  written_queue (requests.Get from to) n0 n1 n2 = refl
-  written_queue (requests.Index at) n0 n1 n2 = refl
-  written_queue (requests.Thread at) n0 n1 n2 = refl
-  written_queue (requests.Accept ticket cookie) n0 n1 n2 = refl
-  written_queue (requests.Reject ticket cookie) n0 n1 n2 = refl
-  written_queue (requests.Bounce set number who) n0 n1 n2 = refl
-  written_queue (requests.WarnBounce set time cookie who) n0 n1 n2 = refl
-  written_queue (requests.ProbeBounce set time cookie who) n0 n1 n2 = refl
-  written_queue (requests.ReplyBounce set) n0 n1 n2 = refl
-  written_queue requests.Other n0 n1 n2 = refl
 
 -- a delivery may write all of this
 of_beside : (sender : Text) (r : PlainRequest) (name : Name) → is_written_of sender r name ≡ true → is_beside_mark name ≡ true

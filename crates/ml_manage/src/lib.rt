@@ -7,7 +7,6 @@ mod bounces;
 mod help_and_owner;
 mod managed_requests;
 mod members;
-mod named_addresses;
 mod rules;
 mod texts;
 

@@ -28,13 +28,12 @@ use crate::archive::{get, index_of, thread_of};
 use crate::bounces::{take_bounce, take_probe_bounce, take_warning_bounce};
 use crate::help_and_owner::{send_help, to_owner};
 use crate::members::members;
-use crate::named_addresses::named;
 use ml_acts::{Configured, Moment};
 use ml_address::{Request, Who};
 use ml_base::{Address, Files, PartError, Set, Txn};
 use ml_config::Config;
 use ml_header::Message;
-use ml_joining::{confirm, subscribe, unsubscribe};
+use ml_joining::{confirm, named_address, subscribe, unsubscribe};
 use ml_plain::Reply;
 use std::alloc::Global;
 
@@ -65,7 +64,7 @@ pub fn manage<F: Files>(
     ensures found { IsTrue F.tells → IfOk result (FoundByRequest (with_config config.now (F.map files.old)) config.now sender.now message.now (request_view request.now)) }
     ensures act { AnswersWithin (is_written_for_sender sender.now (request_view request.now)) ⟦<F as Files>⟧ (λ name. is_read_for_sender config.now sender.now (request_view request.now) name ≡ true) (IsDamagedFor (with_config config.now (F.map files.old)) config.now (request_view request.now)) files.old files.new result }
 {
-    let mut under = Configured::new(files, config);
+    let mut under = Configured { files, config };
     let now = Moment { seconds: now };
     by_request(alloc, &mut under, config, now, sender, request, message)
 }
@@ -105,7 +104,20 @@ fn by_request<F: Files>(
         } => of_probe(alloc, files, now.seconds, *set, *time, cookie, who),
         Request::ReplyBounce { .. } => Ok((Txn::new(alloc), Reply::plain(Reply::IGNORED))),
         Request::Owner => to_owner(alloc, files, config, message),
-        _ => by_sender(alloc, files, config, now, sender, request, message),
+        Request::Help
+        | Request::Other
+        | Request::Subscribe { .. }
+        | Request::Unsubscribe { .. }
+        | Request::Members { .. }
+        | Request::Confirm { .. }
+        | Request::Get { .. }
+        | Request::Index { .. }
+        | Request::Thread { .. }
+        | Request::Post
+        | Request::Accept { .. }
+        | Request::Reject { .. } => {
+            by_sender(alloc, files, config, now, sender, request, message)
+        }
     }
 }
 
@@ -124,7 +136,7 @@ fn of_bounce<F: Files>(
     ensures found { IsTrue F.tells → IfOk result (FoundToNote (F.map files.old) set (key (address_named (who_view who.now)))) }
     ensures act { AnswersWithin (is_entry_of set (address_named (who_view who.now))) ⟦<F as Files>⟧ (λ name. is_of_bounce set (address_named (who_view who.now)) name ≡ true) (IsDamagedOf (F.map files.old) Count) files.old files.new result }
 {
-    let x = named(alloc, who)?;
+    let x = named_address(alloc, *who)?;
     take_bounce(alloc, files, now, set, number, &x)
 }
 
@@ -143,7 +155,7 @@ fn of_warning<F: Files>(
     ensures found { IsTrue F.tells → IfOk result (FoundToWarn (F.map files.old) set (key (address_named (who_view who.now)))) }
     ensures act { AnswersWithin (is_entry_of set (address_named (who_view who.now))) ⟦<F as Files>⟧ (λ name. is_of_warning set (address_named (who_view who.now)) name ≡ true) (IsDamaged (F.map files.old)) files.old files.new result }
 {
-    let x = named(alloc, who)?;
+    let x = named_address(alloc, *who)?;
     take_warning_bounce(alloc, files, now, set, time, letters, &x)
 }
 
@@ -163,7 +175,7 @@ fn of_probe<F: Files>(
     ensures found { IsTrue F.tells → IfOk result (FoundToProbe (F.map files.old) set (key (address_named (who_view who.now)))) }
     ensures act { AnswersWithin (is_left_by set (address_named (who_view who.now))) ⟦<F as Files>⟧ (λ name. is_of_probe set (address_named (who_view who.now)) name ≡ true) (IsDamaged (F.map files.old)) files.old files.new result }
 {
-    let x = named(alloc, who)?;
+    let x = named_address(alloc, *who)?;
     take_probe_bounce(alloc, files, now, set, time, letters, &x)
 }
 
@@ -222,10 +234,10 @@ fn manage_checked<F: Files>(
 {
     match request {
         Request::Subscribe { set, who } => {
-            subscribe(alloc, files, config, now.seconds, sender, *set, *who)
+            subscribe(alloc, files, config, now, sender, *set, *who)
         }
         Request::Unsubscribe { set, who } => {
-            unsubscribe(alloc, files, config, now.seconds, sender, *set, *who)
+            unsubscribe(alloc, files, config, now, sender, *set, *who)
         }
         Request::Confirm {
             word,
@@ -234,21 +246,21 @@ fn manage_checked<F: Files>(
             cookie,
             who,
         } => confirm(
-            alloc,
-            files,
-            config,
-            now.seconds,
-            sender,
-            *word,
-            *set,
-            *time,
-            cookie,
-            *who,
+            alloc, files, config, now, sender, *word, *set, *time, cookie, *who,
         ),
         Request::Members { set } => members(alloc, files, config, now, sender, *set),
         Request::Get { from, to } => get(alloc, files, config, now, sender, *from, *to),
         Request::Index { at } => index_of(alloc, files, config, now, sender, *at),
         Request::Thread { at } => thread_of(alloc, files, config, now, sender, *at),
-        _ => send_help(alloc, files, config, now, sender),
+        Request::Help
+        | Request::Other
+        | Request::Owner
+        | Request::Bounce { .. }
+        | Request::WarnBounce { .. }
+        | Request::ProbeBounce { .. }
+        | Request::ReplyBounce { .. }
+        | Request::Post
+        | Request::Accept { .. }
+        | Request::Reject { .. } => send_help(alloc, files, config, now, sender),
     }
 }

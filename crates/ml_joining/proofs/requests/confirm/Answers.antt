@@ -1,48 +1,66 @@
-use Rattle.std.proofs.Common.{IsTrue, ap, Some, rules, ap₂}
-use Rattle.ml_acts.proofs.UnderConfig.{bad_under, done_under}
+use Rattle.std.proofs.Common.{◌≡◌, true, Some, ap, rules, subst}
+use Rattle.ml_base.specs.Bytes.{Text}
 use Rattle.ml_address.specs.Views.{who_view}
 use Rattle.ml_plain.specs.Managing as spec
-use Rattle.ml_plain.specs.Plain.{Plain}
-use Rattle.ml_plain.specs.declared.Reply.{Reply}
-use Rattle.ml_acts.proofs.Found.{found_then}
+use Rattle.ml_base.specs.Dir.{Dir}
+use Rattle.ml_acts.specs.Doing.{Alike, is_bucket_of}
+use Rattle.ml_acts.proofs.OfActs.{act_wider}
 use Rattle.ml_joining.specs.Reads.{is_read_to_confirm}
-use Rattle.ml_joining.proofs.Apart.{apart_under, done_itself, named_itself, spared_under}
-use Rattle.ml_joining.proofs.Ways.{config_to_confirm}
-use Rattle.ml_acts.specs.Configured.{with_config}
-use Rattle.ml_joining.specs.Found.{FoundToConfirm}
+use Rattle.ml_joining.proofs.Apart.{alike_kept, asked_apart}
+use Rattle.ml_joining.proofs.Spared.{bucket_alone, read_failed, read_more}
+use Rattle.ml_joining.proofs.Asked.{subject_is}
+use Rattle.ml_joining.proofs.Ways.{bucket_to_confirm}
+use Rattle.ml_acts.proofs.Found.{found_then}
+use Rattle.ml_base.specs.Address.{key}
+use Rattle.ml_acts.specs.Found.{TellsMember}
 use Rattle.ml_plain.specs.Bouncing.{address_named}
+use Rattle.ml_joining.specs.Found.{FoundToConfirm}
 use Rattle.ml_joining.proofs.requests.confirm.Goals as goal
-
-pub returns-clause-value : goal.returns-clause-value
-returns-clause-value g c told =
-    let asked = address_named (who_view c.args.who) in
-    let step : Plain → Plain × Reply = λ p. spec.confirm c.args.now c.args.sender.now c.args.word c.args.set (record { time = c.args.time; cookie = c.args.cookie.now; who = who_view c.args.who }) (spec.subject_of p c.args.set c.args.sender.now (Some (who_view c.args.who))) p in
-    done_under _ _ _ _ c.new-under.ensures.config (ap g.F.Files.map c.new-under.ensures.files) c.confirm_asked.result step c.requires.config
-    (done_itself (with_config c.new-under.result.config.now (g.F.Files.map c.new-under.result.files.now)) (is_read_to_confirm c.args.word c.args.set asked) c.args.config.now c.confirm_asked.result step (c.confirm_asked.ensures.apart told))
 
 pub returns-clause-apart : goal.returns-clause-apart
 returns-clause-apart g c told =
+    let old = g.F.Files.map c.args.files.now in
+    let new = g.F.Files.map c.find_subject.new.files in
+    let set = c.args.set in
+    let word = c.args.word in
+    let x = c.in_ok-x.x in
     let asked = address_named (who_view c.args.who) in
-    apart_under c.args.config.now c.new-under.result.config.now (g.F.Files.map c.args.files.now) (g.F.Files.map c.new-under.result.files.now) c.new-under.ensures.config (ap g.F.Files.map c.new-under.ensures.files)
-    (is_read_to_confirm c.args.word c.args.set asked) (config_to_confirm c.args.word c.args.set asked) c.confirm_asked.result
-    (λ p. spec.confirm c.args.now c.args.sender.now c.args.word c.args.set (record { time = c.args.time; cookie = c.args.cookie.now; who = who_view c.args.who }) (spec.subject_of p c.args.set c.args.sender.now (Some (who_view c.args.who))) p) (c.confirm_asked.ensures.apart told)
+    let few = is_read_to_confirm word set x.named in
+    let looked = is_read_to_confirm word set asked in
+    let named = c.in_ok-x.ensures.named in
+    let same = g.met.F.Files.kept_map c.args.files.now c.find_subject.new.files told c.find_subject.ensures.reads.kept in
+    asked_apart c.confirm_found.result c.args.config.now (λ (dir : Dir). Alike few new dir) (λ (dir : Dir). Alike looked old dir)
+    (λ dir alike. alike_kept few looked old new dir same (λ name e. subst (λ (t : Text). is_read_to_confirm word set t name ≡ true) named e) alike)
+    (λ p. spec.confirm c.args.now.seconds c.args.sender.now word set (record { time = c.args.time; cookie = c.args.cookie.now; who = who_view c.args.who }) x.who p) (λ p. spec.confirm c.args.now.seconds c.args.sender.now word set (record { time = c.args.time; cookie = c.args.cookie.now; who = who_view c.args.who }) (spec.subject_of p set c.args.sender.now (Some (who_view c.args.who))) p) set x
+    (λ dir p alike is. c.in_ok-x.ensures.apart told dir p (λ name b. alike name (bucket_to_confirm set asked name word b)) is)
+    (λ dir p alike is e about. ap (λ (t : Text). spec.confirm c.args.now.seconds c.args.sender.now word set (record { time = c.args.time; cookie = c.args.cookie.now; who = who_view c.args.who }) t p) (subject_is p set x about c.args.sender.now (Some (who_view c.args.who)) named))
+    (c.confirm_found.ensures.apart told)
 
-pub returns-clause-spared : goal.returns-clause-spared
-returns-clause-spared g c told =
+pub returns-in_err-x-clause-act : goal.returns-in_err-x-clause-act
+returns-in_err-x-clause-act g c =
+    let set = c.args.set in
+    let word = c.args.word in
     let asked = address_named (who_view c.args.who) in
-    spared_under c.args.config.now c.new-under.result.config.now (g.F.Files.map c.args.files.now) (g.F.Files.map c.new-under.result.files.now) c.new-under.ensures.config (ap g.F.Files.map c.new-under.ensures.files)
-    (is_read_to_confirm c.args.word c.args.set asked) (config_to_confirm c.args.word c.args.set asked) c.confirm_asked.result (c.confirm_asked.ensures.act.names.damaged told)
+    read_failed (is_bucket_of set asked) (is_read_to_confirm word set asked) (bucket_alone set asked) (λ name b. bucket_to_confirm set asked name word b)
+    c.in_err-x.ensures.names c.in_err-x.ensures.reads (search rules)
 
 pub returns-clause-act : goal.returns-clause-act
 returns-clause-act g c =
+    let set = c.args.set in
+    let word = c.args.word in
     let asked = address_named (who_view c.args.who) in
-    let damaged = λ (told : IsTrue g.F.Files.tells). bad_under _ _ _ _ c.new-under.ensures.config (ap g.F.Files.map c.new-under.ensures.files) c.confirm_asked.result (named_itself (with_config c.new-under.result.config.now (g.F.Files.map c.new-under.result.files.now)) (is_read_to_confirm c.args.word c.args.set asked) c.confirm_asked.result (c.confirm_asked.ensures.act.names.damaged told)) in
-    search rules
+    act_wider
+    (read_more (is_read_to_confirm word set c.in_ok-x.x.named) (is_read_to_confirm word set asked) g.met.F.Files.kept_then g.met.F.Files.kept_map c.find_subject.ensures.reads
+    (λ name e. subst (λ (t : Text). is_read_to_confirm word set t name ≡ true) c.in_ok-x.ensures.named e) c.confirm_found.ensures.act)
+    (λ name e. search rules)
 
 pub returns-clause-found : goal.returns-clause-found
 returns-clause-found g c told =
-    let config = c.args.config.now in
-    let old = with_config config (g.F.Files.map c.args.files.now) in
-    let there = with_config c.new-under.result.config.now (g.F.Files.map c.new-under.result.files.now) in
-    found_then c.confirm_asked.result old there (λ d. FoundToConfirm d config c.args.word c.args.set (address_named (who_view c.args.who))) (FoundToConfirm old config c.args.word c.args.set (address_named (who_view c.args.who)))
-    (ap₂ with_config c.new-under.ensures.config (ap g.F.Files.map c.new-under.ensures.files)) (λ done is. is) (c.confirm_asked.ensures.found told)
+    let old = g.F.Files.map c.args.files.now in
+    let set = c.args.set in
+    let x = c.in_ok-x.x in
+    let conf = c.args.config.now in
+    let same = g.met.F.Files.kept_map c.args.files.now c.find_subject.new.files told c.find_subject.ensures.reads.kept in
+    found_then c.confirm_found.result old (g.F.Files.map c.find_subject.new.files) (λ d done. TellsMember d set (key x.named) x.member → FoundToConfirm d conf c.args.word set x.named done)
+    (FoundToConfirm old conf c.args.word set (address_named (who_view c.args.who))) same
+    (λ done f. subst (λ (w : Text). FoundToConfirm old conf c.args.word set w done) c.in_ok-x.ensures.named (f (c.in_ok-x.ensures.found told))) (c.confirm_found.ensures.found told)

@@ -1,49 +1,71 @@
-use Rattle.std.proofs.Common.{IsTrue, ap, rules, ap₂}
-use Rattle.ml_acts.proofs.UnderConfig.{bad_under, done_under}
+use Rattle.std.proofs.Common.{◌≡◌, true, ap, rules, subst}
 use Rattle.std.specs.Option.{option_map}
+use Rattle.ml_base.specs.Bytes.{Text}
 use Rattle.ml_address.specs.Views.{who_view}
 use Rattle.ml_plain.specs.Managing as spec
-use Rattle.ml_plain.specs.Plain.{Plain}
-use Rattle.ml_plain.specs.declared.Reply.{Reply}
-use Rattle.ml_acts.proofs.Found.{found_then}
+use Rattle.ml_base.specs.Dir.{Dir}
+use Rattle.ml_acts.specs.Doing.{Alike, is_bucket_of}
+use Rattle.ml_acts.proofs.OfActs.{act_wider}
 use Rattle.ml_joining.specs.Reads.{is_read_to_unsubscribe}
-use Rattle.ml_joining.proofs.Apart.{apart_under, done_itself, named_itself, spared_under}
-use Rattle.ml_joining.proofs.Ways.{config_to_unsubscribe}
-use Rattle.ml_acts.specs.Configured.{with_config}
-use Rattle.ml_joining.specs.Found.{FoundToUnsubscribe}
+use Rattle.ml_joining.proofs.Apart.{alike_kept, asked_apart}
+use Rattle.ml_joining.proofs.Spared.{bucket_alone, read_failed, read_more}
+use Rattle.ml_joining.proofs.Asked.{subject_is}
+use Rattle.ml_joining.proofs.Ways.{bucket_to_leave, leave_to_unsubscribe}
+use Rattle.ml_acts.proofs.Found.{found_then}
+use Rattle.ml_base.specs.Address.{key}
+use Rattle.ml_acts.specs.Found.{TellsMember}
 use Rattle.ml_joining.specs.Operations.{asked_of}
+use Rattle.ml_joining.specs.Found.{FoundToUnsubscribe}
 use Rattle.ml_joining.proofs.requests.unsubscribe.Goals as goal
-
-pub returns-clause-value : goal.returns-clause-value
-returns-clause-value g c told =
-    let asked = asked_of c.args.sender.now (option_map who_view c.args.who) in
-    let step : Plain → Plain × Reply = λ p. spec.unsubscribe c.args.now c.args.sender.now c.args.set (spec.subject_of p c.args.set c.args.sender.now (option_map who_view c.args.who)) p in
-    done_under _ _ _ _ c.new-under.ensures.config (ap g.F.Files.map c.new-under.ensures.files) c.leave_asked.result step c.requires.config
-    (done_itself (with_config c.new-under.result.config.now (g.F.Files.map c.new-under.result.files.now)) (is_read_to_unsubscribe c.args.config.now c.args.sender.now c.args.set asked) c.args.config.now c.leave_asked.result step (c.leave_asked.ensures.apart told))
 
 pub returns-clause-apart : goal.returns-clause-apart
 returns-clause-apart g c told =
-    let asked = asked_of c.args.sender.now (option_map who_view c.args.who) in
-    apart_under c.args.config.now c.new-under.result.config.now (g.F.Files.map c.args.files.now) (g.F.Files.map c.new-under.result.files.now) c.new-under.ensures.config (ap g.F.Files.map c.new-under.ensures.files)
-    (is_read_to_unsubscribe c.args.config.now c.args.sender.now c.args.set asked) (config_to_unsubscribe c.args.config.now c.args.sender.now c.args.set asked) c.leave_asked.result
-    (λ p. spec.unsubscribe c.args.now c.args.sender.now c.args.set (spec.subject_of p c.args.set c.args.sender.now (option_map who_view c.args.who)) p) (c.leave_asked.ensures.apart told)
+    let old = g.F.Files.map c.args.files.now in
+    let new = g.F.Files.map c.find_subject.new.files in
+    let set = c.args.set in
+    let config = c.args.config.now in
+    let sender = c.args.sender.now in
+    let x = c.in_ok-x.x in
+    let asked = asked_of sender (option_map who_view c.args.who) in
+    let few = is_read_to_unsubscribe config sender set x.named in
+    let looked = is_read_to_unsubscribe config sender set asked in
+    let named = c.in_ok-x.ensures.named in
+    let same = g.met.F.Files.kept_map c.args.files.now c.find_subject.new.files told c.find_subject.ensures.reads.kept in
+    asked_apart c.leave_found.result config (λ (dir : Dir). Alike few new dir) (λ (dir : Dir). Alike looked old dir)
+    (λ dir alike. alike_kept few looked old new dir same (λ name e. subst (λ (t : Text). is_read_to_unsubscribe config sender set t name ≡ true) named e) alike)
+    (λ p. spec.unsubscribe c.args.now.seconds sender set x.who p) (λ p. spec.unsubscribe c.args.now.seconds sender set (spec.subject_of p set sender (option_map who_view c.args.who)) p) set x
+    (λ dir p alike is. c.in_ok-x.ensures.apart told dir p (λ name b. alike name (leave_to_unsubscribe set asked name config sender (bucket_to_leave set asked name b))) is)
+    (λ dir p alike is e about. ap (λ (t : Text). spec.unsubscribe c.args.now.seconds sender set t p) (subject_is p set x about sender (option_map who_view c.args.who) named))
+    (c.leave_found.ensures.apart told)
 
-pub returns-clause-spared : goal.returns-clause-spared
-returns-clause-spared g c told =
-    let asked = asked_of c.args.sender.now (option_map who_view c.args.who) in
-    spared_under c.args.config.now c.new-under.result.config.now (g.F.Files.map c.args.files.now) (g.F.Files.map c.new-under.result.files.now) c.new-under.ensures.config (ap g.F.Files.map c.new-under.ensures.files)
-    (is_read_to_unsubscribe c.args.config.now c.args.sender.now c.args.set asked) (config_to_unsubscribe c.args.config.now c.args.sender.now c.args.set asked) c.leave_asked.result (c.leave_asked.ensures.act.names.damaged told)
+pub returns-in_err-x-clause-act : goal.returns-in_err-x-clause-act
+returns-in_err-x-clause-act g c =
+    let set = c.args.set in
+    let config = c.args.config.now in
+    let sender = c.args.sender.now in
+    let asked = asked_of sender (option_map who_view c.args.who) in
+    read_failed (is_bucket_of set asked) (is_read_to_unsubscribe config sender set asked) (bucket_alone set asked) (λ name b. leave_to_unsubscribe set asked name config sender (bucket_to_leave set asked name b))
+    c.in_err-x.ensures.names c.in_err-x.ensures.reads (search rules)
 
 pub returns-clause-act : goal.returns-clause-act
 returns-clause-act g c =
-    let asked = asked_of c.args.sender.now (option_map who_view c.args.who) in
-    let damaged = λ (told : IsTrue g.F.Files.tells). bad_under _ _ _ _ c.new-under.ensures.config (ap g.F.Files.map c.new-under.ensures.files) c.leave_asked.result (named_itself (with_config c.new-under.result.config.now (g.F.Files.map c.new-under.result.files.now)) (is_read_to_unsubscribe c.args.config.now c.args.sender.now c.args.set asked) c.leave_asked.result (c.leave_asked.ensures.act.names.damaged told)) in
-    search rules
+    let set = c.args.set in
+    let config = c.args.config.now in
+    let sender = c.args.sender.now in
+    let asked = asked_of sender (option_map who_view c.args.who) in
+    act_wider
+    (read_more (is_read_to_unsubscribe config sender set c.in_ok-x.x.named) (is_read_to_unsubscribe config sender set asked) g.met.F.Files.kept_then g.met.F.Files.kept_map c.find_subject.ensures.reads
+    (λ name e. subst (λ (t : Text). is_read_to_unsubscribe config sender set t name ≡ true) c.in_ok-x.ensures.named e) c.leave_found.ensures.act)
+    (λ name e. search rules)
 
 pub returns-clause-found : goal.returns-clause-found
 returns-clause-found g c told =
-    let config = c.args.config.now in
-    let old = with_config config (g.F.Files.map c.args.files.now) in
-    let there = with_config c.new-under.result.config.now (g.F.Files.map c.new-under.result.files.now) in
-    found_then c.leave_asked.result old there (λ d. FoundToUnsubscribe d config c.args.sender.now c.args.set (asked_of c.args.sender.now (option_map who_view c.args.who))) (FoundToUnsubscribe old config c.args.sender.now c.args.set (asked_of c.args.sender.now (option_map who_view c.args.who)))
-    (ap₂ with_config c.new-under.ensures.config (ap g.F.Files.map c.new-under.ensures.files)) (λ done is. is) (c.leave_asked.ensures.found told)
+    let old = g.F.Files.map c.args.files.now in
+    let set = c.args.set in
+    let x = c.in_ok-x.x in
+    let conf = c.args.config.now in
+    let sender = c.args.sender.now in
+    let same = g.met.F.Files.kept_map c.args.files.now c.find_subject.new.files told c.find_subject.ensures.reads.kept in
+    found_then c.leave_found.result old (g.F.Files.map c.find_subject.new.files) (λ d done. TellsMember d set (key x.named) x.member → FoundToUnsubscribe d conf sender set x.named done)
+    (FoundToUnsubscribe old conf sender set (asked_of sender (option_map who_view c.args.who))) same
+    (λ done f. subst (λ (w : Text). FoundToUnsubscribe old conf sender set w done) c.in_ok-x.ensures.named (f (c.in_ok-x.ensures.found told))) (c.leave_found.ensures.found told)

@@ -1,5 +1,4 @@
 use Rattle.std.proofs.Common.{◌≡◌, ◌∙◌, ◌||◌, Bool, true, sym, ap, subst, IfOk, refl}
-use Rattle.std.proofs.lemmas.Result.{IfOk-weaker}
 use Rattle.ml_address.specs.Views.{request_view, who_view}
 use Rattle.ml_plain.specs.Managing as spec
 use Rattle.ml_acts.specs.Doing.{DoesList}
@@ -8,13 +7,11 @@ use Rattle.ml_plain.specs.Plain.{Plain}
 use Rattle.ml_plain.specs.declared.Reply.{Reply}
 use Rattle.ml_manage.specs.Reads.{IsDamagedFor, is_of_warning, is_post_asked, is_read_for, is_read_for_sender, is_seen_for_sender}
 use Rattle.ml_manage.specs.Written.{is_written_for_sender}
-use Rattle.ml_manage.proofs.Written.{written_other}
-use Rattle.ml_manage.proofs.Others.{may_read_other, of_sender}
+use Rattle.ml_manage.proofs.Others.{is_of_sender}
 use Rattle.ml_manage.proofs.ForRequests.{done_for, done_of, for_asked, for_other, spared_for}
 use Rattle.ml_acts.proofs.OfActs.{act_so, act_wider}
 use Rattle.ml_address.specs.declared.Request.{Request}
 use Rattle.ml_manage.specs.Found.{FoundByRequest}
-use Rattle.ml_manage.proofs.Finding.{found_by_sender}
 use Rattle.ml_acts.proofs.Damages.{ok_then}
 use Rattle.ml_manage.proofs.Spared.{none_named, warning_none}
 use Rattle.ml_base.specs.Dir.{same_name}
@@ -36,16 +33,17 @@ returns-in-ProbeBounce-clause-act g c = for_other g.F.Files (is_written_for_send
 pub returns-in-Owner-clause-act : goal.returns-in-Owner-clause-act
 returns-in-Owner-clause-act g c = for_other g.F.Files (is_written_for_sender c.args.sender.now) (λ r name. is_read_for_sender c.args.config.now c.args.sender.now r name ≡ true) c.in-Owner.is (λ name. tt) c.to_owner.ensures.act
 
-pub returns-in_default-clause-act : goal.returns-in_default-clause-act
-returns-in_default-clause-act g c =
+pub returns-in-Help-clause-act : goal.returns-in-Help-clause-act
+returns-in-Help-clause-act g c =
     let conf = c.args.config.now in
     let sender = c.args.sender.now in
-    let r = c.args.request.now in
-    let bad = IsDamagedFor (g.F.Files.map c.args.files.now) conf (request_view r) in
+    let r = request_view c.args.request.now in
+    let of = is_of_sender c.args.request.now c.requires.request c.in-Help.is in
+    let bad = IsDamagedFor (g.F.Files.map c.args.files.now) conf r in
     act_wider
-    (act_so g.F.Files c.by_sender.result (λ name. is_read_for_sender conf sender (request_view r) name ≡ true) bad bad (λ name. is_read_for conf (address_of sender) (request_view r) name ≡ true) c.args.files.now c.by_sender.new.files
-    (λ name e. may_read_other conf sender name r c.in_default.not-Owner c.in_default.not-Bounce c.in_default.not-WarnBounce c.in_default.not-ProbeBounce c.in_default.not-ReplyBounce c.requires.request ∙ e) (λ name e is. is) c.by_sender.ensures.act)
-    (λ name e. written_other sender name r c.in_default.not-Owner c.in_default.not-Bounce c.in_default.not-WarnBounce c.in_default.not-ProbeBounce c.in_default.not-ReplyBounce ∙ e)
+    (act_so g.F.Files c.by_sender.result (λ name. is_read_for_sender conf sender r name ≡ true) bad bad (λ name. is_read_for conf (address_of sender) r name ≡ true) c.args.files.now c.by_sender.new.files
+    (λ name e. of.reads conf sender name ∙ e) (λ name e is. is) c.by_sender.ensures.act)
+    (λ name e. of.writes sender name ∙ e)
 
 pub returns-in-Bounce-clause-found : goal.returns-in-Bounce-clause-found
 returns-in-Bounce-clause-found g c told =
@@ -67,11 +65,9 @@ pub returns-in-ReplyBounce-clause-found : goal.returns-in-ReplyBounce-clause-fou
 returns-in-ReplyBounce-clause-found g c told =
     subst (λ (r : Request). FoundByRequest (g.F.Files.map c.args.files.now) c.args.config.now c.args.sender.now c.args.message.now (request_view r) (c.new.result, c.plain.result)) (sym c.in-ReplyBounce.is) (record { puts = c.new.ensures; is = c.plain.ensures })
 
-pub returns-in_default-clause-found : goal.returns-in_default-clause-found
-returns-in_default-clause-found g c told =
-    IfOk-weaker c.by_sender.result _ _
-    (λ done is. found_by_sender (g.F.Files.map c.args.files.now) c.args.config.now c.args.sender.now c.args.message.now done c.args.request.now c.in_default.not-Owner c.in_default.not-Bounce c.in_default.not-WarnBounce c.in_default.not-ProbeBounce c.in_default.not-ReplyBounce c.requires.request is)
-    (c.by_sender.ensures.found told)
+pub returns-in-Help-clause-found : goal.returns-in-Help-clause-found
+returns-in-Help-clause-found g c told =
+    ok_then c.by_sender.result (λ done is. (is_of_sender c.args.request.now c.requires.request c.in-Help.is).found (g.F.Files.map c.args.files.now) c.args.config.now c.args.sender.now c.args.message.now done is) (c.by_sender.ensures.found told)
 
 pub returns-in-Bounce-clause-apart : goal.returns-in-Bounce-clause-apart
 returns-in-Bounce-clause-apart g c told = done_of c.of_bounce.result _ _ (is_seen_for_sender c.args.config.now c.args.sender.now) (spec.by_request c.args.now.seconds c.args.sender.now c.args.message.now) c.in-Bounce.is (c.of_bounce.ensures.apart told)
@@ -87,17 +83,15 @@ returns-in-Owner-clause-apart g c told =
     done_for c.to_owner.result _ _ (is_seen_for_sender c.args.config.now c.args.sender.now) (spec.by_request c.args.now.seconds c.args.sender.now c.args.message.now) c.in-Owner.is
     (ok_then c.to_owner.result (λ done does dir p alike is same. does dir p (alike ids_name refl) is same) (c.to_owner.ensures.apart told))
 
-pub returns-in_default-clause-apart : goal.returns-in_default-clause-apart
-returns-in_default-clause-apart g c told =
-    let conf = c.args.config.now in
+pub returns-in-Help-clause-apart : goal.returns-in-Help-clause-apart
+returns-in-Help-clause-apart g c told =
     let sender = c.args.sender.now in
-    let m = c.args.message.now in
-    let r = c.args.request.now in
+    let r = request_view c.args.request.now in
+    let of = is_of_sender c.args.request.now c.requires.request c.in-Help.is in
     ok_then c.by_sender.result
     (λ done does dir p alike is same.
-    subst (λ (s : Plain × Reply). DoesList dir done s)
-    (sym (of_sender sender m c.args.now.seconds p r c.in_default.not-Owner c.in_default.not-Bounce c.in_default.not-WarnBounce c.in_default.not-ProbeBounce c.in_default.not-ReplyBounce c.requires.request))
-    (does dir p (λ name e. alike name (ap (λ (b : Bool). is_post_asked (request_view r) name || b) (may_read_other conf sender name r c.in_default.not-Owner c.in_default.not-Bounce c.in_default.not-WarnBounce c.in_default.not-ProbeBounce c.in_default.not-ReplyBounce c.requires.request) ∙ e)) is same))
+    subst (λ (s : Plain × Reply). DoesList dir done s) (sym (of.step c.args.now.seconds sender c.args.message.now p))
+    (does dir p (λ name e. alike name (ap (λ (b : Bool). is_post_asked r name || b) (of.reads c.args.config.now sender name) ∙ e)) is same))
     (c.by_sender.ensures.apart told)
 
 pub returns-in-Bounce-clause-spared : goal.returns-in-Bounce-clause-spared
@@ -124,9 +118,8 @@ returns-in-Owner-clause-spared g c told =
     (λ dir p alike is same. none_named g.F.Files c.to_owner.result (λ name. same_name name ids_name ≡ true) (IsDamaged old) told
     (λ name e bad. ids_spared old dir p is name e (alike name e) bad) c.to_owner.ensures.act.names)
 
-pub returns-in_default-clause-spared : goal.returns-in_default-clause-spared
-returns-in_default-clause-spared g c told dir p alike is same =
-    let conf = c.args.config.now in
-    let sender = c.args.sender.now in
-    let r = c.args.request.now in
-    c.by_sender.ensures.spared told dir p (λ name e. alike name (ap (λ (b : Bool). is_post_asked (request_view r) name || b) (may_read_other conf sender name r c.in_default.not-Owner c.in_default.not-Bounce c.in_default.not-WarnBounce c.in_default.not-ProbeBounce c.in_default.not-ReplyBounce c.requires.request) ∙ e)) is same
+pub returns-in-Help-clause-spared : goal.returns-in-Help-clause-spared
+returns-in-Help-clause-spared g c told dir p alike is same =
+    let r = request_view c.args.request.now in
+    let of = is_of_sender c.args.request.now c.requires.request c.in-Help.is in
+    c.by_sender.ensures.spared told dir p (λ name e. alike name (ap (λ (b : Bool). is_post_asked r name || b) (of.reads c.args.config.now c.args.sender.now name) ∙ e)) is same

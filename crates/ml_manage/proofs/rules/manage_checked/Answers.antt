@@ -1,29 +1,24 @@
-use Rattle.std.proofs.Common.{◌≡◌, ◌∙◌, true, sym, subst, IfOk, [], ◌/◌, ◌||◌, Bool, refl}
-use Rattle.std.proofs.lemmas.Result.{IfOk-weaker}
+use Rattle.std.proofs.Common.{◌≡◌, ◌∙◌, true, sym, subst, IfOk, ◌/◌, ◌||◌, Bool, refl}
 use Rattle.ml_address.specs.Views.{request_view}
 use Rattle.ml_address.specs.declared.Request.{Request}
 use Rattle.ml_plain.specs.Managing as spec
 use Rattle.ml_acts.specs.Damaged.{IsDamaged}
 use Rattle.ml_acts.specs.Doing.{DoesList}
 use Rattle.std.proofs.lemmas.Bool.{and_parts, leb-true, or_left, or_right}
-use Rattle.ml_base.specs.Dir.{same_name, Dir}
+use Rattle.ml_base.specs.Dir.{same_name}
 use Rattle.ml_plain.specs.Plain.{Plain}
 use Rattle.ml_plain.specs.declared.Reply.{Reply}
 use Rattle.ml_queue.specs.Answers.{ids_name}
 use Rattle.ml_acts.proofs.Asked.{ids_other}
 use Rattle.ml_manage.specs.Reads.{IsDamagedFor, is_asked_of, is_managed, is_of_index, is_of_members, is_of_posts, is_of_reader, is_of_thread, is_post_asked, is_post_file, is_post_within, is_seen_of, is_seen_of_posts, is_seen_of_thread}
 use Rattle.ml_manage.specs.Written.{is_written_of}
-use Rattle.ml_manage.proofs.Written.{written_queue}
-use Rattle.ml_manage.proofs.Others.{is_asked_other, of_nothing}
-use Rattle.ml_manage.proofs.ForRequests.{beside_request, done_for, for_asked, for_held, for_other, spared_for}
+use Rattle.ml_manage.proofs.Others.{is_helped}
+use Rattle.ml_manage.proofs.ForRequests.{done_for, for_asked, for_looking, for_other, spared_for}
 use Rattle.ml_manage.proofs.Sending.{room_ids}
 use Rattle.ml_acts.proofs.OfActs.{act_so, act_wider}
-use Rattle.ml_address.specs.declared.Request.TheVariants as requests
-use Rattle.ml_acts.proofs.UnderConfig.{config_held}
 use Rattle.ml_manage.specs.Found.{FoundManaged}
-use Rattle.ml_manage.proofs.Finding.{found_help}
 use Rattle.ml_acts.proofs.Damages.{ok_then}
-use Rattle.ml_manage.proofs.Spared.{members_none, none_named, part_none}
+use Rattle.ml_manage.proofs.Spared.{members_none, none_looked, none_named, part_none}
 use Rattle.ml_manage.proofs.PostsSpared.{group_archived, group_none, posts_archived, range_none, thread_none, threads_archived}
 use Rattle.ml_manage.proofs.Apart.{answer_part, answer_whole}
 use Rattle.ml_acts.proofs.Spared.{ids_spared}
@@ -53,23 +48,20 @@ send_help-requires g c = record { room = λ told. room_ids (g.F.Files.map c.args
 in_range : (r s : Request) → r ≡ s → is_managed (request_view r) ≡ true → is_managed (request_view s) ≡ true
 in_range r s e managed = subst (λ (t : Request). is_managed (request_view t) ≡ true) e managed
 
-pub subscribe-requires-clause-asked : goal.subscribe-requires-clause-asked
-subscribe-requires-clause-asked g c = (and_parts _ _ (in_range _ _ c.in-Subscribe.is c.requires.request)).0
+pub subscribe-requires : goal.subscribe-requires
+subscribe-requires g c =
+    let parts = and_parts _ _ (in_range _ _ c.in-Subscribe.is c.requires.request) in
+    record { config = c.requires.config; asked = parts.0; range = parts.1; room = λ told. room_ids (g.F.Files.map c.args.files.now) (c.requires.room told) }
 
-pub subscribe-requires-clause-range : goal.subscribe-requires-clause-range
-subscribe-requires-clause-range g c = (and_parts _ _ (in_range _ _ c.in-Subscribe.is c.requires.request)).1
+pub unsubscribe-requires : goal.unsubscribe-requires
+unsubscribe-requires g c =
+    let parts = and_parts _ _ (in_range _ _ c.in-Unsubscribe.is c.requires.request) in
+    record { config = c.requires.config; asked = parts.0; range = parts.1; room = λ told. room_ids (g.F.Files.map c.args.files.now) (c.requires.room told) }
 
-pub unsubscribe-requires-clause-asked : goal.unsubscribe-requires-clause-asked
-unsubscribe-requires-clause-asked g c = (and_parts _ _ (in_range _ _ c.in-Unsubscribe.is c.requires.request)).0
-
-pub unsubscribe-requires-clause-range : goal.unsubscribe-requires-clause-range
-unsubscribe-requires-clause-range g c = (and_parts _ _ (in_range _ _ c.in-Unsubscribe.is c.requires.request)).1
-
-pub confirm-requires-clause-asked : goal.confirm-requires-clause-asked
-confirm-requires-clause-asked g c = (and_parts _ _ (in_range _ _ c.in-Confirm.is c.requires.request)).0
-
-pub confirm-requires-clause-range : goal.confirm-requires-clause-range
-confirm-requires-clause-range g c = (and_parts _ _ (and_parts _ _ (in_range _ _ c.in-Confirm.is c.requires.request)).1).1
+pub confirm-requires : goal.confirm-requires
+confirm-requires g c =
+    let parts = and_parts _ _ (in_range _ _ c.in-Confirm.is c.requires.request) in
+    record { config = c.requires.config; asked = parts.0; range = (and_parts _ _ parts.1).1; room = λ told. room_ids (g.F.Files.map c.args.files.now) (c.requires.room told) }
 
 pub returns-in-Members-clause-act : goal.returns-in-Members-clause-act
 returns-in-Members-clause-act g c = for_other g.F.Files (is_written_of c.args.sender.now) (λ r name. is_asked_of c.args.config.now c.args.sender.now r name ≡ true) c.in-Members.is (λ name. tt) c.members.ensures.act
@@ -84,25 +76,25 @@ pub returns-in-Thread-clause-act : goal.returns-in-Thread-clause-act
 returns-in-Thread-clause-act g c = for_asked g.F.Files (is_written_of c.args.sender.now) (λ r name. is_asked_of c.args.config.now c.args.sender.now r name ≡ true) c.in-Thread.is _ (λ name own. own) c.thread_of.ensures.act
 
 pub returns-in-Subscribe-clause-act : goal.returns-in-Subscribe-clause-act
-returns-in-Subscribe-clause-act g c = for_held g.F.Files (is_written_of c.args.sender.now) (λ r name. is_asked_of c.args.config.now c.args.sender.now r name ≡ true) c.in-Subscribe.is (λ name. tt) c.requires.loaded c.subscribe.ensures.act
+returns-in-Subscribe-clause-act g c = for_looking g.F.Files (is_written_of c.args.sender.now) (λ r name. is_asked_of c.args.config.now c.args.sender.now r name ≡ true) c.in-Subscribe.is (λ name. tt) c.subscribe.ensures.act
 
 pub returns-in-Unsubscribe-clause-act : goal.returns-in-Unsubscribe-clause-act
-returns-in-Unsubscribe-clause-act g c = for_held g.F.Files (is_written_of c.args.sender.now) (λ r name. is_asked_of c.args.config.now c.args.sender.now r name ≡ true) c.in-Unsubscribe.is (λ name. tt) c.requires.loaded c.unsubscribe.ensures.act
+returns-in-Unsubscribe-clause-act g c = for_looking g.F.Files (is_written_of c.args.sender.now) (λ r name. is_asked_of c.args.config.now c.args.sender.now r name ≡ true) c.in-Unsubscribe.is (λ name. tt) c.unsubscribe.ensures.act
 
 pub returns-in-Confirm-clause-act : goal.returns-in-Confirm-clause-act
-returns-in-Confirm-clause-act g c = for_held g.F.Files (is_written_of c.args.sender.now) (λ r name. is_asked_of c.args.config.now c.args.sender.now r name ≡ true) c.in-Confirm.is (λ name. tt) c.requires.loaded c.confirm.ensures.act
+returns-in-Confirm-clause-act g c = for_looking g.F.Files (is_written_of c.args.sender.now) (λ r name. is_asked_of c.args.config.now c.args.sender.now r name ≡ true) c.in-Confirm.is (λ name. tt) c.confirm.ensures.act
 
-pub returns-in_default-clause-act : goal.returns-in_default-clause-act
-returns-in_default-clause-act g c =
+pub returns-in-Help-clause-act : goal.returns-in-Help-clause-act
+returns-in-Help-clause-act g c =
     let conf = c.args.config.now in
     let sender = c.args.sender.now in
-    let r = c.args.request.now in
+    let r = request_view c.args.request.now in
     let dir = g.F.Files.map c.args.files.now in
+    let of = is_helped c.args.request.now c.requires.request c.in-Help.is in
     act_wider
-    (act_so g.F.Files c.send_help.result (λ name. is_asked_of conf sender (request_view r) name ≡ true) (IsDamaged dir) (IsDamagedFor dir conf (request_view r)) (λ name. same_name name ids_name ≡ true) c.args.files.now c.send_help.new.files
-    (λ name e. is_asked_other conf sender name r c.in_default.not-Subscribe c.in_default.not-Unsubscribe c.in_default.not-Members c.in_default.not-Confirm c.in_default.not-Get c.in_default.not-Index c.in_default.not-Thread c.requires.request ∙ e)
-    (λ name e bad. record { damaged = bad; own = beside_request dir conf name (λ of. ids_other name e of) (request_view r) }) c.send_help.ensures.act)
-    (λ name e. written_queue sender name r c.in_default.not-Subscribe c.in_default.not-Unsubscribe c.in_default.not-Confirm ∙ e)
+    (act_so g.F.Files c.send_help.result (λ name. is_asked_of conf sender r name ≡ true) (IsDamaged dir) (IsDamagedFor dir conf r) (λ name. same_name name ids_name ≡ true) c.args.files.now c.send_help.new.files
+    (λ name e. of.reads conf sender name ∙ e) (λ name e bad. record { damaged = bad; own = of.own dir conf name (λ archive. ids_other name e archive) }) c.send_help.ensures.act)
+    (λ name e. of.writes sender name ∙ e)
 
 pub returns-in-Members-clause-found : goal.returns-in-Members-clause-found
 returns-in-Members-clause-found g c told =
@@ -122,30 +114,19 @@ returns-in-Thread-clause-found g c told =
 
 pub returns-in-Subscribe-clause-found : goal.returns-in-Subscribe-clause-found
 returns-in-Subscribe-clause-found g c told =
-    let dir = g.F.Files.map c.args.files.now in
-    let conf = c.args.config.now in
-    subst (λ (r : Request). IfOk c.subscribe.result (FoundManaged dir conf c.args.sender.now (request_view r))) (sym c.in-Subscribe.is)
-    (subst (λ (d : Dir). IfOk c.subscribe.result (FoundManaged d conf c.args.sender.now (request_view (requests.Subscribe c.in-Subscribe.set c.in-Subscribe.who)))) (config_held conf dir (c.requires.loaded told)) (c.subscribe.ensures.found told))
+    subst (λ (r : Request). IfOk c.subscribe.result (FoundManaged (g.F.Files.map c.args.files.now) c.args.config.now c.args.sender.now (request_view r))) (sym c.in-Subscribe.is) (c.subscribe.ensures.found told)
 
 pub returns-in-Unsubscribe-clause-found : goal.returns-in-Unsubscribe-clause-found
 returns-in-Unsubscribe-clause-found g c told =
-    let dir = g.F.Files.map c.args.files.now in
-    let conf = c.args.config.now in
-    subst (λ (r : Request). IfOk c.unsubscribe.result (FoundManaged dir conf c.args.sender.now (request_view r))) (sym c.in-Unsubscribe.is)
-    (subst (λ (d : Dir). IfOk c.unsubscribe.result (FoundManaged d conf c.args.sender.now (request_view (requests.Unsubscribe c.in-Unsubscribe.set c.in-Unsubscribe.who)))) (config_held conf dir (c.requires.loaded told)) (c.unsubscribe.ensures.found told))
+    subst (λ (r : Request). IfOk c.unsubscribe.result (FoundManaged (g.F.Files.map c.args.files.now) c.args.config.now c.args.sender.now (request_view r))) (sym c.in-Unsubscribe.is) (c.unsubscribe.ensures.found told)
 
 pub returns-in-Confirm-clause-found : goal.returns-in-Confirm-clause-found
 returns-in-Confirm-clause-found g c told =
-    let dir = g.F.Files.map c.args.files.now in
-    let conf = c.args.config.now in
-    subst (λ (r : Request). IfOk c.confirm.result (FoundManaged dir conf c.args.sender.now (request_view r))) (sym c.in-Confirm.is)
-    (subst (λ (d : Dir). IfOk c.confirm.result (FoundManaged d conf c.args.sender.now (request_view (requests.Confirm c.in-Confirm.word c.in-Confirm.set c.in-Confirm.time c.in-Confirm.cookie c.in-Confirm.who)))) (config_held conf dir (c.requires.loaded told)) (c.confirm.ensures.found told))
+    subst (λ (r : Request). IfOk c.confirm.result (FoundManaged (g.F.Files.map c.args.files.now) c.args.config.now c.args.sender.now (request_view r))) (sym c.in-Confirm.is) (c.confirm.ensures.found told)
 
-pub returns-in_default-clause-found : goal.returns-in_default-clause-found
-returns-in_default-clause-found g c told =
-    IfOk-weaker c.send_help.result _ _
-    (λ done is. found_help (g.F.Files.map c.args.files.now) c.args.config.now c.args.sender.now [] done c.args.request.now c.in_default.not-Subscribe c.in_default.not-Unsubscribe c.in_default.not-Members c.in_default.not-Confirm c.in_default.not-Get c.in_default.not-Index c.in_default.not-Thread c.requires.request is)
-    (c.send_help.ensures.found told)
+pub returns-in-Help-clause-found : goal.returns-in-Help-clause-found
+returns-in-Help-clause-found g c told =
+    ok_then c.send_help.result (λ done is. (is_helped c.args.request.now c.requires.request c.in-Help.is).found (g.F.Files.map c.args.files.now) c.args.config.now c.args.sender.now done is) (c.send_help.ensures.found told)
 
 pub returns-in-Members-clause-apart : goal.returns-in-Members-clause-apart
 returns-in-Members-clause-apart g c told = done_for c.members.result _ _ (is_seen_of c.args.config.now c.args.sender.now) (spec.managed c.args.now.seconds c.args.sender.now) c.in-Members.is (c.members.ensures.apart told)
@@ -159,14 +140,16 @@ returns-in-Index-clause-apart g c told = done_for c.index_of.result _ _ (is_seen
 pub returns-in-Thread-clause-apart : goal.returns-in-Thread-clause-apart
 returns-in-Thread-clause-apart g c told = done_for c.thread_of.result _ _ (is_seen_of c.args.config.now c.args.sender.now) (spec.managed c.args.now.seconds c.args.sender.now) c.in-Thread.is (c.thread_of.ensures.apart told)
 
-pub returns-in_default-clause-apart : goal.returns-in_default-clause-apart
-returns-in_default-clause-apart g c told =
-    let r = c.args.request.now in
+pub returns-in-Help-clause-apart : goal.returns-in-Help-clause-apart
+returns-in-Help-clause-apart g c told =
+    let conf = c.args.config.now in
+    let sender = c.args.sender.now in
+    let r = request_view c.args.request.now in
+    let of = is_helped c.args.request.now c.requires.request c.in-Help.is in
     ok_then c.send_help.result
     (λ done does dir p alike is same.
-    subst (λ (s : Plain × Reply). DoesList dir done s)
-    (sym (of_nothing c.args.sender.now c.args.now.seconds p r c.in_default.not-Subscribe c.in_default.not-Unsubscribe c.in_default.not-Members c.in_default.not-Confirm c.in_default.not-Get c.in_default.not-Index c.in_default.not-Thread c.requires.request))
-    (does dir p (alike ids_name (or_right (is_post_asked (request_view r) ids_name) (is_asked_of c.args.config.now c.args.sender.now (request_view r) ids_name) (is_asked_other c.args.config.now c.args.sender.now ids_name r c.in_default.not-Subscribe c.in_default.not-Unsubscribe c.in_default.not-Members c.in_default.not-Confirm c.in_default.not-Get c.in_default.not-Index c.in_default.not-Thread c.requires.request ∙ refl))) is same))
+    subst (λ (s : Plain × Reply). DoesList dir done s) (sym (of.step c.args.now.seconds sender p))
+    (does dir p (alike ids_name (or_right (is_post_asked r ids_name) (is_asked_of conf sender r ids_name) (of.reads conf sender ids_name ∙ refl))) is same))
     (c.send_help.ensures.apart told)
 
 pub returns-in-Members-clause-spared : goal.returns-in-Members-clause-spared
@@ -228,12 +211,15 @@ returns-in-Thread-clause-spared g c told =
     (λ name own bad. thread_none old dir conf.prefix p.posts (subst (λ (k : Config). IsArchive dir k.prefix p.posts) same is.archive) at low most seen name (bad.own (threads_archived name (or_left (part name) (is_post_file name) own)))) name e
     (alike name (or_right (is_post_file name) (is_of_reader conf sender name || part name || same_name name ids_name) e)) bad) c.thread_of.ensures.act.names)
 
-pub returns-in_default-clause-spared : goal.returns-in_default-clause-spared
-returns-in_default-clause-spared g c told dir p alike is same =
+pub returns-in-Help-clause-spared : goal.returns-in-Help-clause-spared
+returns-in-Help-clause-spared g c told dir p alike is same =
     let old = g.F.Files.map c.args.files.now in
-    let r = c.args.request.now in
+    let conf = c.args.config.now in
+    let sender = c.args.sender.now in
+    let r = request_view c.args.request.now in
+    let of = is_helped c.args.request.now c.requires.request c.in-Help.is in
     none_named g.F.Files c.send_help.result (λ name. same_name name ids_name ≡ true) (IsDamaged old) told
-    (λ name e bad. ids_spared old dir p is name e (alike name (or_right (is_post_asked (request_view r) name) (is_asked_of c.args.config.now c.args.sender.now (request_view r) name) (is_asked_other c.args.config.now c.args.sender.now name r c.in_default.not-Subscribe c.in_default.not-Unsubscribe c.in_default.not-Members c.in_default.not-Confirm c.in_default.not-Get c.in_default.not-Index c.in_default.not-Thread c.requires.request ∙ e))) bad) c.send_help.ensures.act.names
+    (λ name e bad. ids_spared old dir p is name e (alike name (or_right (is_post_asked r name) (is_asked_of conf sender r name) (of.reads conf sender name ∙ e))) bad) c.send_help.ensures.act.names
 
 pub returns-in-Subscribe-clause-apart : goal.returns-in-Subscribe-clause-apart
 returns-in-Subscribe-clause-apart g c told = done_for c.subscribe.result _ _ (is_seen_of c.args.config.now c.args.sender.now) (spec.managed c.args.now.seconds c.args.sender.now) c.in-Subscribe.is (c.subscribe.ensures.apart told)
@@ -246,12 +232,15 @@ returns-in-Confirm-clause-apart g c told = done_for c.confirm.result _ _ (is_see
 
 pub returns-in-Subscribe-clause-spared : goal.returns-in-Subscribe-clause-spared
 returns-in-Subscribe-clause-spared g c told =
-    spared_for c.subscribe.result (g.F.Files.map c.args.files.now) c.args.config.now (is_seen_of c.args.config.now c.args.sender.now) c.in-Subscribe.is (λ dir p alike is same. c.subscribe.ensures.spared told dir p alike is)
+    spared_for c.subscribe.result (g.F.Files.map c.args.files.now) c.args.config.now (is_seen_of c.args.config.now c.args.sender.now) c.in-Subscribe.is
+    (λ dir p alike is same. none_looked g.F.Files c.subscribe.result told c.subscribe.ensures.act.names dir p alike is)
 
 pub returns-in-Unsubscribe-clause-spared : goal.returns-in-Unsubscribe-clause-spared
 returns-in-Unsubscribe-clause-spared g c told =
-    spared_for c.unsubscribe.result (g.F.Files.map c.args.files.now) c.args.config.now (is_seen_of c.args.config.now c.args.sender.now) c.in-Unsubscribe.is (λ dir p alike is same. c.unsubscribe.ensures.spared told dir p alike is)
+    spared_for c.unsubscribe.result (g.F.Files.map c.args.files.now) c.args.config.now (is_seen_of c.args.config.now c.args.sender.now) c.in-Unsubscribe.is
+    (λ dir p alike is same. none_looked g.F.Files c.unsubscribe.result told c.unsubscribe.ensures.act.names dir p alike is)
 
 pub returns-in-Confirm-clause-spared : goal.returns-in-Confirm-clause-spared
 returns-in-Confirm-clause-spared g c told =
-    spared_for c.confirm.result (g.F.Files.map c.args.files.now) c.args.config.now (is_seen_of c.args.config.now c.args.sender.now) c.in-Confirm.is (λ dir p alike is same. c.confirm.ensures.spared told dir p alike is)
+    spared_for c.confirm.result (g.F.Files.map c.args.files.now) c.args.config.now (is_seen_of c.args.config.now c.args.sender.now) c.in-Confirm.is
+    (λ dir p alike is same. none_looked g.F.Files c.confirm.result told c.confirm.ensures.act.names dir p alike is)

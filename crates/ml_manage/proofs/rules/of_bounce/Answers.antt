@@ -13,8 +13,8 @@ use Rattle.ml_manage.specs.Found.{FoundToNote}
 use Rattle.ml_base.specs.Dir.{Dir}
 use Rattle.ml_manage.proofs.rules.of_bounce.Goals as goal
 
-pub named-requires : goal.named-requires
-named-requires g c = (and_parts _ _ c.requires.range).1
+pub named_address-requires : goal.named_address-requires
+named_address-requires g c = (and_parts _ _ c.requires.range).1
 
 pub take_bounce-requires-clause-mailed : goal.take_bounce-requires-clause-mailed
 take_bounce-requires-clause-mailed g c = (and_parts _ _ (and_parts _ _ c.requires.range).0).0

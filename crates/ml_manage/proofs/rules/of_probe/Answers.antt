@@ -13,8 +13,8 @@ use Rattle.ml_manage.specs.Found.{FoundToProbe}
 use Rattle.ml_base.specs.Dir.{Dir}
 use Rattle.ml_manage.proofs.rules.of_probe.Goals as goal
 
-pub named-requires : goal.named-requires
-named-requires g c = (and_parts _ _ (and_parts _ _ c.requires).1).1
+pub named_address-requires : goal.named_address-requires
+named_address-requires g c = (and_parts _ _ (and_parts _ _ c.requires).1).1
 
 pub take_probe_bounce-requires : goal.take_probe_bounce-requires
 take_probe_bounce-requires g c = (and_parts _ _ c.requires).0
