@@ -1,5 +1,5 @@
 -- Which files are damaged, from what the calls of the parts say.
-use Rattle.std.proofs.Common.{◌≡◌, ◌<◌, ⊎_elim, ap, ℕ, Bool, true, false, List, length, IsTrue, IfErr, IfOk, Result, Ok, Err, sym, subst, refl, arith}
+use Rattle.std.proofs.Common.{◌≡◌, ◌<◌, ⊎_elim, ap, Bool, true, false, length, IsTrue, IfErr, IfOk, Result, Ok, Err, sym, subst, refl, arith}
 use Rattle.std.proofs.lemmas.Bool.{and_from, eq-eqb, lt-ltb}
 use Rattle.std.proofs.lemmas.Nat.{mod_below}
 use Rattle.ml_base.specs.Address.{key}
@@ -67,10 +67,6 @@ none_damaged dir p name is (damage.range a b bad empty) = empty p.posts (is.arch
 none_damaged dir p name is (damage.thread c n file bad empty) =
     empty p.posts (subst (λ (d : Config). IsArchive dir d.prefix p.posts) (one_in_file (dir config_name) p.config c is.config file) is.archive)
 none_damaged dir p name is (damage.append bad empty) = empty p.config.prefix p.posts is.archive
-
--- so a call that names only damaged files names none there
-pub sound_by : {T : Type 0} (dir : Dir) (p : Plain) (r : Result T PartError) → IsList dir p → IfErr r (λ e. OnDamaged e (IsDamaged dir)) → IfErr r (λ e. OnDamaged e (λ _. ⊥))
-sound_by dir p r is bad = err_damaged r (IsDamaged dir) (λ _. ⊥) (λ name no. none_damaged dir p name is no) bad
 
 pub same_self : (name : Name) → same_name name name ≡ true
 same_self name = and_from _ _ (eq-eqb name.kind name.kind refl) (eq-eqb name.at name.at refl)

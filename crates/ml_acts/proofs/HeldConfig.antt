@@ -1,5 +1,5 @@
 -- What is said under a configuration, of files that hold it.
-use Rattle.std.proofs.Common.{IsTrue, IfErr, List, Result, subst}
+use Rattle.std.proofs.Common.{IsTrue, IfErr, Result, subst}
 use Rattle.ml_base.specs.Dir.{Dir}
 use Rattle.ml_base.specs.PartErrors.{OnDamaged}
 use Rattle.ml_base.specs.ReadFiles.{NamesDamaged}

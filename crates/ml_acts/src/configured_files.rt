@@ -18,17 +18,6 @@ pub struct Configured<'a, F: Files> {
     pub config: &'a Config,
 }
 
-impl<'a, F: Files> Configured<'a, F> {
-    /// Files under a configuration. It takes no memory.
-    pub fn new(files: &'a mut F, config: &'a Config) -> Configured<'a, F>
-        ensures same { result.files.ghost_name ≡ files.entry.ghost_name }
-        ensures files { result.files.now ≡ files.old }
-        ensures config { result.config.now ≡ config.now }
-    {
-        Configured { files, config }
-    }
-}
-
 impl<F: Files> Files for Configured<'_, F> {
     ghost tells = { F.tells };
 
