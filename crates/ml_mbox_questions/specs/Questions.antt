@@ -1,5 +1,5 @@
 -- The meaning of the questions for a mailbox out and for a mailbox in.
-use Rattle.std.specs.Prelude.{◌≡◌, ◌&&◌, nat_le, ℕ, true, false, List, Option, Some, None, Result, Ok, Err, if◌then◌else◌}
+use Rattle.std.specs.Prelude.{◌≡◌, ◌&&◌, nat_le, ℕ, true, false, List, Option, Some, None, Result, Ok, Err, is_some, if◌then◌else◌}
 use Rattle.ml_base.specs.Bytes.{Text}
 use Rattle.ml_mbox.specs.Reading.{read}
 use Rattle.ml_mbox.specs.declared.mails.Boxed.{Boxed}
@@ -31,6 +31,10 @@ importing_meaning first moment text = record {
   is_read = λ name. ⊥;
   is_bad = λ config dir name. ⊥;
 }
+
+-- a text that is a mailbox
+abbrev pub mailbox_in : Text → Option Text
+mailbox_in text = if is_some (read text) then Some text else None
 
 -- the question of a mailbox; any other text is bad at its front
 abbrev pub importing_by : ℕ → ℕ → Text → Option (List Boxed) → Result Importing ℕ

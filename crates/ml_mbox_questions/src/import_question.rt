@@ -1,7 +1,6 @@
 // The stream of a mailbox as a question of a list.
-ghost use Rattle.std.specs.Prelude.{◌≡◌, ◌≤◌, true, is_some, IfOk};
-ghost use Rattle.ml_mbox.specs.Reading.{read};
-ghost use Rattle.ml_mbox_questions.specs.Questions.{import_first, importing_meaning, importing_of};
+ghost use Rattle.std.specs.Prelude.{◌≡◌, ◌≤◌, true, IfOk};
+ghost use Rattle.ml_mbox_questions.specs.Questions.{import_first, importing_meaning, importing_of, mailbox_in};
 ghost use Rattle.ml_mbox_questions.specs.Imports.{import_answer, mails_of};
 
 use crate::error::ImportError;
@@ -50,12 +49,43 @@ impl ImportWords {
     }
 }
 
+// A text that is a mailbox.
+#[derive(Drop)]
+struct Mailbox {
+    text: Bytes,
+}
+
+impl Model for Mailbox {
+    ghost use Rattle.std.specs.Prelude.{◌≡◌, true, is_some};
+    ghost use Rattle.ml_base.specs.Bytes.{Text};
+    ghost use Rattle.ml_mbox.specs.Reading.{read};
+
+    ghost Value = { Text };
+
+    ghost view = { λ m. m.text };
+
+    ghost invariant = { λ m. is_some (read m.text) ≡ true };
+}
+
+impl Mailbox {
+    // A text as a mailbox, or None if it is none. It takes no memory, and looks only at the front of the text.
+    fn new(text: Bytes) -> Option<Mailbox>
+        ensures { result ≡ mailbox_in text }
+    {
+        if Mails::open(text.as_slice()).is_some() {
+            Some(Mailbox { text })
+        } else {
+            None
+        }
+    }
+}
+
 /// The stream of posts that a mailbox makes: each mail one delivery to the list, all of one moment.
 #[derive(Drop)]
 pub struct Importing {
     words: ImportWords,
     moment: u64,
-    text: Bytes,
+    text: Mailbox,
 }
 
 impl Question for Importing {
@@ -68,25 +98,25 @@ impl Question for Importing {
         _files: &mut F,
     ) -> Result<Answer, PartError> {
         let words = &self.words;
-        let text = self.text.as_slice();
-        let answer = answer_of(alloc, config, words.first, self.moment, text)?;
+        let answer = answer_of(alloc, config, words.first, self.moment, &self.text)?;
         Ok(answer)
     }
 }
 
-// The stream of the mails of a text, or `Long`.
+// The stream of the mails of a mailbox, or `Long`.
 fn answer_of(
     alloc: Global,
     config: &Config,
     first: u64,
     moment: u64,
-    text: &[u8],
+    mailbox: &Mailbox,
 ) -> Result<Answer, AllocError>
     requires { first ≤ 999_900_000_000 }
-    ensures { IfOk result (λ answer. answer ≡ import_answer config.now first moment (mails_of text.now)) }
+    ensures { IfOk result (λ answer. answer ≡ import_answer config.now first moment (mails_of mailbox.now)) }
 {
+    let text = mailbox.text.as_slice();
     let Some(mails) = Mails::open(text) else {
-        return Ok(Answer::Text(Bytes::new(alloc)));
+        unreachable!()
     };
     match import_text(alloc, config, first, moment, mails) {
         Ok(stream) => Ok(Answer::Text(stream)),
@@ -114,21 +144,13 @@ impl FromInput for Importing {
         moment: u64,
         input: Bytes,
     ) -> Result<Self, InputError> {
-        if is_mailbox(input.as_slice()) {
-            Ok(Importing {
+        match Mailbox::new(input) {
+            Some(text) => Ok(Importing {
                 words,
                 moment,
-                text: input,
-            })
-        } else {
-            Err(InputError::Bad { at: 0 })
+                text,
+            }),
+            None => Err(InputError::Bad { at: 0 }),
         }
     }
-}
-
-// Whether a text is a mailbox. It takes no memory, and looks only at the front of the text.
-fn is_mailbox(text: &[u8]) -> bool
-    ensures { result ≡ is_some (read text.now) }
-{
-    Mails::open(text).is_some()
 }

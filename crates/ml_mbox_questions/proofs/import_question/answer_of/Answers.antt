@@ -7,12 +7,12 @@ use Rattle.ml_mbox_questions.proofs.import_question.answer_of.Goals as goal
 
 pub returns-in-Ok : goal.returns-in-Ok
 returns-in-Ok c =
-    let all : c.in-Some.mails ≡ mails_of c.args.text.now = ap (λ (o : Option (List Boxed)). unwrap_or o []) c.in-Some.ensures.value in
+    let all : c.in-Some.mails ≡ mails_of c.args.mailbox.now = ap (λ (o : Option (List Boxed)). unwrap_or o []) c.in-Some.ensures.value ∙ ap mails_of (c.as_slice-text.ensures ∙ c.mailbox.view_is) in
     stream_answer c.args.config.now c.args.first c.args.moment c.in-Some.mails c.in-Ok.stream c.in-Ok.ensures.text c.in-Ok.ensures.fits
     ∙ ap (λ (ms : List Boxed). import_answer c.args.config.now c.args.first c.args.moment ms) all
 
 pub returns-in-Err-Long : goal.returns-in-Err-Long
 returns-in-Err-Long c =
-    let all : c.in-Some.mails ≡ mails_of c.args.text.now = ap (λ (o : Option (List Boxed)). unwrap_or o []) c.in-Some.ensures.value in
+    let all : c.in-Some.mails ≡ mails_of c.args.mailbox.now = ap (λ (o : Option (List Boxed)). unwrap_or o []) c.in-Some.ensures.value ∙ ap mails_of (c.as_slice-text.ensures ∙ c.mailbox.view_is) in
     long_answer c.args.config.now c.args.first c.args.moment c.in-Some.mails (c.in-Err-Long.ensures.long (ap Err c.in-Err-Long.field-0-is))
     ∙ ap (λ (ms : List Boxed). import_answer c.args.config.now c.args.first c.args.moment ms) all
