@@ -16,11 +16,6 @@ use Rattle.ml_base.proofs.NumberLaws.{number_spelled}
 use Rattle.ml_config.specs.MakeWords.{key_of}
 use Rattle.ml_plain.specs.declared.Act.TheVariants as acts
 use Rattle.ml_stream.specs.Stream.{item_number_of, floor_of, id_of, positive_within, some_positive}
-use Rattle.ml_command.specs.declared.item_words.Change.{Change}
-use Rattle.ml_command.specs.declared.item_words.Change.TheVariants as changes
-use Rattle.ml_command.specs.Single.{IsGiven}
-use Rattle.ml_command.specs.Asking.{Asks}
-use Rattle.ml_command.specs.Words.{act_of, member_act, member_of, rekey_of, floor_words, sent_of, single, timed_of}
 
 pub number_given : (word : Text) (number : ℕ) → item_number_of word ≡ Some number → number ≤ 999_999_999_999
 number_given word number e = (number_spelled 999_999_999_999 word number (omega arith) e).0
@@ -55,43 +50,3 @@ positive_given most word at low e = go (number_within most word) refl
             let found : Some n ≡ Some at = sym (ap some_positive is ∙ ap (λ b. if b then None else Some n) z) ∙ e in
             let same : n ≡ at = cc in
             (omega (arith, same, eqb-false n 0 z), omega (arith, same, (number_spelled most word n (omega (arith, low)) is).0))
-
--- what is asked for by a number, a set and an address
-pub member_is_given : (change : Change) (word set_word text who : Text) (number : ℕ) (set : Set) → item_number_of word ≡ Some number → set_of set_word ≡ Some set → address_of text ≡ Some who
-    → Asks (member_of change (word ∷ set_word ∷ text ∷ [])) (Ok (number, act_of change set who))
-member_is_given change word set_word text who number set n s a = (
-  ap (λ (o : Option ℕ). single o (member_act change (set_of set_word) (address_of text))) n
-      ∙ ap (λ (o : Option Set). single (Some number) (member_act change o (address_of text))) s
-      ∙ ap (λ (o : Option Text). single (Some number) (member_act change (Some set) o)) a,
-  given change,
-)
-  where
-    given : (change : Change) → IsGiven number (act_of change set who)
-    given changes.Add = record { few_digits = number_given word number n; range = tt; read = address_read text who a }
-    given changes.Remove = record { few_digits = number_given word number n; range = tt; read = address_read text who a }
-
--- what is asked for by a number and a key
-pub key_is_given : (word digits key : Text) (number : ℕ) → item_number_of word ≡ Some number → key_of digits ≡ Some key → Asks (rekey_of (word ∷ digits ∷ [])) (Ok (number, acts.Rekey key))
-key_is_given word digits key number n k = (
-  ap (λ (o : Option ℕ). single o (option_map (λ key. acts.Rekey key) (key_of digits))) n ∙ ap (λ (o : Option Text). single (Some number) (option_map (λ key. acts.Rekey key) o)) k,
-  record { few_digits = number_given word number n; range = tt; read = key_given digits key k },
-)
-
--- what is asked for by a number and a floor
-pub floor_is_given : (word text : Text) (number at : ℕ) → item_number_of word ≡ Some number → floor_of text ≡ Some at → Asks (floor_words (word ∷ text ∷ [])) (Ok (number, acts.Floor at))
-floor_is_given word text number at n f = (
-  ap (λ (o : Option ℕ). single o (option_map (λ n. acts.Floor n) (floor_of text))) n ∙ ap (λ (o : Option ℕ). single (Some number) (option_map (λ n. acts.Floor n) o)) f,
-  record { few_digits = number_given word number n; range = positive_given 999_999_999_999 text at (omega arith) f; read = tt },
-)
-
--- what is asked for by a number alone
-pub timed_is_given : (word : Text) (number : ℕ) → item_number_of word ≡ Some number → Asks (timed_of (word ∷ [])) (Ok (number, acts.Timed))
-timed_is_given word number n = (ap (λ (o : Option ℕ). single o (Some acts.Timed)) n, record { few_digits = number_given word number n; range = tt; read = tt })
-
--- what is asked for by a number and an id
-pub sent_is_given : (word text : Text) (number id : ℕ) → item_number_of word ≡ Some number → id_of text ≡ Some id → Asks (sent_of (word ∷ text ∷ [])) (Ok (number, acts.Sent id))
-sent_is_given word text number id n f =
-    let range = positive_given 1_000_000_000_000_000 text id (omega arith) f in (
-      ap (λ (o : Option ℕ). single o (option_map (λ n. acts.Sent n) (id_of text))) n ∙ ap (λ (o : Option ℕ). single (Some number) (option_map (λ n. acts.Sent n) o)) f,
-      record { few_digits = number_given word number n; range = record { from = range.0; to = range.1 }; read = tt },
-    )
