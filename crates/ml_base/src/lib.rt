@@ -3,7 +3,6 @@
 
 mod address;
 mod bytes;
-mod cuts;
 mod fault_plan;
 mod files;
 mod hashes;
@@ -22,11 +21,11 @@ mod pieces;
 mod puts;
 mod ranges;
 mod row;
+mod row_cuts;
 mod splits;
 
 pub use address::{Address, AddressError, AddressFault, is_host_byte, is_kept, make_address};
 pub use bytes::{Bytes, copied};
-pub use cuts::{MAX_POSTS, cut_len};
 pub use fault_plan::FaultPlan;
 pub use files::{Files, FilesError};
 pub use hashes::{hash, hash_lower};
@@ -51,4 +50,5 @@ pub use ranges::{
     LONGEST_PATH, LONGEST_POST, is_drawn, is_moment, is_post_number,
 };
 pub use row::{Numbers, Row};
+pub use row_cuts::{MAX_POSTS, cut_len};
 pub use splits::{split_first, split_last, split_line};

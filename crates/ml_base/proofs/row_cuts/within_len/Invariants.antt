@@ -1,6 +1,6 @@
 use Rattle.std.proofs.Common.{◌≡◌, ◌≤◌, ◌+◌, ℕ, length}
 use Rattle.ml_base.specs.Cuts.{within}
-use Rattle.ml_base.proofs.cuts.within_len.Given as goal
+use Rattle.ml_base.proofs.row_cuts.within_len.Given as goal
 
 abbrev pub invariant-loop-rest : goal.invariant-loop-rest
 invariant-loop-rest l = record {
