@@ -297,14 +297,19 @@ fn number(word: &str) -> Result<u64, WordsError>
 }
 
 // The number of an item: 0 to 999,999,999,999.
+#[tactic(auto, using(crate::proofs::Given::within_given))]
 fn item_number(word: &str) -> Result<u64, WordsError>
     ensures value { result ≡ held (item_number_of word.now) }
     ensures range { IfOk result (λ number. number ≤ 999_999_999_999) }
 {
-    number_within(LAST_ITEM, word.as_bytes()).ok_or(WordsError::BadWord)
+    match number_within(LAST_ITEM, word.as_bytes()) {
+        Some(number) => Ok(number),
+        None => Err(WordsError::BadWord),
+    }
 }
 
 // A number from 1 up to a largest one.
+#[tactic(auto, using(crate::proofs::Given::within_given))]
 fn positive(most: u64, word: &str) -> Result<u64, WordsError>
     requires { most < 10 ^ 18 }
     ensures value { result ≡ held (positive_within most word.now) }
