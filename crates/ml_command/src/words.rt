@@ -106,7 +106,10 @@ fn read_make(alloc: Global, words: &[String]) -> Result<Command, WordsError>
     ensures ranges { IfOk result InRange }
 {
     match config_from_words(alloc, words) {
-        Ok((config, key)) => Ok(Command::Make { config, key }),
+        Ok(made) => {
+            let (config, key) = made;
+            Ok(Command::Make { config, key })
+        }
         Err(ConfigError::Usage) => Err(WordsError::NoCommand),
         Err(ConfigError::Memory) => Err(WordsError::Memory),
     }
