@@ -1,8 +1,9 @@
 -- What is done for words that ask for nothing is what the program does for them.
-use Rattle.std.proofs.Common.{◌≡◌, inl, inr, ⊎_elim, ℕ, Bool, true, false, None, Result, Ok, Err, refl, sym, subst, arith}
+use Rattle.std.proofs.Common.{◌≡◌, inl, inr, ⊎_elim, ℕ, Bool, true, false, None, Result, Ok, Err, refl, subst, arith}
 use Rattle.ml_site.specs.declared.site.Site.{Ghosts}
 use Rattle.ml_site.specs.declared.source.Clock.{Ghosts as ClockGhosts}
 use Rattle.ml_site.specs.declared.source.Source.{Ghosts as SourceGhosts}
+use Rattle.ml_ending.specs.declared.lines.Why.{Why}
 use Rattle.ml_ending.specs.Endings.{Says}
 use Rattle.ml_command.specs.Commands.{Does, LeavesInput, ReadsClock, why_of}
 use Rattle.ml_command.specs.Delivering.{longest_message}
@@ -52,8 +53,9 @@ same_error : (a b : WordsError) → ◌≡◌ {A = Result Command WordsError} (E
 same_error a b e = cc
 
 -- a stop line says why words ask for nothing, or that memory ran out
-pub refused : {I S K : Type 0} (source : SourceGhosts I) (told : Ghosts S) (clocks : ClockGhosts K) (wanted : Result Command WordsError) (error : WordsError) (input : I) (old new : S) (clock : K) (status : ℕ)
-    → Reads wanted (Err error) → Says told old new status None (why_of error) → Does source told clocks wanted input input old new clock clock status
-refused source told clocks wanted error input old new clock status reads said =
+pub refused : {I S K : Type 0} (source : SourceGhosts I) (told : Ghosts S) (clocks : ClockGhosts K) (wanted : Result Command WordsError) (error : WordsError) (why : Why) (input : I) (old new : S) (clock : K) (status : ℕ)
+    → Reads wanted (Err error) → why ≡ why_of error → Says told old new status None why → Does source told clocks wanted input input old new clock clock status
+refused source told clocks wanted error why input old new clock status reads line says =
+    let said : Says told old new status None (why_of error) = subst (λ (w : Why). Says told old new status None w) line says in
     ⊎_elim (λ is. subst (λ (w : Result Command WordsError). Does source told clocks w input input old new clock clock status) is (inl (said, refl)))
     (λ is. inr (subst (λ (e : WordsError). Says told old new status None (why_of e)) (same_error error Memory is) said, input_kept source wanted input)) reads

@@ -8,12 +8,7 @@ use ml_site::Site;
 use std::alloc::Global;
 
 /// Makes a list of a configuration and a key.
-pub(crate) fn make_list<S: Site>(
-    alloc: Global,
-    config: &Config,
-    key: &[u8; 32],
-    site: S,
-) -> (u8, S)
+pub(crate) fn make_list<S: Site>(alloc: Global, config: &Config, key: &[u8; 32], site: S) -> (u8, S)
     requires { IsConfig config.now }
     ensures { MakesList ⟦<S as Site>⟧ config.now key.now site result.1 result.0 }
 {
