@@ -141,7 +141,7 @@ module _ {S : Type 0} (told : Ghosts S) where
               let i = a.items all ending b in
               let n = s.ahead i.0 ending i.2 in
               let split : all ≡ items_of all_done ++ n.0 = i.1 ∙ ap (λ (l : List Item). items_of a.done ++ l) n.1 ∙ sym (append_assoc (items_of a.done) (items_of s.done) n.0) ∙ ap (λ (l : List Item). l ++ n.0) (sym (items_joined a.done s.done)) in
-              let after = take (limit - length (items_of all_done)) n.0 in
+              let beyond = take (limit - length (items_of all_done)) n.0 in
               (beyond, ap (take limit) split ∙ take_split limit (items_of all_done) n.0 (omega (arith, items_length all_done, size, few)) ∙ ap (λ (l : List Done). items_of l ++ beyond) (sym (append-nil all_done)));
           end = inl (finished_dir told files start new end all_done line status last r has f);
           whole = λ one two three. refl;

@@ -52,7 +52,7 @@ module _ {F S : Type 0} (fed : FeedGhosts F) (told : Ghosts S) where
       → EndsList fed told (Leaves told start end) limit before after start end ended all ending q
   list_finished limit answered last before now after start old read new end ended all ending q b i g stop s lines is few le reads images r kept settled time t u line f sum said number =
       let input = Rose (fed.faults before) (fed.faults after) in
-      let done_of : (others beyond : List Item) → others ≡ i.done ++ (s.items ++ beyond) → Round told start new limit (answered + g.count) g.last others q after = λ others beyond parts.
+      let done_of : (others beyond : List Item) → others ≡ i.done ++ (s.items ++ beyond) → Round told start new limit (answered + g.count) g.last others q beyond = λ others beyond parts.
       round_others told start old read new limit answered last (fed.reader now) (fed.reader after) (fed.left now) (fed.left after) all ending q i g stop s lines is few le reads r kept settled time others beyond parts in
       let here = done_of all s.rest (i.split ∙ ap (λ (l : List Item). i.done ++ l) s.split) in
       let rest = take (limit - (answered + g.count)) s.rest in
