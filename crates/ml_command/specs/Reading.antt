@@ -1,5 +1,5 @@
 -- What the reading of words gives.
-use Rattle.std.specs.Prelude.{◌≡◌, ◌⊎◌, ◌≤◌, ℕ, length, Result, Err}
+use Rattle.std.specs.Prelude.{◌≡◌, ◌⊎◌, ◌≤◌, length, Result, Err}
 use Rattle.ml_config.specs.Configuration.{IsConfig}
 use Rattle.ml_command.specs.Single.{IsGiven}
 use Rattle.ml_command.specs.declared.words.Command.{Command}
