@@ -1,5 +1,5 @@
-mod Families
 mod Given
 mod OneItem
 mod Printing
+mod Refused
 mod Statuses

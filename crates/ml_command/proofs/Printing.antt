@@ -51,7 +51,9 @@ use Rattle.ml_subs.specs.declared.member_list.Member.{Member}
 use Rattle.ml_command.specs.Commands.{Does}
 use Rattle.ml_command.specs.Inquiries.{importing_asked, moving_asked}
 use Rattle.ml_command.specs.Printing.{Prints, PutsMails, PutsMoves}
-use Rattle.ml_command.specs.Words.{Command, Spool, Deliver, Make, Exercise, Single, Give, BadWord, NoCommand}
+use Rattle.ml_command.specs.declared.words.Command.{Command}
+use Rattle.ml_command.specs.declared.words.Command.TheVariants.{Spool, Deliver, Make, Exercise, Single, Give}
+use Rattle.ml_command.specs.declared.words.WordsError.{WordsError}
 use Rattle.ml_command.specs.declared.inquiries.Inquiry.TheVariants as inquiries
 use Rattle.ml_split_questions.proofs.Moved.{filter_small}
 
@@ -203,28 +205,27 @@ module _ {I S K : Type 0} (source : SourceGhosts I) (told : Ghosts S) (clocks : 
       }
 
 -- what a command does prints the stream that it asks for
-pub prints : {I S K : Type 0} (source : SourceGhosts I) (told : Ghosts S) (clocks : ClockGhosts K) → LawImporting → (wanted : Command) (input next : I) (old new : S) (clock after : K) (status : ℕ)
+pub prints : {I S K : Type 0} (source : SourceGhosts I) (told : Ghosts S) (clocks : ClockGhosts K) → LawImporting → (wanted : Result Command WordsError) (input next : I) (old new : S) (clock after : K) (status : ℕ)
     → Does source told clocks wanted input next old new clock after status → Prints source told clocks wanted input next old new clock status
-prints source told clocks law (Spool limit) input next old new clock after status d = tt
-prints source told clocks law (Deliver number sender recipient) input next old new clock after status d = tt
-prints source told clocks law (Make config key) input next old new clock after status d = tt
-prints source told clocks law (Exercise count) input next old new clock after status d = tt
-prints source told clocks law (Single number act) input next old new clock after status d = tt
-prints source told clocks law BadWord input next old new clock after status d = tt
-prints source told clocks law NoCommand input next old new clock after status d = tt
-prints source told clocks law (Give (inquiries.Query query)) input next old new clock after status d = λ reads all zero files q dir state. tt
-prints source told clocks law (Give inquiries.Check) input next old new clock after status d = λ reads all zero files q dir state. tt
-prints source told clocks law (Give (inquiries.Pages query)) input next old new clock after status d = λ reads all zero files q dir state. tt
-prints source told clocks law (Give (inquiries.Mailbox query)) input next old new clock after status d = λ reads all zero files q dir state. tt
-prints source told clocks law (Give (inquiries.Split set)) input next old new clock after status d = λ reads all zero files q dir state. tt
-prints source told clocks law (Give (inquiries.Move words)) input next old new clock after status d = λ reads all zero files q dir state low.
+prints source told clocks law (Ok (Spool limit)) input next old new clock after status d = tt
+prints source told clocks law (Ok (Deliver number sender recipient)) input next old new clock after status d = tt
+prints source told clocks law (Ok (Make config key)) input next old new clock after status d = tt
+prints source told clocks law (Ok (Exercise count)) input next old new clock after status d = tt
+prints source told clocks law (Ok (Single number act)) input next old new clock after status d = tt
+prints source told clocks law (Err error) input next old new clock after status d = tt
+prints source told clocks law (Ok (Give (inquiries.Query query))) input next old new clock after status d = λ reads all zero files q dir state. tt
+prints source told clocks law (Ok (Give inquiries.Check)) input next old new clock after status d = λ reads all zero files q dir state. tt
+prints source told clocks law (Ok (Give (inquiries.Pages query))) input next old new clock after status d = λ reads all zero files q dir state. tt
+prints source told clocks law (Ok (Give (inquiries.Mailbox query))) input next old new clock after status d = λ reads all zero files q dir state. tt
+prints source told clocks law (Ok (Give (inquiries.Split set))) input next old new clock after status d = λ reads all zero files q dir state. tt
+prints source told clocks law (Ok (Give (inquiries.Move words))) input next old new clock after status d = λ reads all zero files q dir state low.
     ⊎_elim (λ asks. ⊎_elim
     (λ now. ⊎_elim
     (λ asked. moves_put source told clocks input next old new clock after status reads all zero files q dir state words now.0 asked.0 asked.1.0 low now.1 asked.1.1 asked.1.2 asked.2)
     (λ none. absurd (says_not_zero told old new status none.0 none.2 zero)) now.2)
     (λ failed. absurd (says_not_zero told old new status whys.Clock failed.1 zero)) asks)
     (λ memory. absurd (says_not_zero told old new status whys.Memory memory.0 zero)) d
-prints source told clocks law (Give (inquiries.Import first)) input next old new clock after status d = λ reads all zero files q dir state low.
+prints source told clocks law (Ok (Give (inquiries.Import first))) input next old new clock after status d = λ reads all zero files q dir state low.
     ⊎_elim (λ asks. ⊎_elim
     (λ now. ⊎_elim
     (λ asked. mails_put source told clocks input next old new clock after status reads all zero files q dir state law first now.0 asked.0 asked.1.0 low now.1 asked.1.1 asked.1.2 asked.2)

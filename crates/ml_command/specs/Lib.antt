@@ -1,11 +1,10 @@
-pub mod Asking
 pub mod Commands
 pub mod Delivering
-pub mod Exercising
 pub mod Giving
 pub mod Inquiries
 pub mod Making
 pub mod Printing
+pub mod Reading
 pub mod Single
 pub mod Spooling
 pub mod Words

@@ -1,5 +1,5 @@
 -- What `make` does.
-use Rattle.std.specs.Prelude.{◌≡◌, ◌≢◌, ◌⊎◌, ℕ, IsTrue, Option, Some, None}
+use Rattle.std.specs.Prelude.{◌≡◌, ◌≢◌, ◌⊎◌, ℕ, IsTrue, Some, None}
 use Rattle.ml_base.specs.Bytes.{Text}
 use Rattle.ml_base.specs.Dir.{Dir}
 use Rattle.ml_base.specs.Faults.{Rose}
@@ -14,8 +14,7 @@ use Rattle.ml_site.specs.Disk.{IsAtRest}
 use Rattle.ml_site.specs.declared.site.Site.{Ghosts}
 use Rattle.ml_journal.specs.Calls.{Leaves}
 use Rattle.ml_journal.specs.Log.{directory}
-use Rattle.ml_ending.specs.declared.lines.Why.TheVariants as whys
-use Rattle.ml_ending.specs.Endings.{Opens, Says}
+use Rattle.ml_ending.specs.Endings.{Opens}
 use Rattle.ml_run.specs.Leaving.{HasState}
 use Rattle.ml_run.specs.Making.{IsMaking, Makes, made_text, is_make_status}
 
@@ -31,8 +30,3 @@ pub record MakesList {S : Type 0} (told : Ghosts S) (config : Config) (key : Tex
   pub rest : (Rose (told.disk_faults old) (told.disk_faults new) → ⊥) → (status ≡ 71 → ⊥) → (status ≡ 73 → ⊥) → IsTrue told.tells_all → IsAtRest (told.disk new)
   pub of_disk : status ≡ 111 → Rose (told.disk_faults old) (told.disk_faults new)
   pub of_output : status ≡ 73 → Rose (told.output_faults old) (told.output_faults new)
-
--- A list is made, or the words give none, or memory ran out before anything was done.
-abbrev pub MakesAsked : {S : Type 0} → Ghosts S → Option (Config × Text) → S → S → ℕ → Type 0
-MakesAsked told None old new status = Says told old new status None whys.Usage ⊎ Says told old new status None whys.Memory
-MakesAsked told (Some made) old new status = MakesList told made.0 made.1 old new status ⊎ Says told old new status None whys.Memory

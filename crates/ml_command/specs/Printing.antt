@@ -1,5 +1,5 @@
 -- The streams that commands print, by the grammar of streams.
-use Rattle.std.specs.Prelude.{◌≡◌, ◌≤◌, ℕ, true, IsTrue, List, ◌++◌, Some, Ok}
+use Rattle.std.specs.Prelude.{◌≡◌, ◌≤◌, ℕ, true, IsTrue, List, ◌++◌, Some, Result, Ok}
 use Rattle.ml_base.specs.Bytes.{Text}
 use Rattle.ml_base.specs.Dir.{Dir}
 use Rattle.ml_config.specs.declared.configuration.Config.{Config}
@@ -26,7 +26,9 @@ use Rattle.ml_split.specs.declared.rules.Rule.{Rule}
 use Rattle.ml_stream.specs.Stream.{IsStream, End}
 use Rattle.ml_subs.specs.declared.member_list.Member.{Member}
 use Rattle.ml_command.specs.Inquiries.{longest_mailbox, longest_rules}
-use Rattle.ml_command.specs.Words.{Command, Give}
+use Rattle.ml_command.specs.declared.words.Command.{Command}
+use Rattle.ml_command.specs.declared.words.Command.TheVariants.{Give}
+use Rattle.ml_command.specs.declared.words.WordsError.{WordsError}
 use Rattle.ml_command.specs.declared.inquiries.Inquiry.{Inquiry}
 use Rattle.ml_command.specs.declared.inquiries.Inquiry.TheVariants as inquiries
 
@@ -66,8 +68,8 @@ PrintsOf source told clocks (inquiries.Import first) q input next old new clock 
     IsFirst first → PutsMails source clocks first q.plain.config input next clock (told.output old) (told.output new)
 PrintsOf source told clocks _ q input next old new clock = Unit {0}
 
--- the same for a command that ends with status 0
-abbrev pub Prints : {I S K : Type 0} → SourceGhosts I → Ghosts S → ClockGhosts K → Command → I → I → S → S → K → ℕ → Type 0
-Prints source told clocks (Give inquiry) input next old new clock status =
+-- the same for words that end with status 0
+abbrev pub Prints : {I S K : Type 0} → SourceGhosts I → Ghosts S → ClockGhosts K → Result Command WordsError → I → I → S → S → K → ℕ → Type 0
+Prints source told clocks (Ok (Give inquiry)) input next old new clock status =
     IsTrue told.tells_reads → IsTrue told.tells_all → status ≡ 0 → (files : Dir) (q : State) → directory (told.disk old).reads ≡ Some files → IsState files q → PrintsOf source told clocks inquiry q input next old new clock
 Prints source told clocks _ input next old new clock status = Unit {0}

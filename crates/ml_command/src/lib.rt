@@ -3,11 +3,10 @@
 
 mod commands;
 mod deliver_command;
-mod exercise_command;
 mod inquiries;
 mod item_commands;
-mod item_words;
 mod make_command;
 mod spool_command;
+mod words;
 
 pub use commands::ezmlm_main;
