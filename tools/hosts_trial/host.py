@@ -128,7 +128,7 @@ class Host:
     def place_of(self, name: str) -> int:
         """The first number that a list here hasn't answered."""
         with held(self.lists / name):
-            return folder.behind_answers(self.lists / name)
+            return folder.after_answers(self.lists / name)
 
     def copy(self, name: str, to: pathlib.Path) -> None:
         """Copies a list's folder, as docs/OPERATING.md takes a backup."""
