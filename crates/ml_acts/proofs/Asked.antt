@@ -98,28 +98,28 @@ undigested_before later dir same marked name (inl (e, inr (count, counted, entri
 undigested_before later dir same marked name (inr (mark, is, count, counted, post)) =
     inr (mark, record { last = is.last; issue = is.issue; text = sym marked ∙ is.text }, count, counted_so later dir same count counted, (post.0, post.1, post.2, for_post later dir same post.0 name post.3))
 
-module _ {F T : Type 0} (told : Ghosts F) (May : Name → Type 0) (r : Result T PartError) (dir : Dir) where
+module _ {F T : Type 0} (ghosts : Ghosts F) (May : Name → Type 0) (r : Result T PartError) (dir : Dir) where
   -- what a call names, said in other terms, and of files that are what they were
-  pub named_as : (later : Dir) (Few : Name → Type 0) (Bad : Dir → Name → Type 0) (Worse : Name → Type 0) → (IsTrue told.tells → later ≡ dir) → ((name : Name) → Few name → May name) → ((name : Name) → Few name → Bad dir name → Worse name)
-      → NamesDamaged told Few (Bad later) r → NamesDamaged told May Worse r
+  pub named_as : (later : Dir) (Few : Name → Type 0) (Bad : Dir → Name → Type 0) (Worse : Name → Type 0) → (IsTrue ghosts.tells → later ≡ dir) → ((name : Name) → Few name → May name) → ((name : Name) → Few name → Bad dir name → Worse name)
+      → NamesDamaged ghosts Few (Bad later) r → NamesDamaged ghosts May Worse r
   named_as later Few Bad Worse same may worse is = record {
     named = err_damaged r Few May may is.named;
     damaged = λ t. err_both_damaged r Few (Bad dir) Worse worse is.named (subst (λ (d : Dir). IfErr r (λ e. OnDamaged e (Bad d))) (same t) (is.damaged t));
   }
 
   -- a call that names no file of the archive, whatever is asked
-  pub named_beside : (later : Dir) (asked : Asked) (Few : Name → Type 0) → (IsTrue told.tells → later ≡ dir) → ((name : Name) → Few name → May name) → ((name : Name) → Few name → is_of_archive name ≡ true → ⊥)
-      → NamesDamaged told Few (IsDamaged later) r → NamesDamaged told May (IsDamagedOf dir asked) r
+  pub named_beside : (later : Dir) (asked : Asked) (Few : Name → Type 0) → (IsTrue ghosts.tells → later ≡ dir) → ((name : Name) → Few name → May name) → ((name : Name) → Few name → is_of_archive name ≡ true → ⊥)
+      → NamesDamaged ghosts Few (IsDamaged later) r → NamesDamaged ghosts May (IsDamagedOf dir asked) r
   named_beside later asked Few same may beside is = named_as later Few IsDamaged (IsDamagedOf dir asked) same may (λ name few bad. record { damaged = bad; own = λ of. absurd (beside name few of) }) is
 
   -- the number of posts
-  pub count_named : May number_name → NamesDamaged told (λ name. name ≡ number_name) (λ _. IsNoNumber dir) r → NamesDamaged told May (IsDamagedOf dir Count) r
+  pub count_named : May number_name → NamesDamaged ghosts (λ name. name ≡ number_name) (λ _. IsNoNumber dir) r → NamesDamaged ghosts May (IsDamagedOf dir Count) r
   count_named may is =
       named_as dir (λ name. name ≡ number_name) (λ d _. IsNoNumber d) (IsDamagedOf dir Count) (λ t. refl) (λ name e. subst May (sym e) may) (λ name e none. record { damaged = damage.number e none; own = λ of. (e, none) }) is
 
   -- the index of a group
-  pub group_named : (group : ℕ) → ((name : Name) → group < 1_000_000 → name ≡ index_name group → May name) → (IsTrue told.tells → (posts : List Post) → ArePosts dir posts → IfErr r (λ e. OnDamaged e (λ _. ⊥)))
-      → IfErr r (λ e. OnDamaged e (λ _. group < 1_000_000)) → NamesDamaged told (λ name. name ≡ index_name group) (λ _. IsNoIndex dir group) r → NamesDamaged told May (IsDamagedOf dir (Group group)) r
+  pub group_named : (group : ℕ) → ((name : Name) → group < 1_000_000 → name ≡ index_name group → May name) → (IsTrue ghosts.tells → (posts : List Post) → ArePosts dir posts → IfErr r (λ e. OnDamaged e (λ _. ⊥)))
+      → IfErr r (λ e. OnDamaged e (λ _. group < 1_000_000)) → NamesDamaged ghosts (λ name. name ≡ index_name group) (λ _. IsNoIndex dir group) r → NamesDamaged ghosts May (IsDamagedOf dir (Group group)) r
   group_named group may sound table is = record {
     named = err_both_damaged r (λ _. group < 1_000_000) (λ name. name ≡ index_name group) May may table is.named;
     damaged = λ t.

@@ -20,7 +20,7 @@ use Rattle.ml_filing.specs.Archive.{number_name}
 use Rattle.ml_filing.specs.Threads.{IsArchive}
 use Rattle.ml_filing.proofs.Exact.{count_one}
 use Rattle.ml_bounce.specs.Answers.{has_ledger, IsBadFile, IsNoFile, key_file}
-use Rattle.ml_bounce.specs.Files.{ledger_place}
+use Rattle.ml_bounce.specs.Files.{bucket_of}
 use Rattle.ml_config.specs.ConfigFile.{config_name}
 use Rattle.ml_config.proofs.OneSpelling.{one_in_file}
 use Rattle.ml_config.specs.KeyFile.{key_name}
@@ -29,7 +29,6 @@ use Rattle.ml_digest.specs.declared.posts.Mark.{Mark}
 use Rattle.ml_digest.proofs.Marks.{mark_one}
 use Rattle.ml_hold.proofs.OfFiles as held
 use Rattle.ml_queue.proofs.OfFiles as queues
-use Rattle.ml_subs.specs.Buckets.{bucket_of}
 use Rattle.ml_subs.specs.Subscribers.{IsBadBucket, IsBucketName, IsNoBucket, IsUnread, bucket_name, is_touched}
 use Rattle.ml_subs.proofs.Answering.{unread}
 use Rattle.ml_plain.specs.Directory.{IsList}
@@ -81,13 +80,13 @@ pub err_all : {A T : Type 0} (r : Result T PartError) (P : A → Type 0) → ((a
 err_all (Ok x) P h = tt
 err_all (Err e) P h = on_all e P h
 
-module _ {F T : Type 0} (told : Ghosts F) (May : Name → Type 0) (r : Result T PartError) where
+module _ {F T : Type 0} (ghosts : Ghosts F) (May : Name → Type 0) (r : Result T PartError) where
   -- a call that may name fewer files
-  pub fewer_named : (Few Worse : Name → Type 0) → ((name : Name) → Few name → May name) → NamesDamaged told Few Worse r → NamesDamaged told May Worse r
+  pub fewer_named : (Few Worse : Name → Type 0) → ((name : Name) → Few name → May name) → NamesDamaged ghosts Few Worse r → NamesDamaged ghosts May Worse r
   fewer_named Few Worse may is = record { named = err_damaged r Few May may is.named; damaged = is.damaged }
 
   -- the same in other terms
-  pub named_so : (Few Bad Worse : Name → Type 0) → ((name : Name) → Few name → May name) → ((name : Name) → Few name → Bad name → Worse name) → NamesDamaged told Few Bad r → NamesDamaged told May Worse r
+  pub named_so : (Few Bad Worse : Name → Type 0) → ((name : Name) → Few name → May name) → ((name : Name) → Few name → Bad name → Worse name) → NamesDamaged ghosts Few Bad r → NamesDamaged ghosts May Worse r
   named_so Few Bad Worse may worse is = record {
     named = err_damaged r Few May may is.named;
     damaged = λ t. err_both_damaged r Few Bad Worse worse is.named (is.damaged t);
@@ -95,7 +94,7 @@ module _ {F T : Type 0} (told : Ghosts F) (May : Name → Type 0) (r : Result T 
 
   -- a call that names none if there is a value of its part
   pub named_of : {A : Type 0} (P : A → Type 0) (Few Bad Worse : Name → Type 0) → ((name : Name) → Few name → May name) → ((name : Name) → Bad name → ((a : A) → P a → ⊥) → Worse name)
-      → (IsTrue told.tells → (a : A) → P a → IfErr r (λ e. OnDamaged e (λ _. ⊥))) → NamesDamaged told Few Bad r → NamesDamaged told May Worse r
+      → (IsTrue ghosts.tells → (a : A) → P a → IfErr r (λ e. OnDamaged e (λ _. ⊥))) → NamesDamaged ghosts Few Bad r → NamesDamaged ghosts May Worse r
   named_of {A = A} P Few Bad Worse may worse sound is = record {
     named = err_damaged r Few May may is.named;
     damaged = λ t. err_both_damaged r Bad (λ _. (a : A) → P a → ⊥) Worse worse (is.damaged t) (err_all r P (sound t));
@@ -103,12 +102,12 @@ module _ {F T : Type 0} (told : Ghosts F) (May : Name → Type 0) (r : Result T 
 
   module _ (dir : Dir) where
     -- the keys
-    pub keys_named : May key_name → NamesDamaged told (λ name. name ≡ key_name) (λ _. IsNoKeys dir) r → NamesDamaged told May (IsDamaged dir) r
+    pub keys_named : May key_name → NamesDamaged ghosts (λ name. name ≡ key_name) (λ _. IsNoKeys dir) r → NamesDamaged ghosts May (IsDamaged dir) r
     keys_named may is = named_so (λ name. name ≡ key_name) (λ _. IsNoKeys dir) (IsDamaged dir) (λ name e. subst May (sym e) may) (λ name e no. damage.keys e no) is
 
     -- the one bucket of an address
     pub bucket_named : (set : Set) (who : Text) → ((name : Name) → is_bucket_of set who name ≡ true → May name)
-        → NamesDamaged told (λ name. name ≡ bucket_name set (bucket_of (key who))) (λ _. IsNoBucket dir set (bucket_of (key who))) r → NamesDamaged told May (IsDamaged dir) r
+        → NamesDamaged ghosts (λ name. name ≡ bucket_name set (bucket_of (key who))) (λ _. IsNoBucket dir set (bucket_of (key who))) r → NamesDamaged ghosts May (IsDamaged dir) r
     bucket_named set who may is =
         let n = bucket_of (key who) in
         named_so (λ name. name ≡ bucket_name set n) (λ _. IsNoBucket dir set n) (IsDamaged dir)
@@ -117,11 +116,11 @@ module _ {F T : Type 0} (told : Ghosts F) (May : Name → Type 0) (r : Result T 
 
     -- a change of an address in a set
     pub change_named : (set : Set) (k : Text) (has : Bool) → ((name : Name) → is_touched set k name ≡ true → May name)
-        → NamesDamaged told (λ name. is_touched set k name ≡ true) (IsUnread dir set k has) r → NamesDamaged told May (IsDamaged dir) r
+        → NamesDamaged ghosts (λ name. is_touched set k name ≡ true) (IsUnread dir set k has) r → NamesDamaged ghosts May (IsDamaged dir) r
     change_named set k has may is = named_so (λ name. is_touched set k name ≡ true) (IsUnread dir set k has) (IsDamaged dir) may (λ name e bad. damage.change set k has bad) is
 
     -- the members of a set
-    pub members_named : (set : Set) → ((name : Name) → is_bucket set name ≡ true → May name) → NamesDamaged told (IsBucketName set) (IsBadBucket dir set) r → NamesDamaged told May (IsDamaged dir) r
+    pub members_named : (set : Set) → ((name : Name) → is_bucket set name ≡ true → May name) → NamesDamaged ghosts (IsBucketName set) (IsBadBucket dir set) r → NamesDamaged ghosts May (IsDamaged dir) r
     members_named set may is =
         named_so (IsBucketName set) (IsBadBucket dir set) (IsDamaged dir)
         (λ name found. may name (subst (λ (a : Name). is_bucket set a ≡ true) (sym found.2) (and_from _ _ (eq-eqb (set_kind set) (set_kind set) refl) (lt-ltb found.0 53 found.1))))
@@ -129,11 +128,11 @@ module _ {F T : Type 0} (told : Ghosts F) (May : Name → Type 0) (r : Result T 
 
     -- the file of an address in a set's ledger
     pub entry_named : (set : Set) (who : Text) → IsTrue (has_ledger set) → ((name : Name) → is_entry_of set who name ≡ true → May name)
-        → NamesDamaged told (λ name. name ≡ key_file set (key who)) (λ _. IsNoFile dir set (ledger_place (key who))) r → NamesDamaged told May (IsDamaged dir) r
+        → NamesDamaged ghosts (λ name. name ≡ key_file set (key who)) (λ _. IsNoFile dir set (bucket_of (key who))) r → NamesDamaged ghosts May (IsDamaged dir) r
     entry_named set who has may is =
-        named_so (λ name. name ≡ key_file set (key who)) (λ _. IsNoFile dir set (ledger_place (key who))) (IsDamaged dir)
+        named_so (λ name. name ≡ key_file set (key who)) (λ _. IsNoFile dir set (bucket_of (key who))) (IsDamaged dir)
         (λ name e. may name (and_from _ _ has (subst (λ (a : Name). same_name a (key_file set (key who)) ≡ true) (sym e) (same_self (key_file set (key who))))))
-        (λ name e no. damage.ledger set has (ledger_place (key who), mod_below (hash_of (key who)) 53 (omega arith), e, no)) is
+        (λ name e no. damage.ledger set has (bucket_of (key who), mod_below (hash_of (key who)) 53 (omega arith), e, no)) is
 
 -- an answer with one property has another
 pub ok_then : {T : Type 0} {P Q : T → Type 0} (r : Result T PartError) → ((x : T) → P x → Q x) → IfOk r P → IfOk r Q

@@ -13,9 +13,9 @@ use Rattle.ml_acts.proofs.UnderConfig.{config_held}
 
 module _ (c : Config) (dir : Dir) where
   -- and what is named
-  pub named_held : {F T : Type 0} (told : Ghosts F) (May : Name → Type 0) (Bad : Dir → Name → Type 0) (r : Result T PartError) → (IsTrue told.tells → IsConfigFile (dir config_name) c)
-      → NamesDamaged told May (Bad (with_config c dir)) r → NamesDamaged told May (Bad dir) r
-  named_held told May Bad r held is = record {
+  pub named_held : {F T : Type 0} (ghosts : Ghosts F) (May : Name → Type 0) (Bad : Dir → Name → Type 0) (r : Result T PartError) → (IsTrue ghosts.tells → IsConfigFile (dir config_name) c)
+      → NamesDamaged ghosts May (Bad (with_config c dir)) r → NamesDamaged ghosts May (Bad dir) r
+  named_held ghosts May Bad r held is = record {
     named = is.named;
     damaged = λ t. subst (λ (d : Dir). IfErr r (λ e. OnDamaged e (Bad d))) (config_held c dir (held t)) (is.damaged t);
   }

@@ -11,11 +11,10 @@ use Rattle.ml_base.specs.declared.names.Set.TheVariants as sets
 use Rattle.ml_base.specs.declared.puts.Put.{Put}
 use Rattle.ml_base.proofs.Laid.{laid_joined, left_alone}
 use Rattle.ml_bounce.specs.Answers.{has_ledger, key_file, ledger_kind}
-use Rattle.ml_bounce.specs.Files.{IsLedger, ledger_place}
+use Rattle.ml_bounce.specs.Files.{IsLedger, bucket_of}
 use Rattle.ml_bounce.specs.Ledger.{Ledger, forget}
 use Rattle.ml_subs.specs.Members.{without_member}
 use Rattle.ml_subs.specs.Subscribers.{AreSubscribers, is_touched, bucket_name, count_name}
-use Rattle.ml_subs.specs.Buckets.{bucket_of}
 use Rattle.ml_subs.proofs.Represented.{few_sets}
 use Rattle.ml_plain.specs.Directory.{IsList, list_ledger_kinds, digest_ledger_kinds}
 use Rattle.ml_plain.specs.Plain.{Plain, with_members, removed}
@@ -70,7 +69,7 @@ removed_list dir p set who txn done is now only after =
 
 -- the files of a set's ledger that are touched are the list's
 pub entry_kind : (set : Set) (k : Text) (name : Name) → same_name name (key_file set k) ≡ true → name.kind ≡ ledger_kind set
-entry_kind set k name e = eqb-true name.kind (ledger_kind set) (and_parts (eqb name.kind (ledger_kind set)) (eqb name.at (ledger_place k)) e).0
+entry_kind set k name e = eqb-true name.kind (ledger_kind set) (and_parts (eqb name.kind (ledger_kind set)) (eqb name.at (bucket_of k)) e).0
 
 ledger_kinds : (set : Set) → has_ledger set ≡ true → (15 ≤ ledger_kind set) × (ledger_kind set ≤ 16)
 ledger_kinds sets.List has = (omega arith, omega arith)

@@ -20,7 +20,7 @@ use Rattle.ml_subs.specs.declared.set_changes.AddAnswer.TheVariants.{Added, Alre
 use Rattle.ml_subs.specs.declared.member_list.Member.{Member}
 use Rattle.ml_subs.proofs.Answering.{addition, removal}
 use Rattle.ml_bounce.specs.Answers.{IsNoFile, has_ledger, key_file, ledger_kind}
-use Rattle.ml_bounce.specs.Files.{IsLedger, IsLedgerFile, ledger_place}
+use Rattle.ml_bounce.specs.Files.{IsLedger, IsLedgerFile}
 use Rattle.ml_bounce.specs.Ledger.{Ledger}
 use Rattle.ml_plain.specs.Directory.{IsList}
 use Rattle.ml_plain.specs.Plain.{Plain}
@@ -76,17 +76,17 @@ pub entry_there : (set : Set) (who : Text) (old dir : Dir) → has_ledger set �
 entry_there set who old dir has alike = alike (key_file set (key who)) (and_from (has_ledger set) (same_name (key_file set (key who)) (key_file set (key who))) has (same_self (key_file set (key who))))
 
 -- and in a list it isn't damaged
-pub entry_spared : (set : Set) (who : Text) (old dir : Dir) (p : Plain) → has_ledger set ≡ true → Alike (is_entry_of set who) old dir → IsList dir p → IsNoFile old set (ledger_place (key who)) → ⊥
+pub entry_spared : (set : Set) (who : Text) (old dir : Dir) (p : Plain) → has_ledger set ≡ true → Alike (is_entry_of set who) old dir → IsList dir p → IsNoFile old set (bucket_of (key who)) → ⊥
 entry_spared set who old dir p has alike is none = go set has (entry_there set who old dir has alike) none
   where
-    low : ledger_place (key who) < 53
+    low : bucket_of (key who) < 53
     low = mod_below (hash_of (key who)) 53 (omega arith)
 
-    there : (set : Set) (ledger : Ledger) → dir (key_file set (key who)) ≡ old (key_file set (key who)) → IsLedger dir (ledger_kind set) ledger → IsNoFile old set (ledger_place (key who)) → ⊥
+    there : (set : Set) (ledger : Ledger) → dir (key_file set (key who)) ≡ old (key_file set (key who)) → IsLedger dir (ledger_kind set) ledger → IsNoFile old set (bucket_of (key who)) → ⊥
     there set ledger same are none =
-        none (are.buckets (ledger_place (key who))) (subst (λ (f : Option Text). IsLedgerFile (ledger_place (key who)) f (are.buckets (ledger_place (key who)))) same (are.files (ledger_place (key who)) low))
+        none (are.buckets (bucket_of (key who))) (subst (λ (f : Option Text). IsLedgerFile (bucket_of (key who)) f (are.buckets (bucket_of (key who)))) same (are.files (bucket_of (key who)) low))
 
-    go : (set : Set) → has_ledger set ≡ true → dir (key_file set (key who)) ≡ old (key_file set (key who)) → IsNoFile old set (ledger_place (key who)) → ⊥
+    go : (set : Set) → has_ledger set ≡ true → dir (key_file set (key who)) ≡ old (key_file set (key who)) → IsNoFile old set (bucket_of (key who)) → ⊥
     go sets.List has same none = there sets.List p.list_ledger same is.list_ledger none
     go sets.Digest has same none = there sets.Digest p.digest_ledger same is.digest_ledger none
     go sets.Allow has same none = absurd (let bad : false ≡ true = has in cc)

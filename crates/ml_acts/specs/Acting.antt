@@ -7,18 +7,18 @@ use Rattle.ml_base.specs.declared.names.Name.{Name}
 use Rattle.ml_base.specs.declared.part_error.PartError.{PartError}
 use Rattle.ml_base.specs.declared.puts.Put.{Put}
 use Rattle.ml_plain.specs.declared.Reply.{Reply}
-use Rattle.ml_plain.specs.KeptFiles.{is_kept}
+use Rattle.ml_plain.specs.KeptFiles.{may_be_kept}
 use Rattle.ml_acts.specs.Doing.{is_beside_mark, is_of_posting}
 use Rattle.ml_acts.specs.Growing.{is_of_time}
 
 -- The puts are of files that the act may write and that the log may name, and the reply can be kept. A file named as damaged passes MayRead
 -- and IsBad, and files are only read.
-pub record AnswersWithin {F : Type 0} (may_write : Name → Bool) (told : Ghosts F) (MayRead IsBad : Name → Type 0) (old new : F) (result : Result (List Put × Reply) PartError) : Type 0 where
+pub record AnswersWithin {F : Type 0} (may_write : Name → Bool) (ghosts : Ghosts F) (MayRead IsBad : Name → Type 0) (old new : F) (result : Result (List Put × Reply) PartError) : Type 0 where
   pub own : IfOk result (λ done. touches_only may_write done.0 ≡ true)
   pub files : IfOk result (λ done. IsTrue (are_files done.0))
-  pub reply : IfOk result (λ done. is_kept done.1 ≡ true)
-  pub names : NamesDamaged told MayRead IsBad result
-  pub reads : IsReading told old new result
+  pub reply : IfOk result (λ done. may_be_kept done.1 ≡ true)
+  pub names : NamesDamaged ghosts MayRead IsBad result
+  pub reads : IsReading ghosts old new result
 
 -- an act that may write what a delivery may
 abbrev pub AnswersAct : {F : Type 0} → Ghosts F → (Name → Type 0) → (Name → Type 0) → F → F → Result (List Put × Reply) PartError → Type 0

@@ -17,18 +17,18 @@ use Rattle.ml_base.specs.declared.part_error.PartError.{PartError}
 use Rattle.ml_base.specs.declared.part_error.PartError.TheVariants.{Fault}
 
 -- the files are kept, and their count of faults hasn't fallen
-pub record AreKept {F : Type 0} (told : Ghosts F) (old new : F) : Type 0 where
-  pub kept : told.kept old new
-  pub later : told.faults old ≤ told.faults new
+pub record AreKept {F : Type 0} (ghosts : Ghosts F) (old new : F) : Type 0 where
+  pub kept : ghosts.kept old new
+  pub later : ghosts.faults old ≤ ghosts.faults new
 
 -- the same, and the error of a fault comes only if the count rose
-pub record IsReading {F T : Type 0} (told : Ghosts F) (old new : F) (result : Result T PartError) : Type 0 where
-  pub kept : told.kept old new
-  pub later : told.faults old ≤ told.faults new
-  pub cause : IsErrOf result Fault → Rose (told.faults old) (told.faults new)
+pub record IsReading {F T : Type 0} (ghosts : Ghosts F) (old new : F) (result : Result T PartError) : Type 0 where
+  pub kept : ghosts.kept old new
+  pub later : ghosts.faults old ≤ ghosts.faults new
+  pub cause : IsErrOf result Fault → Rose (ghosts.faults old) (ghosts.faults new)
 
 -- a file that is named as damaged is one of those that may be read, and if the files tell their map, it is outside
 -- its grammar
-pub record NamesDamaged {F T : Type 0} (told : Ghosts F) (MayRead IsBad : Name → Type 0) (result : Result T PartError) : Type 0 where
+pub record NamesDamaged {F T : Type 0} (ghosts : Ghosts F) (MayRead IsBad : Name → Type 0) (result : Result T PartError) : Type 0 where
   pub named : IfErr result (λ e. OnDamaged e MayRead)
-  pub damaged : IsTrue told.tells → IfErr result (λ e. OnDamaged e IsBad)
+  pub damaged : IsTrue ghosts.tells → IfErr result (λ e. OnDamaged e IsBad)

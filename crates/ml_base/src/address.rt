@@ -114,7 +114,7 @@ fn are_short(local: &[u8], host: &[u8]) -> bool
 }
 
 /// Whether a text is an address, spelled as it is kept: with its host in lower case. It takes no memory.
-pub fn is_kept(text: &[u8]) -> bool
+pub fn is_canonical(text: &[u8]) -> bool
     ensures { IsTrue result ↔ IsAddress text.now }
 {
     if Address::check(text).is_err() {
@@ -195,8 +195,8 @@ impl Address {
         }
     }
 
-    /// The address that a text is. The text is spelled as it is kept, as `is_kept` finds; it isn't checked again.
-    pub fn from_kept(alloc: Global, text: &[u8]) -> Result<Address, AllocError>
+    /// The address that a text is. The text is spelled canonically, as `is_canonical` finds; it isn't checked again.
+    pub fn from_canonical(alloc: Global, text: &[u8]) -> Result<Address, AllocError>
         requires { IsAddress text.now }
         ensures { IfOk result (λ address. address ≡ text.now) }
     {

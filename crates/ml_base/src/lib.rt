@@ -24,7 +24,7 @@ mod row;
 mod row_cuts;
 mod splits;
 
-pub use address::{Address, AddressError, AddressFault, is_host_byte, is_kept, make_address};
+pub use address::{Address, AddressError, AddressFault, is_canonical, is_host_byte, make_address};
 pub use bytes::{Bytes, copied};
 pub use fault_plan::FaultPlan;
 pub use files::{Files, FilesError};

@@ -9,7 +9,7 @@ use Rattle.ml_base.specs.declared.names.Set.{Set}
 use Rattle.ml_base.specs.declared.puts.Put.{Put}
 use Rattle.ml_bounce.specs.Answers.{ledger_kind, key_file, IsBucketOf, writes, acts, acts_for}
 use Rattle.ml_bounce.specs.Changes.{act, after_at}
-use Rattle.ml_bounce.specs.Files.{IsLedger, ledger_place}
+use Rattle.ml_bounce.specs.Files.{IsLedger, bucket_of}
 use Rattle.ml_bounce.specs.Ledger.{Ledger, LedgerEntry, Stage, Unwarned, Warned, WarnFailed, Probed, find_entry, no_entry, with_ledger, forget, settle, is_blank_at}
 use Rattle.ml_bounce.proofs.Changed.{found_there, forgotten_there}
 use Rattle.ml_bounce.proofs.Leading.{IsKnown, known, put_known, under_key, moment, IsPut}
@@ -46,7 +46,7 @@ pub acted_leads : (dir : Dir) (set : Set) (k : Text) (now : ℕ) (bucket ledger 
     → find_entry k ledger ≡ Some e → txn ≡ acts set k now bucket → IsLedger (with_puts dir txn) (ledger_kind set) (act now e ledger)
 acted_leads dir set k now bucket ledger e txn address low less file stands found is =
     let here : find_entry k bucket ≡ Some e = sym (found_there dir (ledger_kind set) ledger bucket k stands file) ∙ found in
-    let own = known k (ledger_place k) (dir (key_file set k)) bucket address low file in
+    let own = known k (bucket_of k) (dir (key_file set k)) bucket address low file in
     let entry : IsKnown k e = subst (λ (o : Option LedgerEntry). IsKnown k (unwrap_or o (no_entry k))) here own in
     subst (λ (t : List Put). IsLedger (with_puts dir t) (ledger_kind set) (act now e ledger)) (sym (is ∙ ap (acts_for set k now bucket) here))
     (settled_leads dir set k bucket ledger (after_at now e.stage e) (after_known k now e.stage e less entry) file stands)

@@ -11,7 +11,7 @@ use Rattle.ml_base.proofs.Bools.{one_name, not_true}
 use Rattle.ml_base.proofs.SortedLaws.{same_bytes, bytes_total, sorted_with, sorted_without, each_with, each_without}
 use Rattle.ml_keyed.specs.Buckets.{IsOrdered}
 use Rattle.ml_keyed.proofs.Files as keyed
-use Rattle.ml_bounce.specs.Files.{IsLedger, IsLedgerFile, IsEntry, entry_text, ledger_name, ledger_place, ledger_file, ledger_put}
+use Rattle.ml_bounce.specs.Files.{IsLedger, IsLedgerFile, IsEntry, entry_text, ledger_name, bucket_of, ledger_file, ledger_put}
 use Rattle.ml_bounce.specs.Ledger.{Ledger, LedgerEntry, entry_key, find_entry, with_ledger, forget}
 use Rattle.ml_bounce.proofs.Exact.{file_one}
 
@@ -22,7 +22,7 @@ spelled_file (e ∷ es) = refl
 file_made : (n : ℕ) (es : Ledger) → AllByRecursion (IsEntry n) es → IsOrdered entry_key es → IsLedgerFile n (ledger_file es) es
 file_made n es each sorted = record { each = each; sorted = sorted; spelled = spelled_file es }
 
-pub found_there : (dir : Dir) (kind : ℕ) (ledger bucket : Ledger) (k : Text) → IsLedger dir kind ledger → IsLedgerFile (ledger_place k) (dir (ledger_name kind (ledger_place k))) bucket → find_entry k ledger ≡ find_entry k bucket
+pub found_there : (dir : Dir) (kind : ℕ) (ledger bucket : Ledger) (k : Text) → IsLedger dir kind ledger → IsLedgerFile (bucket_of k) (dir (ledger_name kind (bucket_of k))) bucket → find_entry k ledger ≡ find_entry k bucket
 found_there dir kind = keyed.found_there entry_key IsLedgerFile file_one (λ n. dir (ledger_name kind n))
 
 -- the files of a ledger, one of them with another row of entries
@@ -32,18 +32,18 @@ with_row dir kind place es n = with_put dir (ledger_put kind place es) (ledger_n
 row_there : (dir : Dir) (kind place : ℕ) (es : Ledger) (n : ℕ) → with_row dir kind place es n ≡ cond (n == place) (ledger_file es) (dir (ledger_name kind n))
 row_there dir kind place es n = ap (λ b. cond (b && (n == place)) (ledger_file es) (dir (ledger_name kind n))) (eq-eqb kind kind refl)
 
-pub put_there : (dir : Dir) (kind : ℕ) (ledger bucket : Ledger) (e : LedgerEntry) → IsLedger dir kind ledger → IsEntry (ledger_place e.key) e → IsLedgerFile (ledger_place e.key) (dir (ledger_name kind (ledger_place e.key))) bucket
-    → IsLedger (with_put dir (ledger_put kind (ledger_place e.key) (with_ledger e bucket))) kind (with_ledger e ledger)
+pub put_there : (dir : Dir) (kind : ℕ) (ledger bucket : Ledger) (e : LedgerEntry) → IsLedger dir kind ledger → IsEntry (bucket_of e.key) e → IsLedgerFile (bucket_of e.key) (dir (ledger_name kind (bucket_of e.key))) bucket
+    → IsLedger (with_put dir (ledger_put kind (bucket_of e.key) (with_ledger e bucket))) kind (with_ledger e ledger)
 put_there dir kind ledger bucket e is entry file =
-    let place = ledger_place e.key in
+    let place = bucket_of e.key in
     let row = with_ledger e bucket in
     keyed.put_there entry_key IsLedgerFile file_one (λ n. dir (ledger_name kind n)) (with_row dir kind place row) ledger bucket e.key (ledger_file row) (row_there dir kind place row) is file e refl
     (file_made place row (each_with byte_cmp entry_key (IsEntry place) e bucket entry file.each) (sorted_with byte_cmp entry_key same_bytes bytes_total e bucket file.sorted))
 
-pub forgotten_there : (dir : Dir) (kind : ℕ) (ledger bucket : Ledger) (k : Text) → IsLedger dir kind ledger → IsLedgerFile (ledger_place k) (dir (ledger_name kind (ledger_place k))) bucket
-    → IsLedger (with_put dir (ledger_put kind (ledger_place k) (forget k bucket))) kind (forget k ledger)
+pub forgotten_there : (dir : Dir) (kind : ℕ) (ledger bucket : Ledger) (k : Text) → IsLedger dir kind ledger → IsLedgerFile (bucket_of k) (dir (ledger_name kind (bucket_of k))) bucket
+    → IsLedger (with_put dir (ledger_put kind (bucket_of k) (forget k bucket))) kind (forget k ledger)
 forgotten_there dir kind ledger bucket k is file =
-    let place = ledger_place k in
+    let place = bucket_of k in
     let row = forget k bucket in
     keyed.taken_there entry_key IsLedgerFile file_one (λ n. dir (ledger_name kind n)) (with_row dir kind place row) ledger bucket k (ledger_file row) (row_there dir kind place row) is file
     (file_made place row (each_without byte_cmp entry_key (IsEntry place) k bucket file.each) (sorted_without byte_cmp entry_key same_bytes bytes_total k bucket file.sorted))

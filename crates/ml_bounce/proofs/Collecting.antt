@@ -20,7 +20,7 @@ use Rattle.ml_keyed.proofs.Union.{merged, sorted_joined}
 use Rattle.ml_keyed.proofs.Files.{Reads, reads_none, reads_more, union_of}
 use Rattle.ml_bounce.specs.Answers.{AreFiles, IsBadFile, has_ledger, ledger_kind}
 use Rattle.ml_bounce.specs.Changes.{due_entries, is_due}
-use Rattle.ml_bounce.specs.Files.{IsLedger, IsLedgerFile, IsEntry, ledger_name, ledger_place}
+use Rattle.ml_bounce.specs.Files.{IsLedger, IsLedgerFile, IsEntry, ledger_name, bucket_of}
 use Rattle.ml_bounce.specs.Ledger.{Ledger, LedgerEntry, entry_key, find_entry}
 use Rattle.ml_bounce.proofs.Changed.{found_there}
 use Rattle.ml_bounce.proofs.Ledgers.{no_bad_file}
@@ -98,7 +98,7 @@ module _ (test : LedgerEntry → Bool) where
       go false own false here above more =
           ap (λ t. find_entry k (cond t (e ∷ filter test es) (filter test es))) here ∙ more ∙ sym (ap (λ s. when_chosen (cond s (Some e) (find_entry k es))) own)
 
-hashed_each : (n : ℕ) (es : Ledger) → AllByRecursion (IsEntry n) es → AllByRecursion (λ e. ledger_place e.key ≡ n) es
+hashed_each : (n : ℕ) (es : Ledger) → AllByRecursion (IsEntry n) es → AllByRecursion (λ e. bucket_of e.key ≡ n) es
 hashed_each n [] all = tt
 hashed_each n (e ∷ es) all =
     let first : IsEntry n e = all.0 in
@@ -114,13 +114,13 @@ pub due_sorted : (dir : Dir) (set : Set) (now : ℕ) (found sorted ledger : Ledg
     → sorted ≡ due_entries now ledger
 due_sorted dir set now found sorted ledger all moved up is =
     let test = is_due now in
-    let hashed = λ (i : ℕ) (less : i < 53). each_filter test (λ e. ledger_place e.key ≡ i) (all.0 i) (hashed_each i (all.0 i) (all.1 i less).each) in
+    let hashed = λ (i : ℕ) (less : i < 53). each_filter test (λ e. bucket_of e.key ≡ i) (all.0 i) (hashed_each i (all.0 i) (all.1 i less).each) in
     let ordered = λ (i : ℕ) (less : i < 53). sorted_filter test (all.0 i) (all.1 i less).sorted in
     let by_key = sorted_joined entry_key (λ i. filter test (all.0 i)) 53 hashed ordered sorted (subst (λ (l : Ledger). IsPermutation l sorted) all.2 moved) up in
     same_lists byte_cmp entry_key same_bytes bytes_total sorted (filter test ledger) by_key.0 (sorted_filter test ledger is.sorted)
     (λ k.
-    by_key.1 k (place_below k) ∙ found_filter test k (all.0 (ledger_place k)) (all.1 (ledger_place k) (place_below k)).sorted
-    ∙ ap (when_chosen test) (sym (found_there dir (ledger_kind set) ledger (all.0 (ledger_place k)) k is (all.1 (ledger_place k) (place_below k)))) ∙ sym (found_filter test k ledger is.sorted))
+    by_key.1 k (place_below k) ∙ found_filter test k (all.0 (bucket_of k)) (all.1 (bucket_of k) (place_below k)).sorted
+    ∙ ap (when_chosen test) (sym (found_there dir (ledger_kind set) ledger (all.0 (bucket_of k)) k is (all.1 (bucket_of k) (place_below k)))) ∙ sym (found_filter test k ledger is.sorted))
 
 abbrev pub SomeLedger : Dir → Set → Type 0
 SomeLedger dir set = (ledger : Ledger) × IsLedger dir (ledger_kind set) ledger

@@ -20,7 +20,7 @@ use Rattle.ml_rows.specs.Rows.{both_of, row_of, EachFrom, netstrings_at}
 use Rattle.ml_rows.specs.Values.{address_in, comma_text, comma_numbers}
 use Rattle.ml_rows.proofs.RowLaws.{one_some, none_some, only_read, only_there, made_read, both_read, both_there, netstrings_read, netstrings_written, row_read, row_written, four}
 use Rattle.ml_rows.proofs.ValueLaws.{moment_read, moment_written, address_is, address_there, commas_read, commas_written, comma_length}
-use Rattle.ml_bounce.specs.Files.{IsLedgerFile, IsEntry, ledger_place, content_text, entry_text, stage_text, is_stage, are_distinct}
+use Rattle.ml_bounce.specs.Files.{IsLedgerFile, IsEntry, bucket_of, content_text, entry_text, stage_text, is_stage, are_distinct}
 use Rattle.ml_bounce.specs.Ledger.{Ledger, LedgerEntry, Stage, Unwarned, Warned, WarnFailed, Probed, is_blank_at}
 use Rattle.ml_bounce.specs.Reading.{stage_of, key_in, entry_with, fits, entry_of_fields, entry_of_content, entry_at, ledger_of}
 
@@ -103,7 +103,7 @@ pub record Fits (n : ℕ) (e : LedgerEntry) : Type 0 where
   pub distinct : are_distinct e.missed ≡ true
   pub no_first : is_empty e.missed ≡ true → e.first ≡ 0
   pub remembers : is_blank_at e.stage e.missed ≡ false
-  pub hashed : ledger_place e.key ≡ n
+  pub hashed : bucket_of e.key ≡ n
 
 fits_read : (n : ℕ) (e : LedgerEntry) → fits n e ≡ true → Fits n e
 fits_read n e h =
@@ -116,14 +116,14 @@ fits_read n e h =
       distinct = d.1;
       no_first = λ none. eqb-true e.first 0 (first_test (is_empty e.missed) (e.first == 0) c.1 none);
       remembers = not_false (is_blank_at e.stage e.missed) b.1;
-      hashed = eqb-true (ledger_place e.key) n a.1;
+      hashed = eqb-true (bucket_of e.key) n a.1;
     }
 
 fits_told : (n : ℕ) (e : LedgerEntry) → Fits n e → fits n e ≡ true
 fits_told n e is =
     and_from _ _
     (and_from _ _ (and_from _ _ (and_from _ _ (le-leb (length e.missed) 100 is.few) is.distinct) (first_told (is_empty e.missed) (e.first == 0) (λ none. eq-eqb e.first 0 (is.no_first none)))) (ap not is.remembers))
-    (eq-eqb (ledger_place e.key) n is.hashed)
+    (eq-eqb (bucket_of e.key) n is.hashed)
 
 -- the four texts of an entry
 abbrev pub fields : LedgerEntry → List Text

@@ -18,7 +18,7 @@ use Rattle.ml_base.proofs.SortedLaws.{found_is}
 use Rattle.ml_base.proofs.BelowLemmas.{same_key}
 use Rattle.ml_bounce.specs.Answers.{ledger_kind, key_file, IsBucketOf, LeadsTo, puts_of, writes}
 use Rattle.ml_bounce.specs.Changes.{can_note, noted, note, is_warned, warn_failed, is_probed, probe_failed}
-use Rattle.ml_bounce.specs.Files.{IsLedger, IsLedgerFile, IsEntry, is_stage, are_distinct, ledger_place}
+use Rattle.ml_bounce.specs.Files.{IsLedger, IsLedgerFile, IsEntry, is_stage, are_distinct, bucket_of}
 use Rattle.ml_bounce.specs.Ledger.{Ledger, LedgerEntry, Stage, Unwarned, Warned, WarnFailed, Probed, find_entry, entry_under, no_entry, with_ledger, forget, is_blank_at}
 use Rattle.ml_bounce.proofs.Changed.{found_there, forgotten_there, put_there}
 use Rattle.ml_bounce.proofs.Folded.{none_capital}
@@ -71,7 +71,7 @@ pub put_known : (dir : Dir) (set : Set) (k : Text) (bucket ledger : Ledger) (e :
     → IsLedger (with_puts dir (writes set k (with_ledger e bucket))) (ledger_kind set) (with_ledger e ledger)
 put_known dir set k bucket ledger e is some file stands =
     let low : lower e.key ≡ e.key = ap lower is.key ∙ is.lowered ∙ sym is.key in
-    let entry : IsEntry (ledger_place e.key) e = record {
+    let entry : IsEntry (bucket_of e.key) e = record {
       address = subst (λ (a : Text). IsAddress a) (sym is.key) is.address;
       lowered = low;
       hashed = refl;
@@ -149,7 +149,7 @@ module _ (dir : Dir) (set : Set) (k : Text) (bucket ledger : Ledger) (file : IsB
   pub note_leads : (number now : ℕ) (answer : Option (List Put)) → IsAddress k → lower k ≡ k → number ≤ 99_999_999 → now < 253_402_300_800 → answer ≡ option_map (writes set k) (note k number now bucket) → LeadsTo dir set answer (note k number now ledger)
   note_leads number now answer address low small less is =
       let e = entry_under k bucket in
-      let here = known k (ledger_place k) (dir (key_file set k)) bucket address low file in
+      let here = known k (bucket_of k) (dir (key_file set k)) bucket address low file in
       subst (λ (a : Option (List Put)). LeadsTo dir set a (note k number now ledger)) (sym is)
       (subst (λ (f : LedgerEntry). LeadsTo dir set (option_map (writes set k) (note k number now bucket)) (cond (can_note number f) (Some (with_ledger (noted number now f) ledger)) None)) same_under
       (lead_if dir set k (can_note number e) (with_ledger (noted number now e) bucket) (with_ledger (noted number now e) ledger)
@@ -158,7 +158,7 @@ module _ (dir : Dir) (set : Set) (k : Text) (bucket ledger : Ledger) (file : IsB
   pub warned_leads : (t now : ℕ) (answer : Option (List Put)) → IsAddress k → lower k ≡ k → now < 253_402_300_800 → answer ≡ option_map (writes set k) (warn_failed k t now bucket) → LeadsTo dir set answer (warn_failed k t now ledger)
   warned_leads t now answer address low less is =
       let e = entry_under k bucket in
-      let here = known k (ledger_place k) (dir (key_file set k)) bucket address low file in
+      let here = known k (bucket_of k) (dir (key_file set k)) bucket address low file in
       let new : LedgerEntry = record e { stage = WarnFailed now } in
       let is_new : IsKnown k new = record { key = here.key; address = here.address; lowered = here.lowered; first = here.first; stage = moment now less; few = here.few; missed = here.missed; distinct = here.distinct; no_first = here.no_first } in
       subst (λ (a : Option (List Put)). LeadsTo dir set a (warn_failed k t now ledger)) (sym is)

@@ -14,7 +14,7 @@ use Rattle.ml_base.specs.declared.names.Set.TheVariants as sets
 use Rattle.ml_base.specs.declared.puts.Put.{Put}
 use Rattle.ml_base.proofs.BelowLemmas.{same_key}
 use Rattle.ml_bounce.specs.Answers.{has_ledger, ledger_kind, key_file, IsBucketOf, IsNoFile, writes, forgets}
-use Rattle.ml_bounce.specs.Files.{IsLedger, IsLedgerFile, ledger_name, ledger_place}
+use Rattle.ml_bounce.specs.Files.{IsLedger, IsLedgerFile, ledger_name, bucket_of}
 use Rattle.ml_bounce.specs.Ledger.{Ledger, LedgerEntry, find_entry, forget}
 use Rattle.ml_bounce.specs.Reading.{ledger_of}
 use Rattle.ml_bounce.proofs.Changed.{found_there, forgotten_there}
@@ -40,7 +40,7 @@ forget_absent k (e ∷ es) none = go (eq_by_cmp byte_cmp k e.key) refl none (for
 
 -- a file that two directories have alike
 pub bucket_in : (dir other : Dir) (set : Set) (k : Text) (bucket : Ledger) → dir (key_file set k) ≡ other (key_file set k) → IsBucketOf other set k bucket → IsBucketOf dir set k bucket
-bucket_in dir other set k bucket same is = subst (λ (f : Option Text). IsLedgerFile (ledger_place k) f bucket) (sym same) is
+bucket_in dir other set k bucket same is = subst (λ (f : Option Text). IsLedgerFile (bucket_of k) f bucket) (sym same) is
 
 -- forgetting a key in its file forgets it in the ledger
 pub forgotten_by : (dir : Dir) (set : Set) (k : Text) (bucket ledger : Ledger) (txn : List Put) → IsBucketOf dir set k bucket → txn ≡ forgets set k bucket → IsLedger dir (ledger_kind set) ledger

@@ -12,7 +12,7 @@ use Rattle.ml_keyed.specs.Buckets.{AreFirst}
 use Rattle.ml_bounce.specs.Changes.{due_entries, action_of, act}
 use Rattle.ml_bounce.specs.declared.actions.Action.{Action}
 use Rattle.ml_bounce.specs.declared.actions.Action.TheVariants.{Warn, Probe, Lapse}
-use Rattle.ml_bounce.specs.Files.{IsLedger, IsLedgerFile, ledger_name, ledger_place, ledger_put}
+use Rattle.ml_bounce.specs.Files.{IsLedger, IsLedgerFile, ledger_name, bucket_of, ledger_put}
 use Rattle.ml_bounce.specs.Ledger.{Ledger, LedgerEntry, find_entry, forget}
 
 -- whether a set has a ledger
@@ -29,11 +29,11 @@ ledger_kind set = bounces_kind + set_number set
 
 -- the file in which a set's ledger has a key
 abbrev pub key_file : Set → Text → Name
-key_file set k = ledger_name (ledger_kind set) (ledger_place k)
+key_file set k = ledger_name (ledger_kind set) (bucket_of k)
 
 -- in a directory, the file of a key has these entries
 abbrev pub IsBucketOf : Dir → Set → Text → Ledger → Type 0
-IsBucketOf dir set k bucket = IsLedgerFile (ledger_place k) (dir (key_file set k)) bucket
+IsBucketOf dir set k bucket = IsLedgerFile (bucket_of k) (dir (key_file set k)) bucket
 
 -- one of a ledger's files is outside its grammar
 abbrev pub IsNoFile : Dir → Set → ℕ → Type 0
@@ -41,7 +41,7 @@ IsNoFile dir set n = (entries : Ledger) → ¬ IsLedgerFile n (dir (ledger_name 
 
 -- the puts that give the file of a key this row of entries
 abbrev pub writes : Set → Text → Ledger → List Put
-writes set k entries = ledger_put (ledger_kind set) (ledger_place k) entries ∷ []
+writes set k entries = ledger_put (ledger_kind set) (bucket_of k) entries ∷ []
 
 -- the puts that forget a key: none if there is no entry
 abbrev pub forgets : Set → Text → Ledger → List Put

@@ -10,7 +10,7 @@ use Rattle.ml_base.specs.Sorted.{byte_cmp, is_sorted}
 use Rattle.ml_rows.specs.Rows.{only_if, both_of, row_of, netstrings_at}
 use Rattle.ml_rows.specs.Values.{address_in, comma_numbers}
 use Rattle.ml_bounce.specs.Ledger.{Stage, Unwarned, Warned, WarnFailed, Probed, LedgerEntry, Ledger, entry_key, is_blank_at}
-use Rattle.ml_bounce.specs.Files.{are_distinct, ledger_place}
+use Rattle.ml_bounce.specs.Files.{are_distinct, bucket_of}
 
 -- the stage that a text spells: `n` alone, or `w`, `f` or `p` and a moment
 abbrev pub stage_of : Text → Option Stage
@@ -34,7 +34,7 @@ entry_with values = record { key = values.0; first = values.1.0; stage = values.
 abbrev pub fits : ℕ → LedgerEntry → Bool
 fits n e =
     nat_le (length e.missed) 100 && are_distinct e.missed && (not (is_empty e.missed) || e.first == 0)
-    && not (is_blank_at e.stage e.missed) && (ledger_place e.key == n)
+    && not (is_blank_at e.stage e.missed) && (bucket_of e.key == n)
 
 -- the entry that four texts spell: its key, first moment, stage and missed numbers
 abbrev pub entry_of_fields : ℕ → List Text → Option LedgerEntry

@@ -9,10 +9,10 @@ ghost use Rattle.ml_base.specs.Ranges.{IsMoment};
 ghost use Rattle.ml_base.specs.ReadFiles.{IsReading, NamesDamaged};
 ghost use Rattle.ml_bounce.specs.Answers.{has_ledger, ledger_kind, key_file, IsBucketOf, IsNoFile, LeadsTo, puts_of, writes};
 ghost use Rattle.ml_bounce.specs.Changes as spec;
-ghost use Rattle.ml_bounce.specs.Files.{IsLedger, ledger_place};
+ghost use Rattle.ml_bounce.specs.Files.{IsLedger, bucket_of};
 ghost use Rattle.ml_bounce.specs.Ledger.{Ledger};
 
-use crate::buckets::{bucket_of, key_of};
+use crate::buckets::{key_of, read_bucket_of};
 use crate::entry_changes::{note_in, probe_failed_in, warn_failed_in};
 use ml_base::{Address, Files, PartError, Set, Txn};
 use std::alloc::Global;
@@ -36,12 +36,12 @@ pub fn note<F: Files>(
     ensures read { IsTrue F.tells → IfOk result (λ answer. (bucket : Ledger) × IsBucketOf (F.map files.old) set (key who.now) bucket × (answer ≡ option_map (writes set (key who.now)) (spec.note (key who.now) number now bucket))) }
     ensures others { IfOk result (λ answer. touches_only (λ name. same_name name (key_file set (key who.now))) (puts_of answer) ≡ true) }
     ensures files { IfOk result (λ answer. touches_only is_file (puts_of answer) ≡ true) }
-    ensures names { NamesDamaged ⟦<F as Files>⟧ (λ name. name ≡ key_file set (key who.now)) (λ _. IsNoFile (F.map files.old) set (ledger_place (key who.now))) result }
+    ensures names { NamesDamaged ⟦<F as Files>⟧ (λ name. name ≡ key_file set (key who.now)) (λ _. IsNoFile (F.map files.old) set (bucket_of (key who.now))) result }
     ensures sound { IsTrue F.tells → (ledger : Ledger) → IsLedger (F.map files.old) (ledger_kind set) ledger → IfErr result (λ e. OnDamaged e (λ _. ⊥)) }
     ensures reads { IsReading ⟦<F as Files>⟧ files.old files.new result }
 {
     let key = key_of(alloc, who)?;
-    let entries = bucket_of(alloc, files, set, key.as_slice())?;
+    let entries = read_bucket_of(alloc, files, set, key.as_slice())?;
     Ok(note_in(alloc, set, key.as_slice(), entries.as_slice(), number, now)?)
 }
 
@@ -63,12 +63,12 @@ pub fn warn_failed<F: Files>(
     ensures read { IsTrue F.tells → IfOk result (λ answer. (bucket : Ledger) × IsBucketOf (F.map files.old) set (key who.now) bucket × (answer ≡ option_map (writes set (key who.now)) (spec.warn_failed (key who.now) t now bucket))) }
     ensures others { IfOk result (λ answer. touches_only (λ name. same_name name (key_file set (key who.now))) (puts_of answer) ≡ true) }
     ensures files { IfOk result (λ answer. touches_only is_file (puts_of answer) ≡ true) }
-    ensures names { NamesDamaged ⟦<F as Files>⟧ (λ name. name ≡ key_file set (key who.now)) (λ _. IsNoFile (F.map files.old) set (ledger_place (key who.now))) result }
+    ensures names { NamesDamaged ⟦<F as Files>⟧ (λ name. name ≡ key_file set (key who.now)) (λ _. IsNoFile (F.map files.old) set (bucket_of (key who.now))) result }
     ensures sound { IsTrue F.tells → (ledger : Ledger) → IsLedger (F.map files.old) (ledger_kind set) ledger → IfErr result (λ e. OnDamaged e (λ _. ⊥)) }
     ensures reads { IsReading ⟦<F as Files>⟧ files.old files.new result }
 {
     let key = key_of(alloc, who)?;
-    let entries = bucket_of(alloc, files, set, key.as_slice())?;
+    let entries = read_bucket_of(alloc, files, set, key.as_slice())?;
     Ok(warn_failed_in(alloc, set, key.as_slice(), entries.as_slice(), t, now)?)
 }
 
@@ -88,11 +88,11 @@ pub fn probe_failed<F: Files>(
     ensures read { IsTrue F.tells → IfOk result (λ answer. (bucket : Ledger) × IsBucketOf (F.map files.old) set (key who.now) bucket × (answer ≡ option_map (writes set (key who.now)) (spec.probe_failed (key who.now) t bucket))) }
     ensures others { IfOk result (λ answer. touches_only (λ name. same_name name (key_file set (key who.now))) (puts_of answer) ≡ true) }
     ensures files { IfOk result (λ answer. touches_only is_file (puts_of answer) ≡ true) }
-    ensures names { NamesDamaged ⟦<F as Files>⟧ (λ name. name ≡ key_file set (key who.now)) (λ _. IsNoFile (F.map files.old) set (ledger_place (key who.now))) result }
+    ensures names { NamesDamaged ⟦<F as Files>⟧ (λ name. name ≡ key_file set (key who.now)) (λ _. IsNoFile (F.map files.old) set (bucket_of (key who.now))) result }
     ensures sound { IsTrue F.tells → (ledger : Ledger) → IsLedger (F.map files.old) (ledger_kind set) ledger → IfErr result (λ e. OnDamaged e (λ _. ⊥)) }
     ensures reads { IsReading ⟦<F as Files>⟧ files.old files.new result }
 {
     let key = key_of(alloc, who)?;
-    let entries = bucket_of(alloc, files, set, key.as_slice())?;
+    let entries = read_bucket_of(alloc, files, set, key.as_slice())?;
     Ok(probe_failed_in(alloc, set, key.as_slice(), entries.as_slice(), t)?)
 }

@@ -4,11 +4,11 @@ ghost use Rattle.ml_base.specs.Address.{key, IsAddress};
 ghost use Rattle.ml_base.specs.Name.{is_file};
 ghost use Rattle.ml_base.specs.ReadFiles.{IsReading, NamesDamaged};
 ghost use Rattle.ml_bounce.specs.Answers.{has_ledger, ledger_kind, key_file, IsBucketOf, IsNoFile};
-ghost use Rattle.ml_bounce.specs.Files.{IsLedgerFile, ledger_name, ledger_place};
+ghost use Rattle.ml_bounce.specs.Files.{IsLedgerFile, ledger_name, bucket_of};
 
 use crate::ledger_reader::{Entries, read_file};
 use ml_base::{Address, Bytes, Files, Name, PartError, Put, Set, Txn};
-use ml_keyed::place_of;
+use ml_keyed::bucket_of;
 use std::alloc::{AllocError, Global};
 
 // The key of an address, the address in lower case.
@@ -46,7 +46,7 @@ pub(crate) fn written(
 {
     let mut txn = Txn::new(alloc);
     txn.push(Put {
-        name: file_name(set, place_of(key)),
+        name: file_name(set, bucket_of(key)),
         bytes,
     })?;
     Ok(txn)
@@ -74,7 +74,7 @@ pub(crate) fn read_bucket<F: Files>(
 }
 
 // The entries of the file that has a key.
-pub(crate) fn bucket_of<F: Files>(
+pub(crate) fn read_bucket_of<F: Files>(
     alloc: Global,
     files: &mut F,
     set: Set,
@@ -82,8 +82,8 @@ pub(crate) fn bucket_of<F: Files>(
 ) -> Result<Entries, PartError>
     requires { IsTrue (has_ledger set) }
     ensures value { IsTrue F.tells → IfOk result (IsBucketOf (F.map files.old) set key.now) }
-    ensures names { NamesDamaged ⟦<F as Files>⟧ (λ name. name ≡ key_file set key.now) (λ _. IsNoFile (F.map files.old) set (ledger_place key.now)) result }
+    ensures names { NamesDamaged ⟦<F as Files>⟧ (λ name. name ≡ key_file set key.now) (λ _. IsNoFile (F.map files.old) set (bucket_of key.now)) result }
     ensures reads { IsReading ⟦<F as Files>⟧ files.old files.new result }
 {
-    read_bucket(alloc, files, set, place_of(key))
+    read_bucket(alloc, files, set, bucket_of(key))
 }

@@ -50,7 +50,7 @@ pub(crate) fn entry_under(
     match find(entries, key) {
         Some(entry) => copied(alloc, entry),
         None => Ok(LedgerEntry {
-            key: Address::from_kept(alloc, key)?,
+            key: Address::from_canonical(alloc, key)?,
             first: 0,
             stage: Stage::Unwarned,
             missed: Numbers::new(alloc),

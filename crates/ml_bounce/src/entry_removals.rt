@@ -7,12 +7,12 @@ ghost use Rattle.ml_base.specs.Name.{is_file};
 ghost use Rattle.ml_base.specs.PartErrors.{OnDamaged};
 ghost use Rattle.ml_base.specs.ReadFiles.{IsReading, NamesDamaged};
 ghost use Rattle.ml_bounce.specs.Answers.{has_ledger, ledger_kind, key_file, IsBucketOf, IsNoFile, forgets};
-ghost use Rattle.ml_bounce.specs.Files.{IsLedger, ledger_place};
+ghost use Rattle.ml_bounce.specs.Files.{IsLedger, bucket_of};
 ghost use Rattle.ml_bounce.specs.Ledger.{Ledger, find_entry};
 ghost use Rattle.ml_bounce.specs.Ledger as spec;
 
 use crate::LedgerEntry;
-use crate::buckets::{bucket_of, key_of, written};
+use crate::buckets::{key_of, read_bucket_of, written};
 use crate::ledger_writer::file_without;
 use ml_base::{Address, Files, PartError, Set, Txn};
 use std::alloc::{AllocError, Global};
@@ -63,11 +63,11 @@ pub fn forget<F: Files>(
     ensures read { IsTrue F.tells → IfOk result (λ txn. (bucket : Ledger) × IsBucketOf (F.map files.old) set (key who.now) bucket × (txn ≡ forgets set (key who.now) bucket)) }
     ensures others { IfOk result (λ txn. touches_only (λ name. same_name name (key_file set (key who.now))) txn ≡ true) }
     ensures files { IfOk result (λ txn. touches_only is_file txn ≡ true) }
-    ensures names { NamesDamaged ⟦<F as Files>⟧ (λ name. name ≡ key_file set (key who.now)) (λ _. IsNoFile (F.map files.old) set (ledger_place (key who.now))) result }
+    ensures names { NamesDamaged ⟦<F as Files>⟧ (λ name. name ≡ key_file set (key who.now)) (λ _. IsNoFile (F.map files.old) set (bucket_of (key who.now))) result }
     ensures sound { IsTrue F.tells → (ledger : Ledger) → IsLedger (F.map files.old) (ledger_kind set) ledger → IfErr result (λ e. OnDamaged e (λ _. ⊥)) }
     ensures reads { IsReading ⟦<F as Files>⟧ files.old files.new result }
 {
     let key = key_of(alloc, who)?;
-    let entries = bucket_of(alloc, files, set, key.as_slice())?;
+    let entries = read_bucket_of(alloc, files, set, key.as_slice())?;
     Ok(forgotten(alloc, set, key.as_slice(), entries.as_slice())?)
 }

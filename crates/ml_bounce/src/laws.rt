@@ -3,7 +3,7 @@ ghost use Rattle.std.specs.Prelude.{◌≡◌, ◌≢◌, ◌↔◌, ◌<◌, �
 ghost use Rattle.ml_base.specs.Bytes.{Text};
 ghost use Rattle.ml_base.specs.Dir.{Dir, with_put};
 ghost use Rattle.ml_base.specs.declared.names.Name.{Name};
-ghost use Rattle.ml_bounce.specs.Files.{IsLedger, IsLedgerFile, IsEntry, ledger_name, ledger_place, ledger_put, is_of_ledger};
+ghost use Rattle.ml_bounce.specs.Files.{IsLedger, IsLedgerFile, IsEntry, ledger_name, bucket_of, ledger_put, is_of_ledger};
 ghost use Rattle.ml_bounce.specs.Changes.{is_old, probe_failed};
 ghost use Rattle.ml_bounce.specs.Course.{Change, Bounced, Served, WarningBounced, after_all, IsCourse};
 ghost use Rattle.ml_bounce.specs.Ledger.{Ledger, LedgerEntry, find_entry, with_ledger, forget};
@@ -29,11 +29,11 @@ pub fn law_ledger()
 /// with its key, put it into that file; to forget a key, take its entry out of that file, which goes when it has no
 /// entries left. Both leave every other file as it is.
 pub fn law_ledger_changes()
-    ensures found { (dir : Dir) (kind : ℕ) (ledger bucket : Ledger) (k : Text) → IsLedger dir kind ledger → IsLedgerFile (ledger_place k) (dir (ledger_name kind (ledger_place k))) bucket → find_entry k ledger ≡ find_entry k bucket }
-    ensures put { (dir : Dir) (kind : ℕ) (ledger bucket : Ledger) (e : LedgerEntry) → IsLedger dir kind ledger → IsEntry (ledger_place e.key) e → IsLedgerFile (ledger_place e.key) (dir (ledger_name kind (ledger_place e.key))) bucket →
-        IsLedger (with_put dir (ledger_put kind (ledger_place e.key) (with_ledger e bucket))) kind (with_ledger e ledger) }
-    ensures forgotten { (dir : Dir) (kind : ℕ) (ledger bucket : Ledger) (k : Text) → IsLedger dir kind ledger → IsLedgerFile (ledger_place k) (dir (ledger_name kind (ledger_place k))) bucket →
-        IsLedger (with_put dir (ledger_put kind (ledger_place k) (forget k bucket))) kind (forget k ledger) }
+    ensures found { (dir : Dir) (kind : ℕ) (ledger bucket : Ledger) (k : Text) → IsLedger dir kind ledger → IsLedgerFile (bucket_of k) (dir (ledger_name kind (bucket_of k))) bucket → find_entry k ledger ≡ find_entry k bucket }
+    ensures put { (dir : Dir) (kind : ℕ) (ledger bucket : Ledger) (e : LedgerEntry) → IsLedger dir kind ledger → IsEntry (bucket_of e.key) e → IsLedgerFile (bucket_of e.key) (dir (ledger_name kind (bucket_of e.key))) bucket →
+        IsLedger (with_put dir (ledger_put kind (bucket_of e.key) (with_ledger e bucket))) kind (with_ledger e ledger) }
+    ensures forgotten { (dir : Dir) (kind : ℕ) (ledger bucket : Ledger) (k : Text) → IsLedger dir kind ledger → IsLedgerFile (bucket_of k) (dir (ledger_name kind (bucket_of k))) bucket →
+        IsLedger (with_put dir (ledger_put kind (bucket_of k) (forget k bucket))) kind (forget k ledger) }
     ensures elsewhere { (dir : Dir) (kind n : ℕ) (entries : Ledger) (name : Name) → name ≢ ledger_name kind n → with_put dir (ledger_put kind n entries) name ≡ dir name }
 {}
 

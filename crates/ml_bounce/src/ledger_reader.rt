@@ -12,8 +12,8 @@ ghost use Rattle.ml_bounce.specs.Reading as spec;
 
 use crate::numbers::are_distinct;
 use crate::{LedgerEntry, Stage};
-use ml_base::{Address, Bytes, LAST_MOMENT, Row, is_kept, number_within, split_netstring};
-use ml_keyed::place_of;
+use ml_base::{Address, Bytes, LAST_MOMENT, Row, is_canonical, number_within, split_netstring};
+use ml_keyed::bucket_of;
 use ml_rows::numbers_of;
 use std::alloc::{AllocError, Global};
 use std::cmp::Ordering;
@@ -62,7 +62,7 @@ fn is_key(text: &[u8]) -> bool
     ensures key { IsTrue result → key_in text.now ≡ Some text.now }
     ensures none { result ≡ false → key_in text.now ≡ None }
 {
-    is_kept(text) && !has_capital(text)
+    is_canonical(text) && !has_capital(text)
 }
 
 // The four texts of an entry.
@@ -114,7 +114,7 @@ fn fits(n: u8, key: &[u8], first: u64, stage: Stage, missed: &[u64]) -> bool
         && are_distinct(missed)
         && (!missed.is_empty() || first == 0)
         && !is_blank(stage, missed)
-        && place_of(key) == n
+        && bucket_of(key) == n
 }
 
 // The entry that a text spells, if it belongs to the file with this number.
@@ -139,7 +139,7 @@ fn entry_of(alloc: Global, n: u8, text: &[u8]) -> Result<Option<LedgerEntry>, Al
     if !fits(n, texts.key, first, stage, missed.as_slice()) {
         return Ok(None);
     }
-    let key = Address::from_kept(alloc, texts.key)?;
+    let key = Address::from_canonical(alloc, texts.key)?;
     Ok(Some(LedgerEntry {
         key,
         first,

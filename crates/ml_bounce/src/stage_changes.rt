@@ -9,10 +9,10 @@ ghost use Rattle.ml_base.specs.ReadFiles.{IsReading, NamesDamaged};
 ghost use Rattle.ml_bounce.specs.Answers.{has_ledger, ledger_kind, key_file, IsBucketOf, IsNoFile, action_key, acts, writes};
 ghost use Rattle.ml_bounce.specs.Changes.{after_at};
 ghost use Rattle.ml_bounce.specs.Changes as spec;
-ghost use Rattle.ml_bounce.specs.Files.{IsLedger, ledger_place};
+ghost use Rattle.ml_bounce.specs.Files.{IsLedger, bucket_of};
 ghost use Rattle.ml_bounce.specs.Ledger.{Ledger, LedgerEntry as Entry, find_entry, settle};
 
-use crate::buckets::{bucket_of, key_of, written};
+use crate::buckets::{key_of, read_bucket_of, written};
 use crate::entry_changes::{copied, put_entry};
 use crate::entry_removals::find;
 use crate::ledger_reader::is_blank;
@@ -105,11 +105,11 @@ pub fn act<F: Files>(
     ensures read { IsTrue F.tells → IfOk result (λ txn. (bucket : Ledger) × IsBucketOf (F.map files.old) set (key (action_key action.now)) bucket × (txn ≡ acts set (key (action_key action.now)) now bucket)) }
     ensures others { IfOk result (λ txn. touches_only (λ name. same_name name (key_file set (key (action_key action.now)))) txn ≡ true) }
     ensures files { IfOk result (λ txn. touches_only is_file txn ≡ true) }
-    ensures names { NamesDamaged ⟦<F as Files>⟧ (λ name. name ≡ key_file set (key (action_key action.now))) (λ _. IsNoFile (F.map files.old) set (ledger_place (key (action_key action.now)))) result }
+    ensures names { NamesDamaged ⟦<F as Files>⟧ (λ name. name ≡ key_file set (key (action_key action.now))) (λ _. IsNoFile (F.map files.old) set (bucket_of (key (action_key action.now)))) result }
     ensures sound { IsTrue F.tells → (ledger : Ledger) → IsLedger (F.map files.old) (ledger_kind set) ledger → IfErr result (λ e. OnDamaged e (λ _. ⊥)) }
     ensures reads { IsReading ⟦<F as Files>⟧ files.old files.new result }
 {
     let key = key_of(alloc, target(action))?;
-    let entries = bucket_of(alloc, files, set, key.as_slice())?;
+    let entries = read_bucket_of(alloc, files, set, key.as_slice())?;
     Ok(act_in(alloc, set, key.as_slice(), entries.as_slice(), now)?)
 }

@@ -83,8 +83,8 @@ line_not_zero whys.Disk e = cc
 is_not_zero : (status n : ℕ) → status ≡ n → 1 ≤ n → status ≡ 0 → ⊥
 is_not_zero status n e low zero = omega (arith, e, low, zero)
 
-says_not_zero : {S : Type 0} (told : Ghosts S) (old new : S) (status : ℕ) (why : Why) → Says told old new status None why → status ≡ 0 → ⊥
-says_not_zero told old new status why said zero = ⊎_elim (λ whole. line_not_zero why (sym whole.0 ∙ zero)) (λ cut. is_not_zero status 73 cut.0 (omega arith) zero) said.line
+says_not_zero : {S : Type 0} (ghosts : Ghosts S) (old new : S) (status : ℕ) (why : Why) → Says ghosts old new status None why → status ≡ 0 → ⊥
+says_not_zero ghosts old new status why said zero = ⊎_elim (λ whole. line_not_zero why (sym whole.0 ∙ zero)) (λ cut. is_not_zero status 73 cut.0 (omega arith) zero) said.line
 
 hindered_not_zero : (status : ℕ) → IsHindered status → status ≡ 0 → ⊥
 hindered_not_zero status h zero =
@@ -165,14 +165,14 @@ read_again dir rules ms words moment text is time low of =
     let all = subst (λ (p : Part). AllByRecursion IsAddress p.members) named.1 (filter_each IsAddress test set (each_address ms (subscribers_each dir words.set ms is))) in
     subst (λ (t : Text). IsStream 0 t (numbered words.first moment (moves of.part words.set words.into)) End) (sym of.is) (moves_read words.first moment of.part words.set words.into time numbers all)
 
-module _ {I S K : Type 0} (source : SourceGhosts I) (told : Ghosts S) (clocks : ClockGhosts K) (input next : I) (old new : S) (clock after : K) (status : ℕ) (reads : IsTrue told.tells_reads) (all : IsTrue told.tells_all) (zero : status ≡ 0)
-    (files : Dir) (q : State) (dir : directory (told.disk old).reads ≡ Some files) (state : IsState files q) where
+module _ {I S K : Type 0} (source : SourceGhosts I) (ghosts : Ghosts S) (clocks : ClockGhosts K) (input next : I) (old new : S) (clock after : K) (status : ℕ) (reads : IsTrue ghosts.tells_reads) (all : IsTrue ghosts.tells_all) (zero : status ≡ 0)
+    (files : Dir) (q : State) (dir : directory (ghosts.disk old).reads ≡ Some files) (state : IsState files q) where
   moves_put : (words : PlainMove) (moment : ℕ) (question : Moving) (text : Text) → words.first ≤ 999_999_900_000 → IsMomentOf clocks true clock moment → IsInput source 1_048_576 input next text → moving_of words moment (rules_in text) ≡ Ok question
-      → GivesAnswer told ((moving_asked words).meaning question) old new status → PutsMoves source clocks words (q.plain.sets words.set) input next clock (told.output old) (told.output new)
+      → GivesAnswer ghosts ((moving_asked words).meaning question) old new status → PutsMoves source clocks words (q.plain.sets words.set) input next clock (ghosts.output old) (ghosts.output new)
   moves_put words moment question text low time given made answer =
       let ms = q.plain.sets words.set in
       let of = move_made words moment text question (rules_in text) refl made in
-      let found = text_put (IsTrue told.tells_all) status (((moving_asked words).meaning question).of_list q.plain) (told.output old) (told.output new) (answer.complete reads files q dir state) zero all in
+      let found = text_put (IsTrue ghosts.tells_all) status (((moving_asked words).meaning question).of_list q.plain) (ghosts.output old) (ghosts.output new) (answer.complete reads files q dir state) zero all in
       let same : answers.Text found.0 ≡ text_or_absent (moving_text of.rules ms words.name words.set words.into words.first moment) =
       sym found.1 ∙ ap (λ (m : Moving). text_or_absent (moving_text m.rules (q.plain.sets m.words.set) m.words.name m.words.set m.words.into m.words.first m.moment)) of.is in
       let its = text_of of.rules ms words moment found.0 (part_under words.name (parts_of of.rules ms)) refl same in
@@ -189,10 +189,10 @@ module _ {I S K : Type 0} (source : SourceGhosts I) (told : Ghosts S) (clocks : 
       }
 
   mails_put : LawImporting → (first moment : ℕ) (question : Importing) (text : Text) → IsFirst first → IsMomentOf clocks true clock moment → IsInput source 268_435_456 input next text → importing_of first moment text ≡ Ok question
-      → GivesAnswer told ((importing_asked first).meaning question) old new status → PutsMails source clocks first q.plain.config input next clock (told.output old) (told.output new)
+      → GivesAnswer ghosts ((importing_asked first).meaning question) old new status → PutsMails source clocks first q.plain.config input next clock (ghosts.output old) (ghosts.output new)
   mails_put law first moment question text low time given made answer =
       let c = q.plain.config in
-      let found = text_put (IsTrue told.tells_all) status (((importing_asked first).meaning question).of_list q.plain) (told.output old) (told.output new) (answer.complete reads files q dir state) zero all in
+      let found = text_put (IsTrue ghosts.tells_all) status (((importing_asked first).meaning question).of_list q.plain) (ghosts.output old) (ghosts.output new) (answer.complete reads files q dir state) zero all in
       let is = law first moment text found.0 question c files low time.0 given.fits state.list.config.is made (sym found.1) in
       record {
         text = text;
@@ -205,30 +205,30 @@ module _ {I S K : Type 0} (source : SourceGhosts I) (told : Ghosts S) (clocks : 
       }
 
 -- what a command does prints the stream that it asks for
-pub prints : {I S K : Type 0} (source : SourceGhosts I) (told : Ghosts S) (clocks : ClockGhosts K) → LawImporting → (wanted : Result Command WordsError) (input next : I) (old new : S) (clock after : K) (status : ℕ)
-    → Does source told clocks wanted input next old new clock after status → Prints source told clocks wanted input next old new clock status
-prints source told clocks law (Ok (Spool limit)) input next old new clock after status d = tt
-prints source told clocks law (Ok (Deliver number sender recipient)) input next old new clock after status d = tt
-prints source told clocks law (Ok (Make config key)) input next old new clock after status d = tt
-prints source told clocks law (Ok (Exercise count)) input next old new clock after status d = tt
-prints source told clocks law (Ok (Single number act)) input next old new clock after status d = tt
-prints source told clocks law (Err error) input next old new clock after status d = tt
-prints source told clocks law (Ok (Give (inquiries.Query query))) input next old new clock after status d = λ reads all zero files q dir state. tt
-prints source told clocks law (Ok (Give inquiries.Check)) input next old new clock after status d = λ reads all zero files q dir state. tt
-prints source told clocks law (Ok (Give (inquiries.Pages query))) input next old new clock after status d = λ reads all zero files q dir state. tt
-prints source told clocks law (Ok (Give (inquiries.Mailbox query))) input next old new clock after status d = λ reads all zero files q dir state. tt
-prints source told clocks law (Ok (Give (inquiries.Split set))) input next old new clock after status d = λ reads all zero files q dir state. tt
-prints source told clocks law (Ok (Give (inquiries.Move words))) input next old new clock after status d = λ reads all zero files q dir state low.
+pub prints : {I S K : Type 0} (source : SourceGhosts I) (ghosts : Ghosts S) (clocks : ClockGhosts K) → LawImporting → (wanted : Result Command WordsError) (input next : I) (old new : S) (clock after : K) (status : ℕ)
+    → Does source ghosts clocks wanted input next old new clock after status → Prints source ghosts clocks wanted input next old new clock status
+prints source ghosts clocks law (Ok (Spool limit)) input next old new clock after status d = tt
+prints source ghosts clocks law (Ok (Deliver number sender recipient)) input next old new clock after status d = tt
+prints source ghosts clocks law (Ok (Make config key)) input next old new clock after status d = tt
+prints source ghosts clocks law (Ok (Exercise count)) input next old new clock after status d = tt
+prints source ghosts clocks law (Ok (Single number act)) input next old new clock after status d = tt
+prints source ghosts clocks law (Err error) input next old new clock after status d = tt
+prints source ghosts clocks law (Ok (Give (inquiries.Query query))) input next old new clock after status d = λ reads all zero files q dir state. tt
+prints source ghosts clocks law (Ok (Give inquiries.Check)) input next old new clock after status d = λ reads all zero files q dir state. tt
+prints source ghosts clocks law (Ok (Give (inquiries.Pages query))) input next old new clock after status d = λ reads all zero files q dir state. tt
+prints source ghosts clocks law (Ok (Give (inquiries.Mailbox query))) input next old new clock after status d = λ reads all zero files q dir state. tt
+prints source ghosts clocks law (Ok (Give (inquiries.Split set))) input next old new clock after status d = λ reads all zero files q dir state. tt
+prints source ghosts clocks law (Ok (Give (inquiries.Move words))) input next old new clock after status d = λ reads all zero files q dir state low.
     ⊎_elim (λ asks. ⊎_elim
     (λ now. ⊎_elim
-    (λ asked. moves_put source told clocks input next old new clock after status reads all zero files q dir state words now.0 asked.0 asked.1.0 low now.1 asked.1.1 asked.1.2 asked.2)
-    (λ none. absurd (says_not_zero told old new status none.0 none.2 zero)) now.2)
-    (λ failed. absurd (says_not_zero told old new status whys.Clock failed.1 zero)) asks)
-    (λ memory. absurd (says_not_zero told old new status whys.Memory memory.0 zero)) d
-prints source told clocks law (Ok (Give (inquiries.Import first))) input next old new clock after status d = λ reads all zero files q dir state low.
+    (λ asked. moves_put source ghosts clocks input next old new clock after status reads all zero files q dir state words now.0 asked.0 asked.1.0 low now.1 asked.1.1 asked.1.2 asked.2)
+    (λ none. absurd (says_not_zero ghosts old new status none.0 none.2 zero)) now.2)
+    (λ failed. absurd (says_not_zero ghosts old new status whys.Clock failed.1 zero)) asks)
+    (λ memory. absurd (says_not_zero ghosts old new status whys.Memory memory.0 zero)) d
+prints source ghosts clocks law (Ok (Give (inquiries.Import first))) input next old new clock after status d = λ reads all zero files q dir state low.
     ⊎_elim (λ asks. ⊎_elim
     (λ now. ⊎_elim
-    (λ asked. mails_put source told clocks input next old new clock after status reads all zero files q dir state law first now.0 asked.0 asked.1.0 low now.1 asked.1.1 asked.1.2 asked.2)
-    (λ none. absurd (says_not_zero told old new status none.0 none.2 zero)) now.2)
-    (λ failed. absurd (says_not_zero told old new status whys.Clock failed.1 zero)) asks)
-    (λ memory. absurd (says_not_zero told old new status whys.Memory memory.0 zero)) d
+    (λ asked. mails_put source ghosts clocks input next old new clock after status reads all zero files q dir state law first now.0 asked.0 asked.1.0 low now.1 asked.1.1 asked.1.2 asked.2)
+    (λ none. absurd (says_not_zero ghosts old new status none.0 none.2 zero)) now.2)
+    (λ failed. absurd (says_not_zero ghosts old new status whys.Clock failed.1 zero)) asks)
+    (λ memory. absurd (says_not_zero ghosts old new status whys.Memory memory.0 zero)) d

@@ -53,9 +53,9 @@ same_error : (a b : WordsError) → ◌≡◌ {A = Result Command WordsError} (E
 same_error a b e = cc
 
 -- a stop line says why words ask for nothing, or that memory ran out
-pub refused : {I S K : Type 0} (source : SourceGhosts I) (told : Ghosts S) (clocks : ClockGhosts K) (wanted : Result Command WordsError) (error : WordsError) (why : Why) (input : I) (old new : S) (clock : K) (status : ℕ)
-    → Reads wanted (Err error) → why ≡ why_of error → Says told old new status None why → Does source told clocks wanted input input old new clock clock status
-refused source told clocks wanted error why input old new clock status reads line says =
-    let said : Says told old new status None (why_of error) = subst (λ (w : Why). Says told old new status None w) line says in
-    ⊎_elim (λ is. subst (λ (w : Result Command WordsError). Does source told clocks w input input old new clock clock status) is (inl (said, refl)))
-    (λ is. inr (subst (λ (e : WordsError). Says told old new status None (why_of e)) (same_error error Memory is) said, input_kept source wanted input)) reads
+pub refused : {I S K : Type 0} (source : SourceGhosts I) (ghosts : Ghosts S) (clocks : ClockGhosts K) (wanted : Result Command WordsError) (error : WordsError) (why : Why) (input : I) (old new : S) (clock : K) (status : ℕ)
+    → Reads wanted (Err error) → why ≡ why_of error → Says ghosts old new status None why → Does source ghosts clocks wanted input input old new clock clock status
+refused source ghosts clocks wanted error why input old new clock status reads line says =
+    let said : Says ghosts old new status None (why_of error) = subst (λ (w : Why). Says ghosts old new status None w) line says in
+    ⊎_elim (λ is. subst (λ (w : Result Command WordsError). Does source ghosts clocks w input input old new clock clock status) is (inl (said, refl)))
+    (λ is. inr (subst (λ (e : WordsError). Says ghosts old new status None (why_of e)) (same_error error Memory is) said, input_kept source wanted input)) reads

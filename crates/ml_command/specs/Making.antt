@@ -19,14 +19,14 @@ use Rattle.ml_run.specs.Leaving.{HasState}
 use Rattle.ml_run.specs.Making.{IsMaking, Makes, made_text, is_make_status}
 
 -- What making a list of this configuration and key does.
-pub record MakesList {S : Type 0} (told : Ghosts S) (config : Config) (key : Text) (old new : S) (status : ℕ) : Type 0 where
+pub record MakesList {S : Type 0} (ghosts : Ghosts S) (config : Config) (key : Text) (old new : S) (status : ℕ) : Type 0 where
   pub known : IsTrue (is_make_status status)
-  pub makes : IsTrue told.tells_reads → Makes (IsTrue told.tells_all) status (directory (told.disk old).reads) (first_puts config key) (made_text config) (told.output old) (told.disk new).reads (told.output new)
-  pub state : IsTrue told.tells_reads → (files : Dir) → directory (told.disk old).reads ≡ Some files → ((name : Name) → IsTrue (is_file name) → files name ≡ None) → status ≡ 0
-      → HasState (directory (told.disk new).reads) (fresh (new_list config key))
-  pub there : IsTrue told.tells_reads → (files : Dir) → directory (told.disk old).reads ≡ Some files → files config_name ≢ None → (status ≡ 100) ⊎ ((status ≡ 71) ⊎ ((status ≡ 73) ⊎ (status ≡ 111)))
-  pub moments : IsTrue told.tells_all → Opens told old new (IsMaking (directory (told.disk old).reads) (first_puts config key) (made_text config) (told.output old))
-  pub at_rest : IsAtRest (told.disk old) → Leaves told old new (IsMaking (directory (told.disk old).reads) (first_puts config key) (made_text config) (told.output old))
-  pub rest : (Rose (told.disk_faults old) (told.disk_faults new) → ⊥) → (status ≡ 71 → ⊥) → (status ≡ 73 → ⊥) → IsTrue told.tells_all → IsAtRest (told.disk new)
-  pub of_disk : status ≡ 111 → Rose (told.disk_faults old) (told.disk_faults new)
-  pub of_output : status ≡ 73 → Rose (told.output_faults old) (told.output_faults new)
+  pub makes : IsTrue ghosts.tells_reads → Makes (IsTrue ghosts.tells_all) status (directory (ghosts.disk old).reads) (first_puts config key) (made_text config) (ghosts.output old) (ghosts.disk new).reads (ghosts.output new)
+  pub state : IsTrue ghosts.tells_reads → (files : Dir) → directory (ghosts.disk old).reads ≡ Some files → ((name : Name) → IsTrue (is_file name) → files name ≡ None) → status ≡ 0
+      → HasState (directory (ghosts.disk new).reads) (fresh (new_list config key))
+  pub there : IsTrue ghosts.tells_reads → (files : Dir) → directory (ghosts.disk old).reads ≡ Some files → files config_name ≢ None → (status ≡ 100) ⊎ ((status ≡ 71) ⊎ ((status ≡ 73) ⊎ (status ≡ 111)))
+  pub instants : IsTrue ghosts.tells_all → Opens ghosts old new (IsMaking (directory (ghosts.disk old).reads) (first_puts config key) (made_text config) (ghosts.output old))
+  pub at_rest : IsAtRest (ghosts.disk old) → Leaves ghosts old new (IsMaking (directory (ghosts.disk old).reads) (first_puts config key) (made_text config) (ghosts.output old))
+  pub rest : (Rose (ghosts.disk_faults old) (ghosts.disk_faults new) → ⊥) → (status ≡ 71 → ⊥) → (status ≡ 73 → ⊥) → IsTrue ghosts.tells_all → IsAtRest (ghosts.disk new)
+  pub of_disk : status ≡ 111 → Rose (ghosts.disk_faults old) (ghosts.disk_faults new)
+  pub of_output : status ≡ 73 → Rose (ghosts.output_faults old) (ghosts.output_faults new)

@@ -62,14 +62,14 @@ pub record PutsMails {I K : Type 0} (source : SourceGhosts I) (clocks : ClockGho
 
 -- what is printed of a list for which the directory stands, if an inquiry is for a stream whose first number is in its range, and is answered
 abbrev pub PrintsOf : {I S K : Type 0} → SourceGhosts I → Ghosts S → ClockGhosts K → Inquiry → State → I → I → S → S → K → Type 0
-PrintsOf source told clocks (inquiries.Move words) q input next old new clock =
-    words.first ≤ 999_999_900_000 → PutsMoves source clocks words (q.plain.sets words.set) input next clock (told.output old) (told.output new)
-PrintsOf source told clocks (inquiries.Import first) q input next old new clock =
-    IsFirst first → PutsMails source clocks first q.plain.config input next clock (told.output old) (told.output new)
-PrintsOf source told clocks _ q input next old new clock = Unit {0}
+PrintsOf source ghosts clocks (inquiries.Move words) q input next old new clock =
+    words.first ≤ 999_999_900_000 → PutsMoves source clocks words (q.plain.sets words.set) input next clock (ghosts.output old) (ghosts.output new)
+PrintsOf source ghosts clocks (inquiries.Import first) q input next old new clock =
+    IsFirst first → PutsMails source clocks first q.plain.config input next clock (ghosts.output old) (ghosts.output new)
+PrintsOf source ghosts clocks _ q input next old new clock = Unit {0}
 
 -- the same for words that end with status 0
 abbrev pub Prints : {I S K : Type 0} → SourceGhosts I → Ghosts S → ClockGhosts K → Result Command WordsError → I → I → S → S → K → ℕ → Type 0
-Prints source told clocks (Ok (Give inquiry)) input next old new clock status =
-    IsTrue told.tells_reads → IsTrue told.tells_all → status ≡ 0 → (files : Dir) (q : State) → directory (told.disk old).reads ≡ Some files → IsState files q → PrintsOf source told clocks inquiry q input next old new clock
-Prints source told clocks _ input next old new clock status = Unit {0}
+Prints source ghosts clocks (Ok (Give inquiry)) input next old new clock status =
+    IsTrue ghosts.tells_reads → IsTrue ghosts.tells_all → status ≡ 0 → (files : Dir) (q : State) → directory (ghosts.disk old).reads ≡ Some files → IsState files q → PrintsOf source ghosts clocks inquiry q input next old new clock
+Prints source ghosts clocks _ input next old new clock status = Unit {0}

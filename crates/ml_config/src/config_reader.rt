@@ -122,14 +122,14 @@ fn config_of_lines(alloc: Global, lines: &Lines) -> Result<Option<Config>, Alloc
     let Some(config) = made else {
         return Ok(None);
     };
-    if !is_kept(&config, lines) {
+    if !is_canonical(&config, lines) {
         return Ok(None);
     }
     Ok(Some(config))
 }
 
 // Whether the hosts are spelled as a configuration keeps them.
-fn is_kept(config: &Config, lines: &Lines) -> bool
+fn is_canonical(config: &Config, lines: &Lines) -> bool
     ensures { result ≡ (bytes_eq config.now.host lines.now.host.now && bytes_eq config.now.owner lines.now.owner.now) }
 {
     config.host.as_slice() == lines.host && config.owner.bytes() == lines.owner

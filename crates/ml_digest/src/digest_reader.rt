@@ -5,9 +5,9 @@ ghost use Rattle.ml_header.specs.Lines.{begins_with};
 ghost use Rattle.ml_digest.specs.Burst.{IsDigest};
 ghost use Rattle.ml_digest.specs.Reading.{IsHeader, IsTitle, IsPreface, HasEmptyEnd, IsEntry, AreEntries};
 
+use crate::digest_phrases::add_end;
 use crate::lines::split_at_line;
 use crate::messages::MESSAGE_RULE;
-use crate::phrases::add_end;
 use crate::{Burst, BytesList};
 use ml_base::{Bytes, read_number, split_first, split_last};
 use std::alloc::{AllocError, Global};

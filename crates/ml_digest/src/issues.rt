@@ -9,8 +9,8 @@ ghost use Rattle.ml_digest.specs.Digest.{with_rule, message_text, AreDigested};
 ghost use Rattle.ml_digest.specs.Steps.{topics_text, preface_text};
 
 use crate::DigestPost;
+use crate::digest_phrases::{add_end, add_header, add_title};
 use crate::messages::add_message;
-use crate::phrases::{add_end, add_header, add_title};
 use ml_base::Bytes;
 use ml_config::Config;
 use std::alloc::{AllocError, Global};

@@ -8,7 +8,7 @@ ghost use Rattle.ml_header.specs.Steps.{AreWhole};
 ghost use Rattle.ml_digest.specs.Digest.{message_rule, quoted_line, kept_fields, message_text};
 ghost use Rattle.ml_digest.specs.Steps.{named_text};
 
-use crate::phrases::end_text_line;
+use crate::digest_phrases::end_text_line;
 use ml_base::{Bytes, split_line};
 use ml_header::{Fields, Message};
 use std::alloc::AllocError;

@@ -3,12 +3,12 @@ use Rattle.std.proofs.Common.{Result, ◌≡◌, ◌⊎◌, inl, inr, ⊎_elim, 
 use Rattle.std.proofs.lemmas.List.{take_all}
 use Rattle.ml_base.specs.Bytes.{Text}
 use Rattle.ml_site.specs.Disk.{Contents, Disk, IsImage, Giving, Now}
-use Rattle.ml_site.specs.Moments.{LeavesOnly, BeforeFirstSync, FromFirstSync}
+use Rattle.ml_site.specs.Instants.{LeavesOnly, BeforeFirstSync, FromFirstSync}
 use Rattle.ml_site.specs.declared.site.Site.{Ghosts}
 use Rattle.ml_site.proofs.Steps.{started, goes_on, joins, weaker}
 use Rattle.ml_journal.specs.Calls.{OnlyNow}
 use Rattle.ml_journal.specs.Log.{directory}
-use Rattle.ml_journal.specs.Moments.{IsOld}
+use Rattle.ml_journal.specs.Instants.{IsOld}
 use Rattle.ml_journal.specs.Stores.{site_after}
 use Rattle.ml_journal.specs.declared.store.Store.{Store}
 use Rattle.ml_journal.specs.declared.errors.CommitError.{CommitError}
@@ -51,35 +51,35 @@ commit_why commits.Fault = inr refl
 commit_why commits.Memory = inl refl
 
 -- if P holds of the site after a call, it holds of the site that the call answers
-pub at_site : {S E : Type 0} {told : Ghosts S} (P : S → Type 0) (r x : Result (Store S told) (E × S)) → r ≡ x → P (site_after r) → P (site_after x)
-at_site {S} {E} {told} P r x is h = subst (λ (q : Result (Store S told) (E × S)). P (site_after q)) is h
+pub at_site : {S E : Type 0} {ghosts : Ghosts S} (P : S → Type 0) (r x : Result (Store S ghosts) (E × S)) → r ≡ x → P (site_after r) → P (site_after x)
+at_site {S} {E} {ghosts} P r x is h = subst (λ (q : Result (Store S ghosts) (E × S)). P (site_after q)) is h
 
-module _ {S : Type 0} (told : Ghosts S) where
+module _ {S : Type 0} (ghosts : Ghosts S) where
   -- some first bytes of the line are out
-  pub says_front : (old new : S) (status : ℕ) (who : Option ℕ) (why : Why) → Says told old new status who why → IsTrue told.tells_all → (n : ℕ) × (told.output new ≡ told.output old ++ take n (stop_text who (status_of_why why) why))
+  pub says_front : (old new : S) (status : ℕ) (who : Option ℕ) (why : Why) → Says ghosts old new status who why → IsTrue ghosts.tells_all → (n : ℕ) × (ghosts.output new ≡ ghosts.output old ++ take n (stop_text who (status_of_why why) why))
   says_front old new status who why s t =
       let line = stop_text who (status_of_why why) why in
-      ⊎_elim (λ whole. (length line, whole.1 t ∙ ap (λ (l : Text). told.output old ++ l) (sym (take_all (length line) line (omega arith))))) (λ cut. cut.2 t) s.line
+      ⊎_elim (λ whole. (length line, whole.1 t ∙ ap (λ (l : Text). ghosts.output old ++ l) (sym (take_all (length line) line (omega arith))))) (λ cut. cut.2 t) s.line
 
   -- some first bytes of the text are out
-  pub tells_front : (old new : S) (status : ℕ) (line : Text) → Tells told old new status line → IsTrue told.tells_all → (n : ℕ) × (told.output new ≡ told.output old ++ take n line)
+  pub tells_front : (old new : S) (status : ℕ) (line : Text) → Tells ghosts old new status line → IsTrue ghosts.tells_all → (n : ℕ) × (ghosts.output new ≡ ghosts.output old ++ take n line)
   tells_front old new status line s t =
-      ⊎_elim (λ whole. (length line, whole.1 t ∙ ap (λ (l : Text). told.output old ++ l) (sym (take_all (length line) line (omega arith))))) (λ cut. cut.2 t) s.line_is
+      ⊎_elim (λ whole. (length line, whole.1 t ∙ ap (λ (l : Text). ghosts.output old ++ l) (sym (take_all (length line) line (omega arith))))) (λ cut. cut.2 t) s.line_is
 
   -- no call was made yet
-  pub untouched : OnlyNow told → (start : S) → IsTrue told.tells_all → BeforeFirstSync told.moment told.left_since told.disk told.output told.syncs start start (Now (told.disk start) (told.output start))
+  pub untouched : OnlyNow ghosts → (start : S) → IsTrue ghosts.tells_all → BeforeFirstSync ghosts.instant ghosts.left_since ghosts.disk ghosts.output ghosts.syncs start start (Now (ghosts.disk start) (ghosts.output start))
   untouched only_now start t = record { same = refl; none = refl; all = nothing_left only_now start t }
     where
-      nothing_left : OnlyNow told → (start : S) → IsTrue told.tells_all → LeavesOnly told.moment told.left_since told.disk told.output start start (Now (told.disk start) (told.output start))
-      nothing_left only_now start t = started told.moment told.left_since told.disk told.output start (Now (told.disk start) (told.output start)) (λ left out l. only_now start left out t l) (λ left image. (image, refl))
+      nothing_left : OnlyNow ghosts → (start : S) → IsTrue ghosts.tells_all → LeavesOnly ghosts.instant ghosts.left_since ghosts.disk ghosts.output start start (Now (ghosts.disk start) (ghosts.output start))
+      nothing_left only_now start t = started ghosts.instant ghosts.left_since ghosts.disk ghosts.output start (Now (ghosts.disk start) (ghosts.output start)) (λ left out l. only_now start left out t l) (λ left image. (image, refl))
 
   -- what a crash may leave while a line is put out on a site that wasn't opened
-  unopened_moments : (start mid new : S) (status : ℕ) (why : Why) → LeavesOnly told.moment told.left_since told.disk told.output start mid (Now (told.disk start) (told.output start)) → Says told mid new status None why → IsTrue told.tells_all
-      → LeavesOnly told.moment told.left_since told.disk told.output start new (IsUnopened (told.disk start) (told.output start))
-  unopened_moments start mid new status why l s t =
+  unopened_instants : (start mid new : S) (status : ℕ) (why : Why) → LeavesOnly ghosts.instant ghosts.left_since ghosts.disk ghosts.output start mid (Now (ghosts.disk start) (ghosts.output start)) → Says ghosts mid new status None why → IsTrue ghosts.tells_all
+      → LeavesOnly ghosts.instant ghosts.left_since ghosts.disk ghosts.output start new (IsUnopened (ghosts.disk start) (ghosts.output start))
+  unopened_instants start mid new status why l s t =
       let line = stop_text None (status_of_why why) why in
-      goes_on told.moment told.left_since told.disk told.output start mid new (IsUnopened (told.disk start) (told.output start)) (Giving (told.disk mid) (told.output mid) line)
-      (weaker told.moment told.left_since told.disk told.output start mid (Now (told.disk start) (told.output start)) (IsUnopened (told.disk start) (told.output start)) l (λ left out p. record { image = p.0; put = inl p.1 }))
+      goes_on ghosts.instant ghosts.left_since ghosts.disk ghosts.output start mid new (IsUnopened (ghosts.disk start) (ghosts.output start)) (Giving (ghosts.disk mid) (ghosts.output mid) line)
+      (weaker ghosts.instant ghosts.left_since ghosts.disk ghosts.output start mid (Now (ghosts.disk start) (ghosts.output start)) (IsUnopened (ghosts.disk start) (ghosts.output start)) l (λ left out p. record { image = p.0; put = inl p.1 }))
       (s.time t)
       (λ left out g. let n = l.now left g.0 in record {
         image = n.0;
@@ -87,18 +87,18 @@ module _ {S : Type 0} (told : Ghosts S) where
       })
       (λ left image. (subst (λ (d : Disk). IsImage d left) (s.disk_is t) image, says_front mid new status None why s t))
 
-  pub unopened_said : (start mid new : S) (status : ℕ) (why : Why) → BeforeFirstSync told.moment told.left_since told.disk told.output told.syncs start mid (Now (told.disk start) (told.output start)) → Says told mid new status None why → IsTrue told.tells_all
-      → BeforeFirstSync told.moment told.left_since told.disk told.output told.syncs start new (IsUnopened (told.disk start) (told.output start))
-  unopened_said start mid new status why b s t = record { same = s.disk_is t ∙ b.same; none = s.syncs t ∙ b.none; all = unopened_moments start mid new status why b.all s t }
+  pub unopened_said : (start mid new : S) (status : ℕ) (why : Why) → BeforeFirstSync ghosts.instant ghosts.left_since ghosts.disk ghosts.output ghosts.syncs start mid (Now (ghosts.disk start) (ghosts.output start)) → Says ghosts mid new status None why → IsTrue ghosts.tells_all
+      → BeforeFirstSync ghosts.instant ghosts.left_since ghosts.disk ghosts.output ghosts.syncs start new (IsUnopened (ghosts.disk start) (ghosts.output start))
+  unopened_said start mid new status why b s t = record { same = s.disk_is t ∙ b.same; none = s.syncs t ∙ b.none; all = unopened_instants start mid new status why b.all s t }
 
   -- a call that goes on after its first sync
-  pub opening_then : (start now new : S) (P : Contents → Text → Type 0) → FromFirstSync told.moment told.left_since told.disk told.output told.syncs start now (Now (told.disk start) (told.output start)) (IsOld (directory (told.disk start).reads) (told.output start))
-      → LeavesOnly told.moment told.left_since told.disk told.output now new P → ((left : Contents) (out : Text) → IsOld (directory (told.disk start).reads) (told.output start) left out → P left out) → Opens told start new P
+  pub opening_then : (start now new : S) (P : Contents → Text → Type 0) → FromFirstSync ghosts.instant ghosts.left_since ghosts.disk ghosts.output ghosts.syncs start now (Now (ghosts.disk start) (ghosts.output start)) (IsOld (directory (ghosts.disk start).reads) (ghosts.output start))
+      → LeavesOnly ghosts.instant ghosts.left_since ghosts.disk ghosts.output now new P → ((left : Contents) (out : Text) → IsOld (directory (ghosts.disk start).reads) (ghosts.output start) left out → P left out) → Opens ghosts start new P
   opening_then start now new P first run old = inr (record {
     synced = first.synced;
     first = first.first;
     rest = first.rest;
     same = first.same;
     until = first.until;
-    since = joins told.moment told.left_since told.disk told.output first.synced now new (IsOld (directory (told.disk start).reads) (told.output start)) P P first.since run old (λ left out p. p);
+    since = joins ghosts.instant ghosts.left_since ghosts.disk ghosts.output first.synced now new (IsOld (directory (ghosts.disk start).reads) (ghosts.output start)) P P first.since run old (λ left out p. p);
   })

@@ -3,11 +3,11 @@ use Rattle.std.specs.Prelude.{◌≡◌, ◌⊎◌, ◌≤◌, ◌+◌, ℕ, Boo
 use Rattle.ml_base.specs.Bytes.{Text}
 use Rattle.ml_base.specs.Faults.{Rose}
 use Rattle.ml_site.specs.Disk.{Contents, Disk, Elapses, Giving, IsImage, Now}
-use Rattle.ml_site.specs.Moments.{BeforeFirstSync, FromFirstSync}
+use Rattle.ml_site.specs.Instants.{BeforeFirstSync, FromFirstSync}
 use Rattle.ml_site.specs.declared.site.Site.{Ghosts}
 use Rattle.ml_journal.specs.Calls.{Leaves, IsClean}
 use Rattle.ml_journal.specs.Log.{directory}
-use Rattle.ml_journal.specs.Moments.{IsOld}
+use Rattle.ml_journal.specs.Instants.{IsOld}
 use Rattle.ml_ending.specs.declared.lines.Why.{Why}
 use Rattle.ml_ending.specs.declared.lines.Why.TheVariants as whys
 use Rattle.ml_ending.specs.Lines.{stop_text, HasPath}
@@ -18,19 +18,19 @@ abbrev pub StopLine : Type 0
 StopLine = Option (Option ℕ × Why)
 
 -- a stop line was put out; or the output failed, and some first bytes of the line are out
-pub record Says {S : Type 0} (told : Ghosts S) (old new : S) (status : ℕ) (who : Option ℕ) (why : Why) : Type 0 where
-  pub reads : IsTrue told.tells_reads → (told.disk new).reads ≡ (told.disk old).reads
-  pub disk_is : IsTrue told.tells_all → told.disk new ≡ told.disk old
-  pub line : ((status ≡ status_of_why why) × (IsTrue told.tells_all → told.output new ≡ told.output old ++ stop_text who (status_of_why why) why))
-      ⊎ ((status ≡ 73) × Rose (told.output_faults old) (told.output_faults new)
-      × (IsTrue told.tells_all → (n : ℕ) × (told.output new ≡ told.output old ++ take n (stop_text who (status_of_why why) why))))
-  pub time : IsTrue told.tells_all → Elapses (told.moment old) (told.moment new) (told.left_since old) (told.left_since new)
-      (Giving (told.disk old) (told.output old) (stop_text who (status_of_why why) why))
-  pub syncs : IsTrue told.tells_all → told.syncs new ≡ told.syncs old
-  pub log_bytes : IsTrue told.tells_all → told.log_bytes new ≡ told.log_bytes old
-  pub no_call : told.disk_calls new ≡ told.disk_calls old
-  pub disk_faults : told.disk_faults new ≡ told.disk_faults old
-  pub output_faults : told.output_faults old ≤ told.output_faults new
+pub record Says {S : Type 0} (ghosts : Ghosts S) (old new : S) (status : ℕ) (who : Option ℕ) (why : Why) : Type 0 where
+  pub reads : IsTrue ghosts.tells_reads → (ghosts.disk new).reads ≡ (ghosts.disk old).reads
+  pub disk_is : IsTrue ghosts.tells_all → ghosts.disk new ≡ ghosts.disk old
+  pub line : ((status ≡ status_of_why why) × (IsTrue ghosts.tells_all → ghosts.output new ≡ ghosts.output old ++ stop_text who (status_of_why why) why))
+      ⊎ ((status ≡ 73) × Rose (ghosts.output_faults old) (ghosts.output_faults new)
+      × (IsTrue ghosts.tells_all → (n : ℕ) × (ghosts.output new ≡ ghosts.output old ++ take n (stop_text who (status_of_why why) why))))
+  pub time : IsTrue ghosts.tells_all → Elapses (ghosts.instant old) (ghosts.instant new) (ghosts.left_since old) (ghosts.left_since new)
+      (Giving (ghosts.disk old) (ghosts.output old) (stop_text who (status_of_why why) why))
+  pub syncs : IsTrue ghosts.tells_all → ghosts.syncs new ≡ ghosts.syncs old
+  pub log_bytes : IsTrue ghosts.tells_all → ghosts.log_bytes new ≡ ghosts.log_bytes old
+  pub no_call : ghosts.disk_calls new ≡ ghosts.disk_calls old
+  pub disk_faults : ghosts.disk_faults new ≡ ghosts.disk_faults old
+  pub output_faults : ghosts.output_faults old ≤ ghosts.output_faults new
 
 -- the number that a stop line begins with
 abbrev pub who_of : StopLine → Option ℕ
@@ -74,47 +74,47 @@ pub record CostsAtMost (most : ℕ) (syncs syncs' bytes bytes' : ℕ) : Type 0 w
   pub bytes_stay : bytes ≤ bytes'
 
 -- the store of a run was closed, and its stop line put out, if it has one
-pub record Finishes {S : Type 0} (told : Ghosts S) (old new : S) (line : StopLine) (status last : ℕ) : Type 0 where
+pub record Finishes {S : Type 0} (ghosts : Ghosts S) (old new : S) (line : StopLine) (status last : ℕ) : Type 0 where
   pub mid : S
   pub final : StopLine
-  pub closes : ClosesTo line final (IsClean told mid) (Rose (told.disk_faults old) (told.disk_faults mid))
-  pub same : IsTrue told.tells_reads → directory (told.disk mid).reads ≡ directory (told.disk old).reads
-  pub output : IsTrue told.tells_all → told.output mid ≡ told.output old
-  pub moments : Leaves told old mid (IsOld (directory (told.disk old).reads) (told.output old))
-  pub faults : told.disk_faults old ≤ told.disk_faults mid
-  pub others : told.output_faults mid ≡ told.output_faults old
-  pub spends : IsTrue told.tells_all → CostsAtMost 3 (told.syncs old) (told.syncs mid) (told.log_bytes old) (told.log_bytes mid)
-  pub said : ((final ≡ None) × (status ≡ last) × (new ≡ mid)) ⊎ ((who : Option ℕ) × (why : Why) × (final ≡ Some (who, why)) × Says told mid new status who why)
+  pub closes : ClosesTo line final (IsClean ghosts mid) (Rose (ghosts.disk_faults old) (ghosts.disk_faults mid))
+  pub same : IsTrue ghosts.tells_reads → directory (ghosts.disk mid).reads ≡ directory (ghosts.disk old).reads
+  pub output : IsTrue ghosts.tells_all → ghosts.output mid ≡ ghosts.output old
+  pub instants : Leaves ghosts old mid (IsOld (directory (ghosts.disk old).reads) (ghosts.output old))
+  pub faults : ghosts.disk_faults old ≤ ghosts.disk_faults mid
+  pub others : ghosts.output_faults mid ≡ ghosts.output_faults old
+  pub spends : IsTrue ghosts.tells_all → CostsAtMost 3 (ghosts.syncs old) (ghosts.syncs mid) (ghosts.log_bytes old) (ghosts.log_bytes mid)
+  pub said : ((final ≡ None) × (status ≡ last) × (new ≡ mid)) ⊎ ((who : Option ℕ) × (why : Why) × (final ≡ Some (who, why)) × Says ghosts mid new status who why)
 
 -- a group was refused: if by the output, nothing more is put out; otherwise a stop line says why
-pub record Refuses {S : Type 0} (told : Ghosts S) (old new : S) (first : Option ℕ) (why : Option Why) (status : ℕ) : Type 0 where
+pub record Refuses {S : Type 0} (ghosts : Ghosts S) (old new : S) (first : Option ℕ) (why : Option Why) (status : ℕ) : Type 0 where
   pub quiet : why ≡ None → (status ≡ 73) × (new ≡ old)
-  pub said : (reason : Why) → why ≡ Some reason → Says told old new status first reason
+  pub said : (reason : Why) → why ≡ Some reason → Says ghosts old new status first reason
 
 -- a text was put out; or the output failed, and some first bytes of the text are out
-pub record Tells {S : Type 0} (told : Ghosts S) (old new : S) (status : ℕ) (line : Text) : Type 0 where
-  pub reads : IsTrue told.tells_reads → (told.disk new).reads ≡ (told.disk old).reads
-  pub disk_is : IsTrue told.tells_all → told.disk new ≡ told.disk old
-  pub line_is : ((status ≡ 0) × (IsTrue told.tells_all → told.output new ≡ told.output old ++ line))
-      ⊎ ((status ≡ 73) × Rose (told.output_faults old) (told.output_faults new)
-      × (IsTrue told.tells_all → (n : ℕ) × (told.output new ≡ told.output old ++ take n line)))
-  pub time : IsTrue told.tells_all → Elapses (told.moment old) (told.moment new) (told.left_since old) (told.left_since new)
-      (Giving (told.disk old) (told.output old) line)
-  pub syncs : IsTrue told.tells_all → told.syncs new ≡ told.syncs old
-  pub disk_faults : told.disk_faults new ≡ told.disk_faults old
-  pub output_faults : told.output_faults old ≤ told.output_faults new
+pub record Tells {S : Type 0} (ghosts : Ghosts S) (old new : S) (status : ℕ) (line : Text) : Type 0 where
+  pub reads : IsTrue ghosts.tells_reads → (ghosts.disk new).reads ≡ (ghosts.disk old).reads
+  pub disk_is : IsTrue ghosts.tells_all → ghosts.disk new ≡ ghosts.disk old
+  pub line_is : ((status ≡ 0) × (IsTrue ghosts.tells_all → ghosts.output new ≡ ghosts.output old ++ line))
+      ⊎ ((status ≡ 73) × Rose (ghosts.output_faults old) (ghosts.output_faults new)
+      × (IsTrue ghosts.tells_all → (n : ℕ) × (ghosts.output new ≡ ghosts.output old ++ take n line)))
+  pub time : IsTrue ghosts.tells_all → Elapses (ghosts.instant old) (ghosts.instant new) (ghosts.left_since old) (ghosts.left_since new)
+      (Giving (ghosts.disk old) (ghosts.output old) line)
+  pub syncs : IsTrue ghosts.tells_all → ghosts.syncs new ≡ ghosts.syncs old
+  pub disk_faults : ghosts.disk_faults new ≡ ghosts.disk_faults old
+  pub output_faults : ghosts.output_faults old ≤ ghosts.output_faults new
 
 -- a store was closed, and a text put out; or the close was refused, and a stop line says why
-pub record TellsClosed {S : Type 0} (told : Ghosts S) (old new : S) (status : ℕ) (line : Text) : Type 0 where
+pub record TellsClosed {S : Type 0} (ghosts : Ghosts S) (old new : S) (status : ℕ) (line : Text) : Type 0 where
   pub mid : S
-  pub same : IsTrue told.tells_reads → directory (told.disk mid).reads ≡ directory (told.disk old).reads
-  pub output : IsTrue told.tells_all → told.output mid ≡ told.output old
-  pub moments : Leaves told old mid (IsOld (directory (told.disk old).reads) (told.output old))
-  pub faults : told.disk_faults old ≤ told.disk_faults mid
-  pub others : told.output_faults mid ≡ told.output_faults old
-  pub spends : IsTrue told.tells_all → CostsAtMost 3 (told.syncs old) (told.syncs mid) (told.log_bytes old) (told.log_bytes mid)
-  pub said : (IsClean told mid × Tells told mid new status line)
-      ⊎ ((why : Why) × ((why ≡ whys.Memory) ⊎ ((why ≡ whys.Disk) × Rose (told.disk_faults old) (told.disk_faults mid))) × Says told mid new status None why)
+  pub same : IsTrue ghosts.tells_reads → directory (ghosts.disk mid).reads ≡ directory (ghosts.disk old).reads
+  pub output : IsTrue ghosts.tells_all → ghosts.output mid ≡ ghosts.output old
+  pub instants : Leaves ghosts old mid (IsOld (directory (ghosts.disk old).reads) (ghosts.output old))
+  pub faults : ghosts.disk_faults old ≤ ghosts.disk_faults mid
+  pub others : ghosts.output_faults mid ≡ ghosts.output_faults old
+  pub spends : IsTrue ghosts.tells_all → CostsAtMost 3 (ghosts.syncs old) (ghosts.syncs mid) (ghosts.log_bytes old) (ghosts.log_bytes mid)
+  pub said : (IsClean ghosts mid × Tells ghosts mid new status line)
+      ⊎ ((why : Why) × ((why ≡ whys.Memory) ⊎ ((why ≡ whys.Disk) × Rose (ghosts.disk_faults old) (ghosts.disk_faults mid))) × Says ghosts mid new status None why)
 
 -- nothing is out, or some first bytes of one stop line without a number
 abbrev pub SaysAtMost : Text → Text → Type 0
@@ -133,9 +133,9 @@ pub record IsUnopened (disk : Disk) (before : Text) (left : Contents) (out : Tex
 -- was good, the disk is as it was, a crash leaves what one at the start could leave, and at most some first bytes of one stop
 -- line are out.
 abbrev pub Opens : {S : Type 0} → Ghosts S → S → S → (Contents → Text → Type 0) → Type 0
-Opens told old new P =
-    BeforeFirstSync told.moment told.left_since told.disk told.output told.syncs old new (IsUnopened (told.disk old) (told.output old))
-    ⊎ FromFirstSync told.moment told.left_since told.disk told.output told.syncs old new (Now (told.disk old) (told.output old)) P
+Opens ghosts old new P =
+    BeforeFirstSync ghosts.instant ghosts.left_since ghosts.disk ghosts.output ghosts.syncs old new (IsUnopened (ghosts.disk old) (ghosts.output old))
+    ⊎ FromFirstSync ghosts.instant ghosts.left_since ghosts.disk ghosts.output ghosts.syncs old new (Now (ghosts.disk old) (ghosts.output old)) P
 
 -- If there is no configuration, a run's stop line says so, or memory ran out, or the output or the disk failed.
 abbrev pub MissesList : Type 0 → ℕ → Text → Text → Type 0

@@ -2,7 +2,7 @@
 ghost use Rattle.std.specs.Prelude.{◌≡◌, ◌≤◌, ◌<◌, ◌+◌, ℕ, IsTrue, Some, None};
 ghost use Rattle.ml_base.specs.Faults.{Rose};
 ghost use Rattle.ml_journal.specs.Log.{directory};
-ghost use Rattle.ml_journal.specs.Moments.{IsOld};
+ghost use Rattle.ml_journal.specs.Instants.{IsOld};
 ghost use Rattle.ml_journal.specs.Stores.{site_of};
 ghost use Rattle.ml_ending.specs.Endings.{Says, CostsAtMost, ClosesTo, in_place, line_in_place, is_memory as says_memory, Finishes, Refuses, HasLinePath};
 ghost use Rattle.ml_journal.specs.Calls.{Leaves, IsClean};
@@ -33,7 +33,7 @@ pub fn close_store<S: Site>(
     ensures closes { ClosesTo line result.0 (IsClean ⟦<S as Site>⟧ result.1) (Rose (S.disk_faults (site_of store)) (S.disk_faults result.1)) }
     ensures same { IsTrue S.tells_reads → directory (S.disk result.1).reads ≡ directory (S.disk (site_of store)).reads }
     ensures output { IsTrue S.tells_all → S.output result.1 ≡ S.output (site_of store) }
-    ensures moments { Leaves ⟦<S as Site>⟧ (site_of store) result.1 (IsOld (directory (S.disk (site_of store)).reads) (S.output (site_of store))) }
+    ensures instants { Leaves ⟦<S as Site>⟧ (site_of store) result.1 (IsOld (directory (S.disk (site_of store)).reads) (S.output (site_of store))) }
     ensures faults { S.disk_faults (site_of store) ≤ S.disk_faults result.1 }
     ensures others { S.output_faults result.1 ≡ S.output_faults (site_of store) }
     ensures spends { IsTrue S.tells_all → CostsAtMost 3 (S.syncs (site_of store)) (S.syncs result.1) (S.log_bytes (site_of store)) (S.log_bytes result.1) }

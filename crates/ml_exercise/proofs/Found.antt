@@ -9,7 +9,7 @@ use Rattle.ml_list.proofs.States.{fold-nil, text-nil}
 use Rattle.ml_plain.specs.Histories.{State, fold, text}
 use Rattle.ml_plain.specs.declared.Item.{Item}
 use Rattle.ml_site.specs.Disk.{Contents, IsAtRest, Now}
-use Rattle.ml_site.specs.Moments.{LeavesOnly}
+use Rattle.ml_site.specs.Instants.{LeavesOnly}
 use Rattle.ml_site.specs.declared.site.Site.{Ghosts}
 use Rattle.ml_site.proofs.Steps.{joins, rest_contents, weaker}
 use Rattle.ml_journal.specs.Log.{directory}
@@ -18,7 +18,7 @@ use Rattle.ml_ending.specs.Lines.{stop_text}
 use Rattle.ml_ending.specs.Stops.{status_of_why}
 use Rattle.ml_ending.proofs.Finished.{rose_earlier}
 use Rattle.ml_ending.proofs.Said.{opening_then}
-use Rattle.ml_run.specs.Anywhere.{AtEachMoment}
+use Rattle.ml_run.specs.Anywhere.{AtEachInstant}
 use Rattle.ml_run.specs.Endings.{CutOff, Names, Stopped}
 use Rattle.ml_run.specs.Leaving.{HasState, IsAfterSome}
 use Rattle.ml_run.proofs.Anywhere.{nothing_done}
@@ -90,56 +90,56 @@ none_done q items dir before out left state same said =
     })
     said
 
-module _ {S : Type 0} (told : Ghosts S) (reads_told : IsTrue told.tells_all → IsTrue told.tells_reads) where
+module _ {S : Type 0} (ghosts : Ghosts S) (reads_told : IsTrue ghosts.tells_all → IsTrue ghosts.tells_reads) where
   -- it begins at rest
-  opens_rest : (old new : S) (P : Contents → Text → Type 0) → IsAtRest (told.disk old) → ((left : Contents) (out : Text) → directory left ≡ directory (told.disk old).reads → SaysAtMost (told.output old) out → P left out)
-      → Opens told old new P → IsTrue told.tells_all → LeavesOnly told.moment told.left_since told.disk told.output old new P
+  opens_rest : (old new : S) (P : Contents → Text → Type 0) → IsAtRest (ghosts.disk old) → ((left : Contents) (out : Text) → directory left ≡ directory (ghosts.disk old).reads → SaysAtMost (ghosts.output old) out → P left out)
+      → Opens ghosts old new P → IsTrue ghosts.tells_all → LeavesOnly ghosts.instant ghosts.left_since ghosts.disk ghosts.output old new P
   opens_rest old new P rest here o t = ⊎_elim
-      (λ early. weaker told.moment told.left_since told.disk told.output old new (IsUnopened (told.disk old) (told.output old)) P early.all
-      (λ left out u. here left out (ap directory (rest_contents (told.disk old) left rest u.image)) u.put))
-      (λ late. joins told.moment told.left_since told.disk told.output old late.synced new (Now (told.disk old) (told.output old)) P P late.until late.since
-      (λ left out p. here left out (ap directory (rest_contents (told.disk old) left rest p.0)) (inl p.1)) (λ left out p. p))
+      (λ early. weaker ghosts.instant ghosts.left_since ghosts.disk ghosts.output old new (IsUnopened (ghosts.disk old) (ghosts.output old)) P early.all
+      (λ left out u. here left out (ap directory (rest_contents (ghosts.disk old) left rest u.image)) u.put))
+      (λ late. joins ghosts.instant ghosts.left_since ghosts.disk ghosts.output old late.synced new (Now (ghosts.disk old) (ghosts.output old)) P P late.until late.since
+      (λ left out p. here left out (ap directory (rest_contents (ghosts.disk old) left rest p.0)) (inl p.1)) (λ left out p. p))
       o
 
-  module _ (old mid new : S) (config : Config) (count status : ℕ) (finds : Finds told old mid config) (list : ExercisesList told count mid new status) where
-    state_at : IsTrue told.tells_reads → (q : State) → HasState (directory (told.disk old).reads) q → HasState (directory (told.disk mid).reads) q
-    state_at r q state = same_state (directory (told.disk old).reads) (directory (told.disk mid).reads) q (finds.same r) state
+  module _ (old mid new : S) (config : Config) (count status : ℕ) (finds : Finds ghosts old mid config) (list : ExercisesList ghosts count mid new status) where
+    state_at : IsTrue ghosts.tells_reads → (q : State) → HasState (directory (ghosts.disk old).reads) q → HasState (directory (ghosts.disk mid).reads) q
+    state_at r q state = same_state (directory (ghosts.disk old).reads) (directory (ghosts.disk mid).reads) q (finds.same r) state
 
-    opens : IsTrue told.tells_all → (q : State) → HasState (directory (told.disk old).reads) q → Opens told old new (IsExercising q count (told.output old))
-    opens t q state = opening_then told old mid new (IsExercising q count (told.output old)) (finds.moments t)
-        (weaker told.moment told.left_since told.disk told.output mid new (IsExercising q count (told.output mid)) (IsExercising q count (told.output old)) (list.at_rest (finds.rest t) q (state_at (reads_told t) q state) t)
+    opens : IsTrue ghosts.tells_all → (q : State) → HasState (directory (ghosts.disk old).reads) q → Opens ghosts old new (IsExercising q count (ghosts.output old))
+    opens t q state = opening_then ghosts old mid new (IsExercising q count (ghosts.output old)) (finds.instants t)
+        (weaker ghosts.instant ghosts.left_since ghosts.disk ghosts.output mid new (IsExercising q count (ghosts.output mid)) (IsExercising q count (ghosts.output old)) (list.at_rest (finds.rest t) q (state_at (reads_told t) q state) t)
         (λ left out p. subst (λ (b : Text). IsExercising q count b left out) (finds.output t) p))
-        (λ left out p. inl (none_done q (items_of q count) (directory (told.disk old).reads) (told.output old) out left state p.0 (inl p.1)))
+        (λ left out p. inl (none_done q (items_of q count) (directory (ghosts.disk old).reads) (ghosts.output old) out left state p.0 (inl p.1)))
 
     -- on a directory, whatever it holds
-    exercising_at : IsTrue told.tells_reads → (files : Dir) → directory (told.disk old).reads ≡ Some files → ExercisesItems told (AtEachMoment told old new) count status list.answered old new files
+    exercising_at : IsTrue ghosts.tells_reads → (files : Dir) → directory (ghosts.disk old).reads ≡ Some files → ExercisesItems ghosts (AtEachInstant ghosts old new) count status list.answered old new files
     exercising_at r files here =
         let d = list.anywhere r files (finds.same r ∙ here) in
-        let before = told.output old in
-        let P = IsExercisingAt files d.first d.group count before in
-        let none : (left : Contents) (out : Text) → directory left ≡ directory (told.disk old).reads → SaysAtMost before out → P left out = λ left out same said. inl (nothing_done files (d.first ++ d.group) before out left (same ∙ here) said) in
-        let opened : IsTrue told.tells_all → Opens told old new P = λ t. opening_then told old mid new P (finds.moments t)
-        (weaker told.moment told.left_since told.disk told.output mid new (IsExercisingAt files d.first d.group count (told.output mid)) P (d.moments (finds.rest t) t)
-        (λ left out p. subst (λ (b : Text). IsExercisingAt files d.first d.group count b left out) (finds.output t) p))
+        let before = ghosts.output old in
+        let P = IsExercisingAt files d.first d.batch count before in
+        let none : (left : Contents) (out : Text) → directory left ≡ directory (ghosts.disk old).reads → SaysAtMost before out → P left out = λ left out same said. inl (nothing_done files (d.first ++ d.batch) before out left (same ∙ here) said) in
+        let opened : IsTrue ghosts.tells_all → Opens ghosts old new P = λ t. opening_then ghosts old mid new P (finds.instants t)
+        (weaker ghosts.instant ghosts.left_since ghosts.disk ghosts.output mid new (IsExercisingAt files d.first d.batch count (ghosts.output mid)) P (d.instants (finds.rest t) t)
+        (λ left out p. subst (λ (b : Text). IsExercisingAt files d.first d.batch count b left out) (finds.output t) p))
         (λ left out p. none left out p.0 (inl p.1)) in
-        record { first = d.first; group = d.group; row = d.row; moments = (opened, λ now t. opens_rest old new P now none (opened t) t) }
+        record { first = d.first; batch = d.batch; row = d.row; instants = (opened, λ now t. opens_rest old new P now none (opened t) t) }
 
-    pub found_then : Exercises told count old new status
+    pub found_then : Exercises ghosts count old new status
     found_then = record {
       does = record {
         answered = list.answered;
         known = list.known;
-        whole = λ r q state. ends_before (IsTrue told.tells_all) status list.answered (told.disk new).reads (told.output new) q count (told.output mid) (told.output old) finds.output (list.whole r q (state_at r q state));
-        at_rest = λ rest q state t. opens_rest old new (IsExercising q count (told.output old)) rest
-            (λ left out same said. inl (none_done q (items_of q count) (directory (told.disk old).reads) (told.output old) out left state same said)) (opens t q state) t;
-        anywhere = λ r files here. let d = exercising_at r files here in record { first = d.first; group = d.group; row = d.row; moments = d.moments.1 };
-        rest = λ none one two t. list.rest (λ rose. none (rose_earlier (told.disk_faults old) (told.disk_faults mid) (told.disk_faults new) finds.disk_later rose)) one two t;
+        whole = λ r q state. ends_before (IsTrue ghosts.tells_all) status list.answered (ghosts.disk new).reads (ghosts.output new) q count (ghosts.output mid) (ghosts.output old) finds.output (list.whole r q (state_at r q state));
+        at_rest = λ rest q state t. opens_rest old new (IsExercising q count (ghosts.output old)) rest
+            (λ left out same said. inl (none_done q (items_of q count) (directory (ghosts.disk old).reads) (ghosts.output old) out left state same said)) (opens t q state) t;
+        anywhere = λ r files here. let d = exercising_at r files here in record { first = d.first; batch = d.batch; row = d.row; instants = d.instants.1 };
+        rest = λ none one two t. list.rest (λ rose. none (rose_earlier (ghosts.disk_faults old) (ghosts.disk_faults mid) (ghosts.disk_faults new) finds.disk_later rose)) one two t;
         gate = λ some one two three r. list.gate (subst (λ (d : Option Dir). IsSome d) (sym (finds.same r)) some) one two three r;
-        of_disk = λ e. rose_earlier (told.disk_faults old) (told.disk_faults mid) (told.disk_faults new) finds.disk_later (list.of_disk e);
-        of_output = λ e. rose_earlier (told.output_faults old) (told.output_faults mid) (told.output_faults new) finds.output_later (list.of_output e);
-        named = λ r e. ⊎_elim (λ n. inl (subst (λ (d : Option Dir). Names (IsTrue told.tells_all) (IsOfItem d count list.answered) d (directory (told.disk new).reads) (told.output new)) (finds.same r) n)) (λ n. inr n) (list.named r e);
-        nolist = λ r files is none. misses_before (IsTrue told.tells_all) status (told.output mid) (told.output old) (told.output new) finds.output (list.nolist r files (finds.same r ∙ is) none);
+        of_disk = λ e. rose_earlier (ghosts.disk_faults old) (ghosts.disk_faults mid) (ghosts.disk_faults new) finds.disk_later (list.of_disk e);
+        of_output = λ e. rose_earlier (ghosts.output_faults old) (ghosts.output_faults mid) (ghosts.output_faults new) finds.output_later (list.of_output e);
+        named = λ r e. ⊎_elim (λ n. inl (subst (λ (d : Option Dir). Names (IsTrue ghosts.tells_all) (IsOfItem d count list.answered) d (directory (ghosts.disk new).reads) (ghosts.output new)) (finds.same r) n)) (λ n. inr n) (list.named r e);
+        nolist = λ r files is none. misses_before (IsTrue ghosts.tells_all) status (ghosts.output mid) (ghosts.output old) (ghosts.output new) finds.output (list.nolist r files (finds.same r ∙ is) none);
       };
-      moments = opens;
+      instants = opens;
       anywhere = exercising_at;
     }

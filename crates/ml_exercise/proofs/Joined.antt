@@ -20,7 +20,7 @@ use Rattle.ml_journal.specs.Stores.{the_dir}
 use Rattle.ml_ending.proofs.Finished.{rose_earlier}
 use Rattle.ml_run.specs.Anywhere.{after, answers_of, IsAfterFirst}
 use Rattle.ml_run.specs.Endings.{Brings, Ended, Names, Runs}
-use Rattle.ml_run.specs.Groups.{IsOfNext}
+use Rattle.ml_run.specs.Batches.{IsOfNext}
 use Rattle.ml_run.specs.Leaving.{HasState, IsAfterSome}
 use Rattle.ml_run.proofs.Leaving.{same_state}
 use Rattle.ml_run.proofs.Named.{names_map}
@@ -80,62 +80,62 @@ item_named dir config count n files who name found range few is =
       asked = is.asked;
     }
 
-module _ {S : Type 0} (told : Ghosts S) (reads_told : IsTrue told.tells_all → IsTrue told.tells_reads) (config : Config) (count : ℕ) (old mid : S) (run : ℕ)
-    (found : IsTrue told.tells_reads → HasConfig (directory (told.disk old).reads) config) (range : IsConfig config) (few : count ≤ 999_999) (rest : IsTrue told.tells_all → IsAtRest (told.disk old))
-    (runs : RunsItems told (items_for config count) count old mid run) where
-  -- what the run does, told by the items of the list
-  runs_list : IsTrue told.tells_reads → (q : State) → HasState (directory (told.disk old).reads) q
-      → Runs (IsTrue told.tells_all) ⊥ run count runs.answered (told.disk mid).reads (told.output mid) (items_of q count) End q (told.output old)
-  runs_list r q state = subst (λ (items : List Item). Runs (IsTrue told.tells_all) ⊥ run count runs.answered (told.disk mid).reads (told.output mid) items End q (told.output old))
-      (items_same (directory (told.disk old).reads) config q count (found r) state) (runs.whole r q state)
+module _ {S : Type 0} (ghosts : Ghosts S) (reads_told : IsTrue ghosts.tells_all → IsTrue ghosts.tells_reads) (config : Config) (count : ℕ) (old mid : S) (run : ℕ)
+    (found : IsTrue ghosts.tells_reads → HasConfig (directory (ghosts.disk old).reads) config) (range : IsConfig config) (few : count ≤ 999_999) (rest : IsTrue ghosts.tells_all → IsAtRest (ghosts.disk old))
+    (runs : RunsItems ghosts (items_for config count) count old mid run) where
+  -- what the run does, ghosts by the items of the list
+  runs_list : IsTrue ghosts.tells_reads → (q : State) → HasState (directory (ghosts.disk old).reads) q
+      → Runs (IsTrue ghosts.tells_all) ⊥ run count runs.answered (ghosts.disk mid).reads (ghosts.output mid) (items_of q count) End q (ghosts.output old)
+  runs_list r q state = subst (λ (items : List Item). Runs (IsTrue ghosts.tells_all) ⊥ run count runs.answered (ghosts.disk mid).reads (ghosts.output mid) items End q (ghosts.output old))
+      (items_same (directory (ghosts.disk old).reads) config q count (found r) state) (runs.whole r q state)
 
-  as_many : IsTrue told.tells_reads → (q : State) → HasState (directory (told.disk old).reads) q → length (items_of q count) ≡ count
-  as_many r q state = subst (λ (items : List Item). length items ≡ count) (items_same (directory (told.disk old).reads) config q count (found r) state) (count_is config count)
+  as_many : IsTrue ghosts.tells_reads → (q : State) → HasState (directory (ghosts.disk old).reads) q → length (items_of q count) ≡ count
+  as_many r q state = subst (λ (items : List Item). length items ≡ count) (items_same (directory (ghosts.disk old).reads) config q count (found r) state) (count_is config count)
 
-  some_moments : IsTrue told.tells_all → (q : State) → HasState (directory (told.disk old).reads) q → Leaves told old mid (IsAfterSome q (items_of q count) (told.output old))
-  some_moments t q state = subst (λ (items : List Item). Leaves told old mid (IsAfterSome q items (told.output old)))
-      (items_same (directory (told.disk old).reads) config q count (found (reads_told t)) state) (runs.at_rest (rest t) q state)
+  some_instants : IsTrue ghosts.tells_all → (q : State) → HasState (directory (ghosts.disk old).reads) q → Leaves ghosts old mid (IsAfterSome q (items_of q count) (ghosts.output old))
+  some_instants t q state = subst (λ (items : List Item). Leaves ghosts old mid (IsAfterSome q items (ghosts.output old)))
+      (items_same (directory (ghosts.disk old).reads) config q count (found (reads_told t)) state) (runs.at_rest (rest t) q state)
 
-  run_named : IsTrue told.tells_reads → run ≡ 75 → Names (IsTrue told.tells_all) (IsOfItem (directory (told.disk old).reads) count runs.answered) (directory (told.disk old).reads) (directory (told.disk mid).reads) (told.output mid)
-  run_named r is = names_map (IsTrue told.tells_all) (IsOfNext (Brings (Some (stream_text (items_for config count)))) runs.answered) (IsOfItem (directory (told.disk old).reads) count runs.answered) (directory (told.disk old).reads) (directory (told.disk mid).reads) (told.output mid)
-      (λ files who name next. item_named (directory (told.disk old).reads) config count runs.answered files who name (found r) range few next) (runs.named r is)
+  run_named : IsTrue ghosts.tells_reads → run ≡ 75 → Names (IsTrue ghosts.tells_all) (IsOfItem (directory (ghosts.disk old).reads) count runs.answered) (directory (ghosts.disk old).reads) (directory (ghosts.disk mid).reads) (ghosts.output mid)
+  run_named r is = names_map (IsTrue ghosts.tells_all) (IsOfNext (Brings (Some (stream_text (items_for config count)))) runs.answered) (IsOfItem (directory (ghosts.disk old).reads) count runs.answered) (directory (ghosts.disk old).reads) (directory (ghosts.disk mid).reads) (ghosts.output mid)
+      (λ files who name next. item_named (directory (ghosts.disk old).reads) config count runs.answered files who name (found r) range few next) (runs.named r is)
 
-  exercised : IsTrue told.tells_reads → (files : Dir) → directory (told.disk old).reads ≡ Some files → (all : List Item) (ending : StreamEnd) → IsExercised files count all ending → Brings (Some (stream_text (items_for config count))) all ending
+  exercised : IsTrue ghosts.tells_reads → (files : Dir) → directory (ghosts.disk old).reads ≡ Some files → (all : List Item) (ending : StreamEnd) → IsExercised files count all ending → Brings (Some (stream_text (items_for config count))) all ending
   exercised r files here all ending e = exercised_brought files config count all ending (subst (λ (d : Option Dir). HasConfig d config) here (found r)) range few e
 
   -- it has ended early
-  pub early_list : is_status run ≡ false → ExercisesList told count old mid run
+  pub early_list : is_status run ≡ false → ExercisesList ghosts count old mid run
   early_list is = record {
     answered = runs.answered;
     known = early_known run runs.known is;
     whole = λ r q state.
-        let e = early (IsTrue told.tells_all) ⊥ run count runs.answered (told.disk mid).reads (told.output mid) (items_of q count) q (told.output old) (as_many r q state) runs.known is (runs_list r q state) in
+        let e = early (IsTrue ghosts.tells_all) ⊥ run count runs.answered (ghosts.disk mid).reads (ghosts.output mid) (items_of q count) q (ghosts.output old) (as_many r q state) runs.known is (runs_list r q state) in
         inr (record { end = e.0; hindered = e.1 });
-    at_rest = λ _ q state t. weaker told.moment told.left_since told.disk told.output old mid (IsAfterSome q (items_of q count) (told.output old)) (IsExercising q count (told.output old)) (some_moments t q state t)
+    at_rest = λ _ q state t. weaker ghosts.instant ghosts.left_since ghosts.disk ghosts.output old mid (IsAfterSome q (items_of q count) (ghosts.output old)) (IsExercising q count (ghosts.output old)) (some_instants t q state t)
         (λ left out p. inl p);
     anywhere = λ r files here.
         let d = (runs.anywhere r files here).0 in
         record {
           first = d.first;
-          group = d.group;
-          row = row_brought told (Brings (Some (stream_text (items_for config count)))) (IsExercised files count) count run runs.answered mid files d.first d.group (exercised r files here) d.row;
-          moments = λ now t. weaker told.moment told.left_since told.disk told.output old mid (IsAfterFirst files (d.first ++ d.group) (told.output old)) (IsExercisingAt files d.first d.group count (told.output old)) (d.moments.1 now t) (λ left out p. inl p);
+          batch = d.batch;
+          row = row_brought ghosts (Brings (Some (stream_text (items_for config count)))) (IsExercised files count) count run runs.answered mid files d.first d.batch (exercised r files here) d.row;
+          instants = λ now t. weaker ghosts.instant ghosts.left_since ghosts.disk ghosts.output old mid (IsAfterFirst files (d.first ++ d.batch) (ghosts.output old)) (IsExercisingAt files d.first d.batch count (ghosts.output old)) (d.instants.1 now t) (λ left out p. inl p);
         };
     rest = runs.closed.rest;
     gate = runs.closed.gate;
     of_disk = runs.counts.of_disk;
     of_output = runs.counts.of_output;
     named = λ r e. inl (run_named r e);
-    nolist = λ r files dir none. absurd (has_one (directory (told.disk old).reads) config files (found r) dir none);
+    nolist = λ r files dir none. absurd (has_one (directory (ghosts.disk old).reads) config files (found r) dir none);
   }
 
   -- all items are answered, and the list is looked over
-  module _ (new : S) (status : ℕ) (sums : SumsUp told count mid new status) (is : is_status run ≡ true) where
-    ended : IsTrue told.tells_reads → (q : State) → HasState (directory (told.disk old).reads) q
-        → Ended (IsTrue told.tells_all) run count runs.answered (told.disk mid).reads (told.output mid) (items_of q count) End q (told.output old)
-    ended r q state = all_ended (IsTrue told.tells_all) ⊥ run count runs.answered (told.disk mid).reads (told.output mid) (items_of q count) q (told.output old) (as_many r q state) is (runs_list r q state)
+  module _ (new : S) (status : ℕ) (sums : SumsUp ghosts count mid new status) (is : is_status run ≡ true) where
+    ended : IsTrue ghosts.tells_reads → (q : State) → HasState (directory (ghosts.disk old).reads) q
+        → Ended (IsTrue ghosts.tells_all) run count runs.answered (ghosts.disk mid).reads (ghosts.output mid) (items_of q count) End q (ghosts.output old)
+    ended r q state = all_ended (IsTrue ghosts.tells_all) ⊥ run count runs.answered (ghosts.disk mid).reads (ghosts.output mid) (items_of q count) q (ghosts.output old) (as_many r q state) is (runs_list r q state)
 
-    pub joined_list : ExercisesList told count old new status
+    pub joined_list : ExercisesList ghosts count old new status
     joined_list = record {
       answered = runs.answered;
       known = sums.known;
@@ -143,43 +143,43 @@ module _ {S : Type 0} (told : Ghosts S) (reads_told : IsTrue told.tells_all → 
           let e = ended r q state in
           inl (record {
             all = e.count ∙ as_many r q state;
-            state = same_state (directory (told.disk mid).reads) (directory (told.disk new).reads) (state_after q count) (sums.same r) e.state;
-            put = tells_before (IsTrue told.tells_all) status count (state_after q count).plain (told.output mid) (answered_all q count (told.output old)) (told.output new) e.put (sums.given r (state_after q count) e.state);
+            state = same_state (directory (ghosts.disk mid).reads) (directory (ghosts.disk new).reads) (state_after q count) (sums.same r) e.state;
+            put = tells_before (IsTrue ghosts.tells_all) status count (state_after q count).plain (ghosts.output mid) (answered_all q count (ghosts.output old)) (ghosts.output new) e.put (sums.given r (state_after q count) e.state);
           });
       at_rest = λ _ q state t.
           let e = ended (reads_told t) q state in
-          joins told.moment told.left_since told.disk told.output old mid new (IsAfterSome q (items_of q count) (told.output old)) (IsLooking (directory (told.disk mid).reads) count (state_after q count).plain (told.output mid)) (IsExercising q count (told.output old))
-          (some_moments t q state t) (sums.at_rest (runs.closed.settled is t) (state_after q count) e.state t) (λ left out p. inl p)
+          joins ghosts.instant ghosts.left_since ghosts.disk ghosts.output old mid new (IsAfterSome q (items_of q count) (ghosts.output old)) (IsLooking (directory (ghosts.disk mid).reads) count (state_after q count).plain (ghosts.output mid)) (IsExercising q count (ghosts.output old))
+          (some_instants t q state t) (sums.at_rest (runs.closed.settled is t) (state_after q count) e.state t) (λ left out p. inl p)
           (λ left out p. inr (record {
-            state = same_state (directory (told.disk mid).reads) (directory left) (state_after q count) p.0 e.state;
+            state = same_state (directory (ghosts.disk mid).reads) (directory left) (state_after q count) p.0 e.state;
             put = subst (λ (b : Text). IsSummingUp count (state_after q count).plain b out) (e.put t) p.1;
           }));
       anywhere = λ r files here.
           let d = (runs.anywhere r files here).0 in
           let none = d.row.whole (λ e. settled_not run 71 refl is e) (λ e. settled_not run 73 refl is e) (λ e. settled_not run 111 refl is e) in
-          let beyond : directory (told.disk mid).reads ≡ Some (after files d.first) = row_end told (Brings (Some (stream_text (items_for config count)))) count run runs.answered mid files d.first d.group none d.row in
-          let row = row_brought told (Brings (Some (stream_text (items_for config count)))) (IsExercised files count) count run runs.answered mid files d.first d.group (exercised r files here) d.row in
+          let beyond : directory (ghosts.disk mid).reads ≡ Some (after files d.first) = row_end ghosts (Brings (Some (stream_text (items_for config count)))) count run runs.answered mid files d.first d.batch none d.row in
+          let row = row_brought ghosts (Brings (Some (stream_text (items_for config count)))) (IsExercised files count) count run runs.answered mid files d.first d.batch (exercised r files here) d.row in
           record {
             first = d.first;
-            group = d.group;
+            batch = d.batch;
             row = record { are = row.are; count = row.count; few = row.few; brought = row.brought; end = inl (sums.same r ∙ beyond); whole = λ one two three. none };
-            moments = λ now t.
-                let before = told.output old in
-                let P = IsExercisingAt files d.first d.group count before in
-                joins told.moment told.left_since told.disk told.output old mid new (IsAfterFirst files (d.first ++ d.group) before) (IsLookingAt (directory (told.disk mid).reads) count (told.output mid)) P
-                (d.moments.1 now t) (sums.anywhere (runs.closed.settled is t) t) (λ left out p. inl p)
+            instants = λ now t.
+                let before = ghosts.output old in
+                let P = IsExercisingAt files d.first d.batch count before in
+                joins ghosts.instant ghosts.left_since ghosts.disk ghosts.output old mid new (IsAfterFirst files (d.first ++ d.batch) before) (IsLookingAt (directory (ghosts.disk mid).reads) count (ghosts.output mid)) P
+                (d.instants.1 now t) (sums.anywhere (runs.closed.settled is t) t) (λ left out p. inl p)
                 (λ left out p. inr (record {
                   all = sym (runs.all is) ∙ d.row.count;
                   dir = p.0 ∙ beyond;
-                  put = subst (λ (o : Option Dir). IsToldOf o count (before ++ answers_of d.first) out) beyond (subst (λ (b : Text). IsToldOf (directory (told.disk mid).reads) count b out) (d.answers is t) p.1);
+                  put = subst (λ (o : Option Dir). IsToldOf o count (before ++ answers_of d.first) out) beyond (subst (λ (b : Text). IsToldOf (directory (ghosts.disk mid).reads) count b out) (d.answers is t) p.1);
                 }));
           };
-      rest = λ none one two. sums.rest (λ rose. none (rose_earlier (told.disk_faults old) (told.disk_faults mid) (told.disk_faults new) runs.counts.disk_later rose)) one two;
+      rest = λ none one two. sums.rest (λ rose. none (rose_earlier (ghosts.disk_faults old) (ghosts.disk_faults mid) (ghosts.disk_faults new) runs.counts.disk_later rose)) one two;
       gate = λ some one two three r.
           let here = runs.closed.gate some (λ e. settled_not run 71 refl is e) (λ e. settled_not run 73 refl is e) (λ e. settled_not run 111 refl is e) r in
-          sums.gate (gate_some (told.disk mid).reads here) one two three r;
-      of_disk = λ e. rose_earlier (told.disk_faults old) (told.disk_faults mid) (told.disk_faults new) runs.counts.disk_later (sums.of_disk e);
-      of_output = λ e. rose_earlier (told.output_faults old) (told.output_faults mid) (told.output_faults new) runs.counts.output_later (sums.of_output e);
+          sums.gate (gate_some (ghosts.disk mid).reads here) one two three r;
+      of_disk = λ e. rose_earlier (ghosts.disk_faults old) (ghosts.disk_faults mid) (ghosts.disk_faults new) runs.counts.disk_later (sums.of_disk e);
+      of_output = λ e. rose_earlier (ghosts.output_faults old) (ghosts.output_faults mid) (ghosts.output_faults new) runs.counts.output_later (sums.of_output e);
       named = λ r e. inr (sums.named r e);
-      nolist = λ r files dir none. absurd (has_one (directory (told.disk old).reads) config files (found r) dir none);
+      nolist = λ r files dir none. absurd (has_one (directory (ghosts.disk old).reads) config files (found r) dir none);
     }

@@ -22,7 +22,7 @@ use Rattle.ml_reading.specs.Readings.{IsRefusal, is_reading_status}
 use Rattle.ml_run.specs.Anywhere.{IsAfterFirst, IsRow}
 use Rattle.ml_run.specs.Endings.{Runs}
 use Rattle.ml_run.specs.Leaving.{HasState, IsAfterSome}
-use Rattle.ml_run.proofs.Anywhere.{each_moment, opens_weaker, said_done}
+use Rattle.ml_run.proofs.Anywhere.{each_instant, opens_weaker, said_done}
 use Rattle.ml_run.proofs.Missing.{said_misses}
 use Rattle.ml_run.proofs.Opening.{early_runs, from_rest, opened_said}
 use Rattle.ml_stream.specs.Stream.{End}
@@ -122,108 +122,108 @@ without whys.Input dir files is none r = absurd r
 without whys.There dir files is none r = absurd r
 without whys.Absent dir files is none r = absurd r
 
-module _ {S : Type 0} (told : Ghosts S) (reads_told : IsTrue told.tells_all → IsTrue told.tells_reads) (count : ℕ) (old mid new : S) (why : Why) (status : ℕ)
-    (miss : Misses told old mid why) (says : Says told mid new status None why) where
-  line_is : (status ≡ status_of_why why) ⊎ ((status ≡ 73) × Rose (told.output_faults mid) (told.output_faults new))
+module _ {S : Type 0} (ghosts : Ghosts S) (reads_told : IsTrue ghosts.tells_all → IsTrue ghosts.tells_reads) (count : ℕ) (old mid new : S) (why : Why) (status : ℕ)
+    (miss : Misses ghosts old mid why) (says : Says ghosts mid new status None why) where
+  line_is : (status ≡ status_of_why why) ⊎ ((status ≡ 73) × Rose (ghosts.output_faults mid) (ghosts.output_faults new))
   line_is = ⊎_elim (λ whole. inl whole.0) (λ cut. inr (cut.0, cut.1)) says.line
 
   known : (P : ℕ → Type 0) → (KnownStatus (status_of_why why) why → P (status_of_why why)) → P 73 → P status
   known P here cut = ⊎_elim (λ is. subst P (sym is) (here (known_why why miss.known))) (λ c. subst P (sym c.0) cut) line_is
 
-  after_some : IsTrue told.tells_all → (q : State) → HasState (directory (told.disk old).reads) q → Opens told old new (IsAfterSome q (items_of q count) (told.output old))
+  after_some : IsTrue ghosts.tells_all → (q : State) → HasState (directory (ghosts.disk old).reads) q → Opens ghosts old new (IsAfterSome q (items_of q count) (ghosts.output old))
   after_some t q state = ⊎_elim
-      (λ early. inl (unopened_said told old mid new status why early says t))
+      (λ early. inl (unopened_said ghosts old mid new status why early says t))
       (λ late. inr (record {
         synced = late.synced;
         first = late.first;
         rest = late.rest;
         same = late.same;
         until = late.until;
-        since = opened_said told old late.synced mid new q (items_of q count) status why state (miss.output t) late.since says t;
+        since = opened_said ghosts old late.synced mid new q (items_of q count) status why state (miss.output t) late.since says t;
       }))
-      (miss.moments t)
+      (miss.instants t)
 
-  runs : IsTrue told.tells_reads → (q : State) → HasState (directory (told.disk old).reads) q
-      → Runs (IsTrue told.tells_all) ⊥ status count 0 (told.disk new).reads (told.output new) (items_of q count) End q (told.output old)
-  runs r q state = early_runs told old mid new q (items_of q count) End ⊥ count 0 status why r state miss.same miss.output refl (over_list why (directory (told.disk old).reads) q state (miss.reason r)) says
+  runs : IsTrue ghosts.tells_reads → (q : State) → HasState (directory (ghosts.disk old).reads) q
+      → Runs (IsTrue ghosts.tells_all) ⊥ status count 0 (ghosts.disk new).reads (ghosts.output new) (items_of q count) End q (ghosts.output old)
+  runs r q state = early_runs ghosts old mid new q (items_of q count) End ⊥ count 0 status why r state miss.same miss.output refl (over_list why (directory (ghosts.disk old).reads) q state (miss.reason r)) says
 
   -- nothing is done on a directory, whatever it holds
-  nothing_opens : IsTrue told.tells_all → (files : Dir) → directory (told.disk old).reads ≡ Some files → Opens told old new (IsAfterFirst files [] (told.output old))
+  nothing_opens : IsTrue ghosts.tells_all → (files : Dir) → directory (ghosts.disk old).reads ≡ Some files → Opens ghosts old new (IsAfterFirst files [] (ghosts.output old))
   nothing_opens t files here = ⊎_elim
-      (λ early. inl (unopened_said told old mid new status why early says t))
+      (λ early. inl (unopened_said ghosts old mid new status why early says t))
       (λ late. inr (record {
         synced = late.synced;
         first = late.first;
         rest = late.rest;
         same = late.same;
         until = late.until;
-        since = said_done told files old late.synced mid new status why here (miss.output t) late.since says t;
+        since = said_done ghosts files old late.synced mid new status why here (miss.output t) late.since says t;
       }))
-      (miss.moments t)
+      (miss.instants t)
 
-  nothing_row : IsTrue told.tells_reads → (files : Dir) → directory (told.disk old).reads ≡ Some files → IsRow told (IsExercised files count) count status 0 new files [] []
+  nothing_row : IsTrue ghosts.tells_reads → (files : Dir) → directory (ghosts.disk old).reads ≡ Some files → IsRow ghosts (IsExercised files count) count status 0 new files [] []
   nothing_row r files here = record { are = tt; count = refl; few = omega arith; brought = λ all ending b. (take count all, refl); end = inl (ap directory (says.reads r) ∙ miss.same r ∙ here); whole = λ one two three. refl }
 
-  missed_list : ExercisesList told count old new status
+  missed_list : ExercisesList ghosts count old new status
   missed_list = record {
     answered = 0;
     known = known (λ n. is_reading_status n ≡ true) (λ k. k.reading) refl;
     whole = λ r q state.
-        let e = early (IsTrue told.tells_all) ⊥ status count 0 (told.disk new).reads (told.output new) (items_of q count) q (told.output old) (many q count) (known (λ n. is_items_status n ≡ true) (λ k. k.items) refl)
+        let e = early (IsTrue ghosts.tells_all) ⊥ status count 0 (ghosts.disk new).reads (ghosts.output new) (items_of q count) q (ghosts.output old) (many q count) (known (λ n. is_items_status n ≡ true) (λ k. k.items) refl)
         (known (λ n. is_status n ≡ false) (λ k. k.none) refl) (runs r q state) in
         inr (record { end = e.0; hindered = e.1 });
-    at_rest = λ rest q state t. weaker told.moment told.left_since told.disk told.output old new (IsAfterSome q (items_of q count) (told.output old)) (IsExercising q count (told.output old))
-        (from_rest told old new q (items_of q count) state rest (after_some t q state)) (λ left out p. inl p);
+    at_rest = λ rest q state t. weaker ghosts.instant ghosts.left_since ghosts.disk ghosts.output old new (IsAfterSome q (items_of q count) (ghosts.output old)) (IsExercising q count (ghosts.output old))
+        (from_rest ghosts old new q (items_of q count) state rest (after_some t q state)) (λ left out p. inl p);
     anywhere = λ r files here. record {
       first = [];
-      group = [];
+      batch = [];
       row = nothing_row r files here;
-      moments = λ now t. weaker told.moment told.left_since told.disk told.output old new (IsAfterFirst files [] (told.output old)) (IsExercisingAt files [] [] count (told.output old))
-          ((each_moment told files [] old new here (λ u. nothing_opens u files here)).1 now t) (λ left out p. inl p);
+      instants = λ now t. weaker ghosts.instant ghosts.left_since ghosts.disk ghosts.output old new (IsAfterFirst files [] (ghosts.output old)) (IsExercisingAt files [] [] count (ghosts.output old))
+          ((each_instant ghosts files [] old new here (λ u. nothing_opens u files here)).1 now t) (λ left out p. inl p);
     };
-    rest = λ none one two t. subst (λ (d : Disk). IsAtRest d) (sym (says.disk_is t)) (miss.rest (λ e. memory_status told mid new status None why says e one two)
-        (λ e. none (subst (λ (n : ℕ). Rose (told.disk_faults old) n) (sym says.disk_faults) (miss.cause e))) t);
-    gate = λ some one two three r. ap (λ (c : Contents). c.log) (says.reads r) ∙ miss.gate (λ e. memory_status told mid new status None why says e one two) (λ e. disk_status told mid new status None why says e three two) some r;
-    of_disk = λ e. subst (λ (n : ℕ). Rose (told.disk_faults old) n) (sym says.disk_faults) (miss.cause (⊎_elim (λ is. (known_why why miss.known).of_disk (sym is ∙ e)) (λ c. absurd (omega (arith, e, c.0))) line_is));
-    of_output = λ e. rose_earlier (told.output_faults old) (told.output_faults mid) (told.output_faults new) miss.output_later
+    rest = λ none one two t. subst (λ (d : Disk). IsAtRest d) (sym (says.disk_is t)) (miss.rest (λ e. memory_status ghosts mid new status None why says e one two)
+        (λ e. none (subst (λ (n : ℕ). Rose (ghosts.disk_faults old) n) (sym says.disk_faults) (miss.cause e))) t);
+    gate = λ some one two three r. ap (λ (c : Contents). c.log) (says.reads r) ∙ miss.gate (λ e. memory_status ghosts mid new status None why says e one two) (λ e. disk_status ghosts mid new status None why says e three two) some r;
+    of_disk = λ e. subst (λ (n : ℕ). Rose (ghosts.disk_faults old) n) (sym says.disk_faults) (miss.cause (⊎_elim (λ is. (known_why why miss.known).of_disk (sym is ∙ e)) (λ c. absurd (omega (arith, e, c.0))) line_is));
+    of_output = λ e. rose_earlier (ghosts.output_faults old) (ghosts.output_faults mid) (ghosts.output_faults new) miss.output_later
         (⊎_elim (λ is. absurd ((known_why why miss.known).no_output (sym is ∙ e))) (λ c. c.1) line_is);
     named = λ r e. inr (named r e);
-    nolist = λ r files is none. ⊎_elim (λ w. no_list r w) (λ w. said_misses told mid new (told.output old) status None why w says) (without why (directory (told.disk old).reads) files is none (miss.reason r));
+    nolist = λ r files is none. ⊎_elim (λ w. no_list r w) (λ w. said_misses ghosts mid new (ghosts.output old) status None why w says) (without why (directory (ghosts.disk old).reads) files is none (miss.reason r));
   }
     where
-      named : IsTrue told.tells_reads → status ≡ 75 → NamesWhole (IsTrue told.tells_all) (directory (told.disk new).reads) (told.output new)
+      named : IsTrue ghosts.tells_reads → status ≡ 75 → NamesWhole (IsTrue ghosts.tells_all) (directory (ghosts.disk new).reads) (ghosts.output new)
       named r e = ⊎_elim
           (λ whole. record {
             why = why;
-            before = told.output mid;
-            put = λ t. whole.1 t ∙ ap (λ (n : ℕ). told.output mid ++ stop_text None n why) (sym whole.0 ∙ e);
-            refusal = subst (λ (d : Option Dir). IsRefusal why check_meaning d) (sym (ap directory (says.reads r) ∙ miss.same r)) (refusal why (directory (told.disk old).reads) (miss.reason r));
+            before = ghosts.output mid;
+            put = λ t. whole.1 t ∙ ap (λ (n : ℕ). ghosts.output mid ++ stop_text None n why) (sym whole.0 ∙ e);
+            refusal = subst (λ (d : Option Dir). IsRefusal why check_meaning d) (sym (ap directory (says.reads r) ∙ miss.same r)) (refusal why (directory (ghosts.disk old).reads) (miss.reason r));
           })
           (λ cut. absurd (omega (arith, e, cut.0)))
           says.line
 
-      no_list : IsTrue told.tells_reads → why ≡ whys.NoList → MissesList (IsTrue told.tells_all) status (told.output old) (told.output new)
+      no_list : IsTrue ghosts.tells_reads → why ≡ whys.NoList → MissesList (IsTrue ghosts.tells_all) status (ghosts.output old) (ghosts.output new)
       no_list r is = ⊎_elim
-          (λ whole. inl (whole.0 ∙ ap status_of_why is, λ t. whole.1 t ∙ ap (λ (w : Why). told.output mid ++ stop_text None (status_of_why w) w) is ∙ ap (λ (o : Text). o ++ stop_text None 75 whys.NoList) (miss.output t)))
+          (λ whole. inl (whole.0 ∙ ap status_of_why is, λ t. whole.1 t ∙ ap (λ (w : Why). ghosts.output mid ++ stop_text None (status_of_why w) w) is ∙ ap (λ (o : Text). o ++ stop_text None 75 whys.NoList) (miss.output t)))
           (λ cut. inr (inr (inl cut.0)))
           says.line
 
-  pub missed : Exercises told count old new status
+  pub missed : Exercises ghosts count old new status
   unfolding missed_list
   missed = record {
     does = missed_list;
-    moments = λ t q state. ⊎_elim (λ early. inl early)
-        (λ late. inr (first_weaker told.moment told.left_since told.disk told.output told.syncs old new (Now (told.disk old) (told.output old)) (IsAfterSome q (items_of q count) (told.output old)) (Now (told.disk old) (told.output old)) (IsExercising q count (told.output old))
+    instants = λ t q state. ⊎_elim (λ early. inl early)
+        (λ late. inr (first_weaker ghosts.instant ghosts.left_since ghosts.disk ghosts.output ghosts.syncs old new (Now (ghosts.disk old) (ghosts.output old)) (IsAfterSome q (items_of q count) (ghosts.output old)) (Now (ghosts.disk old) (ghosts.output old)) (IsExercising q count (ghosts.output old))
         late (λ left out p. p) (λ left out p. inl p)))
         (after_some t q state);
     anywhere = λ r files here. record {
       first = [];
-      group = [];
+      batch = [];
       row = nothing_row r files here;
-      moments = (
-        λ t. opens_weaker told old new (IsAfterFirst files [] (told.output old)) (IsExercisingAt files [] [] count (told.output old)) (nothing_opens t files here) (λ left out p. inl p),
-        λ now t. weaker told.moment told.left_since told.disk told.output old new (IsAfterFirst files [] (told.output old)) (IsExercisingAt files [] [] count (told.output old))
-            ((each_moment told files [] old new here (λ u. nothing_opens u files here)).1 now t) (λ left out p. inl p),
+      instants = (
+        λ t. opens_weaker ghosts old new (IsAfterFirst files [] (ghosts.output old)) (IsExercisingAt files [] [] count (ghosts.output old)) (nothing_opens t files here) (λ left out p. inl p),
+        λ now t. weaker ghosts.instant ghosts.left_since ghosts.disk ghosts.output old new (IsAfterFirst files [] (ghosts.output old)) (IsExercisingAt files [] [] count (ghosts.output old))
+            ((each_instant ghosts files [] old new here (λ u. nothing_opens u files here)).1 now t) (λ left out p. inl p),
       );
     };
   }

@@ -13,7 +13,7 @@ use Rattle.ml_plain.specs.Directory.{IsState}
 use Rattle.ml_plain.specs.Histories.{State}
 use Rattle.ml_plain.specs.Plain.{Plain}
 use Rattle.ml_site.specs.Disk.{Disk, Giving, IsAtRest, IsImage}
-use Rattle.ml_site.specs.Moments.{LeavesOnly}
+use Rattle.ml_site.specs.Instants.{LeavesOnly}
 use Rattle.ml_site.specs.declared.site.Site.{Ghosts}
 use Rattle.ml_site.proofs.Steps.{at_start, goes_on, joins, rest_contents}
 use Rattle.ml_journal.specs.Calls.{OnlyNow}
@@ -88,44 +88,44 @@ plain_known : (b : Bool) → (b || (false && true) || (false && true)) ≡ true 
 plain_known true is = refl
 plain_known false is = is
 
-module _ {S : Type 0} (told : Ghosts S) (reads_told : IsTrue told.tells_all → IsTrue told.tells_reads) (only_now : OnlyNow told) (count : ℕ) (old mid : S) (line : ℕ) (tells : Tells told old mid line (exercised_line count)) where
-  state_at : IsTrue told.tells_reads → (q : State) → HasState (directory (told.disk old).reads) q → HasState (directory (told.disk mid).reads) q
-  state_at r q state = same_state (directory (told.disk old).reads) (directory (told.disk mid).reads) q (ap directory (tells.reads r)) state
+module _ {S : Type 0} (ghosts : Ghosts S) (reads_told : IsTrue ghosts.tells_all → IsTrue ghosts.tells_reads) (only_now : OnlyNow ghosts) (count : ℕ) (old mid : S) (line : ℕ) (tells : Tells ghosts old mid line (exercised_line count)) where
+  state_at : IsTrue ghosts.tells_reads → (q : State) → HasState (directory (ghosts.disk old).reads) q → HasState (directory (ghosts.disk mid).reads) q
+  state_at r q state = same_state (directory (ghosts.disk old).reads) (directory (ghosts.disk mid).reads) q (ap directory (tells.reads r)) state
 
-  -- the moments of the line of how many items there were
-  line_moments : IsAtRest (told.disk old) → (q : State) → IsTrue told.tells_all
-      → LeavesOnly told.moment told.left_since told.disk told.output old mid (IsLooking (directory (told.disk old).reads) count q.plain (told.output old))
-  line_moments rest q t =
+  -- the instants of the line of how many items there were
+  line_instants : IsAtRest (ghosts.disk old) → (q : State) → IsTrue ghosts.tells_all
+      → LeavesOnly ghosts.instant ghosts.left_since ghosts.disk ghosts.output old mid (IsLooking (directory (ghosts.disk old).reads) count q.plain (ghosts.output old))
+  line_instants rest q t =
       let lines = two_lines count q.plain in
-      let P = IsLooking (directory (told.disk old).reads) count q.plain (told.output old) in
-      goes_on told.moment told.left_since told.disk told.output old old mid P (Giving (told.disk old) (told.output old) (exercised_line count))
-      (at_start told.moment told.left_since told.disk told.output (λ site left out l. only_now site left out t l) old P rest (λ left is out put. (ap directory is, inl (nothing_out lines (told.output old) out put))))
+      let P = IsLooking (directory (ghosts.disk old).reads) count q.plain (ghosts.output old) in
+      goes_on ghosts.instant ghosts.left_since ghosts.disk ghosts.output old old mid P (Giving (ghosts.disk old) (ghosts.output old) (exercised_line count))
+      (at_start ghosts.instant ghosts.left_since ghosts.disk ghosts.output (λ site left out l. only_now site left out t l) old P rest (λ left is out put. (ap directory is, inl (nothing_out lines (ghosts.output old) out put))))
       (tells.time t)
-      (λ left out g. (ap directory (rest_contents (told.disk old) left rest g.0), inl (front_longer (exercised_line count) (whole_line (sizes_of q.plain)) (told.output old) out g.1)))
-      (λ left image. (subst (λ (d : Disk). IsImage d left) (tells.disk_is t) image, tells_front told old mid line (exercised_line count) tells t))
+      (λ left out g. (ap directory (rest_contents (ghosts.disk old) left rest g.0), inl (front_longer (exercised_line count) (whole_line (sizes_of q.plain)) (ghosts.output old) out g.1)))
+      (λ left image. (subst (λ (d : Disk). IsImage d left) (tells.disk_is t) image, tells_front ghosts old mid line (exercised_line count) tells t))
 
   -- the same, whatever the directory holds
-  any_moments : IsAtRest (told.disk old) → IsTrue told.tells_all
-      → LeavesOnly told.moment told.left_since told.disk told.output old mid (IsLookingAt (directory (told.disk old).reads) count (told.output old))
-  any_moments rest t =
-      let P = IsLookingAt (directory (told.disk old).reads) count (told.output old) in
-      goes_on told.moment told.left_since told.disk told.output old old mid P (Giving (told.disk old) (told.output old) (exercised_line count))
-      (at_start told.moment told.left_since told.disk told.output (λ site left out l. only_now site left out t l) old P rest (λ left is out put. (ap directory is, inl (nothing_out (exercised_line count) (told.output old) out put))))
+  any_instants : IsAtRest (ghosts.disk old) → IsTrue ghosts.tells_all
+      → LeavesOnly ghosts.instant ghosts.left_since ghosts.disk ghosts.output old mid (IsLookingAt (directory (ghosts.disk old).reads) count (ghosts.output old))
+  any_instants rest t =
+      let P = IsLookingAt (directory (ghosts.disk old).reads) count (ghosts.output old) in
+      goes_on ghosts.instant ghosts.left_since ghosts.disk ghosts.output old old mid P (Giving (ghosts.disk old) (ghosts.output old) (exercised_line count))
+      (at_start ghosts.instant ghosts.left_since ghosts.disk ghosts.output (λ site left out l. only_now site left out t l) old P rest (λ left is out put. (ap directory is, inl (nothing_out (exercised_line count) (ghosts.output old) out put))))
       (tells.time t)
-      (λ left out g. (ap directory (rest_contents (told.disk old) left rest g.0), inl g.1))
-      (λ left image. (subst (λ (d : Disk). IsImage d left) (tells.disk_is t) image, tells_front told old mid line (exercised_line count) tells t))
+      (λ left out g. (ap directory (rest_contents (ghosts.disk old) left rest g.0), inl g.1))
+      (λ left image. (subst (λ (d : Disk). IsImage d left) (tells.disk_is t) image, tells_front ghosts old mid line (exercised_line count) tells t))
 
   -- the output failed before the list was looked over
-  pub cut_short : (line ≡ 0 → ⊥) → SumsUp told count old mid line
+  pub cut_short : (line ≡ 0 → ⊥) → SumsUp ghosts count old mid line
   cut_short bad = ⊎_elim (λ whole. absurd (bad whole.0)) go tells.line_is
     where
-      go : ((line ≡ 73) × Rose (told.output_faults old) (told.output_faults mid) × (IsTrue told.tells_all → (n : ℕ) × (told.output mid ≡ told.output old ++ take n (exercised_line count)))) → SumsUp told count old mid line
+      go : ((line ≡ 73) × Rose (ghosts.output_faults old) (ghosts.output_faults mid) × (IsTrue ghosts.tells_all → (n : ℕ) × (ghosts.output mid ≡ ghosts.output old ++ take n (exercised_line count)))) → SumsUp ghosts count old mid line
       go cut = record {
         known = subst (λ (n : ℕ). is_reading_status n ≡ true) (sym cut.0) refl;
         same = λ r. ap directory (tells.reads r);
-        given = λ r q state. inr (inr (cut.0, λ t. inl (front_longer (exercised_line count) (whole_line (sizes_of q.plain)) (told.output old) (told.output mid) (cut.2 t))));
-        at_rest = λ rest q state t. line_moments rest q t;
-        anywhere = any_moments;
+        given = λ r q state. inr (inr (cut.0, λ t. inl (front_longer (exercised_line count) (whole_line (sizes_of q.plain)) (ghosts.output old) (ghosts.output mid) (cut.2 t))));
+        at_rest = λ rest q state t. line_instants rest q t;
+        anywhere = any_instants;
         rest = λ none one two. absurd (two cut.0);
         gate = λ some one two three. absurd (two cut.0);
         of_disk = λ e. let is = cut.0 in absurd (omega (arith, e, is));
@@ -134,51 +134,51 @@ module _ {S : Type 0} (told : Ghosts S) (reads_told : IsTrue told.tells_all → 
       }
 
   -- the list was looked over
-  module _ (new : S) (status : ℕ) (gives : GivesAnswer told check_meaning mid new status) (zero : line ≡ 0) where
-    line_out : IsTrue told.tells_all → told.output mid ≡ told.output old ++ exercised_line count
+  module _ (new : S) (status : ℕ) (gives : GivesAnswer ghosts check_meaning mid new status) (zero : line ≡ 0) where
+    line_out : IsTrue ghosts.tells_all → ghosts.output mid ≡ ghosts.output old ++ exercised_line count
     line_out t = ⊎_elim (λ whole. whole.1 t) (λ cut. let is = cut.0 in absurd (omega (arith, zero, is))) tells.line_is
 
-    read_named : IsTrue told.tells_reads → status ≡ 75 → NamesWhole (IsTrue told.tells_all) (directory (told.disk new).reads) (told.output new)
+    read_named : IsTrue ghosts.tells_reads → status ≡ 75 → NamesWhole (IsTrue ghosts.tells_all) (directory (ghosts.disk new).reads) (ghosts.output new)
     read_named r e = go (gives.given r)
       where
-        go : Reads (IsTrue told.tells_all) status check_meaning (directory (told.disk mid).reads) (told.output mid) (told.output new) → NamesWhole (IsTrue told.tells_all) (directory (told.disk new).reads) (told.output new)
+        go : Reads (IsTrue ghosts.tells_all) status check_meaning (directory (ghosts.disk mid).reads) (ghosts.output mid) (ghosts.output new) → NamesWhole (IsTrue ghosts.tells_all) (directory (ghosts.disk new).reads) (ghosts.output new)
         go (inl whole) = absurd (omega (arith, whole.status_is, e))
         go (inr (inl refused)) = record {
           why = refused.why;
-          before = told.output mid;
-          put = λ t. refused.put t ∙ ap (λ (n : ℕ). told.output mid ++ stop_text None n refused.why) e;
+          before = ghosts.output mid;
+          put = λ t. refused.put t ∙ ap (λ (n : ℕ). ghosts.output mid ++ stop_text None n refused.why) e;
           refusal = subst (λ (d : Option Dir). IsRefusal refused.why check_meaning d) (sym (gives.same r)) refused.refusal;
         }
         go (inr (inr cut)) = absurd (omega (arith, cut.status_is, e))
 
-    pub looked_over : SumsUp told count old new status
+    pub looked_over : SumsUp ghosts count old new status
     looked_over = record {
       known = plain_known (is_reading_status status) gives.known;
       same = λ r. gives.same r ∙ ap directory (tells.reads r);
       given = λ r q state.
           let here = state_at r q state in
-          tells_of (IsTrue told.tells_all) status (directory (told.disk mid).reads) q count (told.output old) (told.output mid) (told.output new) here line_out
+          tells_of (IsTrue ghosts.tells_all) status (directory (ghosts.disk mid).reads) q count (ghosts.output old) (ghosts.output mid) (ghosts.output new) here line_out
           (gives.complete r here.files q here.is here.stands) (gives.given r);
       at_rest = λ rest q state t.
           let r = reads_told t in
           let here = state_at r q state in
-          let still : IsAtRest (told.disk mid) = subst (λ (d : Disk). IsAtRest d) (sym (tells.disk_is t)) rest in
-          joins told.moment told.left_since told.disk told.output old mid new (IsLooking (directory (told.disk old).reads) count q.plain (told.output old)) (IsLeftByReading check_meaning (directory (told.disk mid).reads) (told.output mid))
-          (IsLooking (directory (told.disk old).reads) count q.plain (told.output old)) (line_moments rest q t) (gives.at_rest still t) (λ left out p. p)
-          (λ left out p. (p.0 ∙ ap directory (tells.reads r), front_is (directory (told.disk mid).reads) q count (told.output old) (told.output mid) out here (line_out t) p.1));
+          let still : IsAtRest (ghosts.disk mid) = subst (λ (d : Disk). IsAtRest d) (sym (tells.disk_is t)) rest in
+          joins ghosts.instant ghosts.left_since ghosts.disk ghosts.output old mid new (IsLooking (directory (ghosts.disk old).reads) count q.plain (ghosts.output old)) (IsLeftByReading check_meaning (directory (ghosts.disk mid).reads) (ghosts.output mid))
+          (IsLooking (directory (ghosts.disk old).reads) count q.plain (ghosts.output old)) (line_instants rest q t) (gives.at_rest still t) (λ left out p. p)
+          (λ left out p. (p.0 ∙ ap directory (tells.reads r), front_is (directory (ghosts.disk mid).reads) q count (ghosts.output old) (ghosts.output mid) out here (line_out t) p.1));
       anywhere = λ rest t.
           let same = ap directory (tells.reads (reads_told t)) in
-          let still : IsAtRest (told.disk mid) = subst (λ (d : Disk). IsAtRest d) (sym (tells.disk_is t)) rest in
-          let P = IsLookingAt (directory (told.disk old).reads) count (told.output old) in
-          joins told.moment told.left_since told.disk told.output old mid new P (IsLeftByReading check_meaning (directory (told.disk mid).reads) (told.output mid)) P (any_moments rest t) (gives.at_rest still t) (λ left out p. p)
+          let still : IsAtRest (ghosts.disk mid) = subst (λ (d : Disk). IsAtRest d) (sym (tells.disk_is t)) rest in
+          let P = IsLookingAt (directory (ghosts.disk old).reads) count (ghosts.output old) in
+          joins ghosts.instant ghosts.left_since ghosts.disk ghosts.output old mid new P (IsLeftByReading check_meaning (directory (ghosts.disk mid).reads) (ghosts.output mid)) P (any_instants rest t) (gives.at_rest still t) (λ left out p. p)
           (λ left out p. (
             p.0 ∙ same,
-            inr (subst (λ (d : Option Dir). IsFront check_meaning d (told.output old ++ exercised_line count) out) same
-                (subst (λ (b : Text). IsFront check_meaning (directory (told.disk mid).reads) b out) (line_out t) p.1)),
+            inr (subst (λ (d : Option Dir). IsFront check_meaning d (ghosts.output old ++ exercised_line count) out) same
+                (subst (λ (b : Text). IsFront check_meaning (directory (ghosts.disk mid).reads) b out) (line_out t) p.1)),
           ));
-      rest = λ none one two. gives.rest (λ rose. none (subst (λ (n : ℕ). Rose n (told.disk_faults new)) tells.disk_faults rose)) one two;
+      rest = λ none one two. gives.rest (λ rose. none (subst (λ (n : ℕ). Rose n (ghosts.disk_faults new)) tells.disk_faults rose)) one two;
       gate = λ some one two three r. gives.gate (subst (λ (d : Option Dir). IsSome d) (sym (ap directory (tells.reads r))) some) one two three r;
-      of_disk = λ e. subst (λ (n : ℕ). Rose n (told.disk_faults new)) tells.disk_faults (gives.of_disk e);
-      of_output = λ e. rose_earlier (told.output_faults old) (told.output_faults mid) (told.output_faults new) tells.output_faults (gives.of_output e);
+      of_disk = λ e. subst (λ (n : ℕ). Rose n (ghosts.disk_faults new)) tells.disk_faults (gives.of_disk e);
+      of_output = λ e. rose_earlier (ghosts.output_faults old) (ghosts.output_faults mid) (ghosts.output_faults new) tells.output_faults (gives.of_output e);
       named = read_named;
     }

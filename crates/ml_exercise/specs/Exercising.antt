@@ -17,7 +17,7 @@ use Rattle.ml_journal.specs.Calls.{Leaves}
 use Rattle.ml_journal.specs.Log.{directory}
 use Rattle.ml_ending.specs.Endings.{MissesList, Opens}
 use Rattle.ml_reading.specs.Readings.{IsHindered, is_reading_status}
-use Rattle.ml_run.specs.Anywhere.{Done, after, answers_of, AtEachMoment, IsAfterFirst, IsRow}
+use Rattle.ml_run.specs.Anywhere.{Done, after, answers_of, AtEachInstant, IsAfterFirst, IsRow}
 use Rattle.ml_run.specs.Endings.{CutOff, Names, Stopped}
 use Rattle.ml_run.specs.Leaving.{HasState, IsAfterSome}
 use Rattle.ml_stream.specs.Stream.{StreamEnd, End}
@@ -42,7 +42,7 @@ pub record IsTelling (q : State) (count : ℕ) (before : Text) (left : Contents)
   pub state : HasState (directory left) (state_after q count)
   pub put : IsSummingUp count (state_after q count).plain (answered_all q count before) out
 
--- At every moment: as in a run of the items, or after all of them.
+-- At every instant: as in a run of the items, or after all of them.
 abbrev pub IsExercising : State → ℕ → Text → Contents → Text → Type 0
 IsExercising q count before left out = IsAfterSome q (items_of q count) before left out ⊎ IsTelling q count before left out
 
@@ -86,39 +86,39 @@ pub record IsToldAfter (files : Dir) (done : List Done) (count : ℕ) (before : 
   pub dir : directory left ≡ Some (after files done)
   pub put : IsToldOf (Some (after files done)) count (before ++ answers_of done) out
 
--- At every moment, whatever the directory holds: as in a run of the items, or after all of them.
+-- At every instant, whatever the directory holds: as in a run of the items, or after all of them.
 abbrev pub IsExercisingAt : Dir → List Done → List Done → ℕ → Text → Contents → Text → Type 0
-IsExercisingAt files first group count before left out = IsAfterFirst files (first ++ group) before left out ⊎ IsToldAfter files first count before left out
+IsExercisingAt files first batch count before left out = IsAfterFirst files (first ++ batch) before left out ⊎ IsToldAfter files first count before left out
 
--- What an exercise does on a directory, whatever it holds: there is a row of its items as in a run, and this holds at every moment (M).
-pub record ExercisesItems {S : Type 0} (told : Ghosts S) (M : (Contents → Text → Type 0) → Type 0) (count status answered : ℕ) (old new : S) (files : Dir) : Type 0 where
+-- What an exercise does on a directory, whatever it holds: there is a row of its items as in a run, and this holds at every instant (M).
+pub record ExercisesItems {S : Type 0} (ghosts : Ghosts S) (M : (Contents → Text → Type 0) → Type 0) (count status answered : ℕ) (old new : S) (files : Dir) : Type 0 where
   pub first : List Done
-  pub group : List Done
-  pub row : IsRow told (IsExercised files count) count status answered new files first group
-  pub moments : M (IsExercisingAt files first group count (told.output old))
+  pub batch : List Done
+  pub row : IsRow ghosts (IsExercised files count) count status answered new files first batch
+  pub instants : M (IsExercisingAt files first batch count (ghosts.output old))
 
--- What an exercise of so many items does, and how many of them it answers, except for the moments of its opening.
-pub record ExercisesList {S : Type 0} (told : Ghosts S) (count : ℕ) (old new : S) (status : ℕ) : Type 0 where
+-- What an exercise of so many items does, and how many of them it answers, except for the instants of its opening.
+pub record ExercisesList {S : Type 0} (ghosts : Ghosts S) (count : ℕ) (old new : S) (status : ℕ) : Type 0 where
   pub answered : ℕ
   pub known : IsTrue (is_reading_status status)
-  pub whole : IsTrue told.tells_reads → (q : State) → HasState (directory (told.disk old).reads) q
-      → Ends (IsTrue told.tells_all) status answered (told.disk new).reads (told.output new) q count (told.output old)
-  pub at_rest : IsAtRest (told.disk old) → (q : State) → HasState (directory (told.disk old).reads) q
-      → Leaves told old new (IsExercising q count (told.output old))
-  pub anywhere : IsTrue told.tells_reads → (files : Dir) → directory (told.disk old).reads ≡ Some files
-      → ExercisesItems told (λ P. IsAtRest (told.disk old) → Leaves told old new P) count status answered old new files
-  pub rest : (Rose (told.disk_faults old) (told.disk_faults new) → ⊥) → (status ≡ 71 → ⊥) → (status ≡ 73 → ⊥) → IsTrue told.tells_all → IsAtRest (told.disk new)
-  pub gate : IsSome (directory (told.disk old).reads) → (status ≡ 71 → ⊥) → (status ≡ 73 → ⊥) → (status ≡ 111 → ⊥) → IsTrue told.tells_reads → (told.disk new).reads.log ≡ nul ∷ []
-  pub of_disk : status ≡ 111 → Rose (told.disk_faults old) (told.disk_faults new)
-  pub of_output : status ≡ 73 → Rose (told.output_faults old) (told.output_faults new)
-  pub named : IsTrue told.tells_reads → status ≡ 75
-      → Names (IsTrue told.tells_all) (IsOfItem (directory (told.disk old).reads) count answered) (directory (told.disk old).reads) (directory (told.disk new).reads) (told.output new)
-      ⊎ NamesWhole (IsTrue told.tells_all) (directory (told.disk new).reads) (told.output new)
-  pub nolist : IsTrue told.tells_reads → (files : Dir) → directory (told.disk old).reads ≡ Some files → files config_name ≡ None → MissesList (IsTrue told.tells_all) status (told.output old) (told.output new)
+  pub whole : IsTrue ghosts.tells_reads → (q : State) → HasState (directory (ghosts.disk old).reads) q
+      → Ends (IsTrue ghosts.tells_all) status answered (ghosts.disk new).reads (ghosts.output new) q count (ghosts.output old)
+  pub at_rest : IsAtRest (ghosts.disk old) → (q : State) → HasState (directory (ghosts.disk old).reads) q
+      → Leaves ghosts old new (IsExercising q count (ghosts.output old))
+  pub anywhere : IsTrue ghosts.tells_reads → (files : Dir) → directory (ghosts.disk old).reads ≡ Some files
+      → ExercisesItems ghosts (λ P. IsAtRest (ghosts.disk old) → Leaves ghosts old new P) count status answered old new files
+  pub rest : (Rose (ghosts.disk_faults old) (ghosts.disk_faults new) → ⊥) → (status ≡ 71 → ⊥) → (status ≡ 73 → ⊥) → IsTrue ghosts.tells_all → IsAtRest (ghosts.disk new)
+  pub gate : IsSome (directory (ghosts.disk old).reads) → (status ≡ 71 → ⊥) → (status ≡ 73 → ⊥) → (status ≡ 111 → ⊥) → IsTrue ghosts.tells_reads → (ghosts.disk new).reads.log ≡ nul ∷ []
+  pub of_disk : status ≡ 111 → Rose (ghosts.disk_faults old) (ghosts.disk_faults new)
+  pub of_output : status ≡ 73 → Rose (ghosts.output_faults old) (ghosts.output_faults new)
+  pub named : IsTrue ghosts.tells_reads → status ≡ 75
+      → Names (IsTrue ghosts.tells_all) (IsOfItem (directory (ghosts.disk old).reads) count answered) (directory (ghosts.disk old).reads) (directory (ghosts.disk new).reads) (ghosts.output new)
+      ⊎ NamesWhole (IsTrue ghosts.tells_all) (directory (ghosts.disk new).reads) (ghosts.output new)
+  pub nolist : IsTrue ghosts.tells_reads → (files : Dir) → directory (ghosts.disk old).reads ≡ Some files → files config_name ≡ None → MissesList (IsTrue ghosts.tells_all) status (ghosts.output old) (ghosts.output new)
 
 -- What an exercise of so many items does. Every moment is as `IsExercising` says; if something is pending at the start, from the first sync that
 -- succeeds on.
-pub record Exercises {S : Type 0} (told : Ghosts S) (count : ℕ) (old new : S) (status : ℕ) : Type 0 where
-  pub does : ExercisesList told count old new status
-  pub moments : IsTrue told.tells_all → (q : State) → HasState (directory (told.disk old).reads) q → Opens told old new (IsExercising q count (told.output old))
-  pub anywhere : IsTrue told.tells_reads → (files : Dir) → directory (told.disk old).reads ≡ Some files → ExercisesItems told (AtEachMoment told old new) count status does.answered old new files
+pub record Exercises {S : Type 0} (ghosts : Ghosts S) (count : ℕ) (old new : S) (status : ℕ) : Type 0 where
+  pub does : ExercisesList ghosts count old new status
+  pub instants : IsTrue ghosts.tells_all → (q : State) → HasState (directory (ghosts.disk old).reads) q → Opens ghosts old new (IsExercising q count (ghosts.output old))
+  pub anywhere : IsTrue ghosts.tells_reads → (files : Dir) → directory (ghosts.disk old).reads ≡ Some files → ExercisesItems ghosts (AtEachInstant ghosts old new) count status does.answered old new files

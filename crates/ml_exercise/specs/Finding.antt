@@ -7,10 +7,10 @@ use Rattle.ml_config.specs.ConfigFile.{config_name, IsConfigFile, IsDamagedConfi
 use Rattle.ml_config.specs.Configuration.{IsConfig}
 use Rattle.ml_config.specs.declared.configuration.Config.{Config}
 use Rattle.ml_site.specs.Disk.{IsAtRest, Now}
-use Rattle.ml_site.specs.Moments.{BeforeFirstSync, FromFirstSync}
+use Rattle.ml_site.specs.Instants.{BeforeFirstSync, FromFirstSync}
 use Rattle.ml_site.specs.declared.site.Site.{Ghosts}
 use Rattle.ml_journal.specs.Log.{directory}
-use Rattle.ml_journal.specs.Moments.{IsOld}
+use Rattle.ml_journal.specs.Instants.{IsOld}
 use Rattle.ml_ending.specs.declared.lines.Why.{Why}
 use Rattle.ml_ending.specs.declared.lines.Why.TheVariants as whys
 use Rattle.ml_ending.specs.Lines.{HasPath}
@@ -52,27 +52,27 @@ IsMiss whys.Disk = Unit {0}
 IsMiss _ = ⊥
 
 -- A site was opened and its configuration read: nothing else was changed, and nothing is pending.
-pub record Finds {S : Type 0} (told : Ghosts S) (old new : S) (config : Config) : Type 0 where
+pub record Finds {S : Type 0} (ghosts : Ghosts S) (old new : S) (config : Config) : Type 0 where
   pub range : IsConfig config
-  pub found : IsTrue told.tells_reads → HasConfig (directory (told.disk old).reads) config
-  pub same : IsTrue told.tells_reads → directory (told.disk new).reads ≡ directory (told.disk old).reads
-  pub output : IsTrue told.tells_all → told.output new ≡ told.output old
-  pub moments : IsTrue told.tells_all → FromFirstSync told.moment told.left_since told.disk told.output told.syncs old new (Now (told.disk old) (told.output old)) (IsOld (directory (told.disk old).reads) (told.output old))
-  pub rest : IsTrue told.tells_all → IsAtRest (told.disk new)
-  pub disk_later : told.disk_faults old ≤ told.disk_faults new
-  pub output_later : told.output_faults old ≤ told.output_faults new
+  pub found : IsTrue ghosts.tells_reads → HasConfig (directory (ghosts.disk old).reads) config
+  pub same : IsTrue ghosts.tells_reads → directory (ghosts.disk new).reads ≡ directory (ghosts.disk old).reads
+  pub output : IsTrue ghosts.tells_all → ghosts.output new ≡ ghosts.output old
+  pub instants : IsTrue ghosts.tells_all → FromFirstSync ghosts.instant ghosts.left_since ghosts.disk ghosts.output ghosts.syncs old new (Now (ghosts.disk old) (ghosts.output old)) (IsOld (directory (ghosts.disk old).reads) (ghosts.output old))
+  pub rest : IsTrue ghosts.tells_all → IsAtRest (ghosts.disk new)
+  pub disk_later : ghosts.disk_faults old ≤ ghosts.disk_faults new
+  pub output_later : ghosts.output_faults old ≤ ghosts.output_faults new
 
 -- No configuration was found on a site, and nothing was changed.
-pub record Misses {S : Type 0} (told : Ghosts S) (old new : S) (why : Why) : Type 0 where
+pub record Misses {S : Type 0} (ghosts : Ghosts S) (old new : S) (why : Why) : Type 0 where
   pub known : IsMiss why
   pub path : HasPath why
-  pub reason : IsTrue told.tells_reads → IsUnfound why (directory (told.disk old).reads)
-  pub same : IsTrue told.tells_reads → directory (told.disk new).reads ≡ directory (told.disk old).reads
-  pub output : IsTrue told.tells_all → told.output new ≡ told.output old
-  pub moments : IsTrue told.tells_all → BeforeFirstSync told.moment told.left_since told.disk told.output told.syncs old new (Now (told.disk old) (told.output old))
-      ⊎ FromFirstSync told.moment told.left_since told.disk told.output told.syncs old new (Now (told.disk old) (told.output old)) (IsOld (directory (told.disk old).reads) (told.output old))
-  pub rest : (why ≡ whys.Memory → ⊥) → (why ≡ whys.Disk → ⊥) → IsTrue told.tells_all → IsAtRest (told.disk new)
-  pub gate : (why ≡ whys.Memory → ⊥) → (why ≡ whys.Disk → ⊥) → IsSome (directory (told.disk old).reads) → IsTrue told.tells_reads → (told.disk new).reads.log ≡ nul ∷ []
-  pub cause : why ≡ whys.Disk → Rose (told.disk_faults old) (told.disk_faults new)
-  pub disk_later : told.disk_faults old ≤ told.disk_faults new
-  pub output_later : told.output_faults old ≤ told.output_faults new
+  pub reason : IsTrue ghosts.tells_reads → IsUnfound why (directory (ghosts.disk old).reads)
+  pub same : IsTrue ghosts.tells_reads → directory (ghosts.disk new).reads ≡ directory (ghosts.disk old).reads
+  pub output : IsTrue ghosts.tells_all → ghosts.output new ≡ ghosts.output old
+  pub instants : IsTrue ghosts.tells_all → BeforeFirstSync ghosts.instant ghosts.left_since ghosts.disk ghosts.output ghosts.syncs old new (Now (ghosts.disk old) (ghosts.output old))
+      ⊎ FromFirstSync ghosts.instant ghosts.left_since ghosts.disk ghosts.output ghosts.syncs old new (Now (ghosts.disk old) (ghosts.output old)) (IsOld (directory (ghosts.disk old).reads) (ghosts.output old))
+  pub rest : (why ≡ whys.Memory → ⊥) → (why ≡ whys.Disk → ⊥) → IsTrue ghosts.tells_all → IsAtRest (ghosts.disk new)
+  pub gate : (why ≡ whys.Memory → ⊥) → (why ≡ whys.Disk → ⊥) → IsSome (directory (ghosts.disk old).reads) → IsTrue ghosts.tells_reads → (ghosts.disk new).reads.log ≡ nul ∷ []
+  pub cause : why ≡ whys.Disk → Rose (ghosts.disk_faults old) (ghosts.disk_faults new)
+  pub disk_later : ghosts.disk_faults old ≤ ghosts.disk_faults new
+  pub output_later : ghosts.output_faults old ≤ ghosts.output_faults new

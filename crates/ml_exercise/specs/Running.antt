@@ -12,7 +12,7 @@ use Rattle.ml_journal.specs.Log.{directory}
 use Rattle.ml_run.specs.Anywhere.{RunsAnywhere}
 use Rattle.ml_run.specs.Clauses.{ClosesRun, CountsSite}
 use Rattle.ml_run.specs.Endings.{Brings, Names, Runs}
-use Rattle.ml_run.specs.Groups.{IsOfNext}
+use Rattle.ml_run.specs.Batches.{IsOfNext}
 use Rattle.ml_run.specs.Leaving.{HasState, IsAfterSome}
 use Rattle.ml_stream.specs.Stream.{End}
 use Rattle.ml_stream.specs.Writing.{stream_text}
@@ -26,15 +26,15 @@ abbrev pub is_items_status : ℕ → Bool
 is_items_status status = status == 0 || status == 71 || status == 73 || status == 75 || status == 100 || status == 111
 
 -- What a run of these items does: what `run` does with a source that never fails.
-pub record RunsItems {S : Type 0} (told : Ghosts S) (items : List Item) (count : ℕ) (old new : S) (status : ℕ) : Type 0 where
+pub record RunsItems {S : Type 0} (ghosts : Ghosts S) (items : List Item) (count : ℕ) (old new : S) (status : ℕ) : Type 0 where
   pub answered : ℕ
   pub known : IsTrue (is_items_status status)
-  pub whole : IsTrue told.tells_reads → (q : State) → HasState (directory (told.disk old).reads) q
-      → Runs (IsTrue told.tells_all) ⊥ status count answered (told.disk new).reads (told.output new) items End q (told.output old)
-  pub at_rest : IsAtRest (told.disk old) → (q : State) → HasState (directory (told.disk old).reads) q → Leaves told old new (IsAfterSome q items (told.output old))
+  pub whole : IsTrue ghosts.tells_reads → (q : State) → HasState (directory (ghosts.disk old).reads) q
+      → Runs (IsTrue ghosts.tells_all) ⊥ status count answered (ghosts.disk new).reads (ghosts.output new) items End q (ghosts.output old)
+  pub at_rest : IsAtRest (ghosts.disk old) → (q : State) → HasState (directory (ghosts.disk old).reads) q → Leaves ghosts old new (IsAfterSome q items (ghosts.output old))
   pub all : IsTrue (is_status status) → answered ≡ count
-  pub anywhere : RunsAnywhere told (Brings (Some (stream_text items))) count status answered old new
-  pub closed : ClosesRun told status old new
-  pub counts : CountsSite told status old new
-  pub named : IsTrue told.tells_reads → status ≡ 75
-      → Names (IsTrue told.tells_all) (IsOfNext (Brings (Some (stream_text items))) answered) (directory (told.disk old).reads) (directory (told.disk new).reads) (told.output new)
+  pub anywhere : RunsAnywhere ghosts (Brings (Some (stream_text items))) count status answered old new
+  pub closed : ClosesRun ghosts status old new
+  pub counts : CountsSite ghosts status old new
+  pub named : IsTrue ghosts.tells_reads → status ≡ 75
+      → Names (IsTrue ghosts.tells_all) (IsOfNext (Brings (Some (stream_text items))) answered) (directory (ghosts.disk old).reads) (directory (ghosts.disk new).reads) (ghosts.output new)

@@ -60,15 +60,15 @@ pub record NamesWhole (told : Type 0) (dir : Option Dir) (output : Text) : Type 
   pub refusal : IsRefusal why check_meaning dir
 
 -- The number of items was said, and the list looked over; its directory stays.
-pub record SumsUp {S : Type 0} (told : Ghosts S) (count : ℕ) (old new : S) (status : ℕ) : Type 0 where
+pub record SumsUp {S : Type 0} (ghosts : Ghosts S) (count : ℕ) (old new : S) (status : ℕ) : Type 0 where
   pub known : IsTrue (is_reading_status status)
-  pub same : IsTrue told.tells_reads → directory (told.disk new).reads ≡ directory (told.disk old).reads
-  pub given : IsTrue told.tells_reads → (q : State) → HasState (directory (told.disk old).reads) q → TellsOf (IsTrue told.tells_all) status count q.plain (told.output old) (told.output new)
-  pub at_rest : IsAtRest (told.disk old) → (q : State) → HasState (directory (told.disk old).reads) q
-      → Leaves told old new (IsLooking (directory (told.disk old).reads) count q.plain (told.output old))
-  pub anywhere : IsAtRest (told.disk old) → Leaves told old new (IsLookingAt (directory (told.disk old).reads) count (told.output old))
-  pub rest : (Rose (told.disk_faults old) (told.disk_faults new) → ⊥) → (status ≡ 71 → ⊥) → (status ≡ 73 → ⊥) → IsTrue told.tells_all → IsAtRest (told.disk new)
-  pub gate : IsSome (directory (told.disk old).reads) → (status ≡ 71 → ⊥) → (status ≡ 73 → ⊥) → (status ≡ 111 → ⊥) → IsTrue told.tells_reads → (told.disk new).reads.log ≡ nul ∷ []
-  pub of_disk : status ≡ 111 → Rose (told.disk_faults old) (told.disk_faults new)
-  pub of_output : status ≡ 73 → Rose (told.output_faults old) (told.output_faults new)
-  pub named : IsTrue told.tells_reads → status ≡ 75 → NamesWhole (IsTrue told.tells_all) (directory (told.disk new).reads) (told.output new)
+  pub same : IsTrue ghosts.tells_reads → directory (ghosts.disk new).reads ≡ directory (ghosts.disk old).reads
+  pub given : IsTrue ghosts.tells_reads → (q : State) → HasState (directory (ghosts.disk old).reads) q → TellsOf (IsTrue ghosts.tells_all) status count q.plain (ghosts.output old) (ghosts.output new)
+  pub at_rest : IsAtRest (ghosts.disk old) → (q : State) → HasState (directory (ghosts.disk old).reads) q
+      → Leaves ghosts old new (IsLooking (directory (ghosts.disk old).reads) count q.plain (ghosts.output old))
+  pub anywhere : IsAtRest (ghosts.disk old) → Leaves ghosts old new (IsLookingAt (directory (ghosts.disk old).reads) count (ghosts.output old))
+  pub rest : (Rose (ghosts.disk_faults old) (ghosts.disk_faults new) → ⊥) → (status ≡ 71 → ⊥) → (status ≡ 73 → ⊥) → IsTrue ghosts.tells_all → IsAtRest (ghosts.disk new)
+  pub gate : IsSome (directory (ghosts.disk old).reads) → (status ≡ 71 → ⊥) → (status ≡ 73 → ⊥) → (status ≡ 111 → ⊥) → IsTrue ghosts.tells_reads → (ghosts.disk new).reads.log ≡ nul ∷ []
+  pub of_disk : status ≡ 111 → Rose (ghosts.disk_faults old) (ghosts.disk_faults new)
+  pub of_output : status ≡ 73 → Rose (ghosts.output_faults old) (ghosts.output_faults new)
+  pub named : IsTrue ghosts.tells_reads → status ≡ 75 → NamesWhole (IsTrue ghosts.tells_all) (directory (ghosts.disk new).reads) (ghosts.output new)

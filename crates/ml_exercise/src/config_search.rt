@@ -42,7 +42,7 @@ fn look<S: Site>(alloc: Global, store: Store<S>) -> (Result<Config, Why>, S)
     ensures path { IfErr result.0 HasPath }
     ensures reads { IsTrue S.tells_reads → (S.disk result.1).reads ≡ (S.disk (site_of store)).reads }
     ensures output { IsTrue S.tells_all → S.output result.1 ≡ S.output (site_of store) }
-    ensures moments { Leaves ⟦<S as Site>⟧ (site_of store) result.1 (IsStill ⟦<S as Site>⟧ (site_of store)) }
+    ensures instants { Leaves ⟦<S as Site>⟧ (site_of store) result.1 (IsStill ⟦<S as Site>⟧ (site_of store)) }
     ensures rest { IsTrue S.tells_all → IsAtRest (S.disk result.1) }
     ensures cause { IfErr result.0 (λ why. why ≡ Why.Disk → Rose (S.disk_faults (site_of store)) (S.disk_faults result.1)) }
     ensures disk_later { S.disk_faults (site_of store) ≤ S.disk_faults result.1 }

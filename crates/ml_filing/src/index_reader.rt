@@ -13,7 +13,7 @@ ghost use Rattle.ml_filing.specs.Threads as threads;
 
 use crate::{Entries, Entry};
 use ml_base::{
-    Address, Bytes, LAST_MOMENT, LONGEST_POST, is_kept, number_within, push_netstring,
+    Address, Bytes, LAST_MOMENT, LONGEST_POST, is_canonical, number_within, push_netstring,
     push_number_netstring, split_netstring,
 };
 use std::alloc::{AllocError, Global};
@@ -24,7 +24,7 @@ fn is_sender(text: &[u8]) -> bool
     ensures some { IsTrue result → address_in text.now ≡ Some text.now }
     ensures none { result ≡ false → address_in text.now ≡ None }
 {
-    is_kept(text)
+    is_canonical(text)
 }
 
 // The four texts of an entry, and what comes after them.
@@ -80,7 +80,7 @@ fn entry_of(alloc: Global, number: u64, texts: Texts<'_>) -> Result<Option<Entry
     let Some(size) = number_within(LONGEST_POST, texts.size) else {
         return Ok(None);
     };
-    let sender = Address::from_kept(alloc, texts.sender)?;
+    let sender = Address::from_canonical(alloc, texts.sender)?;
     let subject = Bytes::from_slice(alloc, texts.subject)?;
     Ok(Some(Entry {
         number,

@@ -74,55 +74,55 @@ module _ (few more : Name → Bool) where
   pub among_alone : AreAlone few → Within few more → (old : Dir) (name : Name) → few name ≡ true → IsDamaged old name → IsDamagedAmong more old name
   among_alone alone weak old name e bad = record { damaged = bad; none = λ dir p alike is. alone old dir p is name e (alike name (weak name e)) bad }
 
-  module _ {F : Type 0} {may_write : Name → Bool} {told : Ghosts F} {r : Result (List Put × Reply) PartError} where
+  module _ {F : Type 0} {may_write : Name → Bool} {ghosts : Ghosts F} {r : Result (List Put × Reply) PartError} where
     -- an act that looks at fewer files, or at files like these
-    pub act_more : {old new : F} → Within few more → AnswersLooking may_write told few old new r → AnswersLooking may_write told more old new r
+    pub act_more : {old new : F} → Within few more → AnswersLooking may_write ghosts few old new r → AnswersLooking may_write ghosts more old new r
     act_more {old = old} {new = new} weak act =
-        act_so told r (λ name. more name ≡ true) (IsDamagedAmong few (told.map old)) (IsDamagedAmong more (told.map old)) (λ name. few name ≡ true) old new weak
-        (λ name e bad. among_wider weak (told.map old) name bad) act
+        act_so ghosts r (λ name. more name ≡ true) (IsDamagedAmong few (ghosts.map old)) (IsDamagedAmong more (ghosts.map old)) (λ name. few name ≡ true) old new weak
+        (λ name e bad. among_wider weak (ghosts.map old) name bad) act
 
-    pub act_alone : {old new : F} → AreAlone few → Within few more → AnswersWithin may_write told (λ name. few name ≡ true) (IsDamaged (told.map old)) old new r
-        → AnswersLooking may_write told more old new r
+    pub act_alone : {old new : F} → AreAlone few → Within few more → AnswersWithin may_write ghosts (λ name. few name ≡ true) (IsDamaged (ghosts.map old)) old new r
+        → AnswersLooking may_write ghosts more old new r
     act_alone {old = old} {new = new} alone weak act =
-        act_so told r (λ name. more name ≡ true) (IsDamaged (told.map old)) (IsDamagedAmong more (told.map old)) (λ name. few name ≡ true) old new weak
-        (λ name e bad. among_alone alone weak (told.map old) name e bad) act
+        act_so ghosts r (λ name. more name ≡ true) (IsDamaged (ghosts.map old)) (IsDamagedAmong more (ghosts.map old)) (λ name. few name ≡ true) old new weak
+        (λ name e bad. among_alone alone weak (ghosts.map old) name e bad) act
 
     -- both after a call that only read
-    pub read_more : {T : Type 0} {first second third : F} {found : Result T PartError} → KeepsOn told → KeepsMap told → IsReading told first second found → Within few more
-        → AnswersLooking may_write told few second third r → AnswersLooking may_write told more first third r
+    pub read_more : {T : Type 0} {first second third : F} {found : Result T PartError} → KeepsOn ghosts → KeepsMap ghosts → IsReading ghosts first second found → Within few more
+        → AnswersLooking may_write ghosts few second third r → AnswersLooking may_write ghosts more first third r
     read_more {first = first} on maps read weak act =
-        act_after told (IsDamagedAmong few) on maps read act weak (λ t name e bad. among_wider weak (told.map first) name bad)
+        act_after ghosts (IsDamagedAmong few) on maps read act weak (λ t name e bad. among_wider weak (ghosts.map first) name bad)
 
-    pub read_alone : {T : Type 0} {first second third : F} {found : Result T PartError} → KeepsOn told → KeepsMap told → IsReading told first second found → AreAlone few → Within few more
-        → AnswersWithin may_write told (λ name. few name ≡ true) (IsDamaged (told.map second)) second third r → AnswersLooking may_write told more first third r
+    pub read_alone : {T : Type 0} {first second third : F} {found : Result T PartError} → KeepsOn ghosts → KeepsMap ghosts → IsReading ghosts first second found → AreAlone few → Within few more
+        → AnswersWithin may_write ghosts (λ name. few name ≡ true) (IsDamaged (ghosts.map second)) second third r → AnswersLooking may_write ghosts more first third r
     read_alone {first = first} on maps read alone weak act =
-        act_after told IsDamaged on maps read act weak (λ t name e bad. among_alone alone weak (told.map first) name e bad)
+        act_after ghosts IsDamaged on maps read act weak (λ t name e bad. among_alone alone weak (ghosts.map first) name e bad)
 
     -- a read that failed
-    pub read_failed : {T : Type 0} {old new : F} {e : PartError} → AreAlone few → Within few more → NamesDamaged {T = T} told (λ name. few name ≡ true) (IsDamaged (told.map old)) (Err e)
-        → IsReading {T = T} told old new (Err e) → r ≡ Err e → AnswersLooking may_write told more old new r
+    pub read_failed : {T : Type 0} {old new : F} {e : PartError} → AreAlone few → Within few more → NamesDamaged {T = T} ghosts (λ name. few name ≡ true) (IsDamaged (ghosts.map old)) (Err e)
+        → IsReading {T = T} ghosts old new (Err e) → r ≡ Err e → AnswersLooking may_write ghosts more old new r
     read_failed {old = old} {e = e} alone weak names read is =
-        act_err (named_so told (λ name. more name ≡ true) (Err e) (λ name. few name ≡ true) (IsDamaged (told.map old)) (IsDamagedAmong more (told.map old)) weak
-        (λ name f bad. among_alone alone weak (told.map old) name f bad) names) read (λ name f. f) is
+        act_err (named_so ghosts (λ name. more name ≡ true) (Err e) (λ name. few name ≡ true) (IsDamaged (ghosts.map old)) (IsDamagedAmong more (ghosts.map old)) weak
+        (λ name f bad. among_alone alone weak (ghosts.map old) name f bad) names) read (λ name f. f) is
 
-module _ {F T : Type 0} (told : Ghosts F) (r : Result T PartError) (old : Dir) (set : Set) (who : Text) where
+module _ {F T : Type 0} (ghosts : Ghosts F) (r : Result T PartError) (old : Dir) (set : Set) (who : Text) where
   -- an address that couldn't be added
-  pub named_added : NamesDamaged told (λ name. is_touched set (key who) name ≡ true) (IsUnread old set (key who) false) r
-      → NamesDamaged told (λ name. is_touched_with_mail set who name ≡ true) (IsDamagedAmong (is_touched_with_mail set who) old) r
+  pub named_added : NamesDamaged ghosts (λ name. is_touched set (key who) name ≡ true) (IsUnread old set (key who) false) r
+      → NamesDamaged ghosts (λ name. is_touched_with_mail set who name ≡ true) (IsDamagedAmong (is_touched_with_mail set who) old) r
   named_added names =
       let wider = λ (name : Name) (e : is_touched set (key who) name ≡ true). or_left (is_touched set (key who) name) (same_name name ids_name) e in
-      named_so told (λ name. is_touched_with_mail set who name ≡ true) r (λ name. is_touched set (key who) name ≡ true) (IsUnread old set (key who) false) (IsDamagedAmong (is_touched_with_mail set who) old) wider
+      named_so ghosts (λ name. is_touched_with_mail set who name ≡ true) r (λ name. is_touched set (key who) name ≡ true) (IsUnread old set (key who) false) (IsDamagedAmong (is_touched_with_mail set who) old) wider
       (λ name e bad. record {
         damaged = damage.change set (key who) false bad;
         none = λ dir p alike is. unread dir set (key who) false name (p.sets set) (unread_there old dir set (key who) (λ n t. alike n (wider n t)) false name bad) (is.sets set);
       }) names
 
   -- one that couldn't be removed
-  pub named_removed : (IsTrue told.tells → (dir : Dir) (p : Plain) → Alike (is_left_by set who) old dir → IsList dir p → IfErr r (λ e. OnDamaged e (λ _. ⊥)))
-      → NamesDamaged told (λ name. (is_touched set (key who) name || is_entry_of set who name) ≡ true) (IsDamaged old) r
-      → NamesDamaged told (λ name. is_read_to_leave set who name ≡ true) (IsDamagedAmong (is_read_to_leave set who) old) r
+  pub named_removed : (IsTrue ghosts.tells → (dir : Dir) (p : Plain) → Alike (is_left_by set who) old dir → IsList dir p → IfErr r (λ e. OnDamaged e (λ _. ⊥)))
+      → NamesDamaged ghosts (λ name. (is_touched set (key who) name || is_entry_of set who name) ≡ true) (IsDamaged old) r
+      → NamesDamaged ghosts (λ name. is_read_to_leave set who name ≡ true) (IsDamagedAmong (is_read_to_leave set who) old) r
   named_removed spared names =
-      named_of told (λ name. is_read_to_leave set who name ≡ true) r (λ (a : Dir × Plain). Alike (is_left_by set who) old a.0 × IsList a.0 a.1) (λ name. is_left_by set who name ≡ true) (IsDamaged old)
+      named_of ghosts (λ name. is_read_to_leave set who name ≡ true) r (λ (a : Dir × Plain). Alike (is_left_by set who) old a.0 × IsList a.0 a.1) (λ name. is_left_by set who name ≡ true) (IsDamaged old)
       (IsDamagedAmong (is_read_to_leave set who) old) (left_to_leave set who)
       (λ name bad none. record { damaged = bad; none = λ dir p alike is. none (dir, p) (λ n e. alike n (left_to_leave set who n e), is) })
       (λ t a same. spared t a.0 a.1 same.0 same.1) names

@@ -1,6 +1,6 @@
 // The values that say what is done about an address that is to join or leave a set.
 ghost use Rattle.std.specs.Prelude.{◌≡◌, true};
-ghost use Rattle.ml_plain.specs.KeptFiles.{is_kept};
+ghost use Rattle.ml_plain.specs.KeptFiles.{may_be_kept};
 ghost use Rattle.ml_joining.specs.Operations.{answer_reply};
 
 use ml_plain::Reply;
@@ -44,7 +44,7 @@ pub(crate) enum Leaving {
 // The reply of an answer.
 pub(crate) fn reply_of(answer: Answer) -> Reply
     ensures value { result ≡ answer_reply answer }
-    ensures kept { is_kept result ≡ true }
+    ensures kept { may_be_kept result ≡ true }
 {
     match answer {
         Answer::Private => Reply::plain(Reply::PRIVATE),

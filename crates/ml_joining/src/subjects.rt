@@ -48,7 +48,7 @@ pub fn named_address(alloc: Global, who: Who<'_>) -> Result<Address, AllocError>
     let mut text = Bytes::from_slice(alloc, who.local)?;
     text.push(b'@')?;
     text.extend(host.as_slice())?;
-    Address::from_kept(alloc, text.as_slice())
+    Address::from_canonical(alloc, text.as_slice())
 }
 
 // The address that a request is about: the one that it names, or the sender.

@@ -8,7 +8,7 @@ use Rattle.ml_base.specs.declared.puts.Put.{Put}
 use Rattle.ml_site.specs.Disk.{Contents, Range, MayLeave, log_with}
 use Rattle.ml_site.proofs.LogParts.{torn_after, torn_byte, torn_log_files}
 use Rattle.ml_journal.specs.Log.{log_puts, laid_over, directory}
-use Rattle.ml_journal.specs.Moments.{with_txn}
+use Rattle.ml_journal.specs.Instants.{with_txn}
 use Rattle.ml_journal.specs.Rows.{IsRow, IsRecord, Rests, Staged}
 use Rattle.ml_journal.proofs.Logs.{log_end, log_closed, row_of}
 

@@ -9,7 +9,7 @@ use Rattle.ml_base.specs.declared.names.Name.{Name}
 use Rattle.ml_site.specs.Clauses.{ChangesPart, OnDisk}
 use Rattle.ml_site.specs.Disk.{Contents, Part, Range, Cut, File, Disk, MayLeave, IsImage, IsAtRest, Now, Pends, Elapses, least, greatest, IsSettledAt, IsSettledFile, log_with}
 use Rattle.ml_site.specs.Images.{after_part, unchanged_part}
-use Rattle.ml_site.specs.Moments.{LeavesOnly, Within}
+use Rattle.ml_site.specs.Instants.{LeavesOnly, Within}
 use Rattle.ml_site.proofs.Steps.{goes_on, at_start}
 use Rattle.ml_site.specs.declared.site.Site.{Ghosts}
 use Rattle.ml_site.specs.declared.site.SiteError.{SiteError}
@@ -103,24 +103,24 @@ pub ok_then : {E P Q : Type 0} (result : Result (Unit {0}) E) → (P → Q) → 
 ok_then (Ok u) f p = f p
 ok_then (Err e) f p = tt
 
-module _ {S : Type 0} (told : Ghosts S) where
+module _ {S : Type 0} (ghosts : Ghosts S) where
   -- one write
   pub hands_one : (result : Result (Unit {0}) SiteError) (at : ℕ) (text : Text) (old new : S)
-      → ChangesPart told.tells_reads told.tells_all told.disk result (Range at (length text)) (log_with (told.disk old).reads at text) old new
-      → OnDisk told.tells_all told.disk told.output told.moment told.left_since told.disk_faults told.output_faults told.disk_calls old new
-      → (IsTrue told.tells_all → told.syncs new ≡ told.syncs old) → (IsTrue told.tells_all → OnOk result (told.log_bytes new ≡ told.log_bytes old + length text))
-      → (IsTrue told.tells_all → told.log_bytes old ≤ told.log_bytes new) → (IsErrOf result FailedCall → Rose (told.disk_faults old) (told.disk_faults new))
-      → Hands told result at text old new
+      → ChangesPart ghosts.tells_reads ghosts.tells_all ghosts.disk result (Range at (length text)) (log_with (ghosts.disk old).reads at text) old new
+      → OnDisk ghosts.tells_all ghosts.disk ghosts.output ghosts.instant ghosts.left_since ghosts.disk_faults ghosts.output_faults ghosts.disk_calls old new
+      → (IsTrue ghosts.tells_all → ghosts.syncs new ≡ ghosts.syncs old) → (IsTrue ghosts.tells_all → OnOk result (ghosts.log_bytes new ≡ ghosts.log_bytes old + length text))
+      → (IsTrue ghosts.tells_all → ghosts.log_bytes old ≤ ghosts.log_bytes new) → (IsErrOf result FailedCall → Rose (ghosts.disk_faults old) (ghosts.disk_faults new))
+      → Hands ghosts result at text old new
   hands_one result at text old new change on syncs bytes stay cause = record {
     reads = change.reads;
-    pends = λ t from size base low high over. more_in result from size at (length text) base (told.disk old) (told.disk new) low high (change.pends t) over;
+    pends = λ t from size base low high over. more_in result from size at (length text) base (ghosts.disk old) (ghosts.disk new) low high (change.pends t) over;
     time = λ t from size base low high over.
-        let more : IsPendingIn from size base (told.disk new) = more_in result from size at (length text) base (told.disk old) (told.disk new) low high (change.pends t) over in
+        let more : IsPendingIn from size base (ghosts.disk new) = more_in result from size at (length text) base (ghosts.disk old) (ghosts.disk new) low high (change.pends t) over in
         record {
           later = (on.time t).later;
           nothing_else = λ time left out le since. ⊎_elim
               (λ past. inl past)
-              (λ now. inr (image_in from size base (told.disk new) left more now.0, now.1 ∙ on.output t))
+              (λ now. inr (image_in from size base (ghosts.disk new) left more now.0, now.1 ∙ on.output t))
               ((on.time t).nothing_else time left out le since);
         };
     log_bytes = bytes;
@@ -136,17 +136,17 @@ module _ {S : Type 0} (told : Ghosts S) where
   }
 
   -- one text after another
-  pub hands_on : (result : Result (Unit {0}) SiteError) (at : ℕ) (one two : Text) (old mid new : S) → (IsTrue told.tells_reads → at ≤ length (told.disk old).reads.log)
-      → Hands told (Ok tt) at one old mid → Hands told result (at + length one) two mid new → Hands told result at (one ++ two) old new
+  pub hands_on : (result : Result (Unit {0}) SiteError) (at : ℕ) (one two : Text) (old mid new : S) → (IsTrue ghosts.tells_reads → at ≤ length (ghosts.disk old).reads.log)
+      → Hands ghosts (Ok tt) at one old mid → Hands ghosts result (at + length one) two mid new → Hands ghosts result at (one ++ two) old new
   hands_on result at one two old mid new place first then = record {
     reads = λ r.
         let before = first.reads r in
         let now = then.reads r in record {
-          ok = ok_then result (λ done. done ∙ ap (λ (c : Contents). log_with c (at + length one) two) before.ok ∙ with_more (told.disk old).reads at one two (place r)) now.ok;
-          part_only = as_one at (length (one ++ two)) (told.disk old).reads (told.disk new).reads (Range (at + length one) (length two) ∷ Range at (length one) ∷ [])
+          ok = ok_then result (λ done. done ∙ ap (λ (c : Contents). log_with c (at + length one) two) before.ok ∙ with_more (ghosts.disk old).reads at one two (place r)) now.ok;
+          part_only = as_one at (length (one ++ two)) (ghosts.disk old).reads (ghosts.disk new).reads (Range (at + length one) (length two) ∷ Range at (length one) ∷ [])
               (omega arith, omega (arith, length-append one two), (omega arith, omega (arith, length-append one two), tt))
-              (after_part (Range (at + length one) (length two)) (told.disk old).reads (Range at (length one) ∷ []) (told.disk mid).reads (told.disk new).reads
-              (omega (arith, ap (λ (c : Contents). length c.log) before.ok, with_long (told.disk old).reads at one (place r))) before.part_only now.part_only);
+              (after_part (Range (at + length one) (length two)) (ghosts.disk old).reads (Range at (length one) ∷ []) (ghosts.disk mid).reads (ghosts.disk new).reads
+              (omega (arith, ap (λ (c : Contents). length c.log) before.ok, with_long (ghosts.disk old).reads at one (place r))) before.part_only now.part_only);
         };
     pends = λ t from size base low high over. then.pends t from size base (omega (arith, low)) (omega (arith, high, length-append one two)) (first.pends t from size base low (omega (arith, high, length-append one two)) over);
     time = λ t from size base low high over.
@@ -160,15 +160,15 @@ module _ {S : Type 0} (told : Ghosts S) where
               (now.nothing_else time left out (omega (arith, le, before.later)) since);
         };
     log_bytes = λ t. ok_then result (λ done. omega (arith, done, first.log_bytes t, length-append one two)) (then.log_bytes t);
-    keeps = keeps_on told 0 0 0 (IsErrOf {T = Unit {0}} (Ok tt) FailedCall) (IsErrOf result FailedCall) old mid new (omega arith) first.keeps then.keeps;
+    keeps = keeps_on ghosts 0 0 0 (IsErrOf {T = Unit {0}} (Ok tt) FailedCall) (IsErrOf result FailedCall) old mid new (omega arith) first.keeps then.keeps;
   }
 
   -- an error in a text that others were to follow
-  pub hands_cut : (error : SiteError) (at : ℕ) (one two : Text) (old new : S) → Hands told (Err error) at one old new → Hands told (Err error) at (one ++ two) old new
+  pub hands_cut : (error : SiteError) (at : ℕ) (one two : Text) (old new : S) → Hands ghosts (Err error) at one old new → Hands ghosts (Err error) at (one ++ two) old new
   hands_cut error at one two old new hands = record {
     reads = λ r. record {
       ok = tt;
-      part_only = as_one at (length (one ++ two)) (told.disk old).reads (told.disk new).reads (Range at (length one) ∷ []) (omega arith, omega (arith, length-append one two), tt) (hands.reads r).part_only;
+      part_only = as_one at (length (one ++ two)) (ghosts.disk old).reads (ghosts.disk new).reads (Range at (length one) ∷ []) (omega arith, omega (arith, length-append one two), tt) (hands.reads r).part_only;
     };
     pends = λ t from size base low high over. hands.pends t from size base low (omega (arith, high, length-append one two)) over;
     time = λ t from size base low high over. hands.time t from size base low (omega (arith, high, length-append one two)) over;
@@ -177,34 +177,34 @@ module _ {S : Type 0} (told : Ghosts S) where
   }
 
   -- the same, with its result, place and text named otherwise
-  pub hands_as : (result told_as : Result (Unit {0}) SiteError) (at place : ℕ) (text other : Text) (old new : S) → told_as ≡ result → at ≡ place → text ≡ other → Hands told result at text old new → Hands told told_as place other old new
+  pub hands_as : (result told_as : Result (Unit {0}) SiteError) (at place : ℕ) (text other : Text) (old new : S) → told_as ≡ result → at ≡ place → text ≡ other → Hands ghosts result at text old new → Hands ghosts told_as place other old new
   hands_as result told_as at place text other old new same here is hands =
-      subst (λ (r : Result (Unit {0}) SiteError). Hands told r place other old new) (sym same)
-      (subst (λ (n : ℕ). Hands told result n other old new) here
-      (subst (λ (l : Text). Hands told result at l old new) is hands))
+      subst (λ (r : Result (Unit {0}) SiteError). Hands ghosts r place other old new) (sym same)
+      (subst (λ (n : ℕ). Hands ghosts result n other old new) here
+      (subst (λ (l : Text). Hands ghosts result at l old new) is hands))
 
-  module _ (only_now : OnlyNow told) where
+  module _ (only_now : OnlyNow ghosts) where
     -- what a crash leaves of a disk that was at rest
-    pub hands_leave : (result : Result (Unit {0}) SiteError) (at : ℕ) (text : Text) (old new : S) (t : IsTrue told.tells_all) → IsAtRest (told.disk old) → Hands told result at text old new
-        → LeavesOnly told.moment told.left_since told.disk told.output old new (Within (told.disk old).reads (Range at (length text) ∷ []) (told.output old))
+    pub hands_leave : (result : Result (Unit {0}) SiteError) (at : ℕ) (text : Text) (old new : S) (t : IsTrue ghosts.tells_all) → IsAtRest (ghosts.disk old) → Hands ghosts result at text old new
+        → LeavesOnly ghosts.instant ghosts.left_since ghosts.disk ghosts.output old new (Within (ghosts.disk old).reads (Range at (length text) ∷ []) (ghosts.output old))
     hands_leave result at text old new t rest hands =
-        let over : IsPendingIn at (length text) (told.disk old).reads (told.disk old) = rest_in at (length text) (told.disk old) rest in
-        let more : IsPendingIn at (length text) (told.disk old).reads (told.disk new) = hands.pends t at (length text) (told.disk old).reads (omega arith) (omega arith) over in
-        goes_on told.moment told.left_since told.disk told.output old old new (Within (told.disk old).reads (Range at (length text) ∷ []) (told.output old)) (Within (told.disk old).reads (Range at (length text) ∷ []) (told.output old))
-        (at_start told.moment told.left_since told.disk told.output (λ s left out l. only_now s left out t l) old (Within (told.disk old).reads (Range at (length text) ∷ []) (told.output old)) rest
-        (λ left is out same. (subst (MayLeave (told.disk old).reads (Range at (length text) ∷ [])) (sym is) (unchanged_part (Range at (length text)) (told.disk old).reads), same)))
-        (hands.time t at (length text) (told.disk old).reads (omega arith) (omega arith) over)
+        let over : IsPendingIn at (length text) (ghosts.disk old).reads (ghosts.disk old) = rest_in at (length text) (ghosts.disk old) rest in
+        let more : IsPendingIn at (length text) (ghosts.disk old).reads (ghosts.disk new) = hands.pends t at (length text) (ghosts.disk old).reads (omega arith) (omega arith) over in
+        goes_on ghosts.instant ghosts.left_since ghosts.disk ghosts.output old old new (Within (ghosts.disk old).reads (Range at (length text) ∷ []) (ghosts.output old)) (Within (ghosts.disk old).reads (Range at (length text) ∷ []) (ghosts.output old))
+        (at_start ghosts.instant ghosts.left_since ghosts.disk ghosts.output (λ s left out l. only_now s left out t l) old (Within (ghosts.disk old).reads (Range at (length text) ∷ []) (ghosts.output old)) rest
+        (λ left is out same. (subst (MayLeave (ghosts.disk old).reads (Range at (length text) ∷ [])) (sym is) (unchanged_part (Range at (length text)) (ghosts.disk old).reads), same)))
+        (hands.time t at (length text) (ghosts.disk old).reads (omega arith) (omega arith) over)
         (λ left out within. within)
-        (λ left is. (image_in at (length text) (told.disk old).reads (told.disk new) left more is, hands.keeps.output t))
+        (λ left is. (image_in at (length text) (ghosts.disk old).reads (ghosts.disk new) left more is, hands.keeps.output t))
 
     -- the same after a sync
-    pub synced_leave : (result : Result (Unit {0}) SiteError) (at : ℕ) (text : Text) (old mid new : S) (t : IsTrue told.tells_all) → IsAtRest (told.disk old) → Hands told result at text old mid
-        → ((left : Contents) → IsImage (told.disk new) left → IsImage (told.disk mid) left) → told.output new ≡ told.output mid
-        → Elapses (told.moment mid) (told.moment new) (told.left_since mid) (told.left_since new) (Now (told.disk new) (told.output new))
-        → LeavesOnly told.moment told.left_since told.disk told.output old new (Within (told.disk old).reads (Range at (length text) ∷ []) (told.output old))
+    pub synced_leave : (result : Result (Unit {0}) SiteError) (at : ℕ) (text : Text) (old mid new : S) (t : IsTrue ghosts.tells_all) → IsAtRest (ghosts.disk old) → Hands ghosts result at text old mid
+        → ((left : Contents) → IsImage (ghosts.disk new) left → IsImage (ghosts.disk mid) left) → ghosts.output new ≡ ghosts.output mid
+        → Elapses (ghosts.instant mid) (ghosts.instant new) (ghosts.left_since mid) (ghosts.left_since new) (Now (ghosts.disk new) (ghosts.output new))
+        → LeavesOnly ghosts.instant ghosts.left_since ghosts.disk ghosts.output old new (Within (ghosts.disk old).reads (Range at (length text) ∷ []) (ghosts.output old))
     synced_leave result at text old mid new t rest hands crash same time =
-        let more : IsPendingIn at (length text) (told.disk old).reads (told.disk mid) = hands.pends t at (length text) (told.disk old).reads (omega arith) (omega arith) (rest_in at (length text) (told.disk old) rest) in
-        goes_on told.moment told.left_since told.disk told.output old mid new (Within (told.disk old).reads (Range at (length text) ∷ []) (told.output old)) (Now (told.disk new) (told.output new))
+        let more : IsPendingIn at (length text) (ghosts.disk old).reads (ghosts.disk mid) = hands.pends t at (length text) (ghosts.disk old).reads (omega arith) (omega arith) (rest_in at (length text) (ghosts.disk old) rest) in
+        goes_on ghosts.instant ghosts.left_since ghosts.disk ghosts.output old mid new (Within (ghosts.disk old).reads (Range at (length text) ∷ []) (ghosts.output old)) (Now (ghosts.disk new) (ghosts.output new))
         (hands_leave result at text old mid t rest hands) time
-        (λ left out now. (image_in at (length text) (told.disk old).reads (told.disk mid) left more (crash left now.0), now.1 ∙ same ∙ hands.keeps.output t))
+        (λ left out now. (image_in at (length text) (ghosts.disk old).reads (ghosts.disk mid) left more (crash left now.0), now.1 ∙ same ∙ hands.keeps.output t))
         (λ left is. (is, refl))

@@ -7,10 +7,10 @@ use Rattle.ml_journal.specs.Handing.{Hands}
 use Rattle.ml_journal.specs.declared.log_writer.LogWriter.{LogWriter}
 
 -- A text was added to what was buffered. Some first bytes of both were handed to the log, and at Ok the others are buffered.
-pub record Buffers {S : Type 0} (told : Ghosts S) (result : Result (Unit {0}) SiteError) (text : Text) (before after : LogWriter) (old new : S) : Type 0 where
+pub record Buffers {S : Type 0} (ghosts : Ghosts S) (result : Result (Unit {0}) SiteError) (text : Text) (before after : LogWriter) (old new : S) : Type 0 where
   pub handed : Text
   pub left : Text
   pub all : handed ++ left ≡ before.buffered ++ text
   pub buffered : OnOk result (left ≡ after.buffered)
   pub at : OnOk result (after.at ≡ before.at + length handed)
-  pub hands : Hands told result before.at handed old new
+  pub hands : Hands ghosts result before.at handed old new

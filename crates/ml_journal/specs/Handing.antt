@@ -2,7 +2,7 @@
 use Rattle.std.specs.Prelude.{◌≡◌, ◌≤◌, ◌+◌, ℕ, IsTrue, IsErrOf, List, [], ◌∷◌, length, Result, OnOk}
 use Rattle.ml_base.specs.Bytes.{Text}
 use Rattle.ml_site.specs.Disk.{Contents, Part, Range, Cut, File, Disk, Changes, Elapses, log_with}
-use Rattle.ml_site.specs.Moments.{Within}
+use Rattle.ml_site.specs.Instants.{Within}
 use Rattle.ml_site.specs.declared.site.SiteError.{SiteError}
 use Rattle.ml_site.specs.declared.site.SiteError.TheVariants.{Failed as FailedCall}
 use Rattle.ml_site.specs.declared.site.Site.{Ghosts}
@@ -22,11 +22,11 @@ pub record IsPendingIn (at size : ℕ) (old : Contents) (disk : Disk) : Type 0 w
 
 -- A text was handed to the log from this place on, in some writes. After an error nothing outside its range differs. If the text lies in
 -- a range of which only parts were pending, the same holds after it, and a crash during it leaves nothing else.
-pub record Hands {S : Type 0} (told : Ghosts S) (result : Result (Unit {0}) SiteError) (at : ℕ) (text : Text) (old new : S) : Type 0 where
-  pub reads : IsTrue told.tells_reads → Changes result (Range at (length text)) (log_with (told.disk old).reads at text) (told.disk old).reads (told.disk new).reads
-  pub pends : IsTrue told.tells_all → (from size : ℕ) (base : Contents) → from ≤ at → at + length text ≤ from + size
-      → IsPendingIn from size base (told.disk old) → IsPendingIn from size base (told.disk new)
-  pub time : IsTrue told.tells_all → (from size : ℕ) (base : Contents) → from ≤ at → at + length text ≤ from + size
-      → IsPendingIn from size base (told.disk old) → Elapses (told.moment old) (told.moment new) (told.left_since old) (told.left_since new) (Within base (Range from size ∷ []) (told.output old))
-  pub log_bytes : IsTrue told.tells_all → OnOk result (told.log_bytes new ≡ told.log_bytes old + length text)
-  pub keeps : Keeps told 0 (IsErrOf result FailedCall) old new
+pub record Hands {S : Type 0} (ghosts : Ghosts S) (result : Result (Unit {0}) SiteError) (at : ℕ) (text : Text) (old new : S) : Type 0 where
+  pub reads : IsTrue ghosts.tells_reads → Changes result (Range at (length text)) (log_with (ghosts.disk old).reads at text) (ghosts.disk old).reads (ghosts.disk new).reads
+  pub pends : IsTrue ghosts.tells_all → (from size : ℕ) (base : Contents) → from ≤ at → at + length text ≤ from + size
+      → IsPendingIn from size base (ghosts.disk old) → IsPendingIn from size base (ghosts.disk new)
+  pub time : IsTrue ghosts.tells_all → (from size : ℕ) (base : Contents) → from ≤ at → at + length text ≤ from + size
+      → IsPendingIn from size base (ghosts.disk old) → Elapses (ghosts.instant old) (ghosts.instant new) (ghosts.left_since old) (ghosts.left_since new) (Within base (Range from size ∷ []) (ghosts.output old))
+  pub log_bytes : IsTrue ghosts.tells_all → OnOk result (ghosts.log_bytes new ≡ ghosts.log_bytes old + length text)
+  pub keeps : Keeps ghosts 0 (IsErrOf result FailedCall) old new

@@ -18,11 +18,11 @@ pub record Beside (puts : BTreeMap Name (Option Text)) (old new : Contents) : Ty
   pub log : new.log ≡ old.log
   pub files : (name : Name) → newest_of puts name ≡ None → new.files name ≡ old.files name
 
--- the files of these puts were laid down: at every moment, and after an error, only these files differ
-pub record LaysFiles {S E : Type 0} (told : Ghosts S) (result : Result (Unit {0}) E) (puts : BTreeMap Name (Option Text)) (old new : S) : Type 0 where
-  pub reads : IsTrue told.tells_reads → OnOk result ((told.disk new).reads ≡ laid_down puts (told.disk old).reads)
-  pub beside : IsTrue told.tells_reads → Beside puts (told.disk old).reads (told.disk new).reads
-  pub moments : Leaves told old new (λ left out. Beside puts (told.disk old).reads left × (out ≡ told.output old))
+-- the files of these puts were laid down: at every instant, and after an error, only these files differ
+pub record LaysFiles {S E : Type 0} (ghosts : Ghosts S) (result : Result (Unit {0}) E) (puts : BTreeMap Name (Option Text)) (old new : S) : Type 0 where
+  pub reads : IsTrue ghosts.tells_reads → OnOk result ((ghosts.disk new).reads ≡ laid_down puts (ghosts.disk old).reads)
+  pub beside : IsTrue ghosts.tells_reads → Beside puts (ghosts.disk old).reads (ghosts.disk new).reads
+  pub instants : Leaves ghosts old new (λ left out. Beside puts (ghosts.disk old).reads left × (out ≡ ghosts.output old))
 
 -- only files of these puts are pending, over these contents
 abbrev pub IsOver : BTreeMap Name (Option Text) → Contents → Disk → Type 0

@@ -5,7 +5,7 @@ pub mod Found
 pub mod Rows
 pub mod Table
 pub mod Laying
-pub mod Moments
+pub mod Instants
 pub mod Calls
 pub mod Handing
 pub mod Buffering

@@ -7,11 +7,11 @@ use Rattle.ml_journal.specs.Records.{spelled_record}
 use Rattle.ml_journal.specs.declared.store.Store.{Store}
 
 -- the site that a store owns
-abbrev pub site_of : {S : Type 0} {told : Ghosts S} → Store S told → S
+abbrev pub site_of : {S : Type 0} {ghosts : Ghosts S} → Store S ghosts → S
 site_of store = store.site
 
 -- the site that a store owns, or that is handed back with an error
-abbrev pub site_after : {S E : Type 0} {told : Ghosts S} → Result (Store S told) (E × S) → S
+abbrev pub site_after : {S E : Type 0} {ghosts : Ghosts S} → Result (Store S ghosts) (E × S) → S
 site_after (Ok store) = store.site
 site_after (Err error) = error.1
 

@@ -23,7 +23,7 @@ fn lay_one<S: Site>(
     requires { IsTrue (is_file name) }
     ensures change { ChangesPart S.tells_reads S.tells_all S.disk result (File name)
         (file_with (S.disk site.old).reads name bytes.now) site.old site.new }
-    ensures keeps { OnDisk S.tells_all S.disk S.output S.moment S.left_since S.disk_faults S.output_faults S.disk_calls site.old site.new }
+    ensures keeps { OnDisk S.tells_all S.disk S.output S.instant S.left_since S.disk_faults S.output_faults S.disk_calls site.old site.new }
     ensures numbers { SameNumbers S.tells_all S.syncs S.log_bytes site.old site.new }
     ensures cause { IsErrOf result FailedCall → Rose (S.disk_faults site.old) (S.disk_faults site.new) }
 {

@@ -2,12 +2,12 @@
 //! whenever a crash comes.
 #![tactic(auto)]
 
+mod appended_record;
 mod errors;
 mod laid_files;
 mod laws;
 mod log_additions;
 mod log_changes;
-mod log_end;
 mod log_files;
 mod log_reader;
 mod log_writer;

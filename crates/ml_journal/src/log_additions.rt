@@ -5,13 +5,13 @@ ghost use Rattle.ml_site.specs.declared.site.SiteError.TheVariants.{Failed as Fa
 ghost use Rattle.ml_site.specs.Disk.{IsAtRest};
 ghost use Rattle.ml_journal.specs.Log.{directory};
 ghost use Rattle.ml_journal.specs.Calls.{ChangesDirectory, Keeps, KeepsDirectory};
-ghost use Rattle.ml_journal.specs.Moments.{with_txn};
+ghost use Rattle.ml_journal.specs.Instants.{with_txn};
 ghost use Rattle.ml_journal.specs.Newest.{with_newest};
 ghost use Rattle.ml_journal.specs.Records.{content_size, spelled_record};
 ghost use Rattle.ml_journal.specs.Rows.{Rests};
 ghost use Rattle.ml_journal.specs.Spending.{Spends, SpendsAtMost};
 
-use crate::log_end::append;
+use crate::appended_record::append;
 use crate::log_files::lay_down;
 use crate::newest_puts::Newest;
 use crate::record_writer::{digits_size, puts_size};

@@ -7,7 +7,7 @@ use Rattle.std.specs.List.Sorted.{IsPermutation, IsSortedByKey}
 use Rattle.ml_base.specs.Bytes.{Text}
 use Rattle.ml_base.specs.Sorted.{byte_cmp, with_entry, without_key}
 use Rattle.ml_base.proofs.SortedLaws.{bytes_total, same_bytes, found_with, found_without, sorted_with, sorted_without, same_lists}
-use Rattle.ml_keyed.specs.Buckets.{place_of, through, gathered, counted, AreFirst, found, IsOrdered, IsUnion}
+use Rattle.ml_keyed.specs.Buckets.{bucket_of, through, gathered, counted, AreFirst, found, IsOrdered, IsUnion}
 use Rattle.ml_keyed.proofs.Keys.{place_below, differ}
 use Rattle.ml_keyed.proofs.Union.{merged, placed_ordered, found_merged, length_merged, sorted_joined}
 
@@ -61,7 +61,7 @@ module _ {E : Type 0} (key_of : E → Text) (IsFile : ℕ → Option Text → Li
   union_nothing file none = record { sorted = refl; buckets = λ n. []; files = none; by_key = λ k. refl }
 
   -- if every file has only keys of its number, in order
-  module _ (hashed : (n : ℕ) (file : Option Text) (es : List E) → IsFile n file es → AllByRecursion (λ e. place_of (key_of e) ≡ n) es) (ordered : (n : ℕ) (file : Option Text) (es : List E) → IsFile n file es → IsOrdered key_of es) where
+  module _ (hashed : (n : ℕ) (file : Option Text) (es : List E) → IsFile n file es → AllByRecursion (λ e. bucket_of (key_of e) ≡ n) es) (ordered : (n : ℕ) (file : Option Text) (es : List E) → IsFile n file es → IsOrdered key_of es) where
     pub union_of : (file : ℕ → Option Text) (buckets : ℕ → List E) → AreFirst IsFile file 53 buckets → IsUnion key_of IsFile file (merged key_of buckets 53)
     union_of file buckets files = record {
       sorted = placed_ordered key_of (gathered buckets 53);
@@ -82,46 +82,46 @@ module _ {E : Type 0} (key_of : E → Text) (IsFile : ℕ → Option Text → Li
   -- if a file has at most one row of records
   module _ (one : (n : ℕ) (file : Option Text) (es others : List E) → IsFile n file es → IsFile n file others → es ≡ others) where
     -- what is under a key is what the key's file has
-    pub found_there : (file : ℕ → Option Text) (whole bucket : List E) (k : Text) → IsUnion key_of IsFile file whole → IsFile (place_of k) (file (place_of k)) bucket → found key_of k whole ≡ found key_of k bucket
-    found_there file whole bucket k is there = is.by_key k ∙ ap (found key_of k) (one (place_of k) (file (place_of k)) (is.buckets (place_of k)) bucket (is.files (place_of k) (place_below k)) there)
+    pub found_there : (file : ℕ → Option Text) (whole bucket : List E) (k : Text) → IsUnion key_of IsFile file whole → IsFile (bucket_of k) (file (bucket_of k)) bucket → found key_of k whole ≡ found key_of k bucket
+    found_there file whole bucket k is there = is.by_key k ∙ ap (found key_of k) (one (bucket_of k) (file (bucket_of k)) (is.buckets (bucket_of k)) bucket (is.files (bucket_of k) (place_below k)) there)
 
     pub union_one : (file : ℕ → Option Text) (whole other : List E) → IsUnion key_of IsFile file whole → IsUnion key_of IsFile file other → whole ≡ other
     union_one file whole other is also =
         same_lists byte_cmp key_of same_bytes bytes_total whole other is.sorted also.sorted
-        (λ k. found_there file whole (also.buckets (place_of k)) k is (also.files (place_of k) (place_below k)) ∙ sym (also.by_key k))
+        (λ k. found_there file whole (also.buckets (bucket_of k)) k is (also.files (bucket_of k) (place_below k)) ∙ sym (also.by_key k))
 
     -- one file, that of a key, was written anew
-    module _ (file after : ℕ → Option Text) (whole bucket : List E) (a : Text) (bytes : Option Text) (left : (n : ℕ) → after n ≡ cond (n == place_of a) bytes (file n)) (is : IsUnion key_of IsFile file whole)
-        (there : IsFile (place_of a) (file (place_of a)) bucket) where
-      anew : (new written : List E) → IsFile (place_of a) bytes written → IsOrdered key_of new → ((k : Text) → found key_of k whole ≡ found key_of k bucket → found key_of k new ≡ found key_of k written)
+    module _ (file after : ℕ → Option Text) (whole bucket : List E) (a : Text) (bytes : Option Text) (left : (n : ℕ) → after n ≡ cond (n == bucket_of a) bytes (file n)) (is : IsUnion key_of IsFile file whole)
+        (there : IsFile (bucket_of a) (file (bucket_of a)) bucket) where
+      anew : (new written : List E) → IsFile (bucket_of a) bytes written → IsOrdered key_of new → ((k : Text) → found key_of k whole ≡ found key_of k bucket → found key_of k new ≡ found key_of k written)
           → ((k : Text) → eq_by_cmp byte_cmp k a ≡ false → found key_of k new ≡ found key_of k whole) → IsUnion key_of IsFile after new
       anew new written made sorted same kept = record {
         sorted = sorted;
-        buckets = with_bucket is.buckets (place_of a) written;
-        files = λ n less. subst (λ (f : Option Text). IsFile n f (with_bucket is.buckets (place_of a) written n)) (sym (left n)) (at n less (n == place_of a) refl);
-        by_key = λ k. under k (place_of k == place_of a) refl;
+        buckets = with_bucket is.buckets (bucket_of a) written;
+        files = λ n less. subst (λ (f : Option Text). IsFile n f (with_bucket is.buckets (bucket_of a) written n)) (sym (left n)) (at n less (n == bucket_of a) refl);
+        by_key = λ k. under k (bucket_of k == bucket_of a) refl;
       }
         where
-          at : (n : ℕ) → n < 53 → (t : Bool) → (n == place_of a) ≡ t → IsFile n (cond (n == place_of a) bytes (file n)) (cond (n == place_of a) written (is.buckets n))
-          at n less true e = rw e (subst (λ (m : ℕ). IsFile m bytes written) (sym (eqb-true n (place_of a) e)) made)
+          at : (n : ℕ) → n < 53 → (t : Bool) → (n == bucket_of a) ≡ t → IsFile n (cond (n == bucket_of a) bytes (file n)) (cond (n == bucket_of a) written (is.buckets n))
+          at n less true e = rw e (subst (λ (m : ℕ). IsFile m bytes written) (sym (eqb-true n (bucket_of a) e)) made)
           at n less false e = rw e (is.files n less)
 
-          under : (k : Text) (t : Bool) → (place_of k == place_of a) ≡ t → found key_of k new ≡ found key_of k (cond (place_of k == place_of a) written (is.buckets (place_of k)))
+          under : (k : Text) (t : Bool) → (bucket_of k == bucket_of a) ≡ t → found key_of k new ≡ found key_of k (cond (bucket_of k == bucket_of a) written (is.buckets (bucket_of k)))
           under k true e =
-              same k (found_there file whole bucket k is (subst (λ (n : ℕ). IsFile n (file n) bucket) (sym (eqb-true (place_of k) (place_of a) e)) there))
-              ∙ sym (ap (λ t. found key_of k (cond t written (is.buckets (place_of k)))) e)
+              same k (found_there file whole bucket k is (subst (λ (n : ℕ). IsFile n (file n) bucket) (sym (eqb-true (bucket_of k) (bucket_of a) e)) there))
+              ∙ sym (ap (λ t. found key_of k (cond t written (is.buckets (bucket_of k)))) e)
           under k false e =
-              kept k (differ k a (λ own. eqb-false (place_of k) (place_of a) e (ap place_of own))) ∙ is.by_key k ∙ sym (ap (λ t. found key_of k (cond t written (is.buckets (place_of k)))) e)
+              kept k (differ k a (λ own. eqb-false (bucket_of k) (bucket_of a) e (ap bucket_of own))) ∙ is.by_key k ∙ sym (ap (λ t. found key_of k (cond t written (is.buckets (bucket_of k)))) e)
 
       -- a record is put into its place
-      pub put_there : (e : E) → key_of e ≡ a → IsFile (place_of a) bytes (with_entry byte_cmp key_of e bucket) → IsUnion key_of IsFile after (with_entry byte_cmp key_of e whole)
+      pub put_there : (e : E) → key_of e ≡ a → IsFile (bucket_of a) bytes (with_entry byte_cmp key_of e bucket) → IsUnion key_of IsFile after (with_entry byte_cmp key_of e whole)
       put_there e own made =
           anew (with_entry byte_cmp key_of e whole) (with_entry byte_cmp key_of e bucket) made (sorted_with byte_cmp key_of same_bytes bytes_total e whole is.sorted)
           (λ k same. found_with byte_cmp key_of same_bytes bytes_total k e whole ∙ ap (cond (eq_by_cmp byte_cmp k (key_of e)) (Some e)) same ∙ sym (found_with byte_cmp key_of same_bytes bytes_total k e bucket))
           (λ k other. found_with byte_cmp key_of same_bytes bytes_total k e whole ∙ ap (λ t. cond t (Some e) (found key_of k whole)) (ap (eq_by_cmp byte_cmp k) own ∙ other))
 
       -- a key is taken out
-      pub taken_there : IsFile (place_of a) bytes (without_key byte_cmp key_of a bucket) → IsUnion key_of IsFile after (without_key byte_cmp key_of a whole)
+      pub taken_there : IsFile (bucket_of a) bytes (without_key byte_cmp key_of a bucket) → IsUnion key_of IsFile after (without_key byte_cmp key_of a whole)
       taken_there made =
           anew (without_key byte_cmp key_of a whole) (without_key byte_cmp key_of a bucket) made (sorted_without byte_cmp key_of same_bytes bytes_total a whole is.sorted)
           (λ k same. found_without byte_cmp key_of same_bytes bytes_total k a whole ∙ ap (cond (eq_by_cmp byte_cmp k a) None) same ∙ sym (found_without byte_cmp key_of same_bytes bytes_total k a bucket))

@@ -10,11 +10,11 @@ use Rattle.ml_base.specs.Bytes.{Text, lower}
 use Rattle.ml_base.specs.Sorted.{byte_cmp}
 use Rattle.ml_base.proofs.BelowLemmas.{less}
 use Rattle.ml_base.proofs.SortedLaws.{bytes_total, same_bytes}
-use Rattle.ml_keyed.specs.Buckets.{place_of, found, IsOrdered, is_above, rises}
+use Rattle.ml_keyed.specs.Buckets.{bucket_of, found, IsOrdered, is_above, rises}
 use Rattle.std.specs.Char.{is_ascii_uppercase}
 use Rattle.ml_base.proofs.KeptAddresses.{small}
 
-pub place_below : (k : Text) → place_of k < 53
+pub place_below : (k : Text) → bucket_of k < 53
 place_below k = omega arith
 
 pub differ : (k l : Text) → (k ≡ l → ⊥) → eq_by_cmp byte_cmp k l ≡ false

@@ -12,7 +12,7 @@ use Rattle.std.specs.List.Sorted.{IsPermutation, IsSortedByKey}
 use Rattle.ml_base.specs.Bytes.{Text}
 use Rattle.ml_base.specs.Sorted.{byte_cmp, with_entry}
 use Rattle.ml_base.proofs.SortedLaws.{bytes_total, same_bytes, found_with, sorted_with, length_with, found_is}
-use Rattle.ml_keyed.specs.Buckets.{place_of, gathered, counted, found, IsOrdered, is_above, rises}
+use Rattle.ml_keyed.specs.Buckets.{bucket_of, gathered, counted, found, IsOrdered, is_above, rises}
 use Rattle.ml_keyed.proofs.Keys.{differ, tied, own_tie, rising_ordered, all_above_none}
 
 -- what is found in the first place, or else in the second
@@ -26,7 +26,7 @@ or_nobody (Some e) = refl
 
 module _ {E : Type 0} (key_of : E → Text) where
   abbrev AreIn : ℕ → List E → Type 0
-  AreIn n xs = AllByRecursion (λ x. place_of (key_of x) ≡ n) xs
+  AreIn n xs = AllByRecursion (λ x. bucket_of (key_of x) ≡ n) xs
 
   found_append : (k : Text) (xs ys : List E) → found key_of k (xs ++ ys) ≡ or_else (found key_of k xs) (found key_of k ys)
   found_append k [] ys = refl
@@ -37,32 +37,32 @@ module _ {E : Type 0} (key_of : E → Text) where
       go false h = h
 
   -- a key of another bucket is not found
-  not_there : (n : ℕ) (k : Text) (xs : List E) → AreIn n xs → (place_of k ≡ n → ⊥) → found key_of k xs ≡ None
+  not_there : (n : ℕ) (k : Text) (xs : List E) → AreIn n xs → (bucket_of k ≡ n → ⊥) → found key_of k xs ≡ None
   not_there n k [] all apart = refl
-  not_there n k (x ∷ xs) all apart = ap₂ (λ t o. cond t (Some x) o) (differ k (key_of x) (λ e. apart (ap place_of e ∙ all.0))) (not_there n k xs all.1 apart)
+  not_there n k (x ∷ xs) all apart = ap₂ (λ t o. cond t (Some x) o) (differ k (key_of x) (λ e. apart (ap bucket_of e ∙ all.0))) (not_there n k xs all.1 apart)
 
   -- the buckets of a row, every key belonging to one of them
   module _ (buckets : ℕ → List E) where
-    none_gathered : (n : ℕ) → ((i : ℕ) → i < n → AreIn i (buckets i)) → (k : Text) → n ≤ place_of k → found key_of k (gathered buckets n) ≡ None
+    none_gathered : (n : ℕ) → ((i : ℕ) → i < n → AreIn i (buckets i)) → (k : Text) → n ≤ bucket_of k → found key_of k (gathered buckets n) ≡ None
     none_gathered zero all k past = refl
     none_gathered (suc n) all k past =
         found_append k (gathered buckets n) (buckets n)
         ∙ ap₂ or_else (none_gathered n (λ i less. all i (omega arith)) k (omega arith)) (not_there n k (buckets n) (all n (omega arith)) (λ e. omega (arith, e)))
 
-    found_gathered : (n : ℕ) → ((i : ℕ) → i < n → AreIn i (buckets i)) → (k : Text) → place_of k < n → found key_of k (gathered buckets n) ≡ found key_of k (buckets (place_of k))
+    found_gathered : (n : ℕ) → ((i : ℕ) → i < n → AreIn i (buckets i)) → (k : Text) → bucket_of k < n → found key_of k (gathered buckets n) ≡ found key_of k (buckets (bucket_of k))
     found_gathered zero all k less = absurd (omega arith)
-    found_gathered (suc n) all k less = found_append k (gathered buckets n) (buckets n) ∙ go (place_of k == n) refl (found_gathered n rest k)
+    found_gathered (suc n) all k less = found_append k (gathered buckets n) (buckets n) ∙ go (bucket_of k == n) refl (found_gathered n rest k)
       where
         rest : (i : ℕ) → i < n → AreIn i (buckets i)
         rest i below = all i (omega arith)
 
-        go : (t : Bool) → (place_of k == n) ≡ t → (place_of k < n → found key_of k (gathered buckets n) ≡ found key_of k (buckets (place_of k)))
-            → or_else (found key_of k (gathered buckets n)) (found key_of k (buckets n)) ≡ found key_of k (buckets (place_of k))
+        go : (t : Bool) → (bucket_of k == n) ≡ t → (bucket_of k < n → found key_of k (gathered buckets n) ≡ found key_of k (buckets (bucket_of k)))
+            → or_else (found key_of k (gathered buckets n)) (found key_of k (buckets n)) ≡ found key_of k (buckets (bucket_of k))
         go true e more =
-            let same = eqb-true (place_of k) n e in
+            let same = eqb-true (bucket_of k) n e in
             ap (λ o. or_else o (found key_of k (buckets n))) (none_gathered n rest k (omega (arith, same))) ∙ ap (λ i. found key_of k (buckets i)) (sym same)
         go false e more =
-            let apart = eqb-false (place_of k) n e in
+            let apart = eqb-false (bucket_of k) n e in
             ap (or_else (found key_of k (gathered buckets n))) (not_there n k (buckets n) (all n (omega arith)) apart) ∙ or_nobody (found key_of k (gathered buckets n)) ∙ more (omega (arith, less, apart))
 
   -- how often a key stands in a list
@@ -108,18 +108,18 @@ module _ {E : Type 0} (key_of : E → Text) where
 
   gathered_hits : (buckets : ℕ → List E) (n : ℕ) → ((i : ℕ) → i < n → AreIn i (buckets i)) → ((i : ℕ) → i < n → IsOrdered key_of (buckets i)) → (k : Text) → hits k (gathered buckets n) ≤ 1
   gathered_hits buckets zero all ordered k = omega arith
-  gathered_hits buckets (suc n) all ordered k = go (place_of k == n) refl (gathered_hits buckets n (λ i less. all i (omega arith)) (λ i less. ordered i (omega arith)) k)
+  gathered_hits buckets (suc n) all ordered k = go (bucket_of k == n) refl (gathered_hits buckets n (λ i less. all i (omega arith)) (λ i less. ordered i (omega arith)) k)
     where
       both : hits k (gathered buckets n ++ buckets n) ≡ hits k (gathered buckets n) + hits k (buckets n)
       both = sum_by-append (hit k) (gathered buckets n) (buckets n)
 
-      go : (t : Bool) → (place_of k == n) ≡ t → hits k (gathered buckets n) ≤ 1 → hits k (gathered buckets n ++ buckets n) ≤ 1
+      go : (t : Bool) → (bucket_of k == n) ≡ t → hits k (gathered buckets n) ≤ 1 → hits k (gathered buckets n ++ buckets n) ≤ 1
       go true e more =
-          let same = eqb-true (place_of k) n e in
+          let same = eqb-true (bucket_of k) n e in
           let none = none_hits k (gathered buckets n) (none_gathered buckets n (λ i less. all i (omega arith)) k (omega (arith, same))) in
           omega (arith, both, none, ordered_hits k (buckets n) (ordered n (omega arith)))
       go false e more =
-          let none = none_hits k (buckets n) (not_there n k (buckets n) (all n (omega arith)) (eqb-false (place_of k) n e)) in
+          let none = none_hits k (buckets n) (not_there n k (buckets n) (all n (omega arith)) (eqb-false (bucket_of k) n e)) in
           omega (arith, both, none, more)
 
   -- records put into a list one after another, each in its place
@@ -153,7 +153,7 @@ module _ {E : Type 0} (key_of : E → Text) where
   length_gathered buckets zero = refl
   length_gathered buckets (suc n) = length-append (gathered buckets n) (buckets n) ∙ ap (λ size. size + length (buckets n)) (length_gathered buckets n)
 
-  pub found_merged : (buckets : ℕ → List E) (n : ℕ) → ((i : ℕ) → i < n → AreIn i (buckets i)) → (k : Text) → place_of k < n → found key_of k (merged buckets n) ≡ found key_of k (buckets (place_of k))
+  pub found_merged : (buckets : ℕ → List E) (n : ℕ) → ((i : ℕ) → i < n → AreIn i (buckets i)) → (k : Text) → bucket_of k < n → found key_of k (merged buckets n) ≡ found key_of k (buckets (bucket_of k))
   found_merged buckets n all k less = found_placed k (gathered buckets n) ∙ found_gathered buckets n all k less
 
   pub length_merged : (buckets : ℕ → List E) (n : ℕ) → ((i : ℕ) → i < n → AreIn i (buckets i)) → ((i : ℕ) → i < n → IsOrdered key_of (buckets i)) → length (merged buckets n) ≡ counted buckets n
@@ -217,7 +217,7 @@ module _ {E : Type 0} (key_of : E → Text) where
 
   -- the records of the buckets, in order of key
   pub sorted_joined : (buckets : ℕ → List E) (n : ℕ) → ((i : ℕ) → i < n → AreIn i (buckets i)) → ((i : ℕ) → i < n → IsOrdered key_of (buckets i)) → (ms : List E) → IsPermutation (gathered buckets n) ms
-      → IsSortedByKey key_of byte_cmp ms → IsOrdered key_of ms × ((k : Text) → place_of k < n → found key_of k ms ≡ found key_of k (buckets (place_of k)))
+      → IsSortedByKey key_of byte_cmp ms → IsOrdered key_of ms × ((k : Text) → bucket_of k < n → found key_of k ms ≡ found key_of k (buckets (bucket_of k)))
   sorted_joined buckets n all ordered ms moved up = (
     strict ms (up_from ms up) (λ k. omega (arith, sum_by-IsPermutation (hit k) (gathered buckets n) ms moved, gathered_hits buckets n all ordered k)),
     λ k less. found_moved k (gathered buckets n) ms moved (gathered_hits buckets n all ordered k) ∙ found_gathered buckets n all k less,

@@ -6,8 +6,8 @@ use Rattle.ml_base.specs.Hash.{hash_of}
 use Rattle.ml_base.specs.Sorted.{byte_cmp, entry_of, is_sorted}
 
 -- the number of the file that has a key: the key's hash modulo 53
-abbrev pub place_of : Text → ℕ
-place_of k = hash_of k % 53
+abbrev pub bucket_of : Text → ℕ
+bucket_of k = hash_of k % 53
 
 -- what a step makes of the first buckets, one after another, from a start on
 abbrev pub through : {E X : Type 0} → X → (X → List E → X) → (ℕ → List E) → ℕ → X
@@ -49,4 +49,4 @@ module _ {E : Type 0} (key_of : E → Text) where
     pub sorted : IsOrdered whole
     pub buckets : ℕ → List E
     pub files : AreFirst IsFile file 53 buckets
-    pub by_key : (k : Text) → found k whole ≡ found k (buckets (place_of k))
+    pub by_key : (k : Text) → found k whole ≡ found k (buckets (bucket_of k))

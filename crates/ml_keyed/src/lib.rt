@@ -8,16 +8,16 @@ ghost use Rattle.ml_keyed.specs.Buckets as buckets;
 use ml_base::{hash, hash_lower};
 
 /// The number of the file that has a key, 0 to 52. It takes no memory.
-pub fn place_of(key: &[u8]) -> u8
-    ensures value { result ≡ buckets.place_of key.now }
+pub fn bucket_of(key: &[u8]) -> u8
+    ensures value { result ≡ buckets.bucket_of key.now }
     ensures below { result < 53 }
 {
     (hash(key) % 53) as u8
 }
 
 /// The number of the file that has the key of a text, which is the text in lower case: 0 to 52. It takes no memory.
-pub fn place_of_lower(text: &[u8]) -> u8
-    ensures value { result ≡ buckets.place_of (lower text.now) }
+pub fn bucket_of_lower(text: &[u8]) -> u8
+    ensures value { result ≡ buckets.bucket_of (lower text.now) }
     ensures below { result < 53 }
 {
     (hash_lower(text) % 53) as u8

@@ -11,7 +11,7 @@ use Rattle.ml_base.specs.declared.puts.Put.{Put}
 use Rattle.ml_config.proofs.KeyLemmas.{small_drop, small_take}
 use Rattle.ml_plain.specs.declared.Reply.{Reply}
 use Rattle.ml_plain.specs.Answers.{stale}
-use Rattle.ml_plain.specs.KeptFiles.{IsFloorFile, IsSlot, floor_name, is_kept, replies_name, slot_text}
+use Rattle.ml_plain.specs.KeptFiles.{IsFloorFile, IsSlot, floor_name, may_be_kept, replies_name, slot_text}
 use Rattle.ml_plain.proofs.Slots.{slot_one}
 use Rattle.ml_plain.proofs.StateFiles.{floor_one}
 use Rattle.ml_list.specs.Again.{CountsOnce, HoldsReply, IsAgain, IsBelowFloor, IsInSlot}
@@ -56,11 +56,11 @@ new_once dir number done found = record {
 pub found_below : (dir : Dir) (number floor : ℕ) (reply : Reply) → IsFloorFile (dir floor_name) floor → number < floor → reply ≡ stale → IsAgain dir number (Some reply)
 found_below dir number floor reply file low is = record { floor = floor; floor_is = file; found = inl (record { below = low; reply = ap (λ (r : Reply). Some r) is }) }
 
-slot_of : (number : ℕ) (reply : Option Reply) → number ≢ 0 → IfSome reply (λ r. is_kept r ≡ true) → IsSlot number reply
+slot_of : (number : ℕ) (reply : Option Reply) → number ≢ 0 → IfSome reply (λ r. may_be_kept r ≡ true) → IsSlot number reply
 slot_of number None some fits = tt
 slot_of number (Some r) some fits = (some, fits)
 
-pub found_slot : (dir : Dir) (number floor : ℕ) (reply : Option Reply) → IsFloorFile (dir floor_name) floor → floor ≤ number → number ≢ 0 → IfSome reply (λ r. is_kept r ≡ true)
+pub found_slot : (dir : Dir) (number floor : ℕ) (reply : Option Reply) → IsFloorFile (dir floor_name) floor → floor ≤ number → number ≢ 0 → IfSome reply (λ r. may_be_kept r ≡ true)
     → HoldsReply (dir (replies_name (number / 512))) (number % 512) reply → IsAgain dir number reply
 found_slot dir number floor reply file high some fits holds = record { floor = floor; floor_is = file; found = inr (record { from = high; fits = slot_of number reply some fits; spelled = holds }) }
 

@@ -112,7 +112,7 @@ module _ (old dir : Dir) (n : ℕ) (alike : Alike (λ name. same_name name floor
 
   -- the replies that the other directory has are those that were read
   pub replies_there : (q : State) → IsState dir q → n / 512 < 1_953_125_000 → IsRepliesFile (512 * (n / 512)) (old (replies_name (n / 512))) q.kept
-  replies_there q is group = subst (λ (f : Option Text). IsRepliesFile (512 * (n / 512)) f q.kept) same_replies_file ((is.replies).files (n / 512) group)
+  replies_there q is block = subst (λ (f : Option Text). IsRepliesFile (512 * (n / 512)) f q.kept) same_replies_file ((is.replies).files (n / 512) block)
 
   pub cut_there : (kept : Kept) → IsRepliesFile (512 * (n / 512)) (dir (replies_name (n / 512))) kept → IsRepliesFile (512 * (n / 512)) (old (replies_name (n / 512))) kept
   cut_there kept is = subst (λ (f : Option Text). IsRepliesFile (512 * (n / 512)) f kept) same_replies_file is
@@ -121,7 +121,7 @@ module _ (old dir : Dir) (n : ℕ) (alike : Alike (λ name. same_name name floor
   floor_whole q r is bad = err_damaged r (λ _. IsNoFloor old) (λ _. ⊥) (λ name none. none q.floor (subst (λ (f : Option Text). IsFloorFile f q.floor) same_floor_file (is.replies).from)) bad
 
   pub replies_whole : {T : Type 0} (q : State) (r : Result T PartError) → IsState dir q → n / 512 < 1_953_125_000 → IfErr r (λ e. OnDamaged e (λ _. IsNoReplies old (n / 512))) → IfErr r (λ e. OnDamaged e (λ _. ⊥))
-  replies_whole q r is group bad = err_damaged r (λ _. IsNoReplies old (n / 512)) (λ _. ⊥) (λ name none. none q.kept (replies_there q is group)) bad
+  replies_whole q r is block bad = err_damaged r (λ _. IsNoReplies old (n / 512)) (λ _. ⊥) (λ name none. none q.kept (replies_there q is block)) bad
 
 -- what is looked up for a number that isn't 0
 pub looked_up_there : (old dir : Dir) (n : ℕ) → n ≢ 0 → Alike (is_looked_up n) old dir → Alike (λ name. same_name name floor_name || same_name name (replies_name (n / 512))) old dir

@@ -17,13 +17,12 @@ use Rattle.ml_address.specs.declared.Word.{Word}
 use Rattle.ml_address.specs.declared.Word.TheVariants as words
 use Rattle.ml_filing.specs.Archive.{index_name, number_name}
 use Rattle.ml_bounce.specs.Answers.{has_ledger, key_file}
-use Rattle.ml_bounce.specs.Files.{ledger_place}
+use Rattle.ml_bounce.specs.Files.{bucket_of}
 use Rattle.ml_config.specs.KeyFile.{key_name}
 use Rattle.ml_config.specs.declared.configuration.Config.{Config}
 use Rattle.ml_digest.specs.Due.{mark_name}
 use Rattle.ml_hold.specs.Answers.{post_name, tickets_name}
 use Rattle.ml_queue.specs.Answers.{ids_name}
-use Rattle.ml_subs.specs.Buckets.{bucket_of}
 use Rattle.ml_subs.specs.Subscribers.{bucket_name, count_name, is_touched}
 use Rattle.ml_subs.proofs.Represented.{below_53}
 use Rattle.ml_plain.specs.Bouncing.{address_named}
@@ -72,8 +71,8 @@ count_at sets.Deny = refl
 count_at sets.Moderators = refl
 
 entry_at : (set : Set) (k : Text) → has_ledger set ≡ true → Acts (key_file set k)
-entry_at sets.List k has = at_place 15 (ledger_place k) 0 52 refl (omega arith) (let low = mod_below (hash_of k) 53 (omega arith) in omega (arith, low))
-entry_at sets.Digest k has = at_place 16 (ledger_place k) 0 52 refl (omega arith) (let low = mod_below (hash_of k) 53 (omega arith) in omega (arith, low))
+entry_at sets.List k has = at_place 15 (bucket_of k) 0 52 refl (omega arith) (let low = mod_below (hash_of k) 53 (omega arith) in omega (arith, low))
+entry_at sets.Digest k has = at_place 16 (bucket_of k) 0 52 refl (omega arith) (let low = mod_below (hash_of k) 53 (omega arith) in omega (arith, low))
 entry_at sets.Allow k has = absurd (let bad : false ≡ true = has in cc)
 entry_at sets.Deny k has = absurd (let bad : false ≡ true = has in cc)
 entry_at sets.Moderators k has = absurd (let bad : false ≡ true = has in cc)
@@ -261,8 +260,8 @@ module _ (name : Name) where
   of_thread : is_of_thread name ≡ true → Acts name
   of_thread e = either (is_of_range name) (is_thread_file name) of_range of_threads e
 
-  of_group : (at : ℕ) → is_of_index at name ≡ true → Acts name
-  of_group at e =
+  of_block : (at : ℕ) → is_of_index at name ≡ true → Acts name
+  of_block at e =
       let parts = and_parts (nat_lt (at / 100) 1_000_000) (same_name name (index_name (at / 100))) e in
       let low = ltb-true (at / 100) 1_000_000 parts.0 in
       same name (index_name (at / 100)) (at_place 10 (at / 100) 0 999_999 refl (omega arith) (omega (arith, low))) parts.1
@@ -278,7 +277,7 @@ module _ (name : Name) where
   asked c sender (Confirm word set s) e = to_confirm word set (address_named s.who) e
   asked c sender (Members set) e = of_members c sender set e
   asked c sender (Get from to) e = read_by c sender (is_of_posts from (unwrap_or to from) name) (of_posts from (unwrap_or to from)) e
-  asked c sender (Index at) e = read_by c sender (is_of_index at name) (of_group at) e
+  asked c sender (Index at) e = read_by c sender (is_of_index at name) (of_block at) e
   asked c sender (Thread at) e = read_by c sender (is_of_thread name) of_thread e
   asked c sender Post e = of_ids e
   asked c sender Help e = of_ids e

@@ -85,12 +85,12 @@ module _ (dir : Dir) (q : State) (number at floor : ℕ) (is : IsState dir q) (f
 
   pub raise_rises : (done : List Put × Reply) (cut : Option Text) → may_rise floor number at ≡ true → floor < at → at ≤ 999_999_999_999 → at / 512 < 1_953_125_000 → done.0 ≡ rise_puts floor at cut → done.1 ≡ floored at
       → ((kept : Kept) → IsRepliesFile (512 * (at / 512)) (dir (replies_name (at / 512))) kept → IsRepliesFile (512 * (at / 512)) cut (from_floor at kept)) → Does dir done (raise q number at)
-  raise_rises done cut yes_may up most group e f left =
+  raise_rises done cut yes_may up most block e f left =
       let same = same_floor in
       let top : at ≡ max q.floor at = omega (arith, same, up) in
       let now = with_puts dir (rise_puts floor at cut) in
       let file_now : IsRepliesFile (512 * (at / 512)) (now (replies_name (at / 512))) (from_floor at q.kept) =
-      subst (λ (t : Option Text). IsRepliesFile (512 * (at / 512)) t (from_floor at q.kept)) (sym (cut_is dir floor at cut up)) (left q.kept ((is.replies).files (at / 512) group)) in
+      subst (λ (t : Option Text). IsRepliesFile (512 * (at / 512)) t (from_floor at q.kept)) (sym (cut_is dir floor at cut up)) (left q.kept ((is.replies).files (at / 512) block)) in
       let is_risen = subst (λ f. IsRisen dir now f at) (sym same) (risen dir floor at cut up) in
       does_raise done (with_floor q at) (floored (max q.floor at)) (raised true yes_may) (f ∙ ap floored top)
       (subst (λ (t : List Put). IsState (with_puts dir t) (with_floor q at)) (sym e)

@@ -28,8 +28,8 @@ pub act_written : (item : Item) (puts : List Put) → touches_only (is_written_b
 act_written item puts own =
     touches_weaker (is_written_by_act item.act) (is_written_by item) puts (λ name e. or_left (is_written_by_act item.act name) (is_reply_file item.number name) e) own
 
-reply_file : (number group : ℕ) → number ≢ 0 → (not (number == 0) && same_name (replies_name group) (replies_name group)) ≡ true
-reply_file number group some = ap (λ (b : Bool). not b && same_name (replies_name group) (replies_name group)) (ne_eqb number 0 some) ∙ eq-eqb group group refl
+reply_file : (number block : ℕ) → number ≢ 0 → (not (number == 0) && same_name (replies_name block) (replies_name block)) ≡ true
+reply_file number block some = ap (λ (b : Bool). not b && same_name (replies_name block) (replies_name block)) (ne_eqb number 0 some) ∙ eq-eqb block block refl
 
 -- and the file of its number's kept reply
 pub reply_written : (item : Item) → item.number ≢ 0 → is_written_by item (replies_name (item.number / 512)) ≡ true

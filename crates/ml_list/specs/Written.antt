@@ -21,9 +21,9 @@ use Rattle.ml_plain.specs.KeptFiles.{floor_name, replies_name}
 use Rattle.ml_acts.specs.Doing.{is_beside_mark, is_left_by, is_of_posting}
 use Rattle.ml_acts.specs.Growing.{is_of_time}
 
--- the floor's file, and the files of kept replies up to that of a group of 512 numbers
+-- the floor's file, and the files of kept replies up to that of a block of 512 numbers
 abbrev pub is_up_to : ℕ → Name → Bool
-is_up_to group name = same_name name floor_name || ((name.kind == replies_kind) && nat_le name.at group)
+is_up_to block name = same_name name floor_name || ((name.kind == replies_kind) && nat_le name.at block)
 
 -- The files that an act may write: a delivery any file of the list except the configuration, the key and the mark of the digests; a timed run
 -- the mark, held posts, ledgers and the queue; and any other act those of what it changes.

@@ -20,7 +20,7 @@ ghost use Rattle.ml_list.specs.Looked.{AlikeForMail, AlikeForRequest, AlikeServe
 ghost use Rattle.ml_list.specs.Reads.{is_of_acts};
 ghost use Rattle.ml_list.specs.Written.{is_delivered_by};
 
-use crate::moderator_answers::decide_held;
+use crate::held_decisions::decide_held;
 use ml_acts::{MailMemo, Moment, is_worn};
 use ml_address::{Request, read_request};
 use ml_base::{Files, PartError, Txn};

@@ -8,7 +8,7 @@ ghost use Rattle.ml_base.specs.Bytes.{Text};
 ghost use Rattle.ml_plain.specs.Histories.{State, Kept, from_floor};
 ghost use Rattle.ml_plain.specs.Histories as steps;
 ghost use Rattle.ml_plain.specs.Directory.{IsState};
-ghost use Rattle.ml_plain.specs.KeptFiles.{IsRepliesFile, is_kept, floor_name};
+ghost use Rattle.ml_plain.specs.KeptFiles.{IsRepliesFile, may_be_kept, floor_name};
 ghost use Rattle.ml_plain.specs.KeptFiles as states;
 ghost use Rattle.ml_list.specs.Applying.{Does};
 ghost use Rattle.ml_list.specs.Damage.{IsDamagedInList, IsNoReplies, is_read_by};
@@ -41,7 +41,7 @@ pub(crate) fn raise<F: Files>(
     requires range { IsInRange known.now.floor }
     ensures value { IsTrue F.tells → IfOk result (λ done. (dir : Dir) (q : State) → AlikeForAct (acts.Floor at) (F.map files.old) dir → IsState dir q → Does dir done (steps.raise q number at)) }
     ensures sound { IsTrue F.tells → (dir : Dir) (q : State) → AlikeForAct (acts.Floor at) (F.map files.old) dir → IsState dir q → IfErr result (λ e. OnDamaged e (λ _. ⊥)) }
-    ensures reply { IfOk result (λ done. is_kept done.1 ≡ true) }
+    ensures reply { IfOk result (λ done. may_be_kept done.1 ≡ true) }
     ensures files { IfOk result (λ done. IsTrue (are_files done.0)) }
     ensures written { IsTrue F.tells → IfOk result (λ done. touches_only (is_written_by_act (acts.Floor at)) done.0 ≡ true) }
     ensures names { NamesDamaged ⟦<F as Files>⟧ (λ name. is_read_by (acts.Floor at) name ≡ true) (IsDamagedInList (F.map files.old)) result }
@@ -141,9 +141,9 @@ fn remove_files(txn: &mut Txn, from: u64, to: u64) -> Result<(), AllocError>
     requires { from ≤ to }
     ensures { OnOk result (txn.new ≡ txn.old ++ removals from to) }
 {
-    for group in from..to {
+    for block in from..to {
         txn.push(Put {
-            name: Name::replies(group),
+            name: Name::replies(block),
             bytes: None,
         })?;
     }

@@ -14,7 +14,7 @@ ghost use Rattle.ml_plain.specs.Replies.{is_code};
 ghost use Rattle.ml_plain.specs.Histories.{State, step, with_reply};
 ghost use Rattle.ml_plain.specs.Histories as steps;
 ghost use Rattle.ml_plain.specs.Directory.{IsState};
-ghost use Rattle.ml_plain.specs.KeptFiles.{is_kept};
+ghost use Rattle.ml_plain.specs.KeptFiles.{may_be_kept};
 ghost use Rattle.ml_plain.specs.KeptFiles as states;
 ghost use Rattle.ml_list.specs.Again.{CountsOnce, IsAgain};
 ghost use Rattle.ml_list.specs.Applying.{Does, Repeats};
@@ -212,7 +212,7 @@ fn effect<F: Files>(
     requires range { IsInRange known.now.floor }
     ensures value { IsTrue F.tells → IfOk result.1 (λ done. (dir : Dir) (q : State) → AlikeForAct item.now.act (F.map files) dir → IsState dir q → Does dir done (steps.effect q item.now)) }
     ensures sound { IsTrue F.tells → (dir : Dir) (q : State) → AlikeForAct item.now.act (F.map files) dir → IsState dir q → IfErr result.1 (λ e. OnDamaged e (λ _. ⊥)) }
-    ensures reply { IfOk result.1 (λ done. is_kept done.1 ≡ true) }
+    ensures reply { IfOk result.1 (λ done. may_be_kept done.1 ≡ true) }
     ensures files { IfOk result.1 (λ done. IsTrue (are_files done.0)) }
     ensures written { IsTrue F.tells → IfOk result.1 (λ done. touches_only (is_written_by_act item.now.act) done.0 ≡ true) }
     ensures asked { IsTrue F.tells → IfOk result.1 (λ done. (c : Config) → IsConfigFile (F.map files config_name) c → touches_only (is_written_under_act c item.now.act) done.0 ≡ true) }
@@ -244,7 +244,7 @@ fn apply_untimed<F: Files>(
     requires range { IsInRange known.now.floor }
     ensures value { IsTrue F.tells → IfOk result (λ done. (dir : Dir) (q : State) → AlikeForAct item.now.act (F.map files.old) dir → IsState dir q → Does dir done (steps.effect q item.now)) }
     ensures sound { IsTrue F.tells → (dir : Dir) (q : State) → AlikeForAct item.now.act (F.map files.old) dir → IsState dir q → IfErr result (λ e. OnDamaged e (λ _. ⊥)) }
-    ensures reply { IfOk result (λ done. is_kept done.1 ≡ true) }
+    ensures reply { IfOk result (λ done. may_be_kept done.1 ≡ true) }
     ensures files { IfOk result (λ done. IsTrue (are_files done.0)) }
     ensures written { IsTrue F.tells → IfOk result (λ done. touches_only (is_written_by_act item.now.act) done.0 ≡ true) }
     ensures asked { IsTrue F.tells → IfOk result (λ done. (c : Config) → IsConfigFile (F.map files.old config_name) c → touches_only (is_written_under_act c item.now.act) done.0 ≡ true) }
@@ -286,7 +286,7 @@ fn with_reply_kept(
     reply: Reply,
 ) -> Result<(Txn, Reply), PartError>
     requires most { number ≤ 999_999_999_999 }
-    requires fits { is_kept reply ≡ true }
+    requires fits { may_be_kept reply ≡ true }
     requires names { IsTrue (are_files txn) }
     ensures value { IfOk result (λ done. (dir : Dir) (q : State) → (number ≢ 0 → file ≡ dir (states.replies_name (number / 512))) → IsState (with_puts dir txn) q → (number ≢ 0 → q.floor ≤ number) → Does dir done (with_reply number (q, reply))) }
     ensures reply { IfOk result (λ done. IsTrue (is_code done.1.code)) }

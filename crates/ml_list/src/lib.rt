@@ -5,11 +5,11 @@
 mod deliveries;
 mod floor_rise;
 mod floors;
+mod held_decisions;
 mod item_effects;
 mod laws;
 mod loader;
 mod memo;
-mod moderator_answers;
 mod operator_acts;
 mod remembered_files;
 mod sent_reports;

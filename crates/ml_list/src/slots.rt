@@ -33,8 +33,8 @@ pub(crate) fn replies_name(number: u64) -> Name
 }
 
 // Whether a slot may hold a reply.
-fn is_kept(reply: Reply) -> bool
-    ensures { result ≡ states.is_kept reply }
+fn may_be_kept(reply: Reply) -> bool
+    ensures { result ≡ states.may_be_kept reply }
 {
     if !is_code(reply.code) {
         return false;
@@ -57,9 +57,9 @@ fn is_code(code: u8) -> bool
 
 // What the nine bytes of a slot spell: a reply, or that there is none. The answer is None if they spell neither.
 fn read_slot(bytes: &[u8]) -> Option<Option<Reply>>
-    ensures read { (found : Option Reply) → IfSome found (λ r. states.is_kept r ≡ true) → bytes.now ≡ slot_text found → result ≡ Some found }
+    ensures read { (found : Option Reply) → IfSome found (λ r. states.may_be_kept r ≡ true) → bytes.now ≡ slot_text found → result ≡ Some found }
     ensures spelled { IfSome result (λ found. take 9 bytes.now ≡ slot_text found) }
-    ensures fits { IfSome result (λ found. IfSome found (λ r. states.is_kept r ≡ true)) }
+    ensures fits { IfSome result (λ found. IfSome found (λ r. states.may_be_kept r ≡ true)) }
 {
     let (head, rest) = bytes.split_first_chunk::<1>()?;
     let (digits, _) = rest.split_first_chunk::<8>()?;
@@ -69,7 +69,7 @@ fn read_slot(bytes: &[u8]) -> Option<Option<Reply>>
         return if number == 0 { Some(None) } else { None };
     }
     let reply = Reply { code, number };
-    if is_kept(reply) {
+    if may_be_kept(reply) {
         Some(Some(reply))
     } else {
         None
@@ -82,7 +82,7 @@ fn reply_in(file: &Option<Bytes>, slot: usize) -> Option<Option<Reply>>
     requires { slot < 512 }
     ensures read { (first : ℕ) (kept : Kept) → IsRepliesFile first file.now kept → result ≡ Some (kept (first + slot)) }
     ensures spelled { IfSome result (λ found. HoldsReply file.now slot found) }
-    ensures fits { IfSome result (λ found. IfSome found (λ r. states.is_kept r ≡ true)) }
+    ensures fits { IfSome result (λ found. IfSome found (λ r. states.may_be_kept r ≡ true)) }
 {
     let Some(text) = file else {
         return Some(None);
@@ -118,7 +118,7 @@ pub(crate) fn kept_reply<F: Files>(
     ensures value { IsTrue F.tells → IfOk result (λ found. (kept : Kept) → IsRepliesFile (512 * (number / 512)) (F.map files.old (states.replies_name (number / 512))) kept → found.reply ≡ kept number) }
     ensures file { IsTrue F.tells → IfOk result (λ found. found.file ≡ F.map files.old (states.replies_name (number / 512))) }
     ensures spelled { IsTrue F.tells → IfOk result (λ found. HoldsReply (F.map files.old (states.replies_name (number / 512))) (number % 512) found.reply) }
-    ensures fits { IfOk result (λ found. IfSome found.reply (λ r. states.is_kept r ≡ true)) }
+    ensures fits { IfOk result (λ found. IfSome found.reply (λ r. states.may_be_kept r ≡ true)) }
     ensures names { NamesDamaged ⟦<F as Files>⟧ (λ name. name ≡ states.replies_name (number / 512)) (λ _. IsNoReplies (F.map files.old) (number / 512)) result }
     ensures reads { IsReading ⟦<F as Files>⟧ files.old files.new result }
 {
@@ -176,7 +176,7 @@ pub(crate) fn keep(
 ) -> Result<Put, AllocError>
     requires numbered { number ≢ 0 }
     requires most { number ≤ 999_999_999_999 }
-    requires fits { states.is_kept reply ≡ true }
+    requires fits { states.may_be_kept reply ≡ true }
     ensures value { IfOk result (λ put. (dir : Dir) (floor : ℕ) (kept : Kept) → file ≡ dir (states.replies_name (number / 512)) → floor ≤ number → AreReplies dir floor kept → AreReplies (with_put dir put) floor (steps.keep number reply kept)) }
     ensures name { IfOk result (λ put. put.name ≡ states.replies_name (number / 512)) }
     ensures file { IfOk result (λ put. IsTrue (is_file put.name)) }

@@ -15,7 +15,7 @@ use Rattle.ml_plain.specs.declared.Reply.{Reply}
 use Rattle.ml_plain.specs.Answers.{bounce, ignored, dropped}
 use Rattle.ml_plain.specs.Bouncing.{if_changed, if_probed}
 use Rattle.ml_plain.specs.Directory.{IsList, list_ledger_kinds, digest_ledger_kinds}
-use Rattle.ml_plain.specs.KeptFiles.{is_kept}
+use Rattle.ml_plain.specs.KeptFiles.{may_be_kept}
 use Rattle.ml_plain.specs.Plain.{Plain, ledger_of, removed}
 use Rattle.ml_plain.proofs.PartChanges.{list_ledger_changed, digest_ledger_changed}
 use Rattle.ml_acts.specs.Doing.{DoesList, is_entry_of}
@@ -55,9 +55,9 @@ changed_own set x answer puts mailed only e =
     ap (touches_only (is_entry_of set x)) e
     ∙ touches_weaker (λ name. same_name name (key_file set (key x))) (is_entry_of set x) (puts_of answer) (λ name same. and_from (has_ledger set) (same_name name (key_file set (key x))) (mailed_ledger set mailed) same) only
 
-pub change_kept : (answer : Option (List Put)) (reply : Reply) → reply ≡ change_reply answer → is_kept reply ≡ true
-change_kept None reply e = ap is_kept e
-change_kept (Some puts) reply e = ap is_kept e
+pub change_kept : (answer : Option (List Put)) (reply : Reply) → reply ≡ change_reply answer → may_be_kept reply ≡ true
+change_kept None reply e = ap may_be_kept e
+change_kept (Some puts) reply e = ap may_be_kept e
 
 module _ (dir : Dir) (p : Plain) (x : Text) (done : List Put × Reply) where
   pub changed_list : (set : Set) (answer : Option (List Put)) (ledger : Option Ledger) → is_mailed set ≡ true → IsList dir p → LeadsTo dir set answer ledger

@@ -44,23 +44,23 @@ module _ {T : Type 0} (r : Result T PartError) (old : Dir) (c : Config) (reads :
   spared_for none = subst Spares (sym is) none
 
 -- an act for a request, on files that tell which of them are damaged for that
-module _ {F : Type 0} (told : Ghosts F) (Writes : PlainRequest → Name → Bool) (May : PlainRequest → Name → Type 0) {r : Result (List Put × Reply) PartError} {dir : Dir} {c : Config} {old new : F} {q this : Request} (is : q ≡ this) where
-  of_this : (Bad : Name → Type 0) → ((name : Name) → Bad name → IsDamagedFor dir c (request_view this) name) → AnswersWithin (Writes (request_view this)) told (May (request_view this)) Bad old new r → AnswersWithin (Writes (request_view q)) told (May (request_view q)) (IsDamagedFor dir c (request_view q)) old new r
+module _ {F : Type 0} (ghosts : Ghosts F) (Writes : PlainRequest → Name → Bool) (May : PlainRequest → Name → Type 0) {r : Result (List Put × Reply) PartError} {dir : Dir} {c : Config} {old new : F} {q this : Request} (is : q ≡ this) where
+  of_this : (Bad : Name → Type 0) → ((name : Name) → Bad name → IsDamagedFor dir c (request_view this) name) → AnswersWithin (Writes (request_view this)) ghosts (May (request_view this)) Bad old new r → AnswersWithin (Writes (request_view q)) ghosts (May (request_view q)) (IsDamagedFor dir c (request_view q)) old new r
   of_this Bad so act =
       let for = IsDamagedFor dir c (request_view this) in
-      subst (λ (s : Request). AnswersWithin (Writes (request_view s)) told (May (request_view s)) (IsDamagedFor dir c (request_view s)) old new r) (sym is)
-      (act_so told r (May (request_view this)) Bad for (May (request_view this)) old new (λ name e. e) (λ name e bad. so name bad) act)
+      subst (λ (s : Request). AnswersWithin (Writes (request_view s)) ghosts (May (request_view s)) (IsDamagedFor dir c (request_view s)) old new r) (sym is)
+      (act_so ghosts r (May (request_view this)) Bad for (May (request_view this)) old new (λ name e. e) (λ name e bad. so name bad) act)
 
   -- one that reads nothing of the archive
-  pub for_other : ((name : Name) → IsForRequest dir c (request_view this) name) → AnswersWithin (Writes (request_view this)) told (May (request_view this)) (IsDamaged dir) old new r → AnswersWithin (Writes (request_view q)) told (May (request_view q)) (IsDamagedFor dir c (request_view q)) old new r
+  pub for_other : ((name : Name) → IsForRequest dir c (request_view this) name) → AnswersWithin (Writes (request_view this)) ghosts (May (request_view this)) (IsDamaged dir) old new r → AnswersWithin (Writes (request_view q)) ghosts (May (request_view q)) (IsDamagedFor dir c (request_view q)) old new r
   for_other none act = of_this (IsDamaged dir) (λ name bad. record { damaged = bad; own = none name }) act
 
   -- or that says of each that no list has the files that it looks at
-  pub for_looking : {looked : Name → Bool} → ((name : Name) → IsForRequest dir c (request_view this) name) → AnswersWithin (Writes (request_view this)) told (May (request_view this)) (IsDamagedAmong looked dir) old new r
-      → AnswersWithin (Writes (request_view q)) told (May (request_view q)) (IsDamagedFor dir c (request_view q)) old new r
+  pub for_looking : {looked : Name → Bool} → ((name : Name) → IsForRequest dir c (request_view this) name) → AnswersWithin (Writes (request_view this)) ghosts (May (request_view this)) (IsDamagedAmong looked dir) old new r
+      → AnswersWithin (Writes (request_view q)) ghosts (May (request_view q)) (IsDamagedFor dir c (request_view q)) old new r
   for_looking {looked = looked} none act = of_this (IsDamagedAmong looked dir) (λ name bad. record { damaged = bad.damaged; own = none name }) act
 
   -- one that asks this of the archive
-  pub for_asked : (asked : Asked) → ((name : Name) → (is_of_archive name ≡ true → IsBadFor dir asked name) → IsForRequest dir c (request_view this) name) → AnswersWithin (Writes (request_view this)) told (May (request_view this)) (IsDamagedOf dir asked) old new r
-      → AnswersWithin (Writes (request_view q)) told (May (request_view q)) (IsDamagedFor dir c (request_view q)) old new r
+  pub for_asked : (asked : Asked) → ((name : Name) → (is_of_archive name ≡ true → IsBadFor dir asked name) → IsForRequest dir c (request_view this) name) → AnswersWithin (Writes (request_view this)) ghosts (May (request_view this)) (IsDamagedOf dir asked) old new r
+      → AnswersWithin (Writes (request_view q)) ghosts (May (request_view q)) (IsDamagedFor dir c (request_view q)) old new r
   for_asked asked own act = of_this (IsDamagedOf dir asked) (λ name bad. record { damaged = bad.damaged; own = own name bad.own }) act

@@ -31,23 +31,23 @@ reader_other name c sender e of =
     (λ more. ⊎_elim (λ a. bucket_other name sets.List sender a of) (λ b. bucket_other name sets.Digest sender b of) (or_cases list digest (and_parts c.flags.g (list || digest) more).1))
     (or_cases (is_bucket_of sets.Moderators sender name) (c.flags.g && (list || digest)) e)
 
-module _ {F : Type 0} (told : Ghosts F) (asked : Asked) where
+module _ {F : Type 0} (ghosts : Ghosts F) (asked : Asked) where
   -- an answer from the archive may name the files that say whether it is open, and the counter of ids
   module _ (c : Config) (sender : Text) (part : Name → Bool) where
     abbrev IsOfAnswer : Name → Type 0
     IsOfAnswer name = (is_of_reader c sender name || part name || same_name name ids_name) ≡ true
 
-    pub reader_named : {T : Type 0} (r : Result T PartError) (dir : Dir) → NamesDamaged told (λ name. is_of_reader c sender name ≡ true) (IsDamaged dir) r → NamesDamaged told IsOfAnswer (IsDamagedOf dir asked) r
+    pub reader_named : {T : Type 0} (r : Result T PartError) (dir : Dir) → NamesDamaged ghosts (λ name. is_of_reader c sender name ≡ true) (IsDamaged dir) r → NamesDamaged ghosts IsOfAnswer (IsDamagedOf dir asked) r
     reader_named r dir is =
-        named_beside told IsOfAnswer r dir dir asked (λ name. is_of_reader c sender name ≡ true) (λ t. refl)
+        named_beside ghosts IsOfAnswer r dir dir asked (λ name. is_of_reader c sender name ≡ true) (λ t. refl)
         (λ name e. or_left (is_of_reader c sender name || part name) (same_name name ids_name) (or_left (is_of_reader c sender name) (part name) e)) (λ name e of. reader_other name c sender e of) is
 
-    pub part_named : {T : Type 0} (r : Result T PartError) (later dir : Dir) → (IsTrue told.tells → later ≡ dir) → NamesDamaged told (λ name. part name ≡ true) (IsDamagedOf later asked) r → NamesDamaged told IsOfAnswer (IsDamagedOf dir asked) r
+    pub part_named : {T : Type 0} (r : Result T PartError) (later dir : Dir) → (IsTrue ghosts.tells → later ≡ dir) → NamesDamaged ghosts (λ name. part name ≡ true) (IsDamagedOf later asked) r → NamesDamaged ghosts IsOfAnswer (IsDamagedOf dir asked) r
     part_named r later dir same is =
-        named_as told IsOfAnswer r dir later (λ name. part name ≡ true) (λ d. IsDamagedOf d asked) (IsDamagedOf dir asked) same
+        named_as ghosts IsOfAnswer r dir later (λ name. part name ≡ true) (λ d. IsDamagedOf d asked) (IsDamagedOf dir asked) same
         (λ name e. or_left (is_of_reader c sender name || part name) (same_name name ids_name) (or_right (is_of_reader c sender name) (part name) e)) (λ name e bad. bad) is
 
-    pub answer_act : (r : Result (List Put × Reply) PartError) → KeepsOn told → (first second third : F) → AreKept told first second → (IsTrue told.tells → told.map second ≡ told.map first)
-        → AnswersWithin is_of_queue told (λ name. same_name name ids_name ≡ true) (IsDamaged (told.map second)) second third r → AnswersWithin is_of_queue told IsOfAnswer (IsDamagedOf (told.map first) asked) first third r
+    pub answer_act : (r : Result (List Put × Reply) PartError) → KeepsOn ghosts → (first second third : F) → AreKept ghosts first second → (IsTrue ghosts.tells → ghosts.map second ≡ ghosts.map first)
+        → AnswersWithin is_of_queue ghosts (λ name. same_name name ids_name ≡ true) (IsDamaged (ghosts.map second)) second third r → AnswersWithin is_of_queue ghosts IsOfAnswer (IsDamagedOf (ghosts.map first) asked) first third r
     answer_act r on first second third kept same act =
-        act_beside told asked on kept same (λ name e. or_right (is_of_reader c sender name || part name) (same_name name ids_name) e) (λ name e of. ids_other name e of) act
+        act_beside ghosts asked on kept same (λ name e. or_right (is_of_reader c sender name || part name) (same_name name ids_name) e) (λ name e of. ids_other name e of) act

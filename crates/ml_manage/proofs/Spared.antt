@@ -16,7 +16,7 @@ use Rattle.ml_base.specs.declared.part_error.PartError.{PartError}
 use Rattle.ml_base.proofs.Bools.{one_name}
 use Rattle.ml_base.proofs.DamagedNames.{err_both_damaged, err_damaged}
 use Rattle.ml_bounce.specs.Answers.{has_ledger, key_file}
-use Rattle.ml_bounce.specs.Files.{IsLedgerFile, ledger_place}
+use Rattle.ml_bounce.specs.Files.{IsLedgerFile, bucket_of}
 use Rattle.ml_config.specs.KeyFile.{key_name}
 use Rattle.ml_config.specs.declared.configuration.Config.{Config}
 use Rattle.ml_digest.specs.Due.{IsNoMark, mark_name}
@@ -34,18 +34,18 @@ use Rattle.ml_joining.specs.Damaged.{IsDamagedAmong}
 use Rattle.ml_manage.specs.Reads.{is_of_members, is_of_reader, is_of_signed, is_of_warning}
 
 -- a call that names no file of these names none
-pub none_named : {F T : Type 0} (told : Ghosts F) (r : Result T PartError) (May Bad : Name → Type 0) → IsTrue told.tells → ((name : Name) → May name → Bad name → ⊥) → NamesDamaged told May Bad r → IfErr r (λ e. OnDamaged e (λ _. ⊥))
-none_named told r May Bad t none is = err_both_damaged r May Bad (λ _. ⊥) none is.named (is.damaged t)
+pub none_named : {F T : Type 0} (ghosts : Ghosts F) (r : Result T PartError) (May Bad : Name → Type 0) → IsTrue ghosts.tells → ((name : Name) → May name → Bad name → ⊥) → NamesDamaged ghosts May Bad r → IfErr r (λ e. OnDamaged e (λ _. ⊥))
+none_named ghosts r May Bad t none is = err_both_damaged r May Bad (λ _. ⊥) none is.named (is.damaged t)
 
 -- the same of files that were kept
-pub none_after : {F T : Type 0} (told : Ghosts F) (r : Result T PartError) (May : Name → Type 0) (Bad : Dir → Name → Type 0) (old new : Dir) → IsTrue told.tells → new ≡ old → ((name : Name) → May name → Bad old name → ⊥) → NamesDamaged told May (Bad new) r
+pub none_after : {F T : Type 0} (ghosts : Ghosts F) (r : Result T PartError) (May : Name → Type 0) (Bad : Dir → Name → Type 0) (old new : Dir) → IsTrue ghosts.tells → new ≡ old → ((name : Name) → May name → Bad old name → ⊥) → NamesDamaged ghosts May (Bad new) r
     → IfErr r (λ e. OnDamaged e (λ _. ⊥))
-none_after told r May Bad old new t kept none is = err_both_damaged r May (Bad old) (λ _. ⊥) none is.named (subst (λ (d : Dir). IfErr r (λ e. OnDamaged e (Bad d))) kept (is.damaged t))
+none_after ghosts r May Bad old new t kept none is = err_both_damaged r May (Bad old) (λ _. ⊥) none is.named (subst (λ (d : Dir). IfErr r (λ e. OnDamaged e (Bad d))) kept (is.damaged t))
 
 -- and if no list has the files that it looks at
-pub none_looked : {F T : Type 0} {May : Name → Type 0} {looked : Name → Bool} {old : Dir} (told : Ghosts F) (r : Result T PartError) → IsTrue told.tells → NamesDamaged told May (IsDamagedAmong looked old) r → (dir : Dir) (p : Plain) → Alike looked old dir → IsList dir p
+pub none_looked : {F T : Type 0} {May : Name → Type 0} {looked : Name → Bool} {old : Dir} (ghosts : Ghosts F) (r : Result T PartError) → IsTrue ghosts.tells → NamesDamaged ghosts May (IsDamagedAmong looked old) r → (dir : Dir) (p : Plain) → Alike looked old dir → IsList dir p
     → IfErr r (λ e. OnDamaged e (λ _. ⊥))
-none_looked {looked = looked} {old = old} told r t names dir p alike is = err_damaged r (IsDamagedAmong looked old) (λ _. ⊥) (λ name bad. bad.none dir p alike is) (names.damaged t)
+none_looked {looked = looked} {old = old} ghosts r t names dir p alike is = err_damaged r (IsDamagedAmong looked old) (λ _. ⊥) (λ name bad. bad.none dir p alike is) (names.damaged t)
 
 module _ (old dir : Dir) (p : Plain) (is : IsList dir p) where
   -- the mark, and the number of posts
@@ -59,12 +59,12 @@ module _ (old dir : Dir) (p : Plain) (is : IsList dir p) where
 
   -- the file of an address in a ledger
   module _ (set : Set) (x : Text) where
-    place_low : ledger_place (key x) < 53
+    place_low : bucket_of (key x) < 53
     place_low = mod_below (hash_of (key x)) 53 (omega arith)
 
     of_ledger : (set : Set) → has_ledger set ≡ true → dir (key_file set (key x)) ≡ old (key_file set (key x)) → IsDamaged old (key_file set (key x)) → ⊥
-    of_ledger sets.List has same = let are = is.list_ledger in ledger_agrees old sets.List (ledger_place (key x)) _ has (subst (λ (f : Option Text). IsLedgerFile (ledger_place (key x)) f (are.buckets (ledger_place (key x)))) same (are.files (ledger_place (key x)) place_low))
-    of_ledger sets.Digest has same = let are = is.digest_ledger in ledger_agrees old sets.Digest (ledger_place (key x)) _ has (subst (λ (f : Option Text). IsLedgerFile (ledger_place (key x)) f (are.buckets (ledger_place (key x)))) same (are.files (ledger_place (key x)) place_low))
+    of_ledger sets.List has same = let are = is.list_ledger in ledger_agrees old sets.List (bucket_of (key x)) _ has (subst (λ (f : Option Text). IsLedgerFile (bucket_of (key x)) f (are.buckets (bucket_of (key x)))) same (are.files (bucket_of (key x)) place_low))
+    of_ledger sets.Digest has same = let are = is.digest_ledger in ledger_agrees old sets.Digest (bucket_of (key x)) _ has (subst (λ (f : Option Text). IsLedgerFile (bucket_of (key x)) f (are.buckets (bucket_of (key x)))) same (are.files (bucket_of (key x)) place_low))
     of_ledger sets.Allow has same = absurd (let bad : false ≡ true = has in cc)
     of_ledger sets.Deny has same = absurd (let bad : false ≡ true = has in cc)
     of_ledger sets.Moderators has same = absurd (let bad : false ≡ true = has in cc)

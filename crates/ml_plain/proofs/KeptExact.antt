@@ -9,7 +9,7 @@ use Rattle.ml_rows.specs.Values.{line_number, number_line}
 use Rattle.ml_rows.proofs.RowLaws.{one_some, none_some, only_read, only_there}
 use Rattle.ml_rows.proofs.ValueLaws.{line_read, line_written}
 use Rattle.ml_plain.specs.declared.Reply.{Reply}
-use Rattle.ml_plain.specs.KeptFiles.{is_kept, IsFloorFile, floor_file, IsSlot, slot_text}
+use Rattle.ml_plain.specs.KeptFiles.{may_be_kept, IsFloorFile, floor_file, IsSlot, slot_text}
 use Rattle.ml_plain.specs.KeptRead.{floor_in, if_kept, reply_in}
 use Rattle.ml_plain.proofs.Slots.{kept_small}
 
@@ -82,11 +82,11 @@ slot_there n (Some r) is =
     ∙ ap (λ m. if_kept n (record { code = r.code; number = m })) number
     ∙ ap₂ (λ s t. if_fits r (not s && t)) (ne_eqb n 0 is.0) is.1
 
-fits_is : (n : ℕ) (r : Reply) (o : Option Reply) → if_kept n r ≡ Some o → (o ≡ Some r) × (n ≢ 0) × (is_kept r ≡ true)
-fits_is n r o e = go (n == 0) refl (is_kept r) refl
+fits_is : (n : ℕ) (r : Reply) (o : Option Reply) → if_kept n r ≡ Some o → (o ≡ Some r) × (n ≢ 0) × (may_be_kept r ≡ true)
+fits_is n r o e = go (n == 0) refl (may_be_kept r) refl
   where
-    go : (s : Bool) → (n == 0) ≡ s → (t : Bool) → is_kept r ≡ t → (o ≡ Some r) × (n ≢ 0) × (is_kept r ≡ true)
-    go true p t q = absurd (none_some o (sym (ap (λ b. if_fits r (not b && is_kept r)) p) ∙ e))
+    go : (s : Bool) → (n == 0) ≡ s → (t : Bool) → may_be_kept r ≡ t → (o ≡ Some r) × (n ≢ 0) × (may_be_kept r ≡ true)
+    go true p t q = absurd (none_some o (sym (ap (λ b. if_fits r (not b && may_be_kept r)) p) ∙ e))
     go false p false q = absurd (none_some o (sym (ap₂ (λ a b. if_fits r (not a && b)) p q) ∙ e))
     go false p true q =
         (sym (one_some (some r) o (sym (ap₂ (λ a b. if_fits r (not a && b)) p q) ∙ e)), (λ z. let bad : true ≡ false = sym (ap (λ m. m == 0) z) ∙ p in cc), q)

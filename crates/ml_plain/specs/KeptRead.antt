@@ -6,7 +6,7 @@ use Rattle.ml_base.specs.Bytes.{Text, is_nul}
 use Rattle.ml_rows.specs.Rows.{only_if}
 use Rattle.ml_rows.specs.Values.{line_number}
 use Rattle.ml_plain.specs.declared.Reply.{Reply}
-use Rattle.ml_plain.specs.KeptFiles.{is_kept}
+use Rattle.ml_plain.specs.KeptFiles.{may_be_kept}
 
 -- the floor that a file is read as: 1 if it is absent, otherwise its number, which is at least 2 and has an LF after it
 abbrev pub floor_in : Option Text → Option ℕ
@@ -15,7 +15,7 @@ floor_in (Some text) = only_if (nat_le 2) (line_number 999_999_999_999 text)
 
 -- a reply that may be kept for a number, which isn't 0
 abbrev pub if_kept : ℕ → Reply → Option (Option Reply)
-if_kept n r = if not (n == 0) && is_kept r then Some (Some r) else None
+if_kept n r = if not (n == 0) && may_be_kept r then Some (Some r) else None
 
 -- what nine bytes are read as, for a number: no reply if all are zero; otherwise a code, and a number with its most significant byte first
 abbrev pub nine_in : ℕ → ℕ → Text → Option (Option Reply)

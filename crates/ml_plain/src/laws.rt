@@ -22,7 +22,7 @@ ghost use Rattle.ml_subs.specs.declared.member_list.Member.{Member};
 ghost use Rattle.ml_subs.specs.Subscribers.{AreSubscribers, is_touched};
 ghost use Rattle.ml_plain.specs.Directory.{LawLaidNew, LawNewList, IsList, IsState, is_of_list, is_of_state, archive_kinds, held_kinds, queue_kinds, list_ledger_kinds, digest_ledger_kinds, mark_kinds, keys_kinds};
 ghost use Rattle.ml_plain.specs.Histories.{State, Kept, keep, from_floor};
-ghost use Rattle.ml_plain.specs.KeptFiles.{AreReplies, IsFloorFile, IsRepliesFile, IsSlot, IsWritten, IsRisen, slots_of, slot_text, is_kept, replies_name, is_of_replies};
+ghost use Rattle.ml_plain.specs.KeptFiles.{AreReplies, IsFloorFile, IsRepliesFile, IsSlot, IsWritten, IsRisen, slots_of, slot_text, may_be_kept, replies_name, is_of_replies};
 ghost use Rattle.ml_plain.specs.KeptRead.{floor_in, reply_in};
 ghost use Rattle.ml_plain.specs.MailFields.{LawMails};
 ghost use Rattle.ml_plain.specs.SentMails.{LawSentMails};
@@ -119,7 +119,7 @@ pub fn law_parts()
 
 /// What the kept replies are after a change of their files: with one reply more, with a floor that stays, and with one that rises.
 pub fn law_changes()
-    ensures reply { (dir : Dir) (floor : ℕ) (kept : Kept) (n : ℕ) (r : Reply) (new : Text) → AreReplies dir floor kept → n ≢ 0 → floor ≤ n → n ≤ 999_999_999_999 → is_kept r ≡ true →
+    ensures reply { (dir : Dir) (floor : ℕ) (kept : Kept) (n : ℕ) (r : Reply) (new : Text) → AreReplies dir floor kept → n ≢ 0 → floor ≤ n → n ≤ 999_999_999_999 → may_be_kept r ≡ true →
         IsWritten (slots_of (dir (replies_name (n / 512)))) (n % 512) (Some r) new → AreReplies (with_file dir (replies_name (n / 512)) (Some new)) floor (keep n r kept) }
     ensures floor_kept { (dir : Dir) (f at : ℕ) (kept : Kept) → AreReplies dir f kept → at ≤ f → AreReplies dir (max f at) (from_floor (max f at) kept) }
     ensures floor_risen { (dir other : Dir) (f at : ℕ) (kept : Kept) → AreReplies dir f kept → f < at → at ≤ 999_999_999_999 → IsRisen dir other f at →

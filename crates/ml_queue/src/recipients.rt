@@ -5,7 +5,9 @@ ghost use Rattle.ml_base.specs.Address.{IsAddress};
 ghost use Rattle.ml_base.specs.Splits.{ns_row};
 ghost use Rattle.ml_queue.specs.Reading.{AreRecipients};
 
-use ml_base::{Address, AddressList, Bytes, is_below, is_kept, push_netstring, split_netstring};
+use ml_base::{
+    Address, AddressList, Bytes, is_below, is_canonical, push_netstring, split_netstring,
+};
 use std::alloc::{AllocError, Global};
 
 // The recipients that a text spells, or None if it doesn't spell addresses in ascending order of key.
@@ -19,13 +21,13 @@ pub(crate) fn recipients_of(alloc: Global, text: &[u8]) -> Result<Option<Address
         let Some((who, more)) = split_netstring(rest) else {
             return Ok(None);
         };
-        if !is_kept(who) {
+        if !is_canonical(who) {
             return Ok(None);
         }
         if !is_below(last, who) {
             return Ok(None);
         }
-        out.push(Address::from_kept(alloc, who)?)?;
+        out.push(Address::from_canonical(alloc, who)?)?;
         last = who;
         rest = more;
     }

@@ -273,7 +273,7 @@ impl Changes {
     }
 
     // The log's bytes, as they read, go into a new file, which is synced and then takes the log's name; the folder is synced after that.
-    // At every moment one of the two is whole under that name. The lock is a file of its own and holds throughout.
+    // At every instant one of the two is whole under that name. The lock is a file of its own and holds throughout.
     //
     // Any other order could lose answered items in a crash:
     // - bytes written in place are pending until a sync is good: the whole log may be left with any bytes;

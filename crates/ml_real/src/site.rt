@@ -92,7 +92,7 @@ impl<'a> Site for RealSite<'a> {
 
     ghost output = { λ _. [] };
 
-    ghost moment = { λ _. 0 };
+    ghost instant = { λ _. 0 };
 
     ghost left_since = { λ _ _ _ _. Unit {0} };
 
@@ -195,7 +195,7 @@ impl<'a> Site for RealSite<'a> {
 
     ghost reads_as_image = { λ s t. untold t };
 
-    ghost is_a_moment = { λ s t told le. untold told };
+    ghost is_an_instant = { λ s t told le. untold told };
 
     ghost only_now = { λ s c o told left. untold told };
 }

@@ -5,13 +5,13 @@ use Rattle.ml_base.specs.Bytes.{Text}
 use Rattle.ml_base.specs.Dir.{Dir, with_puts}
 use Rattle.ml_base.specs.declared.puts.Put.{Put}
 use Rattle.ml_site.specs.Disk.{Contents, IsImage, Now}
-use Rattle.ml_site.specs.Moments.{LeavesOnly, FromFirstSync}
+use Rattle.ml_site.specs.Instants.{LeavesOnly, FromFirstSync}
 use Rattle.ml_site.specs.declared.site.Site.{Ghosts}
 use Rattle.ml_site.proofs.Steps.{first_weaker, joins, weaker, rest_contents}
 use Rattle.ml_journal.specs.Calls.{Leaves}
 use Rattle.ml_journal.specs.Kept.{IsKept, IsStill}
 use Rattle.ml_journal.specs.Log.{directory}
-use Rattle.ml_journal.specs.Moments.{with_txn, IsOld}
+use Rattle.ml_journal.specs.Instants.{with_txn, IsOld}
 use Rattle.ml_journal.specs.Stores.{site_of, the_dir}
 use Rattle.ml_journal.specs.declared.store.Store.{Store}
 use Rattle.ml_plain.specs.declared.Item.{Item}
@@ -21,11 +21,11 @@ use Rattle.ml_ending.specs.Endings.{StopLine, SaysAtMost, IsUnopened, Opens, Say
 use Rattle.ml_ending.specs.Lines.{stop_text}
 use Rattle.ml_ending.specs.Stops.{status_of_why}
 use Rattle.ml_ending.proofs.Leaving.{said_leaves}
-use Rattle.ml_run.specs.declared.groups.Group.{Group}
-use Rattle.ml_run.specs.Groups.{IsEmptyGroup}
+use Rattle.ml_run.specs.declared.batches.Batch.{Batch}
+use Rattle.ml_run.specs.Batches.{IsEmptyBatch}
 use Rattle.ml_run.specs.Leaving.{IsSettling}
 use Rattle.ml_run.specs.Settling.{IsSettled, IsUnsettled, LeavesSettling}
-use Rattle.ml_run.specs.Anywhere.{Done, items_of, answers_of, after, IsDone, AreDone, Adds, HoldsDone, IsAfterFirst, HasDone, AtEachMoment}
+use Rattle.ml_run.specs.Anywhere.{Done, items_of, answers_of, after, IsDone, AreDone, Adds, HoldsDone, IsAfterFirst, HasDone, AtEachInstant}
 use Rattle.ml_run.proofs.LaidPuts.{laid_over}
 
 -- two rows, one after the other
@@ -51,12 +51,12 @@ pub done_joined : (files : Dir) (xs ys : List Done) → AreDone files xs → Are
 done_joined files [] ys a b = b
 done_joined files (x ∷ xs) ys a b = (a.0, done_joined (with_puts files x.puts) xs ys a.1 b)
 
--- a group without items
-pub none_done : (files : Dir) (g : Group) → IsEmptyGroup g → HoldsDone files g []
+-- a batch without items
+pub none_done : (files : Dir) (g : Batch) → IsEmptyBatch g → HoldsDone files g []
 none_done files g e = record { laid = ap (λ (txn : List Put). with_puts files txn) e.txn; lines = e.lines; count = e.count; are = tt }
 
--- a group with one item more
-pub one_done : (files : Dir) (g new : Group) (done : List Done) (d : Done) → HoldsDone files g done → Adds files g new d → HoldsDone files new (done ++ d ∷ [])
+-- a batch with one item more
+pub one_done : (files : Dir) (g new : Batch) (done : List Done) (d : Done) → HoldsDone files g done → Adds files g new d → HoldsDone files new (done ++ d ∷ [])
 one_done files g new done d h a =
     let own = line d.item.number d.reply in record {
       laid = ap (λ (txn : List Put). with_puts files txn) a.next.txn ∙ laid_over files g.txn d.puts ∙ ap (λ (f : Dir). with_puts f d.puts) h.laid ∙ sym (after_joined files done (d ∷ []));
@@ -66,7 +66,7 @@ one_done files g new done d h a =
     }
 
 -- the same over another name of the directory
-pub adds_over : (old new : Dir) (g next : Group) (d : Done) → new ≡ old → Adds new g next d → Adds old g next d
+pub adds_over : (old new : Dir) (g next : Batch) (d : Done) → new ≡ old → Adds new g next d → Adds old g next d
 adds_over old new g next d is a = subst (λ (f : Dir). Adds f g next d) is a
 
 -- all of these are done, and their answers are out
@@ -124,169 +124,169 @@ nothing_done files done before out left dir put = ⊎_elim
     (λ said. some_said files [] [] done before out left None said.0 said.1 dir (said.2 ∙ ap (λ (o : Text). o ++ take said.1 (stop_text None (status_of_why said.0) said.0)) (sym (append-nil before))))
     put
 
--- a directory with a group's txn
-pub with_group : (files : Dir) (done more : List Done) (g : Group) (dir : Option Dir) → dir ≡ Some (after files done) → HoldsDone (after files done) g more → with_txn g.txn dir ≡ Some (after files (done ++ more))
-with_group files done more g dir here h = ap (with_txn g.txn) here ∙ ap (λ (f : Dir). Some f) (h.laid ∙ sym (after_joined files done more))
+-- a directory with a batch's txn
+pub with_batch : (files : Dir) (done more : List Done) (g : Batch) (dir : Option Dir) → dir ≡ Some (after files done) → HoldsDone (after files done) g more → with_txn g.txn dir ≡ Some (after files (done ++ more))
+with_batch files done more g dir here h = ap (with_txn g.txn) here ∙ ap (λ (f : Dir). Some f) (h.laid ∙ sym (after_joined files done more))
 
 -- during a commit and its answers
-pub settling_done : (files : Dir) (done more : List Done) (g : Group) (before output lines : Text) (dir : Option Dir) (left : Contents) (out : Text)
+pub settling_done : (files : Dir) (done more : List Done) (g : Batch) (before output lines : Text) (dir : Option Dir) (left : Contents) (out : Text)
     → dir ≡ Some (after files done) → HoldsDone (after files done) g more → lines ≡ g.lines → output ≡ before ++ answers_of done
     → IsSettling dir g.txn lines output left out → IsAfterFirst files (done ++ more) before left out
 settling_done files done more g before output lines dir left out here h is put s = ⊎_elim
     (λ old. all_answered files done more before out left (old.0 ∙ here) (old.1 ∙ put))
-    (λ new. some_answering files done more before out left new.1.0 (new.0 ∙ with_group files done more g dir here h)
+    (λ new. some_answering files done more before out left new.1.0 (new.0 ∙ with_batch files done more g dir here h)
     (new.1.1 ∙ ap (λ (t : Text). output ++ take new.1.0 t) (is ∙ h.lines) ∙ ap (λ (t : Text). t ++ take new.1.0 (answers_of more)) put))
     s
 
--- a group over the directory that a site shows
-pub group_here : (files : Dir) (done more : List Done) (g : Group) (dir : Option Dir) → dir ≡ Some (after files done) → HoldsDone (the_dir dir) g more → HoldsDone (after files done) g more
-group_here files done more g dir here h = subst (λ (f : Dir). HoldsDone f g more) (ap the_dir here) h
+-- a batch over the directory that a site shows
+pub batch_here : (files : Dir) (done more : List Done) (g : Batch) (dir : Option Dir) → dir ≡ Some (after files done) → HoldsDone (the_dir dir) g more → HoldsDone (after files done) g more
+batch_here files done more g dir here h = subst (λ (f : Dir). HoldsDone f g more) (ap the_dir here) h
 
-module _ {S : Type 0} (told : Ghosts S) where
+module _ {S : Type 0} (ghosts : Ghosts S) where
   -- nothing is done yet, on a store
-  pub first_done : (files : Dir) (start : S) → directory (told.disk start).reads ≡ Some files → Leaves told start start (IsStill told start) → HasDone told files start start []
+  pub first_done : (files : Dir) (start : S) → directory (ghosts.disk start).reads ≡ Some files → Leaves ghosts start start (IsStill ghosts start) → HasDone ghosts files start start []
   first_done files start here still = record {
     are = tt;
     dir = here;
-    put = λ t. sym (append-nil (told.output start));
-    moments = λ t. weaker told.moment told.left_since told.disk told.output start start (IsStill told start) (IsAfterFirst files [] (told.output start)) (still t)
-        (λ left out p. nothing_done files [] (told.output start) out left (ap directory p.0 ∙ here) (inl p.1));
+    put = λ t. sym (append-nil (ghosts.output start));
+    instants = λ t. weaker ghosts.instant ghosts.left_since ghosts.disk ghosts.output start start (IsStill ghosts start) (IsAfterFirst files [] (ghosts.output start)) (still t)
+        (λ left out p. nothing_done files [] (ghosts.output start) out left (ap directory p.0 ∙ here) (inl p.1));
   }
 
-  -- the moments of a group that was read, and of its commit and answers
-  pub settling_moments : (files : Dir) (start : S) (old read : Store S told) (new : S) (done more : List Done) (g : Group) (lines : Text) → (IsTrue told.tells_all → IsTrue told.tells_reads)
-      → HasDone told files start (site_of old) done → HoldsDone (after files done) g more → lines ≡ g.lines → IsKept old read → LeavesSettling told g.txn lines (site_of read) new → Leaves told start new (IsAfterFirst files (done ++ more) (told.output start))
-  settling_moments files start old read new done more g lines reads s h is kept time t =
-      let P = IsAfterFirst files (done ++ more) (told.output start) in
-      let dir = directory (told.disk (site_of read)).reads in
-      let one = joins told.moment told.left_since told.disk told.output start (site_of old) (site_of read) (IsAfterFirst files done (told.output start)) (IsStill told (site_of old)) P (s.moments t) (kept.moments t)
-      (λ left out p. first_wider files done more (told.output start) out left p)
-      (λ left out p. all_answered files done more (told.output start) out left (ap directory p.0 ∙ s.dir) (p.1 ∙ s.put t)) in
-      joins told.moment told.left_since told.disk told.output start (site_of read) new P (IsSettling dir g.txn lines (told.output (site_of read))) P one (time t) (λ left out p. p)
-      (λ left out p. settling_done files done more g (told.output start) (told.output (site_of read)) lines dir left out (ap directory (kept.reads (reads t)) ∙ s.dir) h is (kept.output_is t ∙ s.put t) p)
+  -- the instants of a batch that was read, and of its commit and answers
+  pub settling_instants : (files : Dir) (start : S) (old read : Store S ghosts) (new : S) (done more : List Done) (g : Batch) (lines : Text) → (IsTrue ghosts.tells_all → IsTrue ghosts.tells_reads)
+      → HasDone ghosts files start (site_of old) done → HoldsDone (after files done) g more → lines ≡ g.lines → IsKept old read → LeavesSettling ghosts g.txn lines (site_of read) new → Leaves ghosts start new (IsAfterFirst files (done ++ more) (ghosts.output start))
+  settling_instants files start old read new done more g lines reads s h is kept time t =
+      let P = IsAfterFirst files (done ++ more) (ghosts.output start) in
+      let dir = directory (ghosts.disk (site_of read)).reads in
+      let one = joins ghosts.instant ghosts.left_since ghosts.disk ghosts.output start (site_of old) (site_of read) (IsAfterFirst files done (ghosts.output start)) (IsStill ghosts (site_of old)) P (s.instants t) (kept.instants t)
+      (λ left out p. first_wider files done more (ghosts.output start) out left p)
+      (λ left out p. all_answered files done more (ghosts.output start) out left (ap directory p.0 ∙ s.dir) (p.1 ∙ s.put t)) in
+      joins ghosts.instant ghosts.left_since ghosts.disk ghosts.output start (site_of read) new P (IsSettling dir g.txn lines (ghosts.output (site_of read))) P one (time t) (λ left out p. p)
+      (λ left out p. settling_done files done more g (ghosts.output start) (ghosts.output (site_of read)) lines dir left out (ap directory (kept.reads (reads t)) ∙ s.dir) h is (kept.output_is t ∙ s.put t) p)
 
-  -- a group was committed and answered
-  pub next_done : (files : Dir) (start : S) (old read : Store S told) (new : S) (done more : List Done) (g : Group) (lines : Text) → (IsTrue told.tells_all → IsTrue told.tells_reads) → IsTrue told.tells_reads
-      → HasDone told files start (site_of old) done → HoldsDone (after files done) g more → lines ≡ g.lines → IsKept old read → IsSettled told g.txn lines (site_of read) new → LeavesSettling told g.txn lines (site_of read) new
-      → HasDone told files start new (done ++ more)
+  -- a batch was committed and answered
+  pub next_done : (files : Dir) (start : S) (old read : Store S ghosts) (new : S) (done more : List Done) (g : Batch) (lines : Text) → (IsTrue ghosts.tells_all → IsTrue ghosts.tells_reads) → IsTrue ghosts.tells_reads
+      → HasDone ghosts files start (site_of old) done → HoldsDone (after files done) g more → lines ≡ g.lines → IsKept old read → IsSettled ghosts g.txn lines (site_of read) new → LeavesSettling ghosts g.txn lines (site_of read) new
+      → HasDone ghosts files start new (done ++ more)
   next_done files start old read new done more g lines reads r s h is kept ends time = record {
     are = done_joined files done more s.are h.are;
-    dir = ends.dir r ∙ with_group files done more g (directory (told.disk (site_of read)).reads) (ap directory (kept.reads r) ∙ s.dir) h;
-    put = λ t. ends.put t ∙ ap (λ (o : Text). o ++ lines) (kept.output_is t ∙ s.put t) ∙ ap (λ (l : Text). (told.output start ++ answers_of done) ++ l) (is ∙ h.lines)
-        ∙ append_assoc (told.output start) (answers_of done) (answers_of more) ∙ ap (λ (l : Text). told.output start ++ l) (sym (answers_joined done more));
-    moments = settling_moments files start old read new done more g lines reads s h is kept time;
+    dir = ends.dir r ∙ with_batch files done more g (directory (ghosts.disk (site_of read)).reads) (ap directory (kept.reads r) ∙ s.dir) h;
+    put = λ t. ends.put t ∙ ap (λ (o : Text). o ++ lines) (kept.output_is t ∙ s.put t) ∙ ap (λ (l : Text). (ghosts.output start ++ answers_of done) ++ l) (is ∙ h.lines)
+        ∙ append_assoc (ghosts.output start) (answers_of done) (answers_of more) ∙ ap (λ (l : Text). ghosts.output start ++ l) (sym (answers_joined done more));
+    instants = settling_instants files start old read new done more g lines reads s h is kept time;
   }
 
-  -- a run whose store was closed: its directory, and its moments
-  pub finished_dir : (files : Dir) (start now new : S) (done : List Done) (line : StopLine) (status last : ℕ) → IsTrue told.tells_reads → HasDone told files start now done → Finishes told now new line status last
-      → directory (told.disk new).reads ≡ Some (after files done)
+  -- a run whose store was closed: its directory, and its instants
+  pub finished_dir : (files : Dir) (start now new : S) (done : List Done) (line : StopLine) (status last : ℕ) → IsTrue ghosts.tells_reads → HasDone ghosts files start now done → Finishes ghosts now new line status last
+      → directory (ghosts.disk new).reads ≡ Some (after files done)
   finished_dir files start now new done line status last r s f = ⊎_elim
-      (λ quiet. ap (λ (x : S). directory (told.disk x).reads) quiet.2 ∙ f.same r ∙ s.dir)
+      (λ quiet. ap (λ (x : S). directory (ghosts.disk x).reads) quiet.2 ∙ f.same r ∙ s.dir)
       (λ said. ap directory (said.3.reads r) ∙ f.same r ∙ s.dir)
       f.said
 
-  pub finished_done : (files : Dir) (start now new : S) (done : List Done) (line : StopLine) (status last : ℕ) → HasDone told files start now done → Finishes told now new line status last
-      → Leaves told start new (IsAfterFirst files done (told.output start))
+  pub finished_done : (files : Dir) (start now new : S) (done : List Done) (line : StopLine) (status last : ℕ) → HasDone ghosts files start now done → Finishes ghosts now new line status last
+      → Leaves ghosts start new (IsAfterFirst files done (ghosts.output start))
   finished_done files start now new done line status last s f t =
-      let P = IsAfterFirst files done (told.output start) in
+      let P = IsAfterFirst files done (ghosts.output start) in
       let none : done ++ [] ≡ done = append-nil done in
-      let wide : (left : Contents) (out : Text) → IsAfterFirst files (done ++ []) (told.output start) left out → P left out = λ left out p. subst (λ (l : List Done). IsAfterFirst files l (told.output start) left out) none p in
-      let one : LeavesOnly told.moment told.left_since told.disk told.output start f.mid P =
-      joins told.moment told.left_since told.disk told.output start now f.mid P (IsOld (directory (told.disk now).reads) (told.output now)) P (s.moments t) (f.moments t) (λ left out p. p)
-      (λ left out p. wide left out (all_answered files done [] (told.output start) out left (p.0 ∙ s.dir) (p.1 ∙ s.put t))) in
+      let wide : (left : Contents) (out : Text) → IsAfterFirst files (done ++ []) (ghosts.output start) left out → P left out = λ left out p. subst (λ (l : List Done). IsAfterFirst files l (ghosts.output start) left out) none p in
+      let one : LeavesOnly ghosts.instant ghosts.left_since ghosts.disk ghosts.output start f.mid P =
+      joins ghosts.instant ghosts.left_since ghosts.disk ghosts.output start now f.mid P (IsOld (directory (ghosts.disk now).reads) (ghosts.output now)) P (s.instants t) (f.instants t) (λ left out p. p)
+      (λ left out p. wide left out (all_answered files done [] (ghosts.output start) out left (p.0 ∙ s.dir) (p.1 ∙ s.put t))) in
       ⊎_elim
-      (λ quiet. subst (λ (x : S). LeavesOnly told.moment told.left_since told.disk told.output start x P) (sym quiet.2) one)
-      (λ said. said_leaves told start f.mid new P status said.0 said.1 one
-      (λ left out n image e. wide left out (subst (λ (l : List Done). IsAfterFirst files (l ++ []) (told.output start) left out) none
-      (some_said files done [] [] (told.output start) out left said.0 said.1 n (((f.moments t).now left image).0 ∙ s.dir ∙ ap (λ (l : List Done). Some (after files l)) (sym none))
+      (λ quiet. subst (λ (x : S). LeavesOnly ghosts.instant ghosts.left_since ghosts.disk ghosts.output start x P) (sym quiet.2) one)
+      (λ said. said_leaves ghosts start f.mid new P status said.0 said.1 one
+      (λ left out n image e. wide left out (subst (λ (l : List Done). IsAfterFirst files (l ++ []) (ghosts.output start) left out) none
+      (some_said files done [] [] (ghosts.output start) out left said.0 said.1 n (((f.instants t).now left image).0 ∙ s.dir ∙ ap (λ (l : List Done). Some (after files l)) (sym none))
       (e ∙ ap (λ (o : Text). o ++ take n (stop_text said.0 (status_of_why said.1) said.1)) (f.output t ∙ s.put t))))) said.3 t)
       f.said
 
-  -- a group was refused: the directory then, and the moments
-  pub refused_dir : (files : Dir) (read mid new : S) (done more : List Done) (g : Group) (first : Option ℕ) (why : Option Why) (status : ℕ) → IsTrue told.tells_reads
-      → directory (told.disk read).reads ≡ Some (after files done) → HoldsDone (after files done) g more
-      → (directory (told.disk mid).reads ≡ directory (told.disk read).reads) ⊎ (directory (told.disk mid).reads ≡ with_txn g.txn (directory (told.disk read).reads)) → Refuses told mid new first why status
-      → (directory (told.disk new).reads ≡ Some (after files done)) ⊎ (directory (told.disk new).reads ≡ Some (after files (done ++ more)))
+  -- a batch was refused: the directory then, and the instants
+  pub refused_dir : (files : Dir) (read mid new : S) (done more : List Done) (g : Batch) (first : Option ℕ) (why : Option Why) (status : ℕ) → IsTrue ghosts.tells_reads
+      → directory (ghosts.disk read).reads ≡ Some (after files done) → HoldsDone (after files done) g more
+      → (directory (ghosts.disk mid).reads ≡ directory (ghosts.disk read).reads) ⊎ (directory (ghosts.disk mid).reads ≡ with_txn g.txn (directory (ghosts.disk read).reads)) → Refuses ghosts mid new first why status
+      → (directory (ghosts.disk new).reads ≡ Some (after files done)) ⊎ (directory (ghosts.disk new).reads ≡ Some (after files (done ++ more)))
   refused_dir files read mid new done more g first why status r here h any f =
-      let same : directory (told.disk new).reads ≡ directory (told.disk mid).reads = stays why refl in
-      ⊎_elim (λ old. inl (same ∙ old ∙ here)) (λ next. inr (same ∙ next ∙ with_group files done more g (directory (told.disk read).reads) here h)) any
+      let same : directory (ghosts.disk new).reads ≡ directory (ghosts.disk mid).reads = stays why refl in
+      ⊎_elim (λ old. inl (same ∙ old ∙ here)) (λ next. inr (same ∙ next ∙ with_batch files done more g (directory (ghosts.disk read).reads) here h)) any
     where
-      stays : (w : Option Why) → why ≡ w → directory (told.disk new).reads ≡ directory (told.disk mid).reads
-      stays None e = ap (λ (x : S). directory (told.disk x).reads) (f.quiet e).1
+      stays : (w : Option Why) → why ≡ w → directory (ghosts.disk new).reads ≡ directory (ghosts.disk mid).reads
+      stays None e = ap (λ (x : S). directory (ghosts.disk x).reads) (f.quiet e).1
       stays (Some reason) e = ap directory ((f.said reason e).reads r)
 
-  pub refused_done : (files : Dir) (start : S) (old read : Store S told) (mid new : S) (done more : List Done) (g : Group) (lines : Text) (first : Option ℕ) (why : Option Why) (status : ℕ) → (IsTrue told.tells_all → IsTrue told.tells_reads)
-      → HasDone told files start (site_of old) done → HoldsDone (after files done) g more → lines ≡ g.lines → IsKept old read → IsUnsettled told g.txn lines why (site_of read) mid → LeavesSettling told g.txn lines (site_of read) mid
-      → Refuses told mid new first why status → Leaves told start new (IsAfterFirst files (done ++ more) (told.output start))
+  pub refused_done : (files : Dir) (start : S) (old read : Store S ghosts) (mid new : S) (done more : List Done) (g : Batch) (lines : Text) (first : Option ℕ) (why : Option Why) (status : ℕ) → (IsTrue ghosts.tells_all → IsTrue ghosts.tells_reads)
+      → HasDone ghosts files start (site_of old) done → HoldsDone (after files done) g more → lines ≡ g.lines → IsKept old read → IsUnsettled ghosts g.txn lines why (site_of read) mid → LeavesSettling ghosts g.txn lines (site_of read) mid
+      → Refuses ghosts mid new first why status → Leaves ghosts start new (IsAfterFirst files (done ++ more) (ghosts.output start))
   refused_done files start old read mid new done more g lines first None status reads s h is kept ends time f t =
-      subst (λ (x : S). LeavesOnly told.moment told.left_since told.disk told.output start x (IsAfterFirst files (done ++ more) (told.output start))) (sym (f.quiet refl).1)
-      (settling_moments files start old read mid done more g lines reads s h is kept time t)
+      subst (λ (x : S). LeavesOnly ghosts.instant ghosts.left_since ghosts.disk ghosts.output start x (IsAfterFirst files (done ++ more) (ghosts.output start))) (sym (f.quiet refl).1)
+      (settling_instants files start old read mid done more g lines reads s h is kept time t)
   refused_done files start old read mid new done more g lines first (Some reason) status reads s h is kept ends time f t =
-      let P = IsAfterFirst files (done ++ more) (told.output start) in
-      let dir = directory (told.disk (site_of read)).reads in
+      let P = IsAfterFirst files (done ++ more) (ghosts.output start) in
+      let dir = directory (ghosts.disk (site_of read)).reads in
       let here : dir ≡ Some (after files done) = ap directory (kept.reads (reads t)) ∙ s.dir in
       let line = stop_text first (status_of_why reason) reason in
-      said_leaves told start mid new P status first reason (settling_moments files start old read mid done more g lines reads s h is kept time t)
+      said_leaves ghosts start mid new P status first reason (settling_instants files start old read mid done more g lines reads s h is kept time t)
       (λ left out n image e.
-      let put_is : out ≡ (told.output start ++ answers_of done) ++ take n line = e ∙ ap (λ (o : Text). o ++ take n line) (ends.quiet t refl ∙ kept.output_is t ∙ s.put t) in
+      let put_is : out ≡ (ghosts.output start ++ answers_of done) ++ take n line = e ∙ ap (λ (o : Text). o ++ take n line) (ends.quiet t refl ∙ kept.output_is t ∙ s.put t) in
       ⊎_elim
-      (λ before. subst (λ (l : List Done). IsAfterFirst files (l ++ more) (told.output start) left out) (append-nil done)
-      (some_said files done [] more (told.output start) out left first reason n (before.0 ∙ here ∙ ap (λ (l : List Done). Some (after files l)) (sym (append-nil done))) put_is))
-      (λ next. subst (λ (l : List Done). IsAfterFirst files l (told.output start) left out) (append-nil (done ++ more))
-      (some_said files done more [] (told.output start) out left first reason n (next.0 ∙ with_group files done more g dir here h) put_is))
+      (λ before. subst (λ (l : List Done). IsAfterFirst files (l ++ more) (ghosts.output start) left out) (append-nil done)
+      (some_said files done [] more (ghosts.output start) out left first reason n (before.0 ∙ here ∙ ap (λ (l : List Done). Some (after files l)) (sym (append-nil done))) put_is))
+      (λ next. subst (λ (l : List Done). IsAfterFirst files l (ghosts.output start) left out) (append-nil (done ++ more))
+      (some_said files done more [] (ghosts.output start) out left first reason n (next.0 ∙ with_batch files done more g dir here h) put_is))
       ((time t).now left image)) (f.said reason refl) t
 
   -- a store that was read from, and then a run over it
-  pub still_done : (files : Dir) (done : List Done) (old now new : S) → directory (told.disk old).reads ≡ Some files → Leaves told old now (IsStill told old) → (IsTrue told.tells_all → told.output now ≡ told.output old)
-      → Leaves told now new (IsAfterFirst files done (told.output now)) → Leaves told old new (IsAfterFirst files done (told.output old))
+  pub still_done : (files : Dir) (done : List Done) (old now new : S) → directory (ghosts.disk old).reads ≡ Some files → Leaves ghosts old now (IsStill ghosts old) → (IsTrue ghosts.tells_all → ghosts.output now ≡ ghosts.output old)
+      → Leaves ghosts now new (IsAfterFirst files done (ghosts.output now)) → Leaves ghosts old new (IsAfterFirst files done (ghosts.output old))
   still_done files done old now new here still same run t =
-      joins told.moment told.left_since told.disk told.output old now new (IsStill told old) (IsAfterFirst files done (told.output now)) (IsAfterFirst files done (told.output old)) (still t) (run t)
-      (λ left out p. nothing_done files done (told.output old) out left (ap directory p.0 ∙ here) (inl p.1))
+      joins ghosts.instant ghosts.left_since ghosts.disk ghosts.output old now new (IsStill ghosts old) (IsAfterFirst files done (ghosts.output now)) (IsAfterFirst files done (ghosts.output old)) (still t) (run t)
+      (λ left out p. nothing_done files done (ghosts.output old) out left (ap directory p.0 ∙ here) (inl p.1))
       (λ left out p. subst (λ (o : Text). IsAfterFirst files done o left out) (same t) p)
 
   -- a run over a store that was opened
-  pub opened_done : (files : Dir) (done : List Done) (start now new : S) → directory (told.disk start).reads ≡ Some files → told.output now ≡ told.output start
-      → FromFirstSync told.moment told.left_since told.disk told.output told.syncs start now (Now (told.disk start) (told.output start)) (IsOld (directory (told.disk start).reads) (told.output start))
-      → LeavesOnly told.moment told.left_since told.disk told.output now new (IsAfterFirst files done (told.output now)) → Opens told start new (IsAfterFirst files done (told.output start))
+  pub opened_done : (files : Dir) (done : List Done) (start now new : S) → directory (ghosts.disk start).reads ≡ Some files → ghosts.output now ≡ ghosts.output start
+      → FromFirstSync ghosts.instant ghosts.left_since ghosts.disk ghosts.output ghosts.syncs start now (Now (ghosts.disk start) (ghosts.output start)) (IsOld (directory (ghosts.disk start).reads) (ghosts.output start))
+      → LeavesOnly ghosts.instant ghosts.left_since ghosts.disk ghosts.output now new (IsAfterFirst files done (ghosts.output now)) → Opens ghosts start new (IsAfterFirst files done (ghosts.output start))
   opened_done files done start now new here same first run = inr (record {
     synced = first.synced;
     first = first.first;
     rest = first.rest;
     same = first.same;
     until = first.until;
-    since = joins told.moment told.left_since told.disk told.output first.synced now new (IsOld (directory (told.disk start).reads) (told.output start)) (IsAfterFirst files done (told.output now)) (IsAfterFirst files done (told.output start)) first.since run
-        (λ left out p. nothing_done files done (told.output start) out left (p.0 ∙ here) (inl p.1))
+    since = joins ghosts.instant ghosts.left_since ghosts.disk ghosts.output first.synced now new (IsOld (directory (ghosts.disk start).reads) (ghosts.output start)) (IsAfterFirst files done (ghosts.output now)) (IsAfterFirst files done (ghosts.output start)) first.since run
+        (λ left out p. nothing_done files done (ghosts.output start) out left (p.0 ∙ here) (inl p.1))
         (λ left out p. subst (λ (o : Text). IsAfterFirst files done o left out) same p);
   })
 
   -- a stop line on a site that was opened in part
-  pub said_done : (files : Dir) (start first mid new : S) (status : ℕ) (why : Why) → directory (told.disk start).reads ≡ Some files → told.output mid ≡ told.output start
-      → LeavesOnly told.moment told.left_since told.disk told.output first mid (IsOld (directory (told.disk start).reads) (told.output start)) → Says told mid new status None why → IsTrue told.tells_all
-      → LeavesOnly told.moment told.left_since told.disk told.output first new (IsAfterFirst files [] (told.output start))
+  pub said_done : (files : Dir) (start first mid new : S) (status : ℕ) (why : Why) → directory (ghosts.disk start).reads ≡ Some files → ghosts.output mid ≡ ghosts.output start
+      → LeavesOnly ghosts.instant ghosts.left_since ghosts.disk ghosts.output first mid (IsOld (directory (ghosts.disk start).reads) (ghosts.output start)) → Says ghosts mid new status None why → IsTrue ghosts.tells_all
+      → LeavesOnly ghosts.instant ghosts.left_since ghosts.disk ghosts.output first new (IsAfterFirst files [] (ghosts.output start))
   said_done files start first mid new status why here same l s t =
-      said_leaves told first mid new (IsAfterFirst files [] (told.output start)) status None why
-      (weaker told.moment told.left_since told.disk told.output first mid (IsOld (directory (told.disk start).reads) (told.output start)) (IsAfterFirst files [] (told.output start)) l
-      (λ left out p. nothing_done files [] (told.output start) out left (p.0 ∙ here) (inl p.1)))
-      (λ left out n image e. nothing_done files [] (told.output start) out left ((l.now left image).0 ∙ here) (inr (why, n, e ∙ ap (λ (o : Text). o ++ take n (stop_text None (status_of_why why) why)) same)))
+      said_leaves ghosts first mid new (IsAfterFirst files [] (ghosts.output start)) status None why
+      (weaker ghosts.instant ghosts.left_since ghosts.disk ghosts.output first mid (IsOld (directory (ghosts.disk start).reads) (ghosts.output start)) (IsAfterFirst files [] (ghosts.output start)) l
+      (λ left out p. nothing_done files [] (ghosts.output start) out left (p.0 ∙ here) (inl p.1)))
+      (λ left out n image e. nothing_done files [] (ghosts.output start) out left ((l.now left image).0 ∙ here) (inr (why, n, e ∙ ap (λ (o : Text). o ++ take n (stop_text None (status_of_why why) why)) same)))
       s t
 
   -- if what is left has P, it also has what follows from P
-  pub opens_weaker : (old new : S) (P Q : Contents → Text → Type 0) → Opens told old new P → ((left : Contents) (out : Text) → P left out → Q left out) → Opens told old new Q
+  pub opens_weaker : (old new : S) (P Q : Contents → Text → Type 0) → Opens ghosts old new P → ((left : Contents) (out : Text) → P left out → Q left out) → Opens ghosts old new Q
   opens_weaker old new P Q opens f = ⊎_elim (λ early. inl early)
-      (λ late. inr (first_weaker told.moment told.left_since told.disk told.output told.syncs old new (Now (told.disk old) (told.output old)) P (Now (told.disk old) (told.output old)) Q late (λ left out p. p) f)) opens
+      (λ late. inr (first_weaker ghosts.instant ghosts.left_since ghosts.disk ghosts.output ghosts.syncs old new (Now (ghosts.disk old) (ghosts.output old)) P (Now (ghosts.disk old) (ghosts.output old)) Q late (λ left out p. p) f)) opens
 
   -- if nothing is pending at the start, what a run leaves is known from there on
-  pub each_moment : (files : Dir) (done : List Done) (start new : S) → directory (told.disk start).reads ≡ Some files → (IsTrue told.tells_all → Opens told start new (IsAfterFirst files done (told.output start)))
-      → AtEachMoment told start new (IsAfterFirst files done (told.output start))
-  each_moment files done start new here opens = (
+  pub each_instant : (files : Dir) (done : List Done) (start new : S) → directory (ghosts.disk start).reads ≡ Some files → (IsTrue ghosts.tells_all → Opens ghosts start new (IsAfterFirst files done (ghosts.output start)))
+      → AtEachInstant ghosts start new (IsAfterFirst files done (ghosts.output start))
+  each_instant files done start new here opens = (
     opens,
     λ rest t.
-        let P = IsAfterFirst files done (told.output start) in
-        let image_is : (left : Contents) → IsImage (told.disk start) left → directory left ≡ Some files = λ left image. ap directory (rest_contents (told.disk start) left rest image) ∙ here in
+        let P = IsAfterFirst files done (ghosts.output start) in
+        let image_is : (left : Contents) → IsImage (ghosts.disk start) left → directory left ≡ Some files = λ left image. ap directory (rest_contents (ghosts.disk start) left rest image) ∙ here in
         ⊎_elim
-        (λ early. weaker told.moment told.left_since told.disk told.output start new (IsUnopened (told.disk start) (told.output start)) P early.all
-        (λ left out u. nothing_done files done (told.output start) out left (image_is left u.image) u.put))
-        (λ late. joins told.moment told.left_since told.disk told.output start late.synced new (Now (told.disk start) (told.output start)) P P late.until late.since
-        (λ left out p. nothing_done files done (told.output start) out left (image_is left p.0) (inl p.1)) (λ left out p. p))
+        (λ early. weaker ghosts.instant ghosts.left_since ghosts.disk ghosts.output start new (IsUnopened (ghosts.disk start) (ghosts.output start)) P early.all
+        (λ left out u. nothing_done files done (ghosts.output start) out left (image_is left u.image) u.put))
+        (λ late. joins ghosts.instant ghosts.left_since ghosts.disk ghosts.output start late.synced new (Now (ghosts.disk start) (ghosts.output start)) P P late.until late.since
+        (λ left out p. nothing_done files done (ghosts.output start) out left (image_is left p.0) (inl p.1)) (λ left out p. p))
         (opens t),
   )

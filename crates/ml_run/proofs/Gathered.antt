@@ -1,4 +1,4 @@
--- A group that is read, item by item.
+-- A batch that is read, item by item.
 use Rattle.std.proofs.Common.{◌≡◌, ◌≢◌, inl, inr, ⊎_elim, ℕ, ◌-◌, ◌≤◌, ◌<◌, min, List, [], ◌∷◌, ◌++◌, Option, Some, None, Ok, ap, sym, refl, subst, ◌∙◌, arith}
 use Rattle.std.proofs.lemmas.Bool.{cases_lt}
 use Rattle.ml_base.specs.Bytes.{Text}
@@ -12,15 +12,15 @@ use Rattle.ml_stream.specs.Items.{HasLeft, NextRead, ahead_of, place_of}
 use Rattle.ml_stream.specs.Stream.{StreamEnd, item_at}
 use Rattle.ml_stream.specs.declared.items.Items.{Items}
 use Rattle.ml_run.specs.declared.feed.Feed.{Ghosts as FeedGhosts}
-use Rattle.ml_run.specs.declared.groups.Group.{Group}
-use Rattle.ml_run.specs.declared.groups.GroupEnd.{GroupEnd}
-use Rattle.ml_run.specs.declared.groups.GroupEnd.TheVariants as ends
+use Rattle.ml_run.specs.declared.batches.Batch.{Batch}
+use Rattle.ml_run.specs.declared.batches.BatchEnd.{BatchEnd}
+use Rattle.ml_run.specs.declared.batches.BatchEnd.TheVariants as ends
 use Rattle.ml_run.specs.Anywhere.{Adds, Done}
-use Rattle.ml_run.specs.Gathering.{DoesGroup, IsGathered, ReadsGroup}
-use Rattle.ml_run.specs.Groups.{EndsByStream, HasNext, Holds, IsAhead, IsEmptyGroup, IsEnd, IsFullGroup, IsGroup, Takes}
+use Rattle.ml_run.specs.Gathering.{DoesBatch, IsGathered, ReadsBatch}
+use Rattle.ml_run.specs.Batches.{EndsByStream, HasNext, Holds, IsAhead, IsEmptyBatch, IsEnd, IsFullBatch, IsBatch, Takes}
 use Rattle.ml_run.proofs.Ahead.{next_ahead}
 use Rattle.ml_run.proofs.Anywhere.{none_done}
-use Rattle.ml_run.proofs.Grouping.{ended_in_time, few_bytes, gathers_more, gathers_none}
+use Rattle.ml_run.proofs.Batching.{ended_in_time, few_bytes, gathers_more, gathers_none}
 use Rattle.ml_run.proofs.ServedAnywhere.{gathers_ended_done, gathers_none_done, gathers_one_done, other_goes}
 use Rattle.ml_run.proofs.Streamed.{reads_more, reads_none, stop_by_stream}
 use Rattle.ml_run.proofs.Taking.{one_longer, takes_next, takes_none}
@@ -31,23 +31,23 @@ last_other e = cc
 pub stopped_other : (who : Option ℕ) (why : Why) → ends.Stopped who why ≢ ends.Full
 stopped_other who why e = cc
 
--- the stream says how a group ended
-pub end_by_stream : (end : GroupEnd) (more : ℕ) (reader : Items) (left : Option Text) (rest : List Item) (ending : StreamEnd) → IsEnd end more reader left rest ending → EndsByStream end more reader left rest ending
+-- the stream says how a batch ended
+pub end_by_stream : (end : BatchEnd) (more : ℕ) (reader : Items) (left : Option Text) (rest : List Item) (ending : StreamEnd) → IsEnd end more reader left rest ending → EndsByStream end more reader left rest ending
 end_by_stream ends.Full more reader left rest ending e = e
 end_by_stream ends.Last more reader left rest ending e = e
 end_by_stream (ends.Stopped who why) more reader left rest ending e = stop_by_stream why who more rest ending e
 
-other_full : (end : GroupEnd) (g : Group) (room : ℕ) → end ≢ ends.Full → IsFullGroup end g room
+other_full : (end : BatchEnd) (g : Batch) (room : ℕ) → end ≢ ends.Full → IsFullBatch end g room
 other_full ends.Full g room other = absurd (other refl)
 other_full ends.Last g room other = tt
 other_full (ends.Stopped who why) g room other = tt
 
--- a group that isn't full
-pub gathered_ended : (end : GroupEnd) (room : ℕ) (g : Group) → end ≢ ends.Full → IsGroup g → g.count ≤ room → g.count < 16 → g.size < 4_194_304 → IsGathered end room g
-gathered_ended end room g other group few low small = record { group = group; few = few; full = other_full end g room other; in_time = ended_in_time end g other (low, few_bytes g group small) }
+-- a batch that isn't full
+pub gathered_ended : (end : BatchEnd) (room : ℕ) (g : Batch) → end ≢ ends.Full → IsBatch g → g.count ≤ room → g.count < 16 → g.size < 4_194_304 → IsGathered end room g
+gathered_ended end room g other batch few low small = record { batch = batch; few = few; full = other_full end g room other; in_time = ended_in_time end g other (low, few_bytes g batch small) }
 
--- a group that has all items that it may have
-pub full_counted : (g : Group) (room : ℕ) → 0 < room → g.count ≡ min room 16 → IsFullGroup ends.Full g room
+-- a batch that has all items that it may have
+pub full_counted : (g : Batch) (room : ℕ) → 0 < room → g.count ≡ min room 16 → IsFullBatch ends.Full g room
 full_counted g room some is = (omega (arith, some, is), ⊎_elim (λ lt. inl (omega (arith, is, lt))) (λ le. inr (inr (omega (arith, is, le)))) (cases_lt 16 room))
 
 -- the feed gave this item
@@ -68,7 +68,7 @@ module _ {F : Type 0} (fed : FeedGhosts F) where
   item_ahead item now after gave rest ending a = let r = gave.read a.bytes a.has in next_ahead (fed.reader now) (fed.reader after) (fed.left now) (fed.left after) item rest ending a r.0 r.1 r.2
 
   -- no item was read yet
-  pub read_none : (room : ℕ) (g : Group) (feed : F) → IsEmptyGroup g → fed.sound feed → ReadsGroup fed ends.Full room g.last g feed feed
+  pub read_none : (room : ℕ) (g : Batch) (feed : F) → IsEmptyBatch g → fed.sound feed → ReadsBatch fed ends.Full room g.last g feed feed
   read_none room g feed empty sound = record {
     streamed = λ ahead ending a. reads_none g.last g (room - g.count) (fed.reader feed) (fed.left feed) ahead ending empty refl a;
     taken = λ bs none has.
@@ -79,16 +79,16 @@ module _ {F : Type 0} (fed : FeedGhosts F) where
     later = omega arith;
   }
 
-  pub does_none : (dir : Dir) (room : ℕ) (g : Group) (feed : F) → IsEmptyGroup g → DoesGroup fed dir ends.Full room g.last g feed feed
+  pub does_none : (dir : Dir) (room : ℕ) (g : Batch) (feed : F) → IsEmptyBatch g → DoesBatch fed dir ends.Full room g.last g feed feed
   does_none dir room g feed empty = record {
     gathered = λ ahead ending q a stands. gathers_none dir g room (fed.reader feed) (fed.left feed) ahead ending q empty a stands;
     done = gathers_none_done dir g (fed.reader feed) (fed.left feed) (none_done dir g empty);
   }
 
   -- none was to be read
-  pub read_last : (end : GroupEnd) (room : ℕ) (g : Group) (before after : F) → IsEmptyGroup g → room ≡ 0 → end ≢ ends.Full → fed.through after ≡ fed.through before → fed.faults before ≤ fed.faults after
+  pub read_last : (end : BatchEnd) (room : ℕ) (g : Batch) (before after : F) → IsEmptyBatch g → room ≡ 0 → end ≢ ends.Full → fed.through after ≡ fed.through before → fed.faults before ≤ fed.faults after
       → ((ahead : List Item) (ending : StreamEnd) → IsAhead (fed.reader before) (fed.left before) ahead ending → IsEnd end 0 (fed.reader after) (fed.left after) ahead ending)
-      → ((bs : Text) → HasLeft (fed.reader before) (fed.left before) bs → Takes end (place_of (fed.reader before)) bs [] 0 (fed.reader after) (fed.left after)) → ReadsGroup fed end room g.last g before after
+      → ((bs : Text) → HasLeft (fed.reader before) (fed.left before) bs → Takes end (place_of (fed.reader before)) bs [] 0 (fed.reader after) (fed.left after)) → ReadsBatch fed end room g.last g before after
   read_last end room g before after empty none other through later end_is took =
       let zero : 0 ≡ room - g.count = omega (arith, none) in record {
         streamed = λ ahead ending a. record {
@@ -106,8 +106,8 @@ module _ {F : Type 0} (fed : FeedGhosts F) where
       }
 
   -- one item more was read and added
-  pub read_next : (room last : ℕ) (g new : Group) (before now after : F) (item : Item) → ReadsGroup fed ends.Full room last g before now → GivesItem fed item now after → fed.sound after → fed.through after ≡ fed.through now → fed.faults now ≤ fed.faults after
-      → (puts : List Put) × (reply : Reply) × HasNext g new item.number puts reply → ReadsGroup fed ends.Full room last new before after
+  pub read_next : (room last : ℕ) (g new : Batch) (before now after : F) (item : Item) → ReadsBatch fed ends.Full room last g before now → GivesItem fed item now after → fed.sound after → fed.through after ≡ fed.through now → fed.faults now ≤ fed.faults after
+      → (puts : List Put) × (reply : Reply) × HasNext g new item.number puts reply → ReadsBatch fed ends.Full room last new before after
   read_next room last g new before now after item r gave sound through later next = record {
     streamed = λ ahead ending a.
         let s = r.streamed ahead ending a in
@@ -122,8 +122,8 @@ module _ {F : Type 0} (fed : FeedGhosts F) where
     later = omega (arith, later, r.later);
   }
 
-  pub does_next : (dir : Dir) (room last : ℕ) (g new : Group) (before now after : F) (item : Item) → DoesGroup fed dir ends.Full room last g before now → GivesItem fed item now after
-      → ((last : ℕ) (q : State) (items : List Item) → Holds dir last g q items → Holds dir last new q (items ++ item ∷ [])) → (d : Done) × (d.item ≡ item) × Adds dir g new d → DoesGroup fed dir ends.Full room last new before after
+  pub does_next : (dir : Dir) (room last : ℕ) (g new : Batch) (before now after : F) (item : Item) → DoesBatch fed dir ends.Full room last g before now → GivesItem fed item now after
+      → ((last : ℕ) (q : State) (items : List Item) → Holds dir last g q items → Holds dir last new q (items ++ item ∷ [])) → (d : Done) × (d.item ≡ item) × Adds dir g new d → DoesBatch fed dir ends.Full room last new before after
   does_next dir room last g new before now after item d gave holds add = record {
     gathered = λ ahead ending q a stands.
         let s = d.gathered ahead ending q a stands in
@@ -133,11 +133,11 @@ module _ {F : Type 0} (fed : FeedGhosts F) where
         (λ rest ending a. let n = item_ahead item now after gave rest ending a in (n.0, n.1 ∙ ap (λ (i : Item). i ∷ n.0) (sym add.1), n.2));
   }
 
-  -- the group ended for another reason than being full
-  pub read_ended : (end : GroupEnd) (room last : ℕ) (g : Group) (before now after : F) → end ≢ ends.Full → ReadsGroup fed ends.Full room last g before now → fed.through after ≡ fed.through now → fed.faults now ≤ fed.faults after
+  -- the batch ended for another reason than being full
+  pub read_ended : (end : BatchEnd) (room last : ℕ) (g : Batch) (before now after : F) → end ≢ ends.Full → ReadsBatch fed ends.Full room last g before now → fed.through after ≡ fed.through now → fed.faults now ≤ fed.faults after
       → ((rest : List Item) (ending : StreamEnd) → IsAhead (fed.reader now) (fed.left now) rest ending → EndsByStream end (room - g.count) (fed.reader after) (fed.left after) rest ending)
       → ((place : ℕ) (bs : Text) (items : List Item) → Takes ends.Full place bs items (room - g.count) (fed.reader now) (fed.left now) → Takes end place bs items (room - g.count) (fed.reader after) (fed.left after))
-      → ReadsGroup fed end room last g before after
+      → ReadsBatch fed end room last g before after
   read_ended end room last g before now after other r through later by took = record {
     streamed = λ ahead ending a. let s = r.streamed ahead ending a in record { items = s.items; rest = s.rest; split = s.split; count_is = s.count_is; answers = s.answers; ends = by s.rest ending s.ends };
     taken = λ bs none has. let t = r.taken bs none has in (t.0, t.1, took (place_of (fed.reader before)) bs t.0 t.2);
@@ -146,9 +146,9 @@ module _ {F : Type 0} (fed : FeedGhosts F) where
     later = omega (arith, later, r.later);
   }
 
-  pub does_ended : (end : GroupEnd) (dir : Dir) (room last : ℕ) (g : Group) (before now after : F) → end ≢ ends.Full → DoesGroup fed dir ends.Full room last g before now
+  pub does_ended : (end : BatchEnd) (dir : Dir) (room last : ℕ) (g : Batch) (before now after : F) → end ≢ ends.Full → DoesBatch fed dir ends.Full room last g before now
       → ((items rest : List Item) (ending : StreamEnd) (q : State) → Holds dir last g q items → IsAhead (fed.reader now) (fed.left now) rest ending → IsEnd end (room - g.count) (fed.reader after) (fed.left after) rest ending)
-      → DoesGroup fed dir end room last g before after
+      → DoesBatch fed dir end room last g before after
   does_ended end dir room last g before now after other d end_is = record {
     gathered = λ ahead ending q a stands.
         let s = d.gathered ahead ending q a stands in

@@ -18,7 +18,7 @@ use Rattle.ml_stream.specs.Writing.{IsTyped, spelled_item}
 use Rattle.ml_stream.specs.declared.stream_error.StreamError.TheVariants as errors
 use Rattle.ml_stream.proofs.Spelled.{item_written}
 use Rattle.ml_run.specs.Feeds.{IsHeld, bytes_held, reader_held}
-use Rattle.ml_run.specs.Groups.{IsOfNext}
+use Rattle.ml_run.specs.Batches.{IsOfNext}
 use Rattle.ml_run.specs.Endings.{Begins, Brings, HasMore, IsBroken, TellsStream}
 use Rattle.ml_run.specs.Leaving.{HasState}
 use Rattle.ml_run.specs.Single.{IsAlone, is_item_status}

@@ -14,7 +14,7 @@ use Rattle.ml_base.specs.declared.names.Name.{Name}
 use Rattle.ml_base.specs.declared.puts.Put.{Put}
 use Rattle.ml_base.proofs.Laid.{laid_joined}
 use Rattle.ml_base.proofs.LayLemmas.{laid_there, laid_last, laid_as_pushed, laid_distinct}
-use Rattle.ml_run.specs.Groups.{laid_all}
+use Rattle.ml_run.specs.Batches.{laid_all}
 
 -- laid over any directory they make the same as if they came after the others
 pub laid_as_joined : (puts more : List Put) (dir : Dir) (name : Name) → with_puts dir (laid_all puts more) name ≡ with_puts dir (puts ++ more) name

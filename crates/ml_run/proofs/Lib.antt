@@ -1,6 +1,6 @@
 pub mod Ahead
 pub mod LaidPuts
-pub mod Grouping
+pub mod Batching
 pub mod ItemPaths
 pub mod Leaving
 pub mod Settled

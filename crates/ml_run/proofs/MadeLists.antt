@@ -13,13 +13,13 @@ use Rattle.ml_plain.specs.Histories.{fresh}
 use Rattle.ml_plain.specs.Plain.{new_list}
 use Rattle.ml_plain.proofs.NewList.{laid_state}
 use Rattle.ml_site.specs.Disk.{Contents, Disk, IsImage, Giving, IsAtRest, Now}
-use Rattle.ml_site.specs.Moments.{LeavesOnly, FromFirstSync}
+use Rattle.ml_site.specs.Instants.{LeavesOnly, FromFirstSync}
 use Rattle.ml_site.specs.declared.site.Site.{Ghosts}
 use Rattle.ml_site.proofs.Steps.{goes_on, joins, weaker, rest_contents}
 use Rattle.ml_journal.specs.Calls.{Leaves, ChangesDirectory}
 use Rattle.ml_journal.specs.Kept.{IsStill}
 use Rattle.ml_journal.specs.Log.{directory}
-use Rattle.ml_journal.specs.Moments.{with_txn, IsOld, IsOldOrNew}
+use Rattle.ml_journal.specs.Instants.{with_txn, IsOld, IsOldOrNew}
 use Rattle.ml_journal.specs.declared.errors.OpenError.{OpenError}
 use Rattle.ml_journal.specs.declared.errors.OpenError.TheVariants as opens
 use Rattle.ml_ending.specs.declared.lines.Why.{Why}
@@ -62,157 +62,157 @@ makes_before told status dir txn line old new held output same m = ⊎_elim
     other)
     m
 
-module _ {S : Type 0} (told : Ghosts S) where
+module _ {S : Type 0} (ghosts : Ghosts S) where
   -- a stop line was said
-  pub said_makes : (start mid new : S) (dir : Option Dir) (txn : List Put) (line : Text) (status : ℕ) (why : Why) → IsTrue told.tells_reads → (IsTrue told.tells_all → told.output mid ≡ told.output start)
-      → IsUnmade why dir txn (directory (told.disk mid).reads) → Says told mid new status None why → Makes (IsTrue told.tells_all) status dir txn line (told.output start) (told.disk new).reads (told.output new)
+  pub said_makes : (start mid new : S) (dir : Option Dir) (txn : List Put) (line : Text) (status : ℕ) (why : Why) → IsTrue ghosts.tells_reads → (IsTrue ghosts.tells_all → ghosts.output mid ≡ ghosts.output start)
+      → IsUnmade why dir txn (directory (ghosts.disk mid).reads) → Says ghosts mid new status None why → Makes (IsTrue ghosts.tells_all) status dir txn line (ghosts.output start) (ghosts.disk new).reads (ghosts.output new)
   said_makes start mid new dir txn line status why r put u s =
-      let here : IsUnmade why dir txn (directory (told.disk new).reads) = subst (λ (c : Contents). IsUnmade why dir txn (directory c)) (sym (s.reads r)) u in
+      let here : IsUnmade why dir txn (directory (ghosts.disk new).reads) = subst (λ (c : Contents). IsUnmade why dir txn (directory c)) (sym (s.reads r)) u in
       ⊎_elim
       (λ whole. inr (inl (record {
         why = why;
         status_is = whole.0;
         unmade = here;
-        put = λ t. whole.1 t ∙ ap (λ (o : Text). o ++ stop_text None (status_of_why why) why) (put t) ∙ ap (λ (n : ℕ). told.output start ++ stop_text None n why) (sym whole.0);
+        put = λ t. whole.1 t ∙ ap (λ (o : Text). o ++ stop_text None (status_of_why why) why) (put t) ∙ ap (λ (n : ℕ). ghosts.output start ++ stop_text None n why) (sym whole.0);
       })))
       (λ cut. inr (inr (record {
         status_is = cut.0;
-        held_is = one_of why dir (directory (told.disk new).reads) txn here;
-        put = λ t. let c = cut.2 t in inl (one_of why dir (directory (told.disk new).reads) txn here, inr (why, c.0, c.1 ∙ ap (λ (o : Text). o ++ take c.0 (stop_text None (status_of_why why) why)) (put t)));
+        held_is = one_of why dir (directory (ghosts.disk new).reads) txn here;
+        put = λ t. let c = cut.2 t in inl (one_of why dir (directory (ghosts.disk new).reads) txn here, inr (why, c.0, c.1 ∙ ap (λ (o : Text). o ++ take c.0 (stop_text None (status_of_why why) why)) (put t)));
       })))
       s.line
 
-  -- and its moments
-  pub said_making : (start mid new : S) (before : Text) (dir : Option Dir) (txn : List Put) (line : Text) (status : ℕ) (why : Why) → LeavesOnly told.moment told.left_since told.disk told.output start mid (IsMaking dir txn line before)
-      → ((left : Contents) → IsImage (told.disk mid) left → IsOneOf dir txn (directory left)) → told.output mid ≡ before → Says told mid new status None why → IsTrue told.tells_all
-      → LeavesOnly told.moment told.left_since told.disk told.output start new (IsMaking dir txn line before)
+  -- and its instants
+  pub said_making : (start mid new : S) (before : Text) (dir : Option Dir) (txn : List Put) (line : Text) (status : ℕ) (why : Why) → LeavesOnly ghosts.instant ghosts.left_since ghosts.disk ghosts.output start mid (IsMaking dir txn line before)
+      → ((left : Contents) → IsImage (ghosts.disk mid) left → IsOneOf dir txn (directory left)) → ghosts.output mid ≡ before → Says ghosts mid new status None why → IsTrue ghosts.tells_all
+      → LeavesOnly ghosts.instant ghosts.left_since ghosts.disk ghosts.output start new (IsMaking dir txn line before)
   said_making start mid new before dir txn line status why l images put s t =
       let text = stop_text None (status_of_why why) why in
-      goes_on told.moment told.left_since told.disk told.output start mid new (IsMaking dir txn line before) (Giving (told.disk mid) (told.output mid) text) l (s.time t)
+      goes_on ghosts.instant ghosts.left_since ghosts.disk ghosts.output start mid new (IsMaking dir txn line before) (Giving (ghosts.disk mid) (ghosts.output mid) text) l (s.time t)
       (λ left out g. inl (images left g.0, inr (why, g.1.0, g.1.1 ∙ ap (λ (o : Text). o ++ take g.1.0 text) put)))
-      (λ left image. (subst (λ (d : Disk). IsImage d left) (s.disk_is t) image, says_front told mid new status None why s t))
+      (λ left image. (subst (λ (d : Disk). IsImage d left) (s.disk_is t) image, says_front ghosts mid new status None why s t))
 
   -- a list was committed, its store was closed, and its line was given
-  pub told_makes : (start old new : S) (dir : Option Dir) (txn : List Put) (line : Text) (status : ℕ) → IsTrue told.tells_reads → (IsTrue told.tells_all → told.output old ≡ told.output start)
-      → IsSome dir → directory (told.disk old).reads ≡ with_txn txn dir → TellsClosed told old new status line → Makes (IsTrue told.tells_all) status dir txn line (told.output start) (told.disk new).reads (told.output new)
+  pub told_makes : (start old new : S) (dir : Option Dir) (txn : List Put) (line : Text) (status : ℕ) → IsTrue ghosts.tells_reads → (IsTrue ghosts.tells_all → ghosts.output old ≡ ghosts.output start)
+      → IsSome dir → directory (ghosts.disk old).reads ≡ with_txn txn dir → TellsClosed ghosts old new status line → Makes (IsTrue ghosts.tells_all) status dir txn line (ghosts.output start) (ghosts.disk new).reads (ghosts.output new)
   told_makes start old new dir txn line status r put there is f =
-      let put' : IsTrue told.tells_all → told.output f.mid ≡ told.output start = λ t. f.output t ∙ put t in
-      let mid : directory (told.disk f.mid).reads ≡ with_txn txn dir = f.same r ∙ is in
+      let put' : IsTrue ghosts.tells_all → ghosts.output f.mid ≡ ghosts.output start = λ t. f.output t ∙ put t in
+      let mid : directory (ghosts.disk f.mid).reads ≡ with_txn txn dir = f.same r ∙ is in
       ⊎_elim
       (λ tells.
-      let here : directory (told.disk new).reads ≡ with_txn txn dir = ap directory (tells.1.reads r) ∙ mid in
+      let here : directory (ghosts.disk new).reads ≡ with_txn txn dir = ap directory (tells.1.reads r) ∙ mid in
       ⊎_elim
       (λ whole. inl (record { status_is = whole.0; made = (there, here); put = λ t. whole.1 t ∙ ap (λ (o : Text). o ++ line) (put' t) }))
       (λ cut. inr (inr (record { status_is = cut.0; held_is = inr here; put = λ t. let c = cut.2 t in inr ((there, here), (c.0, c.1 ∙ ap (λ (o : Text). o ++ take c.0 line) (put' t))) })))
       tells.1.line_is)
-      (λ stops. said_makes start f.mid new dir txn line status stops.0 r put' (either_unmade stops.0 dir (directory (told.disk f.mid).reads) txn (⊎_elim (λ m. inl m) (λ d. inr d.0) stops.1) (inr mid)) stops.2)
+      (λ stops. said_makes start f.mid new dir txn line status stops.0 r put' (either_unmade stops.0 dir (directory (ghosts.disk f.mid).reads) txn (⊎_elim (λ m. inl m) (λ d. inr d.0) stops.1) (inr mid)) stops.2)
       f.said
 
-  pub told_making : (start old new : S) (dir : Option Dir) (txn : List Put) (line : Text) (status : ℕ) → LeavesOnly told.moment told.left_since told.disk told.output start old (IsMaking dir txn line (told.output start))
-      → told.output old ≡ told.output start → IsSome dir → directory (told.disk old).reads ≡ with_txn txn dir → TellsClosed told old new status line → IsTrue told.tells_all
-      → LeavesOnly told.moment told.left_since told.disk told.output start new (IsMaking dir txn line (told.output start))
+  pub told_making : (start old new : S) (dir : Option Dir) (txn : List Put) (line : Text) (status : ℕ) → LeavesOnly ghosts.instant ghosts.left_since ghosts.disk ghosts.output start old (IsMaking dir txn line (ghosts.output start))
+      → ghosts.output old ≡ ghosts.output start → IsSome dir → directory (ghosts.disk old).reads ≡ with_txn txn dir → TellsClosed ghosts old new status line → IsTrue ghosts.tells_all
+      → LeavesOnly ghosts.instant ghosts.left_since ghosts.disk ghosts.output start new (IsMaking dir txn line (ghosts.output start))
   told_making start old new dir txn line status l put there is f t =
-      let put' : told.output f.mid ≡ told.output start = f.output t ∙ put in
-      let one : LeavesOnly told.moment told.left_since told.disk told.output start f.mid (IsMaking dir txn line (told.output start)) =
-      joins told.moment told.left_since told.disk told.output start old f.mid (IsMaking dir txn line (told.output start)) (IsOld (directory (told.disk old).reads) (told.output old)) (IsMaking dir txn line (told.output start)) l (f.moments t)
+      let put' : ghosts.output f.mid ≡ ghosts.output start = f.output t ∙ put in
+      let one : LeavesOnly ghosts.instant ghosts.left_since ghosts.disk ghosts.output start f.mid (IsMaking dir txn line (ghosts.output start)) =
+      joins ghosts.instant ghosts.left_since ghosts.disk ghosts.output start old f.mid (IsMaking dir txn line (ghosts.output start)) (IsOld (directory (ghosts.disk old).reads) (ghosts.output old)) (IsMaking dir txn line (ghosts.output start)) l (f.instants t)
       (λ left out p. p) (λ left out p. inl (inr (p.0 ∙ is), inl (p.1 ∙ put))) in
-      let images : (left : Contents) → IsImage (told.disk f.mid) left → directory left ≡ with_txn txn dir = λ left image. ((f.moments t).now left image).0 ∙ is in
+      let images : (left : Contents) → IsImage (ghosts.disk f.mid) left → directory left ≡ with_txn txn dir = λ left image. ((f.instants t).now left image).0 ∙ is in
       ⊎_elim
-      (λ tells. goes_on told.moment told.left_since told.disk told.output start f.mid new (IsMaking dir txn line (told.output start)) (Giving (told.disk f.mid) (told.output f.mid) line) one (tells.1.time t)
+      (λ tells. goes_on ghosts.instant ghosts.left_since ghosts.disk ghosts.output start f.mid new (IsMaking dir txn line (ghosts.output start)) (Giving (ghosts.disk f.mid) (ghosts.output f.mid) line) one (tells.1.time t)
       (λ left out g. inr ((there, images left g.0), (g.1.0, g.1.1 ∙ ap (λ (o : Text). o ++ take g.1.0 line) put')))
-      (λ left image. (subst (λ (d : Disk). IsImage d left) (tells.1.disk_is t) image, tells_front told f.mid new status line tells.1 t)))
-      (λ stops. said_making start f.mid new (told.output start) dir txn line status stops.0 one (λ left image. inr (images left image)) put' stops.2 t)
+      (λ left image. (subst (λ (d : Disk). IsImage d left) (tells.1.disk_is t) image, tells_front ghosts f.mid new status line tells.1 t)))
+      (λ stops. said_making start f.mid new (ghosts.output start) dir txn line status stops.0 one (λ left image. inr (images left image)) put' stops.2 t)
       f.said
 
   -- what a commit may leave
-  pub commit_making : (old new : S) (txn : List Put) (line : Text) → ChangesDirectory told txn old new → IsTrue told.tells_all
-      → LeavesOnly told.moment told.left_since told.disk told.output old new (IsMaking (directory (told.disk old).reads) txn line (told.output old))
+  pub commit_making : (old new : S) (txn : List Put) (line : Text) → ChangesDirectory ghosts txn old new → IsTrue ghosts.tells_all
+      → LeavesOnly ghosts.instant ghosts.left_since ghosts.disk ghosts.output old new (IsMaking (directory (ghosts.disk old).reads) txn line (ghosts.output old))
   commit_making old new txn line c t =
-      weaker told.moment told.left_since told.disk told.output old new (IsOldOrNew (directory (told.disk old).reads) txn (told.output old)) (IsMaking (directory (told.disk old).reads) txn line (told.output old)) (c.moments t)
+      weaker ghosts.instant ghosts.left_since ghosts.disk ghosts.output old new (IsOldOrNew (directory (ghosts.disk old).reads) txn (ghosts.output old)) (IsMaking (directory (ghosts.disk old).reads) txn line (ghosts.output old)) (c.instants t)
       (λ left out p. inl (p.0, inl p.1))
 
-  pub commit_images : (old new : S) (txn : List Put) → ChangesDirectory told txn old new → IsTrue told.tells_all → (left : Contents) → IsImage (told.disk new) left → IsOneOf (directory (told.disk old).reads) txn (directory left)
-  commit_images old new txn c t left image = ((c.moments t).now left image).0
+  pub commit_images : (old new : S) (txn : List Put) → ChangesDirectory ghosts txn old new → IsTrue ghosts.tells_all → (left : Contents) → IsImage (ghosts.disk new) left → IsOneOf (directory (ghosts.disk old).reads) txn (directory left)
+  commit_images old new txn c t left image = ((c.instants t).now left image).0
 
-  pub finished_making : (start old new : S) (dir : Option Dir) (txn : List Put) (line : Text) (status : ℕ) (why : Why) → LeavesOnly told.moment told.left_since told.disk told.output start old (IsMaking dir txn line (told.output start))
-      → told.output old ≡ told.output start → directory (told.disk old).reads ≡ dir → Finishes told old new (Some (None, why)) status 0 → IsTrue told.tells_all
-      → LeavesOnly told.moment told.left_since told.disk told.output start new (IsMaking dir txn line (told.output start))
+  pub finished_making : (start old new : S) (dir : Option Dir) (txn : List Put) (line : Text) (status : ℕ) (why : Why) → LeavesOnly ghosts.instant ghosts.left_since ghosts.disk ghosts.output start old (IsMaking dir txn line (ghosts.output start))
+      → ghosts.output old ≡ ghosts.output start → directory (ghosts.disk old).reads ≡ dir → Finishes ghosts old new (Some (None, why)) status 0 → IsTrue ghosts.tells_all
+      → LeavesOnly ghosts.instant ghosts.left_since ghosts.disk ghosts.output start new (IsMaking dir txn line (ghosts.output start))
   finished_making start old new dir txn line status why l put is f t =
-      let one : LeavesOnly told.moment told.left_since told.disk told.output start f.mid (IsMaking dir txn line (told.output start)) =
-      joins told.moment told.left_since told.disk told.output start old f.mid (IsMaking dir txn line (told.output start)) (IsOld (directory (told.disk old).reads) (told.output old)) (IsMaking dir txn line (told.output start)) l (f.moments t)
+      let one : LeavesOnly ghosts.instant ghosts.left_since ghosts.disk ghosts.output start f.mid (IsMaking dir txn line (ghosts.output start)) =
+      joins ghosts.instant ghosts.left_since ghosts.disk ghosts.output start old f.mid (IsMaking dir txn line (ghosts.output start)) (IsOld (directory (ghosts.disk old).reads) (ghosts.output old)) (IsMaking dir txn line (ghosts.output start)) l (f.instants t)
       (λ left out p. p) (λ left out p. inl (inl (p.0 ∙ is), inl (p.1 ∙ put))) in
       ⊎_elim
-      (λ quiet. subst (λ (x : S). LeavesOnly told.moment told.left_since told.disk told.output start x (IsMaking dir txn line (told.output start))) (sym quiet.2) one)
-      (λ said. said_making start f.mid new (told.output start) dir txn line status said.1 one (λ left image. inl (((f.moments t).now left image).0 ∙ is)) (f.output t ∙ put)
-      (subst (λ (o : Option ℕ). Says told f.mid new status o said.1) (⊎_elim (λ e. e.0) (λ m. m.0) (final_why why f.final said.0 said.1 _ _ f.closes said.2)) said.3) t)
+      (λ quiet. subst (λ (x : S). LeavesOnly ghosts.instant ghosts.left_since ghosts.disk ghosts.output start x (IsMaking dir txn line (ghosts.output start))) (sym quiet.2) one)
+      (λ said. said_making start f.mid new (ghosts.output start) dir txn line status said.1 one (λ left image. inl (((f.instants t).now left image).0 ∙ is)) (f.output t ∙ put)
+      (subst (λ (o : Option ℕ). Says ghosts f.mid new status o said.1) (⊎_elim (λ e. e.0) (λ m. m.0) (final_why why f.final said.0 said.1 _ _ f.closes said.2)) said.3) t)
       f.said
 
   -- a store that was read from
-  pub read_making : (start read : S) (txn : List Put) (line : Text) → Leaves told start read (IsStill told start) → IsTrue told.tells_all
-      → LeavesOnly told.moment told.left_since told.disk told.output start read (IsMaking (directory (told.disk start).reads) txn line (told.output start))
+  pub read_making : (start read : S) (txn : List Put) (line : Text) → Leaves ghosts start read (IsStill ghosts start) → IsTrue ghosts.tells_all
+      → LeavesOnly ghosts.instant ghosts.left_since ghosts.disk ghosts.output start read (IsMaking (directory (ghosts.disk start).reads) txn line (ghosts.output start))
   read_making start read txn line still t =
-      weaker told.moment told.left_since told.disk told.output start read (IsStill told start) (IsMaking (directory (told.disk start).reads) txn line (told.output start)) (still t)
+      weaker ghosts.instant ghosts.left_since ghosts.disk ghosts.output start read (IsStill ghosts start) (IsMaking (directory (ghosts.disk start).reads) txn line (ghosts.output start)) (still t)
       (λ left out p. inl (inl (ap directory p.0), inl p.1))
 
   -- and then a list was made
-  pub read_makes : (start read new : S) (txn : List Put) (line : Text) (status : ℕ) → (told.disk read).reads ≡ (told.disk start).reads → (IsTrue told.tells_all → told.output read ≡ told.output start)
-      → Makes (IsTrue told.tells_all) status (directory (told.disk read).reads) txn line (told.output read) (told.disk new).reads (told.output new)
-      → Makes (IsTrue told.tells_all) status (directory (told.disk start).reads) txn line (told.output start) (told.disk new).reads (told.output new)
+  pub read_makes : (start read new : S) (txn : List Put) (line : Text) (status : ℕ) → (ghosts.disk read).reads ≡ (ghosts.disk start).reads → (IsTrue ghosts.tells_all → ghosts.output read ≡ ghosts.output start)
+      → Makes (IsTrue ghosts.tells_all) status (directory (ghosts.disk read).reads) txn line (ghosts.output read) (ghosts.disk new).reads (ghosts.output new)
+      → Makes (IsTrue ghosts.tells_all) status (directory (ghosts.disk start).reads) txn line (ghosts.output start) (ghosts.disk new).reads (ghosts.output new)
   read_makes start read new txn line status same put m =
-      makes_before (IsTrue told.tells_all) status (directory (told.disk start).reads) txn line (told.output read) (told.output start) (told.disk new).reads (told.output new) put
-      (subst (λ (c : Contents). Makes (IsTrue told.tells_all) status (directory c) txn line (told.output read) (told.disk new).reads (told.output new)) same m)
+      makes_before (IsTrue ghosts.tells_all) status (directory (ghosts.disk start).reads) txn line (ghosts.output read) (ghosts.output start) (ghosts.disk new).reads (ghosts.output new) put
+      (subst (λ (c : Contents). Makes (IsTrue ghosts.tells_all) status (directory c) txn line (ghosts.output read) (ghosts.disk new).reads (ghosts.output new)) same m)
 
-  pub read_then : (start read new : S) (txn : List Put) (line : Text) → (told.disk read).reads ≡ (told.disk start).reads → told.output read ≡ told.output start → Leaves told start read (IsStill told start)
-      → LeavesOnly told.moment told.left_since told.disk told.output read new (IsMaking (directory (told.disk read).reads) txn line (told.output read)) → IsTrue told.tells_all
-      → LeavesOnly told.moment told.left_since told.disk told.output start new (IsMaking (directory (told.disk start).reads) txn line (told.output start))
+  pub read_then : (start read new : S) (txn : List Put) (line : Text) → (ghosts.disk read).reads ≡ (ghosts.disk start).reads → ghosts.output read ≡ ghosts.output start → Leaves ghosts start read (IsStill ghosts start)
+      → LeavesOnly ghosts.instant ghosts.left_since ghosts.disk ghosts.output read new (IsMaking (directory (ghosts.disk read).reads) txn line (ghosts.output read)) → IsTrue ghosts.tells_all
+      → LeavesOnly ghosts.instant ghosts.left_since ghosts.disk ghosts.output start new (IsMaking (directory (ghosts.disk start).reads) txn line (ghosts.output start))
   read_then start read new txn line same put still run t =
-      let P = IsMaking (directory (told.disk start).reads) txn line (told.output start) in
-      joins told.moment told.left_since told.disk told.output start read new P (IsMaking (directory (told.disk read).reads) txn line (told.output read)) P (read_making start read txn line still t) run (λ left out p. p)
+      let P = IsMaking (directory (ghosts.disk start).reads) txn line (ghosts.output start) in
+      joins ghosts.instant ghosts.left_since ghosts.disk ghosts.output start read new P (IsMaking (directory (ghosts.disk read).reads) txn line (ghosts.output read)) P (read_making start read txn line still t) run (λ left out p. p)
       (λ left out p. subst (λ (x : Contents × Text). IsMaking (directory x.0) txn line x.1 left out) (λ i. (same i, put i)) p)
 
   -- a store was opened, and a list was made over it
-  pub opened_makes : (start now new : S) (puts txn : List Put) (text line : Text) (status : ℕ) → puts ≡ txn → text ≡ line → directory (told.disk now).reads ≡ directory (told.disk start).reads → (IsTrue told.tells_all → told.output now ≡ told.output start)
-      → Makes (IsTrue told.tells_all) status (directory (told.disk now).reads) puts text (told.output now) (told.disk new).reads (told.output new)
-      → Makes (IsTrue told.tells_all) status (directory (told.disk start).reads) txn line (told.output start) (told.disk new).reads (told.output new)
+  pub opened_makes : (start now new : S) (puts txn : List Put) (text line : Text) (status : ℕ) → puts ≡ txn → text ≡ line → directory (ghosts.disk now).reads ≡ directory (ghosts.disk start).reads → (IsTrue ghosts.tells_all → ghosts.output now ≡ ghosts.output start)
+      → Makes (IsTrue ghosts.tells_all) status (directory (ghosts.disk now).reads) puts text (ghosts.output now) (ghosts.disk new).reads (ghosts.output new)
+      → Makes (IsTrue ghosts.tells_all) status (directory (ghosts.disk start).reads) txn line (ghosts.output start) (ghosts.disk new).reads (ghosts.output new)
   opened_makes start now new puts txn text line status e f same put m =
-      makes_before (IsTrue told.tells_all) status (directory (told.disk start).reads) txn line (told.output now) (told.output start) (told.disk new).reads (told.output new) put
-      (subst (λ (x : Option Dir × List Put × Text). Makes (IsTrue told.tells_all) status x.0 x.1 x.2 (told.output now) (told.disk new).reads (told.output new)) (λ i. (same i, e i, f i)) m)
+      makes_before (IsTrue ghosts.tells_all) status (directory (ghosts.disk start).reads) txn line (ghosts.output now) (ghosts.output start) (ghosts.disk new).reads (ghosts.output new) put
+      (subst (λ (x : Option Dir × List Put × Text). Makes (IsTrue ghosts.tells_all) status x.0 x.1 x.2 (ghosts.output now) (ghosts.disk new).reads (ghosts.output new)) (λ i. (same i, e i, f i)) m)
 
-  pub opened_making : (start now new : S) (puts txn : List Put) (text line : Text) → puts ≡ txn → text ≡ line → FromFirstSync told.moment told.left_since told.disk told.output told.syncs start now (Now (told.disk start) (told.output start)) (IsOld (directory (told.disk start).reads) (told.output start))
-      → directory (told.disk now).reads ≡ directory (told.disk start).reads → told.output now ≡ told.output start
-      → LeavesOnly told.moment told.left_since told.disk told.output now new (IsMaking (directory (told.disk now).reads) puts text (told.output now))
-      → Opens told start new (IsMaking (directory (told.disk start).reads) txn line (told.output start))
+  pub opened_making : (start now new : S) (puts txn : List Put) (text line : Text) → puts ≡ txn → text ≡ line → FromFirstSync ghosts.instant ghosts.left_since ghosts.disk ghosts.output ghosts.syncs start now (Now (ghosts.disk start) (ghosts.output start)) (IsOld (directory (ghosts.disk start).reads) (ghosts.output start))
+      → directory (ghosts.disk now).reads ≡ directory (ghosts.disk start).reads → ghosts.output now ≡ ghosts.output start
+      → LeavesOnly ghosts.instant ghosts.left_since ghosts.disk ghosts.output now new (IsMaking (directory (ghosts.disk now).reads) puts text (ghosts.output now))
+      → Opens ghosts start new (IsMaking (directory (ghosts.disk start).reads) txn line (ghosts.output start))
   opened_making start now new puts txn text line e f first same put run =
-      opening_then told start now new (IsMaking (directory (told.disk start).reads) txn line (told.output start)) first
-      (weaker told.moment told.left_since told.disk told.output now new (IsMaking (directory (told.disk now).reads) puts text (told.output now)) (IsMaking (directory (told.disk start).reads) txn line (told.output start)) run
+      opening_then ghosts start now new (IsMaking (directory (ghosts.disk start).reads) txn line (ghosts.output start)) first
+      (weaker ghosts.instant ghosts.left_since ghosts.disk ghosts.output now new (IsMaking (directory (ghosts.disk now).reads) puts text (ghosts.output now)) (IsMaking (directory (ghosts.disk start).reads) txn line (ghosts.output start)) run
       (λ left out p. subst (λ (x : Option Dir × List Put × Text × Text). IsMaking x.0 x.1 x.2 x.3 left out) (λ i. (same i, e i, f i, put i)) p))
       (λ left out p. inl (inl p.0, inl p.1))
 
   -- an opening was refused after its first sync
-  pub refused_making : (start mid new : S) (txn : List Put) (line : Text) (status : ℕ) (why : Why) → FromFirstSync told.moment told.left_since told.disk told.output told.syncs start mid (Now (told.disk start) (told.output start)) (IsOld (directory (told.disk start).reads) (told.output start))
-      → told.output mid ≡ told.output start → Says told mid new status None why → IsTrue told.tells_all → Opens told start new (IsMaking (directory (told.disk start).reads) txn line (told.output start))
+  pub refused_making : (start mid new : S) (txn : List Put) (line : Text) (status : ℕ) (why : Why) → FromFirstSync ghosts.instant ghosts.left_since ghosts.disk ghosts.output ghosts.syncs start mid (Now (ghosts.disk start) (ghosts.output start)) (IsOld (directory (ghosts.disk start).reads) (ghosts.output start))
+      → ghosts.output mid ≡ ghosts.output start → Says ghosts mid new status None why → IsTrue ghosts.tells_all → Opens ghosts start new (IsMaking (directory (ghosts.disk start).reads) txn line (ghosts.output start))
   refused_making start mid new txn line status why first put s t = inr (record {
     synced = first.synced;
     first = first.first;
     rest = first.rest;
     same = first.same;
     until = first.until;
-    since = said_making first.synced mid new (told.output start) (directory (told.disk start).reads) txn line status why
-        (weaker told.moment told.left_since told.disk told.output first.synced mid (IsOld (directory (told.disk start).reads) (told.output start)) (IsMaking (directory (told.disk start).reads) txn line (told.output start)) first.since
+    since = said_making first.synced mid new (ghosts.output start) (directory (ghosts.disk start).reads) txn line status why
+        (weaker ghosts.instant ghosts.left_since ghosts.disk ghosts.output first.synced mid (IsOld (directory (ghosts.disk start).reads) (ghosts.output start)) (IsMaking (directory (ghosts.disk start).reads) txn line (ghosts.output start)) first.since
         (λ left out p. inl (inl p.0, inl p.1)))
         (λ left image. inl ((first.since).now left image).0) put s t;
   })
 
   -- it begins at rest
-  pub making_from_rest : (start new : S) (txn : List Put) (line : Text) → IsAtRest (told.disk start) → Opens told start new (IsMaking (directory (told.disk start).reads) txn line (told.output start))
-      → LeavesOnly told.moment told.left_since told.disk told.output start new (IsMaking (directory (told.disk start).reads) txn line (told.output start))
+  pub making_from_rest : (start new : S) (txn : List Put) (line : Text) → IsAtRest (ghosts.disk start) → Opens ghosts start new (IsMaking (directory (ghosts.disk start).reads) txn line (ghosts.output start))
+      → LeavesOnly ghosts.instant ghosts.left_since ghosts.disk ghosts.output start new (IsMaking (directory (ghosts.disk start).reads) txn line (ghosts.output start))
   making_from_rest start new txn line rest o =
-      let P = IsMaking (directory (told.disk start).reads) txn line (told.output start) in
-      let same : (left : Contents) → IsImage (told.disk start) left → directory left ≡ directory (told.disk start).reads = λ left image. ap directory (rest_contents (told.disk start) left rest image) in
+      let P = IsMaking (directory (ghosts.disk start).reads) txn line (ghosts.output start) in
+      let same : (left : Contents) → IsImage (ghosts.disk start) left → directory left ≡ directory (ghosts.disk start).reads = λ left image. ap directory (rest_contents (ghosts.disk start) left rest image) in
       ⊎_elim
-      (λ early. weaker told.moment told.left_since told.disk told.output start new (IsUnopened (told.disk start) (told.output start)) P early.all
+      (λ early. weaker ghosts.instant ghosts.left_since ghosts.disk ghosts.output start new (IsUnopened (ghosts.disk start) (ghosts.output start)) P early.all
       (λ left out u. inl (inl (same left u.image), u.put)))
-      (λ late. joins told.moment told.left_since told.disk told.output start late.synced new (Now (told.disk start) (told.output start)) P P late.until late.since
+      (λ late. joins ghosts.instant ghosts.left_since ghosts.disk ghosts.output start late.synced new (Now (ghosts.disk start) (ghosts.output start)) P P late.until late.since
       (λ left out p. inl (inl (same left p.0), inl p.1)) (λ left out p. p))
       o
 

@@ -1,4 +1,4 @@
--- A run group by group, and its end.
+-- A run batch by batch, and its end.
 use Rattle.std.proofs.Common.{◌≡◌, ◌⊎◌, inl, inr, ⊎_elim, ℕ, ◌≤◌, IsTrue, List, [], ◌∷◌, ◌++◌, length, take, drop, Option, Some, None, ap, sym, refl, subst, ◌∙◌, arith, append_assoc, length-append}
 use Rattle.std.specs.Prelude.{IsSome}
 use Rattle.std.proofs.lemmas.List.{length-take, take-append-drop}
@@ -7,11 +7,11 @@ use Rattle.ml_base.specs.Faults.{Rose}
 use Rattle.ml_base.specs.Dir.{Dir, with_puts}
 use Rattle.ml_base.specs.declared.puts.Put.{Put}
 use Rattle.ml_site.specs.Disk.{Contents, Disk, IsImage, Giving}
-use Rattle.ml_site.specs.Moments.{LeavesOnly}
+use Rattle.ml_site.specs.Instants.{LeavesOnly}
 use Rattle.ml_site.specs.declared.site.Site.{Ghosts}
 use Rattle.ml_site.proofs.Steps.{joins, goes_on}
 use Rattle.ml_journal.specs.Log.{directory}
-use Rattle.ml_journal.specs.Moments.{with_txn, IsOld}
+use Rattle.ml_journal.specs.Instants.{with_txn, IsOld}
 use Rattle.ml_journal.specs.Kept.{IsKept, IsStill}
 use Rattle.ml_journal.specs.Stores.{site_of, the_dir}
 use Rattle.ml_journal.specs.declared.store.Store.{Store}
@@ -25,7 +25,7 @@ use Rattle.ml_ending.specs.Lines.{stop_text}
 use Rattle.ml_ending.specs.Stops.{status_of_why}
 use Rattle.ml_stream.specs.Stream.{StreamEnd, End}
 use Rattle.ml_ending.proofs.Said.{says_front, closes_who}
-use Rattle.ml_run.specs.Groups.{IsNumberOf}
+use Rattle.ml_run.specs.Batches.{IsNumberOf}
 use Rattle.ml_journal.specs.Calls.{Leaves, IsClean}
 use Rattle.ml_run.specs.Leaving.{dir_of, HasState, IsAfterSome, Reached, IsSettling, IsServed, IsLeft}
 use Rattle.ml_run.specs.Settling.{IsSettled, IsUnsettled, LeavesSettling}
@@ -33,33 +33,33 @@ use Rattle.ml_ending.specs.Endings.{StopLine, Says, who_of, IsMemory, ClosesTo, 
 use Rattle.ml_run.specs.Endings.{Runs, IsLine}
 use Rattle.ml_run.proofs.Leaving.{same_state, other_list, txn_state, some_answered, settling, reached_none, reached_some, saying}
 
-module _ {S : Type 0} (told : Ghosts S) where
-  -- the moments of a group that was read, and of its commit and answers
-  pub settling_moments : (start : S) (old read : Store S told) (new : S) (q : State) (items done more rest : List Item) (txn : List Put) (lines : Text) → (IsTrue told.tells_all → IsTrue told.tells_reads)
-      → IsServed told start (site_of old) q items done (more ++ rest) → IsKept old read → IsState (with_puts (dir_of old) txn) (fold (fold q done) more) → lines ≡ text (fold q done) more
-      → LeavesSettling told txn lines (site_of read) new → Leaves told start new (IsAfterSome q items (told.output start))
-  settling_moments start old read new q items done more rest txn lines reads s kept stands is time t =
-      let dir = directory (told.disk (site_of old)).reads in
-      let mid = directory (told.disk (site_of read)).reads in
-      let before = told.output start in
+module _ {S : Type 0} (ghosts : Ghosts S) where
+  -- the instants of a batch that was read, and of its commit and answers
+  pub settling_instants : (start : S) (old read : Store S ghosts) (new : S) (q : State) (items done more rest : List Item) (txn : List Put) (lines : Text) → (IsTrue ghosts.tells_all → IsTrue ghosts.tells_reads)
+      → IsServed ghosts start (site_of old) q items done (more ++ rest) → IsKept old read → IsState (with_puts (dir_of old) txn) (fold (fold q done) more) → lines ≡ text (fold q done) more
+      → LeavesSettling ghosts txn lines (site_of read) new → Leaves ghosts start new (IsAfterSome q items (ghosts.output start))
+  settling_instants start old read new q items done more rest txn lines reads s kept stands is time t =
+      let dir = directory (ghosts.disk (site_of old)).reads in
+      let mid = directory (ghosts.disk (site_of read)).reads in
+      let before = ghosts.output start in
       let now : mid ≡ dir = ap directory (kept.reads (reads t)) in
-      let one = joins told.moment told.left_since told.disk told.output start (site_of old) (site_of read) (IsAfterSome q items before) (IsStill told (site_of old)) (IsAfterSome q items before) (s.moments t) (kept.moments t) (λ left out p. p)
+      let one = joins ghosts.instant ghosts.left_since ghosts.disk ghosts.output start (site_of old) (site_of read) (IsAfterSome q items before) (IsStill ghosts (site_of old)) (IsAfterSome q items before) (s.instants t) (kept.instants t) (λ left out p. p)
       (λ left out p. some_answered q items done (more ++ rest) before out left s.split (same_state dir (directory left) (fold q done) (ap directory p.0) s.state) (p.1 ∙ s.put t)) in
-      joins told.moment told.left_since told.disk told.output start (site_of read) new (IsAfterSome q items before) (IsSettling mid txn lines (told.output (site_of read))) (IsAfterSome q items before) one (time t) (λ left out p. p)
-      (λ left out p. settling q items done more rest before (told.output (site_of read)) mid txn lines left out s.split (same_state dir mid (fold q done) now s.state)
+      joins ghosts.instant ghosts.left_since ghosts.disk ghosts.output start (site_of read) new (IsAfterSome q items before) (IsSettling mid txn lines (ghosts.output (site_of read))) (IsAfterSome q items before) one (time t) (λ left out p. p)
+      (λ left out p. settling q items done more rest before (ghosts.output (site_of read)) mid txn lines left out s.split (same_state dir mid (fold q done) now s.state)
       (subst (λ (d : Option Dir). IsState (with_puts (the_dir d) txn) (fold (fold q done) more)) (sym now) stands) is (kept.output_is t ∙ s.put t) p)
 
-  -- a group was committed and answered
-  pub settled : (start : S) (old read : Store S told) (new : S) (q : State) (items done more rest : List Item) (txn : List Put) (lines : Text) → (IsTrue told.tells_all → IsTrue told.tells_reads) → IsTrue told.tells_reads
-      → IsServed told start (site_of old) q items done (more ++ rest) → IsKept old read → IsState (with_puts (dir_of old) txn) (fold (fold q done) more) → lines ≡ text (fold q done) more
-      → IsSettled told txn lines (site_of read) new → LeavesSettling told txn lines (site_of read) new → IsServed told start new q items (done ++ more) rest
+  -- a batch was committed and answered
+  pub settled : (start : S) (old read : Store S ghosts) (new : S) (q : State) (items done more rest : List Item) (txn : List Put) (lines : Text) → (IsTrue ghosts.tells_all → IsTrue ghosts.tells_reads) → IsTrue ghosts.tells_reads
+      → IsServed ghosts start (site_of old) q items done (more ++ rest) → IsKept old read → IsState (with_puts (dir_of old) txn) (fold (fold q done) more) → lines ≡ text (fold q done) more
+      → IsSettled ghosts txn lines (site_of read) new → LeavesSettling ghosts txn lines (site_of read) new → IsServed ghosts start new q items (done ++ more) rest
   settled start old read new q items done more rest txn lines reads r s kept stands is ends time = record {
     split = s.split ∙ sym (append_assoc done more rest);
-    state = other_list (directory (told.disk new).reads) (fold (fold q done) more) (fold q (done ++ more)) (sym (fold-append q done more))
-        (txn_state (directory (told.disk (site_of old)).reads) (directory (told.disk new).reads) txn (fold q done) (fold (fold q done) more) (ends.dir r ∙ ap (λ (c : Contents). with_txn txn (directory c)) (kept.reads r)) s.state stands);
-    put = λ t. ends.put t ∙ ap (λ (o : Text). o ++ lines) (kept.output_is t ∙ s.put t) ∙ ap (λ (l : Text). (told.output start ++ text q done) ++ l) is
-        ∙ append_assoc (told.output start) (text q done) (text (fold q done) more) ∙ ap (λ (l : Text). told.output start ++ l) (sym (text-append q done more));
-    moments = settling_moments start old read new q items done more rest txn lines reads s kept stands is time;
+    state = other_list (directory (ghosts.disk new).reads) (fold (fold q done) more) (fold q (done ++ more)) (sym (fold-append q done more))
+        (txn_state (directory (ghosts.disk (site_of old)).reads) (directory (ghosts.disk new).reads) txn (fold q done) (fold (fold q done) more) (ends.dir r ∙ ap (λ (c : Contents). with_txn txn (directory c)) (kept.reads r)) s.state stands);
+    put = λ t. ends.put t ∙ ap (λ (o : Text). o ++ lines) (kept.output_is t ∙ s.put t) ∙ ap (λ (l : Text). (ghosts.output start ++ text q done) ++ l) is
+        ∙ append_assoc (ghosts.output start) (text q done) (text (fold q done) more) ∙ ap (λ (l : Text). ghosts.output start ++ l) (sym (text-append q done more));
+    instants = settling_instants start old read new q items done more rest txn lines reads s kept stands is time;
   }
 
   -- what the directory may be after its commit was refused
@@ -75,43 +75,43 @@ module _ {S : Type 0} (told : Ghosts S) where
   any_of old txn lines output left out s = ⊎_elim (λ e. inl e.0) (λ e. inr e.0) s
 
   -- a commit was refused
-  pub left_after : (start : S) (old read : Store S told) (new : S) (q : State) (items done more rest : List Item) (txn : List Put) (lines : Text) (why : Option Why) → (IsTrue told.tells_all → IsTrue told.tells_reads) → IsTrue told.tells_reads
-      → IsServed told start (site_of old) q items done (more ++ rest) → IsKept old read → IsState (with_puts (dir_of old) txn) (fold (fold q done) more) → lines ≡ text (fold q done) more → IsSome why
-      → IsUnsettled told txn lines why (site_of read) new → LeavesSettling told txn lines (site_of read) new → IsLeft told start new q items done (more ++ rest)
+  pub left_after : (start : S) (old read : Store S ghosts) (new : S) (q : State) (items done more rest : List Item) (txn : List Put) (lines : Text) (why : Option Why) → (IsTrue ghosts.tells_all → IsTrue ghosts.tells_reads) → IsTrue ghosts.tells_reads
+      → IsServed ghosts start (site_of old) q items done (more ++ rest) → IsKept old read → IsState (with_puts (dir_of old) txn) (fold (fold q done) more) → lines ≡ text (fold q done) more → IsSome why
+      → IsUnsettled ghosts txn lines why (site_of read) new → LeavesSettling ghosts txn lines (site_of read) new → IsLeft ghosts start new q items done (more ++ rest)
   left_after start old read new q items done more rest txn lines why reads r s kept stands is some ends time =
-      let dir = directory (told.disk (site_of old)).reads in
-      let mid = directory (told.disk (site_of read)).reads in
+      let dir = directory (ghosts.disk (site_of old)).reads in
+      let mid = directory (ghosts.disk (site_of read)).reads in
       let now : mid ≡ dir = ap directory (kept.reads r) in
       let state : HasState mid (fold q done) = same_state dir mid (fold q done) now s.state in
       let over : IsState (with_puts (the_dir mid) txn) (fold (fold q done) more) = subst (λ (d : Option Dir). IsState (with_puts (the_dir d) txn) (fold (fold q done) more)) (sym now) stands in record {
         split = s.split;
-        reached = reached_any mid (told.disk new).reads q done more rest txn state over (ends.any r);
-        images = λ t left image. reached_any mid left q done more rest txn state over (any_of mid txn lines (told.output (site_of read)) left (told.output new) ((time t).now left image));
+        reached = reached_any mid (ghosts.disk new).reads q done more rest txn state over (ends.any r);
+        images = λ t left image. reached_any mid left q done more rest txn state over (any_of mid txn lines (ghosts.output (site_of read)) left (ghosts.output new) ((time t).now left image));
         put = λ t. ends.quiet t some ∙ kept.output_is t ∙ s.put t;
-        moments = settling_moments start old read new q items done more rest txn lines reads s kept stands is time;
+        instants = settling_instants start old read new q items done more rest txn lines reads s kept stands is time;
       }
 
-  -- the moments of a stop line
-  pub said_moments : (start mid new : S) (q : State) (items done after : List Item) (status : ℕ) (who : Option ℕ) (why : Why) → IsLeft told start mid q items done after → IsNumberOf who after → Says told mid new status who why
-      → Leaves told start new (IsAfterSome q items (told.output start))
-  said_moments start mid new q items done after status who why l number s t =
+  -- the instants of a stop line
+  pub said_instants : (start mid new : S) (q : State) (items done after : List Item) (status : ℕ) (who : Option ℕ) (why : Why) → IsLeft ghosts start mid q items done after → IsNumberOf who after → Says ghosts mid new status who why
+      → Leaves ghosts start new (IsAfterSome q items (ghosts.output start))
+  said_instants start mid new q items done after status who why l number s t =
       let line = stop_text who (status_of_why why) why in
-      goes_on told.moment told.left_since told.disk told.output start mid new (IsAfterSome q items (told.output start)) (Giving (told.disk mid) (told.output mid) line) (l.moments t) (s.time t)
-      (λ left out g. saying q items done after (told.output start) out line left who why g.1.0 l.split (l.images t left g.0) number refl (g.1.1 ∙ ap (λ (o : Text). o ++ take g.1.0 line) (l.put t)))
-      (λ left image. (subst (λ (d : Disk). IsImage d left) (s.disk_is t) image, says_front told mid new status who why s t))
+      goes_on ghosts.instant ghosts.left_since ghosts.disk ghosts.output start mid new (IsAfterSome q items (ghosts.output start)) (Giving (ghosts.disk mid) (ghosts.output mid) line) (l.instants t) (s.time t)
+      (λ left out g. saying q items done after (ghosts.output start) out line left who why g.1.0 l.split (l.images t left g.0) number refl (g.1.1 ∙ ap (λ (o : Text). o ++ take g.1.0 line) (l.put t)))
+      (λ left image. (subst (λ (d : Disk). IsImage d left) (s.disk_is t) image, says_front ghosts mid new status who why s t))
 
   -- once the store is closed, the same items are done and answered
-  pub closed_left : (start now mid : S) (q : State) (items done after : List Item) → IsTrue told.tells_reads → IsServed told start now q items done after
-      → (IsTrue told.tells_reads → directory (told.disk mid).reads ≡ directory (told.disk now).reads) → (IsTrue told.tells_all → told.output mid ≡ told.output now)
-      → Leaves told now mid (IsOld (directory (told.disk now).reads) (told.output now)) → IsLeft told start mid q items done after
+  pub closed_left : (start now mid : S) (q : State) (items done after : List Item) → IsTrue ghosts.tells_reads → IsServed ghosts start now q items done after
+      → (IsTrue ghosts.tells_reads → directory (ghosts.disk mid).reads ≡ directory (ghosts.disk now).reads) → (IsTrue ghosts.tells_all → ghosts.output mid ≡ ghosts.output now)
+      → Leaves ghosts now mid (IsOld (directory (ghosts.disk now).reads) (ghosts.output now)) → IsLeft ghosts start mid q items done after
   closed_left start now mid q items done after r s same put time =
-      let dir = directory (told.disk now).reads in record {
+      let dir = directory (ghosts.disk now).reads in record {
         split = s.split;
-        reached = reached_none q done after (told.disk mid).reads (same_state dir (directory (told.disk mid).reads) (fold q done) (same r) s.state);
+        reached = reached_none q done after (ghosts.disk mid).reads (same_state dir (directory (ghosts.disk mid).reads) (fold q done) (same r) s.state);
         images = λ t left image. reached_none q done after left (same_state dir (directory left) (fold q done) ((time t).now left image).0 s.state);
         put = λ t. put t ∙ s.put t;
-        moments = λ t. joins told.moment told.left_since told.disk told.output start now mid (IsAfterSome q items (told.output start)) (IsOld dir (told.output now)) (IsAfterSome q items (told.output start)) (s.moments t) (time t)
-            (λ left out p. p) (λ left out p. some_answered q items done after (told.output start) out left s.split (same_state dir (directory left) (fold q done) p.0 s.state) (p.1 ∙ s.put t));
+        instants = λ t. joins ghosts.instant ghosts.left_since ghosts.disk ghosts.output start now mid (IsAfterSome q items (ghosts.output start)) (IsOld dir (ghosts.output now)) (IsAfterSome q items (ghosts.output start)) (s.instants t) (time t)
+            (λ left out p. p) (λ left out p. some_answered q items done after (ghosts.output start) out left s.split (same_state dir (directory left) (fold q done) p.0 s.state) (p.1 ∙ s.put t));
       }
 
 -- a line begins with the number of the next item, or with `-`
@@ -194,13 +194,13 @@ line_held (Some (w, whys.At name)) input limit held new all ending q done after 
 line_held (Some (w, whys.There)) input limit held new all ending q done after same l = absurd l
 line_held (Some (w, whys.Absent)) input limit held new all ending q done after same l = absurd l
 
-module _ {S : Type 0} (told : Ghosts S) where
+module _ {S : Type 0} (ghosts : Ghosts S) where
   -- a run that says a line: it is out, or cut off
-  pub said_runs : (start mid new : S) (q : State) (all : List Item) (ending : StreamEnd) (input : Type 0) (limit answered status : ℕ) (done after : List Item) (who : Option ℕ) (why : Why) → IsTrue told.tells_reads
-      → IsLeft told start mid q (take limit all) done after → answered ≡ length done → IsLine (Some (who, why)) input limit (told.disk new).reads all ending q done after → Says told mid new status who why
-      → Runs (IsTrue told.tells_all) input status limit answered (told.disk new).reads (told.output new) all ending q (told.output start)
+  pub said_runs : (start mid new : S) (q : State) (all : List Item) (ending : StreamEnd) (input : Type 0) (limit answered status : ℕ) (done after : List Item) (who : Option ℕ) (why : Why) → IsTrue ghosts.tells_reads
+      → IsLeft ghosts start mid q (take limit all) done after → answered ≡ length done → IsLine (Some (who, why)) input limit (ghosts.disk new).reads all ending q done after → Says ghosts mid new status who why
+      → Runs (IsTrue ghosts.tells_all) input status limit answered (ghosts.disk new).reads (ghosts.output new) all ending q (ghosts.output start)
   said_runs start mid new q all ending input limit answered status done after who why r l count line s =
-      let reached : Reached q done after (told.disk new).reads = subst (λ (c : Contents). Reached q done after c) (sym (s.reads r)) l.reached in
+      let reached : Reached q done after (ghosts.disk new).reads = subst (λ (c : Contents). Reached q done after c) (sym (s.reads r)) l.reached in
       ⊎_elim
       (λ whole. inr (inl (record {
         why = why;
@@ -212,7 +212,7 @@ module _ {S : Type 0} (told : Ghosts S) where
         reached = reached;
         early = line;
         status_is = whole.0;
-        put = λ t. whole.1 t ∙ ap (λ (o : Text). o ++ stop_text who (status_of_why why) why) (l.put t) ∙ ap (λ (n : ℕ). (told.output start ++ text q done) ++ stop_text who n why) (sym whole.0);
+        put = λ t. whole.1 t ∙ ap (λ (o : Text). o ++ stop_text who (status_of_why why) why) (l.put t) ∙ ap (λ (n : ℕ). (ghosts.output start ++ text q done) ++ stop_text who n why) (sym whole.0);
       })))
       (λ cut. inr (inr (record {
         status_is = cut.0;
@@ -225,44 +225,44 @@ module _ {S : Type 0} (told : Ghosts S) where
           take c.0 (stop_text who (status_of_why why) why),
           drop c.0 (stop_text who (status_of_why why) why),
           c.1 ∙ ap (λ (o : Text). o ++ take c.0 (stop_text who (status_of_why why) why)) (l.put t),
-          inr (who, why, line_number (Some (who, why)) input limit (told.disk new).reads all ending q done after line, take-append-drop c.0 (stop_text who (status_of_why why) why)),
+          inr (who, why, line_number (Some (who, why)) input limit (ghosts.disk new).reads all ending q done after line, take-append-drop c.0 (stop_text who (status_of_why why) why)),
         );
       })))
       s.line
 
   -- a run whose store was closed
-  pub finished_runs : (start now new : S) (q : State) (all : List Item) (ending : StreamEnd) (input : Type 0) (limit answered status last : ℕ) (done after : List Item) (line : StopLine) → IsTrue told.tells_reads
-      → IsServed told start now q (take limit all) done after → answered ≡ length done → answered ≤ limit → last ≡ last_from 0 q done → IsLine line input limit (told.disk now).reads all ending q done after → Finishes told now new line status last
-      → Runs (IsTrue told.tells_all) input status limit answered (told.disk new).reads (told.output new) all ending q (told.output start)
+  pub finished_runs : (start now new : S) (q : State) (all : List Item) (ending : StreamEnd) (input : Type 0) (limit answered status last : ℕ) (done after : List Item) (line : StopLine) → IsTrue ghosts.tells_reads
+      → IsServed ghosts start now q (take limit all) done after → answered ≡ length done → answered ≤ limit → last ≡ last_from 0 q done → IsLine line input limit (ghosts.disk now).reads all ending q done after → Finishes ghosts now new line status last
+      → Runs (IsTrue ghosts.tells_all) input status limit answered (ghosts.disk new).reads (ghosts.output new) all ending q (ghosts.output start)
   finished_runs start now new q all ending input limit answered status last done after line r s count few last_is is f =
-      let left = closed_left told start now f.mid q (take limit all) done after r s f.same f.output f.moments in
-      let mid : IsLine f.final input limit (told.disk f.mid).reads all ending q done after =
-      line_held f.final input limit (told.disk now).reads (told.disk f.mid).reads all ending q done after (f.same r)
-      (closes_line line f.final (IsClean told f.mid) (Rose (told.disk_faults now) (told.disk_faults f.mid)) input limit (told.disk now).reads all ending q done after s.split f.closes is) in
+      let left = closed_left ghosts start now f.mid q (take limit all) done after r s f.same f.output f.instants in
+      let mid : IsLine f.final input limit (ghosts.disk f.mid).reads all ending q done after =
+      line_held f.final input limit (ghosts.disk now).reads (ghosts.disk f.mid).reads all ending q done after (f.same r)
+      (closes_line line f.final (IsClean ghosts f.mid) (Rose (ghosts.disk_faults now) (ghosts.disk_faults f.mid)) input limit (ghosts.disk now).reads all ending q done after s.split f.closes is) in
       ⊎_elim
       (λ quiet.
-      let end : (ending ≡ End) × (done ≡ all) = subst (λ (l : StopLine). IsLine l input limit (told.disk f.mid).reads all ending q done after) quiet.0 mid in
+      let end : (ending ≡ End) × (done ≡ all) = subst (λ (l : StopLine). IsLine l input limit (ghosts.disk f.mid).reads all ending q done after) quiet.0 mid in
       inl (record {
         end = end.0;
         count = count ∙ ap length end.1;
         few = few;
         status_is = quiet.1 ∙ last_is ∙ ap (last_from 0 q) end.1;
-        state = subst (λ (l : List Item). HasState (directory (told.disk new).reads) (fold q l)) end.1
-            (same_state (directory (told.disk now).reads) (directory (told.disk new).reads) (fold q done) (ap (λ (x : S). directory (told.disk x).reads) quiet.2 ∙ f.same r) s.state);
-        put = λ t. ap told.output quiet.2 ∙ left.put t ∙ ap (λ (l : List Item). told.output start ++ text q l) end.1;
+        state = subst (λ (l : List Item). HasState (directory (ghosts.disk new).reads) (fold q l)) end.1
+            (same_state (directory (ghosts.disk now).reads) (directory (ghosts.disk new).reads) (fold q done) (ap (λ (x : S). directory (ghosts.disk x).reads) quiet.2 ∙ f.same r) s.state);
+        put = λ t. ap ghosts.output quiet.2 ∙ left.put t ∙ ap (λ (l : List Item). ghosts.output start ++ text q l) end.1;
       }))
       (λ said. said_runs start f.mid new q all ending input limit answered status done after said.0 said.1 r left count
-      (line_held (Some (said.0, said.1)) input limit (told.disk f.mid).reads (told.disk new).reads all ending q done after (ap directory (said.3.reads r))
-      (subst (λ (l : StopLine). IsLine l input limit (told.disk f.mid).reads all ending q done after) said.2 mid)) said.3)
+      (line_held (Some (said.0, said.1)) input limit (ghosts.disk f.mid).reads (ghosts.disk new).reads all ending q done after (ap directory (said.3.reads r))
+      (subst (λ (l : StopLine). IsLine l input limit (ghosts.disk f.mid).reads all ending q done after) said.2 mid)) said.3)
       f.said
 
-  -- and its moments
-  pub finished_moments : (start now new : S) (q : State) (items done after : List Item) (line : StopLine) (status last : ℕ) (reads : IsTrue told.tells_all → IsTrue told.tells_reads) → IsServed told start now q items done after → IsNumberOf (who_of line) after
-      → Finishes told now new line status last → Leaves told start new (IsAfterSome q items (told.output start))
-  finished_moments start now new q items done after line status last reads s number f t =
-      let left = closed_left told start now f.mid q items done after (reads t) s f.same f.output f.moments in
+  -- and its instants
+  pub finished_instants : (start now new : S) (q : State) (items done after : List Item) (line : StopLine) (status last : ℕ) (reads : IsTrue ghosts.tells_all → IsTrue ghosts.tells_reads) → IsServed ghosts start now q items done after → IsNumberOf (who_of line) after
+      → Finishes ghosts now new line status last → Leaves ghosts start new (IsAfterSome q items (ghosts.output start))
+  finished_instants start now new q items done after line status last reads s number f t =
+      let left = closed_left ghosts start now f.mid q items done after (reads t) s f.same f.output f.instants in
       ⊎_elim
-      (λ quiet. subst (λ (x : S). LeavesOnly told.moment told.left_since told.disk told.output start x (IsAfterSome q items (told.output start))) (sym quiet.2) (left.moments t))
-      (λ said. said_moments told start f.mid new q items done after status said.0 said.1 left
-      (subst (λ (o : Option ℕ). IsNumberOf o after) (sym (closes_who line f.final (IsClean told f.mid) (Rose (told.disk_faults now) (told.disk_faults f.mid)) said.0 said.1 f.closes said.2)) number) said.3 t)
+      (λ quiet. subst (λ (x : S). LeavesOnly ghosts.instant ghosts.left_since ghosts.disk ghosts.output start x (IsAfterSome q items (ghosts.output start))) (sym quiet.2) (left.instants t))
+      (λ said. said_instants ghosts start f.mid new q items done after status said.0 said.1 left
+      (subst (λ (o : Option ℕ). IsNumberOf o after) (sym (closes_who line f.final (IsClean ghosts f.mid) (Rose (ghosts.disk_faults now) (ghosts.disk_faults f.mid)) said.0 said.1 f.closes said.2)) number) said.3 t)
       f.said

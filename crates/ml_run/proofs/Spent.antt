@@ -25,10 +25,10 @@ spent_none syncs bytes log le = record {
   few = omega arith;
 }
 
--- one group more, which counts as this many full and this many heavy ones
-spent_group : (s0 s1 s2 b0 b1 b2 l1 l2 answered count others extra full heavy : ℕ) (txn : List Put) → HasSpent s0 s1 b0 b1 l1 answered others → Costs s1 s2 b1 b2 l1 l2 txn
+-- one batch more, which counts as this many full and this many heavy ones
+spent_batch : (s0 s1 s2 b0 b1 b2 l1 l2 answered count others extra full heavy : ℕ) (txn : List Put) → HasSpent s0 s1 b0 b1 l1 answered others → Costs s1 s2 b1 b2 l1 l2 txn
     → 16 * full ≤ count → 4_194_304 * heavy ≤ content_size txn → 2 ≤ extra + 2 * full + 2 * heavy → HasSpent s0 s2 b0 b2 l2 (answered + count) (others + extra)
-spent_group s0 s1 s2 b0 b1 b2 l1 l2 answered count others extra full heavy txn h spends enough size two = ⊎_elim
+spent_batch s0 s1 s2 b0 b1 b2 l1 l2 answered count others extra full heavy txn h spends enough size two = ⊎_elim
     (λ lt. let many = spends.many lt in record {
       full = h.full + full;
       heavy = h.heavy + heavy;
@@ -49,47 +49,47 @@ spent_group s0 s1 s2 b0 b1 b2 l1 l2 answered count others extra full heavy txn h
     })
     (cases_lt 8_388_608 (grown l1 txn))
 
--- a group of 16 items
+-- a batch of 16 items
 pub spent_full : (s0 s1 s2 b0 b1 b2 l1 l2 answered count others : ℕ) (txn : List Put) → HasSpent s0 s1 b0 b1 l1 answered others → Costs s1 s2 b1 b2 l1 l2 txn → count ≡ 16 → HasSpent s0 s2 b0 b2 l2 (answered + count) (others + 0)
-spent_full s0 s1 s2 b0 b1 b2 l1 l2 answered count others txn h spends is = spent_group s0 s1 s2 b0 b1 b2 l1 l2 answered count others 0 1 0 txn h spends (omega (arith, is)) (omega arith) (omega arith)
+spent_full s0 s1 s2 b0 b1 b2 l1 l2 answered count others txn h spends is = spent_batch s0 s1 s2 b0 b1 b2 l1 l2 answered count others 0 1 0 txn h spends (omega (arith, is)) (omega arith) (omega arith)
 
--- a group of at least 4,194,304 bytes
+-- a batch of at least 4,194,304 bytes
 pub spent_heavy : (s0 s1 s2 b0 b1 b2 l1 l2 answered count others size : ℕ) (txn : List Put) → HasSpent s0 s1 b0 b1 l1 answered others → Costs s1 s2 b1 b2 l1 l2 txn
     → 4_194_304 ≤ size → size ≡ min (content_size txn) (2 ^ 64 - 1) → HasSpent s0 s2 b0 b2 l2 (answered + count) (others + 0)
-spent_heavy s0 s1 s2 b0 b1 b2 l1 l2 answered count others size txn h spends le is = spent_group s0 s1 s2 b0 b1 b2 l1 l2 answered count others 0 0 1 txn h spends (omega arith) (omega (arith, le, is)) (omega arith)
+spent_heavy s0 s1 s2 b0 b1 b2 l1 l2 answered count others size txn h spends le is = spent_batch s0 s1 s2 b0 b1 b2 l1 l2 answered count others 0 0 1 txn h spends (omega arith) (omega (arith, le, is)) (omega arith)
 
--- another group
+-- another batch
 pub spent_other : (s0 s1 s2 b0 b1 b2 l1 l2 answered count others : ℕ) (txn : List Put) → HasSpent s0 s1 b0 b1 l1 answered others → Costs s1 s2 b1 b2 l1 l2 txn → HasSpent s0 s2 b0 b2 l2 (answered + count) (others + 2)
-spent_other s0 s1 s2 b0 b1 b2 l1 l2 answered count others txn h spends = spent_group s0 s1 s2 b0 b1 b2 l1 l2 answered count others 2 0 0 txn h spends (omega arith) (omega arith) (omega arith)
+spent_other s0 s1 s2 b0 b1 b2 l1 l2 answered count others txn h spends = spent_batch s0 s1 s2 b0 b1 b2 l1 l2 answered count others 2 0 0 txn h spends (omega arith) (omega arith) (omega arith)
 
 -- what is spent is bounded by the answers and the log bytes
 pub spent_bound : (s0 s1 s2 b0 b1 b2 log answered others more : ℕ) → HasSpent s0 s1 b0 b1 log answered others → CostsAtMost more s1 s2 b1 b2 → s2 ≤ s0 + (others + more + 1) + 2 * (answered / 16) + (b2 - b0) / 1_048_576
 spent_bound s0 s1 s2 b0 b1 b2 log answered others more h last =
-    let groups : h.full ≤ answered / 16 = full_groups h.full answered h.of_answered in
-    let bytes : 2 * h.heavy + 3 * h.laid ≤ (b2 - b0) / 1_048_576 + 1 = heavy_groups h.heavy h.laid (b2 - b0) (omega (arith, h.of_bytes, last.bytes_stay)) (omega (arith, h.of_bytes, h.of_log, last.bytes_stay)) in
-    omega (arith, groups, bytes, h.few, last.few)
+    let batches : h.full ≤ answered / 16 = full_batches h.full answered h.of_answered in
+    let bytes : 2 * h.heavy + 3 * h.laid ≤ (b2 - b0) / 1_048_576 + 1 = heavy_batches h.heavy h.laid (b2 - b0) (omega (arith, h.of_bytes, last.bytes_stay)) (omega (arith, h.of_bytes, h.of_log, last.bytes_stay)) in
+    omega (arith, batches, bytes, h.few, last.few)
   where
-    full_groups : (full answered : ℕ) → 16 * full ≤ answered → full ≤ answered / 16
-    full_groups full answered le = omega (arith, le)
+    full_batches : (full answered : ℕ) → 16 * full ≤ answered → full ≤ answered / 16
+    full_batches full answered le = omega (arith, le)
 
-    heavy_groups : (heavy laid bytes : ℕ) → 4_194_304 * heavy ≤ bytes → 8_388_608 * laid ≤ bytes + 1 → 2 * heavy + 3 * laid ≤ bytes / 1_048_576 + 1
-    heavy_groups heavy laid bytes one two = omega (arith, one, two)
+    heavy_batches : (heavy laid bytes : ℕ) → 4_194_304 * heavy ≤ bytes → 8_388_608 * laid ≤ bytes + 1 → 2 * heavy + 3 * laid ≤ bytes / 1_048_576 + 1
+    heavy_batches heavy laid bytes one two = omega (arith, one, two)
 
--- what a group cost if its store was only read before
-pub costs_of : {S : Type 0} (told : Ghosts S) (old read : Store S told) (new : S) (txn : List Put) (lines : Text) → IsTrue told.tells_all → IsTrue told.tells_reads → IsKept old read → IsSettled told txn lines (site_of read) new
-    → Costs (told.syncs (site_of old)) (told.syncs new) (told.log_bytes (site_of old)) (told.log_bytes new) (length (told.disk (site_of old)).reads.log) (length (told.disk new).reads.log) txn
-costs_of {S} told old read new txn lines t r kept ends =
+-- what a batch cost if its store was only read before
+pub costs_of : {S : Type 0} (ghosts : Ghosts S) (old read : Store S ghosts) (new : S) (txn : List Put) (lines : Text) → IsTrue ghosts.tells_all → IsTrue ghosts.tells_reads → IsKept old read → IsSettled ghosts txn lines (site_of read) new
+    → Costs (ghosts.syncs (site_of old)) (ghosts.syncs new) (ghosts.log_bytes (site_of old)) (ghosts.log_bytes new) (length (ghosts.disk (site_of old)).reads.log) (length (ghosts.disk new).reads.log) txn
+costs_of {S} ghosts old read new txn lines t r kept ends =
     let s = ends.spends t in
     let syncs = kept.syncs_are t in
     let bytes = kept.log_bytes_are t in
-    let log : length (told.disk (site_of read)).reads.log ≡ length (told.disk (site_of old)).reads.log = ap (λ (held : Contents). length held.log) (kept.reads r) in
-    let size : grown (length (told.disk (site_of read)).reads.log) txn ≡ grown (length (told.disk (site_of old)).reads.log) txn = ap (λ n. grown n txn) log in record {
+    let log : length (ghosts.disk (site_of read)).reads.log ≡ length (ghosts.disk (site_of old)).reads.log = ap (λ (held : Contents). length held.log) (kept.reads r) in
+    let size : grown (length (ghosts.disk (site_of read)).reads.log) txn ≡ grown (length (ghosts.disk (site_of old)).reads.log) txn = ap (λ n. grown n txn) log in record {
       content = omega (arith, s.handed, bytes);
       few = λ le. ⊎_elim (λ a. (omega (arith, a.1.syncs, syncs), omega (arith, a.1.grows, bytes, log))) (λ b. absurd (omega (arith, le, b.0, size))) s.cost;
       many = λ lt. ⊎_elim (λ a. absurd (omega (arith, lt, a.0, size))) (λ b. (omega (arith, b.1.syncs, syncs), b.1.short, omega (arith, b.1.paid, bytes, log))) s.cost;
     }
 
--- a group after which the run goes on: it is full, or heavy, or the last that is to be read
+-- a batch after which the run goes on: it is full, or heavy, or the last that is to be read
 pub spent_next : (s0 s1 s2 b0 b1 b2 l1 l2 answered count limit others size : ℕ) (txn : List Put) → HasSpent s0 s1 b0 b1 l1 answered others → (answered < limit → others ≡ 0) → Costs s1 s2 b1 b2 l1 l2 txn → size ≡ min (content_size txn) (2 ^ 64 - 1)
     → 0 < count → count ≤ limit - answered → (count ≡ 16) ⊎ ((4_194_304 ≤ size) ⊎ (count ≡ limit - answered))
     → (more : ℕ) × (more ≤ 2) × (answered + count < limit → more ≡ 0) × HasSpent s0 s2 b0 b2 l2 (answered + count) more

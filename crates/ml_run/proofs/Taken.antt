@@ -12,15 +12,15 @@ use Rattle.ml_plain.specs.Replies.{is_status}
 use Rattle.ml_list.proofs.States.{fold-nil, text-nil}
 use Rattle.std.proofs.lemmas.List.{append-nil}
 use Rattle.ml_stream.specs.declared.items.Items.{Items}
-use Rattle.ml_run.specs.declared.groups.GroupEnd.{GroupEnd}
-use Rattle.ml_run.specs.declared.groups.GroupEnd.TheVariants as ends
+use Rattle.ml_run.specs.declared.batches.BatchEnd.{BatchEnd}
+use Rattle.ml_run.specs.declared.batches.BatchEnd.TheVariants as ends
 use Rattle.ml_ending.specs.declared.lines.Why.{Why}
 use Rattle.ml_ending.specs.declared.lines.Why.TheVariants as whys
 use Rattle.ml_stream.specs.Stream.{got, StreamEnd, End, IsStream, item_at}
 use Rattle.ml_stream.specs.Items.{place_of}
 use Rattle.ml_ending.specs.Stops.{status_of_why}
 use Rattle.ml_ending.specs.Lines.{stop_text}
-use Rattle.ml_run.specs.Groups.{HasWhole, TakesTo, TakesSome, IsNumberOf}
+use Rattle.ml_run.specs.Batches.{HasWhole, TakesTo, TakesSome, IsNumberOf}
 use Rattle.ml_run.specs.Leaving.{HasState, IsAfterSome}
 use Rattle.ml_ending.specs.Endings.{StopLine, ClosesTo, Says, Finishes}
 use Rattle.ml_run.specs.Endings.{FromTaken, TakesFew}
@@ -45,25 +45,25 @@ stream_wider place front more (x ∷ xs) after all ending other s t =
 prefix_same : (xs ys xs' ys' : List Item) → xs ++ ys ≡ xs' ++ ys' → length xs ≡ length xs' → xs ≡ xs'
 prefix_same xs ys xs' ys' is long = sym (take-append_seam xs ys) ∙ ap (λ (n : ℕ). take n (xs ++ ys)) long ∙ ap (take (length xs')) is ∙ take-append_seam xs' ys'
 
--- what the end of a group tells of the items after it that the bytes hold
-abbrev pub EndsTo : GroupEnd → ℕ → List Item → Type 0
+-- what the end of a batch tells of the items after it that the bytes hold
+abbrev pub EndsTo : BatchEnd → ℕ → List Item → Type 0
 EndsTo ends.Full more after = after ≡ []
 EndsTo ends.Last more after = after ≡ []
 EndsTo (ends.Stopped who why) more after = IsNumberOf who (take more after) × (why ≡ whys.Input → after ≡ []) × (length after ≤ more)
 
-takes_whole : (end : GroupEnd) (place : ℕ) (front rest : Text) (items : List Item) (more : ℕ) (reader : Items) (left : Option Text) → TakesTo end place front rest items more reader left → HasWhole place front items (EndsTo end more)
+takes_whole : (end : BatchEnd) (place : ℕ) (front rest : Text) (items : List Item) (more : ℕ) (reader : Items) (left : Option Text) → TakesTo end place front rest items more reader left → HasWhole place front items (EndsTo end more)
 takes_whole ends.Full place front rest items more reader left t =
     record { after = []; ending = End; stream = subst (λ (b : Text). IsStream place b (items ++ []) End) (append-nil front) (spells_stream place (place_of reader) front [] items [] End t.0 refl); holds = refl }
 takes_whole ends.Last place front rest items more reader left t = record { after = t.after; ending = t.ending; stream = t.stream; holds = t.holds }
 takes_whole (ends.Stopped who why) place front rest items more reader left t = record { after = t.0.after; ending = t.0.ending; stream = t.0.stream; holds = t.0.holds }
 
 -- they are no more than were to be read
-ends_few : (end : GroupEnd) (more : ℕ) (after : List Item) → EndsTo end more after → length after ≤ more
+ends_few : (end : BatchEnd) (more : ℕ) (after : List Item) → EndsTo end more after → length after ≤ more
 ends_few ends.Full more after e = omega (arith, ap length e)
 ends_few ends.Last more after e = omega (arith, ap length e)
 ends_few (ends.Stopped who why) more after e = e.2
 
--- a group that was read after others
+-- a batch that was read after others
 pub takes_joined : (bytes : Text) (answered count m0 m1 m2 : ℕ) (reader next : Items) (left left' : Option Text) (t : TakesSome ends.Full 0 bytes answered m0 reader left) → TakesSome ends.Full (place_of reader) t.2.rest count m1 next left'
     → TakesSome ends.Full 0 bytes (answered + count) m2 next left'
 takes_joined bytes answered count m0 m1 m2 reader next left left' t u = (
@@ -78,8 +78,8 @@ takes_joined bytes answered count m0 m1 m2 reader next left left' t u = (
   },
 )
 
--- what was taken up to the end of a group
-pub from_taken : (before left left' : Option Text) (bytes : Text) (all : List Item) (ending : StreamEnd) (done ahead items rest : List Item) (answered count m0 more : ℕ) (reader next : Items) (end : GroupEnd) (P : List Item → Type 0)
+-- what was taken up to the end of a batch
+pub from_taken : (before left left' : Option Text) (bytes : Text) (all : List Item) (ending : StreamEnd) (done ahead items rest : List Item) (answered count m0 more : ℕ) (reader next : Items) (end : BatchEnd) (P : List Item → Type 0)
     → before ≡ Some bytes → IsStream 0 bytes all ending → all ≡ done ++ ahead → answered ≡ length done → ahead ≡ items ++ rest → count ≡ length items
     → (t : TakesSome ends.Full 0 bytes answered m0 reader left) → TakesSome end (place_of reader) t.2.rest count more next left'
     → ((after : List Item) → EndsTo end more after → P (done ++ (items ++ after))) → FromTaken before left' P
@@ -104,7 +104,7 @@ from_taken before left left' bytes all ending done ahead items rest answered cou
     }
 
 -- how many items were taken up to there
-pub few_taken : (before left left' : Option Text) (bytes : Text) (status limit answered count m0 more : ℕ) (reader next : Items) (end : GroupEnd) → before ≡ Some bytes → answered + count ≤ limit → more ≡ limit - answered - count
+pub few_taken : (before left left' : Option Text) (bytes : Text) (status limit answered count m0 more : ℕ) (reader next : Items) (end : BatchEnd) → before ≡ Some bytes → answered + count ≤ limit → more ≡ limit - answered - count
     → (t : TakesSome ends.Full 0 bytes answered m0 reader left) → TakesSome end (place_of reader) t.2.rest count more next left' → (status ≡ 72 → (who : Option ℕ) × (end ≡ ends.Stopped who whys.More)) → TakesFew status limit before left'
 few_taken before left left' bytes status limit answered count m0 more reader next end is few room t u only =
     let w = takes_whole end (place_of reader) u.2.front u.2.rest u.0 more next left' u.2.holds in
@@ -120,7 +120,7 @@ few_taken before left left' bytes status limit answered count m0 more reader nex
       few = omega (arith, length-append t.0 (u.0 ++ w.after), length-append u.0 w.after, after_few, t.1, u.1, few, room);
       more = λ e.
           let o = only e in
-          let h = (subst (λ (end : GroupEnd). TakesTo end (place_of reader) u.2.front u.2.rest u.0 more next left') o.1 u.2.holds).1 refl in (
+          let h = (subst (λ (end : BatchEnd). TakesTo end (place_of reader) u.2.front u.2.rest u.0 more next left') o.1 u.2.holds).1 refl in (
             t.2.front,
             u.2.front,
             t.0,
@@ -203,29 +203,29 @@ line_input line final rest disk who why c is status =
     disk_line : (w who : Option ℕ) → ◌≡◌ {A = StopLine} (Some (w, whys.Disk)) (Some (who, whys.Input)) → ⊥
     disk_line w who e = let bad : whys.Disk ≡ whys.Input = ap why_in e in cc
 
-module _ {S : Type 0} (told : Ghosts S) where
-  pub finished_input : (now new : S) (line : StopLine) (status last : ℕ) → Finishes told now new line status last → is_status last ≡ true → status ≡ 74 → (who : Option ℕ) × (line ≡ Some (who, whys.Input))
+module _ {S : Type 0} (ghosts : Ghosts S) where
+  pub finished_input : (now new : S) (line : StopLine) (status last : ℕ) → Finishes ghosts now new line status last → is_status last ≡ true → status ≡ 74 → (who : Option ℕ) × (line ≡ Some (who, whys.Input))
   finished_input now new line status last f sound is = ⊎_elim
       (λ quiet. absurd (status_not last 74 sound (omega arith) (omega arith) (sym quiet.1 ∙ is)))
       (λ said. ⊎_elim
-      (λ whole. (said.0, line_input line f.final (IsClean told f.mid) (Rose (told.disk_faults now) (told.disk_faults f.mid)) said.0 said.1 f.closes said.2 (sym whole.0 ∙ is)))
+      (λ whole. (said.0, line_input line f.final (IsClean ghosts f.mid) (Rose (ghosts.disk_faults now) (ghosts.disk_faults f.mid)) said.0 said.1 f.closes said.2 (sym whole.0 ∙ is)))
       (λ cut. absurd (omega (arith, cut.0, is)))
       said.3.line)
       f.said
 
-  pub finished_other : (now new : S) (who : Option ℕ) (why : Why) (status last : ℕ) → Finishes told now new (Some (who, why)) status last → is_status last ≡ true → status ≡ 74 → why ≡ whys.Input
+  pub finished_other : (now new : S) (who : Option ℕ) (why : Why) (status last : ℕ) → Finishes ghosts now new (Some (who, why)) status last → is_status last ≡ true → status ≡ 74 → why ≡ whys.Input
   finished_other now new who why status last f sound is = let h = finished_input now new (Some (who, why)) status last f sound is in some_why h.0 h.1
     where
       some_why : (w : Option ℕ) → ◌≡◌ {A = StopLine} (Some (who, why)) (Some (w, whys.Input)) → why ≡ whys.Input
       some_why w e = ap why_in e
 
   -- a stop line before the first item
-  pub said_after : (start mid new : S) (q : State) (items : List Item) (status : ℕ) (why : Why) → HasState (directory (told.disk start).reads) q → (IsTrue told.tells_reads → directory (told.disk mid).reads ≡ directory (told.disk start).reads)
-      → told.output mid ≡ told.output start → IsTrue told.tells_reads → IsTrue told.tells_all → Says told mid new status None why → IsAfterSome q items (told.output start) (told.disk new).reads (told.output new)
+  pub said_after : (start mid new : S) (q : State) (items : List Item) (status : ℕ) (why : Why) → HasState (directory (ghosts.disk start).reads) q → (IsTrue ghosts.tells_reads → directory (ghosts.disk mid).reads ≡ directory (ghosts.disk start).reads)
+      → ghosts.output mid ≡ ghosts.output start → IsTrue ghosts.tells_reads → IsTrue ghosts.tells_all → Says ghosts mid new status None why → IsAfterSome q items (ghosts.output start) (ghosts.disk new).reads (ghosts.output new)
   said_after start mid new q items status why state same put r t s =
       let line = stop_text None (status_of_why why) why in
-      let here : HasState (directory (told.disk new).reads) (fold q []) = other_list (directory (told.disk new).reads) q (fold q []) (sym (fold-nil q))
-      (same_state (directory (told.disk start).reads) (directory (told.disk new).reads) q (ap directory (s.reads r) ∙ same r) state) in
-      let before : told.output start ≡ told.output start ++ text q [] = sym (append-nil (told.output start)) ∙ ap (λ (l : Text). told.output start ++ l) (sym (text-nil q)) in
-      let out = says_front told mid new status None why s t in
-      saying q items [] items (told.output start) (told.output new) line (told.disk new).reads None why out.0 refl (reached_none q [] items (told.disk new).reads here) tt refl (out.1 ∙ ap (λ (o : Text). o ++ take out.0 line) (put ∙ before))
+      let here : HasState (directory (ghosts.disk new).reads) (fold q []) = other_list (directory (ghosts.disk new).reads) q (fold q []) (sym (fold-nil q))
+      (same_state (directory (ghosts.disk start).reads) (directory (ghosts.disk new).reads) q (ap directory (s.reads r) ∙ same r) state) in
+      let before : ghosts.output start ≡ ghosts.output start ++ text q [] = sym (append-nil (ghosts.output start)) ∙ ap (λ (l : Text). ghosts.output start ++ l) (sym (text-nil q)) in
+      let out = says_front ghosts mid new status None why s t in
+      saying q items [] items (ghosts.output start) (ghosts.output new) line (ghosts.disk new).reads None why out.0 refl (reached_none q [] items (ghosts.disk new).reads here) tt refl (out.1 ∙ ap (λ (o : Text). o ++ take out.0 line) (put ∙ before))

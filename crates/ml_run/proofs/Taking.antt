@@ -1,12 +1,12 @@
--- What a group takes from the source.
+-- What a batch takes from the source.
 use Rattle.std.proofs.Common.{◌≡◌, inl, inr, ℕ, ◌+◌, ◌<◌, ◌≤◌, List, [], ◌∷◌, ◌++◌, length, Option, Some, None, Err, ap, sym, refl, subst, ◌∙◌, arith, append_assoc, length-append}
 use Rattle.std.specs.Option.{option_to_list}
 use Rattle.std.proofs.lemmas.List.{append-nil}
 use Rattle.ml_base.specs.Bytes.{Text}
 use Rattle.ml_plain.specs.declared.Item.{Item}
 use Rattle.ml_stream.specs.declared.items.Items.{Items}
-use Rattle.ml_run.specs.declared.groups.GroupEnd.{GroupEnd}
-use Rattle.ml_run.specs.declared.groups.GroupEnd.TheVariants as ends
+use Rattle.ml_run.specs.declared.batches.BatchEnd.{BatchEnd}
+use Rattle.ml_run.specs.declared.batches.BatchEnd.TheVariants as ends
 use Rattle.ml_ending.specs.declared.lines.Why.{Why}
 use Rattle.ml_ending.specs.declared.lines.Why.TheVariants as whys
 use Rattle.ml_stream.specs.declared.stream_error.StreamError.{StreamError}
@@ -15,10 +15,10 @@ use Rattle.ml_stream.specs.Stream.{got, Read, StreamEnd, End, Broken, IsStream, 
 use Rattle.ml_stream.specs.Reading.{EndsEarly, IsNoItem, Tells}
 use Rattle.ml_stream.specs.Items.{HasLeft, place_of, ahead_of}
 use Rattle.ml_run.specs.Stops.{why_of_stream}
-use Rattle.ml_run.specs.Groups.{Spells, TakesTo, Takes, IsPartReason}
+use Rattle.ml_run.specs.Batches.{Spells, TakesTo, Takes, IsPartReason}
 use Rattle.ml_stream.proofs.Ahead.{no_bytes_end}
 use Rattle.ml_stream.proofs.Cuts.{left_own}
-use Rattle.ml_run.proofs.Grouping.{number_cut}
+use Rattle.ml_run.proofs.Batching.{number_cut}
 use Rattle.ml_stream.proofs.Locality.{item_local}
 use Rattle.ml_stream.proofs.Streams.{streams}
 
@@ -44,8 +44,8 @@ spells_stream place mid one more (x ∷ xs) later ending s h = (
 pub spells_one : (place next : ℕ) (own : Text) (item : Item) → ((more : Text) → item_at place (own ++ more) ≡ got (Some item) next more) → Spells place own (item ∷ []) next
 spells_one place next own item all = (own, [], next, sym (append-nil own), all, (refl, refl))
 
--- a group has taken its items, and some more bytes
-takes_more : (end : GroupEnd) (place mid : ℕ) (bs front rest own rest' : Text) (items : List Item) (more : ℕ) (reader : Items) (left : Option Text) (after : List Item) (ending : StreamEnd) → bs ≡ front ++ rest → Spells place front items mid
+-- a batch has taken its items, and some more bytes
+takes_more : (end : BatchEnd) (place mid : ℕ) (bs front rest own rest' : Text) (items : List Item) (more : ℕ) (reader : Items) (left : Option Text) (after : List Item) (ending : StreamEnd) → bs ≡ front ++ rest → Spells place front items mid
     → rest ≡ own ++ rest' → left ≡ Some rest' → IsStream mid own after ending → ((front : Text) → IsStream place front (items ++ after) ending → TakesTo end place front rest' items more reader left) → Takes end place bs items more reader left
 takes_more end place mid bs front rest own rest' items more reader left after ending split spells next left_is stream f = record {
   front = front ++ own;
@@ -181,7 +181,7 @@ takes_nothing place bs new left' none has = record {
   holds = (record { after = []; ending = End; stream = refl; holds = (tt, λ e. refl, omega arith) }, λ e. absurd (input_more e));
 }
 
--- a group has no items yet
+-- a batch has no items yet
 pub takes_none : (place : ℕ) (bs : Text) (reader : Items) (left : Option Text) → place ≡ place_of reader → ahead_of reader ≡ None → HasLeft reader left bs → Takes ends.Full place bs [] 0 reader left
 takes_none place bs reader left is none has = record { front = []; rest = bs; split = refl; left_is = left_own (place_of reader) (ahead_of reader) left bs none has; holds = ((refl, sym is), none, has) }
 

@@ -24,10 +24,10 @@ use Rattle.ml_ending.specs.Lines.{stop_text}
 use Rattle.ml_ending.specs.Stops.{status_of_why}
 use Rattle.ml_stream.specs.declared.items.Items.{Items}
 use Rattle.ml_stream.specs.Stream.{StreamEnd}
-use Rattle.ml_run.specs.declared.groups.Group.{Group}
-use Rattle.ml_run.specs.declared.groups.GroupEnd.{GroupEnd}
-use Rattle.ml_run.specs.declared.groups.GroupEnd.TheVariants as ends
-use Rattle.ml_run.specs.Groups.{HasNext, IsAhead}
+use Rattle.ml_run.specs.declared.batches.Batch.{Batch}
+use Rattle.ml_run.specs.declared.batches.BatchEnd.{BatchEnd}
+use Rattle.ml_run.specs.declared.batches.BatchEnd.TheVariants as ends
+use Rattle.ml_run.specs.Batches.{HasNext, IsAhead}
 use Rattle.ml_run.specs.Endings.{Brings}
 
 -- what was done for an item: its puts, and its reply
@@ -69,25 +69,25 @@ abbrev pub AreDone : Dir → List Done → Type 0
 AreDone files [] = Unit {0}
 AreDone files (d ∷ more) = IsDone files d × AreDone (with_puts files d.puts) more
 
--- an item was added to a group, and this was done for it over the directory with the group's puts
-pub record Adds (files : Dir) (old new : Group) (d : Done) : Type 0 where
+-- an item was added to a batch, and this was done for it over the directory with the batch's puts
+pub record Adds (files : Dir) (old new : Batch) (d : Done) : Type 0 where
   pub next : HasNext old new d.item.number d.puts d.reply
   pub is : IsDone (with_puts files old.txn) d
 
--- a group holds what was done for these items, and their answers
-pub record HoldsDone (files : Dir) (g : Group) (done : List Done) : Type 0 where
+-- a batch holds what was done for these items, and their answers
+pub record HoldsDone (files : Dir) (g : Batch) (done : List Done) : Type 0 where
   pub laid : with_puts files g.txn ≡ after files done
   pub lines : g.lines ≡ answers_of done
   pub count : g.count ≡ length done
   pub are : AreDone files done
 
--- the items after a full group are ahead of the reader
-abbrev pub GoesOn : GroupEnd → Items → Option Text → List Item → StreamEnd → Type 0
+-- the items after a full batch are ahead of the reader
+abbrev pub GoesOn : BatchEnd → Items → Option Text → List Item → StreamEnd → Type 0
 GoesOn ends.Full reader left rest ending = IsAhead reader left rest ending
 GoesOn _ reader left rest ending = Unit {0}
 
--- a group of the first items that were ahead of a reader
-pub record GathersDone (files : Dir) (g : Group) (end : GroupEnd) (reader next : Items) (left left' : Option Text) : Type 0 where
+-- a batch of the first items that were ahead of a reader
+pub record GathersDone (files : Dir) (g : Batch) (end : BatchEnd) (reader next : Items) (left left' : Option Text) : Type 0 where
   pub done : List Done
   pub holds : HoldsDone files g done
   pub ahead : (ahead : List Item) (ending : StreamEnd) → IsAhead reader left ahead ending → (rest : List Item) × (ahead ≡ items_of done ++ rest) × GoesOn end next left' rest ending
@@ -111,46 +111,46 @@ pub record IsAfterFirst (files : Dir) (done : List Done) (before : Text) (left :
   pub put : AnswersDone first before out ⊎ LineDone first before out
 
 -- these were done and answered since the start, when the site had this directory
-pub record HasDone {S : Type 0} (told : Ghosts S) (files : Dir) (start now : S) (done : List Done) : Type 0 where
+pub record HasDone {S : Type 0} (ghosts : Ghosts S) (files : Dir) (start now : S) (done : List Done) : Type 0 where
   pub are : AreDone files done
-  pub dir : directory (told.disk now).reads ≡ Some (after files done)
-  pub put : IsTrue told.tells_all → told.output now ≡ told.output start ++ answers_of done
-  pub moments : Leaves told start now (IsAfterFirst files done (told.output start))
+  pub dir : directory (ghosts.disk now).reads ≡ Some (after files done)
+  pub put : IsTrue ghosts.tells_all → ghosts.output now ≡ ghosts.output start ++ answers_of done
+  pub instants : Leaves ghosts start now (IsAfterFirst files done (ghosts.output start))
 
 -- this many were done and answered, the first ones that are brought, and the reader stands after them
-pub record HasServed {S : Type 0} (told : Ghosts S) (files : Dir) (start now : S) (answered : ℕ) (reader : Items) (left before : Option Text) : Type 0 where
+pub record HasServed {S : Type 0} (ghosts : Ghosts S) (files : Dir) (start now : S) (answered : ℕ) (reader : Items) (left before : Option Text) : Type 0 where
   pub done : List Done
-  pub has : HasDone told files start now done
+  pub has : HasDone ghosts files start now done
   pub count : answered ≡ length done
   pub items : (all : List Item) (ending : StreamEnd) → Brings before all ending → (ahead : List Item) × (all ≡ items_of done ++ ahead) × IsAhead reader left ahead ending
 
--- P holds of what a crash leaves at any moment since the old site; if something was pending there, from the first sync that succeeds on
-abbrev pub AtEachMoment : {S : Type 0} → Ghosts S → S → S → (Contents → Text → Type 0) → Type 0
-AtEachMoment told old new P = (IsTrue told.tells_all → Opens told old new P) × (IsAtRest (told.disk old) → Leaves told old new P)
+-- P holds of what a crash leaves at any instant since the old site; if something was pending there, from the first sync that succeeds on
+abbrev pub AtEachInstant : {S : Type 0} → Ghosts S → S → S → (Contents → Text → Type 0) → Type 0
+AtEachInstant ghosts old new P = (IsTrue ghosts.tells_all → Opens ghosts old new P) × (IsAtRest (ghosts.disk old) → Leaves ghosts old new P)
 
 -- A row of items with what was done for each. This many were answered, the first ones in the order in which they were brought, and at most one
--- more group was done. At the end the directory has the answered ones or all, and all are answered except after lack of memory and faults of the
+-- more batch was done. At the end the directory has the answered ones or all, and all are answered except after lack of memory and faults of the
 -- output and the disk.
-pub record IsRow {S : Type 0} (told : Ghosts S) (brings : List Item → StreamEnd → Type 0) (limit status answered : ℕ) (new : S) (files : Dir) (first group : List Done) : Type 0 where
-  pub are : AreDone files (first ++ group)
+pub record IsRow {S : Type 0} (ghosts : Ghosts S) (brings : List Item → StreamEnd → Type 0) (limit status answered : ℕ) (new : S) (files : Dir) (first batch : List Done) : Type 0 where
+  pub are : AreDone files (first ++ batch)
   pub count : answered ≡ length first
-  pub few : length group ≤ 16
-  pub brought : (all : List Item) (ending : StreamEnd) → brings all ending → (beyond : List Item) × (take limit all ≡ items_of (first ++ group) ++ beyond)
-  pub end : (directory (told.disk new).reads ≡ Some (after files first)) ⊎ (directory (told.disk new).reads ≡ Some (after files (first ++ group)))
-  pub whole : (status ≡ 71 → ⊥) → (status ≡ 73 → ⊥) → (status ≡ 111 → ⊥) → group ≡ []
+  pub few : length batch ≤ 16
+  pub brought : (all : List Item) (ending : StreamEnd) → brings all ending → (beyond : List Item) × (take limit all ≡ items_of (first ++ batch) ++ beyond)
+  pub end : (directory (ghosts.disk new).reads ≡ Some (after files first)) ⊎ (directory (ghosts.disk new).reads ≡ Some (after files (first ++ batch)))
+  pub whole : (status ≡ 71 → ⊥) → (status ≡ 73 → ⊥) → (status ≡ 111 → ⊥) → batch ≡ []
 
--- What a run does on a directory, whatever it holds: there is such a row, and at every moment (M) the directory has the puts of some first items
+-- What a run does on a directory, whatever it holds: there is such a row, and at every instant (M) the directory has the puts of some first items
 -- of the row, among them all items whose answers have a byte out. If all that was brought is answered, the answers are out, and nothing else.
-pub record DoesItems {S : Type 0} (told : Ghosts S) (M : (Contents → Text → Type 0) → Type 0) (brings : List Item → StreamEnd → Type 0) (limit status answered : ℕ) (old new : S) (files : Dir) : Type 0 where
+pub record DoesItems {S : Type 0} (ghosts : Ghosts S) (M : (Contents → Text → Type 0) → Type 0) (brings : List Item → StreamEnd → Type 0) (limit status answered : ℕ) (old new : S) (files : Dir) : Type 0 where
   pub first : List Done
-  pub group : List Done
-  pub row : IsRow told brings limit status answered new files first group
-  pub moments : M (IsAfterFirst files (first ++ group) (told.output old))
-  pub answers : IsTrue (is_status status) → IsTrue told.tells_all → told.output new ≡ told.output old ++ answers_of first
+  pub batch : List Done
+  pub row : IsRow ghosts brings limit status answered new files first batch
+  pub instants : M (IsAfterFirst files (first ++ batch) (ghosts.output old))
+  pub answers : IsTrue (is_status status) → IsTrue ghosts.tells_all → ghosts.output new ≡ ghosts.output old ++ answers_of first
 
 -- The same for a run that begins with what lies on a site, if reads are told and there is a directory. If an item is answered, the
 -- configuration's file is in its grammar.
 abbrev pub RunsAnywhere : {S : Type 0} → Ghosts S → (List Item → StreamEnd → Type 0) → ℕ → ℕ → ℕ → S → S → Type 0
-RunsAnywhere told brings limit status answered old new =
-    IsTrue told.tells_reads → (files : Dir) → directory (told.disk old).reads ≡ Some files
-    → DoesItems told (AtEachMoment told old new) brings limit status answered old new files × (0 < answered → HasConfig files)
+RunsAnywhere ghosts brings limit status answered old new =
+    IsTrue ghosts.tells_reads → (files : Dir) → directory (ghosts.disk old).reads ≡ Some files
+    → DoesItems ghosts (AtEachInstant ghosts old new) brings limit status answered old new files × (0 < answered → HasConfig files)

@@ -1,4 +1,4 @@
--- What a run may leave at any moment.
+-- What a run may leave at any instant.
 use Rattle.std.specs.Prelude.{◌≡◌, ◌⊎◌, ℕ, IsTrue, List, ◌++◌, take, Option, Some}
 use Rattle.ml_base.specs.Bytes.{Text}
 use Rattle.ml_base.specs.Dir.{Dir}
@@ -7,7 +7,7 @@ use Rattle.ml_site.specs.Disk.{Contents, IsImage}
 use Rattle.ml_site.specs.declared.site.Site.{Ghosts}
 use Rattle.ml_journal.specs.Calls.{Leaves}
 use Rattle.ml_journal.specs.Log.{directory}
-use Rattle.ml_journal.specs.Moments.{with_txn}
+use Rattle.ml_journal.specs.Instants.{with_txn}
 use Rattle.ml_journal.specs.Stores.{site_of, the_dir}
 use Rattle.ml_journal.specs.declared.store.Store.{Store}
 use Rattle.ml_plain.specs.declared.Item.{Item}
@@ -16,11 +16,11 @@ use Rattle.ml_plain.specs.Histories.{State, fold, text}
 use Rattle.ml_ending.specs.declared.lines.Why.{Why}
 use Rattle.ml_ending.specs.Lines.{stop_text}
 use Rattle.ml_ending.specs.Stops.{status_of_why}
-use Rattle.ml_run.specs.Groups.{IsNumberOf}
+use Rattle.ml_run.specs.Batches.{IsNumberOf}
 
 -- the directory that a store shows
-abbrev pub dir_of : {S : Type 0} {told : Ghosts S} → Store S told → Dir
-dir_of {S} {told} store = the_dir (directory (told.disk (site_of store)).reads)
+abbrev pub dir_of : {S : Type 0} {ghosts : Ghosts S} → Store S ghosts → Dir
+dir_of {S} {ghosts} store = the_dir (directory (ghosts.disk (site_of store)).reads)
 
 -- the directory is there, and it stands for this list
 pub record HasState (dir : Option Dir) (q : State) : Type 0 where
@@ -74,16 +74,16 @@ IsSettling dir txn lines before left out =
     ((directory left ≡ dir) × (out ≡ before)) ⊎ ((directory left ≡ with_txn txn dir) × ((n : ℕ) × (out ≡ before ++ take n lines)))
 
 -- The first items are done and answered, and no more.
-pub record IsServed {S : Type 0} (told : Ghosts S) (start now : S) (q : State) (items done after : List Item) : Type 0 where
+pub record IsServed {S : Type 0} (ghosts : Ghosts S) (start now : S) (q : State) (items done after : List Item) : Type 0 where
   pub split : items ≡ done ++ after
-  pub state : HasState (directory (told.disk now).reads) (fold q done)
-  pub put : IsTrue told.tells_all → told.output now ≡ told.output start ++ text q done
-  pub moments : Leaves told start now (IsAfterSome q items (told.output start))
+  pub state : HasState (directory (ghosts.disk now).reads) (fold q done)
+  pub put : IsTrue ghosts.tells_all → ghosts.output now ≡ ghosts.output start ++ text q done
+  pub instants : Leaves ghosts start now (IsAfterSome q items (ghosts.output start))
 
 -- The first items are answered, and some more may be done, at the site and after a crash now.
-pub record IsLeft {S : Type 0} (told : Ghosts S) (start now : S) (q : State) (items done after : List Item) : Type 0 where
+pub record IsLeft {S : Type 0} (ghosts : Ghosts S) (start now : S) (q : State) (items done after : List Item) : Type 0 where
   pub split : items ≡ done ++ after
-  pub reached : Reached q done after (told.disk now).reads
-  pub images : IsTrue told.tells_all → (left : Contents) → IsImage (told.disk now) left → Reached q done after left
-  pub put : IsTrue told.tells_all → told.output now ≡ told.output start ++ text q done
-  pub moments : Leaves told start now (IsAfterSome q items (told.output start))
+  pub reached : Reached q done after (ghosts.disk now).reads
+  pub images : IsTrue ghosts.tells_all → (left : Contents) → IsImage (ghosts.disk now) left → Reached q done after left
+  pub put : IsTrue ghosts.tells_all → ghosts.output now ≡ ghosts.output start ++ text q done
+  pub instants : Leaves ghosts start now (IsAfterSome q items (ghosts.output start))

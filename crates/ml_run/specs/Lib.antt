@@ -1,5 +1,5 @@
 pub mod Stops
-pub mod Groups
+pub mod Batches
 pub mod Leaving
 pub mod Endings
 pub mod Making

@@ -7,7 +7,7 @@ use Rattle.ml_config.specs.ConfigFile.{config_name}
 use Rattle.ml_config.specs.declared.configuration.Config.{Config}
 use Rattle.ml_site.specs.Disk.{Contents}
 use Rattle.ml_journal.specs.Log.{directory}
-use Rattle.ml_journal.specs.Moments.{with_txn}
+use Rattle.ml_journal.specs.Instants.{with_txn}
 use Rattle.ml_ending.specs.declared.lines.Why.{Why}
 use Rattle.ml_ending.specs.declared.lines.Why.TheVariants as whys
 use Rattle.ml_ending.specs.Endings.{SaysAtMost, TellsAtMost}

@@ -19,22 +19,22 @@ pub record IsReady {F : Type 0} (fed : FeedGhosts F) (feed : F) : Type 0 where
   pub sound : fed.sound feed
   pub fresh : IsFresh (fed.reader feed)
 
--- What becomes of a list and these items, with what holds at each moment (M). What was done, and what was put out, is of the items within the
+-- What becomes of a list and these items, with what holds at each instant (M). What was done, and what was put out, is of the items within the
 -- bytes that were taken; with status 74 all of these are answered.
-pub record EndsList {F S : Type 0} (fed : FeedGhosts F) (told : Ghosts S) (M : (Contents → Text → Type 0) → Type 0) (limit : ℕ) (before after : F) (old new : S) (ended : Ending) (all : List Item) (ending : StreamEnd) (q : State) : Type 0 where
-  pub whole : Runs (IsTrue told.tells_all) (Rose (fed.faults before) (fed.faults after)) ended.status limit ended.answered (told.disk new).reads (told.output new) all ending q (told.output old)
-  pub moments : M (IsAfterSome q (take limit all) (told.output old))
+pub record EndsList {F S : Type 0} (fed : FeedGhosts F) (ghosts : Ghosts S) (M : (Contents → Text → Type 0) → Type 0) (limit : ℕ) (before after : F) (old new : S) (ended : Ending) (all : List Item) (ending : StreamEnd) (q : State) : Type 0 where
+  pub whole : Runs (IsTrue ghosts.tells_all) (Rose (fed.faults before) (fed.faults after)) ended.status limit ended.answered (ghosts.disk new).reads (ghosts.output new) all ending q (ghosts.output old)
+  pub instants : M (IsAfterSome q (take limit all) (ghosts.output old))
   pub taken : FromTaken (fed.left before) (fed.left after) (λ items.
-      (IsTrue told.tells_all → IsAfterSome q (take limit items) (told.output old) (told.disk new).reads (told.output new)) × (ended.status ≡ 74 → ended.answered ≡ length items))
+      (IsTrue ghosts.tells_all → IsAfterSome q (take limit items) (ghosts.output old) (ghosts.disk new).reads (ghosts.output new)) × (ended.status ≡ 74 → ended.answered ≡ length items))
 
 -- the same of each list for which the directory may stand, and of all that the feed brings
 abbrev pub EndsEachList : {F S : Type 0} → FeedGhosts F → Ghosts S → ((Contents → Text → Type 0) → Type 0) → ℕ → F → F → S → S → Ending → Type 0
-EndsEachList fed told M limit before after old new ended =
-    IsTrue told.tells_reads → (all : List Item) (ending : StreamEnd) (q : State) → Begins (fed.left before) (told.disk old).reads all ending q
-    → EndsList fed told M limit before after old new ended all ending q
+EndsEachList fed ghosts M limit before after old new ended =
+    IsTrue ghosts.tells_reads → (all : List Item) (ending : StreamEnd) (q : State) → Begins (fed.left before) (ghosts.disk old).reads all ending q
+    → EndsList fed ghosts M limit before after old new ended all ending q
 
 -- what it tells of the feed's stream, whatever the directory, and what it takes of it
-pub record ReadsFeed {F S : Type 0} (fed : FeedGhosts F) (told : Ghosts S) (limit : ℕ) (before after : F) (old new : S) (ended : Ending) : Type 0 where
-  pub stream : AnswersStream told (fed.left before) ended.status limit ended.answered old new
+pub record ReadsFeed {F S : Type 0} (fed : FeedGhosts F) (ghosts : Ghosts S) (limit : ℕ) (before after : F) (old new : S) (ended : Ending) : Type 0 where
+  pub stream : AnswersStream ghosts (fed.left before) ended.status limit ended.answered old new
   pub few : (bytes : Text) → fed.left before ≡ Some bytes → TakesFew ended.status limit (fed.left before) (fed.left after)
   pub through : fed.through after ≡ fed.through before

@@ -5,14 +5,14 @@ ghost use Rattle.ml_journal.specs.Calls.{Leaves};
 ghost use Rattle.ml_journal.specs.Log.{directory};
 ghost use Rattle.ml_journal.specs.Stores.{site_of};
 ghost use Rattle.ml_list.specs.Loading.{HasConfig};
-ghost use Rattle.ml_run.specs.Anywhere.{AtEachMoment, DoesItems, RunsAnywhere};
+ghost use Rattle.ml_run.specs.Anywhere.{AtEachInstant, DoesItems, RunsAnywhere};
 ghost use Rattle.ml_run.specs.Clauses.{ClosesRun, CountsRun, SaysRefusal};
 ghost use Rattle.ml_run.specs.Endings.{Brings};
-ghost use Rattle.ml_run.specs.Groups.{IsOfNext};
+ghost use Rattle.ml_run.specs.Batches.{IsOfNext};
 ghost use Rattle.ml_run.specs.Serving.{EndsEachList, IsReady, ReadsFeed};
 
+use crate::batch_loop::serve;
 use crate::feed::Feed;
-use crate::group_loop::serve;
 use ml_base::Bytes;
 use ml_ending::{Ending, Why, finish, not_opened, say, why_of};
 use ml_journal::Store;
@@ -20,7 +20,7 @@ use ml_list::load;
 use ml_site::Site;
 use std::alloc::{AllocError, Global};
 
-// The most bytes that the answers of a group have.
+// The most bytes that the answers of a batch have.
 const BUFFER_SIZE: usize = 1024;
 
 // Opens what lies on a site, answers the items of a feed, closes the site and hands it back.
@@ -31,7 +31,7 @@ pub(crate) fn run_feed<F: Feed, S: Site>(
     site: S,
 ) -> (Ending, S)
     requires ready { IsReady ⟦<F as Feed>⟧ feed.old }
-    ensures list { EndsEachList ⟦<F as Feed>⟧ ⟦<S as Site>⟧ (AtEachMoment ⟦<S as Site>⟧ site result.1) limit feed.old feed.new site result.1 result.0 }
+    ensures list { EndsEachList ⟦<F as Feed>⟧ ⟦<S as Site>⟧ (AtEachInstant ⟦<S as Site>⟧ site result.1) limit feed.old feed.new site result.1 result.0 }
     ensures anywhere { RunsAnywhere ⟦<S as Site>⟧ (Brings (F.left feed.old)) limit result.0.status result.0.answered site result.1 }
     ensures read { ReadsFeed ⟦<F as Feed>⟧ ⟦<S as Site>⟧ limit feed.old feed.new site result.1 result.0 }
     ensures refusals { SaysRefusal ⟦<S as Site>⟧ (IsOfNext (Brings (F.left feed.old)) result.0.answered) result.0.status site result.1 }
@@ -49,7 +49,7 @@ pub(crate) fn run_feed<F: Feed, S: Site>(
     }
 }
 
-// Takes the memory for the answers of a group.
+// Takes the memory for the answers of a batch.
 fn take_buffer(alloc: Global) -> Result<Bytes, AllocError> {
     Ok(Bytes::from_vec(Vec::with_capacity(alloc, BUFFER_SIZE)?))
 }

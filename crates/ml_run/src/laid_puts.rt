@@ -3,7 +3,7 @@ ghost use Rattle.std.specs.Prelude.{◌≡◌, ◌≤◌, ◌<◌, ◌+◌, fals
 ghost use Rattle.ml_base.specs.Dir.{touches};
 ghost use Rattle.ml_base.specs.Laying.{laid_in, IsNewestAt};
 ghost use Rattle.ml_base.specs.declared.puts.Put.{Put as ThePut};
-ghost use Rattle.ml_run.specs.Groups.{laid_all};
+ghost use Rattle.ml_run.specs.Batches.{laid_all};
 
 use ml_base::{Put, Txn, newest_place};
 

@@ -1,12 +1,12 @@
 //! The run that answers a stream of items, and the making of a list.
 #![tactic(auto)]
 
+mod batch_commit;
+mod batch_items;
+mod batch_loop;
+mod batches;
 mod feed;
 mod feed_run;
-mod group_commit;
-mod group_items;
-mod group_loop;
-mod groups;
 mod item_puts;
 mod laid_puts;
 mod laws;

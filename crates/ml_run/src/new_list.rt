@@ -41,8 +41,8 @@ pub fn make<S: Site>(alloc: Global, config: &Config, key: &[u8; 32], site: S) ->
     ensures there { IsTrue S.tells_reads → (files : Dir) → directory (S.disk site).reads ≡ Some files → files config_name ≢ None →
         (result.0 ≡ 100) ⊎ ((result.0 ≡ 71) ⊎ ((result.0 ≡ 73) ⊎ (result.0 ≡ 111))) }
 
-    // What a crash leaves at every moment; if something is pending at the start, from the first sync that succeeds on.
-    ensures moments { IsTrue S.tells_all → Opens ⟦<S as Site>⟧ site result.1
+    // What a crash leaves at every instant; if something is pending at the start, from the first sync that succeeds on.
+    ensures instants { IsTrue S.tells_all → Opens ⟦<S as Site>⟧ site result.1
         (IsMaking (directory (S.disk site).reads) (first_puts config.now key.now) (made_text config.now) (S.output site)) }
     ensures at_rest { IsAtRest (S.disk site) → Leaves ⟦<S as Site>⟧ site result.1
         (IsMaking (directory (S.disk site).reads) (first_puts config.now key.now) (made_text config.now) (S.output site)) }
@@ -95,7 +95,7 @@ fn make_if_absent<S: Site>(alloc: Global, store: Store<S>, txn: &Txn, line: &[u8
     ensures makes { IsTrue S.tells_reads → Makes (IsTrue S.tells_all) result.0 (directory (S.disk (site_of store)).reads) txn.now line.now (S.output (site_of store)) (S.disk result.1).reads (S.output result.1) }
     ensures there { IsTrue S.tells_reads → (files : Dir) → directory (S.disk (site_of store)).reads ≡ Some files → files config_name ≢ None →
         (result.0 ≡ 100) ⊎ ((result.0 ≡ 71) ⊎ ((result.0 ≡ 73) ⊎ (result.0 ≡ 111))) }
-    ensures moments { Leaves ⟦<S as Site>⟧ (site_of store) result.1 (IsMaking (directory (S.disk (site_of store)).reads) txn.now line.now (S.output (site_of store))) }
+    ensures instants { Leaves ⟦<S as Site>⟧ (site_of store) result.1 (IsMaking (directory (S.disk (site_of store)).reads) txn.now line.now (S.output (site_of store))) }
     ensures rest { (Rose (S.disk_faults (site_of store)) (S.disk_faults result.1) → ⊥) → (result.0 ≡ 71 → ⊥) → (result.0 ≡ 73 → ⊥)
         → IsTrue S.tells_all → IsAtRest (S.disk result.1) }
     ensures statuses { IsTrue (is_make_status result.0) }
@@ -114,7 +114,7 @@ fn make_if_absent<S: Site>(alloc: Global, store: Store<S>, txn: &Txn, line: &[u8
 fn commit_list<S: Site>(alloc: Global, store: Store<S>, txn: &Txn, line: &[u8]) -> (u8, S)
     requires files { IsTrue (are_files txn.now) }
     ensures makes { IsTrue S.tells_reads → Makes (IsTrue S.tells_all) result.0 (directory (S.disk (site_of store)).reads) txn.now line.now (S.output (site_of store)) (S.disk result.1).reads (S.output result.1) }
-    ensures moments { Leaves ⟦<S as Site>⟧ (site_of store) result.1 (IsMaking (directory (S.disk (site_of store)).reads) txn.now line.now (S.output (site_of store))) }
+    ensures instants { Leaves ⟦<S as Site>⟧ (site_of store) result.1 (IsMaking (directory (S.disk (site_of store)).reads) txn.now line.now (S.output (site_of store))) }
     ensures rest { (Rose (S.disk_faults (site_of store)) (S.disk_faults result.1) → ⊥) → (result.0 ≡ 71 → ⊥) → (result.0 ≡ 73 → ⊥)
         → IsTrue S.tells_all → IsAtRest (S.disk result.1) }
     ensures statuses { IsTrue (is_make_status result.0) }

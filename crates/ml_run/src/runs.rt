@@ -6,7 +6,7 @@ ghost use Rattle.ml_plain.specs.declared.Item.{Item as TheItem};
 ghost use Rattle.ml_plain.specs.Histories.{State};
 ghost use Rattle.ml_plain.specs.Items.{IsItem};
 ghost use Rattle.ml_run.specs.Clauses.{AnswersStream, ClosesRun, CountsRun, CrashesAfterSome, SaysRefusal};
-ghost use Rattle.ml_run.specs.Groups.{IsOfNext};
+ghost use Rattle.ml_run.specs.Batches.{IsOfNext};
 ghost use Rattle.ml_run.specs.Endings.{AnswersAll, Begins, Brings, Runs, FromTaken, TakesFew};
 ghost use Rattle.ml_run.specs.Leaving.{IsAfterSome};
 ghost use Rattle.ml_run.specs.Anywhere.{RunsAnywhere};
@@ -40,10 +40,10 @@ pub fn run<I: Source, S: Site>(alloc: Global, limit: u64, input: &mut I, site: S
     ensures complete { IsTrue S.tells_reads → (all : List TheItem) (q : State) → Begins (I.left input.old) (S.disk site).reads all End q → length all ≤ limit →
         AnswersAll (IsTrue S.tells_all) result.0.status limit result.0.answered (S.disk result.1).reads (S.output result.1) all q (S.output site) }
 
-    // What a crash leaves at every moment.
+    // What a crash leaves at every instant.
     ensures crashes { CrashesAfterSome ⟦<S as Site>⟧ (I.left input.old) limit site result.1 }
 
-    // What a crash leaves at every moment, whatever the directory holds: what was done for each item is there whole or not at all, in order, and
+    // What a crash leaves at every instant, whatever the directory holds: what was done for each item is there whole or not at all, in order, and
     // is there if a byte of its answer is out.
     ensures anywhere { RunsAnywhere ⟦<S as Site>⟧ (Brings (I.left input.old)) limit result.0.status result.0.answered site result.1 }
 

@@ -1,4 +1,4 @@
--- What a filled disk holds is an image that a crash at its moment may leave.
+-- What a filled disk holds is an image that a crash at its instant may leave.
 use Rattle.std.proofs.Common.{◌≡◌, ◌<◌, ◌≤◌, ℕ, ◌⊎◌, inl, inr, zero, suc, ◌+◌, min, List, [], ◌∷◌, length, take, Result, Ok, Err, refl, sym, ◌∙◌, ap, subst, arith}
 use Rattle.std.specs.Prelude.{IfOk}
 use Rattle.std.proofs.lemmas.Bool.{cases_lt}
@@ -32,7 +32,7 @@ more_given (suc k) (call ∷ calls) =
     let next : suc k + 1 ≡ suc (k + 1) = omega arith in
     omega (arith, more_given k calls, ap (λ (n : ℕ). given (take n (call ∷ calls))) next)
 
--- an image after some calls is one of the moments since any time before
+-- an image after some calls is one of the instants since any time before
 pub left_then : (start : Disk) (calls : List Call) (output : List ℕ) (k t : ℕ) (left : Contents) → t ≤ min k (length calls) → IsImage (after start (take k calls)) left
     → Left start calls output t left (take (given (take k calls)) output)
 left_then start calls output k t left le image = record {

@@ -14,18 +14,18 @@ pub record ChangesPart {S E : Type 0} (reads_told told : Bool) (disk_of : S → 
   pub pends : IsTrue told → Pends result part (disk_of old) (disk_of new)
 
 -- what else every call on the disk does: it is counted, puts nothing out, and a crash during it leaves what a crash after it may leave
-pub record OnDisk {S : Type 0} (told : Bool) (disk_of : S → Disk) (output_of : S → List ℕ) (moment_of : S → ℕ) (left_of : S → ℕ → Contents → List ℕ → Type 0) (faults_of others_of calls_of : S → ℕ) (old new : S) : Type 0 where
+pub record OnDisk {S : Type 0} (told : Bool) (disk_of : S → Disk) (output_of : S → List ℕ) (instant_of : S → ℕ) (left_of : S → ℕ → Contents → List ℕ → Type 0) (faults_of others_of calls_of : S → ℕ) (old new : S) : Type 0 where
   pub output : IsTrue told → output_of new ≡ output_of old
-  pub time : IsTrue told → Elapses (moment_of old) (moment_of new) (left_of old) (left_of new) (Now (disk_of new) (output_of new))
+  pub time : IsTrue told → Elapses (instant_of old) (instant_of new) (left_of old) (left_of new) (Now (disk_of new) (output_of new))
   pub faults : faults_of old ≤ faults_of new
   pub others : others_of new ≡ others_of old
   pub calls : calls_of new ≡ next_call (calls_of old)
 
 -- What else a call does that looks at the disk at most once: it puts nothing out, and a crash during it leaves what a crash after it
 -- may leave.
-pub record LooksOnce {S : Type 0} (told : Bool) (disk_of : S → Disk) (output_of : S → List ℕ) (moment_of : S → ℕ) (left_of : S → ℕ → Contents → List ℕ → Type 0) (faults_of others_of calls_of : S → ℕ) (old new : S) : Type 0 where
+pub record LooksOnce {S : Type 0} (told : Bool) (disk_of : S → Disk) (output_of : S → List ℕ) (instant_of : S → ℕ) (left_of : S → ℕ → Contents → List ℕ → Type 0) (faults_of others_of calls_of : S → ℕ) (old new : S) : Type 0 where
   pub output : IsTrue told → output_of new ≡ output_of old
-  pub time : IsTrue told → Elapses (moment_of old) (moment_of new) (left_of old) (left_of new) (Now (disk_of new) (output_of new))
+  pub time : IsTrue told → Elapses (instant_of old) (instant_of new) (left_of old) (left_of new) (Now (disk_of new) (output_of new))
   pub faults : faults_of old ≤ faults_of new
   pub others : others_of new ≡ others_of old
   pub calls : calls_of old ≤ calls_of new

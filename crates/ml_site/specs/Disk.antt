@@ -87,7 +87,7 @@ pub record IsAtRest (disk : Disk) : Type 0 where
   pub settled : disk.settled ≡ disk.reads
   pub pending : disk.pending ≡ []
 
--- what a crash at this moment may leave, with the output so far
+-- what a crash at this instant may leave, with the output so far
 abbrev pub Now : Disk → List ℕ → Contents → List ℕ → Type 0
 Now disk output left out = IsImage disk left × (out ≡ output)
 

@@ -9,6 +9,6 @@ pub mod Replay
 pub mod Streams
 pub mod MemSites
 pub mod Unfailed
-pub mod Moments
+pub mod Instants
 pub mod Filled
 pub mod Planned

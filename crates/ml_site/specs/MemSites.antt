@@ -12,15 +12,15 @@ mem_disk s = after (at_rest (contents s.start_log s.start_files)) s.calls.items
 
 -- the disk after so many calls, or after all if there are fewer
 abbrev pub mem_disk_at : MemSite → ℕ → Disk
-mem_disk_at s moment = after (at_rest (contents s.start_log s.start_files)) (take moment s.calls.items)
+mem_disk_at s instant = after (at_rest (contents s.start_log s.start_files)) (take instant s.calls.items)
 
--- what a crash at some moment from that time on may have left, with the output so far
+-- what a crash at some instant from that time on may have left, with the output so far
 abbrev pub mem_left_since : MemSite → ℕ → Contents → List ℕ → Type 0
 mem_left_since s = Left (at_rest (contents s.start_log s.start_files)) s.calls.items s.output.items
 
 -- what so many calls put out
 abbrev pub mem_output_at : MemSite → ℕ → List ℕ
-mem_output_at s moment = take (given (take moment s.calls.items)) s.output.items
+mem_output_at s instant = take (given (take instant s.calls.items)) s.output.items
 
 -- what was put out
 abbrev pub mem_output : MemSite → List ℕ
@@ -82,7 +82,7 @@ MemSameNumbers old new = SameNumbers true mem_syncs mem_log_bytes old new
 pub record IsNew (image : Contents) (calls output : ℕ) (site : MemSite) : Type 0 where
   pub disk : mem_disk site ≡ at_rest image
   pub put_out : mem_output site ≡ []
-  pub moment : mem_calls site ≡ 0
+  pub instant : mem_calls site ≡ 0
   pub disk_calls : site_disk_calls site ≡ 0
   pub disk_faults : site_disk_faults site ≡ 0
   pub output_faults : site_output_faults site ≡ 0

@@ -102,15 +102,15 @@ impl MemSite {
         self.last_call = k;
     }
 
-    /// One image that a crash after the first `moment` calls may leave, or after all calls if there are fewer:
+    /// One image that a crash after the first `instant` calls may leave, or after all calls if there are fewer:
     /// what no sync has settled is old, new or one byte throughout, as `fill` says.
-    pub fn crash(&self, alloc: Global, moment: u64, fill: Fill) -> Result<Image, AllocError>
-        ensures image { IfOk result (λ image. IsImage (mem_disk_at self.now moment) (contents image.log image.files)) }
-        ensures bytes { IfOk result (λ image. contents image.log image.files ≡ filled fill (mem_disk_at self.now moment)) }
-        ensures moment { IfOk result (λ image. (t : ℕ) → t ≤ min moment (mem_calls self.now)
-            → mem_left_since self.now t (contents image.log image.files) (mem_output_at self.now moment)) }
+    pub fn crash(&self, alloc: Global, instant: u64, fill: Fill) -> Result<Image, AllocError>
+        ensures image { IfOk result (λ image. IsImage (mem_disk_at self.now instant) (contents image.log image.files)) }
+        ensures bytes { IfOk result (λ image. contents image.log image.files ≡ filled fill (mem_disk_at self.now instant)) }
+        ensures instant { IfOk result (λ image. (t : ℕ) → t ≤ min instant (mem_calls self.now)
+            → mem_left_since self.now t (contents image.log image.files) (mem_output_at self.now instant)) }
     {
-        let made = self.calls.len().min(moment as usize);
+        let made = self.calls.len().min(instant as usize);
         let calls = &self.calls.as_slice()[..made];
         image_left(
             alloc,
@@ -186,7 +186,7 @@ impl Site for MemSite {
 
     ghost output = { λ s. s.output.items };
 
-    ghost moment = { λ s. length s.calls.items };
+    ghost instant = { λ s. length s.calls.items };
 
     ghost left_since = { λ s. Left (at_rest (contents s.start_log s.start_files)) s.calls.items s.output.items };
 
@@ -380,7 +380,7 @@ impl Site for MemSite {
 
     ghost reads_as_image = { λ s t. after-is_image (contents s.start_log s.start_files) s.calls.items };
 
-    ghost is_a_moment = { λ s t told le.
+    ghost is_an_instant = { λ s t told le.
         left_now (contents s.start_log s.start_files) s.calls.items s.output.items t s.output_is le };
 
     ghost only_now = { λ s c o told left.

@@ -73,7 +73,7 @@ pub trait Site {
     /// Whether it tells what reads give.
     ghost tells_reads: { Bool };
 
-    /// Whether it also tells its images, output, moments and numbers.
+    /// Whether it also tells its images, output, instants and numbers.
     ghost tells_all: { Bool };
 
     /// What reads give, what is settled and what is pending.
@@ -83,9 +83,9 @@ pub trait Site {
     ghost output: { Self → List ℕ };
 
     /// The time, as a number that doesn't fall.
-    ghost moment: { Self → ℕ };
+    ghost instant: { Self → ℕ };
 
-    /// What a crash at some moment from that time on may have left, with the output so far.
+    /// What a crash at some instant from that time on may have left, with the output so far.
     ghost left_since: { Self → ℕ → Contents → List ℕ → Type 0 };
 
     /// How many syncs succeeded.
@@ -107,7 +107,7 @@ pub trait Site {
     fn read_log(&mut self, alloc: Global) -> Result<Bytes, SiteError>
         ensures bytes { IsTrue tells_reads → IfOk result (λ v. v ≡ (disk self.old).reads.log) }
         ensures same { SameDisk tells_reads tells_all disk self.old self.new }
-        ensures keeps { OnDisk tells_all disk output moment left_since disk_faults output_faults disk_calls self.old self.new }
+        ensures keeps { OnDisk tells_all disk output instant left_since disk_faults output_faults disk_calls self.old self.new }
         ensures numbers { SameNumbers tells_all syncs log_bytes self.old self.new }
         ensures cause { IsErrOf result FailedCall → Rose (disk_faults self.old) (disk_faults self.new) };
 
@@ -117,7 +117,7 @@ pub trait Site {
         requires { IsTrue tells_reads → at ≤ length (disk self.old).reads.log }
         ensures change { ChangesPart tells_reads tells_all disk result (Range at (length bytes.now))
             (log_with (disk self.old).reads at bytes.now) self.old self.new }
-        ensures keeps { OnDisk tells_all disk output moment left_since disk_faults output_faults disk_calls self.old self.new }
+        ensures keeps { OnDisk tells_all disk output instant left_since disk_faults output_faults disk_calls self.old self.new }
         ensures syncs { IsTrue tells_all → syncs self.new ≡ syncs self.old }
         ensures log_bytes { IsTrue tells_all → OnOk result (log_bytes self.new ≡ log_bytes self.old + length bytes.now) }
         ensures log_bytes_stay { IsTrue tells_all → log_bytes self.old ≤ log_bytes self.new }
@@ -129,7 +129,7 @@ pub trait Site {
         requires { IsTrue tells_reads → len ≤ length (disk self.old).reads.log }
         ensures change { ChangesPart tells_reads tells_all disk result (Cut len)
             (log_cut (disk self.old).reads len) self.old self.new }
-        ensures keeps { OnDisk tells_all disk output moment left_since disk_faults output_faults disk_calls self.old self.new }
+        ensures keeps { OnDisk tells_all disk output instant left_since disk_faults output_faults disk_calls self.old self.new }
         ensures numbers { SameNumbers tells_all syncs log_bytes self.old self.new }
         ensures cause { OnErr result (Rose (disk_faults self.old) (disk_faults self.new)) };
 
@@ -138,7 +138,7 @@ pub trait Site {
         requires { IsTrue (is_file name) }
         ensures bytes { IsTrue tells_reads → IfOk result (λ o. o ≡ (disk self.old).reads.files name) }
         ensures same { SameDisk tells_reads tells_all disk self.old self.new }
-        ensures keeps { OnDisk tells_all disk output moment left_since disk_faults output_faults disk_calls self.old self.new }
+        ensures keeps { OnDisk tells_all disk output instant left_since disk_faults output_faults disk_calls self.old self.new }
         ensures numbers { SameNumbers tells_all syncs log_bytes self.old self.new }
         ensures cause { IsErrOf result FailedCall → Rose (disk_faults self.old) (disk_faults self.new) };
 
@@ -147,7 +147,7 @@ pub trait Site {
         requires { IsTrue (is_file name) }
         ensures there { IsTrue tells_reads → IfOk result (λ there. there ≡ is_some ((disk self.old).reads.files name)) }
         ensures same { SameDisk tells_reads tells_all disk self.old self.new }
-        ensures keeps { OnDisk tells_all disk output moment left_since disk_faults output_faults disk_calls self.old self.new }
+        ensures keeps { OnDisk tells_all disk output instant left_since disk_faults output_faults disk_calls self.old self.new }
         ensures numbers { SameNumbers tells_all syncs log_bytes self.old self.new }
         ensures cause { IsErrOf result FailedCall → Rose (disk_faults self.old) (disk_faults self.new) }
     {
@@ -164,7 +164,7 @@ pub trait Site {
         ensures range { IfOk result (λ at. (from ≤ at) × (at ≤ end)) }
         ensures none { IsTrue tells_reads → IfOk result (NoneOf (disk self.old).reads.files kind from) }
         ensures same { SameDisk tells_reads tells_all disk self.old self.new }
-        ensures keeps { LooksOnce tells_all disk output moment left_since disk_faults output_faults disk_calls self.old self.new }
+        ensures keeps { LooksOnce tells_all disk output instant left_since disk_faults output_faults disk_calls self.old self.new }
         ensures numbers { SameNumbers tells_all syncs log_bytes self.old self.new }
         ensures cause { IsErrOf result FailedCall → Rose (disk_faults self.old) (disk_faults self.new) }
     {
@@ -177,7 +177,7 @@ pub trait Site {
         requires { IsTrue (is_file name) }
         ensures change { ChangesPart tells_reads tells_all disk result (File name)
             (file_with (disk self.old).reads name (Some bytes.now)) self.old self.new }
-        ensures keeps { OnDisk tells_all disk output moment left_since disk_faults output_faults disk_calls self.old self.new }
+        ensures keeps { OnDisk tells_all disk output instant left_since disk_faults output_faults disk_calls self.old self.new }
         ensures numbers { SameNumbers tells_all syncs log_bytes self.old self.new }
         ensures cause { IsErrOf result FailedCall → Rose (disk_faults self.old) (disk_faults self.new) };
 
@@ -187,7 +187,7 @@ pub trait Site {
         requires { IsTrue (is_file name) }
         ensures change { ChangesPart tells_reads tells_all disk result (File name)
             (file_with (disk self.old).reads name None) self.old self.new }
-        ensures keeps { OnDisk tells_all disk output moment left_since disk_faults output_faults disk_calls self.old self.new }
+        ensures keeps { OnDisk tells_all disk output instant left_since disk_faults output_faults disk_calls self.old self.new }
         ensures numbers { SameNumbers tells_all syncs log_bytes self.old self.new }
         ensures cause { IsErrOf result FailedCall → Rose (disk_faults self.old) (disk_faults self.new) };
 
@@ -199,7 +199,7 @@ pub trait Site {
         ensures err { IsTrue tells_all → OnErr result (disk self.new ≡ disk self.old) }
         ensures crash { IsTrue tells_all → (left : Contents)
             → IsImage (disk self.new) left → IsImage (disk self.old) left }
-        ensures keeps { OnDisk tells_all disk output moment left_since disk_faults output_faults disk_calls self.old self.new }
+        ensures keeps { OnDisk tells_all disk output instant left_since disk_faults output_faults disk_calls self.old self.new }
         ensures syncs { IsTrue tells_all → syncs self.new ≤ syncs self.old + 1 }
         ensures syncs_ok { IsTrue tells_all → OnOk result (syncs self.new ≡ syncs self.old + 1) }
         ensures syncs_err { IsTrue tells_all → OnErr result (syncs self.new ≡ syncs self.old) }
@@ -214,7 +214,7 @@ pub trait Site {
         ensures ok { IsTrue tells_all → OnOk result (output self.new ≡ output self.old ++ bytes.now) }
         ensures err { IsTrue tells_all
             → OnErr result ((n : ℕ) × (output self.new ≡ output self.old ++ take n bytes.now)) }
-        ensures time { IsTrue tells_all → Elapses (moment self.old) (moment self.new)
+        ensures time { IsTrue tells_all → Elapses (instant self.old) (instant self.new)
             (left_since self.old) (left_since self.new) (Giving (disk self.old) (output self.old) bytes.now) }
         ensures numbers { SameNumbers tells_all syncs log_bytes self.old self.new }
         ensures faults { output_faults self.old ≤ output_faults self.new }
@@ -228,11 +228,11 @@ pub trait Site {
     /// A disk as it reads is one of its images.
     ghost reads_as_image: { (site : Self) → IsTrue tells_all → IsImage (disk site) (disk site).reads };
 
-    /// What reads give, with the output so far, is a moment now.
-    ghost is_a_moment: { (site : Self) (t : ℕ) → IsTrue tells_all → t ≤ moment site
+    /// What reads give, with the output so far, is a instant now.
+    ghost is_an_instant: { (site : Self) (t : ℕ) → IsTrue tells_all → t ≤ instant site
         → left_since site t (disk site).reads (output site) };
 
-    /// The moments of right now are the disk's images with the output so far, and no others.
+    /// The instants of right now are the disk's images with the output so far, and no others.
     ghost only_now: { (site : Self) (left : Contents) (out : List ℕ) → IsTrue tells_all
-        → left_since site (moment site) left out → Now (disk site) (output site) left out };
+        → left_since site (instant site) left out → Now (disk site) (output site) left out };
 }

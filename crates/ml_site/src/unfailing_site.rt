@@ -43,7 +43,7 @@ impl Site for Unfailing {
 
     ghost output = { λ _. [] };
 
-    ghost moment = { λ _. 0 };
+    ghost instant = { λ _. 0 };
 
     ghost left_since = { λ _ _ _ _. ⊤ };
 
@@ -107,7 +107,7 @@ impl Site for Unfailing {
 
     ghost reads_as_image = { λ s t. untold t };
 
-    ghost is_a_moment = { λ s t told le. untold told };
+    ghost is_an_instant = { λ s t told le. untold told };
 
     ghost only_now = { λ s c o told left. untold told };
 }

@@ -11,7 +11,7 @@ use std::alloc::{AllocError, Global};
 use std::collections::BTreeSet;
 
 // The place of the first part with this name, or None if there is none.
-fn place_of(parts: &[Part], name: &[u8]) -> Option<usize>
+fn position_of(parts: &[Part], name: &[u8]) -> Option<usize>
     ensures { result ≡ position (is_named name.now) parts.now }
 {
     parts.iter().position(|part| part.name.as_slice() == name)
@@ -54,7 +54,7 @@ fn empty_parts(alloc: Global, rules: &Rules) -> Result<Vec<Part>, AllocError>
 fn add_member(parts: &mut Vec<Part>, name: &[u8], a: Address) -> Result<(), AllocError>
     ensures { OnOk result (parts.new.items ≡ with_member_of name.now a parts.old.items) }
 {
-    if let Some(at) = place_of(parts.as_slice(), name) {
+    if let Some(at) = position_of(parts.as_slice(), name) {
         parts[at].members.push(a)?;
     }
     Ok(())

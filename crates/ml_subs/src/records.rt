@@ -8,8 +8,8 @@ ghost use Rattle.ml_subs.specs.Buckets.{IsMember, IsMomentIn, moment_text};
 ghost use Rattle.ml_subs.specs.Reading.{AreRead, BeginsWith, as_member};
 
 use crate::Member;
-use ml_base::{Address, LAST_MOMENT, is_below, is_kept, number_within, split_first};
-use ml_keyed::place_of_lower;
+use ml_base::{Address, LAST_MOMENT, is_below, is_canonical, number_within, split_first};
+use ml_keyed::bucket_of_lower;
 use std::alloc::{AllocError, Global};
 
 // How a bucket's records are spelled: in layout 1 only addresses, in layout 2 their moments too.
@@ -45,7 +45,7 @@ pub(crate) fn member_from(alloc: Global, found: Record<'_>) -> Result<Member, Al
     requires { IsAddress found.who.now }
     ensures { IfOk result (λ m. m ≡ as_member found.entry) }
 {
-    let who = Address::from_kept(alloc, found.who)?;
+    let who = Address::from_canonical(alloc, found.who)?;
     Ok(Member {
         who,
         since: found.since,
@@ -64,7 +64,7 @@ pub(crate) fn next_record(layout: Layout, text: &[u8]) -> Option<(Record<'_>, &[
         return None;
     }
     let (who, rest) = split_first(0, rest)?;
-    if !is_kept(who) {
+    if !is_canonical(who) {
         return None;
     }
     let (since, more) = next_moment(layout, rest)?;
@@ -87,7 +87,7 @@ pub(crate) fn next_member<'a>(
     if !is_below(floor, record.who) {
         return None;
     }
-    if place_of_lower(record.who) != n {
+    if bucket_of_lower(record.who) != n {
         return None;
     }
     Some((record, more))

@@ -12,7 +12,7 @@ use Rattle.ml_base.specs.declared.names.Set.TheVariants as sets
 use Rattle.ml_base.proofs.SortedLaws.{same_bytes, bytes_total, found_is, found_with, found_without}
 use Rattle.ml_bounce.specs.Answers.{has_ledger}
 use Rattle.ml_bounce.specs.Changes.{act, after_at}
-use Rattle.ml_bounce.specs.Files.{IsEntry, IsLedger, ledger_place}
+use Rattle.ml_bounce.specs.Files.{IsEntry, IsLedger, bucket_of}
 use Rattle.ml_bounce.specs.Ledger.{Ledger, find_entry, forget, is_blank_at, settle, with_ledger}
 use Rattle.ml_bounce.specs.declared.entries.LedgerEntry.{LedgerEntry}
 use Rattle.ml_bounce.specs.declared.entries.Stage.{Stage}
@@ -39,9 +39,9 @@ above_apart a b above = go (eq_by_cmp byte_cmp b a) refl
         absurd (false≢true (sym (ap is_lt (tied_itself bytes_total a)) ∙ self))
 
 -- an entry that is found is spelled as its key
-pub found_lowered : (dir : Dir) (kind : ℕ) (ledger : Ledger) (k : Text) (e : LedgerEntry) → IsLedger dir kind ledger → find_entry k ledger ≡ Some e → ledger_place k < 53 → lower e.key ≡ e.key
+pub found_lowered : (dir : Dir) (kind : ℕ) (ledger : Ledger) (k : Text) (e : LedgerEntry) → IsLedger dir kind ledger → find_entry k ledger ≡ Some e → bucket_of k < 53 → lower e.key ≡ e.key
 found_lowered dir kind ledger k e is found within =
-    ((found_is byte_cmp (λ f. f.key) (IsEntry (ledger_place k)) k e (is.buckets (ledger_place k)) (is.files (ledger_place k) within).each (sym (is.by_key k) ∙ found)).0).lowered
+    ((found_is byte_cmp (λ f. f.key) (IsEntry (bucket_of k)) k e (is.buckets (bucket_of k)) (is.files (bucket_of k) within).each (sym (is.by_key k) ∙ found)).0).lowered
 
 ledger_put : (set : Set) → has_ledger set ≡ true → (ledger : Ledger) (p : Plain) → ledger_of (with_ledger_of set ledger p) set ≡ ledger
 ledger_put sets.List has ledger p = refl

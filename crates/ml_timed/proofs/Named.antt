@@ -11,10 +11,9 @@ use Rattle.ml_base.specs.declared.names.Name.{Name}
 use Rattle.ml_base.specs.declared.names.Set.{Set}
 use Rattle.ml_base.specs.declared.names.Set.TheVariants as sets
 use Rattle.ml_bounce.specs.Answers.{IsFileName, has_ledger, key_file, ledger_kind}
-use Rattle.ml_bounce.specs.Files.{ledger_place}
+use Rattle.ml_bounce.specs.Files.{bucket_of}
 use Rattle.ml_config.specs.KeyFile.{key_name}
 use Rattle.ml_queue.specs.Answers.{ids_name}
-use Rattle.ml_subs.specs.Buckets.{bucket_of}
 use Rattle.ml_acts.specs.Doing.{is_bucket, is_bucket_of, is_entry_of}
 use Rattle.ml_timed.specs.Reads.{is_followed_by, is_ledger, is_of_following}
 
@@ -25,9 +24,9 @@ in_ledger set name e = or_left (is_ledger set name || is_bucket set name) (same_
 pub entry_followed : (set : Set) (who : Text) (name : Name) → is_entry_of set who name ≡ true → is_followed_by set name ≡ true
 entry_followed set who name e =
     let same = (and_parts (has_ledger set) (same_name name (key_file set (key who))) e).1 in
-    let parts = and_parts (eqb name.kind (ledger_kind set)) (eqb name.at (ledger_place (key who))) same in
-    let at = eqb-true name.at (ledger_place (key who)) parts.1 in
-    let few : ledger_place (key who) < 53 = mod_below (hash_of (key who)) 53 (omega arith) in
+    let parts = and_parts (eqb name.kind (ledger_kind set)) (eqb name.at (bucket_of (key who))) same in
+    let at = eqb-true name.at (bucket_of (key who)) parts.1 in
+    let few : bucket_of (key who) < 53 = mod_below (hash_of (key who)) 53 (omega arith) in
     in_ledger set name (and_from (eqb name.kind (ledger_kind set)) (ltb name.at 53) parts.0 (lt-ltb name.at 53 (omega (arith, at, few))))
 
 -- the bucket of an address

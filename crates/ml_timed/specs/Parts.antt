@@ -12,12 +12,12 @@ use Rattle.ml_acts.specs.Spelled.{DamagesNothing}
 
 -- the files below a layer, with the puts of another layer over them
 abbrev pub over : {F : Type 0} → Ghosts F → Layer F → Layer F → Dir
-over told below puts = with_puts (told.map (files_below below)) (puts_over puts)
+over ghosts below puts = with_puts (ghosts.map (files_below below)) (puts_over puts)
 
 -- Whatever it answers, its puts come after those that lay there, are of files that it may write, and damage nothing, and the files below are
 -- only read. A file named as damaged passes MayRead, and IsBad of the files as they were before it and of those that it leaves.
-pub record AnswersPart {F T : Type 0} (may_write : Name → Bool) (told : Ghosts F) (MayRead : Name → Type 0) (IsBad : Dir → Dir → Name → Type 0) (old new : Layer F) (result : Result T PartError) : Type 0 where
+pub record AnswersPart {F T : Type 0} (may_write : Name → Bool) (ghosts : Ghosts F) (MayRead : Name → Type 0) (IsBad : Dir → Dir → Name → Type 0) (old new : Layer F) (result : Result T PartError) : Type 0 where
   pub grown : IsGrown may_write (puts_over old) (puts_over new)
-  pub harmless : IsTrue told.tells → DamagesNothing (over told old old) (over told old new)
-  pub names : NamesDamaged told MayRead (IsBad (over told old old) (over told old new)) result
-  pub reads : IsReading told (files_below old) (files_below new) result
+  pub harmless : IsTrue ghosts.tells → DamagesNothing (over ghosts old old) (over ghosts old new)
+  pub names : NamesDamaged ghosts MayRead (IsBad (over ghosts old old) (over ghosts old new)) result
+  pub reads : IsReading ghosts (files_below old) (files_below new) result

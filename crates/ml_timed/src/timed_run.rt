@@ -8,7 +8,7 @@ ghost use Rattle.ml_base.specs.Ranges.{IsMoment};
 ghost use Rattle.ml_config.specs.Configuration.{IsConfig};
 ghost use Rattle.ml_plain.specs.Answers as answers;
 ghost use Rattle.ml_plain.specs.Directory.{IsList};
-ghost use Rattle.ml_plain.specs.KeptFiles.{is_kept};
+ghost use Rattle.ml_plain.specs.KeptFiles.{may_be_kept};
 ghost use Rattle.ml_plain.specs.Plain.{Plain};
 ghost use Rattle.ml_plain.specs.Timing as spec;
 ghost use Rattle.ml_queue.specs.Answers.{ids_name};
@@ -72,7 +72,7 @@ fn run<F: Files>(
     requires room { IsTrue F.tells → HasIdsUpTo (with_puts (F.map (files_below files.now)) (puts_over files.now)) 999_999_999_997_000 }
     ensures list { IsTrue F.tells → IfOk result (λ _. (dir : Dir) (p : Plain) → Alike (is_seen_in_timed config.now.flags.d) (F.map (files_below files.old)) dir → IsList (with_puts dir (puts_over files.old)) p → p.config ≡ config.now → IsList (with_puts dir (puts_over files.new)) (spec.after_timed now.seconds p)) }
     ensures reply { IsTrue F.tells → IfOk result (λ reply. (dir : Dir) (p : Plain) → Alike (is_seen_in_timed config.now.flags.d) (F.map (files_below files.old)) dir → IsList (with_puts dir (puts_over files.old)) p → p.config ≡ config.now → reply ≡ answers.timed ((spec.after_timed now.seconds p).queue.next - p.queue.next)) }
-    ensures kept { IfOk result (λ reply. is_kept reply ≡ true) }
+    ensures kept { IfOk result (λ reply. may_be_kept reply ≡ true) }
     ensures agrees { IsTrue F.tells → IfOk result (λ _. config.now.flags.d ≡ true → AgreesIfRead (with_puts (F.map (files_below files.old)) (puts_over files.old))) }
     ensures found { IsTrue F.tells → IfOk result (λ _. FoundInRun (F.map (files_below files.old)) (puts_over files.old) (puts_over files.new)) }
     ensures part { AnswersPart is_of_time ⟦<F as Files>⟧ (λ name. is_of_timed config.now.flags.d name ≡ true) IsDamagedInRun files.old files.new result }
@@ -105,7 +105,7 @@ fn all_parts<F: Files>(
 // The reply of a run, by the next ids before it and after it. No run makes more entries than a reply can count, so a counter of ids that
 // says so was changed by something else.
 fn reply_of_run(before: u64, after: u64) -> Result<Reply, PartError>
-    ensures kept { IfOk result (λ reply. is_kept reply ≡ true) }
+    ensures kept { IfOk result (λ reply. may_be_kept reply ≡ true) }
     ensures value { IfOk result (λ reply. reply ≡ answers.timed (after - before)) }
     ensures error { IfErr result (λ e. (e ≡ Damaged ids_name) × (1_000_000_000_000_000 < after - before)) }
 {

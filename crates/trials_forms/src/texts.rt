@@ -3,7 +3,7 @@ use crate::answer_text::{push_bool, push_debug, push_pair, push_texts};
 use crate::layers::{failing, in_place, layered};
 use ml_base::{
     Address, AddressError, AddressFault, AddressList, Bytes, FilesError, Name, Numbers, PartError,
-    compare_keys, copied, hash, hash_lower, is_below, is_drawn, is_kept, is_moment, is_own,
+    compare_keys, copied, hash, hash_lower, is_below, is_canonical, is_drawn, is_moment, is_own,
     is_post_number, make_address, path, push_netstring, read_netstring, read_number, split_first,
     split_last, split_line, split_netstring, write_number,
 };
@@ -40,7 +40,7 @@ fn is_so(alloc: Global, verb: &str, first: &[u8], second: &[u8]) -> Result<bool,
     if verb == "own" {
         Ok(is_own(b"List", b"ex.Org", first))
     } else if verb == "kept" {
-        Ok(is_kept(first))
+        Ok(is_canonical(first))
     } else if verb == "is_address" {
         Ok(make_address(first, second))
     } else if verb == "same" {

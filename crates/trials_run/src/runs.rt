@@ -42,11 +42,11 @@ run make => 0 made list@ex.org\n | put done/0 {0..4607:\0} | input A1:5,10:10000
 run make => 0 made list@ex.org\n | input K2:33,10:1000000300,64:{1..64:f}, | run spool => 0 33 0 rekeyed\n1 answered | has key {rekeyed} | has log \0 | input K2:35,10:1001000300,64:{1..64:0}, | run spool => 100 35 100 toosoon\n1 answered | has key {rekeyed} | has log \0 | input K2:36,10:1001000301,64:{1..64:0}, | run spool => 0 36 0 rekeyed\n1 answered | has key {rekeyed_twice} | has log \0
 # Numbers below the floor are refused.
 run make => 0 made list@ex.org\n | input A1:7,10:1000000000,4:list,3:a@b, | run spool => 0 7 0 subscribed\n1 answered | input A1:8,10:1000000001,4:list,3:A@B, | run spool => 0 8 0 already\n1 answered | input F2:90,10:1000000500,2:50, | run spool => 0 90 0 floored 50\n1 answered | input A1:7,10:1000000000,4:list,3:a@b, | run spool => 100 7 100 stale\n1 answered | input F2:90,10:1000000500,2:50, | run spool => 0 90 0 floored 50\n1 answered | input F2:91,10:1000000501,2:20, | run spool => 0 91 0 floored 50\n1 answered | input F2:92,10:1000000502,3:100, | run spool => 100 92 100 badfloor\n1 answered | input F1:0,10:1000000503,6:600000, | run spool => 100 0 100 badfloor\n1 answered | has subscribers/] layout 2\nTa@b\01000000000\0 | has counts/list 1\n | has floor 50\n | has log \0
-# Floors hold within a group.
+# Floors hold within a batch.
 run make => 0 made list@ex.org\n | input A1:7,10:1000000000,4:list,3:a@b,A1:8,10:1000000001,4:list,3:A@B,F2:90,10:1000000500,2:50,A1:7,10:1000000000,4:list,3:a@b,F2:90,10:1000000500,2:50,F2:91,10:1000000501,2:20,F2:92,10:1000000502,3:100,F1:0,10:1000000503,6:600000, | run spool => 100 7 0 subscribed\n8 0 already\n90 0 floored 50\n7 100 stale\n90 0 floored 50\n91 0 floored 50\n92 100 badfloor\n0 100 badfloor\n8 answered | has subscribers/] layout 2\nTa@b\01000000000\0 | has counts/list 1\n | has floor 50\n | has log \0
-# A bucket without moments is written with them, and a repeat changes only its kept reply.
+# A bucket without instants is written with them, and a repeat changes only its kept reply.
 run make => 0 made list@ex.org\n | put subscribers/] Ta@b\0 | put counts/list 1\n | input A2:70,10:1000000400,4:list,3:a@5, | run spool => 0 70 0 subscribed\n1 answered | has config {config} | has key \0\x01\x02\x03\x04\x05\x06\x07\x08\x09\n\x0B\x0C\x0D\x0E\x0F\x10\x11\x12\x13\x14\x15\x16\x17\x18\x19\x1A\x1B\x1C\x1D\x1E\x1F | has counts/digest 0\n | has counts/allow 0\n | has counts/deny 0\n | has counts/mod 0\n | has num 0\n | has dig 0:0\n | has tickets 1:1\n | has ids 1:1\n | has subscribers/] layout 2\nTa@5\01000000400\0Ta@b\00\0 | has counts/list 2\n | files 13 | has log \0 | input A2:71,10:1000000500,4:list,3:A@5, | run spool => 0 71 0 already\n1 answered | has config {config} | has key \0\x01\x02\x03\x04\x05\x06\x07\x08\x09\n\x0B\x0C\x0D\x0E\x0F\x10\x11\x12\x13\x14\x15\x16\x17\x18\x19\x1A\x1B\x1C\x1D\x1E\x1F | has counts/digest 0\n | has counts/allow 0\n | has counts/deny 0\n | has counts/mod 0\n | has num 0\n | has dig 0:0\n | has tickets 1:1\n | has ids 1:1\n | has subscribers/] layout 2\nTa@5\01000000400\0Ta@b\00\0 | has counts/list 2\n | files 13
-# A number counts once in a group.
+# A number counts once in a batch.
 run make => 0 made list@ex.org\n | input {10..24:A2:%,10:1000000000,4:list,4:b@%,}A2:12,10:1000000000,4:list,4:b@99, | run spool => 0 {10..24:% 0 subscribed\n}12 0 subscribed\n16 answered | has counts/list 15\n
 # 15 items.
 run make => 0 made list@ex.org\n | input {10..24:A2:%,10:1000000000,4:list,4:b@%,} | run spool => 0 {10..24:% 0 subscribed\n}15 answered | has counts/list 15\n
@@ -62,7 +62,7 @@ run make => 0 made list@ex.org\n | run members 99840 => 0 | input {199840..19999
 run make => 0 made list@ex.org\n | put subscribers/W T | input {four} | run spool => 75 1 0 subscribed\n2 0 subscribed\n3 75 subscribers/W\n2 answered | has subscribers/] layout 2\nTa@b\01000000000\0 | has subscribers/L layout 2\nTc@d\01000000000\0 | has subscribers/W T | has counts/list 2\n | has log \0
 ";
 
-// Limits for the length of the longest log that a run of these many neighbours leaves at any moment. A file of kept replies has 4,608 bytes, and
+// Limits for the length of the longest log that a run of these many neighbours leaves at any instant. A file of kept replies has 4,608 bytes, and
 // sixteen buckets of one member each have fewer than 100 with their names, and each file is put once.
 const LOGS: &str = r"
 run make => 0 made list@ex.org\n | input {10..25:A2:%,10:1000000000,4:list,4:b@%,} | run longest 4608 6208 => 0 between
@@ -75,6 +75,6 @@ fn runs_end_and_leave_so(rt: HostRuntime) -> Result<(), Fail> {
 }
 
 #[test]
-fn a_group_puts_each_file_once(rt: HostRuntime) -> Result<(), Fail> {
+fn a_batch_puts_each_file_once(rt: HostRuntime) -> Result<(), Fail> {
     hold::<Calls>(rt.alloc(), "logs", LOGS)
 }

@@ -67,7 +67,7 @@ pub(crate) fn gate(alloc: Global, site: &MemSite) -> Result<Bytes, AllocError> {
     }
 }
 
-// Whether the longest log that a run has at any moment is longer than the first of these numbers and shorter than the second; otherwise its
+// Whether the longest log that a run has at any instant is longer than the first of these numbers and shorter than the second; otherwise its
 // length.
 pub(crate) fn longest(
     alloc: Global,

@@ -33,7 +33,7 @@ turns 175 176 | input {each} | run cut {turn} => 0 7 0 subscribed\n8 0 unsubscri
 // the reads 4 to 7. The record is written and synced by 8 and 9, its gate by 10 and 11, and 12 gives the answer. The store is closed
 // by three files and a sync, the gate and a sync, the cut and a sync.
 //
-// A group of two items is read for four times and then twice, since it has the counts and the kept replies by then. One of four is read
+// A batch of two items is read for four times and then twice, since it has the counts and the kept replies by then. One of four is read
 // for four times, twice, twice and once; the record and its gate are then settled by four calls, and 17 gives the answers.
 const STOPS: &str = r"
 let four A1:1,10:1000000000,4:list,3:a@b,A1:2,10:1000000000,4:list,3:c@d,A1:3,10:1000000000,4:list,3:e@f,A1:4,10:1000000000,4:list,3:a@5,
@@ -76,12 +76,12 @@ turns 15 23 | fail | fill new | input {two} | run spool => 111 7 0 subscribed\n8
 # Two items: there are no more calls.
 fail 24 | input {two} | run spool => 0 7 0 subscribed\n8 0 subscribed\n2 answered | input {two} | run spool => 0 7 0 subscribed\n8 0 subscribed\n2 answered | has counts/list 2\n
 fail 24 | fill new | input {two} | run spool => 0 7 0 subscribed\n8 0 subscribed\n2 answered | input {two} | run spool => 0 7 0 subscribed\n8 0 subscribed\n2 answered | has counts/list 2\n
-# A group is deferred as a whole.
+# A batch is deferred as a whole.
 fail 16 | input {four} | run spool => 111 1 111 disk\n0 answered | input {four} | run spool => 0 1 0 subscribed\n2 0 subscribed\n3 0 subscribed\n4 0 subscribed\n4 answered | has subscribers/] layout 2\nTa@5\01000000000\0Ta@b\01000000000\0 | has subscribers/L layout 2\nTc@d\01000000000\0 | has subscribers/W layout 2\nTe@f\01000000000\0 | has counts/list 4\n | has log \0
 fail 16 | fill new | input {four} | run spool => 111 1 111 disk\n0 answered | input {four} | run spool => 0 1 0 subscribed\n2 0 subscribed\n3 0 subscribed\n4 0 subscribed\n4 answered | has subscribers/] layout 2\nTa@5\01000000000\0Ta@b\01000000000\0 | has subscribers/L layout 2\nTc@d\01000000000\0 | has subscribers/W layout 2\nTe@f\01000000000\0 | has counts/list 4\n | has log \0
-# A group whose answers are not given stays.
+# A batch whose answers are not given stays.
 fail 17 | input {four} | run spool => 73 0 answered | input  | run spool => 0 0 answered | has subscribers/] layout 2\nTa@5\01000000000\0Ta@b\01000000000\0 | has subscribers/L layout 2\nTc@d\01000000000\0 | has subscribers/W layout 2\nTe@f\01000000000\0 | has counts/list 4\n | has log \0
-# A group is answered.
+# A batch is answered.
 input {four} | run spool => 0 1 0 subscribed\n2 0 subscribed\n3 0 subscribed\n4 0 subscribed\n4 answered
 ";
 

@@ -7,7 +7,7 @@ use Rattle.ml_base.specs.Name.{is_file}
 use Rattle.ml_base.proofs.Bools.{name_itself}
 use Rattle.ml_bounce.specs.Answers.{key_file, writes, IsBucketOf}
 use Rattle.ml_bounce.specs.Changes as spec
-use Rattle.ml_bounce.specs.Files.{ledger_place}
+use Rattle.ml_bounce.specs.Files.{bucket_of}
 use Rattle.ml_bounce.proofs.Leading.{probed_leads, answer_only}
 use Rattle.ml_keyed.proofs.Keys.{place_below}
 use Rattle.ml_bounce.proofs.Ledgers.{bucket_in, ledger_file_of}
@@ -36,5 +36,5 @@ returns-clause-others g c =
 pub returns-clause-files : goal.returns-clause-files
 returns-clause-files g c =
     answer_only is_file c.args.set (key c.args.who.now) (spec.probe_failed (key c.args.who.now) c.args.t c.as_slice-3.result.now) c.in_ok-probe_failed_in.field-0
-    (ledger_file_of c.args.set (ledger_place (key c.args.who.now)) c.requires (place_below (key c.args.who.now)))
+    (ledger_file_of c.args.set (bucket_of (key c.args.who.now)) c.requires (place_below (key c.args.who.now)))
     (c.in_ok-probe_failed_in.ensures ∙ ap (λ (k : Text). option_map (writes c.args.set k) (spec.probe_failed k c.args.t c.as_slice-3.result.now)) (c.as_slice-2.ensures ∙ c.in_ok-key.ensures.key))

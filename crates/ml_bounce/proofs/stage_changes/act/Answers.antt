@@ -5,7 +5,7 @@ use Rattle.ml_base.specs.Dir.{same_name}
 use Rattle.ml_base.specs.Name.{is_file}
 use Rattle.ml_base.proofs.Bools.{name_itself}
 use Rattle.ml_bounce.specs.Answers.{action_key, acts, key_file, IsBucketOf}
-use Rattle.ml_bounce.specs.Files.{ledger_place}
+use Rattle.ml_bounce.specs.Files.{bucket_of}
 use Rattle.ml_bounce.proofs.Acted.{acted_leads, acts_only}
 use Rattle.ml_bounce.proofs.Leading.{lowered_key}
 use Rattle.ml_keyed.proofs.Keys.{place_below}
@@ -37,5 +37,5 @@ returns-clause-others g c =
 pub returns-clause-files : goal.returns-clause-files
 returns-clause-files g c =
     let own = key (action_key c.args.action.now) in
-    acts_only is_file c.args.set own c.args.now c.as_slice-3.result.now c.in_ok-act_in.field-0 (ledger_file_of c.args.set (ledger_place own) c.requires.ledger (place_below own))
+    acts_only is_file c.args.set own c.args.now c.as_slice-3.result.now c.in_ok-act_in.field-0 (ledger_file_of c.args.set (bucket_of own) c.requires.ledger (place_below own))
     (c.in_ok-act_in.ensures ∙ ap (λ (k : Text). acts c.args.set k c.args.now c.as_slice-3.result.now) (c.as_slice-2.ensures ∙ c.in_ok-key.ensures.key ∙ ap key c.target.ensures))

@@ -1,7 +1,7 @@
 use Rattle.std.proofs.Common.{IsTrue}
 use Rattle.ml_journal.specs.Log.{directory}
 use Rattle.ml_run.proofs.Named.{names_map}
-use Rattle.ml_run.specs.Groups.{IsOfNext}
+use Rattle.ml_run.specs.Batches.{IsOfNext}
 use Rattle.ml_run.specs.Single.{IsAlone}
 use Rattle.ml_command.specs.Single.{IsOwn}
 use Rattle.ml_command.proofs.OneItem.{answers_it, no_input, own_item}
@@ -23,7 +23,7 @@ returns g c =
       done = r.done;
       whole = r.whole;
       complete = λ t q s. answers_it told status answered new.reads output item q (g.S.Site.output c.args.site) (no_input status r.known) (r.complete t q s);
-      moments = r.moments;
+      instants = r.instants;
       at_rest = r.at_rest;
       anywhere = r.anywhere;
       answers = r.answers;

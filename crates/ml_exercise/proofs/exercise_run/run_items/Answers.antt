@@ -7,9 +7,9 @@ use Rattle.ml_plain.specs.Histories.{State}
 use Rattle.ml_plain.specs.declared.Item.{Item}
 use Rattle.ml_journal.specs.Calls.{Leaves}
 use Rattle.ml_journal.specs.Log.{directory}
-use Rattle.ml_run.specs.Anywhere.{AtEachMoment}
+use Rattle.ml_run.specs.Anywhere.{AtEachInstant}
 use Rattle.ml_run.specs.Endings.{Begins, Brings, Names}
-use Rattle.ml_run.specs.Groups.{IsOfNext}
+use Rattle.ml_run.specs.Batches.{IsOfNext}
 use Rattle.ml_run.specs.Leaving.{HasState, IsAfterSome}
 use Rattle.ml_run.proofs.ServedAnywhere.{items_at}
 use Rattle.ml_run.proofs.Unfailing.{never_fails}
@@ -44,7 +44,7 @@ returns g c =
       at_rest = λ rest q state. subst (λ (all : List Item). Leaves g.S.Site c.args.site c.run-site.result.1 (IsAfterSome q all (g.S.Site.output c.args.site))) (all_taken config count) (c.run-site.ensures.crashes.at_rest rest items End q (begins q state));
       all = λ ok. (tells.whole ok).1 ∙ long;
       anywhere = λ r files here. (
-        items_at g.S.Site (AtEachMoment g.S.Site c.args.site c.run-site.result.1) (Brings (Some (generated_left c.new-items.result))) (Brings (Some (stream_text items))) count status c.run-site.result.0.answered c.args.site c.run-site.result.1 files
+        items_at g.S.Site (AtEachInstant g.S.Site c.args.site c.run-site.result.1) (Brings (Some (generated_left c.new-items.result))) (Brings (Some (stream_text items))) count status c.run-site.result.0.answered c.args.site c.run-site.result.1 files
             (λ all ending b. subst (λ (left : Text). Brings (Some left) all ending) (sym is) b) (c.run-site.ensures.anywhere r files here).0,
         (c.run-site.ensures.anywhere r files here).1,
       );

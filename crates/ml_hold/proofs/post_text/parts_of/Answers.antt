@@ -13,10 +13,10 @@ returns-in_err-moment-clause-none c = if_none _ _ (no_moment c.args.text.now c.i
 pub returns-in_err-sender-clause-none : goal.returns-in_err-sender-clause-none
 returns-in_err-sender-clause-none c = if_none _ _ (no_sender c.args.text.now c.in_ok-digits.digits.now c.in_ok-digits.after.now c.in_ok-digits.ensures.value c.in_err-sender.ensures.value)
 
-pub returns-then-not-is_kept-clause-none : goal.returns-then-not-is_kept-clause-none
-returns-then-not-is_kept-clause-none c =
+pub returns-then-not-is_canonical-clause-none : goal.returns-then-not-is_canonical-clause-none
+returns-then-not-is_canonical-clause-none c =
     not_kept c.args.text.now c.in_ok-digits.digits.now c.in_ok-digits.after.now c.in_ok-digits.ensures.value c.in_ok-sender.sender.now c.in_ok-sender.last.now c.in_ok-sender.ensures.value
-    (λ is. both_ways c.is_kept.result c.if-not-is_kept.true (c.is_kept.ensures.1 is))
+    (λ is. both_ways c.is_canonical.result c.if-not-is_canonical.true (c.is_canonical.ensures.1 is))
 
 pub returns-in_err-message-clause-none : goal.returns-in_err-message-clause-none
 returns-in_err-message-clause-none c =
@@ -36,5 +36,5 @@ returns-then-message-clause-none c =
 pub returns-clause-some : goal.returns-clause-some
 returns-clause-some c =
     held_read c.args.text.now c.in_ok-digits.digits.now c.in_ok-digits.after.now c.in_ok-digits.ensures.value c.in_ok-sender.sender.now c.in_ok-sender.last.now c.in_ok-sender.ensures.value
-    c.in_ok-message.message.now c.in_ok-message.end.now c.in_ok-message.ensures.value c.in_ok-moment.moment c.in_ok-moment.ensures (c.is_kept.ensures.0 c.if-not-is_kept.false)
+    c.in_ok-message.message.now c.in_ok-message.end.now c.in_ok-message.ensures.value c.in_ok-moment.moment c.in_ok-moment.ensures (c.is_canonical.ensures.0 c.if-not-is_canonical.false)
     (eqb-true _ _ (sym c.is_empty.ensures ∙ c.if-not-is_empty.false)) (let a = c.if-message.false in omega (arith, a))

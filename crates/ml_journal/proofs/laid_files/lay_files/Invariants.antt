@@ -12,7 +12,7 @@ invariant-loop-name g l = record {
   is_finite : (goal.iterator-loop-name g).is_finite l.name-iterator;
   reads : IsTrue g.S.Site.tells_reads → (name : Name) → IsBeside name l.name-iterator → (g.S.Site.disk l.site).reads.files name ≡ with_newest l.newest.puts (g.S.Site.disk l.initial.site).reads.files name;
   beside : IsTrue g.S.Site.tells_reads → Beside l.newest.puts (g.S.Site.disk l.initial.site).reads (g.S.Site.disk l.site).reads;
-  moments : Leaves g.S.Site l.initial.site l.site (λ (left : Contents) (out : List ℕ). Beside l.newest.puts (g.S.Site.disk l.initial.site).reads left × (out ≡ g.S.Site.output l.initial.site));
+  instants : Leaves g.S.Site l.initial.site l.site (λ (left : Contents) (out : List ℕ). Beside l.newest.puts (g.S.Site.disk l.initial.site).reads left × (out ≡ g.S.Site.output l.initial.site));
   images : IsTrue g.S.Site.tells_all → IsOver l.newest.puts (g.S.Site.disk l.initial.site).reads (g.S.Site.disk l.site);
   keeps : Keeps g.S.Site 0 ⊥ l.initial.site l.site;
 }

@@ -7,7 +7,7 @@ pub returns-in_err-write_log-clause-settles : goal.returns-in_err-write_log-clau
 returns-in_err-write_log-clause-settles g c = record {
   reads = search rules;
   rest = search rules;
-  moments = λ told. after_one g.S.Site.moment g.S.Site.left_since g.S.Site.disk g.S.Site.output (λ site left out l. g.met.S.Site.only_now site left out told l) c.write_log.result (Range c.args.at (length c.args.bytes.now))
+  instants = λ told. after_one g.S.Site.instant g.S.Site.left_since g.S.Site.disk g.S.Site.output (λ site left out l. g.met.S.Site.only_now site left out told l) c.write_log.result (Range c.args.at (length c.args.bytes.now))
       c.args.site.now c.write_log.new.self (c.requires.rest told) (c.write_log.ensures.change.pends told) (c.write_log.ensures.keeps.output told) (c.write_log.ensures.keeps.time told);
 }
 
@@ -15,7 +15,7 @@ pub returns-clause-settles : goal.returns-clause-settles
 returns-clause-settles g c = record {
   reads = search rules;
   rest = search rules;
-  moments = λ told. after_both g.S.Site.moment g.S.Site.left_since g.S.Site.disk g.S.Site.output (λ site left out l. g.met.S.Site.only_now site left out told l) c.write_log.result (Range c.args.at (length c.args.bytes.now))
+  instants = λ told. after_both g.S.Site.instant g.S.Site.left_since g.S.Site.disk g.S.Site.output (λ site left out l. g.met.S.Site.only_now site left out told l) c.write_log.result (Range c.args.at (length c.args.bytes.now))
       c.args.site.now c.write_log.new.self c.sync.new.self (c.requires.rest told) (c.write_log.ensures.change.pends told) (c.write_log.ensures.keeps.output told) (c.write_log.ensures.keeps.time told)
       (c.sync.ensures.crash told) (c.sync.ensures.keeps.output told) (c.sync.ensures.keeps.time told);
 }
@@ -24,7 +24,7 @@ pub returns-in_err-sync-clause-settles : goal.returns-in_err-sync-clause-settles
 returns-in_err-sync-clause-settles g c = record {
   reads = search rules;
   rest = search rules;
-  moments = λ told. after_both g.S.Site.moment g.S.Site.left_since g.S.Site.disk g.S.Site.output (λ site left out l. g.met.S.Site.only_now site left out told l) c.write_log.result (Range c.args.at (length c.args.bytes.now))
+  instants = λ told. after_both g.S.Site.instant g.S.Site.left_since g.S.Site.disk g.S.Site.output (λ site left out l. g.met.S.Site.only_now site left out told l) c.write_log.result (Range c.args.at (length c.args.bytes.now))
       c.args.site.now c.write_log.new.self c.sync.new.self (c.requires.rest told) (c.write_log.ensures.change.pends told) (c.write_log.ensures.keeps.output told) (c.write_log.ensures.keeps.time told)
       (c.sync.ensures.crash told) (c.sync.ensures.keeps.output told) (c.sync.ensures.keeps.time told);
 }

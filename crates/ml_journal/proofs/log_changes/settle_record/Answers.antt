@@ -7,14 +7,14 @@ pub returns-in_err-write_record-clause-settles : goal.returns-in_err-write_recor
 returns-in_err-write_record-clause-settles g c = record {
   reads = search rules;
   rest = search rules;
-  moments = λ told. hands_leave g.S.Site g.met.S.Site.only_now c.write_record.result c.args.at (spelled_record c.args.puts.now ++ 0 ∷ []) c.args.site.now c.write_record.new.site told (c.requires.rest told) c.write_record.ensures;
+  instants = λ told. hands_leave g.S.Site g.met.S.Site.only_now c.write_record.result c.args.at (spelled_record c.args.puts.now ++ 0 ∷ []) c.args.site.now c.write_record.new.site told (c.requires.rest told) c.write_record.ensures;
 }
 
 pub returns-clause-settles : goal.returns-clause-settles
 returns-clause-settles g c = record {
   reads = search rules;
   rest = search rules;
-  moments = λ told. synced_leave g.S.Site g.met.S.Site.only_now c.write_record.result c.args.at (spelled_record c.args.puts.now ++ 0 ∷ []) c.args.site.now c.write_record.new.site c.sync.new.self told (c.requires.rest told) c.write_record.ensures
+  instants = λ told. synced_leave g.S.Site g.met.S.Site.only_now c.write_record.result c.args.at (spelled_record c.args.puts.now ++ 0 ∷ []) c.args.site.now c.write_record.new.site c.sync.new.self told (c.requires.rest told) c.write_record.ensures
       (c.sync.ensures.crash told) (c.sync.ensures.keeps.output told) (c.sync.ensures.keeps.time told);
 }
 
@@ -22,6 +22,6 @@ pub returns-in_err-sync-clause-settles : goal.returns-in_err-sync-clause-settles
 returns-in_err-sync-clause-settles g c = record {
   reads = search rules;
   rest = search rules;
-  moments = λ told. synced_leave g.S.Site g.met.S.Site.only_now c.write_record.result c.args.at (spelled_record c.args.puts.now ++ 0 ∷ []) c.args.site.now c.write_record.new.site c.sync.new.self told (c.requires.rest told) c.write_record.ensures
+  instants = λ told. synced_leave g.S.Site g.met.S.Site.only_now c.write_record.result c.args.at (spelled_record c.args.puts.now ++ 0 ∷ []) c.args.site.now c.write_record.new.site c.sync.new.self told (c.requires.rest told) c.write_record.ensures
       (c.sync.ensures.crash told) (c.sync.ensures.keeps.output told) (c.sync.ensures.keeps.time told);
 }

@@ -30,9 +30,9 @@ returns-in_err-txn-clause-names g c =
     let dir = g.F.Files.map c.args.files.now in
     let at = c.args.at in
     let most = c.requires.most in
-    let group = div_below at 512 1_953_125_000 (omega arith) (omega (arith, most)) in
+    let block = div_below at 512 1_953_125_000 (omega arith) (omega (arith, most)) in
     let names = one_named g.F.Files (λ name. is_read_by (Floor at) name ≡ true) _ (replies_name (at / 512)) (IsNoReplies (g.F.Files.map c.floor_of.new.files) (at / 512)) (IsDamagedInList dir) (reads_replies at)
-    (λ told none. replies (at / 512) group refl (subst (λ (d : Dir). IsNoReplies d (at / 512)) (g.met.F.Files.kept_map c.args.files.now c.floor_of.new.files told c.floor_of.ensures.reads.kept) none)) c.in_err-txn.ensures.names in
+    (λ told none. replies (at / 512) block refl (subst (λ (d : Dir). IsNoReplies d (at / 512)) (g.met.F.Files.kept_map c.args.files.now c.floor_of.new.files told c.floor_of.ensures.reads.kept) none)) c.in_err-txn.ensures.names in
     search rules
 
 pub returns-clause-value : goal.returns-clause-value

@@ -29,8 +29,8 @@ returns-clause-value g c told dir q alike is =
     let most = c.requires in
     let there = looked_up_there old dir n c.if-number-eq0.false alike in
     let same = g.met.F.Files.kept_map c.args.files.now c.floor.new.files told c.floor.ensures.reads.kept in
-    let group : n / 512 < 1_953_125_000 = div_below n 512 1_953_125_000 (omega arith) (omega (arith, most)) in
-    let found = c.in_ok-found.ensures.value told q.kept (subst (λ (d : Dir). IsRepliesFile (512 * (n / 512)) (d (replies_name (n / 512))) q.kept) (sym same) (replies_there old dir n there q is group)) in
+    let block : n / 512 < 1_953_125_000 = div_below n 512 1_953_125_000 (omega arith) (omega (arith, most)) in
+    let found = c.in_ok-found.ensures.value told q.kept (subst (λ (d : Dir). IsRepliesFile (512 * (n / 512)) (d (replies_name (n / 512))) q.kept) (sym same) (replies_there old dir n there q is block)) in
     subst (λ (o : Option Reply). Repeats q n o) (sym c.looked_up.ensures.answer)
     (above_floor dir q n c.in_ok-floor.floor c.in_ok-found.found.reply is (floor_there old dir n there c.in_ok-floor.floor (c.in_ok-floor.ensures.value told)) c.if-number-eq0.false c.if-number-floor.false found)
 
@@ -70,9 +70,9 @@ returns-in_err-found-clause-names g c =
     let dir = g.F.Files.map c.args.files.now in
     let n = c.args.number in
     let most = c.requires in
-    let group = div_below n 512 1_953_125_000 (omega arith) (omega (arith, most)) in
+    let block = div_below n 512 1_953_125_000 (omega arith) (omega (arith, most)) in
     let names = one_named g.F.Files (λ name. is_looked_up n name ≡ true) _ (replies_name (n / 512)) (IsNoReplies (g.F.Files.map c.floor.new.files) (n / 512)) (IsDamagedInList dir) (looks_up_replies n c.if-number-eq0.false)
-    (λ told none. replies (n / 512) group refl (subst (λ (d : Dir). IsNoReplies d (n / 512)) (g.met.F.Files.kept_map c.args.files.now c.floor.new.files told c.floor.ensures.reads.kept) none)) c.in_err-found.ensures.names in
+    (λ told none. replies (n / 512) block refl (subst (λ (d : Dir). IsNoReplies d (n / 512)) (g.met.F.Files.kept_map c.args.files.now c.floor.new.files told c.floor.ensures.reads.kept) none)) c.in_err-found.ensures.names in
     search rules
 
 pub returns-then-number-eq0-clause-looked : goal.returns-then-number-eq0-clause-looked

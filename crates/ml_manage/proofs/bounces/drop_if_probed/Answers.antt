@@ -18,7 +18,7 @@ use Rattle.ml_manage.proofs.Apart.{kept_alike, left_last}
 use Rattle.ml_acts.proofs.SetsApart.{entry_spared, entry_there}
 use Rattle.ml_base.specs.PartErrors.{OnDamaged}
 use Rattle.ml_base.proofs.DamagedNames.{on_damaged}
-use Rattle.ml_bounce.specs.Files.{ledger_place}
+use Rattle.ml_bounce.specs.Files.{bucket_of}
 use Rattle.ml_manage.proofs.bounces.drop_if_probed.Goals as goal
 
 pub probe_failed-requires : goal.probe_failed-requires
@@ -77,7 +77,7 @@ returns-in_err-probe_failed-clause-spared g c told dir p alike is =
     let x = c.args.x.now in
     let e = c.in_err-probe_failed.field-0.0 in
     let none : OnDamaged e (λ _. ⊥) =
-    on_damaged e (λ _. IsNoFile old set (ledger_place (key x))) (λ _. ⊥) (λ name bad. entry_spared set x old dir p (mailed_ledger set c.requires) (left_last old dir set x alike) is bad) (c.in_err-probe_failed.ensures.names.damaged told) in
+    on_damaged e (λ _. IsNoFile old set (bucket_of (key x))) (λ _. ⊥) (λ name bad. entry_spared set x old dir p (mailed_ledger set c.requires) (left_last old dir set x alike) is bad) (c.in_err-probe_failed.ensures.names.damaged told) in
     search rules
 
 pub returns-clause-spared : goal.returns-clause-spared

@@ -3,7 +3,7 @@ use Rattle.std.specs.Prelude.{◌&&◌}
 use Rattle.std.proofs.lemmas.Bool.{or_left, or_right}
 use Rattle.ml_base.specs.Dir.{Dir, touches_only}
 use Rattle.ml_plain.specs.Plain.{is_moderator}
-use Rattle.ml_plain.specs.KeptFiles.{is_kept}
+use Rattle.ml_plain.specs.KeptFiles.{may_be_kept}
 use Rattle.ml_acts.specs.Doing.{HasIds, is_of_queue, is_bucket}
 use Rattle.ml_acts.proofs.Damages.{ok_then}
 use Rattle.ml_acts.proofs.OfActs.{act_kept}
@@ -28,7 +28,7 @@ pub returns-clause-act : goal.returns-clause-act
 returns-clause-act g c =
     let mailed = c.with_mail.ensures in
     let own = mailed.within is_of_queue (λ name e. e) (ap (touches_only is_of_queue) c.new-2.ensures) in
-    let reply = ok_then c.with_mail.result (λ done e. ap is_kept (e ∙ c.plain-reply.ensures)) mailed.reply in
+    let reply = ok_then c.with_mail.result (λ done e. ap may_be_kept (e ∙ c.plain-reply.ensures)) mailed.reply in
     act_kept g.met.F.Files.kept_then g.met.F.Files.kept_map c.may_list.ensures.reads
     (act_kept g.met.F.Files.kept_then g.met.F.Files.kept_map c.members_mail.ensures.reads (record { own = own; files = mailed.files; reply = reply; names = mailed.names; reads = mailed.reads }) (λ name e. e))
     (λ name e. search (rules, or_left, or_right))

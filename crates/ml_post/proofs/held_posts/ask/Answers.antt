@@ -8,7 +8,7 @@ use Rattle.ml_drawn.specs.Names.{is_of_series}
 use Rattle.ml_drawn.specs.declared.series.Series.TheVariants.{Tickets}
 use Rattle.ml_plain.specs.declared.Reply.{Reply}
 use Rattle.ml_plain.specs.Answers as answers
-use Rattle.ml_plain.specs.KeptFiles.{is_kept}
+use Rattle.ml_plain.specs.KeptFiles.{may_be_kept}
 use Rattle.ml_plain.specs.Mailing.{mail_moderators}
 use Rattle.ml_acts.specs.Damaged.{IsDamaged}
 use Rattle.ml_acts.specs.Doing.{DoesList, HasIds, is_mailed_by, is_of_posting}
@@ -37,8 +37,8 @@ pub returns-clause-act : goal.returns-clause-act
 returns-clause-act g c =
     let ticket = c.args.ticket in
     let mailed = c.with_mail_to_moderators.ensures in
-    let drawn : is_kept (answers.held ticket) ≡ true = (and_parts (nat_le 1 ticket) (nat_le ticket 1_000_000_000_000_000) c.requires.ticket).1 in
-    let reply = ok_then c.with_mail_to_moderators.result (λ done e. ap is_kept (e ∙ c.held.ensures) ∙ drawn) mailed.reply in
+    let drawn : may_be_kept (answers.held ticket) ≡ true = (and_parts (nat_le 1 ticket) (nat_le ticket 1_000_000_000_000_000) c.requires.ticket).1 in
+    let reply = ok_then c.with_mail_to_moderators.result (λ done e. ap may_be_kept (e ∙ c.held.ensures) ∙ drawn) mailed.reply in
     act_after g.F.Files IsDamaged g.met.F.Files.kept_then g.met.F.Files.kept_map c.list_keys.ensures.reads (record { own = mailed.within is_of_posting queue_posting (held_posted c.args.txn (held_own c.args.txn c.requires.own)); files = mailed.files; reply = reply; names = mailed.names; reads = mailed.reads })
     (λ name e. or_right (same_name name key_name) (is_mailed_by sets.Moderators name) e) (λ told name e bad. bad)
 

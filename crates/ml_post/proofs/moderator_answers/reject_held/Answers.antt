@@ -15,7 +15,7 @@ use Rattle.ml_acts.specs.Doing.{DoesList, is_of_posting}
 use Rattle.ml_acts.proofs.Asked.{ids_other, named_as}
 use Rattle.ml_post.specs.Answering.{is_rejected_by, is_taken_by}
 use Rattle.ml_post.specs.Publishing.{sent_key}
-use Rattle.ml_plain.specs.KeptFiles.{is_kept}
+use Rattle.ml_plain.specs.KeptFiles.{may_be_kept}
 use Rattle.ml_post.proofs.Beside.{taken_other}
 use Rattle.ml_acts.proofs.Damages.{ok_then}
 use Rattle.ml_acts.proofs.OfActs.{act_after}
@@ -45,7 +45,7 @@ returns-in_err-txn-clause-act g c =
 pub returns-clause-act : goal.returns-clause-act
 returns-clause-act g c =
     let mailed = c.with_mail.ensures in
-    let reply = ok_then c.with_mail.result (λ done e. ap is_kept (e ∙ c.plain-reply.ensures)) mailed.reply in
+    let reply = ok_then c.with_mail.result (λ done e. ap may_be_kept (e ∙ c.plain-reply.ensures)) mailed.reply in
     act_after g.F.Files IsDamaged g.met.F.Files.kept_then g.met.F.Files.kept_map c.take_held.ensures.reads (record { own = mailed.within is_of_posting queue_posting (held_posted c.in_ok-txn.txn c.in_ok-txn.ensures.own); files = mailed.files; reply = reply; names = mailed.names; reads = mailed.reads })
     (λ name e. or_right (is_taken_by c.args.ticket name) (same_name name ids_name) e) (λ told name e bad. record { damaged = bad; own = λ of. absurd (ids_other name e of) })
 

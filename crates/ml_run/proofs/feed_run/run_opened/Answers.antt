@@ -25,7 +25,7 @@ returns-in-Ok-Some-clause-list g c told all ending q b =
     let now = site_of c.load.new.files in
     let b' = subst (λ (held : Contents). Begins (g.F.Feed.left c.args.feed.now) held all ending q) (sym (kept.reads told)) b in
     list_before g.F.Feed g.S.Site (Leaves g.S.Site now c.serve.result.1) (Leaves g.S.Site start c.serve.result.1) c.args.limit c.args.feed.now c.serve.new.feed start now c.serve.result.1 c.serve.result.0 all ending q kept.output_is
-    (still_then g.S.Site start now c.serve.result.1 q (take c.args.limit all) g.met.S.Site.all_has_reads b.state kept.moments kept.output_is) (c.serve.ensures.list told all ending q b')
+    (still_then g.S.Site start now c.serve.result.1 q (take c.args.limit all) g.met.S.Site.all_has_reads b.state kept.instants kept.output_is) (c.serve.ensures.list told all ending q b')
 
 pub returns-in-Err-clause-list : goal.returns-in-Err-clause-list
 returns-in-Err-clause-list g c told all ending q b =
@@ -37,8 +37,8 @@ returns-in-Err-clause-list g c told all ending q b =
     let why : (c.why_of.result ≡ whys.Memory) ⊎ (c.why_of.result ≡ whys.Disk) = subst (λ (w : Why). (w ≡ whys.Memory) ⊎ (w ≡ whys.Disk)) (sym c.why_of.ensures)
     (part_why c.in-Err.error (c.in-Err.ensures.sound told q (shown (directory (g.S.Site.disk start).reads) q b.state))) in
     list_before g.F.Feed g.S.Site (Leaves g.S.Site now end) (Leaves g.S.Site start end) c.args.limit c.args.feed.now c.args.feed.now start now end c.finish-in-Err.result.0 all ending q kept.output_is
-    (still_then g.S.Site start now end q (take c.args.limit all) g.met.S.Site.all_has_reads b.state kept.moments kept.output_is)
-    (list_early g.F.Feed g.S.Site c.args.limit c.args.feed.now now end c.finish-in-Err.result.0 c.why_of.result all ending q b' g.met.S.Site.all_has_reads g.met.S.Site.reads_as_image told (kept_itself g.met.S.Site.only_now c.load.new.files).moments why c.finish-in-Err.ensures.finishes c.finish-in-Err.ensures.answered)
+    (still_then g.S.Site start now end q (take c.args.limit all) g.met.S.Site.all_has_reads b.state kept.instants kept.output_is)
+    (list_early g.F.Feed g.S.Site c.args.limit c.args.feed.now now end c.finish-in-Err.result.0 c.why_of.result all ending q b' g.met.S.Site.all_has_reads g.met.S.Site.reads_as_image told (kept_itself g.met.S.Site.only_now c.load.new.files).instants why c.finish-in-Err.ensures.finishes c.finish-in-Err.ensures.answered)
 
 pub returns-in-Ok-Some-clause-read : goal.returns-in-Ok-Some-clause-read
 returns-in-Ok-Some-clause-read g c =
@@ -56,7 +56,7 @@ returns-in-Ok-Some-clause-anywhere g c told files here =
     let kept = c.load.ensures.reads.kept in
     let now = site_of c.load.new.files in (
       items_before g.S.Site (Leaves g.S.Site now c.serve.result.1) (Leaves g.S.Site (site_of c.args.store) c.serve.result.1) (Brings (g.F.Feed.left c.args.feed.now)) c.args.limit c.serve.result.0.status c.serve.result.0.answered (site_of c.args.store) now c.serve.result.1 files kept.output_is
-          (λ done run. still_done g.S.Site files done (site_of c.args.store) now c.serve.result.1 here kept.moments kept.output_is run)
+          (λ done run. still_done g.S.Site files done (site_of c.args.store) now c.serve.result.1 here kept.instants kept.output_is run)
           (c.serve.ensures.anywhere told files (ap directory (kept.reads told) ∙ here)),
       λ some. let dir : dir_of c.args.store ≡ files = ap the_dir here in subst HasConfig dir (subst (λ (found : Option (Unit {0})). IsLoaded found (dir_of c.args.store)) c.in-Ok-Some.field-0-is (c.in-Ok-Some.ensures.value told)),
     )
@@ -66,9 +66,9 @@ returns-in-Ok-None-clause-anywhere g c told files here =
     let kept = c.load.ensures.reads.kept in
     let now = site_of c.load.new.files in
     let dir : directory (g.S.Site.disk now).reads ≡ Some files = ap directory (kept.reads told) ∙ here in
-    let has = first_done g.S.Site files now dir (kept_itself g.met.S.Site.only_now c.load.new.files).moments in (
+    let has = first_done g.S.Site files now dir (kept_itself g.met.S.Site.only_now c.load.new.files).instants in (
       items_before g.S.Site (Leaves g.S.Site now c.finish.result.1) (Leaves g.S.Site (site_of c.args.store) c.finish.result.1) (Brings (g.F.Feed.left c.args.feed.now)) c.args.limit c.finish.result.0.status c.finish.result.0.answered (site_of c.args.store) now c.finish.result.1 files kept.output_is
-          (λ done run. still_done g.S.Site files done (site_of c.args.store) now c.finish.result.1 here kept.moments kept.output_is run)
+          (λ done run. still_done g.S.Site files done (site_of c.args.store) now c.finish.result.1 here kept.instants kept.output_is run)
           (early_items g.S.Site (Leaves g.S.Site now c.finish.result.1) (Brings (g.F.Feed.left c.args.feed.now)) c.args.limit c.finish.result.0.status c.finish.result.0.answered now c.finish.result.1 files c.finish.ensures.answered
           (finished_dir g.S.Site files now now c.finish.result.1 [] (Some (None, whys.NoList)) c.finish.result.0.status 0 told has c.finish.ensures.finishes)
           (finished_failing g.S.Site now c.finish.result.1 (None, whys.NoList) c.finish.result.0.status 0 c.finish.ensures.finishes refl)
@@ -81,9 +81,9 @@ returns-in-Err-clause-anywhere g c told files here =
     let kept = c.load.ensures.reads.kept in
     let now = site_of c.load.new.files in
     let dir : directory (g.S.Site.disk now).reads ≡ Some files = ap directory (kept.reads told) ∙ here in
-    let has = first_done g.S.Site files now dir (kept_itself g.met.S.Site.only_now c.load.new.files).moments in (
+    let has = first_done g.S.Site files now dir (kept_itself g.met.S.Site.only_now c.load.new.files).instants in (
       items_before g.S.Site (Leaves g.S.Site now c.finish-in-Err.result.1) (Leaves g.S.Site (site_of c.args.store) c.finish-in-Err.result.1) (Brings (g.F.Feed.left c.args.feed.now)) c.args.limit c.finish-in-Err.result.0.status c.finish-in-Err.result.0.answered (site_of c.args.store) now c.finish-in-Err.result.1 files kept.output_is
-          (λ done run. still_done g.S.Site files done (site_of c.args.store) now c.finish-in-Err.result.1 here kept.moments kept.output_is run)
+          (λ done run. still_done g.S.Site files done (site_of c.args.store) now c.finish-in-Err.result.1 here kept.instants kept.output_is run)
           (early_items g.S.Site (Leaves g.S.Site now c.finish-in-Err.result.1) (Brings (g.F.Feed.left c.args.feed.now)) c.args.limit c.finish-in-Err.result.0.status c.finish-in-Err.result.0.answered now c.finish-in-Err.result.1 files c.finish-in-Err.ensures.answered
           (finished_dir g.S.Site files now now c.finish-in-Err.result.1 [] (Some (None, c.why_of.result)) c.finish-in-Err.result.0.status 0 told has c.finish-in-Err.ensures.finishes)
           (finished_failing g.S.Site now c.finish-in-Err.result.1 (None, c.why_of.result) c.finish-in-Err.result.0.status 0 c.finish-in-Err.ensures.finishes (ap (λ (w : Why). is_failing (status_of_why w)) c.why_of.ensures ∙ part_failing c.in-Err.error))

@@ -20,8 +20,8 @@ use Rattle.ml_list.proofs.Named.{may_read_named}
 use Rattle.ml_plain.specs.Directory.{IsState}
 use Rattle.ml_plain.specs.Histories.{State, step}
 use Rattle.ml_run.specs.Leaving.{dir_of}
-use Rattle.ml_run.proofs.Grouping.{same_group, added_next, next_over, at_ok, at_err, part_reason, when_told}
-use Rattle.ml_run.specs.Groups.{HasReason, IsOfItem, IsPartReason, NamesAsked, NamesOwn}
+use Rattle.ml_run.proofs.Batching.{same_batch, added_next, next_over, at_ok, at_err, part_reason, when_told}
+use Rattle.ml_run.specs.Batches.{HasReason, IsOfItem, IsPartReason, NamesAsked, NamesOwn}
 use Rattle.ml_run.proofs.ItemPaths.{asked_of, blocked, of_item, own_of, part_of_item}
 use Rattle.ml_ending.specs.declared.lines.Why.{Why}
 use Rattle.ml_plain.specs.Replies.{is_code}
@@ -30,23 +30,23 @@ use Rattle.ml_run.proofs.item_puts.add_item.Goals as goal
 
 pub returns-in-Ok-clause-done : goal.returns-in-Ok-clause-done
 returns-in-Ok-clause-done g c told =
-    let txn : c.parts-store.result.1 ≡ c.args.group.txn = c.parts-store.ensures.txn ∙ c.apply_with_memo-layer.ensures.reads.kept.1 ∙ c.new.ensures.txn in
-    let same = same_group c.args.group c.parts-store.result.1 c.args.group.lines txn refl in
-    let over : with_puts (dir_of c.new.result.files) c.new.result.txn ≡ with_puts (dir_of c.args.store) c.args.group.txn = λ i. with_puts (dir_of (c.new.ensures.files i)) (c.new.ensures.txn i) in
+    let txn : c.parts-store.result.1 ≡ c.args.batch.txn = c.parts-store.ensures.txn ∙ c.apply_with_memo-layer.ensures.reads.kept.1 ∙ c.new.ensures.txn in
+    let same = same_batch c.args.batch c.parts-store.result.1 c.args.batch.lines txn refl in
+    let over : with_puts (dir_of c.new.result.files) c.new.result.txn ≡ with_puts (dir_of c.args.store) c.args.batch.txn = λ i. with_puts (dir_of (c.new.ensures.files i)) (c.new.ensures.txn i) in
     let here = with_puts (dir_of c.new.result.files) c.new.result.txn in
     let item = c.args.item.now in
     let there : (dir : Dir) (q : State) → AlikeFor item here dir → IsState dir q → Does dir (c.in-Ok.more, c.in-Ok.reply) (step q item) =
     at_ok (λ (done : List Put × Reply). (dir : Dir) (q : State) → AlikeFor item here dir → IsState dir q → Does dir done (step q item))
     c.apply_with_memo-layer.result.1 (c.in-Ok.more, c.in-Ok.reply) (c.apply_with_memo-layer.ensures.value told) c.in-Ok.is in
     let does : (q : State) → IsState here q → Does here (c.in-Ok.more, c.in-Ok.reply) (step q item) = λ q is. there here q (alike_self item here) is in
-    added_next c.with_answer-group.result.1 (dir_of c.args.store) c.args.group _ c.with_answer-group.result.0 c.args.item.now c.in-Ok.more c.in-Ok.reply same c.with_answer-group.ensures.done
+    added_next c.with_answer-batch.result.1 (dir_of c.args.store) c.args.batch _ c.with_answer-batch.result.0 c.args.item.now c.in-Ok.more c.in-Ok.reply same c.with_answer-batch.ensures.done
     (subst (λ (d : Dir). (q : State) → IsState d q → Does d (c.in-Ok.more, c.in-Ok.reply) (step q c.args.item.now)) over does)
 
 pub returns-in-Err-clause-reason : goal.returns-in-Err-clause-reason
 returns-in-Err-clause-reason g c =
     let item = c.args.item.now in
     let error = c.in-Err.error in
-    let txn : c.parts-store.result.1 ≡ c.args.group.txn = c.parts-store.ensures.txn ∙ c.apply_with_memo-layer.ensures.reads.kept.1 ∙ c.new.ensures.txn in
+    let txn : c.parts-store.result.1 ≡ c.args.batch.txn = c.parts-store.ensures.txn ∙ c.apply_with_memo-layer.ensures.reads.kept.1 ∙ c.new.ensures.txn in
     let now = with_puts (dir_of c.args.store) c.parts-store.result.1 in
     let over : with_puts (dir_of c.new.result.files) c.new.result.txn ≡ with_puts (dir_of c.args.store) c.parts-store.result.1 = λ i. with_puts (dir_of (c.new.ensures.files i)) ((c.new.ensures.txn ∙ sym txn) i) in
     let named : OnDamaged error IsNamed = on_damaged error _ IsNamed (λ name e. may_read_named item name c.requires.limits e)
@@ -62,8 +62,8 @@ returns-in-Err-clause-reason g c =
 
 pub returns-in-Ok-clause-next : goal.returns-in-Ok-clause-next
 returns-in-Ok-clause-next g c =
-    let txn : c.parts-store.result.1 ≡ c.args.group.txn = c.parts-store.ensures.txn ∙ c.apply_with_memo-layer.ensures.reads.kept.1 ∙ c.new.ensures.txn in
-    next_over c.with_answer-group.result.1 c.args.group _ c.with_answer-group.result.0 c.args.item.now.number c.in-Ok.more c.in-Ok.reply (same_group c.args.group c.parts-store.result.1 c.args.group.lines txn refl) c.with_answer-group.ensures.done
+    let txn : c.parts-store.result.1 ≡ c.args.batch.txn = c.parts-store.ensures.txn ∙ c.apply_with_memo-layer.ensures.reads.kept.1 ∙ c.new.ensures.txn in
+    next_over c.with_answer-batch.result.1 c.args.batch _ c.with_answer-batch.result.0 c.args.item.now.number c.in-Ok.more c.in-Ok.reply (same_batch c.args.batch c.parts-store.result.1 c.args.batch.lines txn refl) c.with_answer-batch.ensures.done
 
 pub returns-in-Err-clause-part : goal.returns-in-Err-clause-part
 returns-in-Err-clause-part g c =
@@ -82,7 +82,7 @@ pub returns-in-Err-clause-asked : goal.returns-in-Err-clause-asked
 returns-in-Err-clause-asked g c told =
     let item = c.args.item.now in
     let error = c.in-Err.error in
-    let txn : c.parts-store.result.1 ≡ c.args.group.txn = c.parts-store.ensures.txn ∙ c.apply_with_memo-layer.ensures.reads.kept.1 ∙ c.new.ensures.txn in
+    let txn : c.parts-store.result.1 ≡ c.args.batch.txn = c.parts-store.ensures.txn ∙ c.apply_with_memo-layer.ensures.reads.kept.1 ∙ c.new.ensures.txn in
     let here = with_puts (dir_of c.new.result.files) c.new.result.txn in
     let now = with_puts (dir_of c.args.store) c.parts-store.result.1 in
     let over : here ≡ now = λ i. with_puts (dir_of (c.new.ensures.files i)) ((c.new.ensures.txn ∙ sym txn) i) in
@@ -95,10 +95,10 @@ pub returns-in-Ok-clause-adds : goal.returns-in-Ok-clause-adds
 returns-in-Ok-clause-adds g c told =
     let item = c.args.item.now in
     let done : List Put × Reply = (c.in-Ok.more, c.in-Ok.reply) in
-    let txn : c.parts-store.result.1 ≡ c.args.group.txn = c.parts-store.ensures.txn ∙ c.apply_with_memo-layer.ensures.reads.kept.1 ∙ c.new.ensures.txn in
+    let txn : c.parts-store.result.1 ≡ c.args.batch.txn = c.parts-store.ensures.txn ∙ c.apply_with_memo-layer.ensures.reads.kept.1 ∙ c.new.ensures.txn in
     let here = with_puts (dir_of c.new.result.files) c.new.result.txn in
-    let over : here ≡ with_puts (dir_of c.args.store) c.args.group.txn = λ i. with_puts (dir_of (c.new.ensures.files i)) (c.new.ensures.txn i) in
-    added_done c.with_answer-group.result.1 (dir_of c.args.store) c.args.group _ c.with_answer-group.result.0 item c.in-Ok.more c.in-Ok.reply (same_group c.args.group c.parts-store.result.1 c.args.group.lines txn refl) c.with_answer-group.ensures.done
+    let over : here ≡ with_puts (dir_of c.args.store) c.args.batch.txn = λ i. with_puts (dir_of (c.new.ensures.files i)) (c.new.ensures.txn i) in
+    added_done c.with_answer-batch.result.1 (dir_of c.args.store) c.args.batch _ c.with_answer-batch.result.0 item c.in-Ok.more c.in-Ok.reply (same_batch c.args.batch c.parts-store.result.1 c.args.batch.lines txn refl) c.with_answer-batch.ensures.done
     (at_ok (λ (done : List Put × Reply). IsTrue (are_files done.0)) c.apply_with_memo-layer.result.1 done c.apply_with_memo-layer.ensures.files c.in-Ok.is)
     (at_ok (λ (done : List Put × Reply). IsTrue (is_code done.1.code)) c.apply_with_memo-layer.result.1 done c.apply_with_memo-layer.ensures.reply c.in-Ok.is)
     (at_ok (λ (done : List Put × Reply). touches_only (is_written_by item) done.0 ≡ true) c.apply_with_memo-layer.result.1 done (c.apply_with_memo-layer.ensures.written told) c.in-Ok.is)

@@ -1,5 +1,5 @@
 use Rattle.std.proofs.Common.{◌≡◌, ◌≤◌, drop, take, length}
-use Rattle.ml_run.specs.Groups.{laid_all}
+use Rattle.ml_run.specs.Batches.{laid_all}
 use Rattle.ml_run.proofs.laid_puts.laid.Given as goal
 
 abbrev pub invariant-loop-at : goal.invariant-loop-at

@@ -21,8 +21,8 @@ returns-clause-complete g c told all q b few =
 pub returns-clause-crashes : goal.returns-clause-crashes
 returns-clause-crashes g c =
     let left = ap g.I.Source.left c.new-feed.ensures.input in record {
-      moments = λ t all ending q b. (c.run_feed.ensures.list (g.met.S.Site.all_has_reads t) all ending q (subst (λ (o : Option Text). Begins o (g.S.Site.disk c.args.site).reads all ending q) (sym left) b)).moments.0 t;
-      at_rest = λ rest all ending q b t. (c.run_feed.ensures.list (g.met.S.Site.all_has_reads t) all ending q (subst (λ (o : Option Text). Begins o (g.S.Site.disk c.args.site).reads all ending q) (sym left) b)).moments.1 rest t;
+      instants = λ t all ending q b. (c.run_feed.ensures.list (g.met.S.Site.all_has_reads t) all ending q (subst (λ (o : Option Text). Begins o (g.S.Site.disk c.args.site).reads all ending q) (sym left) b)).instants.0 t;
+      at_rest = λ rest all ending q b t. (c.run_feed.ensures.list (g.met.S.Site.all_has_reads t) all ending q (subst (λ (o : Option Text). Begins o (g.S.Site.disk c.args.site).reads all ending q) (sym left) b)).instants.1 rest t;
     }
 
 pub returns-clause-taken : goal.returns-clause-taken

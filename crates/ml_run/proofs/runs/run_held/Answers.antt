@@ -4,14 +4,14 @@ use Rattle.ml_plain.specs.Histories.{State}
 use Rattle.ml_stream.specs.Stream.{End}
 use Rattle.ml_stream.specs.Writing.{spelled_item}
 use Rattle.ml_run.specs.Endings.{Begins, Brings}
-use Rattle.ml_run.specs.Groups.{IsOfNext}
+use Rattle.ml_run.specs.Batches.{IsOfNext}
 use Rattle.ml_run.specs.Leaving.{HasState}
 use Rattle.ml_run.specs.Single.{IsAlone}
 use Rattle.ml_run.proofs.Complete.{answers_all}
 use Rattle.ml_run.proofs.InHand.{alone_next, begins_item, brings_item, none_rose, status_known}
 use Rattle.ml_run.proofs.Named.{names_map}
 use Rattle.ml_run.proofs.Unfailing.{never_fails}
-use Rattle.ml_run.specs.Anywhere.{AtEachMoment}
+use Rattle.ml_run.specs.Anywhere.{AtEachInstant}
 use Rattle.ml_run.proofs.ServedAnywhere.{items_of_one}
 use Rattle.ml_run.proofs.runs.run_held.Goals as goal
 
@@ -34,9 +34,9 @@ returns g c =
       done = λ is. (tells.whole is).1;
       whole = λ t q s. never_fails told _ status 1 answered new.reads output (item ∷ []) End q before none_rose (c.run_feed.ensures.list t (item ∷ []) End q (begins q s)).whole;
       complete = λ t q s. answers_all told _ status 1 answered new.reads output (item ∷ []) q before (omega arith) (c.run_feed.ensures.list t (item ∷ []) End q (begins q s)).whole;
-      moments = λ t q s. (c.run_feed.ensures.list (g.met.S.Site.all_has_reads t) (item ∷ []) End q (begins q s)).moments.0 t;
-      at_rest = λ rest q s t. (c.run_feed.ensures.list (g.met.S.Site.all_has_reads t) (item ∷ []) End q (begins q s)).moments.1 rest t;
-      anywhere = λ t files here. (items_of_one g.S.Site (AtEachMoment g.S.Site c.args.site c.run_feed.result.1) item status answered c.args.site c.run_feed.result.1 files brings (c.run_feed.ensures.anywhere t files here).0, (c.run_feed.ensures.anywhere t files here).1);
+      instants = λ t q s. (c.run_feed.ensures.list (g.met.S.Site.all_has_reads t) (item ∷ []) End q (begins q s)).instants.0 t;
+      at_rest = λ rest q s t. (c.run_feed.ensures.list (g.met.S.Site.all_has_reads t) (item ∷ []) End q (begins q s)).instants.1 rest t;
+      anywhere = λ t files here. (items_of_one g.S.Site (AtEachInstant g.S.Site c.args.site c.run_feed.result.1) item status answered c.args.site c.run_feed.result.1 files brings (c.run_feed.ensures.anywhere t files here).0, (c.run_feed.ensures.anywhere t files here).1);
       answers = λ is. c.run_feed.ensures.read.stream.answers (item ∷ []) End brings is;
       closed = c.run_feed.ensures.closed;
       refusals = record {

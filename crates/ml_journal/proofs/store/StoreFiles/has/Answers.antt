@@ -39,7 +39,7 @@ returns-in-None-clause-kept g c =
       reads = λ told. c.has_one.ensures.same.reads told;
       disk_is = λ told. c.has_one.ensures.same.disk told;
       output_is = λ told. c.has_one.ensures.keeps.output told;
-      moments = λ told. after_read g.S.Site.moment g.S.Site.left_since g.S.Site.disk g.S.Site.output (λ s left out l. g.met.S.Site.only_now s left out told l)
+      instants = λ told. after_read g.S.Site.instant g.S.Site.left_since g.S.Site.disk g.S.Site.output (λ s left out l. g.met.S.Site.only_now s left out told l)
           self.site c.has_one.new.site (IsStill g.S.Site self.site) (record { settled = self.settled told; pending = self.rest told }) (c.has_one.ensures.same.disk told) (c.has_one.ensures.keeps.output told) (c.has_one.ensures.keeps.time told)
           (λ left is out same. (is, same));
       syncs_are = λ told. c.has_one.ensures.numbers.syncs told;

@@ -1,5 +1,0 @@
-use Rattle.std.proofs.Common.{◌≡◌, ◌++◌, replicate}
-use Rattle.ml_digest.proofs.phrases.add_asterisks.Given as goal
-
-abbrev pub invariant-loop : goal.invariant-loop
-invariant-loop l = l.out ≡ l.initial.out ++ replicate l.counter 42
