@@ -120,9 +120,9 @@ digest_bounces_name n = record { kind = digest_bounces_kind; at = n }
 abbrev pub entry_name : ℕ → Name
 entry_name id = record { kind = entry_kind; at = id }
 
--- the file of the kept replies of a group of numbers
+-- the file of the kept replies of a block of numbers
 abbrev pub replies_name : ℕ → Name
-replies_name group = record { kind = replies_kind; at = group }
+replies_name block = record { kind = replies_kind; at = block }
 
 -- one of the files of threads
 abbrev pub thread_name : ℕ → Name

@@ -1,4 +1,4 @@
-// Files with puts laid over them, so that later items of a group see what earlier ones did.
+// Files with puts laid over them, so that later items of a batch see what earlier ones did.
 ghost use Rattle.std.specs.Prelude.{◌≡◌, ◌<◌, ◌≤◌, ◌++◌, ℕ, true, false, IsTrue, IfOk, IsErrOf, OnOk, OnErr, is_some};
 ghost use Rattle.std.specs.Option.{option_copied};
 ghost use Rattle.ml_base.specs.Absent.{NoneOf, NoPutOf};

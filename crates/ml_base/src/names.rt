@@ -204,14 +204,14 @@ impl Name {
         Name { kind: 17, at: id }
     }
 
-    /// The kept replies of a group of 512 numbers.
-    pub fn replies(group: u64) -> Name
-        ensures name { result ≡ kinds.replies_name group }
-        ensures file { group ≤ 1_953_124_999 → IsTrue (is_file result) }
+    /// The kept replies of a block of 512 numbers.
+    pub fn replies(block: u64) -> Name
+        ensures name { result ≡ kinds.replies_name block }
+        ensures file { block ≤ 1_953_124_999 → IsTrue (is_file result) }
     {
         Name {
             kind: 19,
-            at: group,
+            at: block,
         }
     }
 

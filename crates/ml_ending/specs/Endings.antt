@@ -86,7 +86,7 @@ pub record Finishes {S : Type 0} (ghosts : Ghosts S) (old new : S) (line : StopL
   pub spends : IsTrue ghosts.tells_all → CostsAtMost 3 (ghosts.syncs old) (ghosts.syncs mid) (ghosts.log_bytes old) (ghosts.log_bytes mid)
   pub said : ((final ≡ None) × (status ≡ last) × (new ≡ mid)) ⊎ ((who : Option ℕ) × (why : Why) × (final ≡ Some (who, why)) × Says ghosts mid new status who why)
 
--- a group was refused: if by the output, nothing more is put out; otherwise a stop line says why
+-- a batch was refused: if by the output, nothing more is put out; otherwise a stop line says why
 pub record Refuses {S : Type 0} (ghosts : Ghosts S) (old new : S) (first : Option ℕ) (why : Option Why) (status : ℕ) : Type 0 where
   pub quiet : why ≡ None → (status ≡ 73) × (new ≡ old)
   pub said : (reason : Why) → why ≡ Some reason → Says ghosts old new status first reason

@@ -100,7 +100,7 @@ pub fn finish<S: Site>(
     }
 }
 
-/// Ends a run whose group was refused: if by the output, no call is made after that; otherwise a stop line says why.
+/// Ends a run whose batch was refused: if by the output, no call is made after that; otherwise a stop line says why.
 pub fn end_refused<S: Site>(
     site: S,
     first: Option<u64>,

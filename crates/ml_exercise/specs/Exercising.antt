@@ -116,7 +116,7 @@ pub record ExercisesList {S : Type 0} (ghosts : Ghosts S) (count : ℕ) (old new
       ⊎ NamesWhole (IsTrue ghosts.tells_all) (directory (ghosts.disk new).reads) (ghosts.output new)
   pub nolist : IsTrue ghosts.tells_reads → (files : Dir) → directory (ghosts.disk old).reads ≡ Some files → files config_name ≡ None → MissesList (IsTrue ghosts.tells_all) status (ghosts.output old) (ghosts.output new)
 
--- What an exercise of so many items does. Every moment is as `IsExercising` says; if something is pending at the start, from the first sync that
+-- What an exercise of so many items does. Every instant is as `IsExercising` says; if something is pending at the start, from the first sync that
 -- succeeds on.
 pub record Exercises {S : Type 0} (ghosts : Ghosts S) (count : ℕ) (old new : S) (status : ℕ) : Type 0 where
   pub does : ExercisesList ghosts count old new status

@@ -228,7 +228,7 @@ pub trait Site {
     /// A disk as it reads is one of its images.
     ghost reads_as_image: { (site : Self) → IsTrue tells_all → IsImage (disk site) (disk site).reads };
 
-    /// What reads give, with the output so far, is a instant now.
+    /// What reads give, with the output so far, is an instant now.
     ghost is_an_instant: { (site : Self) (t : ℕ) → IsTrue tells_all → t ≤ instant site
         → left_since site t (disk site).reads (output site) };
 
