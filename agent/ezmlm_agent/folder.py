@@ -149,23 +149,23 @@ def floor(folder: pathlib.Path) -> int:
 
 def after_answers(folder: pathlib.Path) -> int:
     """The first number after all that the list has answered, except those that are no mail's, and not below its floor."""
-    groups = [int(name) for name in names(folder / 'done') if name.isdecimal() and int(name) < NO_MAIL // SLOTS]
-    if not groups:
+    blocks = [int(name) for name in names(folder / 'done') if name.isdecimal() and int(name) < NO_MAIL // SLOTS]
+    if not blocks:
         return floor(folder)
-    kept = (bytes_or_none(folder / 'done' / str(max(groups))) or b'')[:SLOTS * SLOT].rstrip(b'\0')
+    kept = (bytes_or_none(folder / 'done' / str(max(blocks))) or b'')[:SLOTS * SLOT].rstrip(b'\0')
     last = (len(kept) - 1) // SLOT if kept else SLOTS - 1
-    return max(floor(folder), SLOTS * max(groups) + last + 1)
+    return max(floor(folder), SLOTS * max(blocks) + last + 1)
 
 
 def answered(folder: pathlib.Path, numbers: Iterable[int]) -> set[int]:
     """Those of these numbers whose replies the list keeps."""
-    groups: dict[int, set[int]] = {}
+    blocks: dict[int, set[int]] = {}
     for number in numbers:
-        groups.setdefault(number // SLOTS, set()).add(number)
+        blocks.setdefault(number // SLOTS, set()).add(number)
     found: set[int] = set()
-    for group, members in groups.items():
-        kept = bytes_or_none(folder / 'done' / str(group)) or b''
-        found |= {number for number in members if any(kept[SLOT * (number % SLOTS):SLOT * (number % SLOTS) + SLOT])}
+    for block, those in blocks.items():
+        kept = bytes_or_none(folder / 'done' / str(block)) or b''
+        found |= {number for number in those if any(kept[SLOT * (number % SLOTS):SLOT * (number % SLOTS) + SLOT])}
     return found
 
 

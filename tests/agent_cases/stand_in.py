@@ -56,7 +56,7 @@ if WORDS[1:] == ['spool']:
     if (PLACE / 'says').exists():
         says(PLACE / 'says')
     if is_told('lose'):
-        # It answers a group at once, which is in the list then.
+        # It answers a batch at once, which is in the list then.
         killed(lambda run: run.stdout.readline(), stdout=subprocess.PIPE)
     if is_told('kill'):
         killed(lambda _: os.stat(WORDS[0] + '/log').st_size > 1)

@@ -188,7 +188,7 @@ def case_stopped_program(world):
     with subprocess.Popen([world.program, folder, 'spool'], stdin=subprocess.PIPE, stdout=subprocess.PIPE) as process:
         process.stdin.write(item * 40)
         process.stdin.flush()
-        # Two groups are answered, and it waits for the end of the third.
+        # Two batches are answered, and it waits for the end of the third.
         same([process.stdout.readline() for _ in range(32)], [b'0 0 posted %d\n' % n for n in range(1, 33)], 'answers')
         process.kill()
     same((world.posts(), (folder / 'num').read_text()), (None, '0\n'), 'what is in the log alone')
