@@ -34,8 +34,8 @@ fn are_same(alloc: Global, first: &[u8], second: &[u8]) -> Result<bool, Fail> {
     Ok(first.same(&second))
 }
 
-// Calls that answer true or false: whether a recipient is one of the addresses of the list List@ex.Org, a text is kept, a local part and a
-// host make an address, two addresses are the same, and a number is a moment, one of a post, or one that is drawn.
+// Calls that answer true or false: whether a recipient is one of the addresses of the list List@ex.Org, a text is a canonical address, a
+// local part and a host make an address, two addresses are the same, and a number is a moment, one of a post, or one that is drawn.
 fn is_so(alloc: Global, verb: &str, first: &[u8], second: &[u8]) -> Result<bool, Fail> {
     if verb == "own" {
         Ok(is_own(b"List", b"ex.Org", first))

@@ -5,7 +5,7 @@ use trials_scripts::hold;
 
 // Streams, each with the number of its whole items and what comes after them. A sender and a recipient have at most 1,000 bytes.
 const ENDS: &str = r"
-# Letters, numbers and instants.
+# Letters, numbers and moments.
 input T1:7,10:1000000000,T1:8,1:0, | run ends => 0 2 end
 input T12:999999999999,12:253402300799, | run ends => 0 1 end
 input T1:7,10:1000000000,1:1, | run ends => 0 1 bad 19

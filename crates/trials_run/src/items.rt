@@ -14,7 +14,7 @@ list put config flags BDFGHJKLMpRSTU\nlocal list\nhost ex.org\nowner o@own.org\n
 input A1:7,10:1000000000,4:list,3:a@b,A1:8,10:1000000001,4:list,3:A@B,A1:7,10:1000000000,4:list,3:a@b,A1:8,10:1000000001,4:list,3:A@B,A1:7,10:1000000002,4:list,3:c@d,R1:0,10:1000000003,4:list,3:c@d,R1:9,10:1000000004,4:list,3:A@b,A1:7,10:1000000000,4:list,3:a@b,R1:0,10:1000000005,4:list,3:a@b,A1:9,10:1000000006,4:list,3:a@b, | run apply => 0 4 0\n5 0\n4 0\n5 0\n4 0\n7 0\n6 0\n4 0\n7 0\n6 0\n | lacks subscribers/] | has counts/list 0\n
 # A member is added once.
 input A1:7,10:1000000000,4:list,3:a@b,A1:8,10:1000000001,4:list,3:A@B, | run apply => 0 4 0\n5 0\n | has subscribers/] layout 2\nTa@b\01000000000\0 | has counts/list 1\n
-# A member is added to a bucket without instants, once.
+# A member is added to a bucket without moments, once.
 put subscribers/] Ta@b\0 | put counts/list 1\n | input A2:70,10:1000000400,4:list,3:a@5, | run apply => 0 4 0\n | has subscribers/] layout 2\nTa@5\01000000400\0Ta@b\00\0 | has counts/list 2\n | input A2:71,10:1000000500,4:list,3:A@5, | run apply => 0 5 0\n | has subscribers/] layout 2\nTa@5\01000000400\0Ta@b\00\0 | has counts/list 2\n
 # A set is full.
 put counts/list 100000\n | input A1:1,10:1000000000,4:list,3:a@b, | run apply => 0 20 0\n | has counts/list 100000\n
